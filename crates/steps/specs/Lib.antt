@@ -1,0 +1,6 @@
+pub mod Ask
+pub mod Copied
+pub mod Enums
+pub mod Ring
+pub mod Roles
+pub mod Words
