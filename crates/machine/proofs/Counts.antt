@@ -1,0 +1,17 @@
+-- The counts of a machine fit their types.
+use Rattle.std.proofs.Common.{◌≡◌, ℕ, ◌+◌, ◌≤◌, ◌==◌, Bool, true, false, cond, Option, Some, None, List, get_or, refl, arith}
+use Rattle.steps.specs.Ask.{written}
+use Rattle.steps.specs.declared.ask.Ask.{Ask}
+use Rattle.machine.specs.Turns.{change_of, steps_of}
+
+one_at_most : (b : Bool) → cond b 0 1 ≤ 1
+one_at_most true = omega arith
+one_at_most false = omega arith
+
+pub change_small : (words : List ℕ) (ask : Option Ask) → change_of words ask ≤ 1
+change_small words None = omega arith
+change_small words (Some ask) = one_at_most (written ask.op (get_or words ask.word 0) == get_or words ask.word 0)
+
+pub steps_small : (ask : Option Ask) → steps_of ask ≤ 1
+steps_small None = omega arith
+steps_small (Some ask) = omega arith

@@ -1,0 +1,26 @@
+use Rattle.std.proofs.Common.{◌≡◌, ◌<◌, ◌≤◌, Some, None, length, refl, sym, ap, ◌∙◌, arith}
+use Rattle.machine.specs.World.{trace_of, party_of, place_of, flight_in}
+use Rattle.machine.specs.Turns.{turned}
+use Rattle.machine.specs.declared.turn.Turn.TheVariants.{Next}
+use Rattle.machine.proofs.Parties.{party_read, party_past}
+use Rattle.machine.proofs.Rows.{may_next}
+use Rattle.machine.proofs.parts.Parts.next.Goals as goal
+
+pub unreachable-requires : goal.unreachable-requires
+unreachable-requires g c =
+    let may = may_next (trace_of c.args.self.now).world c.args.number c.requires.allowed in
+    let past : length c.args.self.now.latest.items ≤ place_of c.args.number c.args.self.now.latest.items =
+    omega (arith, c.args.self.now.latest.ok.0)
+    in
+    let none : party_of c.args.number c.args.self.now.latest.items ≡ None = party_past c.args.number c.args.self.now.latest.items past in
+    let clash = rw none at may.is in
+    cc
+
+pub returns-clause-ok : goal.returns-clause-ok
+returns-clause-ok g c =
+    let items = c.args.self.now.latest.items in
+    let x = c.index.result.now in
+    let within : c.place_of-at.result < length items = omega (arith, c.args.self.now.latest.ok.0) in
+    let found = party_read c.args.number items c.place_of-at.result x c.place_of-at.ensures within c.index.ensures in
+    let done = c.go_on.ensures x found in
+    rw (done, found, c.old-answer.ensures, c.ask_in-ask.ensures, c.reserve.ensures.items) refl

@@ -1,0 +1,31 @@
+-- What holds of every turn and of every run.
+use Rattle.std.specs.Prelude.{ℕ}
+use Rattle.machine.specs.declared.turn.Turn.{Turn}
+use Rattle.machine.specs.World.{Trace, progress_in}
+use Rattle.machine.specs.Reading.{Each, moments, span_of}
+use Rattle.machine.specs.Objects.{IsLegal, bounded_list}
+pub mod Book
+pub mod Bounds
+pub mod Spans
+pub mod Steps
+use Book.{IsBook, AnswersRight}
+use Bounds.{Progresses}
+use Spans.{StandsRight}
+use Steps.{WritesOneWord, GoesOn, CountsStep, CountsOthers, IsJustified}
+
+module _ {T : Type 0} where
+  -- a turn that was taken
+  pub record IsTurn (old : Trace T) (turn : Turn T) (new : Trace T) : Type 0 where
+    pub word : WritesOneWord old.world turn new.world
+    pub call : GoesOn old.world turn new.world
+    pub steps : CountsStep old.world turn new.world
+    pub others : CountsOthers old.world turn new.world
+    pub justified : IsJustified old turn
+
+  -- the events of a run
+  pub record IsKept (t : Trace T) : Type 0 where
+    pub spans : Each StandsRight t.events
+    pub moments : IsLegal (bounded_list t.world.capacity) (moments t.events)
+    pub book : IsBook t
+    pub answers : Each (AnswersRight t.world.capacity) t.events
+    pub progress : (p : ℕ) → Progresses (span_of p t.events) (progress_in t.world p)

@@ -1,0 +1,118 @@
+-- The machine as plain data.
+use Rattle.std.specs.Prelude.{◌≡◌, ℕ, ◌+◌, ◌-◌, ◌==◌, Bool, true, false, Option, Some, None, List, [], ◌∷◌, ◌++◌, replicate, if◌then◌else◌}
+use Rattle.machine.specs.declared.call.Flight.{Flight}
+use Rattle.machine.specs.declared.event.Event.{Event}
+use Rattle.machine.specs.declared.party.Doing.{Doing}
+use Rattle.machine.specs.declared.party.Doing.TheVariants.{Going, Over}
+use Rattle.machine.specs.declared.party.Party.{Party}
+use Rattle.machine.specs.declared.parts.Parts.{Parts}
+use Rattle.machine.specs.declared.party.Progress.{Progress}
+use Rattle.machine.specs.declared.turn.Kind.{Kind}
+use Rattle.machine.specs.declared.turn.Kind.TheVariants.{IndexQueue}
+
+pub record World (T : Type 0) : Type 0 where
+  pub kind : Kind
+  pub capacity : ℕ
+  pub parties : ℕ
+  pub words : List ℕ
+  pub producer : Option ℕ  -- the party that holds the producer's role
+  pub consumer : Option ℕ
+  pub latest : List (Party T)  -- the latest call of each party that has begun one
+  pub changes : ℕ  -- how often a step has changed a word's value
+  pub turns : ℕ
+
+-- a machine, with the events of its turns in order
+pub record Trace (T : Type 0) : Type 0 where
+  pub world : World T
+  pub events : List (Event T)
+
+-- write position, read position, both roles free, and the cells
+abbrev pub opening_words : Kind → ℕ → List ℕ
+opening_words IndexQueue capacity = 0 ∷ 0 ∷ 1 ∷ 1 ∷ replicate capacity 0
+
+-- the machine that these parts make
+abbrev pub trace_of : {T : Type 0} → Parts T → Trace T
+trace_of m =
+    record {
+      world =
+          record {
+            kind = m.kind;
+            capacity = m.capacity;
+            parties = m.parties;
+            words = m.words.items;
+            producer = m.producer;
+            consumer = m.consumer;
+            latest = m.latest.items;
+            changes = m.changes;
+            turns = m.turns;
+          };
+      events = m.events.items;
+    }
+
+module _ {T : Type 0} where
+  abbrev pub opening : Kind → ℕ → ℕ → Trace T
+  opening kind capacity parties =
+      record {
+        world =
+            record {
+              kind = kind;
+              capacity = capacity;
+              parties = parties;
+              words = opening_words kind capacity;
+              producer = None;
+              consumer = None;
+              latest = [];
+              changes = 0;
+              turns = 0;
+            };
+        events = [];
+      }
+
+  -- ---- the parties' calls
+
+  -- the latest call of the party of this number
+  abbrev pub party_of : ℕ → List (Party T) → Option (Party T)
+  party_of p [] = None
+  party_of p (x ∷ xs) = if x.number == p then Some x else party_of p xs
+
+  -- where it stands in the list, or the list's length
+  abbrev pub place_of : ℕ → List (Party T) → ℕ
+  place_of p [] = 0
+  place_of p (x ∷ xs) = if x.number == p then 0 else place_of p xs + 1
+
+  -- a party's latest call in the place of its earlier one, or behind all others
+  abbrev pub put : Party T → List (Party T) → List (Party T)
+  put x [] = x ∷ []
+  put x (y ∷ ys) = if y.number == x.number then x ∷ ys else y ∷ put x ys
+
+  abbrev pub doing_of : Option (Party T) → Option Doing
+  doing_of None = None
+  doing_of (Some x) = Some x.doing
+
+-- the call under way
+abbrev pub flight_of : Option Doing → Option Flight
+flight_of None = None
+flight_of (Some (Going flight since)) = Some flight
+flight_of (Some (Over others)) = None
+
+-- the changes of words by others while the call was under way
+abbrev pub others_of : ℕ → Doing → ℕ
+others_of changes (Going flight since) = changes - since
+others_of changes (Over others) = others
+
+abbrev pub is_over : Doing → Bool
+is_over (Going flight since) = false
+is_over (Over others) = true
+
+module _ {T : Type 0} where
+  abbrev pub flight_in : World T → ℕ → Option Flight
+  flight_in w p = flight_of (doing_of (party_of p w.latest))
+
+  abbrev pub progress_after : ℕ → Option (Party T) → Option Progress
+  progress_after changes None = None
+  progress_after changes (Some x) =
+      Some record { steps = x.steps; backs = x.backs; others = others_of changes x.doing; finished = is_over x.doing }
+
+  -- how far the party's latest call has come
+  abbrev pub progress_in : World T → ℕ → Option Progress
+  progress_in w p = progress_after w.changes (party_of p w.latest)

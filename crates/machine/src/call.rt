@@ -1,0 +1,116 @@
+//! The calls under way, by families: what each wants, and how it goes on.
+ghost use Rattle.std.specs.Prelude.{◌≡◌, true, false};
+ghost use Rattle.steps.specs.declared.ask.After.{After};
+ghost use Rattle.machine.specs.Calls.{first_of, want_of, after_of, is_question, popped};
+
+use crate::event::{Answer, Item, Start};
+use crate::turn::Kind;
+use steps::ask::{After, Call, Want};
+use steps::ring::{CONSUMER, PRODUCER, Pop, Push};
+use steps::roles::{AcquireRole, ReleaseRole};
+use steps::words::Words;
+
+/// A call on a role.
+#[derive(Drop)]
+pub enum RoleCall {
+    Acquire(AcquireRole),
+    Release(ReleaseRole),
+}
+
+/// A call on a bounded queue of the values V.
+#[derive(Drop)]
+pub enum RingCall<V: Words> {
+    Push(Push<V>),
+    Pop(Pop<V>),
+}
+
+/// A call under way in a machine.
+#[derive(Drop)]
+pub enum Flight {
+    Role(RoleCall),
+    Indices(RingCall<u64>),
+}
+
+/// The call that begins, or None where the kind has no such call.
+pub fn first<T: Copy>(kind: Kind, capacity: u32, start: Start<T>) -> Option<Flight>
+    ensures { result ≡ first_of kind capacity start }
+{
+    match kind {
+        Kind::IndexQueue => match start {
+            Start::AcquireProducer => Some(Flight::Role(RoleCall::Acquire(AcquireRole {
+                word: PRODUCER,
+            }))),
+            Start::ReleaseProducer => Some(Flight::Role(RoleCall::Release(ReleaseRole {
+                word: PRODUCER,
+            }))),
+            Start::AcquireConsumer => Some(Flight::Role(RoleCall::Acquire(AcquireRole {
+                word: CONSUMER,
+            }))),
+            Start::ReleaseConsumer => Some(Flight::Role(RoleCall::Release(ReleaseRole {
+                word: CONSUMER,
+            }))),
+            Start::Push(Item::Index(index)) => Some(Flight::Indices(RingCall::Push(Push::new(
+                capacity, index,
+            )))),
+            Start::Push(Item::Value(_)) => None,
+            Start::Pop => Some(Flight::Indices(RingCall::Pop(Pop::new(capacity)))),
+        },
+    }
+}
+
+fn popped<T: Copy>(answer: Option<u64>) -> Answer<T>
+    ensures { result ≡ popped answer }
+{
+    match answer {
+        Some(index) => Answer::Popped(Some(Item::Index(index))),
+        None => Answer::Popped(None),
+    }
+}
+
+impl Flight {
+    /// What the call wants next.
+    pub fn want(&self) -> Want<u64>
+        ensures { result ≡ want_of self.now }
+    {
+        match self {
+            Flight::Role(RoleCall::Acquire(call)) => call.ask(),
+            Flight::Role(RoleCall::Release(call)) => call.ask(),
+            Flight::Indices(RingCall::Push(call)) => call.ask(),
+            Flight::Indices(RingCall::Pop(call)) => call.ask(),
+        }
+    }
+
+    /// Whether a decision is due.
+    pub fn is_asking(&self) -> bool
+        ensures { result ≡ is_question (want_of self.now) }
+    {
+        match self.want() {
+            Want::Question(_) => true,
+            _ => false,
+        }
+    }
+
+    /// How the call goes on from an answer.
+    pub fn after<T: Copy>(self, answer: u64) -> After<Flight, Answer<T>>
+        ensures { result ≡ after_of self answer }
+    {
+        match self {
+            Flight::Role(RoleCall::Acquire(call)) => match call.take(answer) {
+                After::GoOn(call) => After::GoOn(Flight::Role(RoleCall::Acquire(call))),
+                After::Done(taken) => After::Done(Answer::Truth(taken)),
+            },
+            Flight::Role(RoleCall::Release(call)) => match call.take(answer) {
+                After::GoOn(call) => After::GoOn(Flight::Role(RoleCall::Release(call))),
+                After::Done(()) => After::Done(Answer::Done),
+            },
+            Flight::Indices(RingCall::Push(call)) => match call.take(answer) {
+                After::GoOn(call) => After::GoOn(Flight::Indices(RingCall::Push(call))),
+                After::Done(pushed) => After::Done(Answer::Truth(pushed)),
+            },
+            Flight::Indices(RingCall::Pop(call)) => match call.take(answer) {
+                After::GoOn(call) => After::GoOn(Flight::Indices(RingCall::Pop(call))),
+                After::Done(answer) => After::Done(popped(answer)),
+            },
+        }
+    }
+}

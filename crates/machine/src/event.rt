@@ -1,0 +1,47 @@
+//! Calls by their names and arguments, their answers, and what a run writes down.
+
+/// A value of a queue.
+#[derive(Debug, Clone, Copy)]
+pub enum Item<T> {
+    /// A number of one word, in the queues of indices.
+    Index(u64),
+    /// A value of the machine's own type.
+    Value(T),
+}
+
+/// A call and its arguments.
+#[derive(Debug, Clone, Copy)]
+pub enum Start<T> {
+    AcquireProducer,
+    ReleaseProducer,
+    AcquireConsumer,
+    ReleaseConsumer,
+    Push(Item<T>),
+    Pop,
+}
+
+/// What a call answers.
+#[derive(Debug, Clone, Copy)]
+pub enum Answer<T> {
+    /// Of giving a role back.
+    Done,
+    /// Of a push, and of acquiring a role.
+    Truth(bool),
+    /// Of a pop.
+    Popped(Option<Item<T>>),
+}
+
+/// What a run writes down. The number is the party's.
+#[derive(Debug, Clone, Copy)]
+pub enum Event<T> {
+    /// The party began this call.
+    Begun(u32, Start<T>),
+    /// A push stored the next write position: from here on its value waits.
+    Published(u32, Item<T>),
+    /// A pop stored the next read position: the value was the oldest that waited.
+    HandedOut(u32, Item<T>),
+    /// The linearization point of the call, with its answer.
+    Acted(u32, Start<T>, Answer<T>),
+    /// The call is done, in this turn.
+    Finished(u32, Start<T>, Answer<T>),
+}

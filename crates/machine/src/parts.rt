@@ -1,0 +1,339 @@
+//! The parts of a machine, and what each turn does to them.
+ghost use Rattle.std.specs.Prelude.{◌≡◌, ◌+◌, ◌-◌, ◌^◌, ◌≤◌, ◌<◌, ◌⊎◌, None, Some, OnOk, OnErr, IfErr, vec_len, vec_capacity, length, slice_index_or, option_copied};
+ghost use Rattle.machine.specs.World.{trace_of, place_of, party_of};
+ghost use Rattle.machine.specs.declared.party.Party.{Party};
+ghost use Rattle.machine.specs.Refusals.{refusal_of, IsRefusal, lacks_role, holds, is_due};
+ghost use Rattle.machine.specs.Small.{IsSmall};
+ghost use Rattle.machine.specs.Turns.{number_of, ask_in, producer_after, consumer_after, doing_after, turned, resumed_trace};
+
+use crate::call::{Flight, first};
+use crate::effects::{MOST_EVENTS, effect_of, tell};
+use crate::event::{Answer, Event, Start};
+use crate::party::{Doing, Party, flight_of, place_of, put};
+use crate::turn::{Kind, Refusal, Turn};
+use crate::words;
+use std::mem;
+use steps::ask::{After, Ask, Want};
+
+/// As many turns as a machine takes.
+const MOST_TURNS: u64 = u64::MAX - 1;
+
+#[derive(Drop)]
+pub struct Parts<T> {
+    pub kind: Kind,
+    pub capacity: u32,
+    pub parties: u32,
+    pub words: Vec<u64>,
+    pub producer: Option<u32>,
+    pub consumer: Option<u32>,
+    pub latest: Vec<Party<T>>,
+    pub changes: u64,
+    pub turns: u64,
+    pub events: Vec<Event<T>>,
+}
+
+/// Whether this party holds the role.
+fn holds(holder: Option<u32>, number: u32) -> bool
+    ensures { result ≡ holds holder number }
+{
+    match holder {
+        Some(party) => party == number,
+        None => false,
+    }
+}
+
+/// Whether a decision is due.
+fn is_due(flight: Option<&Flight>) -> bool
+    ensures { result ≡ is_due (option_copied flight.entry) }
+{
+    match flight {
+        Some(flight) => flight.is_asking(),
+        None => false,
+    }
+}
+
+/// The answer that stands for a decision.
+fn number_of(said: bool) -> u64
+    ensures { result ≡ number_of said }
+{
+    if said { 1 } else { 0 }
+}
+
+/// What the call asks for, if it asks for a word.
+fn ask_in(doing: &Doing) -> Option<Ask>
+    ensures { result ≡ ask_in doing.now }
+{
+    match doing {
+        Doing::Going(flight, _) => match flight.want() {
+            Want::Ask(ask) => Some(ask),
+            Want::Question(_) => None,
+            Want::Nothing => None,
+        },
+        Doing::Over(_) => None,
+    }
+}
+
+/// Who holds the producer's role after a party's call went on.
+fn producer_after<T: Copy>(
+    number: u32,
+    start: Start<T>,
+    after: &After<Flight, Answer<T>>,
+    holder: Option<u32>,
+) -> Option<u32>
+    ensures { result ≡ producer_after number start after.now holder }
+{
+    match start {
+        Start::AcquireProducer => match after {
+            After::Done(Answer::Truth(true)) => Some(number),
+            _ => holder,
+        },
+        Start::ReleaseProducer => match after {
+            After::Done(_) => None,
+            After::GoOn(_) => holder,
+        },
+        _ => holder,
+    }
+}
+
+/// Who holds the consumer's role after a party's call went on.
+fn consumer_after<T: Copy>(
+    number: u32,
+    start: Start<T>,
+    after: &After<Flight, Answer<T>>,
+    holder: Option<u32>,
+) -> Option<u32>
+    ensures { result ≡ consumer_after number start after.now holder }
+{
+    match start {
+        Start::AcquireConsumer => match after {
+            After::Done(Answer::Truth(true)) => Some(number),
+            _ => holder,
+        },
+        Start::ReleaseConsumer => match after {
+            After::Done(_) => None,
+            After::GoOn(_) => holder,
+        },
+        _ => holder,
+    }
+}
+
+/// Where the call stands after it went on, with these changes of words in all and before it or by itself.
+fn doing_after<T: Copy>(changes: u64, since: u64, after: After<Flight, Answer<T>>) -> Doing
+    ensures { result ≡ doing_after changes since after }
+{
+    match after {
+        After::GoOn(flight) => Doing::Going(flight, since),
+        After::Done(_) => Doing::Over(changes.saturating_sub(since)),
+    }
+}
+
+impl<T: Copy> Parts<T> {
+    /// Whether the call asks for a role that the party lacks.
+    fn lacks_role(&self, number: u32, start: Start<T>) -> bool
+        ensures { result ≡ lacks_role (trace_of self.now).world number start }
+    {
+        match start {
+            Start::AcquireProducer => false,
+            Start::ReleaseProducer => !holds(self.producer, number),
+            Start::AcquireConsumer => false,
+            Start::ReleaseConsumer => !holds(self.consumer, number),
+            Start::Push(_) => !holds(self.producer, number),
+            Start::Pop => !holds(self.consumer, number),
+        }
+    }
+
+    /// Why the turn is refused, apart from memory.
+    pub fn refusal(&self, turn: Turn<T>) -> Option<Refusal>
+        ensures { result ≡ refusal_of (trace_of self.now).world turn }
+    {
+        match turn {
+            Turn::Begin(number, start) => {
+                if self.turns >= MOST_TURNS {
+                    Some(Refusal::AtEnd)
+                } else if number >= self.parties {
+                    Some(Refusal::NoParty)
+                } else if flight_of(&self.latest, number).is_some() {
+                    Some(Refusal::Busy)
+                } else if first(self.kind, self.capacity, start).is_none() {
+                    Some(Refusal::WrongCall)
+                } else if self.lacks_role(number, start) {
+                    Some(Refusal::NoRole)
+                } else {
+                    None
+                }
+            }
+            Turn::Next(number) => {
+                if self.turns >= MOST_TURNS {
+                    Some(Refusal::AtEnd)
+                } else if number >= self.parties {
+                    Some(Refusal::NoParty)
+                } else if flight_of(&self.latest, number).is_none() {
+                    Some(Refusal::Idle)
+                } else if is_due(flight_of(&self.latest, number)) {
+                    Some(Refusal::Undecided)
+                } else {
+                    None
+                }
+            }
+            Turn::Decide(number, _) => {
+                if self.turns >= MOST_TURNS {
+                    Some(Refusal::AtEnd)
+                } else if number >= self.parties {
+                    Some(Refusal::NoParty)
+                } else if flight_of(&self.latest, number).is_none() {
+                    Some(Refusal::Idle)
+                } else if !is_due(flight_of(&self.latest, number)) {
+                    Some(Refusal::Undecided)
+                } else {
+                    None
+                }
+            }
+            Turn::Die(_) => {
+                if self.turns >= MOST_TURNS {
+                    Some(Refusal::AtEnd)
+                } else {
+                    Some(Refusal::WrongCall)
+                }
+            }
+        }
+    }
+
+    /// The party begins this call. The turn is not refused.
+    fn begin(&mut self, number: u32, start: Start<T>) -> Result<(), Refusal>
+        requires { refusal_of (trace_of self.old).world (Turn.Begin number start) ≡ None }
+        ensures ok { OnOk result (trace_of self.new ≡ turned (trace_of self.old) (Turn.Begin number start)) }
+        ensures err { IfErr result (λ r. (r ≡ Refusal.NoMemory) × (trace_of self.new ≡ trace_of self.old)) }
+    {
+        let Some(flight) = first(self.kind, self.capacity, start) else {
+            unreachable!()
+        };
+        let Ok(()) = self.events.reserve(1) else {
+            return Err(Refusal::NoMemory);
+        };
+        let party = Party {
+            number,
+            start,
+            steps: 0,
+            backs: 0,
+            doing: Doing::Going(flight, self.changes),
+        };
+        let Ok(()) = put(&mut self.latest, party) else {
+            return Err(Refusal::NoMemory);
+        };
+        self.events.push_reserved(Event::Begun(number, start));
+        self.turns += 1;
+        Ok(())
+    }
+
+    /// The call of the party at this place goes on from an answer, and does the operation, if there is one.
+    fn go_on(&mut self, number: u32, at: usize, ask: Option<Ask>, answer: u64)
+        requires here { at ≡ place_of number self.old.latest.items }
+        requires begun { at < vec_len self.old.latest }
+        requires room { vec_len self.old.events + 3 ≤ vec_capacity self.old.events }
+        requires turns { self.old.turns < 2 ^ 64 - 2 }
+        requires small { IsSmall (trace_of self.old).world }
+        ensures { (x : Party T) → party_of number self.old.latest.items ≡ Some x → trace_of self.new ≡ resumed_trace (trace_of self.old) x ask answer }
+    {
+        let blank = Party {
+            number,
+            start: Start::Pop,
+            steps: 0,
+            backs: 0,
+            doing: Doing::Over(0),
+        };
+        let party = mem::replace(&mut self.latest[at], blank);
+        let Party {
+            number,
+            start,
+            steps,
+            backs,
+            doing,
+        } = party;
+        match doing {
+            Doing::Over(others) => {
+                self.latest[at] = Party {
+                    number,
+                    start,
+                    steps,
+                    backs,
+                    doing: Doing::Over(others),
+                };
+            }
+            Doing::Going(flight, since) => {
+                let effect = effect_of(&flight);
+                let after = flight.after(answer);
+                tell(&mut self.events, number, start, effect, &after);
+                self.producer = producer_after(number, start, &after, self.producer);
+                self.consumer = consumer_after(number, start, &after, self.consumer);
+                let change = words::change(&self.words, ask);
+                words::write(&mut self.words, ask);
+                self.changes += change;
+                self.latest[at] = Party {
+                    number,
+                    start,
+                    steps: steps + words::count(ask),
+                    backs,
+                    doing: doing_after(self.changes, since + change, after),
+                };
+                self.turns += 1;
+            }
+        }
+    }
+
+    /// The party's call takes its step. The turn is not refused.
+    fn next(&mut self, number: u32) -> Result<(), Refusal>
+        requires allowed { refusal_of (trace_of self.old).world (Turn.Next number) ≡ None }
+        requires small { IsSmall (trace_of self.old).world }
+        ensures ok { OnOk result (trace_of self.new ≡ turned (trace_of self.old) (Turn.Next number)) }
+        ensures err { IfErr result (λ r. (r ≡ Refusal.NoMemory) × (trace_of self.new ≡ trace_of self.old)) }
+    {
+        let at = place_of(&self.latest, number);
+        if at >= self.latest.len() {
+            unreachable!()
+        }
+        let Ok(()) = self.events.reserve(MOST_EVENTS) else {
+            return Err(Refusal::NoMemory);
+        };
+        let ask = ask_in(&self.latest[at].doing);
+        let answer = words::old(&self.words, ask);
+        self.go_on(number, at, ask, answer);
+        Ok(())
+    }
+
+    /// The party's question is answered. The turn is not refused.
+    fn decide(&mut self, number: u32, said: bool) -> Result<(), Refusal>
+        requires allowed { refusal_of (trace_of self.old).world (Turn.Decide number said) ≡ None }
+        requires small { IsSmall (trace_of self.old).world }
+        ensures ok { OnOk result (trace_of self.new ≡ turned (trace_of self.old) (Turn.Decide number said)) }
+        ensures err { IfErr result (λ r. (r ≡ Refusal.NoMemory) × (trace_of self.new ≡ trace_of self.old)) }
+    {
+        let at = place_of(&self.latest, number);
+        if at >= self.latest.len() {
+            unreachable!()
+        }
+        let Ok(()) = self.events.reserve(MOST_EVENTS) else {
+            return Err(Refusal::NoMemory);
+        };
+        self.go_on(number, at, None, number_of(said));
+        Ok(())
+    }
+
+    /// One turn.
+    pub fn step(&mut self, turn: Turn<T>) -> Result<(), Refusal>
+        requires { IsSmall (trace_of self.old).world }
+        ensures allowed { OnOk result (refusal_of (trace_of self.old).world turn ≡ None) }
+        ensures ok { OnOk result (trace_of self.new ≡ turned (trace_of self.old) turn) }
+        ensures refused { IfErr result (IsRefusal (trace_of self.old).world turn) }
+        ensures err { OnErr result (trace_of self.new ≡ trace_of self.old) }
+    {
+        if let Some(refusal) = self.refusal(turn) {
+            return Err(refusal);
+        }
+        match turn {
+            Turn::Begin(number, start) => self.begin(number, start),
+            Turn::Next(number) => self.next(number),
+            Turn::Decide(number, said) => self.decide(number, said),
+            Turn::Die(_) => unreachable!(),
+        }
+    }
+}

@@ -1,0 +1,52 @@
+//! What a machine is made of, its turns, and why one is refused.
+use crate::event::Start;
+use steps::enums::OwnerId;
+use thiserror::Error;
+
+/// The structure that a machine runs.
+#[derive(Debug, Clone, Copy, PartialEq, Eq)]
+pub enum Kind {
+    IndexQueue,
+}
+
+/// One turn of a run. The number is the party's.
+#[derive(Debug, Clone, Copy)]
+pub enum Turn<T> {
+    /// The party begins a call. No word is touched.
+    Begin(u32, Start<T>),
+    /// The party's call takes one step, or goes on without one where it asks for no word.
+    Next(u32),
+    /// The party's question is answered by yes or no. No word is touched.
+    Decide(u32, bool),
+    /// The owner dies.
+    Die(OwnerId),
+}
+
+/// Why a turn was refused. A refused turn changes nothing.
+#[derive(Debug, Clone, Copy, PartialEq, Eq, Error)]
+pub enum Refusal {
+    #[error("the party is not below the number of parties")]
+    NoParty = 1,
+    #[error("the party's call is under way")]
+    Busy = 2,
+    #[error("the party has no call under way")]
+    Idle = 3,
+    #[error("the kind has no such call")]
+    WrongCall = 4,
+    #[error("the party does not hold the role")]
+    NoRole = 5,
+    #[error("the party does not hold the index")]
+    NotHeld = 6,
+    #[error("the bit or index is past the capacity")]
+    BadIndex = 7,
+    #[error("the owner is dead")]
+    OwnerIsDead = 8,
+    #[error("the owner lives")]
+    OwnerLives = 9,
+    #[error("a decision is due, or none is")]
+    Undecided = 10,
+    #[error("there is no room for the events")]
+    NoMemory = 11,
+    #[error("as many turns were taken as a machine takes")]
+    AtEnd = 12,
+}

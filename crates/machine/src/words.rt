@@ -1,0 +1,56 @@
+//! One operation on one word of a machine.
+ghost use Rattle.std.specs.Prelude.{◌≡◌, ◌≤◌};
+ghost use Rattle.machine.specs.Turns.{old_of, words_after, change_of, steps_of};
+
+use steps::ask::Ask;
+
+/// The value of the asked word, or 0 where none is asked for or there is no such word.
+pub fn old(words: &Vec<u64>, ask: Option<Ask>) -> u64
+    ensures { result ≡ old_of words.now.items ask }
+{
+    match ask {
+        Some(ask) => {
+            if ask.word < words.len() {
+                words[ask.word]
+            } else {
+                0
+            }
+        }
+        None => 0,
+    }
+}
+
+/// 1 where the operation changes the value of its word, else 0.
+pub fn change(words: &Vec<u64>, ask: Option<Ask>) -> u64
+    ensures { result ≡ change_of words.now.items ask }
+{
+    match ask {
+        Some(ask) => {
+            let old = old(words, Some(ask));
+            if ask.op.apply(old) == old { 0 } else { 1 }
+        }
+        None => 0,
+    }
+}
+
+/// Does the operation.
+pub fn write(words: &mut Vec<u64>, ask: Option<Ask>)
+    ensures { words.new.items ≡ words_after words.old.items ask }
+{
+    if let Some(ask) = ask {
+        let new = ask.op.apply(old(words, Some(ask)));
+        if ask.word < words.len() {
+            words[ask.word] = new;
+        }
+    }
+}
+
+/// The steps that it counts for: 1 for an operation.
+pub fn count(ask: Option<Ask>) -> u64
+    ensures { result ≡ steps_of ask }
+{
+    match ask {
+        Some(_) => 1,
+        None => 0,
+    }
+}
