@@ -1,3 +1,5 @@
 pub mod Counts
 pub mod Parties
+pub mod Reached
 pub mod Rows
+pub mod Small

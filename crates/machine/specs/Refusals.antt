@@ -19,12 +19,20 @@ abbrev pub is_due : Option Flight → Bool
 is_due None = false
 is_due (Some flight) = is_question (want_of flight)
 
+-- a call is under way, and it needs no decision to go on
+abbrev pub goes : Option Flight → Bool
+goes None = false
+goes (Some flight) = not (is_question (want_of flight))
+
 -- the refusal of the first row that applies
 abbrev pub first_row : List (Bool × Refusal) → Option Refusal
 first_row [] = None
 first_row (row ∷ rows) = if row.0 then Some row.1 else first_row rows
 
 module _ {T : Type 0} where
+  abbrev pub is_going : World T → ℕ → Bool
+  is_going w p = goes (flight_in w p)
+
   -- the call asks for a role that the party does not hold
   abbrev pub lacks_role : World T → ℕ → Start T → Bool
   lacks_role w p AcquireProducer = false

@@ -171,6 +171,16 @@ module _ {T : Type 0} where
   abbrev pub turned : Trace T → Turn T → Trace T
   turned t turn = record { world = taken t.world turn; events = t.events ++ told t.world turn }
 
+  -- these turns, one after another
+  abbrev pub all_taken : Trace T → List (Turn T) → Trace T
+  all_taken t [] = t
+  all_taken t (turn ∷ turns) = all_taken (turned t turn) turns
+
+  -- none of them is refused
+  abbrev pub AreAllowed : Trace T → List (Turn T) → Type 0
+  AreAllowed t [] = Unit {0}
+  AreAllowed t (turn ∷ turns) = (refusal_of t.world turn ≡ None) × AreAllowed (turned t turn) turns
+
   abbrev pub unless_refused : Trace T → Trace T → Option Refusal → Trace T
   unless_refused old new None = new
   unless_refused old new (Some refusal) = old

@@ -1,5 +1,7 @@
 -- The machine as plain data.
-use Rattle.std.specs.Prelude.{◌≡◌, ℕ, ◌+◌, ◌-◌, ◌==◌, Bool, true, false, Option, Some, None, List, [], ◌∷◌, ◌++◌, replicate, if◌then◌else◌}
+use Rattle.std.specs.Prelude.{◌≡◌, ℕ, ◌+◌, ◌-◌, ◌^◌, ◌==◌, Bool, true, false, Option, Some, None, List, [], ◌∷◌, ◌++◌, replicate, if◌then◌else◌}
+use Rattle.steps.specs.declared.enums.UniqueIndexCreationError.{UniqueIndexCreationError}
+use Rattle.steps.specs.Enums.{capacity_refusal}
 use Rattle.machine.specs.declared.call.Flight.{Flight}
 use Rattle.machine.specs.declared.event.Event.{Event}
 use Rattle.machine.specs.declared.party.Doing.{Doing}
@@ -25,6 +27,17 @@ pub record World (T : Type 0) : Type 0 where
 pub record Trace (T : Type 0) : Type 0 where
   pub world : World T
   pub events : List (Event T)
+
+-- the least capacity of a kind, and the greatest
+abbrev pub least_capacity : Kind → ℕ
+least_capacity IndexQueue = 0
+
+abbrev pub greatest_capacity : Kind → ℕ
+greatest_capacity IndexQueue = 2 ^ 32 - 1
+
+-- the refusal of a capacity that is not admitted
+abbrev pub capacity_error : Kind → ℕ → Option UniqueIndexCreationError
+capacity_error kind capacity = capacity_refusal (least_capacity kind) (greatest_capacity kind) capacity
 
 -- write position, read position, both roles free, and the cells
 abbrev pub opening_words : Kind → ℕ → List ℕ

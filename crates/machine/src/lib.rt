@@ -1,9 +1,12 @@
-//! Runs the calls of any number of parties in any order, one step at a time, and keeps what happened.
+//! Runs the calls of any number of parties on one structure in any order, one atomic step at a time, and keeps what
+//! happened.
 #![tactic(auto)]
 
-ghost use Rattle.std.specs.Prelude.{◌≡◌};
+ghost use Rattle.std.specs.Prelude.{◌≡◌, ◌≤◌, ◌<◌, None, Some, OnOk, OnErr, IfOk, IfErr, ◌⊎◌, vec_len, length, take};
 
+use std::alloc::Global;
 use std::marker::Model;
+use steps::enums::{UniqueIndexCreationError, capacity_refusal};
 
 mod call;
 mod effects;
@@ -14,49 +17,102 @@ pub mod turn;
 mod words;
 
 use event::Event;
-use party::Party;
-use turn::Kind;
+use parts::Parts;
+use party::{Progress, flight_of, progress_of};
+use turn::{Kind, Refusal, Turn};
 
-/// A structure and its parties.
+/// One structure and its parties, with what they have done so far.
 #[derive(Drop)]
 pub struct Machine<T> {
-    kind: Kind,
-    capacity: u32,
-    parties: u32,
-    words: Vec<u64>,
-    producer: Option<u32>,
-    consumer: Option<u32>,
-    latest: Vec<Party<T>>,
-    changes: u64,
-    turns: u64,
-    events: Vec<Event<T>>,
+    parts: Parts<T>,
 }
 
 impl<T> Model for Machine<T> {
-    ghost use Rattle.machine.specs.World.{Trace};
+    ghost use Rattle.machine.specs.World.{Trace, trace_of};
     ghost use Rattle.machine.specs.Turns.{IsReached};
 
     ghost Value = { Trace T };
 
-    ghost view = { λ m. record { world = record { kind = m.kind; capacity = m.capacity; parties = m.parties; words = m.words.items; producer = m.producer; consumer = m.consumer; latest = m.latest.items; changes = m.changes; turns = m.turns }; events = m.events.items } };
+    ghost view = { λ m. trace_of m.parts };
 
-    ghost invariant = { λ m. IsReached record { world = record { kind = m.kind; capacity = m.capacity; parties = m.parties; words = m.words.items; producer = m.producer; consumer = m.consumer; latest = m.latest.items; changes = m.changes; turns = m.turns }; events = m.events.items } };
+    ghost invariant = { λ m. IsReached (trace_of m.parts) };
 }
 
-impl<T: Words> Machine<T> {
-    ghost use Rattle.machine.specs.Promises.{IsKept, IsTurn};
+impl<T: Copy> Machine<T> {
+    ghost use Rattle.machine.specs.World.{opening, capacity_error, progress_in, progress_after, party_of};
+    ghost use Rattle.machine.specs.Refusals.{refusal_of, IsRefusal, is_going};
+    ghost use Rattle.machine.specs.Turns.{turned, all_taken, AreAllowed};
 
-    pub fn words(&self) -> &[u64]
-        ensures { result.now ≡ self.now.world.words }
+    /// A structure that is empty, with both roles free, and this many parties, numbered from 0. Parties cost nothing
+    /// until they begin a call.
+    pub fn new(
+        alloc: Global,
+        kind: Kind,
+        capacity: usize,
+        parties: u32,
+    ) -> Result<Machine<T>, UniqueIndexCreationError>
+        ensures ok { IfOk result (λ m. m ≡ opening kind capacity parties) }
+        ensures admitted { OnOk result (capacity_error kind capacity ≡ None) }
+        ensures refused { IfErr result (λ e. (capacity_error kind capacity ≡ Some e) ⊎ (capacity_error kind capacity ≡ None) × (e ≡ UniqueIndexCreationError.NoMemory)) }
     {
-        &self.words
+        Ok(Machine {
+            parts: Parts::new(alloc, kind, capacity, parties)?,
+        })
     }
 
+    /// One turn. A refused turn changes nothing.
+    pub fn step(&mut self, turn: Turn<T>) -> Result<(), Refusal>
+        ensures allowed { OnOk result (refusal_of self.old.world turn ≡ None) }
+        ensures ok { OnOk result (self.new ≡ turned self.old turn) }
+        ensures refused { IfErr result (IsRefusal self.old.world turn) }
+        ensures err { OnErr result (self.new ≡ self.old) }
+    {
+        self.parts.step(turn)?;
+        Ok(())
+    }
+
+    /// Takes the turns up to the first that is refused, and answers how many it took.
+    pub fn run(&mut self, turns: &[Turn<T>]) -> usize
+        ensures count { result ≤ length turns.now }
+        ensures allowed { AreAllowed self.old (take result turns.now) }
+        ensures taken { self.new ≡ all_taken self.old (take result turns.now) }
+    {
+        for (at, turn) in turns.iter().enumerate() {
+            let Ok(()) = self.step(*turn) else {
+                return at;
+            };
+        }
+        turns.len()
+    }
+
+    /// Everything that happened, in order.
     pub fn events(&self) -> &[Event<T>]
         ensures { result.now ≡ self.now.events }
     {
-        &self.events
+        &self.parts.events
+    }
+
+    /// The shared words.
+    pub fn words(&self) -> &[u64]
+        ensures { result.now ≡ self.now.world.words }
+    {
+        &self.parts.words
+    }
+
+    /// How far the party's latest call has come, or None where it has begun none.
+    pub fn under_way(&self, party: u32) -> Option<Progress>
+        ensures { result ≡ progress_in self.now.world party }
+    {
+        progress_of(&self.parts.latest, self.parts.changes, party)
+    }
+
+    /// Whether the party has a call under way that needs no decision to go on.
+    pub fn is_going(&self, party: u32) -> bool
+        ensures { result ≡ is_going self.now.world party }
+    {
+        match flight_of(&self.parts.latest, party) {
+            Some(flight) => !flight.is_asking(),
+            None => false,
+        }
     }
 }
-
-use steps::words::Words;

@@ -1,6 +1,6 @@
 //! The parts of a machine, and what each turn does to them.
-ghost use Rattle.std.specs.Prelude.{◌≡◌, ◌+◌, ◌-◌, ◌^◌, ◌≤◌, ◌<◌, ◌⊎◌, None, Some, OnOk, OnErr, IfErr, vec_len, vec_capacity, length, slice_index_or, option_copied};
-ghost use Rattle.machine.specs.World.{trace_of, place_of, party_of};
+ghost use Rattle.std.specs.Prelude.{◌≡◌, ◌+◌, ◌-◌, ◌^◌, ◌≤◌, ◌<◌, ◌⊎◌, None, Some, OnOk, OnErr, IfOk, IfErr, vec_len, vec_capacity, length, slice_index_or, option_copied};
+ghost use Rattle.machine.specs.World.{opening, opening_words, capacity_error, trace_of, place_of, party_of};
 ghost use Rattle.machine.specs.declared.party.Party.{Party};
 ghost use Rattle.machine.specs.Refusals.{refusal_of, IsRefusal, lacks_role, holds, is_due};
 ghost use Rattle.machine.specs.Small.{IsSmall};
@@ -10,10 +10,12 @@ use crate::call::{Flight, first};
 use crate::effects::{MOST_EVENTS, effect_of, tell};
 use crate::event::{Answer, Event, Start};
 use crate::party::{Doing, Party, flight_of, place_of, put};
-use crate::turn::{Kind, Refusal, Turn};
+use crate::turn::{Kind, Refusal, Turn, capacity_error};
 use crate::words;
+use std::alloc::{AllocError, Global};
 use std::mem;
 use steps::ask::{After, Ask, Want};
+use steps::enums::UniqueIndexCreationError;
 
 /// As many turns as a machine takes.
 const MOST_TURNS: u64 = u64::MAX - 1;
@@ -127,7 +129,56 @@ fn doing_after<T: Copy>(changes: u64, since: u64, after: After<Flight, Answer<T>
     }
 }
 
+/// The words at the opening of a queue of this capacity.
+fn opening_words(alloc: Global, kind: Kind, capacity: u32) -> Result<Vec<u64>, AllocError>
+    ensures { IfOk result (λ words. words.items ≡ opening_words kind capacity) }
+{
+    match kind {
+        Kind::IndexQueue => {
+            let mut words = Vec::with_capacity(alloc, 4 + capacity as usize)?;
+            words.push_reserved(0);
+            words.push_reserved(0);
+            words.push_reserved(1);
+            words.push_reserved(1);
+            words.resize(4 + capacity as usize, 0)?;
+            Ok(words)
+        }
+    }
+}
+
 impl<T: Copy> Parts<T> {
+    /// The parts of a machine in which nothing has happened.
+    pub fn new(
+        alloc: Global,
+        kind: Kind,
+        capacity: usize,
+        parties: u32,
+    ) -> Result<Parts<T>, UniqueIndexCreationError>
+        ensures ok { IfOk result (λ m. trace_of m ≡ opening kind capacity parties) }
+        ensures admitted { OnOk result (capacity_error kind capacity ≡ None) }
+        ensures refused { IfErr result (λ e. (capacity_error kind capacity ≡ Some e) ⊎ (capacity_error kind capacity ≡ None) × (e ≡ UniqueIndexCreationError.NoMemory)) }
+    {
+        if let Some(error) = capacity_error(kind, capacity) {
+            return Err(error);
+        }
+        let capacity = capacity as u32;
+        let Ok(words) = opening_words(alloc, kind, capacity) else {
+            return Err(UniqueIndexCreationError::NoMemory);
+        };
+        Ok(Parts {
+            kind,
+            capacity,
+            parties,
+            words,
+            producer: None,
+            consumer: None,
+            latest: Vec::new(alloc),
+            changes: 0,
+            turns: 0,
+            events: Vec::new(alloc),
+        })
+    }
+
     /// Whether the call asks for a role that the party lacks.
     fn lacks_role(&self, number: u32, start: Start<T>) -> bool
         ensures { result ≡ lacks_role (trace_of self.now).world number start }

@@ -1,12 +1,24 @@
 //! What a machine is made of, its turns, and why one is refused.
+ghost use Rattle.std.specs.Prelude.{◌≡◌};
+ghost use Rattle.machine.specs.World.{capacity_error};
+
 use crate::event::Start;
-use steps::enums::OwnerId;
+use steps::enums::{OwnerId, UniqueIndexCreationError, capacity_refusal};
 use thiserror::Error;
 
 /// The structure that a machine runs.
 #[derive(Debug, Clone, Copy, PartialEq, Eq)]
 pub enum Kind {
     IndexQueue,
+}
+
+/// Why a machine of this kind is not made with this capacity, or None. An index queue has from 0 to 2^32 - 1.
+pub fn capacity_error(kind: Kind, capacity: usize) -> Option<UniqueIndexCreationError>
+    ensures { result ≡ capacity_error kind capacity }
+{
+    match kind {
+        Kind::IndexQueue => capacity_refusal(capacity as u64, 0, u32::MAX as u64),
+    }
 }
 
 /// One turn of a run. The number is the party's.

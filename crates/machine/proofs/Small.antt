@@ -1,0 +1,92 @@
+-- The counts of a machine stay below the number of its turns.
+use Rattle.std.proofs.Common.{◌≡◌, ℕ, ◌+◌, ◌-◌, ◌≤◌, ◌<◌, ◌^◌, Bool, true, false, Option, Some, None, List, [], ◌∷◌, refl, arith}
+use Rattle.std.specs.List.{AllByRecursion}
+use Rattle.steps.specs.declared.ask.Ask.{Ask}
+use Rattle.steps.specs.declared.ask.After.{After}
+use Rattle.steps.specs.declared.ask.After.TheVariants.{GoOn, Done}
+use Rattle.machine.specs.declared.call.Flight.{Flight}
+use Rattle.machine.specs.declared.event.Start.{Start}
+use Rattle.machine.specs.declared.event.Answer.{Answer}
+use Rattle.machine.specs.declared.party.Doing.{Doing}
+use Rattle.machine.specs.declared.party.Doing.TheVariants.{Going, Over}
+use Rattle.machine.specs.declared.party.Party.{Party}
+use Rattle.machine.specs.declared.turn.Turn.{Turn}
+use Rattle.machine.specs.declared.turn.Turn.TheVariants.{Begin, Next, Decide, Die}
+use Rattle.machine.specs.World.{World, Trace, opening, party_of}
+use Rattle.machine.specs.Calls.{first_of, after_of}
+use Rattle.machine.specs.Refusals.{refusal_of}
+use Rattle.machine.specs.Small.{HasSmallCount, HasSmallCounts, IsSmall}
+use Rattle.machine.specs.Turns.{begun, begun_party, moved, moved_party, doing_after, resumed, next_of, decision_of, taken, turned, IsReached, ask_in, old_of, number_of, change_of, steps_of}
+use Rattle.machine.proofs.Counts.{change_small, steps_small}
+use Rattle.machine.proofs.Parties.{all_at, all_put, all_weaker}
+use Rattle.machine.proofs.Reached.{kept_by_runs}
+use Rattle.machine.proofs.Rows.{may_begin, may_next, may_decide}
+
+more_changes : (changes more : ℕ) (doing : Doing) → HasSmallCount changes doing → HasSmallCount (changes + more) doing
+more_changes changes more (Going flight since) h = omega arith
+more_changes changes more (Over others) h = omega arith
+
+module _ {T : Type 0} where
+  later : (turns changes more : ℕ) (xs : List (Party T)) → AllByRecursion (HasSmallCounts turns changes) xs → AllByRecursion (HasSmallCounts (turns + 1) (changes + more)) xs
+  later turns changes more xs all =
+      all_weaker (HasSmallCounts turns changes) (HasSmallCounts (turns + 1) (changes + more)) xs (λ x h. record { steps = let s = h.steps in omega arith; doing = more_changes changes more x.doing h.doing }) all
+
+  begun_small : (w : World T) (p : ℕ) (start : Start T) (flight : Option Flight) → w.turns < 2 ^ 64 - 2 → IsSmall w → IsSmall (begun w p start flight)
+  begun_small w p start None below h = h
+  begun_small w p start (Some flight) below h =
+      let changes = h.changes in
+      let same : w.changes + 0 ≡ w.changes = omega arith in
+      record {
+        turns = omega arith;
+        changes = omega arith;
+        latest =
+            all_put (HasSmallCounts (w.turns + 1) w.changes) (begun_party p start flight w.changes) w.latest
+            (record { steps = omega arith; doing = omega arith })
+            (rw same at (later w.turns w.changes 0 w.latest h.latest));
+      }
+
+  moved_doing : (changes since change : ℕ) (after : After Flight (Answer T)) → since ≤ changes → HasSmallCount (changes + change) (doing_after (changes + change) (since + change) after)
+  moved_doing changes since change (GoOn flight) h = omega arith
+  moved_doing changes since change (Done answer) h = omega arith
+
+  moved_small : (w : World T) (x : Party T) (since : ℕ) (ask : Option Ask) (after : After Flight (Answer T)) → w.turns < 2 ^ 64 - 2 → x.steps ≤ w.turns → since ≤ w.changes → IsSmall w → IsSmall (moved w x since ask after)
+  moved_small w x since ask after below steps begun h =
+      let one = change_small w.words ask in
+      let step = steps_small ask in
+      let changes = h.changes in
+      record {
+        turns = omega arith;
+        changes = omega arith;
+        latest =
+            all_put (HasSmallCounts (w.turns + 1) (w.changes + change_of w.words ask)) (moved_party x since w.changes (steps_of ask) (change_of w.words ask) after) w.latest
+            (record { steps = omega arith; doing = moved_doing w.changes since (change_of w.words ask) after begun })
+            (later w.turns w.changes (change_of w.words ask) w.latest h.latest);
+      }
+
+  resumed_small : (w : World T) (x : Party T) (ask : Option Ask) (answer : ℕ) (doing : Doing) → w.turns < 2 ^ 64 - 2 → x.steps ≤ w.turns → HasSmallCount w.changes doing → IsSmall w → IsSmall (resumed w x ask answer doing)
+  resumed_small w x ask answer (Over others) below steps small h = h
+  resumed_small w x ask answer (Going flight since) below steps small h = moved_small w x since ask (after_of flight answer) below steps small h
+
+  next_small : (w : World T) (p : ℕ) (o : Option (Party T)) → party_of p w.latest ≡ o → w.turns < 2 ^ 64 - 2 → IsSmall w → IsSmall (next_of w o)
+  next_small w p None e below h = h
+  next_small w p (Some x) e below h =
+      let here = all_at (HasSmallCounts w.turns w.changes) p w.latest x h.latest e in
+      resumed_small w x (ask_in x.doing) (old_of w.words (ask_in x.doing)) x.doing below here.steps here.doing h
+
+  decision_small : (w : World T) (p : ℕ) (said : Bool) (o : Option (Party T)) → party_of p w.latest ≡ o → w.turns < 2 ^ 64 - 2 → IsSmall w → IsSmall (decision_of w said o)
+  decision_small w p said None e below h = h
+  decision_small w p said (Some x) e below h =
+      let here = all_at (HasSmallCounts w.turns w.changes) p w.latest x h.latest e in
+      resumed_small w x None (number_of said) x.doing below here.steps here.doing h
+
+  taken_small : (w : World T) (turn : Turn T) → refusal_of w turn ≡ None → IsSmall w → IsSmall (taken w turn)
+  taken_small w (Begin p start) e h = begun_small w p start (first_of w.kind w.capacity start) (may_begin w p start e).turns h
+  taken_small w (Next p) e h = next_small w p (party_of p w.latest) refl (may_next w p e).turns h
+  taken_small w (Decide p said) e h = decision_small w p said (party_of p w.latest) refl (may_decide w p said e).turns h
+  taken_small w (Die owner) e h = h
+
+  pub reached_small : (t : Trace T) → IsReached t → IsSmall t.world
+  reached_small t r =
+      kept_by_runs (λ t. IsSmall t.world) (λ t turn e h. taken_small t.world turn e h) t
+      (record { turns = omega arith; changes = omega arith; latest = tt })
+      r
