@@ -1,5 +1,9 @@
 pub mod Counts
 pub mod Parties
 pub mod Reached
+pub mod Readings
+pub mod Replays
 pub mod Rows
 pub mod Small
+pub mod Structures
+pub mod Turns
