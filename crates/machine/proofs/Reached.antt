@@ -1,5 +1,5 @@
 -- What every turn that is taken keeps holds of every run.
-use Rattle.std.proofs.Common.{◌≡◌, ℕ, Bool, true, false, Option, Some, None, List, [], ◌∷◌, ◌++◌, ◌+◌, ◌<◌, length, get_or, take, refl, sym, ap, subst, ◌∙◌}
+use Rattle.std.proofs.Common.{◌≡◌, ℕ, Bool, Option, Some, None, List, [], ◌∷◌, ◌++◌, ◌+◌, ◌<◌, length, get_or, take, refl, sym, ap, subst, ◌∙◌}
 use Rattle.machine.specs.declared.call.Flight.{Flight}
 use Rattle.machine.specs.declared.event.Start.{Start}
 use Rattle.machine.specs.declared.party.Doing.{Doing}

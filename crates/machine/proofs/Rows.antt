@@ -1,14 +1,15 @@
 -- What a turn that is not refused has passed.
-use Rattle.std.proofs.Common.{◌≡◌, ℕ, ◌^◌, ◌-◌, ◌<◌, ◌≤◌, Bool, true, false, cond, not, Option, Some, None, is_some, is_none, nat_le, List, [], ◌∷◌, refl, arith}
+use Rattle.std.proofs.Common.{◌≡◌, ℕ, ◌^◌, ◌-◌, ◌<◌, Bool, true, false, cond, not, Option, Some, None, is_some, is_none, nat_le, refl, arith}
 use Rattle.std.proofs.lemmas.Bool.Decides.{nat_tests}
 use Rattle.machine.specs.declared.call.Flight.{Flight}
 use Rattle.machine.specs.declared.event.Start.{Start}
 use Rattle.machine.specs.declared.party.Party.{Party}
 use Rattle.machine.specs.declared.turn.Turn.TheVariants.{Begin, Next, Decide, Die}
 use Rattle.machine.specs.declared.turn.Refusal.{Refusal}
+use Rattle.machine.specs.declared.turn.Refusal.TheVariants.{AtEnd, NoParty, Idle, Undecided, WrongCall}
 use Rattle.machine.specs.World.{World, flight_in, flight_of, doing_of}
 use Rattle.machine.specs.Calls.{first_of}
-use Rattle.machine.specs.Refusals.{refusal_of, first_row, is_at_end, lacks_role, is_due}
+use Rattle.machine.specs.Refusals.{refusal_of, is_at_end, lacks_role, is_due}
 
 -- a row that did not apply
 pub row_passed : (b : Bool) (r : Refusal) (rest : Option Refusal) → cond b (Some r) rest ≡ None → (b ≡ false) × (rest ≡ None)
@@ -77,3 +78,17 @@ module _ {T : Type 0} where
       let in_range : nat_le w.parties p ≡ false = b.0 in
       let f = not_none _ c.0 in
       record { turns = grind (arith, nat_tests); party = grind (arith, nat_tests); flight = f.0; is = f.1 }
+
+  pub must_be_due : (w : World T) (p : ℕ) (said : Bool) → refusal_of w (Decide p said) ≡ None → not (is_due (flight_in w p)) ≡ false
+  must_be_due w p said e =
+      let a = row_passed (is_at_end w) AtEnd _ e in
+      let b = row_passed (nat_le w.parties p) NoParty _ a.1 in
+      let c = row_passed (is_none (flight_in w p)) Idle _ b.1 in
+      let d = row_passed (not (is_due (flight_in w p))) Undecided _ c.1 in
+      d.0
+
+  pub never_dies : (w : World T) (owner : ℕ) → refusal_of w (Die owner) ≡ None → ⊥
+  never_dies w owner e =
+      let a = row_passed (is_at_end w) AtEnd (Some WrongCall) e in
+      let r : Some WrongCall ≡ None = a.1 in
+      cc

@@ -1,5 +1,5 @@
 -- The counts of a machine stay below the number of its turns.
-use Rattle.std.proofs.Common.{◌≡◌, ℕ, ◌+◌, ◌-◌, ◌≤◌, ◌<◌, ◌^◌, Bool, true, false, Option, Some, None, List, [], ◌∷◌, refl, arith}
+use Rattle.std.proofs.Common.{◌≡◌, ℕ, ◌+◌, ◌-◌, ◌≤◌, ◌<◌, ◌^◌, Bool, Option, Some, None, List, refl, arith}
 use Rattle.std.specs.List.{AllByRecursion}
 use Rattle.steps.specs.declared.ask.Ask.{Ask}
 use Rattle.steps.specs.declared.ask.After.{After}
@@ -12,11 +12,11 @@ use Rattle.machine.specs.declared.party.Doing.TheVariants.{Going, Over}
 use Rattle.machine.specs.declared.party.Party.{Party}
 use Rattle.machine.specs.declared.turn.Turn.{Turn}
 use Rattle.machine.specs.declared.turn.Turn.TheVariants.{Begin, Next, Decide, Die}
-use Rattle.machine.specs.World.{World, Trace, opening, party_of}
+use Rattle.machine.specs.World.{World, Trace, party_of}
 use Rattle.machine.specs.Calls.{first_of, after_of}
 use Rattle.machine.specs.Refusals.{refusal_of}
 use Rattle.machine.specs.Small.{HasSmallCount, HasSmallCounts, IsSmall}
-use Rattle.machine.specs.Turns.{begun, begun_party, moved, moved_party, doing_after, resumed, next_of, decision_of, taken, turned, IsReached, ask_in, old_of, number_of, change_of, steps_of}
+use Rattle.machine.specs.Turns.{begun, begun_party, moved, moved_party, doing_after, resumed, next_of, decision_of, taken, IsReached, ask_in, old_of, number_of, change_of, steps_of}
 use Rattle.machine.proofs.Counts.{change_small, steps_small}
 use Rattle.machine.proofs.Parties.{all_at, all_put, all_weaker}
 use Rattle.machine.proofs.Reached.{kept_by_runs}

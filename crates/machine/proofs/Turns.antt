@@ -1,5 +1,5 @@
 -- What a turn does, in its own words.
-use Rattle.std.proofs.Common.{◌≡◌, ◌≢◌, ℕ, ◌+◌, ◌-◌, ◌≤◌, Bool, true, false, Option, Some, None, option_map, IfSome, List, refl, sym, ap, subst, ◌∙◌, arith}
+use Rattle.std.proofs.Common.{◌≡◌, ◌≢◌, ℕ, ◌+◌, ◌-◌, Bool, Option, Some, None, option_map, IfSome, List, refl, ap, subst, ◌∙◌, arith}
 use Rattle.std.specs.List.{AllByRecursion}
 use Rattle.steps.specs.declared.ask.Ask.{Ask}
 use Rattle.steps.specs.declared.ask.After.{After}
@@ -12,12 +12,11 @@ use Rattle.machine.specs.declared.party.Doing.TheVariants.{Going, Over}
 use Rattle.machine.specs.declared.party.Party.{Party}
 use Rattle.machine.specs.declared.turn.Turn.{Turn}
 use Rattle.machine.specs.declared.turn.Turn.TheVariants.{Begin, Next, Decide, Die}
-use Rattle.machine.specs.World.{World, party_of, put, doing_of, flight_of, flight_in, progress_after, progress_in}
+use Rattle.machine.specs.World.{World, party_of, put, doing_of, flight_of, progress_after, progress_in}
 use Rattle.machine.specs.Calls.{first_of, want_of, ask_of, after_of}
-use Rattle.machine.specs.Refusals.{refusal_of}
 use Rattle.machine.specs.Small.{HasSmallCount, HasSmallCounts, IsSmall}
 use Rattle.machine.specs.Turns.{old_of, words_after, change_of, steps_of, ask_in, number_of, begun, begun_party, moved, moved_party, doing_after, resumed, next_of, decision_of, taken}
-use Rattle.machine.specs.Promises.Steps.{asked_of, asked_by, WritesOneWord, StandsAt, GoesOn, after_step, is_done, CountsStep, noticed, IsParty, CountsOthers}
+use Rattle.machine.specs.Promises.Steps.{asked_of, WritesOneWord, StandsAt, GoesOn, after_step, is_done, CountsStep, noticed, CountsOthers}
 use Rattle.machine.proofs.Parties.{party_number, party_put_same, party_put_other, all_at}
 
 later : (changes since change : ℕ) → (changes + change) - (since + change) ≡ changes - since

@@ -1,15 +1,12 @@
 -- Which calls a kind has, and how a call under way goes on.
 use Rattle.std.specs.Prelude.{ℕ, Bool, true, false, Option, Some, None, List, [], ◌∷◌, slice_index}
 use Rattle.steps.specs.declared.ask.Ask.{Ask}
-use Rattle.steps.specs.declared.ask.Question.{Question}
-use Rattle.steps.specs.declared.ask.Question.TheVariants.{Index, Owned, Value}
 use Rattle.steps.specs.declared.ask.Want.{Want}
 use Rattle.steps.specs.declared.ask.Want as wants
 use Rattle.steps.specs.declared.ask.After.{After}
 use Rattle.steps.specs.declared.ask.After.TheVariants.{GoOn, Done}
 use Rattle.steps.specs.Roles.{acquire_want, acquire_after, release_want, release_after}
 use Rattle.steps.specs.Ring.{first_push, push_want, push_after, first_pop, pop_want, pop_after}
-use Rattle.machine.specs.declared.call.RoleCall.{RoleCall}
 use Rattle.machine.specs.declared.call.RoleCall.TheVariants.{Acquire, Release}
 use Rattle.machine.specs.declared.call.RingCall.{RingCall}
 use Rattle.machine.specs.declared.call.RingCall as rings

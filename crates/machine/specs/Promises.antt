@@ -1,7 +1,8 @@
 -- What holds of every turn and of every run.
-use Rattle.std.specs.Prelude.{ℕ}
+use Rattle.std.specs.Prelude.{ℕ, List, [], ◌∷◌}
 use Rattle.machine.specs.declared.turn.Turn.{Turn}
 use Rattle.machine.specs.World.{Trace, progress_in}
+use Rattle.machine.specs.Turns.{turned}
 use Rattle.machine.specs.Reading.{Each, moments, span_of}
 use Rattle.machine.specs.Objects.{IsLegal, bounded_list}
 pub mod Book
@@ -21,6 +22,11 @@ module _ {T : Type 0} where
     pub steps : CountsStep old.world turn new.world
     pub others : CountsOthers old.world turn new.world
     pub justified : IsJustified old turn
+
+  -- each of these turns, one after another
+  abbrev pub AreTurns : Trace T → List (Turn T) → Type 0
+  AreTurns t [] = Unit {0}
+  AreTurns t (turn ∷ turns) = IsTurn t turn (turned t turn) × AreTurns (turned t turn) turns
 
   -- the events of a run
   pub record IsKept (t : Trace T) : Type 0 where

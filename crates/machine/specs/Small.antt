@@ -1,5 +1,5 @@
 -- The counts of a machine stay below the number of its turns, so that none of them wraps.
-use Rattle.std.specs.Prelude.{ℕ, ◌+◌, ◌-◌, ◌≤◌, ◌^◌}
+use Rattle.std.specs.Prelude.{ℕ, ◌-◌, ◌≤◌, ◌^◌}
 use Rattle.std.specs.List.{AllByRecursion}
 use Rattle.machine.specs.declared.party.Doing.{Doing}
 use Rattle.machine.specs.declared.party.Doing.TheVariants.{Going, Over}

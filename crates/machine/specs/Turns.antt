@@ -14,11 +14,10 @@ use Rattle.machine.specs.declared.event.Event.TheVariants.{Begun}
 use Rattle.machine.specs.declared.party.Doing.{Doing}
 use Rattle.machine.specs.declared.party.Doing.TheVariants.{Going, Over}
 use Rattle.machine.specs.declared.party.Party.{Party}
-use Rattle.machine.specs.declared.turn.Kind.{Kind}
 use Rattle.machine.specs.declared.turn.Refusal.{Refusal}
 use Rattle.machine.specs.declared.turn.Turn.{Turn}
 use Rattle.machine.specs.declared.turn.Turn.TheVariants.{Begin, Next, Decide, Die}
-use Rattle.machine.specs.World.{World, Trace, opening, party_of, put, flight_in}
+use Rattle.machine.specs.World.{World, Trace, opening, party_of, put}
 use Rattle.machine.specs.Calls.{first_of, want_of, ask_of, after_of}
 use Rattle.machine.specs.Effects.{effect_of, told_after}
 use Rattle.machine.specs.Refusals.{refusal_of}

@@ -42,6 +42,8 @@ impl<T: Copy> Machine<T> {
     ghost use Rattle.machine.specs.World.{opening, capacity_error, progress_in, progress_after, party_of};
     ghost use Rattle.machine.specs.Refusals.{refusal_of, IsRefusal, is_going};
     ghost use Rattle.machine.specs.Turns.{turned, all_taken, AreAllowed};
+    ghost use Rattle.machine.specs.Promises.{IsKept, AreTurns};
+    ghost use Rattle.machine.specs.Promises.Steps.{WritesOneWord, GoesOn, CountsStep, CountsOthers, IsJustified};
 
     /// A structure that is empty, with both roles free, and this many parties, numbered from 0. Parties cost nothing
     /// until they begin a call.
@@ -61,11 +63,28 @@ impl<T: Copy> Machine<T> {
     }
 
     /// One turn. A refused turn changes nothing.
+    ///
+    /// The refusals are tested in this order: `AtEnd` after 2^64 - 2 turns, `NoParty` for a number that is not below
+    /// the number of parties; for `Begin` then `Busy`, `WrongCall` and `NoRole`; for `Next` `Idle` and `Undecided`
+    /// where a decision is due; for `Decide` `Idle` and `Undecided` where none is due; for `Die` `WrongCall`; last
+    /// `NoMemory`, where there is no room for the events or for a new party.
     pub fn step(&mut self, turn: Turn<T>) -> Result<(), Refusal>
         ensures allowed { OnOk result (refusal_of self.old.world turn ≡ None) }
-        ensures ok { OnOk result (self.new ≡ turned self.old turn) }
         ensures refused { IfErr result (IsRefusal self.old.world turn) }
         ensures err { OnErr result (self.new ≡ self.old) }
+
+        // What the turn makes of the machine, and what it writes down.
+        ensures ok { OnOk result (self.new ≡ turned self.old turn) }
+
+        // The same, in its own words.
+        ensures word { OnOk result (WritesOneWord self.old.world turn self.new.world) }
+        ensures call { OnOk result (GoesOn self.old.world turn self.new.world) }
+        ensures steps { OnOk result (CountsStep self.old.world turn self.new.world) }
+        ensures others { OnOk result (CountsOthers self.old.world turn self.new.world) }
+        ensures justified { OnOk result (IsJustified self.old turn) }
+
+        // The promises of every run.
+        ensures kept { IsKept self.new }
     {
         self.parts.step(turn)?;
         Ok(())
@@ -76,7 +95,10 @@ impl<T: Copy> Machine<T> {
         ensures count { result ≤ length turns.now }
         ensures allowed { AreAllowed self.old (take result turns.now) }
         ensures taken { self.new ≡ all_taken self.old (take result turns.now) }
+        ensures each { AreTurns self.old (take result turns.now) }
+        ensures kept { IsKept self.new }
     {
+        let _ = &self.parts;
         for (at, turn) in turns.iter().enumerate() {
             let Ok(()) = self.step(*turn) else {
                 return at;

@@ -1,5 +1,10 @@
 pub mod Core
 pub mod Invariant
+pub mod Justified
 pub mod Keeping
+pub mod Kept
+pub mod Pops
+pub mod Pushes
 pub mod Roles
+pub mod Sound
 pub mod Stages

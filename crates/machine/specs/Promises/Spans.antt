@@ -1,5 +1,5 @@
 -- What a call writes between its begin and its end.
-use Rattle.std.specs.Prelude.{◌≡◌, ℕ, true, Some, List, [], ◌∷◌}
+use Rattle.std.specs.Prelude.{◌≡◌, true, Some, List, [], ◌∷◌}
 use Rattle.machine.specs.declared.event.Item.{Item}
 use Rattle.machine.specs.declared.event.Start.{Start}
 use Rattle.machine.specs.declared.event.Start.TheVariants.{Push, Pop}

@@ -1,6 +1,12 @@
-use Rattle.std.proofs.Common.{◌<◌, length, arith}
+use Rattle.std.proofs.Common.{◌≡◌, ◌<◌, length, take, refl, subst, arith}
+use Rattle.machine.specs.Turns.{IsReached}
 use Rattle.machine.proofs.Reached.{one_more}
+use Rattle.machine.proofs.Structures.Ring.Justified.{reached_turns}
+use Rattle.machine.proofs.Structures.Ring.Kept.{reached_kept}
 use Rattle.machine.proofs.Machine.run.Goals as goal
+
+pub loop-at-init : goal.loop-at-init
+loop-at-init g c = record { allowed = tt; taken = refl; kept = reached_kept c.args.self.now (subst IsReached c.self.view_is c.self.invariant) }
 
 pub loop-at-preserved : goal.loop-at-preserved
 loop-at-preserved g c =
@@ -12,4 +18,14 @@ loop-at-preserved g c =
     c.in-Ok.ensures.allowed
     c.in-Ok.ensures.ok
     in
-    record { allowed = more.0; taken = more.1 }
+    record { allowed = more.0; taken = more.1; kept = c.in-Ok.ensures.kept }
+
+pub returns-in_default-clause-each : goal.returns-in_default-clause-each
+returns-in_default-clause-each g c =
+    reached_turns c.args.self.now (take c.loop-at.at c.args.turns.now) (subst IsReached c.self.view_is c.self.invariant) c.loop-at.invariant.allowed
+
+pub returns-clause-each : goal.returns-clause-each
+returns-clause-each g c =
+    let all : c.loop-at.at ≡ length c.args.turns.now = omega arith in
+    let allowed = rw all at c.loop-at.invariant.allowed in
+    reached_turns c.args.self.now (take (length c.args.turns.now) c.args.turns.now) (subst IsReached c.self.view_is c.self.invariant) allowed

@@ -1,5 +1,6 @@
 use Rattle.std.proofs.Common.{◌≡◌, take}
 use Rattle.machine.specs.Turns.{all_taken, AreAllowed}
+use Rattle.machine.specs.Promises.{IsKept}
 use Rattle.machine.proofs.Machine.run.Given as goal
 
 abbrev pub invariant-loop-at : goal.invariant-loop-at
@@ -7,4 +8,5 @@ invariant-loop-at g l =
     record {
       allowed : AreAllowed l.fn.self (take l.at l.turns);
       taken : l.self ≡ all_taken l.fn.self (take l.at l.turns);
+      kept : IsKept l.self;
     }

@@ -1,9 +1,9 @@
-use Rattle.std.proofs.Common.{◌≡◌, None, sym, ap, ◌∙◌}
 use Rattle.machine.specs.World.{trace_of}
-use Rattle.machine.specs.Refusals.{refusal_of}
 use Rattle.machine.specs.Turns.{turned}
 use Rattle.machine.proofs.Reached.{reached_is, reached_more}
 use Rattle.machine.proofs.Small.{reached_small}
+use Rattle.machine.proofs.Structures.Ring.Justified.{step_turn}
+use Rattle.machine.proofs.Structures.Ring.Kept.{reached_kept}
 use Rattle.machine.proofs.Machine.step.Goals as goal
 
 pub step-requires : goal.step-requires
@@ -19,3 +19,28 @@ returns-clause-allowed g c = rw (← c.self.view_is) c.in_ok-step.ensures.allowe
 
 pub returns-clause-ok : goal.returns-clause-ok
 returns-clause-ok g c = rw (← c.self.view_is) c.in_ok-step.ensures.ok
+
+pub returns-clause-word : goal.returns-clause-word
+returns-clause-word g c = (step_turn (trace_of c.self.inside.parts) c.args.self.now (trace_of c.step.new.self) c.args.turn c.self.view_is c.self.invariant c.in_ok-step.ensures.allowed c.in_ok-step.ensures.ok).word
+
+pub returns-clause-call : goal.returns-clause-call
+returns-clause-call g c = (step_turn (trace_of c.self.inside.parts) c.args.self.now (trace_of c.step.new.self) c.args.turn c.self.view_is c.self.invariant c.in_ok-step.ensures.allowed c.in_ok-step.ensures.ok).call
+
+pub returns-clause-steps : goal.returns-clause-steps
+returns-clause-steps g c = (step_turn (trace_of c.self.inside.parts) c.args.self.now (trace_of c.step.new.self) c.args.turn c.self.view_is c.self.invariant c.in_ok-step.ensures.allowed c.in_ok-step.ensures.ok).steps
+
+pub returns-clause-others : goal.returns-clause-others
+returns-clause-others g c = (step_turn (trace_of c.self.inside.parts) c.args.self.now (trace_of c.step.new.self) c.args.turn c.self.view_is c.self.invariant c.in_ok-step.ensures.allowed c.in_ok-step.ensures.ok).others
+
+pub returns-clause-justified : goal.returns-clause-justified
+returns-clause-justified g c = (step_turn (trace_of c.self.inside.parts) c.args.self.now (trace_of c.step.new.self) c.args.turn c.self.view_is c.self.invariant c.in_ok-step.ensures.allowed c.in_ok-step.ensures.ok).justified
+
+pub returns-clause-kept : goal.returns-clause-kept
+returns-clause-kept g c =
+    reached_kept (trace_of c.step.new.self)
+    (reached_is (trace_of c.step.new.self) (turned (trace_of c.self.inside.parts) c.args.turn) c.in_ok-step.ensures.ok
+    (reached_more (trace_of c.self.inside.parts) c.args.turn c.in_ok-step.ensures.allowed c.self.invariant))
+
+pub returns-in_err-step-clause-kept : goal.returns-in_err-step-clause-kept
+returns-in_err-step-clause-kept g c =
+    reached_kept (trace_of c.step.new.self) (reached_is (trace_of c.step.new.self) (trace_of c.self.inside.parts) c.in_err-step.ensures.err c.self.invariant)

@@ -1,6 +1,6 @@
 -- The queue that the words hold, and what each operation on a word does to it. No event and no party is in it.
 -- V is the type of the values, size the number of their words, and words_of gives the words.
-use Rattle.std.proofs.Common.{◌≡◌, ◌≢◌, ℕ, zero, suc, ◌+◌, ◌-◌, ◌*◌, ◌/◌, ◌%◌, ◌<◌, ◌≤◌, ◌⊎◌, inl, inr, ⊎_elim, slice_get, Option, Some, None, List, [], ◌∷◌, ◌++◌, length, get_or, set, refl, sym, ap, subst, ◌∙◌, arith, length-set, length-append, get_or-set_same, get_or-set_other}
+use Rattle.std.proofs.Common.{◌≡◌, ◌≢◌, ℕ, zero, suc, ◌+◌, ◌*◌, ◌/◌, ◌%◌, ◌<◌, ◌≤◌, ◌⊎◌, inl, inr, ⊎_elim, slice_get, Some, List, [], ◌∷◌, ◌++◌, length, get_or, set, refl, ap, subst, ◌∙◌, arith, length-set, length-append, get_or-set_same, get_or-set_other}
 use Rattle.std.proofs.lemmas.Bool.{cases_lt}
 use Rattle.std.proofs.Math.Nat.{mul-le-mul_left}
 
@@ -79,7 +79,7 @@ module _ {V : Type 0} (size : ℕ) (words_of : V → List ℕ) (c : ℕ) where
   taken k rest = record { write = k.write; read = k.read + 1; waiting = rest; cells = k.cells }
 
   -- a value that waits stands less than a lap behind the write position
-  at_below : (xs : List V) (i : ℕ) (v : V) → slice_get xs i ≡ Some v → i < length xs
+  pub at_below : (xs : List V) (i : ℕ) (v : V) → slice_get xs i ≡ Some v → i < length xs
   at_below [] i v e = cc
   at_below (x ∷ xs) zero v e = omega arith
   at_below (x ∷ xs) (suc i) v e = let h = at_below xs i v e in omega arith

@@ -1,38 +1,18 @@
 -- What a step of one party keeps of what the calls of the others know.
-use Rattle.std.proofs.Common.{◌≡◌, ◌≢◌, ℕ, zero, suc, ◌+◌, ◌-◌, ◌*◌, ◌%◌, ◌^◌, ◌<◌, ◌≤◌, ◌==◌, nat_lt, Bool, true, false, cond, ◌||◌, ◌⊎◌, inl, inr, ⊎_elim, Option, Some, None, List, [], ◌∷◌, ◌++◌, length, get_or, set, map, drop, fold, refl, sym, ap, subst, ◌∙◌, append-nil, arith}
-use Rattle.std.proofs.lemmas.Bool.Decides.{nat_tests}
-use Rattle.std.proofs.lemmas.List.{map-append, length-map}
-use Rattle.steps.specs.declared.ask.Ask.{Ask}
-use Rattle.steps.specs.declared.ask.Op.TheVariants.{Load, Store, Exchange}
-use Rattle.steps.specs.declared.ask.After.{After}
-use Rattle.steps.specs.declared.ask.After.TheVariants.{GoOn, Done}
+use Rattle.std.proofs.Common.{◌≡◌, ◌≢◌, ℕ, suc, Option, Some, List, [], ◌∷◌, ◌++◌, length, sym, ap, ◌∙◌, arith}
 use Rattle.steps.specs.declared.ring.PushStage as pushes
 use Rattle.steps.specs.declared.ring.PopStage as pops
-use Rattle.steps.specs.Ring.{cell_word, distance, after_position}
-use Rattle.machine.specs.declared.call.RoleCall.{RoleCall}
 use Rattle.machine.specs.declared.call.RoleCall.TheVariants.{Acquire, Release}
 use Rattle.machine.specs.declared.call.RingCall as rings
 use Rattle.machine.specs.declared.call.Flight.{Flight}
 use Rattle.machine.specs.declared.call.Flight.TheVariants.{Role, Indices}
-use Rattle.machine.specs.declared.effects.Effect.{Effect}
-use Rattle.machine.specs.declared.effects.Effect.TheVariants.{Quiet, Acts, Publishes, HandsOut}
-use Rattle.machine.specs.declared.event.Item.{Item}
 use Rattle.machine.specs.declared.event.Item.TheVariants.{Index}
 use Rattle.machine.specs.declared.event.Start.{Start}
 use Rattle.machine.specs.declared.event.Start.TheVariants.{AcquireProducer, ReleaseProducer, AcquireConsumer, ReleaseConsumer, Push, Pop}
-use Rattle.machine.specs.declared.event.Answer.{Answer}
-use Rattle.machine.specs.declared.event.Answer as answers
-use Rattle.machine.specs.declared.event.Event.{Event}
-use Rattle.machine.specs.declared.event.Event.TheVariants.{Published, HandedOut, Acted, Finished}
-use Rattle.machine.specs.declared.party.Doing.TheVariants.{Going, Over}
-use Rattle.machine.specs.declared.party.Party.{Party}
-use Rattle.machine.specs.Calls.{want_of, ask_of, after_of, words_of_index}
-use Rattle.machine.specs.Effects.{effect_of, told_after}
-use Rattle.machine.specs.Turns.{old_of, words_after, change_of, steps_of, moved_party, producer_after, consumer_after}
-use Rattle.machine.specs.Reading.{published, handed_out, waiting, Span, Open, Ended}
+use Rattle.machine.specs.Calls.{words_of_index}
 use Rattle.machine.proofs.Structures.Ring.Core as core
 use Rattle.machine.proofs.Structures.Ring.Core.{Core, Holds, Good, filled, taken, fills, one_filled, publishes, takes, front, cell_within, word_at, set_at}
-use Rattle.machine.proofs.Structures.Ring.Invariant.{free, layout, KnowsPush, KnowsPop, At, Fits, IsUnderWay, HasEnded, Shows, waiting_is}
+use Rattle.machine.proofs.Structures.Ring.Invariant.{KnowsPush, KnowsPop, At}
 
 -- ---- what the calls of others keep
 

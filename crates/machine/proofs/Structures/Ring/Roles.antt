@@ -1,5 +1,5 @@
 -- What the steps of the calls on roles show. A role's word is 1 while the role is free.
-use Rattle.std.proofs.Common.{◌≡◌, ◌≢◌, ℕ, ◌+◌, ◌-◌, ◌<◌, ◌≤◌, Bool, true, false, Option, Some, None, List, [], ◌∷◌, ◌++◌, map, refl, sym, ap, subst, ◌∙◌, append-nil, arith}
+use Rattle.std.proofs.Common.{◌≡◌, ◌≢◌, ℕ, ◌+◌, ◌-◌, ◌≤◌, true, false, Option, Some, None, List, [], ◌∷◌, map, refl, ap, append-nil, arith}
 use Rattle.machine.specs.declared.call.RoleCall.TheVariants.{Acquire, Release}
 use Rattle.machine.specs.declared.call.Flight.{Flight}
 use Rattle.machine.specs.declared.call.Flight.TheVariants.{Role}
@@ -13,11 +13,11 @@ use Rattle.machine.specs.declared.event.Event.TheVariants.{Finished}
 use Rattle.machine.specs.declared.party.Doing.TheVariants.{Over}
 use Rattle.machine.specs.declared.party.Party.{Party}
 use Rattle.machine.specs.Calls.{words_of_index}
-use Rattle.machine.specs.Reading.{Open, Ended}
+use Rattle.machine.specs.Reading.{Open}
 use Rattle.machine.specs.Promises.Spans.{Wrote}
 use Rattle.machine.specs.Promises.Bounds.{most_steps}
 use Rattle.machine.proofs.Structures.Ring.Core.{Core, Good}
-use Rattle.machine.proofs.Structures.Ring.Invariant.{layout, At, Shows}
+use Rattle.machine.proofs.Structures.Ring.Invariant.{At, Shows}
 use Rattle.machine.proofs.Structures.Ring.Keeping.{clash, kept}
 use Rattle.machine.proofs.Structures.Ring.Stages.{StepOf}
 

@@ -1,4 +1,4 @@
-use Rattle.std.proofs.Common.{◌≡◌, ◌<◌, ◌≤◌, Some, None, length, refl, arith}
+use Rattle.std.proofs.Common.{◌≡◌, ◌<◌, ◌≤◌, Some, length, refl, arith}
 use Rattle.machine.specs.World.{party_of, place_of}
 use Rattle.machine.proofs.Parties.{party_read, party_past}
 use Rattle.machine.proofs.party.progress_of.Goals as goal

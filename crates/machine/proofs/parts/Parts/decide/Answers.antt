@@ -1,9 +1,9 @@
-use Rattle.std.proofs.Common.{◌≡◌, ◌<◌, ◌≤◌, Some, None, length, refl, sym, ap, ◌∙◌, arith}
-use Rattle.machine.specs.World.{trace_of, party_of, place_of, flight_in}
+use Rattle.std.proofs.Common.{◌≡◌, ◌≤◌, Some, None, length, refl, arith}
+use Rattle.machine.specs.World.{trace_of, party_of, place_of}
 use Rattle.machine.specs.declared.party.Party.{Party}
 use Rattle.machine.specs.Turns.{turned}
 use Rattle.machine.specs.declared.turn.Turn.TheVariants.{Decide}
-use Rattle.machine.proofs.Parties.{party_read, party_past}
+use Rattle.machine.proofs.Parties.{party_past}
 use Rattle.machine.proofs.Rows.{may_decide, some_party}
 use Rattle.machine.proofs.parts.Parts.decide.Goals as goal
 

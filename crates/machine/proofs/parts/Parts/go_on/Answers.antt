@@ -1,6 +1,5 @@
-use Rattle.std.proofs.Common.{◌≡◌, ℕ, ◌+◌, ◌-◌, ◌^◌, ◌<◌, ◌≤◌, Some, length, get_or, set, refl, sym, ap, ◌∙◌, arith, append-nil}
-use Rattle.machine.specs.declared.party.Doing.TheVariants.{Going, Over}
-use Rattle.machine.specs.World.{party_of, put}
+use Rattle.std.proofs.Common.{◌≡◌, ℕ, ◌+◌, ◌-◌, ◌^◌, ◌<◌, ◌≤◌, Some, length, get_or, refl, sym, ap, ◌∙◌, arith, append-nil}
+use Rattle.machine.specs.declared.party.Doing.TheVariants.{Over}
 use Rattle.machine.specs.Calls.{after_of}
 use Rattle.machine.specs.Small.{HasSmallCounts}
 use Rattle.machine.specs.Turns.{moved_party, steps_of, change_of}

@@ -1,7 +1,5 @@
-use Rattle.std.proofs.Common.{◌≡◌, ◌<◌, ◌≤◌, Some, None, length, refl, sym, ap, ◌∙◌, arith}
-use Rattle.machine.specs.World.{trace_of, party_of, place_of, flight_in}
-use Rattle.machine.specs.Turns.{turned}
-use Rattle.machine.specs.declared.turn.Turn.TheVariants.{Next}
+use Rattle.std.proofs.Common.{◌≡◌, ◌<◌, ◌≤◌, None, length, refl, arith}
+use Rattle.machine.specs.World.{trace_of, party_of, place_of}
 use Rattle.machine.proofs.Parties.{party_read, party_past}
 use Rattle.machine.proofs.Rows.{may_next}
 use Rattle.machine.proofs.parts.Parts.next.Goals as goal

@@ -1,0 +1,170 @@
+-- The steps of a pop.
+use Rattle.std.proofs.Common.{◌≡◌, ◌≢◌, ℕ, suc, ◌+◌, ◌-◌, ◌*◌, ◌%◌, ◌^◌, ◌<◌, ◌≤◌, ◌==◌, Bool, true, false, ◌||◌, ⊎_elim, Option, Some, None, List, [], ◌∷◌, ◌++◌, length, get_or, map, refl, sym, ap, subst, ◌∙◌, append-nil, arith}
+use Rattle.std.proofs.lemmas.Bool.Decides.{nat_tests}
+use Rattle.std.proofs.lemmas.List.{nil_from_length, set-get_or}
+use Rattle.steps.specs.declared.ask.Ask.{Ask}
+use Rattle.steps.specs.declared.ask.Op.TheVariants.{Load}
+use Rattle.steps.specs.declared.ask.After.{After}
+use Rattle.steps.specs.declared.ask.After.TheVariants.{GoOn, Done}
+use Rattle.steps.specs.declared.ring.PopStage as pops
+use Rattle.steps.specs.Ring.{cell_word, after_position}
+use Rattle.machine.specs.declared.call.RingCall as rings
+use Rattle.machine.specs.declared.call.Flight.{Flight}
+use Rattle.machine.specs.declared.call.Flight.TheVariants.{Indices}
+use Rattle.machine.specs.declared.effects.Effect.{Effect}
+use Rattle.machine.specs.declared.effects.Effect.TheVariants.{Quiet, Acts}
+use Rattle.machine.specs.declared.event.Item.{Item}
+use Rattle.machine.specs.declared.event.Item.TheVariants.{Index}
+use Rattle.machine.specs.declared.event.Start.{Start}
+use Rattle.machine.specs.declared.event.Start.TheVariants.{Pop}
+use Rattle.machine.specs.declared.event.Answer.{Answer}
+use Rattle.machine.specs.declared.event.Answer as answers
+use Rattle.machine.specs.declared.event.Event.{Event}
+use Rattle.machine.specs.declared.event.Event.TheVariants.{HandedOut, Acted}
+use Rattle.machine.specs.Calls.{after_of, words_of_index}
+use Rattle.machine.specs.Turns.{words_after}
+use Rattle.machine.specs.Reading.{published, handed_out}
+use Rattle.machine.proofs.Structures.Ring.Core.{Core, Good, taken, takes, front, word_at}
+use Rattle.machine.proofs.Structures.Ring.Invariant.{free, layout, KnowsPop, pop_number, waiting_is}
+use Rattle.machine.proofs.Structures.Ring.Keeping.{clash, kept, take_keeps}
+use Rattle.machine.proofs.Structures.Ring.Stages.{or_true, or_false, first_of_some, cell_place, Step, StepOf, quiet}
+
+module _ {T : Type 0} (c : ℕ) (pr co : Option ℕ) (k : Core ℕ) (p steps backs since changes : ℕ) (events : List (Event T)) (turns : ℕ) (g : Good 1 words_of_index c k) (book : published events ≡ handed_out events ++ map Index k.waiting) (reached : k.write ≤ turns) (small : turns < 2 ^ 64 - 2) where
+  abbrev Does : Start T → Option Ask → After Flight (Answer T) → Effect T → Type 0
+  Does start ask after effect = Step c pr co k p steps backs since changes events turns start ask after effect
+
+  abbrev DoesOf : Start T → Flight → Type 0
+  DoesOf start flight = StepOf c pr co k p steps backs since changes events turns start flight
+
+  pop_loads_read : co ≡ Some p → steps ≡ 0 → backs ≡ 0 → DoesOf Pop (Indices (rings.TheVariants.Pop (record { capacity = c; stage = pops.TheVariants.LoadsRead })))
+  pop_loads_read holds s b =
+      quiet c pr co k p steps backs since changes events turns g book reached small Pop (Some (record { word = 1; op = Load })) (Indices (rings.TheVariants.Pop (record { capacity = c; stage = pops.TheVariants.LoadsWrite k.read }))) k refl g (omega arith) refl
+      (record { span = refl; steps = omega arith; backs = b; at = (holds, refl, refl) })
+      (λ q ne st f h. h)
+
+  pop_refused : k.waiting ≡ [] → steps ≡ 1 → backs ≡ 0 → Does Pop (Some (record { word = 0; op = Load })) (Done (answers.TheVariants.Popped None)) Acts
+  pop_refused empty s b =
+      let none : map {B = Item T} Index k.waiting ≡ [] = ap (map Index) empty in (
+        k,
+        refl,
+        record {
+          own = (refl, (refl, tt));
+          stands = ((refl, refl), ((refl, record { moments = refl; published = refl; handed_out = refl }), tt));
+          right = (waiting_is events (map Index k.waiting) book ∙ none, (tt, tt));
+          good = g;
+          book = append-nil (map Index k.waiting);
+          goes = rw none refl;
+          answers = rw none refl;
+          here =
+              record {
+                answer = answers.TheVariants.Popped None;
+                wrote = Acted p Pop (answers.TheVariants.Popped None) ∷ [];
+                span = refl;
+                steps = omega arith;
+                backs = b;
+              };
+          others = λ q ne st f h. h;
+          turned = omega arith;
+        },
+      )
+
+  pop_goes_on : (v : ℕ) (rest : List ℕ) → k.waiting ≡ v ∷ rest → co ≡ Some p → steps ≡ 1 → backs ≡ 0
+      → Does Pop (Some (record { word = 0; op = Load })) (GoOn (Indices (rings.TheVariants.Pop (record { capacity = c; stage = pops.TheVariants.LoadsCell k.read [] })))) Quiet
+  pop_goes_on v rest is holds s b =
+      quiet c pr co k p steps backs since changes events turns g book reached small Pop (Some (record { word = 0; op = Load })) (Indices (rings.TheVariants.Pop (record { capacity = c; stage = pops.TheVariants.LoadsCell k.read [] }))) k refl g (omega arith) refl
+      (record { span = refl; steps = omega arith; backs = b; at = (holds, refl, (v, rest, refl, is, refl)) })
+      (λ q ne st f h. h)
+
+  -- nothing waits
+  empty : (c == 0 || k.write == k.read) ≡ true → k.waiting ≡ []
+  empty t =
+      let few = g.few in
+      let write = g.write in
+      let zero : (c == 0) ≡ true → length k.waiting ≡ 0 = λ e. let none : c ≡ 0 = grind (arith, nat_tests) in omega arith in
+      let same : (k.write == k.read) ≡ true → length k.waiting ≡ 0 = λ e. let at : k.write ≡ k.read = grind (arith, nat_tests) in omega arith in
+      nil_from_length k.waiting (⊎_elim zero same (or_true (c == 0) (k.write == k.read) t))
+
+  -- something waits
+  some : (c == 0 || k.write == k.read) ≡ false → 0 < length k.waiting
+  some t =
+      let write = g.write in
+      let both = or_false (c == 0) (k.write == k.read) t in
+      let apart : (k.write == k.read) ≡ false = both.1 in
+      let ne : k.write ≢ k.read = grind (arith, nat_tests) in
+      omega arith
+
+  pop_loads_write : co ≡ Some p → steps ≡ 1 → backs ≡ 0 → DoesOf Pop (Indices (rings.TheVariants.Pop (record { capacity = c; stage = pops.TheVariants.LoadsWrite k.read })))
+  pop_loads_write holds s b = go (c == 0 || k.write == k.read) refl
+    where
+      go : (t : Bool) → (c == 0 || k.write == k.read) ≡ t → DoesOf Pop (Indices (rings.TheVariants.Pop (record { capacity = c; stage = pops.TheVariants.LoadsWrite k.read })))
+      go true t =
+          let goes : after_of {T = T} (Indices (rings.TheVariants.Pop (record { capacity = c; stage = pops.TheVariants.LoadsWrite k.read }))) k.write ≡ Done (answers.TheVariants.Popped None) = rw t refl in
+          subst (λ a. Does Pop (Some (record { word = 0; op = Load })) a Acts) (sym goes) (pop_refused (empty t) s b)
+      go false t =
+          let goes :
+          after_of {T = T} (Indices (rings.TheVariants.Pop (record { capacity = c; stage = pops.TheVariants.LoadsWrite k.read }))) k.write
+          ≡ GoOn (Indices (rings.TheVariants.Pop (record { capacity = c; stage = pops.TheVariants.LoadsCell k.read [] }))) =
+          rw t refl
+          in
+          let front = first_of_some k.waiting (some t) in
+          subst (λ a. Does Pop (Some (record { word = 0; op = Load })) a Acts) (sym goes) (pop_goes_on front.0 front.1 front.2 holds s b)
+
+  pop_loads_cell : (v : ℕ) (rest : List ℕ) → k.waiting ≡ v ∷ rest → co ≡ Some p → steps ≡ 2 → backs ≡ 0
+      → DoesOf Pop (Indices (rings.TheVariants.Pop (record { capacity = c; stage = pops.TheVariants.LoadsCell k.read [] })))
+  pop_loads_cell v rest is holds s b =
+      let few = g.few in
+      let long : length k.waiting ≡ suc (length rest) = ap length is in
+      let place = cell_place c k.read (omega arith) in
+      let old : get_or (layout pr co k) (cell_word c 1 k.read 0) 0 ≡ v =
+      word_at k.write k.read (free pr) (free co) k.cells (cell_word c 1 k.read 0) (1 * (k.read % c) + 0) place
+      ∙ front 1 words_of_index c k v rest is g 0 (omega arith)
+      in
+      let same : words_after (layout pr co k) (Some (record { word = cell_word c 1 k.read 0; op = Load })) ≡ layout pr co k = set-get_or (layout pr co k) (cell_word c 1 k.read 0) 0 in
+      subst (λ x. Does Pop (Some (record { word = cell_word c 1 k.read 0; op = Load })) (GoOn (Indices (rings.TheVariants.Pop (record { capacity = c; stage = pops.TheVariants.StoresRead k.read x })))) Quiet) (sym old)
+      (quiet c pr co k p steps backs since changes events turns g book reached small Pop (Some (record { word = cell_word c 1 k.read 0; op = Load })) (Indices (rings.TheVariants.Pop (record { capacity = c; stage = pops.TheVariants.StoresRead k.read v }))) k refl g (omega arith) same
+      (record { span = refl; steps = omega arith; backs = b; at = (holds, refl, (rest, refl, is)) })
+      (λ q ne st f h. h))
+
+  pop_stores_read : (v : ℕ) (rest : List ℕ) → k.waiting ≡ v ∷ rest → co ≡ Some p → steps ≡ 3 → backs ≡ 0
+      → DoesOf Pop (Indices (rings.TheVariants.Pop (record { capacity = c; stage = pops.TheVariants.StoresRead k.read v })))
+  pop_stores_read v rest is holds s b =
+      let write = g.write in
+      let next : after_position k.read ≡ k.read + 1 = omega arith in
+      let first : map {B = Item T} Index k.waiting ≡ Index v ∷ map Index rest = ap (map Index) is in (
+        taken 1 words_of_index c k rest,
+        ap (λ n. k.write ∷ n ∷ free pr ∷ free co ∷ k.cells) next,
+        record {
+          own = (refl, (refl, (refl, tt)));
+          stands = ((refl, refl), ((refl, refl), ((refl, record { moments = refl; published = refl; handed_out = refl }), tt)));
+          right = (tt, (tt, (tt, tt)));
+          good = takes 1 words_of_index c k v rest is g;
+          book = append-nil (map Index k.waiting) ∙ first;
+          goes = rw first refl;
+          answers = rw first refl;
+          here =
+              record {
+                answer = answers.TheVariants.Popped (Some (Index v));
+                wrote = HandedOut p (Index v) ∷ Acted p Pop (answers.TheVariants.Popped (Some (Index v))) ∷ [];
+                span = refl;
+                steps = omega arith;
+                backs = b;
+              };
+          others = λ q ne. kept c pr co pr co k (taken 1 words_of_index c k rest) q (λ h. h) (λ h. h) (λ mine w stage h. take_keeps c k v rest is w stage h) (λ mine stage h. absurd (clash co p q ne holds mine));
+          turned = omega arith;
+        },
+      )
+
+  pub pop_step : (stage : pops.PopStage ℕ) → KnowsPop c k stage → co ≡ Some p → steps ≡ pop_number stage → backs ≡ 0 → DoesOf Pop (Indices (rings.TheVariants.Pop (record { capacity = c; stage = stage })))
+  pop_step pops.TheVariants.LoadsRead knows holds s b = pop_loads_read holds s b
+  pop_step (pops.TheVariants.LoadsWrite read) knows holds s b =
+      subst (λ r. DoesOf Pop (Indices (rings.TheVariants.Pop (record { capacity = c; stage = pops.TheVariants.LoadsWrite r })))) (sym knows)
+      (pop_loads_write holds s b)
+  pop_step (pops.TheVariants.LoadsCell read copied) knows holds s b =
+      let none : length copied ≡ 0 = ap length knows.4 in
+      let two : steps ≡ 2 = omega arith in
+      subst (λ r. DoesOf Pop (Indices (rings.TheVariants.Pop (record { capacity = c; stage = pops.TheVariants.LoadsCell r copied })))) (sym knows.2)
+      (subst (λ xs. DoesOf Pop (Indices (rings.TheVariants.Pop (record { capacity = c; stage = pops.TheVariants.LoadsCell k.read xs })))) (sym knows.4)
+      (pop_loads_cell knows.0 knows.1 knows.3 holds two b))
+  pop_step (pops.TheVariants.StoresRead read value) knows holds s b =
+      subst (λ r. DoesOf Pop (Indices (rings.TheVariants.Pop (record { capacity = c; stage = pops.TheVariants.StoresRead r value })))) (sym knows.1)
+      (pop_stores_read value knows.0 knows.2 holds s b)
