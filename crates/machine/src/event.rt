@@ -1,7 +1,7 @@
 //! Calls by their names and arguments, their answers, and what a run writes down.
 
 /// A value of a queue.
-#[derive(Debug, Clone, Copy)]
+#[derive(Debug, Clone, Copy, PartialEq, Eq)]
 pub enum Item<T> {
     /// A number of one word, in the queues of indices.
     Index(u64),
@@ -10,7 +10,7 @@ pub enum Item<T> {
 }
 
 /// A call and its arguments.
-#[derive(Debug, Clone, Copy)]
+#[derive(Debug, Clone, Copy, PartialEq, Eq)]
 pub enum Start<T> {
     AcquireProducer,
     ReleaseProducer,
@@ -21,7 +21,7 @@ pub enum Start<T> {
 }
 
 /// What a call answers.
-#[derive(Debug, Clone, Copy)]
+#[derive(Debug, Clone, Copy, PartialEq, Eq)]
 pub enum Answer<T> {
     /// Of giving a role back.
     Done,
@@ -32,7 +32,7 @@ pub enum Answer<T> {
 }
 
 /// What a run writes down. The number is the party's.
-#[derive(Debug, Clone, Copy)]
+#[derive(Debug, Clone, Copy, PartialEq, Eq)]
 pub enum Event<T> {
     /// The party began this call.
     Begun(u32, Start<T>),

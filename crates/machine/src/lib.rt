@@ -13,6 +13,8 @@ mod effects;
 pub mod event;
 mod parts;
 pub mod party;
+#[cfg(test)]
+mod tests;
 pub mod turn;
 mod words;
 

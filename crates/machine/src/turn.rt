@@ -22,7 +22,7 @@ pub fn capacity_error(kind: Kind, capacity: usize) -> Option<UniqueIndexCreation
 }
 
 /// One turn of a run. The number is the party's.
-#[derive(Debug, Clone, Copy)]
+#[derive(Debug, Clone, Copy, PartialEq, Eq)]
 pub enum Turn<T> {
     /// The party begins a call. No word is touched.
     Begin(u32, Start<T>),

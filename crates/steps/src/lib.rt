@@ -9,4 +9,6 @@ pub mod copied;
 pub mod enums;
 pub mod ring;
 pub mod roles;
+#[cfg(test)]
+mod tests;
 pub mod words;

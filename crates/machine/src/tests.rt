@@ -1,0 +1,192 @@
+//! The worked rows of the index queue, each refusal that it can show, and answers that no clause rules out.
+use crate::Machine;
+use crate::event::{Answer, Event, Item, Start};
+use crate::turn::{Kind, Refusal, Turn, capacity_error};
+use std::test::Fail;
+use steps::enums::{OwnerId, UniqueIndexCreationError};
+
+/// The party begins a call and takes this many turns of it.
+fn calls(
+    machine: &mut Machine<u128>,
+    party: u32,
+    start: Start<u128>,
+    turns: u64,
+) -> Result<(), Refusal> {
+    machine.step(Turn::Begin(party, start))?;
+    for _ in 0..turns {
+        machine.step(Turn::Next(party))?;
+    }
+    Ok(())
+}
+
+fn index(value: u64) -> Start<u128> {
+    Start::Push(Item::Index(value))
+}
+
+/// An index queue of this capacity, party 0 with the producer's role and party 1 with the consumer's.
+fn with_roles(rt: &HostRuntime, capacity: usize) -> Result<Machine<u128>, Fail> {
+    let mut machine = Machine::new(rt.alloc(), Kind::IndexQueue, capacity, 2)?;
+    calls(&mut machine, 0, Start::AcquireProducer, 1)?;
+    calls(&mut machine, 1, Start::AcquireConsumer, 1)?;
+    Ok(machine)
+}
+
+/// The answer of the last event, where that is a finish.
+fn last_answer(machine: &Machine<u128>) -> Option<Answer<u128>> {
+    match machine.events().last() {
+        Some(Event::Finished(_, _, answer)) => Some(*answer),
+        _ => None,
+    }
+}
+
+#[test]
+fn push_and_pop_at_capacity_128(rt: HostRuntime) -> Result<(), Fail> {
+    let mut machine = with_roles(&rt, 128)?;
+    calls(&mut machine, 0, index(1234), 4)?;
+    assert_eq!(rt; last_answer(&machine), Some(Answer::Truth(true)));
+    calls(&mut machine, 1, Start::Pop, 4)?;
+    assert_eq!(rt;
+        last_answer(&machine),
+        Some(Answer::Popped(Some(Item::Index(1234))))
+    );
+    calls(&mut machine, 1, Start::Pop, 2)?;
+    assert_eq!(rt; last_answer(&machine), Some(Answer::Popped(None)));
+    Ok(())
+}
+
+#[test]
+fn a_queue_of_capacity_0_is_full_and_empty(rt: HostRuntime) -> Result<(), Fail> {
+    let mut machine = with_roles(&rt, 0)?;
+    calls(&mut machine, 0, index(1), 2)?;
+    assert_eq!(rt; last_answer(&machine), Some(Answer::Truth(false)));
+    calls(&mut machine, 1, Start::Pop, 2)?;
+    assert_eq!(rt; last_answer(&machine), Some(Answer::Popped(None)));
+    assert_eq!(rt; machine.words(), [0, 0, 0, 0].as_slice());
+    Ok(())
+}
+
+#[test]
+fn a_push_stopped_before_it_publishes(rt: HostRuntime) -> Result<(), Fail> {
+    let mut machine = with_roles(&rt, 1)?;
+    let before = machine.events().len();
+    calls(&mut machine, 0, index(5), 3)?;
+    calls(&mut machine, 1, Start::Pop, 2)?;
+    assert_eq!(rt; machine.words(), [0, 0, 0, 0, 5].as_slice());
+    machine.step(Turn::Next(0))?;
+    let push = index(5);
+    let told = [
+        Event::Begun(0, push),
+        Event::Begun(1, Start::Pop),
+        Event::Acted(1, Start::Pop, Answer::Popped(None)),
+        Event::Finished(1, Start::Pop, Answer::Popped(None)),
+        Event::Published(0, Item::Index(5)),
+        Event::Acted(0, push, Answer::Truth(true)),
+        Event::Finished(0, push, Answer::Truth(true)),
+    ];
+    assert_eq!(rt; before, 4);
+    let events = machine.events();
+    assert_eq!(rt; events.len(), 11);
+    assert_eq!(rt; &events[4..11], told.as_slice());
+    Ok(())
+}
+
+#[test]
+fn run_takes_the_turns_up_to_a_refusal(rt: HostRuntime) -> Result<(), Fail> {
+    let mut machine: Machine<u128> = Machine::new(rt.alloc(), Kind::IndexQueue, 1, 1)?;
+    let turns = [
+        Turn::Begin(0, Start::AcquireProducer),
+        Turn::Next(0),
+        Turn::Next(0),
+        Turn::Begin(0, index(7)),
+    ];
+    assert_eq!(rt; machine.run(&turns), 2);
+    assert_eq!(rt; machine.run(&[Turn::Begin(0, index(7))]), 1);
+    assert_eq!(rt; machine.events().len(), 3);
+    Ok(())
+}
+
+#[test]
+fn progress_counts_steps_and_the_changes_of_others(rt: HostRuntime) -> Result<(), Fail> {
+    let mut machine = with_roles(&rt, 1)?;
+    assert!(rt; machine.under_way(7).is_none());
+    calls(&mut machine, 1, Start::Pop, 1)?;
+    assert!(rt; machine.is_going(1));
+    calls(&mut machine, 0, index(0), 4)?;
+    assert!(rt; !machine.is_going(0));
+    // Storing 0 over 0 in the cell is no change; the write position is the one.
+    let pop = machine.under_way(1).ok_or("no call")?;
+    assert_eq!(rt;
+        (pop.steps, pop.backs, pop.others, pop.finished),
+        (1, 0, 1, false)
+    );
+    for _ in 0..3 {
+        machine.step(Turn::Next(1))?;
+    }
+    let push = machine.under_way(0).ok_or("no call")?;
+    assert_eq!(rt;
+        (push.steps, push.backs, push.others, push.finished),
+        (4, 0, 0, true)
+    );
+    Ok(())
+}
+
+#[test]
+fn a_refused_turn_changes_nothing(rt: HostRuntime) -> Result<(), Fail> {
+    let alloc = rt.alloc();
+    let mut machine: Machine<u128> = Machine::new(alloc, Kind::IndexQueue, 1, 2)?;
+    calls(&mut machine, 0, Start::AcquireProducer, 1)?;
+    calls(&mut machine, 0, index(3), 2)?;
+    let owner = OwnerId::new(1)?;
+    let rows = [
+        (Turn::Begin(0, Start::Pop), Refusal::Busy),
+        (Turn::Next(1), Refusal::Idle),
+        (Turn::Decide(1, true), Refusal::Idle),
+        (Turn::Next(2), Refusal::NoParty),
+        (Turn::Begin(2, Start::Pop), Refusal::NoParty),
+        (Turn::Decide(2, false), Refusal::NoParty),
+        (Turn::Die(owner), Refusal::WrongCall),
+        (
+            Turn::Begin(1, Start::Push(Item::Value(1))),
+            Refusal::WrongCall,
+        ),
+        (Turn::Begin(1, index(1)), Refusal::NoRole),
+        (Turn::Begin(1, Start::Pop), Refusal::NoRole),
+        (Turn::Begin(1, Start::ReleaseProducer), Refusal::NoRole),
+        (Turn::Begin(1, Start::ReleaseConsumer), Refusal::NoRole),
+        (Turn::Decide(0, true), Refusal::Undecided),
+    ];
+    let words = machine.words().to_vec(alloc)?;
+    let events = machine.events().to_vec(alloc)?;
+    for (turn, refusal) in rows {
+        assert_eq!(rt; machine.step(turn), Err(refusal), "{turn:?}");
+        assert_eq!(rt; machine.words(), words.as_slice());
+        assert_eq!(rt; machine.events(), events.as_slice());
+    }
+    Ok(())
+}
+
+#[test]
+fn capacities(rt: HostRuntime) {
+    assert_eq!(rt; capacity_error(Kind::IndexQueue, 0), None);
+    assert_eq!(rt; capacity_error(Kind::IndexQueue, 4294967295), None);
+    let above = Some(UniqueIndexCreationError::ProvidedCapacityGreaterThanMaxCapacity);
+    assert_eq!(rt; capacity_error(Kind::IndexQueue, 4294967296), above);
+    let made: Result<Machine<u128>, _> = Machine::new(rt.alloc(), Kind::IndexQueue, 4294967296, 1);
+    assert_eq!(rt; made.err(), above);
+}
+
+#[test]
+fn refusals_have_their_numbers(rt: HostRuntime) {
+    assert_eq!(rt; Refusal::NoParty as u8, 1);
+    assert_eq!(rt; Refusal::Busy as u8, 2);
+    assert_eq!(rt; Refusal::Idle as u8, 3);
+    assert_eq!(rt; Refusal::WrongCall as u8, 4);
+    assert_eq!(rt; Refusal::NoRole as u8, 5);
+    assert_eq!(rt; Refusal::NotHeld as u8, 6);
+    assert_eq!(rt; Refusal::BadIndex as u8, 7);
+    assert_eq!(rt; Refusal::OwnerIsDead as u8, 8);
+    assert_eq!(rt; Refusal::OwnerLives as u8, 9);
+    assert_eq!(rt; Refusal::Undecided as u8, 10);
+    assert_eq!(rt; Refusal::NoMemory as u8, 11);
+    assert_eq!(rt; Refusal::AtEnd as u8, 12);
+}

@@ -1,0 +1,155 @@
+//! Calls driven alone over a list of words, at values of one word and of two.
+use crate::ask::{After, Call, Op, Want};
+use crate::enums::{OwnerId, OwnerIdNewError, UniqueIndexCreationError, capacity_refusal};
+use crate::ring::{CONSUMER, PRODUCER, Pop, Push};
+use crate::roles::{AcquireRole, ReleaseRole};
+use crate::words::Words;
+use std::test::Fail;
+
+/// Takes one step of the call on these words.
+fn step<C: Call>(call: C, words: &mut [u64]) -> After<C, C::Answer> {
+    let answer = match call.ask() {
+        Want::Ask(ask) => {
+            if ask.word < words.len() {
+                let old = words[ask.word];
+                words[ask.word] = ask.op.apply(old);
+                old
+            } else {
+                0
+            }
+        }
+        Want::Question(_) => 0,
+        Want::Nothing => 0,
+    };
+    call.take(answer)
+}
+
+/// Runs the call to its end, of at most 9 steps: its answer and its steps.
+fn whole<C: Call + Drop>(mut call: C, words: &mut [u64]) -> Option<(C::Answer, u64)>
+where
+    C::Answer: Drop,
+{
+    for taken in 1..10 {
+        match step(call, words) {
+            After::GoOn(next) => call = next,
+            After::Done(answer) => return Some((answer, taken)),
+        }
+    }
+    None
+}
+
+#[test]
+fn a_queue_of_one_word(rt: HostRuntime) {
+    let mut words = [0, 0, 1, 1, 0, 0];
+    assert_eq!(rt; whole(Push::<u64>::new(2, 7), &mut words), Some((true, 4)));
+    assert_eq!(rt; whole(Push::<u64>::new(2, 8), &mut words), Some((true, 4)));
+    assert_eq!(rt; whole(Push::<u64>::new(2, 9), &mut words), Some((false, 2)));
+    assert_eq!(rt; whole(Pop::<u64>::new(2), &mut words), Some((Some(7), 4)));
+    assert_eq!(rt; whole(Pop::<u64>::new(2), &mut words), Some((Some(8), 4)));
+    assert_eq!(rt; whole(Pop::<u64>::new(2), &mut words), Some((None, 2)));
+    assert_eq!(rt; words, [2, 2, 1, 1, 7, 8]);
+}
+
+#[test]
+fn a_queue_of_two_words(rt: HostRuntime) {
+    let mut words = [0, 0, 1, 1, 0, 0];
+    let value: u128 = 55340232221128654852;
+    assert_eq!(rt;
+        whole(Push::<u128>::new(1, value), &mut words),
+        Some((true, 5))
+    );
+    assert_eq!(rt; words, [1, 0, 1, 1, 3, 4]);
+    assert_eq!(rt;
+        whole(Push::<u128>::new(1, value), &mut words),
+        Some((false, 2))
+    );
+    assert_eq!(rt;
+        whole(Pop::<u128>::new(1), &mut words),
+        Some((Some(value), 5))
+    );
+    assert_eq!(rt;
+        whole(Push::<(u64, u64)>::new(1, (5, 6)), &mut words),
+        Some((true, 5))
+    );
+    assert_eq!(rt;
+        whole(Pop::<(u64, u64)>::new(1), &mut words),
+        Some((Some((5, 6)), 5))
+    );
+    assert_eq!(rt;
+        whole(Pop::<(u64, u64)>::new(1), &mut words),
+        Some((None, 2))
+    );
+}
+
+#[test]
+fn ends_of_the_positions(rt: HostRuntime) {
+    // The last write position takes nothing more.
+    let mut words = [u64::MAX, u64::MAX, 1, 1, 0];
+    assert_eq!(rt; whole(Push::<u64>::new(1, 7), &mut words), Some((false, 1)));
+    // Without a cell the queue is full and empty, whatever its positions say.
+    let mut none = [3, 1, 1, 1];
+    assert_eq!(rt; whole(Push::<u64>::new(0, 7), &mut none), Some((false, 2)));
+    assert_eq!(rt; whole(Pop::<u64>::new(0), &mut none), Some((None, 2)));
+    assert_eq!(rt; none, [3, 1, 1, 1]);
+}
+
+#[test]
+fn roles(rt: HostRuntime) {
+    let mut words = [0, 0, 1, 1];
+    assert_eq!(rt;
+        whole(AcquireRole { word: PRODUCER }, &mut words),
+        Some((true, 1))
+    );
+    assert_eq!(rt;
+        whole(AcquireRole { word: PRODUCER }, &mut words),
+        Some((false, 1))
+    );
+    assert_eq!(rt;
+        whole(AcquireRole { word: CONSUMER }, &mut words),
+        Some((true, 1))
+    );
+    assert_eq!(rt; words, [0, 0, 0, 0]);
+    assert_eq!(rt;
+        whole(ReleaseRole { word: PRODUCER }, &mut words),
+        Some(((), 1))
+    );
+    assert_eq!(rt;
+        whole(AcquireRole { word: PRODUCER }, &mut words),
+        Some((true, 1))
+    );
+}
+
+#[test]
+fn operations(rt: HostRuntime) {
+    let rows = [
+        (Op::Load, 6),
+        (Op::Store(9), 9),
+        (Op::Swap(9), 9),
+        (Op::Add(u64::MAX), 5),
+        (Op::Sub(7), u64::MAX),
+        (Op::And(3), 2),
+        (Op::Or(9), 15),
+        (Op::Exchange(6, 1), 1),
+        (Op::Exchange(5, 1), 6),
+    ];
+    for (op, after) in rows {
+        assert_eq!(rt; op.apply(6), after, "{op:?}");
+    }
+}
+
+#[test]
+fn small_items(rt: HostRuntime) -> Result<(), Fail> {
+    assert_eq!(rt; OwnerId::new(313)?.value(), 313);
+    assert_eq!(rt;
+        OwnerId::new(u64::MAX),
+        Err(OwnerIdNewError::InvalidOwnerValue)
+    );
+    let zero = UniqueIndexCreationError::ProvidedCapacityIsZero;
+    let above = UniqueIndexCreationError::ProvidedCapacityGreaterThanMaxCapacity;
+    assert_eq!(rt; capacity_refusal(0, 1, 9), Some(zero));
+    assert_eq!(rt; capacity_refusal(10, 1, 9), Some(above));
+    assert_eq!(rt; capacity_refusal(9, 1, 9), None);
+    assert_eq!(rt; u32::of_words(&[0x1_0000_0007]), 7);
+    assert_eq!(rt; u128::of_words(&[3, 4]), 55340232221128654852);
+    Ok(())
+}
