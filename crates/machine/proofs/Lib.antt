@@ -7,3 +7,4 @@ pub mod Rows
 pub mod Small
 pub mod Structures
 pub mod Turns
+pub mod Worked

@@ -1,0 +1,87 @@
+-- The definitions at a worked run, and at histories that they refuse.
+use Rattle.std.proofs.Common.{◌≡◌, ℕ, true, false, Some, None, List, [], ◌∷◌, refl}
+use Rattle.machine.specs.declared.event.Item.TheVariants.{Index}
+use Rattle.machine.specs.declared.event.Start.TheVariants.{AcquireProducer, AcquireConsumer, Push, Pop}
+use Rattle.machine.specs.declared.event.Answer.TheVariants.{Truth, Popped}
+use Rattle.machine.specs.declared.event.Event.{Event}
+use Rattle.machine.specs.declared.event.Event.TheVariants.{Begun, Published, HandedOut, Acted, Finished}
+use Rattle.machine.specs.declared.turn.Kind.TheVariants.{IndexQueue}
+use Rattle.machine.specs.declared.turn.Turn.{Turn}
+use Rattle.machine.specs.declared.turn.Turn.TheVariants.{Begin, Next}
+use Rattle.machine.specs.World.{opening}
+use Rattle.machine.specs.Turns.{run}
+use Rattle.machine.specs.Reading.{published, handed_out, waiting, moments, Open, span_of}
+use Rattle.machine.specs.Objects.{IsLegal, bounded_list}
+use Rattle.machine.specs.Promises.Spans.{Stands, Wrote}
+use Rattle.machine.specs.Promises.Book.{AnswersRight}
+
+-- a push stops before it publishes, a pop answers None, and then the push goes on
+abbrev turns : List (Turn ℕ)
+turns =
+    Begin 0 AcquireProducer
+    ∷ Next 0
+    ∷ Begin 1 AcquireConsumer
+    ∷ Next 1
+    ∷ Begin 0 (Push (Index 5))
+    ∷ Next 0
+    ∷ Next 0
+    ∷ Next 0
+    ∷ Begin 1 Pop
+    ∷ Next 1
+    ∷ Next 1
+    ∷ Next 1
+    ∷ Next 0
+    ∷ []
+
+abbrev told : List (Event ℕ)
+told =
+    Begun 0 AcquireProducer
+    ∷ Finished 0 AcquireProducer (Truth true)
+    ∷ Begun 1 AcquireConsumer
+    ∷ Finished 1 AcquireConsumer (Truth true)
+    ∷ Begun 0 (Push (Index 5))
+    ∷ Begun 1 Pop
+    ∷ Acted 1 Pop (Popped None)
+    ∷ Finished 1 Pop (Popped None)
+    ∷ Published 0 (Index 5)
+    ∷ Acted 0 (Push (Index 5)) (Truth true)
+    ∷ Finished 0 (Push (Index 5)) (Truth true)
+    ∷ []
+
+pub stopped_push : (run turns (opening IndexQueue 1 2)).events ≡ told
+stopped_push = refl
+
+pub stopped_push_words : (run turns (opening IndexQueue 1 2)).world.words ≡ 1 ∷ 0 ∷ 0 ∷ 0 ∷ 5 ∷ []
+stopped_push_words = refl
+
+pub one_waits : waiting told ≡ Index 5 ∷ []
+one_waits = refl
+
+pub pop_before_push : IsLegal (bounded_list 1) (moments told)
+pop_before_push = refl
+
+-- ---- what is refused
+
+-- a pop of a value that nobody pushed
+pub no_invention : IsLegal {T = ℕ} (bounded_list 1) ((Pop, Popped (Some (Index 5))) ∷ []) → ⊥
+no_invention legal = cc
+
+-- a push that is refused by an empty list
+pub no_excuse : IsLegal {T = ℕ} (bounded_list 1) ((Push (Index 5), Truth false) ∷ []) → ⊥
+no_excuse legal = cc
+
+-- a call that acts a second time
+pub no_second_act : Stands {T = ℕ} (Acted 0 Pop (Popped None)) (Open Pop (Acted 0 Pop (Popped None) ∷ [])) → ⊥
+no_second_act stands = let h : (Pop, Popped None) ∷ [] ≡ [] = stands.1 in cc
+
+-- a call that ends without having acted
+pub no_silent_end : Stands {T = ℕ} (Finished 0 Pop (Popped None)) (Open Pop []) → ⊥
+no_silent_end stands = let h = stands.1 in let m = h.moments in cc
+
+-- a push that answers true and publishes nothing
+pub no_lost_push : Wrote {T = ℕ} (Push (Index 5)) (Truth true) (Acted 0 (Push (Index 5)) (Truth true) ∷ []) → ⊥
+no_lost_push wrote = let p = wrote.published in cc
+
+-- a pop that answers None while a value waits
+pub no_blind_pop : AnswersRight 1 told (Acted 1 Pop (Popped None)) → ⊥
+no_blind_pop right = cc
