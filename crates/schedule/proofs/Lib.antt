@@ -1,0 +1,7 @@
+pub mod Digits
+pub mod Lines
+pub mod Numbers
+pub mod Texts
+pub mod Turns
+pub mod Whole
+pub mod Writing

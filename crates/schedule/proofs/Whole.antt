@@ -1,0 +1,84 @@
+-- A whole text, and a whole run.
+use Rattle.std.proofs.Common.{◌≡◌, ℕ, ◌+◌, ◌<◌, ◌≤◌, ◌==◌, Bool, Option, Some, None, Result, Ok, Err, List, [], ◌∷◌, ◌++◌, refl, sym, ap, ◌∙◌, subst, append-nil, length, arith, IfSome, IfErr}
+use Rattle.std.specs.Io.KnownBytes.{Appends, Keeps}
+use Rattle.std.proofs.KnownBytes.{Appends-nil, Appends-kept}
+use Rattle.std.proofs.lemmas.List.Splits.{length-slice_split}
+use Rattle.std.proofs.lemmas.List.Sums.{count_by-le-length}
+use Rattle.machine.specs.World.{World, opening}
+use Rattle.schedule.specs.declared.error.Cause.{Cause}
+use Rattle.schedule.specs.declared.error.Cause.TheVariants.{MissingValue}
+use Rattle.schedule.specs.declared.error.ScheduleError.{ScheduleError}
+use Rattle.schedule.specs.declared.error.ScheduleError.TheVariants.{Malformed, ReadFailed, WriteFailed, NoMemory}
+use Rattle.schedule.specs.declared.grammar.Setup.{Setup}
+use Rattle.schedule.specs.Text.{lines, words}
+use Rattle.schedule.specs.Written.{AppendsPart}
+use Rattle.schedule.specs.Output.{Output, stopped, machine_of, lines_from, opened, output_of_lines, output}
+use Rattle.schedule.specs.Run.{IsOutput, IsRun}
+use Rattle.schedule.proofs.Lines.{output_from}
+
+-- a text has at most one line more than bytes
+pub few_lines : (input first : List ℕ) (rest : List (List ℕ)) → lines input ≡ first ∷ rest → length rest ≤ length input
+few_lines input first rest e =
+    let p : ℕ → Bool = λ b. b == 10 in
+    omega (arith, ap length e, length-slice_split p input, count_by-le-length p input)
+
+-- ---- the first line
+
+stops : (input : List ℕ) (b : Option (List ℕ)) (cause : Cause) → output [] input ≡ stopped 1 cause → IsOutput (λ memory. output memory input) b b (Err (Malformed 1 cause))
+stops input b cause e = ([], ap (λ o. o.end) e, subst (Appends b b) (sym (ap (λ o. o.text) e)) (Appends-nil b))
+
+pub text_missing : (input : List ℕ) (b : Option (List ℕ)) → lines input ≡ [] → IsOutput (λ memory. output memory input) b b (Err (Malformed 1 MissingValue))
+unfolding output_of_lines
+text_missing input b e = stops input b MissingValue (ap (output_of_lines []) e)
+
+abbrev first_as : List (List ℕ) → List Bool → Result Setup Cause → Output
+first_as rest memory read = elim read [ Err cause ↦ stopped 1 cause | Ok setup ↦ lines_from setup.kind 2 rest (opened setup memory) ]
+
+first_read : (input first : List ℕ) (rest : List (List ℕ)) (memory : List Bool) → lines input ≡ first ∷ rest
+    → output memory input ≡ first_as rest memory (machine_of (words first))
+unfolding output_of_lines
+first_read input first rest memory e = ap (output_of_lines memory) e
+
+pub text_malformed : (input first : List ℕ) (rest : List (List ℕ)) (b : Option (List ℕ)) (cause : Cause) → lines input ≡ first ∷ rest
+    → machine_of (words first) ≡ Err cause → IsOutput (λ memory. output memory input) b b (Err (Malformed 1 cause))
+text_malformed input first rest b cause e read = stops input b cause (first_read input first rest [] e ∙ ap (first_as rest []) read)
+
+-- ---- the other lines
+
+-- what is said of an output holds of one that is the same for each list
+same_output : (one other : List Bool → Output) → ((memory : List Bool) → one memory ≡ other memory) → (b a : Option (List ℕ)) (r : Result (Unit {0}) ScheduleError)
+    → IsOutput one b a r → IsOutput other b a r
+same_output one other same b a (Ok u) p =
+    (p.0, ap (λ o. o.end) (sym (same p.0)) ∙ p.1, subst (λ o. Appends b a o.text) (same p.0) p.2)
+same_output one other same b a (Err (Malformed line cause)) p =
+    (p.0, ap (λ o. o.end) (sym (same p.0)) ∙ p.1, subst (λ o. Appends b a o.text) (same p.0) p.2)
+same_output one other same b a (Err WriteFailed) p = (p.0, subst (λ o. AppendsPart b a o.text) (same p.0) p.1)
+same_output one other same b a (Err ReadFailed) p = p
+same_output one other same b a (Err NoMemory) p = p
+
+pub text_lines : (input first : List ℕ) (rest : List (List ℕ)) (setup : Setup) (w : World ℕ) (b a : Option (List ℕ)) (r : Result (Unit {0}) ScheduleError)
+    → lines input ≡ first ∷ rest → machine_of (words first) ≡ Ok setup → w ≡ (opening setup.kind setup.capacity setup.parties).world
+    → IsOutput (output_from setup.kind rest w) b a r → IsOutput (λ memory. output memory input) b a r
+text_lines input first rest setup w b a r e read same p =
+    same_output (output_from setup.kind rest w) (λ memory. output memory input)
+    (λ memory. ap (λ v. output_from setup.kind rest v memory) same ∙ sym (first_read input first rest memory e ∙ ap (first_as rest memory) read))
+    b a r p
+
+-- ---- what the writer kept back
+
+kept_part : (b m a : Option (List ℕ)) (text : List ℕ) → Appends b m text → Keeps m a → AppendsPart b a text
+kept_part b m a text p q = (text, [], append-nil text, Appends-kept b m a text p q)
+
+pub flushed_end : (known b m a : Option (List ℕ)) (input : List ℕ) (r : Result (Unit {0}) ScheduleError) → IfSome known (λ bytes. bytes ≡ input)
+    → IsOutput (λ memory. output memory input) b m (Ok tt) → Keeps m a → IfErr r (λ e. e ≡ WriteFailed) → IsRun known b a r
+flushed_end known b m a input (Ok u) read p q failed = (input, read, (p.0, p.1, Appends-kept b m a _ p.2 q))
+flushed_end known b m a input (Err e) read p q failed =
+    subst (λ x. IsRun known b a (Err x)) (sym failed) (input, read, (p.0, kept_part b m a _ p.2 q))
+
+pub flush_failed : (known b m a : Option (List ℕ)) (input : List ℕ) (ended : ScheduleError) (line : ℕ) (cause : Cause) (e : ScheduleError)
+    → IfSome known (λ bytes. bytes ≡ input) → ended ≡ Malformed line cause → IsOutput (λ memory. output memory input) b m (Err ended)
+    → Keeps m a → e ≡ WriteFailed → IsRun known b a (Err e)
+flush_failed known b m a input ended line cause e read same p q failed =
+    let text : IsOutput (λ memory. output memory input) b m (Err (Malformed line cause)) =
+    subst (λ x. IsOutput (λ memory. output memory input) b m (Err x)) same p in
+    subst (λ x. IsRun known b a (Err x)) (sym failed) (input, read, (text.0, kept_part b m a _ text.2 q))

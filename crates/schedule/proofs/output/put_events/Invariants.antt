@@ -1,0 +1,9 @@
+use Rattle.std.proofs.Common.{◌≡◌, ℕ, List, ◌++◌, drop}
+use Rattle.std.specs.Io.KnownBytes.{Appends}
+use Rattle.schedule.specs.Print.{events_text}
+use Rattle.schedule.proofs.output.put_events.Given as goal
+
+abbrev pub invariant-loop-event : goal.invariant-loop-event
+invariant-loop-event g l =
+    (written : List ℕ) × (written ++ events_text (drop l.event-index l.events) ≡ events_text l.events)
+    × Appends (g.W.Write.contents l.initial.writer) (g.W.Write.contents l.writer) written

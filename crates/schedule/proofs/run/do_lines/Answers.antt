@@ -1,0 +1,43 @@
+use Rattle.std.proofs.Common.{[], refl, ap, length, arith}
+use Rattle.std.proofs.KnownBytes.{Appends-nil}
+use Rattle.schedule.proofs.Lines.{some_of, none_of, done_command, done_empty, lines_ended, lines_malformed, lines_failed}
+use Rattle.schedule.proofs.run.do_lines.Goals as goal
+use Rattle.schedule.proofs.run.do_lines.Goals.{then-not-is_empty+in-Ok+in-Ok-do_command, else-not-is_empty}
+
+pub loop-line-init : goal.loop-line-init
+loop-line-init g c = record { numbered = omega arith; written = ([], [], λ more. refl, Appends-nil _) }
+
+pub returns-in-Err : goal.returns-in-Err
+returns-in-Err g c =
+    let i = c.loop-line.invariant.written in
+    lines_malformed c.args.kind _ _ _ c.in-Some.line.now c.loop-line.number c.args.machine.now.world c.loop-line.machine.world _ _ i.0 i.1 c.in-Err.cause i.2 i.3 c.in-Some.ensures
+    (some_of _ c.if-not-is_empty.ensures) c.in-Err.ensures
+
+pub returns-in-Err-do_command : goal.returns-in-Err-do_command
+returns-in-Err-do_command g c =
+    let i = c.loop-line.invariant.written in
+    lines_failed c.args.kind _ _ _ c.in-Some.line.now c.loop-line.number c.args.machine.now.world c.loop-line.machine.world c.do_command.new.machine.world _ _ _ i.0 i.1 c.in-Ok.command c.in-Err-do_command.e i.2 i.3 c.in-Some.ensures
+    (some_of _ c.if-not-is_empty.ensures) c.in-Ok.ensures c.in-Err-do_command.ensures
+
+pub returns : goal.returns
+returns g c =
+    let i = c.loop-line.invariant.written in
+    lines_ended c.args.kind _ _ c.loop-line.number c.args.machine.now.world c.loop-line.machine.world _ _ i.0 i.1 i.2 i.3 c.in_default.ensures
+
+pub loop-line-preserved : goal.loop-line-preserved
+loop-line-preserved g c =
+    let i = c.loop-line.invariant.written in
+    record {
+      numbered = omega (arith, ap length c.in-Some.ensures);
+      written =
+          elim c.if-not-is_empty.branch [
+            | then-not-is_empty+in-Ok+in-Ok-do_command w ↦
+                rw (w.machine-is, w.writer-is)
+                (done_command c.args.kind _ _ _ c.in-Some.line.now c.loop-line.number c.args.machine.now.world c.loop-line.machine.world w.do_command.new.machine.world
+                _ _ _ i.0 i.1 w.in-Ok.command i.2 i.3 c.in-Some.ensures (some_of _ w.if-not-is_empty.ensures) w.in-Ok.ensures w.in-Ok-do_command.ensures)
+            | else-not-is_empty w ↦
+                rw (w.machine-is, w.writer-is)
+                (done_empty c.args.kind _ _ _ c.in-Some.line.now c.loop-line.number c.args.machine.now.world c.loop-line.machine.world _ _ i.0 i.1 i.2 i.3
+                c.in-Some.ensures (none_of _ w.if-not-is_empty.ensures))
+          ];
+    }

@@ -1,0 +1,17 @@
+use Rattle.std.proofs.Common.{sym, ap, ◌∙◌, arith}
+use Rattle.schedule.proofs.Whole.{few_lines, text_missing, text_malformed, text_lines}
+use Rattle.schedule.proofs.run.do_text.Goals as goal
+
+pub returns-in_default : goal.returns-in_default
+returns-in_default g c = text_missing c.args.input.now _ (sym c.lines.ensures ∙ c.in_default.ensures)
+
+pub returns-in-Err : goal.returns-in-Err
+returns-in-Err g c = text_malformed c.args.input.now c.in-Some.first.now _ _ c.in-Err.cause (sym c.lines.ensures ∙ c.in-Some.ensures) c.in-Err.ensures
+
+pub do_lines-requires : goal.do_lines-requires
+do_lines-requires g c = omega (arith, few_lines c.args.input.now c.in-Some.first.now _ (sym c.lines.ensures ∙ c.in-Some.ensures))
+
+pub returns-in-Ok-new : goal.returns-in-Ok-new
+returns-in-Ok-new g c =
+    text_lines c.args.input.now c.in-Some.first.now _ c.in-Ok.setup c.in-Ok-new.machine.world _ _ c.do_lines.result
+    (sym c.lines.ensures ∙ c.in-Some.ensures) c.in-Ok.ensures (ap (λ t. t.world) c.in-Ok-new.ensures.ok) c.do_lines.ensures

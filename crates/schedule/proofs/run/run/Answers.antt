@@ -1,0 +1,17 @@
+use Rattle.std.proofs.Common.{arith}
+use Rattle.schedule.proofs.Whole.{flushed_end, flush_failed}
+use Rattle.schedule.proofs.run.run.Goals as goal
+
+pub do_text-requires : goal.do_text-requires
+do_text-requires g c = omega (arith, c.deref.ensures.len, c.in-Ok.input.ok, c.in-Ok.input.small)
+
+pub returns-in-Ok-do_text : goal.returns-in-Ok-do_text
+returns-in-Ok-do_text g c =
+    flushed_end _ _ (g.W.Write.contents c.do_text.new.writer) _ c.deref.result.now c.flush.result (rw c.deref.ensures.value c.in-Ok.ensures.bytes)
+    c.in-Ok-do_text.ensures c.flush.ensures.kept c.flush.ensures.failed
+
+pub returns-in-Err-Malformed : goal.returns-in-Err-Malformed
+returns-in-Err-Malformed g c =
+    flush_failed _ _ (g.W.Write.contents c.do_text.new.writer) _ c.deref.result.now c.in-Err-Malformed.field-0 c.in-Err-Malformed.line c.in-Err-Malformed.cause
+    c.in-Err-flush.e (rw c.deref.ensures.value c.in-Ok.ensures.bytes) c.in-Err-Malformed.field-0-is c.in-Err-Malformed.ensures
+    c.flush-in-Err-Malformed.ensures.kept c.in-Err-flush.ensures.failed

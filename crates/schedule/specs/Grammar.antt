@@ -1,0 +1,135 @@
+-- What a line says, read from left to right: a value, or the first cause that is met.
+use Rattle.std.specs.Prelude.{◌≡◌, ℕ, ◌-◌, ◌^◌, ◌==◌, Bool, true, false, List, [], ◌∷◌, length, Option, Some, None, Result, Ok, Err, if◌then◌else◌, bytes_eq, codes}
+use Rattle.machine.specs.declared.event.Start.{Start}
+use Rattle.machine.specs.declared.event.Start.TheVariants.{AcquireProducer, ReleaseProducer, AcquireConsumer, ReleaseConsumer, Push, Pop}
+use Rattle.machine.specs.declared.event.Item.{Item}
+use Rattle.machine.specs.declared.event.Item.TheVariants.{Index}
+use Rattle.machine.specs.declared.turn.Kind.{Kind}
+use Rattle.machine.specs.declared.turn.Kind.TheVariants.{IndexQueue}
+use Rattle.machine.specs.declared.turn.Turn.{Turn}
+use Rattle.machine.specs.declared.turn.Turn.TheVariants.{Begin, Next, Decide, Die}
+use Rattle.schedule.specs.declared.error.Cause.{Cause}
+use Rattle.schedule.specs.declared.error.Cause.TheVariants.{MissingValue, BadValue, UnknownKind, UnknownTurn, UnknownCall, ExtraWords}
+use Rattle.schedule.specs.declared.grammar.Command.{Command}
+use Rattle.schedule.specs.declared.grammar.Command.TheVariants.{Once, Times}
+use Rattle.schedule.specs.declared.grammar.Setup.{Setup}
+use Rattle.schedule.specs.Text.{number_of}
+
+infixl 10 ◌>>=◌
+abbrev pub ◌>>=◌ : {A B : Type 0} → Result A Cause → (A → Result B Cause) → Result B Cause
+(Ok x) >>= f = f x
+(Err e) >>= f = Err e
+
+-- what a function returned, seen by view, is what reading gives
+abbrev pub Gives : {X Y : Type 0} → (X → Y) → Result X Cause → Result Y Cause → Type 0
+Gives view (Ok x) read = read ≡ Ok (view x)
+Gives view (Err e) read = read ≡ Err e
+
+-- ---- words
+
+abbrev pub next_word : List (List ℕ) → Result (List ℕ × List (List ℕ)) Cause
+next_word [] = Err MissingValue
+next_word (w ∷ ws) = Ok (w, ws)
+
+abbrev pub ended : List (List ℕ) → Result (Unit {0}) Cause
+ended [] = Ok tt
+ended (w ∷ ws) = Err ExtraWords
+
+-- a number up to the greatest, and the words after it
+unfoldable pub number_at : ℕ → List (List ℕ) → Result (ℕ × List (List ℕ)) Cause
+number_at greatest ws = do
+  word ← next_word ws
+  n ← number_of greatest word.0
+  Ok (n, word.1)
+
+-- ---- the first line
+
+abbrev pub kind_of : List ℕ → Result Kind Cause
+kind_of name = if bytes_eq name (codes "index_queue") then Ok IndexQueue else Err UnknownKind
+
+-- a kind, a capacity and how many parties
+unfoldable pub setup_of : List (List ℕ) → Result Setup Cause
+setup_of ws = do
+  name ← next_word ws
+  kind ← kind_of name.0
+  capacity ← number_at (2 ^ 64 - 1) name.1
+  parties ← number_at (2 ^ 32 - 1) capacity.1
+  end ← ended parties.1
+  Ok (record { kind = kind; capacity = capacity.0; parties = parties.0 })
+
+-- ---- calls
+
+abbrev pub role_call : List ℕ → Option (Start ℕ)
+role_call name =
+    if bytes_eq name (codes "acquire_producer") then Some AcquireProducer
+    else if bytes_eq name (codes "release_producer") then Some ReleaseProducer
+    else if bytes_eq name (codes "acquire_consumer") then Some AcquireConsumer
+    else if bytes_eq name (codes "release_consumer") then Some ReleaseConsumer
+    else None
+
+unfoldable pub push_index : List (List ℕ) → Result (Start ℕ × List (List ℕ)) Cause
+push_index ws = do
+  index ← number_at (2 ^ 64 - 1) ws
+  Ok (Push (Index index.0), index.1)
+
+-- a call on the indices of a queue that is no call on a role
+unfoldable pub index_call : List ℕ → List (List ℕ) → Result (Start ℕ × List (List ℕ)) Cause
+index_call name ws =
+    if bytes_eq name (codes "push") then push_index ws
+    else if bytes_eq name (codes "pop") then Ok (Pop, ws)
+    else Err UnknownCall
+
+unfoldable pub index_queue_call : List ℕ → List (List ℕ) → Result (Start ℕ × List (List ℕ)) Cause
+index_queue_call name ws = elim (role_call name) [ Some start ↦ Ok (start, ws) | None ↦ index_call name ws ]
+
+-- the calls of each kind
+abbrev pub call_of : Kind → List ℕ → List (List ℕ) → Result (Start ℕ × List (List ℕ)) Cause
+call_of IndexQueue name ws = index_queue_call name ws
+
+-- ---- turns
+
+unfoldable pub begin_of : Kind → ℕ → List (List ℕ) → Result (Command) Cause
+begin_of kind party ws = do
+  name ← next_word ws
+  call ← call_of kind name.0 name.1
+  end ← ended call.1
+  Ok (Once (Begin party call.0))
+
+-- a number of turns, from 1
+abbrev pub count_of : List ℕ → Result ℕ Cause
+count_of word = number_of (2 ^ 64 - 1) word >>= λ n. if n == 0 then Err BadValue else Ok n
+
+unfoldable pub next_of : ℕ → List (List ℕ) → Result Command Cause
+next_of party [] = Ok (Once (Next party))
+next_of party (word ∷ ws) = do
+  turns ← count_of word
+  end ← ended ws
+  Ok (Times party turns)
+
+unfoldable pub decision_of : ℕ → Bool → List (List ℕ) → Result Command Cause
+decision_of party said ws = do
+  end ← ended ws
+  Ok (Once (Decide party said))
+
+unfoldable pub turn_of : Kind → ℕ → List (List ℕ) → Result Command Cause
+turn_of kind party ws = do
+  name ← next_word ws
+  if bytes_eq name.0 (codes "begin") then begin_of kind party name.1
+      else if bytes_eq name.0 (codes "next") then next_of party name.1
+      else if bytes_eq name.0 (codes "yes") then decision_of party true name.1
+      else if bytes_eq name.0 (codes "no") then decision_of party false name.1
+      else Err UnknownTurn
+
+-- the greatest number of 64 bits names no owner
+unfoldable pub death_of : List (List ℕ) → Result Command Cause
+death_of ws = do
+  owner ← number_at (2 ^ 64 - 2) ws
+  end ← ended owner.1
+  Ok (Once (Die owner.0))
+
+-- what a line after the first says
+unfoldable pub command_of : Kind → List (List ℕ) → Result Command Cause
+command_of kind ws = do
+  first ← next_word ws
+  if bytes_eq first.0 (codes "die") then death_of first.1
+      else (number_of (2 ^ 32 - 1) first.0 >>= λ party. turn_of kind party first.1)

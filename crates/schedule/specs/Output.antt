@@ -1,0 +1,143 @@
+-- What a schedule prints, as a function of its bytes.
+use Rattle.std.specs.Prelude.{◌≡◌, ℕ, zero, suc, ◌+◌, Bool, true, false, ◌&&◌, Option, Some, None, Result, Ok, Err, List, [], ◌∷◌, ◌++◌, if◌then◌else◌}
+use Rattle.steps.specs.declared.enums.UniqueIndexCreationError.{UniqueIndexCreationError}
+use Rattle.steps.specs.declared.enums.UniqueIndexCreationError.TheVariants as creation
+use Rattle.machine.specs.declared.turn.Kind.{Kind}
+use Rattle.machine.specs.declared.turn.Refusal.{Refusal}
+use Rattle.machine.specs.declared.turn.Refusal.TheVariants.{NoMemory}
+use Rattle.machine.specs.declared.turn.Turn.{Turn}
+use Rattle.machine.specs.declared.turn.Turn.TheVariants.{Next}
+use Rattle.machine.specs.World.{World, opening, capacity_error}
+use Rattle.machine.specs.Refusals.{refusal_of, is_going}
+use Rattle.machine.specs.Turns.{taken, told}
+use Rattle.schedule.specs.declared.error.Cause.{Cause}
+use Rattle.schedule.specs.declared.error.Cause.TheVariants as causes
+use Rattle.schedule.specs.declared.grammar.Command.{Command}
+use Rattle.schedule.specs.declared.grammar.Command.TheVariants.{Once, Times}
+use Rattle.schedule.specs.declared.grammar.Setup.{Setup}
+use Rattle.schedule.specs.Text.{lines, words}
+use Rattle.schedule.specs.Grammar.{◌>>=◌, setup_of, command_of}
+use Rattle.schedule.specs.Print.{events_text, refusal_text}
+
+-- ---- one turn
+
+-- what a turn prints, whether it was taken, and the world after it
+pub record Outcome : Type 0 where
+  pub text : List ℕ
+  pub is_taken : Bool
+  pub world : World ℕ
+
+-- memory is refused last
+abbrev pub refusal_where : Bool → Option Refusal → Option Refusal
+refusal_where short (Some refusal) = Some refusal
+refusal_where true None = Some NoMemory
+refusal_where false None = None
+
+abbrev pub outcome_as : World ℕ → Turn ℕ → Option Refusal → Outcome
+outcome_as w turn None = record { text = events_text (told w turn); is_taken = true; world = taken w turn }
+outcome_as w turn (Some refusal) = record { text = refusal_text refusal; is_taken = false; world = w }
+
+-- of a turn to which memory is refused, or not
+unfoldable pub outcome : Bool → World ℕ → Turn ℕ → Outcome
+outcome short w turn = outcome_as w turn (refusal_where short (refusal_of w turn))
+
+-- ---- several turns
+
+-- For each turn to come the list says whether memory is refused to it. Past the list's end it is not.
+pub record State : Type 0 where
+  pub world : World ℕ
+  pub memory : List Bool
+
+abbrev pub is_short : List Bool → Bool
+is_short [] = false
+is_short (short ∷ memory) = short
+
+abbrev pub later : List Bool → List Bool
+later [] = []
+later (short ∷ memory) = memory
+
+pub record Printed : Type 0 where
+  pub text : List ℕ
+  pub state : State
+
+-- a text, and then another
+abbrev pub after_text : List ℕ → Printed → Printed
+after_text text p = record { text = text ++ p.text; state = p.state }
+
+abbrev pub next_outcome : State → Turn ℕ → Outcome
+next_outcome s turn = outcome (is_short s.memory) s.world turn
+
+abbrev pub printed : Outcome → List Bool → Printed
+printed o memory = record { text = o.text; state = record { world = o.world; memory = memory } }
+
+-- the turn was taken, and the party's call needs no decision and is not finished
+abbrev pub goes_on : ℕ → Outcome → Bool
+goes_on party o = o.is_taken && is_going o.world party
+
+-- up to so many turns of a party's call
+unfoldable pub nexts : ℕ → ℕ → State → Printed
+nexts zero party s = record { text = []; state = s }
+nexts (suc most) party s =
+    let o = next_outcome s (Next party) in
+    if goes_on party o
+    then after_text o.text (nexts most party (record { world = o.world; memory = later s.memory }))
+    else printed o (later s.memory)
+
+abbrev pub commanded : Command → State → Printed
+commanded (Once turn) s = printed (next_outcome s turn) (later s.memory)
+commanded (Times party most) s = nexts most party s
+
+-- ---- lines
+
+-- what is printed, and the first malformed line with its cause
+pub record Output : Type 0 where
+  pub text : List ℕ
+  pub end : Result (Unit {0}) (ℕ × Cause)
+
+abbrev pub stopped : ℕ → Cause → Output
+stopped number cause = record { text = []; end = Err (number, cause) }
+
+abbrev pub before : List ℕ → Output → Output
+before text o = record { text = text ++ o.text; end = o.end }
+
+-- the lines from this number on; an empty line says nothing
+unfoldable pub lines_from : Kind → ℕ → List (List ℕ) → State → Output
+lines_from kind number [] s = record { text = []; end = Ok tt }
+lines_from kind number ([] ∷ lines) s = lines_from kind (number + 1) lines s
+lines_from kind number ((b ∷ bs) ∷ lines) s =
+    elim (command_of kind (words (b ∷ bs))) [
+      | Err cause ↦ stopped number cause
+      | Ok command ↦ before (commanded command s).text (lines_from kind (number + 1) lines (commanded command s).state)
+    ]
+
+-- why a machine is refused; refused memory is no cause
+abbrev pub capacity_cause : Option UniqueIndexCreationError → Option Cause
+capacity_cause (Some creation.ProvidedCapacityGreaterThanMaxCapacity) = Some causes.ProvidedCapacityGreaterThanMaxCapacity
+capacity_cause (Some creation.ProvidedCapacityIsZero) = Some causes.ProvidedCapacityIsZero
+capacity_cause (Some creation.NoMemory) = None
+capacity_cause None = None
+
+-- the capacity is tested after all words of the line
+abbrev pub admitted : Setup → Option Cause → Result Setup Cause
+admitted setup None = Ok setup
+admitted setup (Some cause) = Err cause
+
+unfoldable pub machine_of : List (List ℕ) → Result Setup Cause
+machine_of ws = do
+  setup ← setup_of ws
+  admitted setup (capacity_cause (capacity_error setup.kind setup.capacity))
+
+abbrev pub opened : Setup → List Bool → State
+opened setup memory = record { world = (opening setup.kind setup.capacity setup.parties).world; memory = memory }
+
+unfoldable pub output_of_lines : List Bool → List (List ℕ) → Output
+output_of_lines memory [] = stopped 1 causes.MissingValue
+output_of_lines memory (first ∷ lines) =
+    elim (machine_of (words first)) [
+      | Err cause ↦ stopped 1 cause
+      | Ok setup ↦ lines_from setup.kind 2 lines (opened setup memory)
+    ]
+
+-- The output for these bytes, where memory is refused to the turns that the list says. With the empty list it is to none.
+abbrev pub output : List Bool → List ℕ → Output
+output memory input = output_of_lines memory (lines input)

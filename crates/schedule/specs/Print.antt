@@ -1,0 +1,117 @@
+-- What is printed of events, refusals and errors.
+use Rattle.std.specs.Prelude.{ℕ, Bool, true, false, List, [], ◌∷◌, ◌++◌, Option, Some, None, Result, Ok, Err, codes, decimal}
+use Rattle.std.specs.List.{flat_map}
+use Rattle.machine.specs.declared.event.Answer.{Answer}
+use Rattle.machine.specs.declared.event.Answer.TheVariants.{Done, Truth, Popped}
+use Rattle.machine.specs.declared.event.Event.{Event}
+use Rattle.machine.specs.declared.event.Event.TheVariants.{Begun, Published, HandedOut, Acted, Finished}
+use Rattle.machine.specs.declared.event.Item.{Item}
+use Rattle.machine.specs.declared.event.Item.TheVariants.{Index, Value}
+use Rattle.machine.specs.declared.event.Start.{Start}
+use Rattle.machine.specs.declared.event.Start.TheVariants.{AcquireProducer, ReleaseProducer, AcquireConsumer, ReleaseConsumer, Push, Pop}
+use Rattle.machine.specs.declared.turn.Refusal.{Refusal}
+use Rattle.machine.specs.declared.turn.Refusal.TheVariants as refusals
+use Rattle.schedule.specs.declared.error.Cause.{Cause}
+use Rattle.schedule.specs.declared.error.Cause.TheVariants as causes
+use Rattle.schedule.specs.declared.error.ScheduleError.{ScheduleError}
+use Rattle.schedule.specs.declared.error.ScheduleError.TheVariants as errors
+
+-- ---- events
+
+abbrev pub item_text : Item ℕ → List ℕ
+item_text (Index n) = decimal n
+item_text (Value n) = decimal n
+
+-- a call and its arguments
+abbrev pub call_text : Start ℕ → List ℕ
+call_text AcquireProducer = codes "acquire_producer"
+call_text ReleaseProducer = codes "release_producer"
+call_text AcquireConsumer = codes "acquire_consumer"
+call_text ReleaseConsumer = codes "release_consumer"
+call_text (Push item) = codes "push " ++ item_text item
+call_text Pop = codes "pop"
+
+abbrev pub truth_text : Bool → List ℕ
+truth_text true = codes "true"
+truth_text false = codes "false"
+
+abbrev pub popped_text : Option (Item ℕ) → List ℕ
+popped_text None = codes "none"
+popped_text (Some item) = codes "some " ++ item_text item
+
+abbrev pub answer_text : Answer ℕ → List ℕ
+answer_text Done = codes "done"
+answer_text (Truth said) = truth_text said
+answer_text (Popped item) = popped_text item
+
+-- a call and its answer
+abbrev pub answered_text : Start ℕ → Answer ℕ → List ℕ
+answered_text start answer = call_text start ++ codes " -> " ++ answer_text answer
+
+-- the line of an event
+unfoldable pub event_text : Event ℕ → List ℕ
+event_text (Begun party start) = decimal party ++ codes " begun " ++ call_text start ++ codes "\n"
+event_text (Published party item) = decimal party ++ codes " published " ++ item_text item ++ codes "\n"
+event_text (HandedOut party item) = decimal party ++ codes " handed_out " ++ item_text item ++ codes "\n"
+event_text (Acted party start answer) =
+    decimal party ++ codes " acted " ++ answered_text start answer ++ codes "\n"
+event_text (Finished party start answer) =
+    decimal party ++ codes " finished " ++ answered_text start answer ++ codes "\n"
+
+-- the lines of the events, in their order
+abbrev pub events_text : List (Event ℕ) → List ℕ
+events_text events = flat_map event_text events
+
+-- ---- refusals
+
+abbrev pub refusal_name : Refusal → List ℕ
+refusal_name refusals.NoParty = codes "NoParty"
+refusal_name refusals.Busy = codes "Busy"
+refusal_name refusals.Idle = codes "Idle"
+refusal_name refusals.WrongCall = codes "WrongCall"
+refusal_name refusals.NoRole = codes "NoRole"
+refusal_name refusals.NotHeld = codes "NotHeld"
+refusal_name refusals.BadIndex = codes "BadIndex"
+refusal_name refusals.OwnerIsDead = codes "OwnerIsDead"
+refusal_name refusals.OwnerLives = codes "OwnerLives"
+refusal_name refusals.Undecided = codes "Undecided"
+refusal_name refusals.NoMemory = codes "NoMemory"
+refusal_name refusals.AtEnd = codes "AtEnd"
+
+-- the line of a refused turn
+unfoldable pub refusal_text : Refusal → List ℕ
+refusal_text refusal = codes "refused " ++ refusal_name refusal ++ codes "\n"
+
+-- ---- errors
+
+abbrev pub cause_text : Cause → List ℕ
+cause_text causes.MissingValue = codes "missing value"
+cause_text causes.BadValue = codes "bad value"
+cause_text causes.UnknownKind = codes "unknown kind"
+cause_text causes.UnknownTurn = codes "unknown turn"
+cause_text causes.UnknownCall = codes "unknown call"
+cause_text causes.ExtraWords = codes "extra words"
+cause_text causes.ProvidedCapacityGreaterThanMaxCapacity = codes "ProvidedCapacityGreaterThanMaxCapacity"
+cause_text causes.ProvidedCapacityIsZero = codes "ProvidedCapacityIsZero"
+
+abbrev pub error_text : ScheduleError → List ℕ
+error_text (errors.Malformed line cause) = codes "line " ++ decimal line ++ codes ": " ++ cause_text cause ++ codes "\n"
+error_text errors.ReadFailed = codes "read failed\n"
+error_text errors.WriteFailed = codes "write failed\n"
+error_text errors.NoMemory = codes "no memory\n"
+
+-- what is told of a run that ended so
+unfoldable pub message_text : Result (Unit {0}) ScheduleError → List ℕ
+message_text (Ok u) = []
+message_text (Err e) = error_text e
+
+abbrev pub error_exit : ScheduleError → ℕ
+error_exit (errors.Malformed line cause) = 2
+error_exit errors.ReadFailed = 1
+error_exit errors.WriteFailed = 1
+error_exit errors.NoMemory = 1
+
+-- the exit status of a run that ended so
+abbrev pub exit_of : Result (Unit {0}) ScheduleError → ℕ
+exit_of (Ok u) = 0
+exit_of (Err e) = error_exit e

@@ -1,0 +1,64 @@
+//! Writing to the end, so that a failure leaves a beginning of the text.
+ghost use Rattle.std.specs.Prelude.{◌≡◌, IfErr};
+ghost use Rattle.std.specs.Io.KnownBytes.{Keeps};
+ghost use Rattle.schedule.specs.Print.{events_text, refusal_text};
+ghost use Rattle.schedule.specs.Written.{Writes};
+
+use crate::error::ScheduleError;
+use crate::line::Line;
+use machine::event::Event;
+use machine::turn::Refusal;
+use std::io::{ErrorKind, Write};
+
+/// Writes all of the bytes. A write that was interrupted is tried again.
+pub fn put<W: Write>(writer: &mut W, bytes: &[u8]) -> Result<(), ScheduleError>
+    ensures { Writes (W.contents writer.old) (W.contents writer.new) result bytes.now }
+{
+    let mut rest = bytes;
+    for _ in 0..u64::MAX {
+        if rest.is_empty() {
+            return Ok(());
+        }
+        match writer.write(rest) {
+            Ok(0) => return Err(ScheduleError::WriteFailed),
+            Ok(count) => rest = &rest[count..],
+            Err(e) => {
+                if e.kind() != ErrorKind::Interrupted {
+                    return Err(ScheduleError::WriteFailed);
+                }
+            }
+        }
+    }
+    Err(ScheduleError::WriteFailed)
+}
+
+/// Writes the lines of the events.
+pub fn put_events<W: Write>(writer: &mut W, events: &[Event<u128>]) -> Result<(), ScheduleError>
+    ensures { Writes (W.contents writer.old) (W.contents writer.new) result (events_text events.now) }
+{
+    for event in events {
+        match put(writer, Line::of_event(*event).as_bytes()) {
+            Ok(()) => {}
+            Err(e) => return Err(e),
+        }
+    }
+    Ok(())
+}
+
+/// Writes the line of a refused turn.
+pub fn put_refusal<W: Write>(writer: &mut W, refusal: Refusal) -> Result<(), ScheduleError>
+    ensures { Writes (W.contents writer.old) (W.contents writer.new) result (refusal_text refusal) }
+{
+    put(writer, Line::of_refusal(refusal).as_bytes())
+}
+
+/// Writes out what the writer kept back.
+pub fn flush<W: Write>(writer: &mut W) -> Result<(), ScheduleError>
+    ensures kept { Keeps (W.contents writer.old) (W.contents writer.new) }
+    ensures failed { IfErr result (λ e. e ≡ ScheduleError.WriteFailed) }
+{
+    match writer.flush() {
+        Ok(()) => Ok(()),
+        Err(_) => Err(ScheduleError::WriteFailed),
+    }
+}

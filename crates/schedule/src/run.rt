@@ -1,0 +1,179 @@
+//! A whole run: the input is read, the machine is made, and the lines are done one after another.
+ghost use Rattle.std.specs.Prelude.{◌≡◌, ◌^◌, ◌<◌, Bool, length};
+ghost use Rattle.schedule.specs.Grammar.{Gives};
+ghost use Rattle.schedule.specs.Output.{outcome, nexts, commanded, lines_from, machine_of, output};
+ghost use Rattle.schedule.specs.Run.{IsTurn, IsStep, Prints, IsOutput, IsRun};
+ghost use Rattle.schedule.specs.Text.{words, parts_left};
+ghost use Rattle.machine.specs.declared.turn.Turn.TheVariants.{Next};
+
+use crate::error::{Cause, ScheduleError};
+use crate::grammar::{Command, Setup, command_of, setup_of};
+use crate::input::whole_input;
+use crate::output::{flush, put_events, put_refusal};
+use crate::text::{Parts, lines};
+use machine::Machine;
+use machine::turn::{Kind, Turn, capacity_error};
+use std::alloc::Global;
+use std::io::{Read, Write};
+use steps::enums::UniqueIndexCreationError;
+
+// One turn. Whether it was taken.
+fn take_turn<W: Write>(
+    machine: &mut Machine<u128>,
+    turn: Turn<u128>,
+    writer: &mut W,
+) -> Result<bool, ScheduleError>
+    ensures { (short : Bool) × IsTurn (outcome short machine.old.world turn) machine.new.world (W.contents writer.old) (W.contents writer.new) result }
+{
+    let before = machine.events().len();
+    match machine.step(turn) {
+        Ok(()) => match put_events(writer, &machine.events()[before..]) {
+            Ok(()) => Ok(true),
+            Err(e) => Err(e),
+        },
+        Err(refusal) => match put_refusal(writer, refusal) {
+            Ok(()) => Ok(false),
+            Err(e) => Err(e),
+        },
+    }
+}
+
+// One turn of the party's call. Whether the call goes on.
+fn take_next<W: Write>(
+    machine: &mut Machine<u128>,
+    party: u32,
+    writer: &mut W,
+) -> Result<bool, ScheduleError>
+    ensures { (short : Bool) × IsStep party (outcome short machine.old.world (Next party)) machine.new.world (W.contents writer.old) (W.contents writer.new) result }
+{
+    match take_turn(machine, Turn::Next(party), writer) {
+        Ok(taken) => Ok(taken && machine.is_going(party)),
+        Err(e) => Err(e),
+    }
+}
+
+// Up to so many turns of the party's call.
+fn take_nexts<W: Write>(
+    machine: &mut Machine<u128>,
+    party: u32,
+    most: u64,
+    writer: &mut W,
+) -> Result<(), ScheduleError>
+    ensures { Prints (nexts most party) machine.old.world machine.new.world (W.contents writer.old) (W.contents writer.new) result }
+{
+    for _ in 0..most {
+        match take_next(machine, party, writer) {
+            Ok(true) => {}
+            Ok(false) => return Ok(()),
+            Err(e) => return Err(e),
+        }
+    }
+    Ok(())
+}
+
+// What a line asks for.
+fn do_command<W: Write>(
+    machine: &mut Machine<u128>,
+    command: Command,
+    writer: &mut W,
+) -> Result<(), ScheduleError>
+    ensures { Prints (commanded command) machine.old.world machine.new.world (W.contents writer.old) (W.contents writer.new) result }
+{
+    match command {
+        Command::Once(turn) => match take_turn(machine, turn, writer) {
+            Ok(_) => Ok(()),
+            Err(e) => Err(e),
+        },
+        Command::Times(party, most) => take_nexts(machine, party, most, writer),
+    }
+}
+
+// The lines after the first.
+fn do_lines<W: Write>(
+    kind: Kind,
+    lines: Parts<'_>,
+    machine: &mut Machine<u128>,
+    writer: &mut W,
+) -> Result<(), ScheduleError>
+    requires { length (parts_left lines) < 2 ^ 63 }
+    ensures { IsOutput (λ memory. lines_from kind 2 (parts_left lines.entry) (record { world = machine.old.world; memory = memory })) (W.contents writer.old) (W.contents writer.new) result }
+{
+    let mut left = lines;
+    let mut number = 2u64;
+    while let Some((line, rest)) = left.first() {
+        if !line.is_empty() {
+            match command_of(kind, line) {
+                Ok(command) => match do_command(machine, command, writer) {
+                    Ok(()) => {}
+                    Err(e) => return Err(e),
+                },
+                Err(cause) => return Err(ScheduleError::Malformed(number, cause)),
+            }
+        }
+        number += 1;
+        left = rest;
+    }
+    Ok(())
+}
+
+// The first line, with the capacity tested last.
+#[tactic(auto, unfolding(crate::specs::Output::machine_of))]
+fn machine_of(line: &[u8]) -> Result<Setup, Cause>
+    ensures { Gives (λ setup. setup) result (machine_of (words line.now)) }
+{
+    let setup = setup_of(line)?;
+    match capacity_error(setup.kind, setup.capacity as usize) {
+        Some(UniqueIndexCreationError::ProvidedCapacityGreaterThanMaxCapacity) => {
+            Err(Cause::ProvidedCapacityGreaterThanMaxCapacity)
+        }
+        Some(UniqueIndexCreationError::ProvidedCapacityIsZero) => {
+            Err(Cause::ProvidedCapacityIsZero)
+        }
+        Some(UniqueIndexCreationError::NoMemory) | None => Ok(setup),
+    }
+}
+
+// The whole text.
+fn do_text<W: Write>(alloc: Global, input: &[u8], writer: &mut W) -> Result<(), ScheduleError>
+    requires { length input.now < 2 ^ 63 }
+    ensures { IsOutput (λ memory. output memory input.now) (W.contents writer.old) (W.contents writer.new) result }
+{
+    let Some((first, rest)) = lines(input).first() else {
+        return Err(ScheduleError::Malformed(1, Cause::MissingValue));
+    };
+    let setup = match machine_of(first) {
+        Ok(setup) => setup,
+        Err(cause) => return Err(ScheduleError::Malformed(1, cause)),
+    };
+    match Machine::new(alloc, setup.kind, setup.capacity as usize, setup.parties) {
+        Ok(mut machine) => do_lines(setup.kind, rest, &mut machine, writer),
+        Err(_) => Err(ScheduleError::NoMemory),
+    }
+}
+
+/// Reads a schedule to its end, and then writes what each of its turns did, line by line.
+///
+/// Malformed text, or a capacity that the kind does not admit, is `Malformed`; the output of all earlier lines has
+/// then been written. A failed read is `ReadFailed`. Where there is no memory for the input or the machine it is
+/// `NoMemory`. A failed write, also of what a writer kept back, is `WriteFailed`. A turn to which memory is refused is
+/// printed as refused, and the run goes on.
+pub fn run<R: Read, W: Write>(
+    alloc: Global,
+    reader: &mut R,
+    writer: &mut W,
+) -> Result<(), ScheduleError>
+    ensures { IsRun (R.remaining reader.old) (W.contents writer.old) (W.contents writer.new) result }
+{
+    let input = match whole_input(alloc, reader) {
+        Ok(input) => input,
+        Err(e) => return Err(e),
+    };
+    match do_text(alloc, &input, writer) {
+        Ok(()) => flush(writer),
+        Err(ScheduleError::Malformed(line, cause)) => match flush(writer) {
+            Ok(()) => Err(ScheduleError::Malformed(line, cause)),
+            Err(e) => Err(e),
+        },
+        Err(e) => Err(e),
+    }
+}

@@ -1,0 +1,373 @@
+//! Whole runs: worked schedules, broken texts, and reads and writes that fail.
+use crate::error::{Cause, ScheduleError};
+use crate::run::run;
+use crate::status::status;
+use std::alloc::Global;
+use std::io;
+use std::io::{ErrorKind, Read, Write};
+use std::process::Abort;
+use std::test::Fail;
+
+const STOPPED_PUSH: &[u8] =
+    b"index_queue 1 2\n0 begin acquire_producer\n0 next\n1 begin acquire_consumer\n1 next\n0 begin push 5\n0 next 3\n1 begin pop\n1 next 4\n0 next\n";
+
+const STOPPED_PUSH_OUTPUT: &[u8] =
+    b"0 begun acquire_producer\n0 finished acquire_producer -> true\n1 begun acquire_consumer\n1 finished acquire_consumer -> true\n0 begun push 5\n1 begun pop\n1 acted pop -> none\n1 finished pop -> none\n0 published 5\n0 acted push 5 -> true\n0 finished push 5 -> true\n";
+
+/// A reader or a writer that does a few bytes at a call, and fails from some call on.
+#[derive(Drop)]
+struct Faulty {
+    bytes: Vec<u8>,
+    place: usize,
+    at_most: usize,
+    calls_left: usize,
+    kind: ErrorKind,
+}
+
+impl Faulty {
+    fn new(bytes: Vec<u8>, at_most: usize, calls_left: usize, kind: ErrorKind) -> Faulty {
+        Faulty {
+            bytes,
+            place: 0,
+            at_most,
+            calls_left,
+            kind,
+        }
+    }
+
+    /// Whether the call may go on. An interruption comes once, and any other failure again and again.
+    fn is_sound(&mut self) -> bool {
+        if self.calls_left == 0 {
+            if self.kind == ErrorKind::Interrupted {
+                self.calls_left = usize::MAX;
+            }
+            return false;
+        }
+        self.calls_left -= 1;
+        true
+    }
+}
+
+impl Read for Faulty {
+    fn read(&mut self, buf: &mut [u8]) -> io::Result<usize> {
+        if !self.is_sound() {
+            return Err(io::Error::from(self.kind));
+        }
+        let mut count = 0;
+        for place in buf.iter_mut() {
+            if count < self.at_most && self.place < self.bytes.len() {
+                *place = self.bytes[self.place];
+                self.place += 1;
+                count += 1;
+            }
+        }
+        Ok(count)
+    }
+}
+
+impl Write for Faulty {
+    fn write(&mut self, buf: &[u8]) -> io::Result<usize> {
+        if !self.is_sound() {
+            return Err(io::Error::from(self.kind));
+        }
+        let count = buf.len().min(self.at_most);
+        self.bytes.extend_from_slice(&buf[..count])?;
+        Ok(count)
+    }
+
+    fn flush(&mut self) -> io::Result<()> {
+        Ok(())
+    }
+}
+
+/// A writer that keeps back what it is given, and cannot let go of it.
+#[derive(Drop)]
+struct Stuck;
+
+impl Write for Stuck {
+    fn write(&mut self, buf: &[u8]) -> io::Result<usize> {
+        Ok(buf.len())
+    }
+
+    fn flush(&mut self) -> io::Result<()> {
+        Err(io::Error::from(ErrorKind::Other))
+    }
+}
+
+/// Runs a schedule, and compares the output, what is told and the exit status.
+fn expect_run(
+    rt: &impl Abort,
+    alloc: Global,
+    input: &[u8],
+    output: &[u8],
+    told: &[u8],
+    exit: u8,
+) -> Result<(), Fail> {
+    let mut reader = input;
+    let mut written = Vec::new(alloc);
+    let ran = run(alloc, &mut reader, &mut written);
+    let mut errors = Vec::new(alloc);
+    let ended = status(&ran, &mut errors);
+    assert_eq!(rt; written.as_slice(), output);
+    assert_eq!(rt; errors.as_slice(), told);
+    assert_eq!(rt; ended, exit);
+    Ok(())
+}
+
+#[test]
+fn a_stopped_push(rt: HostRuntime) -> Result<(), Fail> {
+    expect_run(&rt, rt.alloc(), STOPPED_PUSH, STOPPED_PUSH_OUTPUT, b"", 0)?;
+    // The last line may lack its line feed, and lines may be empty.
+    let last = STOPPED_PUSH.len() - 1;
+    expect_run(
+        &rt,
+        rt.alloc(),
+        &STOPPED_PUSH[..last],
+        STOPPED_PUSH_OUTPUT,
+        b"",
+        0,
+    )?;
+    expect_run(
+        &rt,
+        rt.alloc(),
+        b"index_queue 1 1\n\n\n0 begin pop\n\nx\n0 next\n",
+        b"refused NoRole\n",
+        b"line 6: bad value\n",
+        2,
+    )
+}
+
+#[test]
+fn broken_first_lines(rt: HostRuntime) -> Result<(), Fail> {
+    let table: [(&[u8], &[u8]); 16] = [
+        (b"", b"line 1: missing value\n"),
+        (b"\nindex_queue 1 1\n", b"line 1: missing value\n"),
+        (b"index_queue", b"line 1: missing value\n"),
+        (b"index_queue 1", b"line 1: missing value\n"),
+        (b"ring 1 1", b"line 1: unknown kind\n"),
+        (b"ring", b"line 1: unknown kind\n"),
+        (b" index_queue 1 1", b"line 1: unknown kind\n"),
+        (b"index_queue\r", b"line 1: unknown kind\n"),
+        (b"index_queue 1 1 ", b"line 1: extra words\n"),
+        (b"index_queue 4294967296 1 x", b"line 1: extra words\n"),
+        (b"index_queue x 1 1", b"line 1: bad value\n"),
+        (b"index_queue  1 1", b"line 1: bad value\n"),
+        (
+            b"index_queue 18446744073709551616 1",
+            b"line 1: bad value\n",
+        ),
+        (b"index_queue 1 4294967296", b"line 1: bad value\n"),
+        (b"index_queue 1 1\r\n", b"line 1: bad value\n"),
+        (
+            b"index_queue 4294967296 1",
+            b"line 1: ProvidedCapacityGreaterThanMaxCapacity\n",
+        ),
+    ];
+    for (input, told) in table {
+        expect_run(&rt, rt.alloc(), input, b"", told, 2)?;
+    }
+    Ok(())
+}
+
+#[test]
+fn broken_later_lines(rt: HostRuntime) -> Result<(), Fail> {
+    let table: [(&[u8], &[u8]); 34] = [
+        (b"0", b"missing value"),
+        (b"die", b"missing value"),
+        (b"0 begin", b"missing value"),
+        (b"0 begin push", b"missing value"),
+        (b" ", b"bad value"),
+        (b"x next", b"bad value"),
+        (b"+0 next", b"bad value"),
+        (b"4294967296 jump", b"bad value"),
+        (b"0 next 0", b"bad value"),
+        (b"0 next ", b"bad value"),
+        (b"0 next 18446744073709551616", b"bad value"),
+        (b"0 next 1\r", b"bad value"),
+        (b"0 begin push 18446744073709551616", b"bad value"),
+        (b"0 begin push ", b"bad value"),
+        (b"0 begin push -1 x", b"bad value"),
+        (b"die ", b"bad value"),
+        (b"die 18446744073709551615", b"bad value"),
+        (b"0 jump", b"unknown turn"),
+        (b"0  next", b"unknown turn"),
+        (b"0 ", b"unknown turn"),
+        (b"0 next\r", b"unknown turn"),
+        (b"0 Next", b"unknown turn"),
+        (b"0 begin ", b"unknown call"),
+        (b"0 begin store 1", b"unknown call"),
+        (b"0 begin acquire", b"unknown call"),
+        (b"0 begin pops", b"unknown call"),
+        (b"0 begin pop\r", b"unknown call"),
+        (b"0 begin pop 3", b"extra words"),
+        (b"0 begin push 3 ", b"extra words"),
+        (b"0 next 1 ", b"extra words"),
+        (b"0 yes ", b"extra words"),
+        (b"0 no x", b"extra words"),
+        (b"die 1 1", b"extra words"),
+        (b"0 begin release_consumer 0", b"extra words"),
+    ];
+    for (line, cause) in table {
+        let mut input = Vec::from_slice(rt.alloc(), b"index_queue 1 1\n")?;
+        input.extend_from_slice(line)?;
+        let mut told = Vec::from_slice(rt.alloc(), b"line 2: ")?;
+        told.extend_from_slice(cause)?;
+        told.push(b'\n')?;
+        expect_run(&rt, rt.alloc(), &input, b"", &told, 2)?;
+    }
+    Ok(())
+}
+
+#[test]
+fn refused_turns(rt: HostRuntime) -> Result<(), Fail> {
+    let table: [(&[u8], &[u8]); 8] = [
+        (b"die 1", b"refused WrongCall\n"),
+        (b"die 18446744073709551614", b"refused WrongCall\n"),
+        (b"0 next", b"refused Idle\n"),
+        (b"0 next 9", b"refused Idle\n"),
+        (b"0 yes", b"refused Idle\n"),
+        (b"2 no", b"refused NoParty\n"),
+        (b"0 begin push 1", b"refused NoRole\n"),
+        (
+            b"00 begin acquire_producer\n1 next\n0 yes\n0 begin pop\n0 next 5\n0 next 5",
+            b"0 begun acquire_producer\nrefused Idle\nrefused Undecided\nrefused Busy\n0 finished acquire_producer -> true\nrefused Idle\n",
+        ),
+    ];
+    for (lines, output) in table {
+        let mut input = Vec::from_slice(rt.alloc(), b"index_queue 1 2\n")?;
+        input.extend_from_slice(lines)?;
+        expect_run(&rt, rt.alloc(), &input, output, b"", 0)?;
+    }
+    Ok(())
+}
+
+#[test]
+fn several_turns(rt: HostRuntime) -> Result<(), Fail> {
+    // A number of turns that is more than the call takes ends with it, and one that is fewer stops inside it.
+    expect_run(
+        &rt,
+        rt.alloc(),
+        b"index_queue 2 1\n0 begin acquire_producer\n0 next 18446744073709551615\n0 begin push 007\n0 next 3\n0 next 1\n0 begin push 18446744073709551615\n0 next 4\n0 begin release_producer\n0 next 2\n",
+        b"0 begun acquire_producer\n0 finished acquire_producer -> true\n0 begun push 7\n0 published 7\n0 acted push 7 -> true\n0 finished push 7 -> true\n0 begun push 18446744073709551615\n0 published 18446744073709551615\n0 acted push 18446744073709551615 -> true\n0 finished push 18446744073709551615 -> true\n0 begun release_producer\n0 finished release_producer -> done\n",
+        b"",
+        0,
+    )?;
+    expect_run(
+        &rt,
+        rt.alloc(),
+        b"index_queue 1 1\n0 begin acquire_producer\n0 next\n0 begin acquire_consumer\n0 next\n0 begin push 5\n0 next 4\n0 begin push 6\n0 next 4\n0 begin pop\n0 next 4\n0 begin push",
+        b"0 begun acquire_producer\n0 finished acquire_producer -> true\n0 begun acquire_consumer\n0 finished acquire_consumer -> true\n0 begun push 5\n0 published 5\n0 acted push 5 -> true\n0 finished push 5 -> true\n0 begun push 6\n0 acted push 6 -> false\n0 finished push 6 -> false\n0 begun pop\n0 handed_out 5\n0 acted pop -> some 5\n0 finished pop -> some 5\n",
+        b"line 12: missing value\n",
+        2,
+    )
+}
+
+#[test]
+fn failing_reads(rt: HostRuntime) -> Result<(), Fail> {
+    let alloc = rt.alloc();
+    for calls in 0..40 {
+        let input = Vec::from_slice(alloc, STOPPED_PUSH)?;
+        let mut reader = Faulty::new(input, 7, calls, ErrorKind::Other);
+        let mut written: Vec<u8> = Vec::new(alloc);
+        let ran = run(alloc, &mut reader, &mut written);
+        // 132 bytes by 7 are 19 reads, and one more finds the end.
+        if calls < 20 {
+            assert_eq!(rt; ran, Err(ScheduleError::ReadFailed));
+            assert!(rt; written.is_empty());
+        } else {
+            assert_eq!(rt; ran, Ok(()));
+            assert_eq!(rt; written.as_slice(), STOPPED_PUSH_OUTPUT);
+        }
+    }
+    for calls in 0..20 {
+        let input = Vec::from_slice(alloc, STOPPED_PUSH)?;
+        let mut reader = Faulty::new(input, 7, calls, ErrorKind::Interrupted);
+        let mut written: Vec<u8> = Vec::new(alloc);
+        assert_eq!(rt; run(alloc, &mut reader, &mut written), Ok(()));
+        assert_eq!(rt; written.as_slice(), STOPPED_PUSH_OUTPUT);
+    }
+    Ok(())
+}
+
+#[test]
+fn failing_writes(rt: HostRuntime) -> Result<(), Fail> {
+    let alloc = rt.alloc();
+    let mut failures = 0u32;
+    for calls in 0..90 {
+        let mut reader = STOPPED_PUSH;
+        let mut writer = Faulty::new(Vec::new(alloc), 5, calls, ErrorKind::Other);
+        let ran = run(alloc, &mut reader, &mut writer);
+        let written = writer.bytes.as_slice();
+        assert!(rt; STOPPED_PUSH_OUTPUT.starts_with(written));
+        if ran == Ok(()) {
+            assert_eq!(rt; written, STOPPED_PUSH_OUTPUT);
+        } else {
+            assert_eq!(rt; ran, Err(ScheduleError::WriteFailed));
+            assert!(rt; written.len() < STOPPED_PUSH_OUTPUT.len());
+            failures = failures.wrapping_add(1);
+        }
+        // Each call before the failure has written.
+        assert!(rt; calls == 0 || !written.is_empty());
+    }
+    assert!(rt; failures > 11 && failures < 90);
+    for calls in 0..60 {
+        let mut reader = STOPPED_PUSH;
+        let mut writer = Faulty::new(Vec::new(alloc), 5, calls, ErrorKind::Interrupted);
+        assert_eq!(rt; run(alloc, &mut reader, &mut writer), Ok(()));
+        assert_eq!(rt; writer.bytes.as_slice(), STOPPED_PUSH_OUTPUT);
+    }
+    // A writer that takes nothing.
+    let mut reader = STOPPED_PUSH;
+    let mut writer = Faulty::new(Vec::new(alloc), 0, 90, ErrorKind::Other);
+    assert_eq!(rt;
+        run(alloc, &mut reader, &mut writer),
+        Err(ScheduleError::WriteFailed)
+    );
+    Ok(())
+}
+
+#[test]
+fn failing_flushes(rt: HostRuntime) -> Result<(), Fail> {
+    let alloc = rt.alloc();
+    let mut reader = STOPPED_PUSH;
+    assert_eq!(rt;
+        run(alloc, &mut reader, &mut Stuck),
+        Err(ScheduleError::WriteFailed)
+    );
+    let mut malformed: &[u8] = b"index_queue 1 1\n0 jump";
+    assert_eq!(rt;
+        run(alloc, &mut malformed, &mut Stuck),
+        Err(ScheduleError::WriteFailed)
+    );
+    Ok(())
+}
+
+#[test]
+fn what_is_told(rt: HostRuntime) -> Result<(), Fail> {
+    let table: [(Result<(), ScheduleError>, &[u8], u8); 6] = [
+        (Ok(()), b"", 0),
+        (
+            Err(ScheduleError::Malformed(u64::MAX, Cause::ProvidedCapacityIsZero)),
+            b"line 18446744073709551615: ProvidedCapacityIsZero\n",
+            2,
+        ),
+        (
+            Err(ScheduleError::Malformed(10, Cause::BadValue)),
+            b"line 10: bad value\n",
+            2,
+        ),
+        (Err(ScheduleError::ReadFailed), b"read failed\n", 1),
+        (Err(ScheduleError::WriteFailed), b"write failed\n", 1),
+        (Err(ScheduleError::NoMemory), b"no memory\n", 1),
+    ];
+    for (ran, told, exit) in table {
+        let mut errors = Vec::new(rt.alloc());
+        assert_eq!(rt; status(&ran, &mut errors), exit);
+        assert_eq!(rt; errors.as_slice(), told);
+        // What is told may fail, and the answer stays.
+        let mut broken = Faulty::new(Vec::new(rt.alloc()), 5, 1, ErrorKind::Other);
+        assert_eq!(rt; status(&ran, &mut broken), exit);
+        assert!(rt; told.starts_with(broken.bytes.as_slice()));
+    }
+    Ok(())
+}

@@ -1,0 +1,114 @@
+//! The lines of a text, the words of a line, and numbers in decimal.
+ghost use Rattle.std.specs.Prelude.{◌≡◌, [], ◌∷◌, ◌==◌, ◌≤◌, IfOk, MatchOption, length};
+ghost use Rattle.std.specs.List.{position_or_len};
+ghost use Rattle.schedule.specs.Text.{parts, lines, words, number_of, parts_left};
+ghost use Rattle.schedule.specs.Grammar.{Gives};
+
+use crate::error::Cause;
+
+const LINE_FEED: u8 = b'\n';
+
+const SPACE: u8 = b' ';
+
+/// The parts of a text that are not read yet.
+#[derive(Clone, Copy)]
+pub struct Parts<'a> {
+    rest: Option<&'a [u8]>,
+    separator: u8,
+}
+
+/// The lines of a text.
+pub fn lines(text: &[u8]) -> Parts<'_>
+    ensures { parts_left result ≡ lines text.now }
+{
+    Parts {
+        rest: Some(text),
+        separator: LINE_FEED,
+    }
+}
+
+/// The words of a line.
+pub fn words(line: &[u8]) -> Parts<'_>
+    ensures { parts_left result ≡ words line.now }
+{
+    match line {
+        [] => Parts {
+            rest: None,
+            separator: SPACE,
+        },
+        [_, ..] => Parts {
+            rest: Some(line),
+            separator: SPACE,
+        },
+    }
+}
+
+// Where the byte stands first, or the length.
+fn place_of(byte: u8, text: &[u8]) -> usize
+    ensures { result ≡ position_or_len (λ b. b == byte) text.now }
+{
+    for (at, b) in text.iter().enumerate() {
+        if *b == byte {
+            return at;
+        }
+    }
+    text.len()
+}
+
+impl<'a> Parts<'a> {
+    /// The first part, and the parts after it. None where no part is left.
+    pub fn first(self) -> Option<(&'a [u8], Parts<'a>)>
+        ensures { MatchOption result (parts_left self.entry ≡ []) (λ x. parts_left self.entry ≡ x.0.now ∷ parts_left x.1) }
+    {
+        match self.rest {
+            None => None,
+            Some(text) => {
+                let at = place_of(self.separator, text);
+                if at < text.len() {
+                    Some((
+                        &text[..at],
+                        Parts {
+                            rest: Some(&text[at + 1..]),
+                            separator: self.separator,
+                        },
+                    ))
+                } else {
+                    Some((
+                        text,
+                        Parts {
+                            rest: None,
+                            separator: self.separator,
+                        },
+                    ))
+                }
+            }
+        }
+    }
+}
+
+/// The number that a word writes: digits alone, and at most `greatest`.
+pub fn number_of(greatest: u128, word: &[u8]) -> Result<u128, Cause>
+    ensures value { Gives (λ n. n) result (number_of greatest word.now) }
+    ensures bound { IfOk result (λ n. n ≤ greatest) }
+{
+    if word.is_empty() {
+        return Err(Cause::BadValue);
+    }
+    let mut number: u128 = 0;
+    for digit in word {
+        if !digit.is_ascii_digit() {
+            return Err(Cause::BadValue);
+        }
+        let Some(shifted) = number.checked_mul(10) else {
+            return Err(Cause::BadValue);
+        };
+        let Some(sum) = shifted.checked_add(u128::from(*digit - b'0')) else {
+            return Err(Cause::BadValue);
+        };
+        if sum > greatest {
+            return Err(Cause::BadValue);
+        }
+        number = sum;
+    }
+    Ok(number)
+}
