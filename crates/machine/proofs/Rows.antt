@@ -9,6 +9,7 @@ use Rattle.machine.specs.declared.turn.Refusal.{Refusal}
 use Rattle.machine.specs.declared.turn.Refusal.TheVariants.{AtEnd, NoParty, Idle, Undecided, WrongCall}
 use Rattle.machine.specs.World.{World, flight_in, flight_of, doing_of}
 use Rattle.machine.specs.Calls.{first_of}
+use Rattle.machine.specs.Turns.{turn_of}
 use Rattle.machine.specs.Refusals.{refusal_of, is_at_end, lacks_role, is_due}
 
 -- a row that did not apply
@@ -78,6 +79,10 @@ module _ {T : Type 0} where
       let in_range : nat_le w.parties p ≡ false = b.0 in
       let f = not_none _ c.0 in
       record { turns = grind (arith, nat_tests); party = grind (arith, nat_tests); flight = f.0; is = f.1 }
+
+  pub may_resume : (w : World T) (p : ℕ) (said : Option Bool) → refusal_of w (turn_of p said) ≡ None → MayGoOn w p
+  may_resume w p None e = may_next w p e
+  may_resume w p (Some said) e = may_decide w p said e
 
   pub must_be_due : (w : World T) (p : ℕ) (said : Bool) → refusal_of w (Decide p said) ≡ None → not (is_due (flight_in w p)) ≡ false
   must_be_due w p said e =

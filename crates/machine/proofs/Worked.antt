@@ -1,16 +1,16 @@
 -- The definitions at a worked run, and at histories that they refuse.
-use Rattle.std.proofs.Common.{◌≡◌, ℕ, true, false, Some, None, List, [], ◌∷◌, refl}
+use Rattle.std.proofs.Common.{◌≡◌, ℕ, true, false, Some, None, List, [], ◌∷◌, ◌++◌, refl}
 use Rattle.machine.specs.declared.event.Item.TheVariants.{Index}
 use Rattle.machine.specs.declared.event.Start.TheVariants.{AcquireProducer, AcquireConsumer, Push, Pop}
 use Rattle.machine.specs.declared.event.Answer.TheVariants.{Truth, Popped}
 use Rattle.machine.specs.declared.event.Event.{Event}
-use Rattle.machine.specs.declared.event.Event.TheVariants.{Begun, Published, HandedOut, Acted, Finished}
+use Rattle.machine.specs.declared.event.Event.TheVariants.{Begun, Published, Acted, Finished}
 use Rattle.machine.specs.declared.turn.Kind.TheVariants.{IndexQueue}
 use Rattle.machine.specs.declared.turn.Turn.{Turn}
 use Rattle.machine.specs.declared.turn.Turn.TheVariants.{Begin, Next}
 use Rattle.machine.specs.World.{opening}
 use Rattle.machine.specs.Turns.{run}
-use Rattle.machine.specs.Reading.{published, handed_out, waiting, moments, Open, span_of}
+use Rattle.machine.specs.Reading.{acts, waiting, moments, Open}
 use Rattle.machine.specs.Objects.{IsLegal, bounded_list}
 use Rattle.machine.specs.Promises.Spans.{Stands, Wrote}
 use Rattle.machine.specs.Promises.Book.{AnswersRight}
@@ -72,7 +72,7 @@ no_excuse legal = cc
 
 -- a call that acts a second time
 pub no_second_act : Stands {T = ℕ} (Acted 0 Pop (Popped None)) (Open Pop (Acted 0 Pop (Popped None) ∷ [])) → ⊥
-no_second_act stands = let h : (Pop, Popped None) ∷ [] ≡ [] = stands.1 in cc
+no_second_act stands = let h : (acts {T = ℕ} (Acted 0 Pop (Popped None))) ++ [] ≡ [] = stands.1 in cc
 
 -- a call that ends without having acted
 pub no_silent_end : Stands {T = ℕ} (Finished 0 Pop (Popped None)) (Open Pop []) → ⊥

@@ -118,6 +118,11 @@ module _ {T : Type 0} where
         turns = w.turns + 1;
       }
 
+  -- the turn in which a call goes on, with a decision or without
+  abbrev pub turn_of : ℕ → Option Bool → Turn T
+  turn_of p None = Next p
+  turn_of p (Some said) = Decide p said
+
   -- the call goes on from this answer; one that is done stays
   abbrev pub resumed : World T → Party T → Option Ask → ℕ → Doing → World T
   resumed w x ask answer (Over others) = w

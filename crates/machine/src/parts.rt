@@ -4,7 +4,7 @@ ghost use Rattle.machine.specs.World.{opening, opening_words, capacity_error, tr
 ghost use Rattle.machine.specs.declared.party.Party.{Party};
 ghost use Rattle.machine.specs.Refusals.{refusal_of, IsRefusal, lacks_role, holds, is_due};
 ghost use Rattle.machine.specs.Small.{IsSmall};
-ghost use Rattle.machine.specs.Turns.{number_of, ask_in, producer_after, consumer_after, doing_after, turned, resumed_trace};
+ghost use Rattle.machine.specs.Turns.{turn_of, number_of, ask_in, producer_after, consumer_after, doing_after, turned, resumed_trace};
 
 use crate::call::{Flight, first};
 use crate::effects::{MOST_EVENTS, effect_of, tell};
@@ -331,11 +331,11 @@ impl<T: Copy> Parts<T> {
         }
     }
 
-    /// The party's call takes its step. The turn is not refused.
-    fn next(&mut self, number: u32) -> Result<(), Refusal>
-        requires allowed { refusal_of (trace_of self.old).world (Turn.Next number) ≡ None }
+    /// The party's call takes its step, or is handed a decision. The turn is not refused.
+    fn resume(&mut self, number: u32, said: Option<bool>) -> Result<(), Refusal>
+        requires allowed { refusal_of (trace_of self.old).world (turn_of number said) ≡ None }
         requires small { IsSmall (trace_of self.old).world }
-        ensures ok { OnOk result (trace_of self.new ≡ turned (trace_of self.old) (Turn.Next number)) }
+        ensures ok { OnOk result (trace_of self.new ≡ turned (trace_of self.old) (turn_of number said)) }
         ensures err { IfErr result (λ r. (r ≡ Refusal.NoMemory) × (trace_of self.new ≡ trace_of self.old)) }
     {
         let at = place_of(&self.latest, number);
@@ -345,28 +345,18 @@ impl<T: Copy> Parts<T> {
         let Ok(()) = self.events.reserve(MOST_EVENTS) else {
             return Err(Refusal::NoMemory);
         };
-        let ask = ask_in(&self.latest[at].doing);
-        let answer = words::old(&self.words, ask);
-        self.go_on(number, at, ask, answer);
-        Ok(())
-    }
-
-    /// The party's question is answered. The turn is not refused.
-    fn decide(&mut self, number: u32, said: bool) -> Result<(), Refusal>
-        requires allowed { refusal_of (trace_of self.old).world (Turn.Decide number said) ≡ None }
-        requires small { IsSmall (trace_of self.old).world }
-        ensures ok { OnOk result (trace_of self.new ≡ turned (trace_of self.old) (Turn.Decide number said)) }
-        ensures err { IfErr result (λ r. (r ≡ Refusal.NoMemory) × (trace_of self.new ≡ trace_of self.old)) }
-    {
-        let at = place_of(&self.latest, number);
-        if at >= self.latest.len() {
-            unreachable!()
+        match said {
+            Some(said) => {
+                self.go_on(number, at, None, number_of(said));
+                Ok(())
+            }
+            None => {
+                let ask = ask_in(&self.latest[at].doing);
+                let answer = words::old(&self.words, ask);
+                self.go_on(number, at, ask, answer);
+                Ok(())
+            }
         }
-        let Ok(()) = self.events.reserve(MOST_EVENTS) else {
-            return Err(Refusal::NoMemory);
-        };
-        self.go_on(number, at, None, number_of(said));
-        Ok(())
     }
 
     /// One turn.
@@ -382,8 +372,8 @@ impl<T: Copy> Parts<T> {
         }
         match turn {
             Turn::Begin(number, start) => self.begin(number, start),
-            Turn::Next(number) => self.next(number),
-            Turn::Decide(number, said) => self.decide(number, said),
+            Turn::Next(number) => self.resume(number, None),
+            Turn::Decide(number, said) => self.resume(number, Some(said)),
             Turn::Die(_) => unreachable!(),
         }
     }

@@ -1,4 +1,5 @@
 pub mod Digits
+pub mod Examples
 pub mod Lines
 pub mod Numbers
 pub mod Texts

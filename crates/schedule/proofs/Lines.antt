@@ -1,20 +1,19 @@
 -- Lines, and the text that they print.
-use Rattle.std.proofs.Common.{◌≡◌, ℕ, ◌+◌, ◌<◌, ◌==◌, Bool, true, false, Option, Some, None, Result, Ok, Err, List, [], ◌∷◌, ◌++◌, refl, sym, ap, ◌∙◌, subst, append_assoc, append-nil, length, arith}
+use Rattle.std.proofs.Common.{◌≡◌, ℕ, ◌+◌, ◌<◌, ◌==◌, Bool, true, false, Option, Result, Ok, Err, List, [], ◌∷◌, ◌++◌, refl, sym, ap, ◌∙◌, subst, append_assoc, append-nil, length, arith}
 use Rattle.std.proofs.lemmas.Bool.Decides.{nat_tests}
-use Rattle.std.specs.Io.KnownBytes.{Appends, Keeps}
-use Rattle.std.proofs.KnownBytes.{Appends-trans, Appends-nil, Appends-kept, Keeps-refl, Keeps-trans}
+use Rattle.std.specs.Io.KnownBytes.{Appends}
+use Rattle.std.proofs.KnownBytes.{Appends-trans}
 use Rattle.machine.specs.declared.turn.Kind.{Kind}
 use Rattle.machine.specs.World.{World}
 use Rattle.schedule.specs.declared.error.Cause.{Cause}
 use Rattle.schedule.specs.declared.error.ScheduleError.{ScheduleError}
-use Rattle.schedule.specs.declared.error.ScheduleError.TheVariants.{Malformed, ReadFailed, WriteFailed, NoMemory}
+use Rattle.schedule.specs.declared.error.ScheduleError.TheVariants.{Malformed}
 use Rattle.schedule.specs.declared.grammar.Command.{Command}
 use Rattle.schedule.specs.Text.{words}
 use Rattle.schedule.specs.Grammar.{command_of}
-use Rattle.schedule.specs.Written.{AppendsPart}
-use Rattle.schedule.specs.Output.{State, Printed, Output, commanded, lines_from, before, stopped}
-use Rattle.schedule.specs.Run.{Leads, Prints, IsOutput}
-use Rattle.schedule.proofs.Turns.{at, as_printed}
+use Rattle.schedule.specs.Output.{State, Output, commanded, lines_from, before, stopped}
+use Rattle.schedule.specs.Run.{Prints, IsOutput}
+use Rattle.schedule.proofs.Turns.{at}
 use Rattle.schedule.proofs.Writing.{part_within}
 
 -- ---- one line

@@ -1,13 +1,11 @@
 -- What a writer holds after one text, and then another.
-use Rattle.std.proofs.Common.{◌≡◌, ℕ, List, [], ◌++◌, Option, Ok, Err, refl, sym, ap, ◌∙◌, append_assoc, Result, take, drop, take-append-drop, subst, length, get_or, ◌+◌, ◌<◌}
+use Rattle.std.proofs.Common.{◌≡◌, ℕ, List, [], ◌++◌, Option, refl, sym, ap, ◌∙◌, append_assoc, take, drop, take-append-drop, subst, length, get_or, ◌+◌, ◌<◌}
 use Rattle.std.specs.Io.KnownBytes.{Appends, Keeps}
 use Rattle.std.proofs.KnownBytes.{Appends-trans, Appends-nil, Appends-kept}
-use Rattle.schedule.specs.declared.error.ScheduleError.{ScheduleError}
-use Rattle.schedule.specs.declared.error.ScheduleError.TheVariants as errors
 use Rattle.std.proofs.lemmas.List.{at_drop_more}
 use Rattle.machine.specs.declared.event.Event.{Event}
 use Rattle.schedule.specs.Print.{event_text, events_text}
-use Rattle.schedule.specs.Written.{AppendsPart, Writes}
+use Rattle.schedule.specs.Written.{AppendsPart}
 
 -- all of a first text was written, and a beginning of what follows it
 pub AppendsPart_then : (a b c : Option (List ℕ)) (done text : List ℕ) → Appends a b done → AppendsPart b c text → AppendsPart a c (done ++ text)

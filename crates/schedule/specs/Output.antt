@@ -1,5 +1,5 @@
 -- What a schedule prints, as a function of its bytes.
-use Rattle.std.specs.Prelude.{◌≡◌, ℕ, zero, suc, ◌+◌, Bool, true, false, ◌&&◌, Option, Some, None, Result, Ok, Err, List, [], ◌∷◌, ◌++◌, if◌then◌else◌}
+use Rattle.std.specs.Prelude.{ℕ, zero, suc, ◌+◌, Bool, true, false, ◌&&◌, Option, Some, None, Result, Ok, Err, List, [], ◌∷◌, ◌++◌, if◌then◌else◌}
 use Rattle.steps.specs.declared.enums.UniqueIndexCreationError.{UniqueIndexCreationError}
 use Rattle.steps.specs.declared.enums.UniqueIndexCreationError.TheVariants as creation
 use Rattle.machine.specs.declared.turn.Kind.{Kind}

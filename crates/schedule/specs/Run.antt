@@ -1,5 +1,5 @@
 -- What a run wrote, and how it ended.
-use Rattle.std.specs.Prelude.{◌≡◌, ℕ, Bool, true, false, Option, Result, Ok, Err, List, ◌++◌, IfSome}
+use Rattle.std.specs.Prelude.{◌≡◌, ℕ, Bool, Option, Result, Ok, Err, List, ◌++◌, IfSome}
 use Rattle.std.specs.Io.KnownBytes.{Appends, Keeps}
 use Rattle.machine.specs.World.{World}
 use Rattle.schedule.specs.declared.error.ScheduleError.{ScheduleError}

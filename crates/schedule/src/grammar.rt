@@ -71,7 +71,7 @@ fn kind_of(name: &[u8]) -> Result<Kind, Cause>
     }
 }
 
-/// Reads the first line.
+/// Reads the first line: a kind, a capacity and how many parties. The error is the first from the left.
 #[tactic(auto, unfolding(crate::specs::Grammar::setup_of))]
 pub fn setup_of(line: &[u8]) -> Result<Setup, Cause>
     ensures { Gives (λ setup. setup) result (setup_of (words line.now)) }
@@ -219,7 +219,8 @@ fn death_of(words: Parts<'_>) -> Result<Command, Cause>
     }
 }
 
-/// Reads a line after the first, which is not empty.
+/// Reads a line after the first, which is not empty: a party and its turn, or a death. The error is the first from the
+/// left.
 #[tactic(auto, unfolding(crate::specs::Grammar::command_of))]
 pub fn command_of(kind: Kind, line: &[u8]) -> Result<Command, Cause>
     ensures { Gives (λ command. command) result (command_of kind (words line.now)) }

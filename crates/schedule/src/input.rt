@@ -31,7 +31,8 @@ fn read_piece<R: Read>(reader: &mut R, input: &mut Vec<u8>) -> Result<bool, Sche
     }
 }
 
-/// All that the reader has left. A read that was interrupted is tried again.
+/// All that the reader has left. A read that was interrupted is tried again; any other failure is `ReadFailed`, and
+/// refused memory `NoMemory`.
 pub fn whole_input<R: Read>(alloc: Global, reader: &mut R) -> Result<Vec<u8>, ScheduleError>
     ensures bytes { IfOk result (λ input. IfSome (R.remaining reader.old) (λ known. known ≡ input.items)) }
     ensures failed { IfErr result IsUnread }

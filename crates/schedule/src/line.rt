@@ -7,7 +7,7 @@ use machine::event::{Answer, Event, Item, Start};
 use machine::turn::Refusal;
 use std::marker::Model;
 
-/// The most bytes of a line.
+/// The most bytes of a line. A party, the name of an event, a call and an answer take fewer than 200.
 const ROOM: usize = 256;
 
 /// The most digits of a number of 128 bits.
@@ -31,6 +31,7 @@ impl Model for Line {
 }
 
 impl Line {
+    /// An empty line.
     pub fn new() -> Line
         ensures { result ≡ [] }
     {
@@ -40,6 +41,7 @@ impl Line {
         }
     }
 
+    /// The bytes so far.
     pub fn as_bytes(&self) -> &[u8]
         ensures { result.now ≡ self.now }
     {
@@ -136,7 +138,7 @@ impl Line {
         self.push_answer(answer);
     }
 
-    /// The line of an event.
+    /// The line of an event, with its line feed.
     #[tactic(auto, unfolding(crate::specs::Print::event_text))]
     pub fn of_event(event: Event<u128>) -> Line
         ensures { result ≡ event_text event }
@@ -173,7 +175,7 @@ impl Line {
         line
     }
 
-    /// The line of a refused turn.
+    /// The line of a refused turn, with its line feed.
     #[tactic(auto, unfolding(crate::specs::Print::refusal_text))]
     pub fn of_refusal(refusal: Refusal) -> Line
         ensures { result ≡ refusal_text refusal }
@@ -225,7 +227,7 @@ impl Line {
         }
     }
 
-    /// The line of an error.
+    /// The line of an error, with its line feed.
     pub fn of_error(error: ScheduleError) -> Line
         ensures { result ≡ error_text error }
     {

@@ -10,7 +10,8 @@ use machine::event::Event;
 use machine::turn::Refusal;
 use std::io::{ErrorKind, Write};
 
-/// Writes all of the bytes. A write that was interrupted is tried again.
+/// Writes all of the bytes. A write that was interrupted is tried again; any other failure, and a write that takes
+/// nothing, is `WriteFailed`, after a beginning of the bytes.
 pub fn put<W: Write>(writer: &mut W, bytes: &[u8]) -> Result<(), ScheduleError>
     ensures { Writes (W.contents writer.old) (W.contents writer.new) result bytes.now }
 {
@@ -32,7 +33,7 @@ pub fn put<W: Write>(writer: &mut W, bytes: &[u8]) -> Result<(), ScheduleError>
     Err(ScheduleError::WriteFailed)
 }
 
-/// Writes the lines of the events.
+/// Writes the lines of the events, or a beginning of them where a write fails.
 pub fn put_events<W: Write>(writer: &mut W, events: &[Event<u128>]) -> Result<(), ScheduleError>
     ensures { Writes (W.contents writer.old) (W.contents writer.new) result (events_text events.now) }
 {
@@ -45,14 +46,14 @@ pub fn put_events<W: Write>(writer: &mut W, events: &[Event<u128>]) -> Result<()
     Ok(())
 }
 
-/// Writes the line of a refused turn.
+/// Writes the line of a refused turn, or a beginning of it where a write fails.
 pub fn put_refusal<W: Write>(writer: &mut W, refusal: Refusal) -> Result<(), ScheduleError>
     ensures { Writes (W.contents writer.old) (W.contents writer.new) result (refusal_text refusal) }
 {
     put(writer, Line::of_refusal(refusal).as_bytes())
 }
 
-/// Writes out what the writer kept back.
+/// Writes out what the writer kept back, or answers `WriteFailed`.
 pub fn flush<W: Write>(writer: &mut W) -> Result<(), ScheduleError>
     ensures kept { Keeps (W.contents writer.old) (W.contents writer.new) }
     ensures failed { IfErr result (λ e. e ≡ ScheduleError.WriteFailed) }

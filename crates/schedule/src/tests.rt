@@ -53,14 +53,10 @@ impl Read for Faulty {
         if !self.is_sound() {
             return Err(io::Error::from(self.kind));
         }
-        let mut count = 0;
-        for place in buf.iter_mut() {
-            if count < self.at_most && self.place < self.bytes.len() {
-                *place = self.bytes[self.place];
-                self.place += 1;
-                count += 1;
-            }
-        }
+        let rest = self.bytes.get(self.place..).unwrap_or(&[]);
+        let count = rest.len().min(self.at_most).min(buf.len());
+        buf[..count].copy_from_slice(&rest[..count]);
+        self.place = self.place.saturating_add(count);
         Ok(count)
     }
 }

@@ -17,7 +17,7 @@ pub struct Parts<'a> {
     separator: u8,
 }
 
-/// The lines of a text.
+/// The lines of a text. Behind its last line feed stands one more, which is empty where nothing follows.
 pub fn lines(text: &[u8]) -> Parts<'_>
     ensures { parts_left result ≡ lines text.now }
 {
@@ -27,7 +27,7 @@ pub fn lines(text: &[u8]) -> Parts<'_>
     }
 }
 
-/// The words of a line.
+/// The words of a line, which exactly one space parts: two spaces have an empty word between them. An empty line has none.
 pub fn words(line: &[u8]) -> Parts<'_>
     ensures { parts_left result ≡ words line.now }
 {
@@ -86,7 +86,8 @@ impl<'a> Parts<'a> {
     }
 }
 
-/// The number that a word writes: digits alone, and at most `greatest`.
+/// The number that a word writes: one decimal digit or more, nothing else, and a value up to `greatest`. Any other
+/// word is `BadValue`.
 pub fn number_of(greatest: u128, word: &[u8]) -> Result<u128, Cause>
     ensures value { Gives (λ n. n) result (number_of greatest word.now) }
     ensures bound { IfOk result (λ n. n ≤ greatest) }

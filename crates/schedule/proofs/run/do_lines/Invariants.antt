@@ -1,6 +1,6 @@
 use Rattle.std.proofs.Common.{◌≡◌, ℕ, ◌+◌, ◌<◌, ◌^◌, ◌++◌, List, Bool, length}
 use Rattle.std.specs.Io.KnownBytes.{Appends}
-use Rattle.schedule.specs.Output.{State, lines_from, before}
+use Rattle.schedule.specs.Output.{lines_from, before}
 use Rattle.schedule.specs.Text.{parts_left}
 use Rattle.schedule.proofs.run.do_lines.Given as goal
 

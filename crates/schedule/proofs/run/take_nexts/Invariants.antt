@@ -1,6 +1,6 @@
 use Rattle.std.proofs.Common.{◌≡◌, ℕ, ◌-◌, ◌++◌, List, Bool}
 use Rattle.std.specs.Io.KnownBytes.{Appends}
-use Rattle.schedule.specs.Output.{State, nexts, after_text}
+use Rattle.schedule.specs.Output.{nexts, after_text}
 use Rattle.schedule.proofs.run.take_nexts.Given as goal
 
 abbrev pub invariant-loop : goal.invariant-loop

@@ -1,9 +1,7 @@
-use Rattle.std.proofs.Common.{◌≡◌, ◌+◌, ◌*◌, ◌<◌, length, sym, ◌∙◌, get_or, take, refl, arith}
-use Rattle.std.specs.Char.{digit_value}
-use Rattle.std.specs.Str.Parse.{digits_value}
+use Rattle.std.proofs.Common.{◌+◌, sym, arith}
 use Rattle.std.proofs.lemmas.Str.{digit_value_digit}
 use Rattle.std.proofs.lemmas.Int.Digits.{digits_value_more}
-use Rattle.schedule.proofs.Numbers.{all_digits_more, no_digit, no_number, too_great, is_number}
+use Rattle.schedule.proofs.Numbers.{all_digits_more, no_digit, no_number, too_great}
 use Rattle.schedule.proofs.text.number_of.Goals as goal
 
 pub returns-then-not-is_ascii_digit-clause-value : goal.returns-then-not-is_ascii_digit-clause-value

@@ -1,4 +1,4 @@
-use Rattle.std.proofs.Common.{◌≡◌, ◌+◌, ◌-◌, ◌/◌, ◌%◌, ◌++◌, ap, ◌∙◌, append-nil, arith, length, decimal, drop, length-set}
+use Rattle.std.proofs.Common.{◌+◌, ◌-◌, ◌%◌, ◌++◌, ap, ◌∙◌, append-nil, arith, decimal, length-set}
 use Rattle.schedule.proofs.Digits.{digit_more, length-decimal_tenth, digit_first, length-decimal_digit, length-decimal_wide, taken_to_end}
 use Rattle.schedule.proofs.line.Line.push_number.Goals as goal
 

@@ -1,4 +1,4 @@
-use Rattle.std.proofs.Common.{◌≡◌, ◌<◌, ◌≤◌, ◌+◌, ◌^◌, ◌++◌, decimal, drop, length}
+use Rattle.std.proofs.Common.{◌≡◌, ◌<◌, ◌≤◌, ◌^◌, ◌++◌, decimal, drop, length}
 use Rattle.schedule.proofs.line.Line.push_number.Given as goal
 
 abbrev pub invariant-loop-rest : goal.invariant-loop-rest
