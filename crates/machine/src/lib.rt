@@ -6,7 +6,8 @@ ghost use Rattle.std.specs.Prelude.{◌≡◌, ◌≤◌, ◌<◌, None, Some, O
 
 use std::alloc::Global;
 use std::marker::Model;
-use steps::enums::{UniqueIndexCreationError, capacity_refusal};
+use steps::enums::UniqueIndexCreationError;
+use steps::words::Words;
 
 mod call;
 mod effects;
@@ -23,7 +24,8 @@ use parts::Parts;
 use party::{Progress, flight_of, progress_of};
 use turn::{Kind, Refusal, Turn};
 
-/// One structure and its parties, with what they have done so far.
+/// One structure and its parties, with what they have done so far. `T` is the type of the values of the structures
+/// that keep values; the queues of indices keep numbers of 64 bits, whatever `T` is.
 #[derive(Drop)]
 pub struct Machine<T> {
     parts: Parts<T>,
@@ -40,7 +42,7 @@ impl<T> Model for Machine<T> {
     ghost invariant = { λ m. IsReached (trace_of m.parts) };
 }
 
-impl<T: Copy> Machine<T> {
+impl<T: Words> Machine<T> {
     ghost use Rattle.machine.specs.World.{opening, capacity_error, progress_in, progress_after, party_of};
     ghost use Rattle.machine.specs.Refusals.{refusal_of, IsRefusal, is_going};
     ghost use Rattle.machine.specs.Turns.{turned, all_taken, AreAllowed};
@@ -49,6 +51,8 @@ impl<T: Copy> Machine<T> {
 
     /// A structure that is empty, with both roles free, and this many parties, numbered from 0. Parties cost nothing
     /// until they begin a call.
+    ///
+    /// Refused are, in this order, a capacity above the greatest of the kind, one below the least, and memory.
     pub fn new(
         alloc: Global,
         kind: Kind,
@@ -92,7 +96,8 @@ impl<T: Copy> Machine<T> {
         Ok(())
     }
 
-    /// Takes the turns up to the first that is refused, and answers how many it took.
+    /// Takes the turns up to the first that is refused, and answers how many it took. The refused turn and those behind
+    /// it change nothing.
     pub fn run(&mut self, turns: &[Turn<T>]) -> usize
         ensures count { result ≤ length turns.now }
         ensures allowed { AreAllowed self.old (take result turns.now) }
@@ -116,7 +121,8 @@ impl<T: Copy> Machine<T> {
         &self.parts.events
     }
 
-    /// The shared words.
+    /// The shared words as they are now. Of an index queue: the write position, the read position, the producer's role,
+    /// the consumer's role (1 while it is free), and the cells.
     pub fn words(&self) -> &[u64]
         ensures { result.now ≡ self.now.world.words }
     {

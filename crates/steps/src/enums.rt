@@ -5,7 +5,7 @@ ghost use Rattle.steps.specs.Enums.{capacity_refusal};
 use std::marker::Model;
 use thiserror::Error;
 
-/// Why a structure or a machine was not made, in the order of the tests.
+/// Why a structure or a machine was not made, in the order of the tests. The first two are of the Rust crate.
 #[derive(Debug, Clone, Copy, PartialEq, Eq, Error)]
 pub enum UniqueIndexCreationError {
     #[error("the capacity is greater than the greatest that is allowed")]
@@ -41,6 +41,7 @@ pub enum OwnerIdNewError {
 }
 
 /// The number of an owner of indices: any number of 64 bits but the greatest, which marks an empty cell.
+/// After the Rust crate's `OwnerId`.
 #[derive(Debug, Clone, Copy, PartialEq, Eq, PartialOrd, Ord, Hash)]
 pub struct OwnerId {
     number: u64,

@@ -32,6 +32,10 @@ fn cell_word(capacity: u32, words: u8, position: u64, at: u8) -> usize
 }
 
 /// Appends a value: true, or false where the queue is full. At most 3 + `T::WORDS` steps.
+///
+/// It loads the write position (u64::MAX: false, and nothing changes), loads the read position (`capacity` behind: false,
+/// and nothing changes), stores the value's words into its cell, and stores the next write position. One push at a time
+/// is the caller's concern. After `push` of the Rust crate's `IndexQueue` and `Queue`.
 #[derive(Drop)]
 pub struct Push<T: Words> {
     pub capacity: u32,
@@ -49,6 +53,10 @@ pub enum PushStage {
 }
 
 /// Takes the oldest value, or None where the queue is empty. At most 3 + `T::WORDS` steps.
+///
+/// It loads the read position, loads the write position (the same: None, and nothing changes), loads the cell's words,
+/// and stores the next read position. One pop at a time is the caller's concern. After `pop` of the Rust crate's
+/// `IndexQueue` and `Queue`.
 #[derive(Drop)]
 pub struct Pop<T: Words> {
     pub capacity: u32,
