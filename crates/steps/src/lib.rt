@@ -7,6 +7,7 @@
 pub mod ask;
 pub mod copied;
 pub mod enums;
+pub mod lengths;
 pub mod ring;
 pub mod roles;
 #[cfg(test)]

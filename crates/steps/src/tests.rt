@@ -1,6 +1,7 @@
 //! Calls driven alone over a list of words, at values of one word and of two.
 use crate::ask::{After, Call, Op, Want};
 use crate::enums::{OwnerId, OwnerIdNewError, UniqueIndexCreationError, capacity_refusal};
+use crate::lengths::{Len, LenStage, number_waiting};
 use crate::ring::{CONSUMER, PRODUCER, Pop, Push};
 use crate::roles::{AcquireRole, ReleaseRole};
 use crate::words::Words;
@@ -91,6 +92,27 @@ fn ends_of_the_positions(rt: HostRuntime) {
     assert_eq!(rt; whole(Push::<u64>::new(0, 7), &mut none), Some((false, 2)));
     assert_eq!(rt; whole(Pop::<u64>::new(0), &mut none), Some((None, 2)));
     assert_eq!(rt; none, [3, 1, 1, 1]);
+}
+
+#[test]
+fn a_length_is_read_twice(rt: HostRuntime) {
+    let mut words = [3, 1, 1, 1, 7, 8];
+    assert_eq!(rt; whole(Len::new(2), &mut words), Some((2, 4)));
+    assert_eq!(rt; whole(Len::new(0), &mut words), Some((0, 4)));
+    // A pop between the second load and the fourth: the call begins again.
+    let mut call = Len::new(2);
+    for moved in 0..7 {
+        words[1] = if moved < 3 { 1 } else { 2 };
+        match step(call, &mut words) {
+            After::GoOn(next) => call = next,
+            After::Done(_) => assert!(rt; false),
+        }
+    }
+    assert!(rt; matches!(call.stage, LenStage::LoadsReadAgain { write: 3, read: 2 }));
+    assert!(rt; call.turns_back(1));
+    assert!(rt; !call.turns_back(2));
+    assert_eq!(rt; whole(call, &mut words), Some((1, 1)));
+    assert_eq!(rt; number_waiting(2, 1, u64::MAX), 2);
 }
 
 #[test]
