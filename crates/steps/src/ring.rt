@@ -20,8 +20,9 @@ pub const CONSUMER: usize = 3;
 /// The first word of the first cell.
 pub const FIRST_CELL: usize = 4;
 
-/// The word that the position's cell has at this place. A queue of capacity 0 has no cell, and never asks for one.
-fn cell_word(capacity: u32, words: u8, position: u64, at: u8) -> usize
+/// The word that the position's cell has at this place, where a value has so many words. A queue of capacity 0 has no
+/// cell, and never asks for one.
+pub fn cell_word(capacity: u32, words: u8, position: u64, at: u8) -> usize
     ensures { result ≡ cell_word capacity words position at }
 {
     if capacity == 0 {
