@@ -2,11 +2,19 @@
 use Rattle.std.proofs.Common.{ℕ, ◌≤◌, ◌==◌, Bool, true, false, cond, Option, Some, None, List, get_or, arith}
 use Rattle.steps.specs.Ask.{written}
 use Rattle.steps.specs.declared.ask.Ask.{Ask}
+use Rattle.steps.specs.Lengths.{turns_back}
+use Rattle.machine.specs.declared.call.Flight.{Flight}
+use Rattle.machine.specs.declared.call.Flight.TheVariants.{Role, Indices, Length}
+use Rattle.machine.specs.Calls.{back_of}
 use Rattle.machine.specs.Turns.{change_of, steps_of}
 
 one_at_most : (b : Bool) → cond b 0 1 ≤ 1
 one_at_most true = omega arith
 one_at_most false = omega arith
+
+one_or_none : (b : Bool) → cond b 1 0 ≤ 1
+one_or_none true = omega arith
+one_or_none false = omega arith
 
 pub change_small : (words : List ℕ) (ask : Option Ask) → change_of words ask ≤ 1
 change_small words None = omega arith
@@ -15,3 +23,8 @@ change_small words (Some ask) = one_at_most (written ask.op (get_or words ask.wo
 pub steps_small : (ask : Option Ask) → steps_of ask ≤ 1
 steps_small None = omega arith
 steps_small (Some ask) = omega arith
+
+pub back_small : (flight : Flight) (answer : ℕ) → back_of flight answer ≤ 1
+back_small (Role call) answer = omega arith
+back_small (Indices call) answer = omega arith
+back_small (Length which call) answer = one_or_none (turns_back call.stage answer)

@@ -1,4 +1,5 @@
 pub mod Counts
+pub mod Moments
 pub mod Parties
 pub mod Reached
 pub mod Readings

@@ -13,7 +13,7 @@ use Rattle.machine.specs.declared.party.Party.{Party}
 use Rattle.machine.specs.declared.turn.Turn.{Turn}
 use Rattle.machine.specs.declared.turn.Turn.TheVariants.{Begin, Next, Decide, Die}
 use Rattle.machine.specs.World.{World, party_of, put, doing_of, flight_of, progress_after, progress_in}
-use Rattle.machine.specs.Calls.{first_of, want_of, ask_of, after_of}
+use Rattle.machine.specs.Calls.{first_of, want_of, ask_of, after_of, back_of}
 use Rattle.machine.specs.Small.{HasSmallCount, HasSmallCounts, IsSmall}
 use Rattle.machine.specs.Turns.{old_of, words_after, change_of, steps_of, ask_in, number_of, begun, begun_party, moved, moved_party, doing_after, resumed, next_of, decision_of, taken}
 use Rattle.machine.specs.Promises.Steps.{asked_of, WritesOneWord, StandsAt, GoesOn, after_step, is_done, CountsStep, noticed, CountsOthers}
@@ -54,11 +54,11 @@ module _ {T : Type 0} where
   -- ---- the party's own call
 
   -- the party after its call went on
-  moved_here : (w : World T) (p : ℕ) (x : Party T) (since : ℕ) (ask : Option Ask) (after : After Flight (Answer T)) → party_of p w.latest ≡ Some x
-      → party_of p (moved w x since ask after).latest ≡ Some (moved_party x since w.changes (steps_of ask) (change_of w.words ask) after)
-  moved_here w p x since ask after e =
+  moved_here : (w : World T) (p : ℕ) (x : Party T) (since : ℕ) (ask : Option Ask) (back : ℕ) (after : After Flight (Answer T)) → party_of p w.latest ≡ Some x
+      → party_of p (moved w x since ask back after).latest ≡ Some (moved_party x since w.changes (steps_of ask) (change_of w.words ask) back after)
+  moved_here w p x since ask back after e =
       let number : x.number ≡ p = party_number p w.latest x e in
-      let y = moved_party x since w.changes (steps_of ask) (change_of w.words ask) after in
+      let y = moved_party x since w.changes (steps_of ask) (change_of w.words ask) back after in
       let here : party_of x.number (put y w.latest) ≡ Some y = party_put_same y w.latest in
       subst (λ q. party_of q (put y w.latest) ≡ Some y) number here
 
@@ -72,7 +72,8 @@ module _ {T : Type 0} where
   goes w p x (Going flight since) e =
       let ask = ask_of (want_of flight) in
       let after : After Flight (Answer T) = after_of flight (old_of w.words ask) in
-      stands (w.changes + change_of w.words ask) (since + change_of w.words ask) after (moved w x since ask after) p (moved_party x since w.changes (steps_of ask) (change_of w.words ask) after) (moved_here w p x since ask after e) refl
+      let back = back_of flight (old_of w.words ask) in
+      stands (w.changes + change_of w.words ask) (since + change_of w.words ask) after (moved w x since ask back after) p (moved_party x since w.changes (steps_of ask) (change_of w.words ask) back after) (moved_here w p x since ask back after e) refl
 
   next_goes : (w : World T) (p : ℕ) (o : Option (Party T)) → party_of p w.latest ≡ o
       → IfSome (flight_of (doing_of o)) (λ flight. StandsAt (next_of w o) p (after_of flight (old_of w.words (ask_of (want_of flight)))))
@@ -87,22 +88,23 @@ module _ {T : Type 0} where
 
   -- ---- its counts
 
-  counted : (changes since steps change : ℕ) (after : After Flight (Answer T)) (flight : Flight) (x : Party T) → x.doing ≡ Going flight since
-      → progress_after (changes + change) (Some (moved_party x since changes steps change after)) ≡ option_map (after_step steps (is_done after)) (progress_after changes (Some x))
-  counted changes since steps change (GoOn next) flight x e = rw (e, later changes since change) refl
-  counted changes since steps change (Done answer) flight x e = rw (e, later changes since change) refl
+  counted : (changes since steps change back : ℕ) (after : After Flight (Answer T)) (flight : Flight) (x : Party T) → x.doing ≡ Going flight since
+      → progress_after (changes + change) (Some (moved_party x since changes steps change back after)) ≡ option_map (after_step steps back (is_done after)) (progress_after changes (Some x))
+  counted changes since steps change back (GoOn next) flight x e = rw (e, later changes since change) refl
+  counted changes since steps change back (Done answer) flight x e = rw (e, later changes since change) refl
 
   counts : (w : World T) (p : ℕ) (x : Party T) (doing : Doing) → party_of p w.latest ≡ Some x → x.doing ≡ doing
-      → IfSome (flight_of (Some doing)) (λ flight. progress_in (resumed w x (ask_in doing) (old_of w.words (ask_in doing)) doing) p ≡ option_map (after_step (steps_of (ask_of (want_of flight))) (is_done (after_of {T = T} flight (old_of w.words (ask_of (want_of flight)))))) (progress_after w.changes (Some x)))
+      → IfSome (flight_of (Some doing)) (λ flight. progress_in (resumed w x (ask_in doing) (old_of w.words (ask_in doing)) doing) p ≡ option_map (after_step (steps_of (ask_of (want_of flight))) (back_of flight (old_of w.words (ask_of (want_of flight)))) (is_done (after_of {T = T} flight (old_of w.words (ask_of (want_of flight)))))) (progress_after w.changes (Some x)))
   counts w p x (Over others) e d = tt
   counts w p x (Going flight since) e d =
       let ask = ask_of (want_of flight) in
       let after : After Flight (Answer T) = after_of flight (old_of w.words ask) in
-      ap (progress_after (w.changes + change_of w.words ask)) (moved_here w p x since ask after e)
-      ∙ counted w.changes since (steps_of ask) (change_of w.words ask) after flight x d
+      let back = back_of flight (old_of w.words ask) in
+      ap (progress_after (w.changes + change_of w.words ask)) (moved_here w p x since ask back after e)
+      ∙ counted w.changes since (steps_of ask) (change_of w.words ask) back after flight x d
 
   next_counts : (w : World T) (p : ℕ) (o : Option (Party T)) → party_of p w.latest ≡ o
-      → IfSome (flight_of (doing_of o)) (λ flight. progress_in (next_of w o) p ≡ option_map (after_step (steps_of (ask_of (want_of flight))) (is_done (after_of {T = T} flight (old_of w.words (ask_of (want_of flight)))))) (progress_after w.changes o))
+      → IfSome (flight_of (doing_of o)) (λ flight. progress_in (next_of w o) p ≡ option_map (after_step (steps_of (ask_of (want_of flight))) (back_of flight (old_of w.words (ask_of (want_of flight)))) (is_done (after_of {T = T} flight (old_of w.words (ask_of (want_of flight)))))) (progress_after w.changes o))
   next_counts w p None e = tt
   next_counts w p (Some x) e = counts w p x x.doing e refl
 
@@ -138,16 +140,16 @@ module _ {T : Type 0} where
   begun_others w p start (Some flight) q ne h =
       ap (progress_after w.changes) (party_put_other q (begun_party p start flight w.changes) w.latest ne) ∙ unchanged w q h
 
-  moved_others : (w : World T) (x : Party T) (since : ℕ) (ask : Option Ask) (after : After Flight (Answer T)) (q : ℕ) → q ≢ x.number → IsSmall w
-      → progress_in (moved w x since ask after) q ≡ option_map (noticed (change_of w.words ask)) (progress_in w q)
-  moved_others w x since ask after q ne h =
-      ap (progress_after (w.changes + change_of w.words ask)) (party_put_other q (moved_party x since w.changes (steps_of ask) (change_of w.words ask) after) w.latest ne)
+  moved_others : (w : World T) (x : Party T) (since : ℕ) (ask : Option Ask) (back : ℕ) (after : After Flight (Answer T)) (q : ℕ) → q ≢ x.number → IsSmall w
+      → progress_in (moved w x since ask back after) q ≡ option_map (noticed (change_of w.words ask)) (progress_in w q)
+  moved_others w x since ask back after q ne h =
+      ap (progress_after (w.changes + change_of w.words ask)) (party_put_other q (moved_party x since w.changes (steps_of ask) (change_of w.words ask) back after) w.latest ne)
       ∙ notice w.turns w.changes (change_of w.words ask) q w.latest (party_of q w.latest) refl h.latest
 
   resumed_others : (w : World T) (x : Party T) (answer : ℕ) (doing : Doing) (q : ℕ) → q ≢ x.number → IsSmall w
       → progress_in (resumed w x (ask_in doing) answer doing) q ≡ option_map (noticed (change_of w.words (asked_of (flight_of (Some doing))))) (progress_in w q)
   resumed_others w x answer (Over others) q ne h = unchanged w q h
-  resumed_others w x answer (Going flight since) q ne h = moved_others w x since (ask_of (want_of flight)) (after_of flight answer) q ne h
+  resumed_others w x answer (Going flight since) q ne h = moved_others w x since (ask_of (want_of flight)) (back_of flight answer) (after_of flight answer) q ne h
 
   next_others : (w : World T) (p : ℕ) (o : Option (Party T)) (q : ℕ) → party_of p w.latest ≡ o → q ≢ p → IsSmall w
       → progress_in (next_of w o) q ≡ option_map (noticed (change_of w.words (asked_of (flight_of (doing_of o))))) (progress_in w q)
@@ -157,7 +159,7 @@ module _ {T : Type 0} where
 
   decided_others : (w : World T) (x : Party T) (answer : ℕ) (doing : Doing) (q : ℕ) → q ≢ x.number → IsSmall w → progress_in (resumed w x None answer doing) q ≡ option_map (noticed 0) (progress_in w q)
   decided_others w x answer (Over others) q ne h = unchanged w q h
-  decided_others w x answer (Going flight since) q ne h = moved_others w x since None (after_of flight answer) q ne h
+  decided_others w x answer (Going flight since) q ne h = moved_others w x since None (back_of flight answer) (after_of flight answer) q ne h
 
   decision_others : (w : World T) (p : ℕ) (said : Bool) (o : Option (Party T)) (q : ℕ) → party_of p w.latest ≡ o → q ≢ p → IsSmall w → progress_in (decision_of w said o) q ≡ option_map (noticed 0) (progress_in w q)
   decision_others w p said None q e ne h = unchanged w q h

@@ -1,19 +1,22 @@
 -- The definitions at a worked run, and at histories that they refuse.
-use Rattle.std.proofs.Common.{◌≡◌, ℕ, true, false, Some, None, List, [], ◌∷◌, ◌++◌, refl}
+use Rattle.std.proofs.Common.{◌≡◌, ℕ, true, false, Some, None, List, [], ◌∷◌, ◌++◌, length, refl, sym, subst}
 use Rattle.machine.specs.declared.event.Item.TheVariants.{Index}
-use Rattle.machine.specs.declared.event.Start.TheVariants.{AcquireProducer, AcquireConsumer, Push, Pop}
-use Rattle.machine.specs.declared.event.Answer.TheVariants.{Truth, Popped}
+use Rattle.machine.specs.declared.event.Start.TheVariants.{AcquireProducer, AcquireConsumer, Push, Pop, Len}
+use Rattle.machine.specs.declared.event.Answer.{Answer}
+use Rattle.machine.specs.declared.event.Answer.TheVariants.{Truth, Popped, Number}
 use Rattle.machine.specs.declared.event.Event.{Event}
-use Rattle.machine.specs.declared.event.Event.TheVariants.{Begun, Published, Acted, Finished}
+use Rattle.machine.specs.declared.event.Event.TheVariants.{Begun, Published, HandedOut, Acted, Finished}
 use Rattle.machine.specs.declared.turn.Kind.TheVariants.{IndexQueue}
 use Rattle.machine.specs.declared.turn.Turn.{Turn}
 use Rattle.machine.specs.declared.turn.Turn.TheVariants.{Begin, Next}
-use Rattle.machine.specs.World.{opening}
+use Rattle.machine.specs.World.{opening, progress_in}
 use Rattle.machine.specs.Turns.{run}
 use Rattle.machine.specs.Reading.{acts, waiting, moments, Open}
+use Rattle.machine.specs.Moments.{BeginsNone}
 use Rattle.machine.specs.Objects.{IsLegal, bounded_list}
 use Rattle.machine.specs.Promises.Spans.{Stands, Wrote}
 use Rattle.machine.specs.Promises.Book.{AnswersRight}
+use Rattle.machine.specs.Promises.Lengths.{TellsLength}
 
 -- a push stops before it publishes, a pop answers None, and then the push goes on
 abbrev turns : List (Turn ℕ)
@@ -60,6 +63,62 @@ one_waits = refl
 pub pop_before_push : IsLegal (bounded_list 1) (moments told)
 pop_before_push = refl
 
+-- a length loads both positions, a push moves one, and the length begins again
+abbrev length_turns : List (Turn ℕ)
+length_turns =
+    Begin 0 AcquireProducer
+    ∷ Next 0
+    ∷ Begin 1 Len
+    ∷ Next 1
+    ∷ Next 1
+    ∷ Begin 0 (Push (Index 5))
+    ∷ Next 0
+    ∷ Next 0
+    ∷ Next 0
+    ∷ Next 0
+    ∷ Next 1
+    ∷ Next 1
+    ∷ Next 1
+    ∷ Next 1
+    ∷ Next 1
+    ∷ []
+
+abbrev length_told : List (Event ℕ)
+length_told =
+    Begun 0 AcquireProducer
+    ∷ Finished 0 AcquireProducer (Truth true)
+    ∷ Begun 1 Len
+    ∷ Begun 0 (Push (Index 5))
+    ∷ Published 0 (Index 5)
+    ∷ Acted 0 (Push (Index 5)) (Truth true)
+    ∷ Finished 0 (Push (Index 5)) (Truth true)
+    ∷ []
+
+pub length_again : (run length_turns (opening IndexQueue 1 2)).events ≡ length_told ++ Finished 1 Len (Number 1) ∷ []
+length_again = refl
+
+pub length_counts : progress_in (run length_turns (opening IndexQueue 1 2)).world 1 ≡ Some (record { steps = 7; backs = 1; others = 2; finished = true })
+length_counts = refl
+
+pub one_waited : TellsLength 1 length_told (Finished 1 Len (Number 1))
+one_waited = record { part = length_told; rest = []; is = refl; within = tt; held = refl }
+
+-- 0 would be right as well, since nothing waited as the call began
+pub none_waited : TellsLength 1 length_told (Finished 1 Len (Number 0))
+none_waited =
+    record {
+      part = Begun 0 AcquireProducer ∷ Finished 0 AcquireProducer (Truth true) ∷ Begun 1 Len ∷ [];
+      rest =
+          Begun 0 (Push (Index 5))
+          ∷ Published 0 (Index 5)
+          ∷ Acted 0 (Push (Index 5)) (Truth true)
+          ∷ Finished 0 (Push (Index 5)) (Truth true)
+          ∷ [];
+      is = refl;
+      within = ((λ e. cc), tt);
+      held = refl;
+    }
+
 -- ---- what is refused
 
 -- a pop of a value that nobody pushed
@@ -85,3 +144,32 @@ no_lost_push wrote = let p = wrote.published in cc
 -- a pop that answers None while a value waits
 pub no_blind_pop : AnswersRight 1 told (Acted 1 Pop (Popped None)) → ⊥
 no_blind_pop right = cc
+
+-- a length of a moment before the call began
+abbrev earlier : List (Event ℕ)
+earlier = Published 0 (Index 5) ∷ HandedOut 0 (Index 5) ∷ Begun 1 Len ∷ []
+
+abbrev one : Answer ℕ
+one = Number 1
+
+abbrev IsOne : List (Event ℕ) → Type 0
+IsOne part = one ≡ Number (length (waiting part))
+
+not_one : (part rest : List (Event ℕ)) → earlier ≡ part ++ rest → BeginsNone 1 rest → IsOne part → ⊥
+not_one [] rest is within held = cc
+not_one (a ∷ []) rest is within held =
+    let after : HandedOut 0 (Index 5) ∷ Begun 1 Len ∷ [] ≡ rest = cc in
+    let none = subst (BeginsNone 1) (sym after) within in
+    none.0 refl
+not_one (a ∷ b ∷ []) rest is within held =
+    let same : Published 0 (Index 5) ∷ HandedOut 0 (Index 5) ∷ [] ≡ a ∷ b ∷ [] = cc in
+    let zero = subst IsOne (sym same) held in
+    cc
+not_one (a ∷ b ∷ d ∷ []) rest is within held =
+    let same : earlier ≡ a ∷ b ∷ d ∷ [] = cc in
+    let zero = subst IsOne (sym same) held in
+    cc
+not_one (a ∷ b ∷ d ∷ e ∷ part) rest is within held = cc
+
+pub no_length_from_before : TellsLength 1 earlier (Finished 1 Len (Number 1)) → ⊥
+no_length_from_before told = not_one told.part told.rest told.is told.within told.held

@@ -1,5 +1,5 @@
 -- Which calls a kind has, and how a call under way goes on.
-use Rattle.std.specs.Prelude.{ℕ, Bool, true, false, Option, Some, None, List, [], ◌∷◌, slice_index}
+use Rattle.std.specs.Prelude.{ℕ, ◌==◌, Bool, true, false, Option, Some, None, List, [], ◌∷◌, if◌then◌else◌, slice_index}
 use Rattle.steps.specs.declared.ask.Ask.{Ask}
 use Rattle.steps.specs.declared.ask.Want.{Want}
 use Rattle.steps.specs.declared.ask.Want as wants
@@ -7,11 +7,14 @@ use Rattle.steps.specs.declared.ask.After.{After}
 use Rattle.steps.specs.declared.ask.After.TheVariants.{GoOn, Done}
 use Rattle.steps.specs.Roles.{acquire_want, acquire_after, release_want, release_after}
 use Rattle.steps.specs.Ring.{first_push, push_want, push_after, first_pop, pop_want, pop_after}
+use Rattle.steps.specs.Lengths.{first_len, len_want, len_after, turns_back}
 use Rattle.machine.specs.declared.call.RoleCall.TheVariants.{Acquire, Release}
 use Rattle.machine.specs.declared.call.RingCall.{RingCall}
 use Rattle.machine.specs.declared.call.RingCall as rings
+use Rattle.machine.specs.declared.call.LengthOf.{LengthOf}
+use Rattle.machine.specs.declared.call.LengthOf as measures
 use Rattle.machine.specs.declared.call.Flight.{Flight}
-use Rattle.machine.specs.declared.call.Flight.TheVariants.{Role, Indices}
+use Rattle.machine.specs.declared.call.Flight.TheVariants.{Role, Indices, Length}
 use Rattle.machine.specs.declared.event.Item.{Item}
 use Rattle.machine.specs.declared.event.Item as items
 use Rattle.machine.specs.declared.event.Start.{Start}
@@ -39,6 +42,11 @@ module _ {T : Type 0} where
       Some (Indices (rings.TheVariants.Push (first_push capacity index)))
   first_of IndexQueue capacity (starts.TheVariants.Push (items.TheVariants.Value value)) = None
   first_of IndexQueue capacity starts.TheVariants.Pop = Some (Indices (rings.TheVariants.Pop (first_pop capacity)))
+  first_of IndexQueue capacity starts.TheVariants.Len = Some (Length measures.TheVariants.Len (first_len capacity))
+  first_of IndexQueue capacity starts.TheVariants.IsEmpty =
+      Some (Length measures.TheVariants.IsEmpty (first_len capacity))
+  first_of IndexQueue capacity starts.TheVariants.IsFull =
+      Some (Length measures.TheVariants.IsFull (first_len capacity))
 
 -- what a call under way wants next
 abbrev pub want_of : Flight → Want ℕ
@@ -46,6 +54,7 @@ want_of (Role (Acquire call)) = acquire_want call
 want_of (Role (Release call)) = release_want call
 want_of (Indices (rings.TheVariants.Push call)) = push_want 1 words_of_index call
 want_of (Indices (rings.TheVariants.Pop call)) = pop_want 1 call
+want_of (Length which call) = len_want call
 
 -- the operation that it asks for, if any
 abbrev pub ask_of : Want ℕ → Option Ask
@@ -61,6 +70,18 @@ is_question wants.TheVariants.Nothing = false
 abbrev pub popped : {T : Type 0} → Option ℕ → Answer T
 popped None = answers.TheVariants.Popped None
 popped (Some index) = answers.TheVariants.Popped (Some (items.TheVariants.Index index))
+
+-- the answer where this number of values wait
+abbrev pub length_answer : {T : Type 0} → LengthOf → ℕ → ℕ → Answer T
+length_answer measures.TheVariants.Len capacity number = answers.TheVariants.Number number
+length_answer measures.TheVariants.IsEmpty capacity number = answers.TheVariants.Truth (number == 0)
+length_answer measures.TheVariants.IsFull capacity number = answers.TheVariants.Truth (number == capacity)
+
+-- 1 where the call begins a turn of its loop again once it is handed this old value
+abbrev pub back_of : Flight → ℕ → ℕ
+back_of (Role call) old = 0
+back_of (Indices call) old = 0
+back_of (Length which call) old = if turns_back call.stage old then 1 else 0
 
 module _ {T C A : Type 0} where
   -- a call of one family as a call of the machine
@@ -79,3 +100,5 @@ module _ {T : Type 0} where
       carried (λ c. Indices (rings.TheVariants.Push c)) answers.TheVariants.Truth (push_after 1 call old)
   after_of (Indices (rings.TheVariants.Pop call)) old =
       carried (λ c. Indices (rings.TheVariants.Pop c)) popped (pop_after 1 index_of_words call old)
+  after_of (Length which call) old =
+      carried (λ c. Length which c) (length_answer which call.capacity) (len_after call old)

@@ -6,7 +6,7 @@ use Rattle.steps.specs.declared.ring.PushStage as pushes
 use Rattle.steps.specs.declared.ring.PopStage as pops
 use Rattle.machine.specs.declared.call.RingCall as rings
 use Rattle.machine.specs.declared.call.Flight.{Flight}
-use Rattle.machine.specs.declared.call.Flight.TheVariants.{Role, Indices}
+use Rattle.machine.specs.declared.call.Flight.TheVariants.{Role, Indices, Length}
 use Rattle.machine.specs.declared.effects.Effect.{Effect}
 use Rattle.machine.specs.declared.effects.Effect.TheVariants.{Quiet, Acts, Publishes, HandsOut}
 use Rattle.machine.specs.declared.event.Item.{Item}
@@ -37,6 +37,7 @@ module _ {T : Type 0} where
   effect_of (Role call) = Quiet
   effect_of (Indices (rings.TheVariants.Push call)) = push_effect (Index call.value) call.stage
   effect_of (Indices (rings.TheVariants.Pop call)) = pop_effect Index call.stage
+  effect_of (Length which call) = Quiet
 
   abbrev pub acts_if_done : ℕ → Start T → After Flight (Answer T) → List (Event T)
   acts_if_done p start (GoOn flight) = []

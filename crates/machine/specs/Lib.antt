@@ -1,5 +1,6 @@
 pub mod Calls
 pub mod Effects
+pub mod Moments
 pub mod Objects
 pub mod Promises
 pub mod Reading

@@ -7,10 +7,12 @@ use Rattle.machine.specs.Reading.{Each, moments, span_of}
 use Rattle.machine.specs.Objects.{IsLegal, bounded_list}
 pub mod Book
 pub mod Bounds
+pub mod Lengths
 pub mod Spans
 pub mod Steps
 use Book.{IsBook, AnswersRight}
 use Bounds.{Progresses}
+use Lengths.{TellsLength}
 use Spans.{StandsRight}
 use Steps.{WritesOneWord, GoesOn, CountsStep, CountsOthers, IsJustified}
 
@@ -34,4 +36,5 @@ module _ {T : Type 0} where
     pub moments : IsLegal (bounded_list t.world.capacity) (moments t.events)
     pub book : IsBook t
     pub answers : Each (AnswersRight t.world.capacity) t.events
+    pub lengths : Each (TellsLength t.world.capacity) t.events
     pub progress : (p : ℕ) → Progresses (span_of p t.events) (progress_in t.world p)

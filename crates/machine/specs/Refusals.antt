@@ -2,7 +2,7 @@
 use Rattle.std.specs.Prelude.{◌≡◌, ◌⊎◌, ℕ, ◌-◌, ◌^◌, ◌==◌, Bool, true, false, not, Option, Some, None, is_some, is_none, List, [], ◌∷◌, if◌then◌else◌, nat_le}
 use Rattle.machine.specs.declared.call.Flight.{Flight}
 use Rattle.machine.specs.declared.event.Start.{Start}
-use Rattle.machine.specs.declared.event.Start.TheVariants.{AcquireProducer, ReleaseProducer, AcquireConsumer, ReleaseConsumer, Push, Pop}
+use Rattle.machine.specs.declared.event.Start.TheVariants.{AcquireProducer, ReleaseProducer, AcquireConsumer, ReleaseConsumer, Push, Pop, Len, IsEmpty, IsFull}
 use Rattle.machine.specs.declared.turn.Turn.{Turn}
 use Rattle.machine.specs.declared.turn.Turn.TheVariants.{Begin, Next, Decide, Die}
 use Rattle.machine.specs.declared.turn.Refusal.{Refusal}
@@ -41,6 +41,9 @@ module _ {T : Type 0} where
   lacks_role w p ReleaseConsumer = not (holds w.consumer p)
   lacks_role w p (Push item) = not (holds w.producer p)
   lacks_role w p Pop = not (holds w.consumer p)
+  lacks_role w p Len = false
+  lacks_role w p IsEmpty = false
+  lacks_role w p IsFull = false
 
   abbrev pub is_at_end : World T → Bool
   is_at_end w = nat_le (2 ^ 64 - 2) w.turns

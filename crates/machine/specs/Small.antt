@@ -13,6 +13,7 @@ HasSmallCount changes (Over others) = others ≤ changes
 module _ {T : Type 0} where
   pub record HasSmallCounts (turns changes : ℕ) (x : Party T) : Type 0 where
     pub steps : x.steps ≤ turns
+    pub backs : x.backs ≤ turns
     pub doing : HasSmallCount changes x.doing
 
   pub record IsSmall (w : World T) : Type 0 where

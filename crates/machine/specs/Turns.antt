@@ -18,7 +18,7 @@ use Rattle.machine.specs.declared.turn.Refusal.{Refusal}
 use Rattle.machine.specs.declared.turn.Turn.{Turn}
 use Rattle.machine.specs.declared.turn.Turn.TheVariants.{Begin, Next, Decide, Die}
 use Rattle.machine.specs.World.{World, Trace, opening, party_of, put}
-use Rattle.machine.specs.Calls.{first_of, want_of, ask_of, after_of}
+use Rattle.machine.specs.Calls.{first_of, want_of, ask_of, after_of, back_of}
 use Rattle.machine.specs.Effects.{effect_of, told_after}
 use Rattle.machine.specs.Refusals.{refusal_of}
 
@@ -92,20 +92,20 @@ module _ {T : Type 0} where
         turns = w.turns + 1;
       }
 
-  -- its call has gone on, after `steps` more steps and `change` changes of a word
-  abbrev pub moved_party : Party T → ℕ → ℕ → ℕ → ℕ → After Flight (Answer T) → Party T
-  moved_party x since changes steps change after =
+  -- its call has gone on, after `steps` more steps, `change` changes of a word and `back` turns back
+  abbrev pub moved_party : Party T → ℕ → ℕ → ℕ → ℕ → ℕ → After Flight (Answer T) → Party T
+  moved_party x since changes steps change back after =
       record {
         number = x.number;
         start = x.start;
         steps = x.steps + steps;
-        backs = x.backs;
+        backs = x.backs + back;
         doing = doing_after (changes + change) (since + change) after;
       }
 
   -- a party's call goes on from an answer, and does this operation, if any
-  abbrev pub moved : World T → Party T → ℕ → Option Ask → After Flight (Answer T) → World T
-  moved w x since ask after =
+  abbrev pub moved : World T → Party T → ℕ → Option Ask → ℕ → After Flight (Answer T) → World T
+  moved w x since ask back after =
       record {
         kind = w.kind;
         capacity = w.capacity;
@@ -113,7 +113,7 @@ module _ {T : Type 0} where
         words = words_after w.words ask;
         producer = producer_after x.number x.start after w.producer;
         consumer = consumer_after x.number x.start after w.consumer;
-        latest = put (moved_party x since w.changes (steps_of ask) (change_of w.words ask) after) w.latest;
+        latest = put (moved_party x since w.changes (steps_of ask) (change_of w.words ask) back after) w.latest;
         changes = w.changes + change_of w.words ask;
         turns = w.turns + 1;
       }
@@ -126,7 +126,7 @@ module _ {T : Type 0} where
   -- the call goes on from this answer; one that is done stays
   abbrev pub resumed : World T → Party T → Option Ask → ℕ → Doing → World T
   resumed w x ask answer (Over others) = w
-  resumed w x ask answer (Going flight since) = moved w x since ask (after_of flight answer)
+  resumed w x ask answer (Going flight since) = moved w x since ask (back_of flight answer) (after_of flight answer)
 
   -- what the call asks for is done, and it is handed the old value of the word
   abbrev pub next_of : World T → Option (Party T) → World T

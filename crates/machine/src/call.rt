@@ -1,11 +1,12 @@
 //! The calls under way, by families: what each wants, and how it goes on.
 ghost use Rattle.std.specs.Prelude.{◌≡◌, true, false};
 ghost use Rattle.steps.specs.declared.ask.After.{After};
-ghost use Rattle.machine.specs.Calls.{first_of, want_of, after_of, is_question, popped};
+ghost use Rattle.machine.specs.Calls.{first_of, want_of, after_of, back_of, is_question, popped, length_answer};
 
 use crate::event::{Answer, Item, Start};
 use crate::turn::Kind;
 use steps::ask::{After, Call, Want};
+use steps::lengths::Len;
 use steps::ring::{CONSUMER, PRODUCER, Pop, Push};
 use steps::roles::{AcquireRole, ReleaseRole};
 use steps::words::Words;
@@ -24,11 +25,20 @@ pub enum RingCall<V: Words> {
     Pop(Pop<V>),
 }
 
+/// What a call asks of the number of values that wait.
+#[derive(Clone, Copy)]
+pub enum LengthOf {
+    Len,
+    IsEmpty,
+    IsFull,
+}
+
 /// A call under way in a machine.
 #[derive(Drop)]
 pub enum Flight {
     Role(RoleCall),
     Indices(RingCall<u64>),
+    Length(LengthOf, Len),
 }
 
 /// The call that begins, or None where the kind has no such call.
@@ -54,6 +64,9 @@ pub fn first<T: Copy>(kind: Kind, capacity: u32, start: Start<T>) -> Option<Flig
             )))),
             Start::Push(Item::Value(_)) => None,
             Start::Pop => Some(Flight::Indices(RingCall::Pop(Pop::new(capacity)))),
+            Start::Len => Some(Flight::Length(LengthOf::Len, Len::new(capacity))),
+            Start::IsEmpty => Some(Flight::Length(LengthOf::IsEmpty, Len::new(capacity))),
+            Start::IsFull => Some(Flight::Length(LengthOf::IsFull, Len::new(capacity))),
         },
     }
 }
@@ -67,6 +80,17 @@ fn popped<T: Copy>(answer: Option<u64>) -> Answer<T>
     }
 }
 
+/// The answer where this number of values wait in a queue of this capacity.
+fn length_answer<T: Copy>(which: LengthOf, capacity: u32, number: u64) -> Answer<T>
+    ensures { result ≡ length_answer which capacity number }
+{
+    match which {
+        LengthOf::Len => Answer::Number(number),
+        LengthOf::IsEmpty => Answer::Truth(number == 0),
+        LengthOf::IsFull => Answer::Truth(number == u64::from(capacity)),
+    }
+}
+
 impl Flight {
     /// What the call wants next.
     pub fn want(&self) -> Want<u64>
@@ -77,6 +101,7 @@ impl Flight {
             Flight::Role(RoleCall::Release(call)) => call.ask(),
             Flight::Indices(RingCall::Push(call)) => call.ask(),
             Flight::Indices(RingCall::Pop(call)) => call.ask(),
+            Flight::Length(_, call) => call.ask(),
         }
     }
 
@@ -87,6 +112,17 @@ impl Flight {
         match self.want() {
             Want::Question(_) => true,
             _ => false,
+        }
+    }
+
+    /// 1 where the call begins a turn of its loop again once it is handed this answer, else 0.
+    pub fn back(&self, answer: u64) -> u64
+        ensures { result ≡ back_of self.now answer }
+    {
+        match self {
+            Flight::Role(_) => 0,
+            Flight::Indices(_) => 0,
+            Flight::Length(_, call) => { if call.turns_back(answer) { 1 } else { 0 } }
         }
     }
 
@@ -111,6 +147,13 @@ impl Flight {
                 After::GoOn(call) => After::GoOn(Flight::Indices(RingCall::Pop(call))),
                 After::Done(answer) => After::Done(popped(answer)),
             },
+            Flight::Length(which, call) => {
+                let capacity = call.capacity;
+                match call.take(answer) {
+                    After::GoOn(call) => After::GoOn(Flight::Length(which, call)),
+                    After::Done(number) => After::Done(length_answer(which, capacity, number)),
+                }
+            }
         }
     }
 }

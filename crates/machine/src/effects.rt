@@ -29,6 +29,7 @@ pub fn effect_of<T: Copy>(flight: &Flight) -> Effect<T>
 {
     match flight {
         Flight::Role(_) => Effect::Quiet,
+        Flight::Length(_, _) => Effect::Quiet,
         Flight::Indices(RingCall::Push(call)) => match call.stage {
             PushStage::LoadsWrite => Effect::Quiet,
             PushStage::LoadsRead { .. } => Effect::Acts,

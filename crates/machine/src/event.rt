@@ -18,6 +18,9 @@ pub enum Start<T> {
     ReleaseConsumer,
     Push(Item<T>),
     Pop,
+    Len,
+    IsEmpty,
+    IsFull,
 }
 
 /// What a call answers.
@@ -25,10 +28,12 @@ pub enum Start<T> {
 pub enum Answer<T> {
     /// Of giving a role back.
     Done,
-    /// Of a push, and of acquiring a role.
+    /// Of a push, of acquiring a role, and of asking whether a queue is empty or full.
     Truth(bool),
     /// Of a pop.
     Popped(Option<Item<T>>),
+    /// Of asking how many values wait.
+    Number(u64),
 }
 
 /// What a run writes down. The number is the party's.

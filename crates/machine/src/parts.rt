@@ -190,6 +190,9 @@ impl<T: Copy> Parts<T> {
             Start::ReleaseConsumer => !holds(self.consumer, number),
             Start::Push(_) => !holds(self.producer, number),
             Start::Pop => !holds(self.consumer, number),
+            Start::Len => false,
+            Start::IsEmpty => false,
+            Start::IsFull => false,
         }
     }
 
@@ -312,6 +315,7 @@ impl<T: Copy> Parts<T> {
             }
             Doing::Going(flight, since) => {
                 let effect = effect_of(&flight);
+                let back = flight.back(answer);
                 let after = flight.after(answer);
                 tell(&mut self.events, number, start, effect, &after);
                 self.producer = producer_after(number, start, &after, self.producer);
@@ -323,7 +327,7 @@ impl<T: Copy> Parts<T> {
                     number,
                     start,
                     steps: steps + words::count(ask),
-                    backs,
+                    backs: backs + back,
                     doing: doing_after(self.changes, since + change, after),
                 };
                 self.turns += 1;

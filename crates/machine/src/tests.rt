@@ -39,6 +39,12 @@ fn last_answer(machine: &Machine<u128>) -> Option<Answer<u128>> {
     }
 }
 
+/// The steps, the turns back, the changes by others and whether the party's latest call is done.
+fn counts(machine: &Machine<u128>, party: u32) -> Result<(u64, u64, u64, bool), Fail> {
+    let call = machine.under_way(party).ok_or("no call")?;
+    Ok((call.steps, call.backs, call.others, call.finished))
+}
+
 #[test]
 fn push_and_pop_at_capacity_128(rt: HostRuntime) -> Result<(), Fail> {
     let mut machine = with_roles(&rt, 128)?;
@@ -62,6 +68,60 @@ fn a_queue_of_capacity_0_is_full_and_empty(rt: HostRuntime) -> Result<(), Fail> 
     calls(&mut machine, 1, Start::Pop, 2)?;
     assert_eq!(rt; last_answer(&machine), Some(Answer::Popped(None)));
     assert_eq!(rt; machine.words(), [0, 0, 0, 0].as_slice());
+    calls(&mut machine, 0, Start::Len, 4)?;
+    assert_eq!(rt; last_answer(&machine), Some(Answer::Number(0)));
+    calls(&mut machine, 0, Start::IsEmpty, 4)?;
+    assert_eq!(rt; last_answer(&machine), Some(Answer::Truth(true)));
+    calls(&mut machine, 0, Start::IsFull, 4)?;
+    assert_eq!(rt; last_answer(&machine), Some(Answer::Truth(true)));
+    Ok(())
+}
+
+#[test]
+fn lengths_need_no_role(rt: HostRuntime) -> Result<(), Fail> {
+    let mut machine = with_roles(&rt, 2)?;
+    // How many values wait, whether none does, and whether no more has room.
+    let rows = [(0, true, false), (1, false, false), (2, false, true)];
+    for (number, is_empty, is_full) in rows {
+        calls(&mut machine, 1, Start::Len, 4)?;
+        assert_eq!(rt; last_answer(&machine), Some(Answer::Number(number)));
+        calls(&mut machine, 1, Start::IsEmpty, 4)?;
+        assert_eq!(rt; last_answer(&machine), Some(Answer::Truth(is_empty)));
+        calls(&mut machine, 1, Start::IsFull, 4)?;
+        assert_eq!(rt; last_answer(&machine), Some(Answer::Truth(is_full)));
+        if !is_full {
+            calls(&mut machine, 0, index(7), 4)?;
+        }
+    }
+    Ok(())
+}
+
+#[test]
+fn a_length_begins_again_where_a_position_moved(rt: HostRuntime) -> Result<(), Fail> {
+    let mut machine: Machine<u128> = Machine::new(rt.alloc(), Kind::IndexQueue, 1, 3)?;
+    calls(&mut machine, 0, Start::AcquireProducer, 1)?;
+    calls(&mut machine, 1, Start::AcquireConsumer, 1)?;
+    // The third load finds another write position.
+    calls(&mut machine, 2, Start::Len, 2)?;
+    calls(&mut machine, 0, index(5), 4)?;
+    assert_eq!(rt; counts(&machine, 2)?, (2, 0, 2, false));
+    machine.step(Turn::Next(2))?;
+    assert_eq!(rt; counts(&machine, 2)?, (3, 1, 2, false));
+    for _ in 0..4 {
+        machine.step(Turn::Next(2))?;
+    }
+    assert_eq!(rt; counts(&machine, 2)?, (7, 1, 2, true));
+    assert_eq!(rt; last_answer(&machine), Some(Answer::Number(1)));
+    // The fourth load finds another read position.
+    calls(&mut machine, 2, Start::IsFull, 3)?;
+    calls(&mut machine, 1, Start::Pop, 4)?;
+    machine.step(Turn::Next(2))?;
+    assert_eq!(rt; counts(&machine, 2)?, (4, 1, 1, false));
+    for _ in 0..4 {
+        machine.step(Turn::Next(2))?;
+    }
+    assert_eq!(rt; counts(&machine, 2)?, (8, 1, 1, true));
+    assert_eq!(rt; last_answer(&machine), Some(Answer::Truth(false)));
     Ok(())
 }
 
@@ -114,19 +174,11 @@ fn progress_counts_steps_and_the_changes_of_others(rt: HostRuntime) -> Result<()
     calls(&mut machine, 0, index(0), 4)?;
     assert!(rt; !machine.is_going(0));
     // Storing 0 over 0 in the cell is no change; the write position is the one.
-    let pop = machine.under_way(1).ok_or("no call")?;
-    assert_eq!(rt;
-        (pop.steps, pop.backs, pop.others, pop.finished),
-        (1, 0, 1, false)
-    );
+    assert_eq!(rt; counts(&machine, 1)?, (1, 0, 1, false));
     for _ in 0..3 {
         machine.step(Turn::Next(1))?;
     }
-    let push = machine.under_way(0).ok_or("no call")?;
-    assert_eq!(rt;
-        (push.steps, push.backs, push.others, push.finished),
-        (4, 0, 0, true)
-    );
+    assert_eq!(rt; counts(&machine, 0)?, (4, 0, 0, true));
     Ok(())
 }
 

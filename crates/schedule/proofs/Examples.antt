@@ -15,6 +15,12 @@ stopped_push : output [] (codes "index_queue 1 2\n0 begin acquire_producer\n0 ne
 unfolding output_of_lines machine_of setup_of number_at lines_from command_of turn_of begin_of index_queue_call index_call push_index next_of nexts outcome event_text digits
 stopped_push = refl
 
+-- a length between the cell and the publication of a push, and one after it
+lengths : output [] (codes "index_queue 1 2\n0 begin acquire_producer\n0 next\n0 begin push 5\n0 next 3\n1 begin len\n1 next 9\n0 next\n1 begin is_full\n1 next 9\n")
+    ≡ printed_whole (codes "0 begun acquire_producer\n0 finished acquire_producer -> true\n0 begun push 5\n1 begun len\n1 finished len -> 0\n0 published 5\n0 acted push 5 -> true\n0 finished push 5 -> true\n1 begun is_full\n1 finished is_full -> true\n")
+unfolding output_of_lines machine_of setup_of number_at lines_from command_of turn_of begin_of index_queue_call index_call push_index next_of nexts outcome event_text digits
+lengths = refl
+
 -- memory refused to the second turn
 short_turn : output (false ∷ true ∷ []) (codes "index_queue 1 1\n0 begin acquire_producer\n0 next\n0 next")
     ≡ printed_whole (codes "0 begun acquire_producer\nrefused NoMemory\n0 finished acquire_producer -> true\n")

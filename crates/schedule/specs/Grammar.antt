@@ -1,7 +1,7 @@
 -- What a line says, read from left to right: a value, or the first cause that is met.
 use Rattle.std.specs.Prelude.{◌≡◌, ℕ, ◌-◌, ◌^◌, ◌==◌, Bool, true, false, List, [], ◌∷◌, Option, Some, None, Result, Ok, Err, if◌then◌else◌, bytes_eq, codes}
 use Rattle.machine.specs.declared.event.Start.{Start}
-use Rattle.machine.specs.declared.event.Start.TheVariants.{AcquireProducer, ReleaseProducer, AcquireConsumer, ReleaseConsumer, Push, Pop}
+use Rattle.machine.specs.declared.event.Start.TheVariants.{AcquireProducer, ReleaseProducer, AcquireConsumer, ReleaseConsumer, Push, Pop, Len, IsEmpty, IsFull}
 use Rattle.machine.specs.declared.event.Item.TheVariants.{Index}
 use Rattle.machine.specs.declared.turn.Kind.{Kind}
 use Rattle.machine.specs.declared.turn.Kind.TheVariants.{IndexQueue}
@@ -65,6 +65,13 @@ role_call name =
     else if bytes_eq name (codes "release_consumer") then Some ReleaseConsumer
     else None
 
+abbrev pub length_call : List ℕ → Option (Start ℕ)
+length_call name =
+    if bytes_eq name (codes "len") then Some Len
+    else if bytes_eq name (codes "is_empty") then Some IsEmpty
+    else if bytes_eq name (codes "is_full") then Some IsFull
+    else None
+
 unfoldable pub push_index : List (List ℕ) → Result (Start ℕ × List (List ℕ)) Cause
 push_index ws = do
   index ← number_at (2 ^ 64 - 1) ws
@@ -75,7 +82,7 @@ unfoldable pub index_call : List ℕ → List (List ℕ) → Result (Start ℕ �
 index_call name ws =
     if bytes_eq name (codes "push") then push_index ws
     else if bytes_eq name (codes "pop") then Ok (Pop, ws)
-    else Err UnknownCall
+    else elim (length_call name) [ Some start ↦ Ok (start, ws) | None ↦ Err UnknownCall ]
 
 unfoldable pub index_queue_call : List ℕ → List (List ℕ) → Result (Start ℕ × List (List ℕ)) Cause
 index_queue_call name ws = elim (role_call name) [ Some start ↦ Ok (start, ws) | None ↦ index_call name ws ]

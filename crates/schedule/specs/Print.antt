@@ -2,13 +2,13 @@
 use Rattle.std.specs.Prelude.{ℕ, Bool, true, false, List, [], ◌++◌, Option, Some, None, Result, Ok, Err, codes, decimal}
 use Rattle.std.specs.List.{flat_map}
 use Rattle.machine.specs.declared.event.Answer.{Answer}
-use Rattle.machine.specs.declared.event.Answer.TheVariants.{Done, Truth, Popped}
+use Rattle.machine.specs.declared.event.Answer.TheVariants.{Done, Truth, Popped, Number}
 use Rattle.machine.specs.declared.event.Event.{Event}
 use Rattle.machine.specs.declared.event.Event.TheVariants.{Begun, Published, HandedOut, Acted, Finished}
 use Rattle.machine.specs.declared.event.Item.{Item}
 use Rattle.machine.specs.declared.event.Item.TheVariants.{Index, Value}
 use Rattle.machine.specs.declared.event.Start.{Start}
-use Rattle.machine.specs.declared.event.Start.TheVariants.{AcquireProducer, ReleaseProducer, AcquireConsumer, ReleaseConsumer, Push, Pop}
+use Rattle.machine.specs.declared.event.Start.TheVariants.{AcquireProducer, ReleaseProducer, AcquireConsumer, ReleaseConsumer, Push, Pop, Len, IsEmpty, IsFull}
 use Rattle.machine.specs.declared.turn.Refusal.{Refusal}
 use Rattle.machine.specs.declared.turn.Refusal.TheVariants as refusals
 use Rattle.schedule.specs.declared.error.Cause.{Cause}
@@ -30,6 +30,9 @@ call_text AcquireConsumer = codes "acquire_consumer"
 call_text ReleaseConsumer = codes "release_consumer"
 call_text (Push item) = codes "push " ++ item_text item
 call_text Pop = codes "pop"
+call_text Len = codes "len"
+call_text IsEmpty = codes "is_empty"
+call_text IsFull = codes "is_full"
 
 abbrev pub truth_text : Bool → List ℕ
 truth_text true = codes "true"
@@ -43,6 +46,7 @@ abbrev pub answer_text : Answer ℕ → List ℕ
 answer_text Done = codes "done"
 answer_text (Truth said) = truth_text said
 answer_text (Popped item) = popped_text item
+answer_text (Number n) = decimal n
 
 -- a call and its answer
 abbrev pub answered_text : Start ℕ → Answer ℕ → List ℕ

@@ -1,7 +1,7 @@
 //! What a line says, read word by word.
 ghost use Rattle.std.specs.Prelude.{◌≡◌, ◌≤◌, ◌-◌, ◌^◌, ◌==◌, IfOk};
 ghost use Rattle.schedule.specs.Text.{parts_left, words};
-ghost use Rattle.schedule.specs.Grammar.{Gives, next_word, ended, number_at, kind_of, setup_of, role_call, push_index, index_call, index_queue_call, call_of, begin_of, count_of, next_of, decision_of, turn_of, death_of, command_of};
+ghost use Rattle.schedule.specs.Grammar.{Gives, next_word, ended, number_at, kind_of, setup_of, role_call, length_call, push_index, index_call, index_queue_call, call_of, begin_of, count_of, next_of, decision_of, turn_of, death_of, command_of};
 
 use crate::error::Cause;
 use crate::text::{Parts, number_of, words};
@@ -106,6 +106,20 @@ fn role_call(name: &[u8]) -> Option<Start<u128>>
     }
 }
 
+fn length_call(name: &[u8]) -> Option<Start<u128>>
+    ensures { result ≡ length_call name.now }
+{
+    if name == b"len".as_slice() {
+        Some(Start::Len)
+    } else if name == b"is_empty".as_slice() {
+        Some(Start::IsEmpty)
+    } else if name == b"is_full".as_slice() {
+        Some(Start::IsFull)
+    } else {
+        None
+    }
+}
+
 #[tactic(auto, unfolding(crate::specs::Grammar::push_index))]
 fn push_index(words: Parts<'_>) -> Result<(Start<u128>, Parts<'_>), Cause>
     ensures { Gives (λ x. (x.0, parts_left x.1)) result (push_index (parts_left words.entry)) }
@@ -123,7 +137,10 @@ fn index_call<'a>(name: &[u8], words: Parts<'a>) -> Result<(Start<u128>, Parts<'
     } else if name == b"pop".as_slice() {
         Ok((Start::Pop, words))
     } else {
-        Err(Cause::UnknownCall)
+        match length_call(name) {
+            Some(start) => Ok((start, words)),
+            None => Err(Cause::UnknownCall),
+        }
     }
 }
 

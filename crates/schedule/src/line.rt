@@ -108,6 +108,9 @@ impl Line {
                 self.push_item(item);
             }
             Start::Pop => self.push("pop"),
+            Start::Len => self.push("len"),
+            Start::IsEmpty => self.push("is_empty"),
+            Start::IsFull => self.push("is_full"),
         }
     }
 
@@ -125,6 +128,7 @@ impl Line {
                 self.push("some ");
                 self.push_item(item);
             }
+            Answer::Number(number) => self.push_number(u128::from(number)),
         }
     }
 

@@ -167,7 +167,7 @@ fn broken_first_lines(rt: HostRuntime) -> Result<(), Fail> {
 
 #[test]
 fn broken_later_lines(rt: HostRuntime) -> Result<(), Fail> {
-    let table: [(&[u8], &[u8]); 34] = [
+    let table: [(&[u8], &[u8]); 39] = [
         (b"0", b"missing value"),
         (b"die", b"missing value"),
         (b"0 begin", b"missing value"),
@@ -195,6 +195,8 @@ fn broken_later_lines(rt: HostRuntime) -> Result<(), Fail> {
         (b"0 begin acquire", b"unknown call"),
         (b"0 begin pops", b"unknown call"),
         (b"0 begin pop\r", b"unknown call"),
+        (b"0 begin length", b"unknown call"),
+        (b"0 begin Len", b"unknown call"),
         (b"0 begin pop 3", b"extra words"),
         (b"0 begin push 3 ", b"extra words"),
         (b"0 next 1 ", b"extra words"),
@@ -202,6 +204,9 @@ fn broken_later_lines(rt: HostRuntime) -> Result<(), Fail> {
         (b"0 no x", b"extra words"),
         (b"die 1 1", b"extra words"),
         (b"0 begin release_consumer 0", b"extra words"),
+        (b"0 begin len 1", b"extra words"),
+        (b"0 begin is_empty ", b"extra words"),
+        (b"0 begin is_full 0", b"extra words"),
     ];
     for (line, cause) in table {
         let mut input = Vec::from_slice(rt.alloc(), b"index_queue 1 1\n")?;
@@ -255,6 +260,27 @@ fn several_turns(rt: HostRuntime) -> Result<(), Fail> {
         b"0 begun acquire_producer\n0 finished acquire_producer -> true\n0 begun acquire_consumer\n0 finished acquire_consumer -> true\n0 begun push 5\n0 published 5\n0 acted push 5 -> true\n0 finished push 5 -> true\n0 begun push 6\n0 acted push 6 -> false\n0 finished push 6 -> false\n0 begun pop\n0 handed_out 5\n0 acted pop -> some 5\n0 finished pop -> some 5\n",
         b"line 12: missing value\n",
         2,
+    )
+}
+
+#[test]
+fn lengths(rt: HostRuntime) -> Result<(), Fail> {
+    // A length in the middle of a push counts what was published, and begins again where a position moved.
+    expect_run(
+        &rt,
+        rt.alloc(),
+        b"index_queue 1 2\n0 begin acquire_producer\n0 next\n0 begin push 5\n0 next 3\n1 begin len\n1 next 9\n1 begin is_empty\n1 next 2\n0 next\n1 next 4\n1 next 1\n1 begin is_full\n1 next 9\n1 begin len\n1 next 4\n",
+        b"0 begun acquire_producer\n0 finished acquire_producer -> true\n0 begun push 5\n1 begun len\n1 finished len -> 0\n1 begun is_empty\n0 published 5\n0 acted push 5 -> true\n0 finished push 5 -> true\n1 finished is_empty -> false\n1 begun is_full\n1 finished is_full -> true\n1 begun len\n1 finished len -> 1\n",
+        b"",
+        0,
+    )?;
+    expect_run(
+        &rt,
+        rt.alloc(),
+        b"index_queue 0 1\n0 begin len\n0 next 4\n0 begin is_empty\n0 next 4\n0 begin is_full\n0 next 4\n",
+        b"0 begun len\n0 finished len -> 0\n0 begun is_empty\n0 finished is_empty -> true\n0 begun is_full\n0 finished is_full -> true\n",
+        b"",
+        0,
     )
 }
 

@@ -3,6 +3,7 @@ pub mod Invariant
 pub mod Justified
 pub mod Keeping
 pub mod Kept
+pub mod Lengths
 pub mod Pops
 pub mod Pushes
 pub mod Roles

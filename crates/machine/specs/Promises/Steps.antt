@@ -15,7 +15,7 @@ use Rattle.machine.specs.declared.party.Progress.{Progress}
 use Rattle.machine.specs.declared.turn.Turn.{Turn}
 use Rattle.machine.specs.declared.turn.Turn.TheVariants.{Begin, Next, Decide, Die}
 use Rattle.machine.specs.World.{World, Trace, flight_in, progress_in}
-use Rattle.machine.specs.Calls.{want_of, ask_of, after_of}
+use Rattle.machine.specs.Calls.{want_of, ask_of, after_of, back_of}
 use Rattle.machine.specs.Turns.{words_after, old_of, change_of, steps_of, told}
 use Rattle.machine.specs.Reading.{waiting}
 
@@ -23,10 +23,10 @@ abbrev pub asked_of : Option Flight → Option Ask
 asked_of None = None
 asked_of (Some flight) = ask_of (want_of flight)
 
--- one step more for an operation on a word; how often others changed words stays
-abbrev pub after_step : ℕ → Bool → Progress → Progress
-after_step steps finished g =
-    record { steps = g.steps + steps; backs = g.backs; others = g.others; finished = finished }
+-- one step more for an operation on a word, and one turn back more where a loop's turn begins again; how often others changed words stays
+abbrev pub after_step : ℕ → ℕ → Bool → Progress → Progress
+after_step steps back finished g =
+    record { steps = g.steps + steps; backs = g.backs + back; others = g.others; finished = finished }
 
 -- a call that is under way counts a change by another party
 abbrev pub noticed_by : Bool → ℕ → Progress → Progress
@@ -64,7 +64,7 @@ module _ {T : Type 0} where
 
   abbrev pub CountsStep : World T → Turn T → World T → Type 0
   CountsStep old (Next p) new =
-      IfSome (flight_in old p) (λ flight. progress_in new p ≡ option_map (after_step (steps_of (ask_of (want_of flight))) (is_done (after_of {T = T} flight (old_of old.words (ask_of (want_of flight)))))) (progress_in old p))
+      IfSome (flight_in old p) (λ flight. progress_in new p ≡ option_map (after_step (steps_of (ask_of (want_of flight))) (back_of flight (old_of old.words (ask_of (want_of flight)))) (is_done (after_of {T = T} flight (old_of old.words (ask_of (want_of flight)))))) (progress_in old p))
   CountsStep old turn new = Unit {0}
 
   abbrev pub IsParty : Turn T → ℕ → Type 0

@@ -1,18 +1,22 @@
 -- What holds of an index queue's machine between any two turns, and what a turn must show to keep it.
-use Rattle.std.proofs.Common.{◌≡◌, ◌≢◌, ℕ, ◌+◌, ◌<◌, ◌≤◌, ⊎_elim, Option, Some, None, List, [], ◌∷◌, ◌++◌, length, drop, map, fold, refl, sym, ap, subst, ◌∙◌, append_assoc}
+use Rattle.std.proofs.Common.{◌≡◌, ◌≢◌, ℕ, ◌+◌, ◌*◌, ◌<◌, ◌≤◌, ⊎_elim, Option, Some, None, List, [], ◌∷◌, ◌++◌, length, drop, map, fold, refl, sym, ap, subst, ◌∙◌, append_assoc, arith}
 use Rattle.std.proofs.lemmas.Bool.{cases_eq}
 use Rattle.std.proofs.lemmas.List.{drop_at}
 use Rattle.std.proofs.lemmas.List.Concat.{flat_map-append}
 use Rattle.steps.specs.declared.ring.PushStage as pushes
 use Rattle.steps.specs.declared.ring.PopStage as pops
+use Rattle.steps.specs.declared.lengths.LenStage.{LenStage}
+use Rattle.steps.specs.declared.lengths.LenStage as lens
+use Rattle.steps.specs.Lengths.{number_waiting}
 use Rattle.machine.specs.declared.call.RoleCall.TheVariants.{Acquire, Release}
 use Rattle.machine.specs.declared.call.RingCall as rings
+use Rattle.machine.specs.declared.call.LengthOf as measures
 use Rattle.machine.specs.declared.call.Flight.{Flight}
-use Rattle.machine.specs.declared.call.Flight.TheVariants.{Role, Indices}
+use Rattle.machine.specs.declared.call.Flight.TheVariants.{Role, Indices, Length}
 use Rattle.machine.specs.declared.event.Item.{Item}
 use Rattle.machine.specs.declared.event.Item.TheVariants.{Index}
 use Rattle.machine.specs.declared.event.Start.{Start}
-use Rattle.machine.specs.declared.event.Start.TheVariants.{AcquireProducer, ReleaseProducer, AcquireConsumer, ReleaseConsumer, Push, Pop}
+use Rattle.machine.specs.declared.event.Start.TheVariants.{AcquireProducer, ReleaseProducer, AcquireConsumer, ReleaseConsumer, Push, Pop, Len, IsEmpty, IsFull}
 use Rattle.machine.specs.declared.event.Answer.{Answer}
 use Rattle.machine.specs.declared.event.Event.{Event}
 use Rattle.machine.specs.declared.party.Doing.{Doing}
@@ -21,10 +25,13 @@ use Rattle.machine.specs.declared.party.Party.{Party}
 use Rattle.machine.specs.World.{party_of, put}
 use Rattle.machine.specs.Calls.{words_of_index}
 use Rattle.machine.specs.Reading.{Each, publishes, hands_out, published, handed_out, waiting, acts, moments, Span, Never, Open, Ended, own_after, span_of}
+use Rattle.machine.specs.Moments.{BeginsNone, HeldOnce}
 use Rattle.machine.specs.Objects.{IsLegal, list_after, answers_from, bounded_list}
 use Rattle.machine.specs.Promises.Spans.{Stands, StandsRight}
 use Rattle.machine.specs.Promises.Book.{AnswersRight}
+use Rattle.machine.specs.Promises.Lengths.{TellsLength}
 use Rattle.machine.specs.Promises.Bounds.{most_steps}
+use Rattle.machine.proofs.Moments.{others_begin_none, held_later}
 use Rattle.machine.proofs.Parties.{party_put_same, party_put_other}
 use Rattle.machine.proofs.Readings.{AreRight, Each-append, AreOwn, AllFollow, span_of-own, span_of-other, spans_right}
 use Rattle.machine.proofs.Replays.{calls_of, answers_of, standing, standing_more, legal_more}
@@ -57,7 +64,7 @@ KnowsPop c k (pops.TheVariants.LoadsCell read copied) =
 KnowsPop c k (pops.TheVariants.StoresRead read value) =
     (rest : List ℕ) × (read ≡ k.read) × (k.waiting ≡ value ∷ rest)
 
--- how many steps the call has taken
+-- How many steps the call has taken at most, having turned back so often. Which of a length call's loads turned it back is not kept.
 abbrev pub push_number : pushes.PushStage → ℕ
 push_number pushes.TheVariants.LoadsWrite = 0
 push_number (pushes.TheVariants.LoadsRead write) = 1
@@ -70,12 +77,110 @@ pop_number (pops.TheVariants.LoadsWrite read) = 1
 pop_number (pops.TheVariants.LoadsCell read copied) = 2 + length copied
 pop_number (pops.TheVariants.StoresRead read value) = 3
 
-abbrev pub number_of : Flight → ℕ
-number_of (Role call) = 0
-number_of (Indices (rings.TheVariants.Push call)) = push_number call.stage
-number_of (Indices (rings.TheVariants.Pop call)) = pop_number call.stage
+abbrev pub len_number : LenStage → ℕ
+len_number lens.TheVariants.LoadsWrite = 0
+len_number (lens.TheVariants.LoadsRead write) = 1
+len_number (lens.TheVariants.LoadsWriteAgain write read) = 2
+len_number (lens.TheVariants.LoadsReadAgain write read) = 3
+
+abbrev pub number_of : Flight → ℕ → ℕ
+number_of (Role call) backs = 0
+number_of (Indices (rings.TheVariants.Push call)) backs = push_number call.stage
+number_of (Indices (rings.TheVariants.Pop call)) backs = pop_number call.stage
+number_of (Length which call) backs = 4 * backs + len_number call.stage
+
+-- the positions do not go down, and what they go up by are changes of words
+pub record GoesUp (k k' : Core ℕ) (changes changes' : ℕ) : Type 0 where
+  pub write : k.write ≤ k'.write
+  pub read : k.read ≤ k'.read
+  pub paid : k'.write + k'.read + changes ≤ k.write + k.read + changes'
+
+-- Of a length call: the positions that it loaded are not above those of now. Each turn back is paid by a change since the call began, and so is each move of a position since it was loaded, which is to be the next turn back.
+abbrev pub IsPaid : Core ℕ → ℕ → ℕ → ℕ → ℕ → ℕ → Type 0
+IsPaid k since changes backs write read =
+    (write ≤ k.write) × (read ≤ k.read) × (backs + since + (k.write + k.read) ≤ changes + (write + read))
 
 module _ {T : Type 0} where
+  -- ---- what a length call knows
+
+  -- so many values waited at a moment of the call as these positions tell
+  abbrev pub Waited : ℕ → ℕ → List (Event T) → ℕ → ℕ → Type 0
+  Waited c p events write read = HeldOnce p (λ part. length (waiting part) ≡ number_waiting c write read) events
+
+  -- while the write position has not moved, the load of the read position was such a moment
+  abbrev pub KnowsLen : ℕ → Core ℕ → ℕ → List (Event T) → ℕ → ℕ → ℕ → LenStage → Type 0
+  KnowsLen c k p events since changes backs lens.TheVariants.LoadsWrite = backs + since ≤ changes
+  KnowsLen c k p events since changes backs (lens.TheVariants.LoadsRead write) =
+      IsPaid k since changes backs write k.read
+  KnowsLen c k p events since changes backs (lens.TheVariants.LoadsWriteAgain write read) =
+      IsPaid k since changes backs write read × (write ≡ k.write → Waited c p events write read)
+  KnowsLen c k p events since changes backs (lens.TheVariants.LoadsReadAgain write read) =
+      IsPaid k since changes backs write read × Waited c p events write read
+
+  -- what a call under way knows of the events and the counts: one without a loop has not turned back
+  abbrev pub KnowsFlight : ℕ → Core ℕ → ℕ → List (Event T) → ℕ → ℕ → ℕ → Flight → Type 0
+  KnowsFlight c k p events since changes backs (Role call) = backs ≡ 0
+  KnowsFlight c k p events since changes backs (Indices call) = backs ≡ 0
+  KnowsFlight c k p events since changes backs (Length which call) =
+      KnowsLen c k p events since changes backs call.stage
+
+  abbrev pub KnowsDoing : ℕ → Core ℕ → ℕ → List (Event T) → ℕ → ℕ → Doing → Type 0
+  KnowsDoing c k p events changes backs (Going flight since) = KnowsFlight c k p events since changes backs flight
+  KnowsDoing c k p events changes backs (Over others) = backs ≤ others
+
+  abbrev pub Knows : ℕ → Core ℕ → ℕ → List (Event T) → ℕ → Option (Party T) → Type 0
+  Knows c k p events changes None = Unit {0}
+  Knows c k p events changes (Some x) = KnowsDoing c k p events changes x.backs x.doing
+
+  -- a turn of another party keeps it
+  module _ (c : ℕ) (k k' : Core ℕ) (p : ℕ) (events es : List (Event T)) (changes changes' : ℕ) (up : GoesUp k k' changes changes') (none : BeginsNone p es) where
+    paid_keeps : (since backs write read : ℕ) → IsPaid k since changes backs write read → IsPaid k' since changes' backs write read
+    paid_keeps since backs write read h =
+        let w = up.write in
+        let r = up.read in
+        let more = up.paid in
+        let a = h.0 in
+        let b = h.1 in
+        let paid = h.2 in
+        (omega arith, omega arith, omega arith)
+
+    len_keeps : (since backs : ℕ) (stage : LenStage) → KnowsLen c k p events since changes backs stage → KnowsLen c k' p (events ++ es) since changes' backs stage
+    len_keeps since backs lens.TheVariants.LoadsWrite h =
+        let w = up.write in
+        let r = up.read in
+        let more = up.paid in
+        omega arith
+    len_keeps since backs (lens.TheVariants.LoadsRead write) h =
+        let w = up.write in
+        let r = up.read in
+        let more = up.paid in
+        let a = h.0 in
+        let paid = h.2 in
+        (omega arith, omega arith, omega arith)
+    len_keeps since backs (lens.TheVariants.LoadsWriteAgain write read) h = (
+      paid_keeps since backs write read h.0,
+      λ same.
+          let w = up.write in
+          let a = h.0.0 in
+          let still : write ≡ k.write = omega arith in
+          held_later p (λ part. length (waiting part) ≡ number_waiting c write read) events es none (h.1 still),
+    )
+    len_keeps since backs (lens.TheVariants.LoadsReadAgain write read) h =
+        (paid_keeps since backs write read h.0, held_later p (λ part. length (waiting part) ≡ number_waiting c write read) events es none h.1)
+
+    flight_keeps : (since backs : ℕ) (flight : Flight) → KnowsFlight c k p events since changes backs flight → KnowsFlight c k' p (events ++ es) since changes' backs flight
+    flight_keeps since backs (Role call) h = h
+    flight_keeps since backs (Indices call) h = h
+    flight_keeps since backs (Length which call) h = len_keeps since backs call.stage h
+
+    doing_keeps : (backs : ℕ) (doing : Doing) → KnowsDoing c k p events changes backs doing → KnowsDoing c k' p (events ++ es) changes' backs doing
+    doing_keeps backs (Going flight since) h = flight_keeps since backs flight h
+    doing_keeps backs (Over others) h = h
+
+    pub knows_keeps : (o : Option (Party T)) → Knows c k p events changes o → Knows c k' p (events ++ es) changes' o
+    knows_keeps None h = tt
+    knows_keeps (Some x) h = doing_keeps x.backs x.doing h
+
   abbrev pub At : ℕ → Option ℕ → Option ℕ → Core ℕ → ℕ → Start T → Flight → Type 0
   At c pr co k p AcquireProducer (Role (Acquire call)) = call.word ≡ 2
   At c pr co k p ReleaseProducer (Role (Release call)) = (call.word ≡ 2) × (pr ≡ Some p)
@@ -85,22 +190,23 @@ module _ {T : Type 0} where
       (pr ≡ Some p) × (call.capacity ≡ c) × (call.value ≡ v) × KnowsPush c k v call.stage
   At c pr co k p Pop (Indices (rings.TheVariants.Pop call)) =
       (co ≡ Some p) × (call.capacity ≡ c) × KnowsPop c k call.stage
+  At c pr co k p Len (Length measures.TheVariants.Len call) = call.capacity ≡ c
+  At c pr co k p IsEmpty (Length measures.TheVariants.IsEmpty call) = call.capacity ≡ c
+  At c pr co k p IsFull (Length measures.TheVariants.IsFull call) = call.capacity ≡ c
   At c pr co k p start flight = ⊥
 
   -- ---- a party's latest call beside its span
 
   pub record IsUnderWay (c : ℕ) (pr co : Option ℕ) (k : Core ℕ) (p : ℕ) (x : Party T) (flight : Flight) (seen : Span T) : Type 0 where
     pub span : seen ≡ Open x.start []
-    pub steps : x.steps ≡ number_of flight
-    pub backs : x.backs ≡ 0
+    pub steps : x.steps ≤ number_of flight x.backs
     pub at : At c pr co k p x.start flight
 
   pub record HasEnded (x : Party T) (seen : Span T) : Type 0 where
     pub answer : Answer T
     pub wrote : List (Event T)
     pub span : seen ≡ Ended x.start answer wrote
-    pub steps : x.steps ≤ most_steps x.start
-    pub backs : x.backs ≡ 0
+    pub steps : x.steps ≤ most_steps x.start x.backs
 
   abbrev pub FitsDoing : ℕ → Option ℕ → Option ℕ → Core ℕ → ℕ → Party T → Doing → Span T → Type 0
   FitsDoing c pr co k p x (Going flight since) span = IsUnderWay c pr co k p x flight span
@@ -112,14 +218,16 @@ module _ {T : Type 0} where
 
   -- ---- the invariant
 
-  pub record Inv (c : ℕ) (pr co : Option ℕ) (k : Core ℕ) (latest : List (Party T)) (events : List (Event T)) (turns : ℕ) : Type 0 where
+  pub record Inv (c : ℕ) (pr co : Option ℕ) (k : Core ℕ) (latest : List (Party T)) (events : List (Event T)) (changes turns : ℕ) : Type 0 where
     pub good : Good 1 words_of_index c k
     pub book : published events ≡ handed_out events ++ map Index k.waiting
     pub stand : standing (bounded_list c) (moments events) ≡ map Index k.waiting
     pub legal : IsLegal (bounded_list c) (moments events)
     pub spans : Each StandsRight events
     pub answers : Each (AnswersRight c) events
+    pub lengths : Each (TellsLength c) events
     pub calls : (p : ℕ) → Fits c pr co k p (party_of p latest) (span_of p events)
+    pub knows : (p : ℕ) → Knows c k p events changes (party_of p latest)
     pub turned : k.write ≤ turns
 
   -- what was published and not handed out is what waits
@@ -138,28 +246,31 @@ module _ {T : Type 0} where
       ∙ ap (λ xs. xs ++ new) (sym (flat_map-append hands_out events es))))))
 
   -- what a turn of the party y shows that was in the span `from`, where the queue becomes k'
-  pub record Shows (c : ℕ) (pr co pr' co' : Option ℕ) (k k' : Core ℕ) (from : Span T) (y : Party T) (events es : List (Event T)) (turns : ℕ) : Type 0 where
+  pub record Shows (c : ℕ) (pr co pr' co' : Option ℕ) (k k' : Core ℕ) (from : Span T) (y : Party T) (events es : List (Event T)) (changes changes' turns : ℕ) : Type 0 where
     pub own : AreOwn y.number es
     pub stands : AllFollow Stands from es
     pub right : AreRight (AnswersRight c) events es
+    pub lengths : AreRight (TellsLength c) events es
     pub good : Good 1 words_of_index c k'
     pub book : map Index k.waiting ++ published es ≡ handed_out es ++ map Index k'.waiting
     pub goes : fold (list_after c) (map Index k.waiting) (calls_of (moments es)) ≡ map Index k'.waiting
     pub answers : answers_from (bounded_list c) (map Index k.waiting) (calls_of (moments es)) ≡ answers_of (moments es)
     pub here : Fits c pr' co' k' y.number (Some y) (fold own_after from es)
+    pub knows : KnowsDoing c k' y.number (events ++ es) changes' y.backs y.doing
+    pub up : GoesUp k k' changes changes'
     pub others : (q : ℕ) → q ≢ y.number → (start : Start T) (flight : Flight) → At c pr co k q start flight → At c pr' co' k' q start flight
     pub turned : k'.write ≤ turns + 1
 
-  module _ (c : ℕ) (pr co pr' co' : Option ℕ) (k k' : Core ℕ) (from : Span T) (y : Party T) (latest : List (Party T)) (events es : List (Event T)) (turns : ℕ) where
-    keeps : (q : ℕ) → q ≢ y.number → Shows c pr co pr' co' k k' from y events es turns → (x : Party T) (doing : Doing) (span : Span T) → FitsDoing c pr co k q x doing span → FitsDoing c pr' co' k' q x doing span
-    keeps q ne s x (Going flight since) span h = record { span = h.span; steps = h.steps; backs = h.backs; at = s.others q ne x.start flight h.at }
+  module _ (c : ℕ) (pr co pr' co' : Option ℕ) (k k' : Core ℕ) (from : Span T) (y : Party T) (latest : List (Party T)) (events es : List (Event T)) (changes changes' turns : ℕ) where
+    keeps : (q : ℕ) → q ≢ y.number → Shows c pr co pr' co' k k' from y events es changes changes' turns → (x : Party T) (doing : Doing) (span : Span T) → FitsDoing c pr co k q x doing span → FitsDoing c pr' co' k' q x doing span
+    keeps q ne s x (Going flight since) span h = record { span = h.span; steps = h.steps; at = s.others q ne x.start flight h.at }
     keeps q ne s x (Over others) span h = h
 
-    fits : (q : ℕ) → q ≢ y.number → Shows c pr co pr' co' k k' from y events es turns → (o : Option (Party T)) (span : Span T) → Fits c pr co k q o span → Fits c pr' co' k' q o span
+    fits : (q : ℕ) → q ≢ y.number → Shows c pr co pr' co' k k' from y events es changes changes' turns → (o : Option (Party T)) (span : Span T) → Fits c pr co k q o span → Fits c pr' co' k' q o span
     fits q ne s None span h = h
     fits q ne s (Some x) span h = keeps q ne s x x.doing span h
 
-    pub advance : span_of y.number events ≡ from → Inv c pr co k latest events turns → Shows c pr co pr' co' k k' from y events es turns → Inv c pr' co' k' (put y latest) (events ++ es) (turns + 1)
+    pub advance : span_of y.number events ≡ from → Inv c pr co k latest events changes turns → Shows c pr co pr' co' k k' from y events es changes changes' turns → Inv c pr' co' k' (put y latest) (events ++ es) changes' (turns + 1)
     advance is inv s =
         let more = flat_map-append acts events es in
         record {
@@ -173,7 +284,9 @@ module _ {T : Type 0} where
               (legal_more (bounded_list c) (moments events) (moments es) (map Index k.waiting) inv.legal inv.stand s.answers);
           spans = Each-append StandsRight events es inv.spans (spans_right Stands y.number events es from is s.own s.stands);
           answers = Each-append (AnswersRight c) events es inv.answers s.right;
+          lengths = Each-append (TellsLength c) events es inv.lengths s.lengths;
           calls = λ q. ⊎_elim (mine q) (theirs q) (cases_eq q y.number);
+          knows = λ q. ⊎_elim (mine_knows q) (theirs_know q) (cases_eq q y.number);
           turned = s.turned;
         }
       where
@@ -190,3 +303,13 @@ module _ {T : Type 0} where
             subst (λ o. Fits c pr' co' k' q o (span_of q (events ++ es))) (sym (party_put_other q y latest ne))
             (subst (λ a. Fits c pr' co' k' q (party_of q latest) a) (sym (span_of-other y.number q events es ne s.own))
             (fits q ne s (party_of q latest) (span_of q events) (inv.calls q)))
+
+        mine_knows : (q : ℕ) → q ≡ y.number → Knows c k' q (events ++ es) changes' (party_of q (put y latest))
+        mine_knows q e =
+            subst (λ n. Knows c k' n (events ++ es) changes' (party_of n (put y latest))) (sym e)
+            (subst (Knows c k' y.number (events ++ es) changes') (sym (party_put_same y latest)) s.knows)
+
+        theirs_know : (q : ℕ) → q ≢ y.number → Knows c k' q (events ++ es) changes' (party_of q (put y latest))
+        theirs_know q ne =
+            subst (Knows c k' q (events ++ es) changes') (sym (party_put_other q y latest ne))
+            (knows_keeps c k k' q events es changes changes' s.up (others_begin_none q y.number es ne s.own) (party_of q latest) (inv.knows q))

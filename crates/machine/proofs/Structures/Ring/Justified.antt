@@ -8,13 +8,14 @@ use Rattle.steps.specs.declared.ring.PushStage as pushes
 use Rattle.steps.specs.declared.ring.PopStage as pops
 use Rattle.machine.specs.declared.call.RoleCall.TheVariants.{Acquire, Release}
 use Rattle.machine.specs.declared.call.RingCall as rings
+use Rattle.machine.specs.declared.call.LengthOf as measures
 use Rattle.machine.specs.declared.call.Flight.{Flight}
-use Rattle.machine.specs.declared.call.Flight.TheVariants.{Role, Indices}
+use Rattle.machine.specs.declared.call.Flight.TheVariants.{Role, Indices, Length}
 use Rattle.machine.specs.declared.effects.Effect.TheVariants.{Quiet, Acts}
 use Rattle.machine.specs.declared.event.Item.{Item}
 use Rattle.machine.specs.declared.event.Item.TheVariants.{Index}
 use Rattle.machine.specs.declared.event.Start.{Start}
-use Rattle.machine.specs.declared.event.Start.TheVariants.{AcquireProducer, ReleaseProducer, AcquireConsumer, ReleaseConsumer, Push, Pop}
+use Rattle.machine.specs.declared.event.Start.TheVariants.{AcquireProducer, ReleaseProducer, AcquireConsumer, ReleaseConsumer, Push, Pop, Len, IsEmpty, IsFull}
 use Rattle.machine.specs.declared.event.Answer.{Answer}
 use Rattle.machine.specs.declared.event.Answer as answers
 use Rattle.machine.specs.declared.event.Event.{Event}
@@ -41,7 +42,7 @@ use Rattle.machine.proofs.Small.{reached_small}
 use Rattle.machine.proofs.Turns.{writes_one_word, goes_on, counts_step, counts_others}
 use Rattle.machine.proofs.Structures.Ring.Core.{Core}
 use Rattle.machine.proofs.Structures.Ring.Invariant.{layout, At, Fits}
-use Rattle.machine.proofs.Structures.Ring.Sound.{Sound, step_of, under_way, never_due, reached_sound}
+use Rattle.machine.proofs.Structures.Ring.Sound.{Sound, step_of, under_way, knows_now, never_due, reached_sound}
 
 module _ {T : Type 0} (t : Trace T) (turn : Turn T) (p : ℕ) where
   abbrev Right : List (Event T) → Type 0
@@ -59,6 +60,7 @@ module _ {T : Type 0} (t : Trace T) (turn : Turn T) (p : ℕ) where
   push_acted item (answers.TheVariants.Truth true) asked h = tt
   push_acted item (answers.TheVariants.Truth false) asked h = (asked, h)
   push_acted item (answers.TheVariants.Popped popped) asked h = tt
+  push_acted item (answers.TheVariants.Number number) asked h = tt
 
   push_acts : (item : Item T) (after : After Flight (Answer T)) → asked_by t.world turn ≡ Some (record { word = 1; op = Load }) → Right (told_after p (Push item) Acts after) → Justified (told_after p (Push item) Acts after)
   push_acts item (GoOn flight) asked h = tt
@@ -69,6 +71,7 @@ module _ {T : Type 0} (t : Trace T) (turn : Turn T) (p : ℕ) where
   pop_acted (answers.TheVariants.Truth truth) asked h = tt
   pop_acted (answers.TheVariants.Popped None) asked h = (asked, h)
   pop_acted (answers.TheVariants.Popped (Some item)) asked h = tt
+  pop_acted (answers.TheVariants.Number number) asked h = tt
 
   pop_acts : (after : After Flight (Answer T)) → asked_by t.world turn ≡ Some (record { word = 0; op = Load }) → Right (told_after p Pop Acts after) → Justified (told_after p Pop Acts after)
   pop_acts (GoOn flight) asked h = tt
@@ -109,6 +112,9 @@ module _ {T : Type 0} (t : Trace T) (turn : Turn T) (p : ℕ) where
       h
       asked
   step_right pr co k Pop (Indices (rings.TheVariants.Pop call)) old at asked h = pop_right call.capacity call.stage old asked h
+  step_right pr co k Len (Length measures.TheVariants.Len call) old at asked h = quiet Len (after_of (Length measures.TheVariants.Len call) old)
+  step_right pr co k IsEmpty (Length measures.TheVariants.IsEmpty call) old at asked h = quiet IsEmpty (after_of (Length measures.TheVariants.IsEmpty call) old)
+  step_right pr co k IsFull (Length measures.TheVariants.IsFull call) old at asked h = quiet IsFull (after_of (Length measures.TheVariants.IsFull call) old)
   step_right pr co k start flight old at asked h = absurd at
 
 module _ {T : Type 0} where
@@ -122,7 +128,8 @@ module _ {T : Type 0} where
       let inv = s.3 in
       let fits = subst (λ o. Fits w.capacity w.producer w.consumer k x.number o (span_of x.number t.events)) found (inv.calls x.number) in
       let here = under_way w.capacity w.producer w.consumer k x.number x x.doing flight since (span_of x.number t.events) doing fits in
-      let step = step_of w.capacity w.producer w.consumer k x.number x.steps x.backs since w.changes w.latest t.events w.turns inv small x.start flight here.at here.steps here.backs in
+      let knows = knows_now w.capacity k x.number t.events w.changes (party_of x.number w.latest) x flight since found doing (inv.knows x.number) in
+      let step = step_of w.capacity w.producer w.consumer k x.number x.steps x.backs since w.changes w.latest t.events w.turns inv small x.start flight here.at here.steps knows in
       let right = step_right t turn x.number w.producer w.consumer k x.start flight (old_of (layout w.producer w.consumer k) (ask_of (want_of flight))) here.at asked (step.2).right in
       subst (λ ws. AllByRecursion (ActsRight t turn) (told_after x.number x.start (effect_of flight) (after_of flight (old_of ws (ask_of (want_of flight)))))) (sym s.2) right
 

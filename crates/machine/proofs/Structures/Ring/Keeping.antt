@@ -4,11 +4,12 @@ use Rattle.steps.specs.declared.ring.PushStage as pushes
 use Rattle.steps.specs.declared.ring.PopStage as pops
 use Rattle.machine.specs.declared.call.RoleCall.TheVariants.{Acquire, Release}
 use Rattle.machine.specs.declared.call.RingCall as rings
+use Rattle.machine.specs.declared.call.LengthOf as measures
 use Rattle.machine.specs.declared.call.Flight.{Flight}
-use Rattle.machine.specs.declared.call.Flight.TheVariants.{Role, Indices}
+use Rattle.machine.specs.declared.call.Flight.TheVariants.{Role, Indices, Length}
 use Rattle.machine.specs.declared.event.Item.TheVariants.{Index}
 use Rattle.machine.specs.declared.event.Start.{Start}
-use Rattle.machine.specs.declared.event.Start.TheVariants.{AcquireProducer, ReleaseProducer, AcquireConsumer, ReleaseConsumer, Push, Pop}
+use Rattle.machine.specs.declared.event.Start.TheVariants.{AcquireProducer, ReleaseProducer, AcquireConsumer, ReleaseConsumer, Push, Pop, Len, IsEmpty, IsFull}
 use Rattle.machine.specs.Calls.{words_of_index}
 use Rattle.machine.proofs.Structures.Ring.Core as core
 use Rattle.machine.proofs.Structures.Ring.Core.{Core, Holds, Good, filled, taken, fills, one_filled, publishes, takes, front, cell_within, word_at, set_at}
@@ -27,6 +28,9 @@ module _ {T : Type 0} (c : ℕ) (pr co pr' co' : Option ℕ) (k k' : Core ℕ) (
   kept ReleaseConsumer (Role (Release call)) h = (h.0, consumer h.1)
   kept (Push (Index v)) (Indices (rings.TheVariants.Push call)) h = (producer h.0, h.1, h.2, pushes_keep h.0 v call.stage h.3)
   kept Pop (Indices (rings.TheVariants.Pop call)) h = (consumer h.0, h.1, pops_keep h.0 call.stage h.2)
+  kept Len (Length measures.TheVariants.Len call) h = h
+  kept IsEmpty (Length measures.TheVariants.IsEmpty call) h = h
+  kept IsFull (Length measures.TheVariants.IsFull call) h = h
   kept start flight h = absurd h
 
 -- a store into a cell keeps what a pop knows

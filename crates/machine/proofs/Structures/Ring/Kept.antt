@@ -3,15 +3,19 @@ use Rattle.std.proofs.Common.{◌≡◌, ℕ, suc, ◌+◌, ◌-◌, ◌%◌, �
 use Rattle.std.proofs.lemmas.List.{length-map}
 use Rattle.steps.specs.declared.ring.PushStage as pushes
 use Rattle.steps.specs.declared.ring.PopStage as pops
+use Rattle.steps.specs.declared.lengths.LenStage.{LenStage}
+use Rattle.steps.specs.declared.lengths.LenStage as lens
 use Rattle.steps.specs.Ring.{cell_word}
 use Rattle.machine.specs.declared.call.RoleCall.TheVariants.{Acquire, Release}
 use Rattle.machine.specs.declared.call.RingCall as rings
+use Rattle.machine.specs.declared.call.LengthOf as measures
 use Rattle.machine.specs.declared.call.Flight.{Flight}
-use Rattle.machine.specs.declared.call.Flight.TheVariants.{Role, Indices}
+use Rattle.machine.specs.declared.call.Flight.TheVariants.{Role, Indices, Length}
 use Rattle.machine.specs.declared.event.Item.{Item}
 use Rattle.machine.specs.declared.event.Item.TheVariants.{Index}
 use Rattle.machine.specs.declared.event.Start.{Start}
-use Rattle.machine.specs.declared.event.Start.TheVariants.{AcquireProducer, ReleaseProducer, AcquireConsumer, ReleaseConsumer, Push, Pop}
+use Rattle.machine.specs.declared.event.Start.TheVariants.{AcquireProducer, ReleaseProducer, AcquireConsumer, ReleaseConsumer, Push, Pop, Len, IsEmpty, IsFull}
+use Rattle.machine.specs.declared.event.Event.{Event}
 use Rattle.machine.specs.declared.party.Doing.{Doing}
 use Rattle.machine.specs.declared.party.Doing.TheVariants.{Going, Over}
 use Rattle.machine.specs.declared.party.Party.{Party}
@@ -23,7 +27,7 @@ use Rattle.machine.specs.Promises.{IsKept}
 use Rattle.machine.specs.Promises.Book.{stored, waiting_in}
 use Rattle.machine.specs.Promises.Bounds.{most_steps, Progresses}
 use Rattle.machine.proofs.Structures.Ring.Core.{Core, Good, at_below, word_at}
-use Rattle.machine.proofs.Structures.Ring.Invariant.{free, layout, KnowsPush, KnowsPop, push_number, pop_number, number_of, At, FitsDoing, Fits}
+use Rattle.machine.proofs.Structures.Ring.Invariant.{free, layout, KnowsPush, KnowsPop, push_number, pop_number, len_number, number_of, IsPaid, KnowsLen, KnowsFlight, KnowsDoing, Knows, At, FitsDoing, Fits}
 use Rattle.machine.proofs.Structures.Ring.Stages.{cell_place}
 use Rattle.machine.proofs.Structures.Ring.Sound.{Sound, reached_sound}
 
@@ -41,32 +45,58 @@ pop_most c k (pops.TheVariants.LoadsWrite read) h = omega arith
 pop_most c k (pops.TheVariants.LoadsCell read copied) h = let none : length copied ≡ 0 = ap length h.4 in omega arith
 pop_most c k (pops.TheVariants.StoresRead read value) h = omega arith
 
+len_most : (backs : ℕ) (stage : LenStage) → 4 * backs + len_number stage ≤ 4 * (backs + 1)
+len_most backs lens.TheVariants.LoadsWrite = omega arith
+len_most backs (lens.TheVariants.LoadsRead write) = omega arith
+len_most backs (lens.TheVariants.LoadsWriteAgain write read) = omega arith
+len_most backs (lens.TheVariants.LoadsReadAgain write read) = omega arith
+
+-- ---- how often it has turned back
+
+paid_backs : (k : Core ℕ) (since changes backs write read : ℕ) → IsPaid k since changes backs write read → backs ≤ changes - since
+paid_backs k since changes backs write read h =
+    let w = h.0 in
+    let r = h.1 in
+    let paid = h.2 in
+    omega arith
+
 module _ {T : Type 0} where
-  steps_most : (c : ℕ) (pr co : Option ℕ) (k : Core ℕ) (p : ℕ) (start : Start T) (flight : Flight) → At c pr co k p start flight → number_of flight ≤ most_steps start
-  steps_most c pr co k p AcquireProducer (Role (Acquire call)) h = omega arith
-  steps_most c pr co k p ReleaseProducer (Role (Release call)) h = omega arith
-  steps_most c pr co k p AcquireConsumer (Role (Acquire call)) h = omega arith
-  steps_most c pr co k p ReleaseConsumer (Role (Release call)) h = omega arith
-  steps_most c pr co k p (Push (Index v)) (Indices (rings.TheVariants.Push call)) h = push_most c k v call.stage h.3
-  steps_most c pr co k p Pop (Indices (rings.TheVariants.Pop call)) h = pop_most c k call.stage h.2
-  steps_most c pr co k p start flight h = absurd h
+  steps_most : (c : ℕ) (pr co : Option ℕ) (k : Core ℕ) (p backs : ℕ) (start : Start T) (flight : Flight) → At c pr co k p start flight → number_of flight backs ≤ most_steps start backs
+  steps_most c pr co k p backs AcquireProducer (Role (Acquire call)) h = omega arith
+  steps_most c pr co k p backs ReleaseProducer (Role (Release call)) h = omega arith
+  steps_most c pr co k p backs AcquireConsumer (Role (Acquire call)) h = omega arith
+  steps_most c pr co k p backs ReleaseConsumer (Role (Release call)) h = omega arith
+  steps_most c pr co k p backs (Push (Index v)) (Indices (rings.TheVariants.Push call)) h = push_most c k v call.stage h.3
+  steps_most c pr co k p backs Pop (Indices (rings.TheVariants.Pop call)) h = pop_most c k call.stage h.2
+  steps_most c pr co k p backs Len (Length measures.TheVariants.Len call) h = len_most backs call.stage
+  steps_most c pr co k p backs IsEmpty (Length measures.TheVariants.IsEmpty call) h = len_most backs call.stage
+  steps_most c pr co k p backs IsFull (Length measures.TheVariants.IsFull call) h = len_most backs call.stage
+  steps_most c pr co k p backs start flight h = absurd h
 
   -- ---- progress
 
-  progresses : (c : ℕ) (pr co : Option ℕ) (k : Core ℕ) (p changes : ℕ) (o : Option (Party T)) (seen : Span T) → Fits c pr co k p o seen → Progresses seen (progress_after changes o)
-  progresses c pr co k p changes None seen h = subst (λ s. Progresses {T = T} s None) (sym h) tt
-  progresses c pr co k p changes (Some x) seen h = go x.doing refl h
+  len_paid : (c : ℕ) (k : Core ℕ) (p : ℕ) (events : List (Event T)) (since changes backs : ℕ) (stage : LenStage) → KnowsLen c k p events since changes backs stage → backs ≤ changes - since
+  len_paid c k p events since changes backs lens.TheVariants.LoadsWrite h = omega arith
+  len_paid c k p events since changes backs (lens.TheVariants.LoadsRead write) h = paid_backs k since changes backs write k.read h
+  len_paid c k p events since changes backs (lens.TheVariants.LoadsWriteAgain write read) h = paid_backs k since changes backs write read h.0
+  len_paid c k p events since changes backs (lens.TheVariants.LoadsReadAgain write read) h = paid_backs k since changes backs write read h.0
+
+  backs_paid : (c : ℕ) (k : Core ℕ) (p : ℕ) (events : List (Event T)) (since changes backs : ℕ) (flight : Flight) → KnowsFlight c k p events since changes backs flight → backs ≤ changes - since
+  backs_paid c k p events since changes backs (Role call) h = omega arith
+  backs_paid c k p events since changes backs (Indices call) h = omega arith
+  backs_paid c k p events since changes backs (Length which call) h = len_paid c k p events since changes backs call.stage h
+
+  progresses : (c : ℕ) (pr co : Option ℕ) (k : Core ℕ) (p : ℕ) (events : List (Event T)) (changes : ℕ) (o : Option (Party T)) (seen : Span T) → Fits c pr co k p o seen → Knows c k p events changes o
+      → Progresses seen (progress_after changes o)
+  progresses c pr co k p events changes None seen h knows = subst (λ s. Progresses {T = T} s None) (sym h) tt
+  progresses c pr co k p events changes (Some x) seen h knows = go x.doing refl h knows
     where
-      go : (doing : Doing) → x.doing ≡ doing → FitsDoing c pr co k p x doing seen → Progresses seen (progress_after changes (Some x))
-      go (Going flight since) e h =
-          let most = steps_most c pr co k p x.start flight h.at in
+      go : (doing : Doing) → x.doing ≡ doing → FitsDoing c pr co k p x doing seen → KnowsDoing c k p events changes x.backs doing → Progresses seen (progress_after changes (Some x))
+      go (Going flight since) e h knows =
+          let most = steps_most c pr co k p x.backs x.start flight h.at in
           let steps = h.steps in
-          let backs = h.backs in
-          rw (h.span, e) (record { steps = omega arith; backs = omega arith }, refl)
-      go (Over others) e h =
-          let steps = h.steps in
-          let backs = h.backs in
-          rw (h.span, e) (record { steps = steps; backs = omega arith }, refl)
+          rw (h.span, e) (record { steps = omega arith; backs = backs_paid c k p events since changes x.backs flight knows }, refl)
+      go (Over others) e h knows = rw (h.span, e) (record { steps = h.steps; backs = knows }, refl)
 
   -- ---- the values that wait in the words
 
@@ -109,7 +139,8 @@ module _ {T : Type 0} where
         moments = inv.legal;
         book = record { rest = rw rest inv.book; few = rw rest (omega arith) };
         answers = inv.answers;
-        progress = λ p. progresses w.capacity w.producer w.consumer k p w.changes (party_of p w.latest) (span_of p t.events) (inv.calls p);
+        lengths = inv.lengths;
+        progress = λ p. progresses w.capacity w.producer w.consumer k p t.events w.changes (party_of p w.latest) (span_of p t.events) (inv.calls p) (inv.knows p);
       }
 
   pub reached_kept : (t : Trace T) → IsReached t → IsKept t

@@ -3,7 +3,7 @@ use Rattle.std.proofs.Common.{◌≡◌, ◌≢◌, ℕ, suc, ◌+◌, ◌-◌, 
 use Rattle.std.proofs.lemmas.Bool.Decides.{nat_tests}
 use Rattle.std.proofs.lemmas.List.{nil_from_length, set-get_or}
 use Rattle.steps.specs.declared.ask.Ask.{Ask}
-use Rattle.steps.specs.declared.ask.Op.TheVariants.{Load}
+use Rattle.steps.specs.declared.ask.Op.TheVariants.{Load, Store}
 use Rattle.steps.specs.declared.ask.After.{After}
 use Rattle.steps.specs.declared.ask.After.TheVariants.{GoOn, Done}
 use Rattle.steps.specs.declared.ring.PopStage as pops
@@ -22,7 +22,7 @@ use Rattle.machine.specs.declared.event.Answer as answers
 use Rattle.machine.specs.declared.event.Event.{Event}
 use Rattle.machine.specs.declared.event.Event.TheVariants.{HandedOut, Acted}
 use Rattle.machine.specs.Calls.{after_of, words_of_index}
-use Rattle.machine.specs.Turns.{words_after}
+use Rattle.machine.specs.Turns.{words_after, change_of}
 use Rattle.machine.specs.Reading.{published, handed_out}
 use Rattle.machine.proofs.Structures.Ring.Core.{Core, Good, taken, takes, front, word_at}
 use Rattle.machine.proofs.Structures.Ring.Invariant.{free, layout, KnowsPop, pop_number, waiting_is}
@@ -31,18 +31,19 @@ use Rattle.machine.proofs.Structures.Ring.Stages.{or_true, or_false, first_of_so
 
 module _ {T : Type 0} (c : ℕ) (pr co : Option ℕ) (k : Core ℕ) (p steps backs since changes : ℕ) (events : List (Event T)) (turns : ℕ) (g : Good 1 words_of_index c k) (book : published events ≡ handed_out events ++ map Index k.waiting) (reached : k.write ≤ turns) (small : turns < 2 ^ 64 - 2) where
   abbrev Does : Start T → Option Ask → After Flight (Answer T) → Effect T → Type 0
-  Does start ask after effect = Step c pr co k p steps backs since changes events turns start ask after effect
+  Does start ask after effect = Step c pr co k p steps backs since changes events turns start ask 0 after effect
 
   abbrev DoesOf : Start T → Flight → Type 0
   DoesOf start flight = StepOf c pr co k p steps backs since changes events turns start flight
 
-  pop_loads_read : co ≡ Some p → steps ≡ 0 → backs ≡ 0 → DoesOf Pop (Indices (rings.TheVariants.Pop (record { capacity = c; stage = pops.TheVariants.LoadsRead })))
+  pop_loads_read : co ≡ Some p → steps ≤ 0 → backs ≡ 0 → DoesOf Pop (Indices (rings.TheVariants.Pop (record { capacity = c; stage = pops.TheVariants.LoadsRead })))
   pop_loads_read holds s b =
-      quiet c pr co k p steps backs since changes events turns g book reached small Pop (Some (record { word = 1; op = Load })) (Indices (rings.TheVariants.Pop (record { capacity = c; stage = pops.TheVariants.LoadsWrite k.read }))) k refl g (omega arith) refl
-      (record { span = refl; steps = omega arith; backs = b; at = (holds, refl, refl) })
+      quiet c pr co k p steps backs since changes events turns g book reached small 0 Pop (Some (record { word = 1; op = Load })) (Indices (rings.TheVariants.Pop (record { capacity = c; stage = pops.TheVariants.LoadsWrite k.read }))) k refl refl refl g refl
+      (record { span = refl; steps = omega arith; at = (holds, refl, refl) })
+      (omega arith)
       (λ q ne st f h. h)
 
-  pop_refused : k.waiting ≡ [] → steps ≡ 1 → backs ≡ 0 → Does Pop (Some (record { word = 0; op = Load })) (Done (answers.TheVariants.Popped None)) Acts
+  pop_refused : k.waiting ≡ [] → steps ≤ 1 → backs ≡ 0 → Does Pop (Some (record { word = 0; op = Load })) (Done (answers.TheVariants.Popped None)) Acts
   pop_refused empty s b =
       let none : map {B = Item T} Index k.waiting ≡ [] = ap (map Index) empty in (
         k,
@@ -51,6 +52,7 @@ module _ {T : Type 0} (c : ℕ) (pr co : Option ℕ) (k : Core ℕ) (p steps bac
           own = (refl, (refl, tt));
           stands = ((refl, refl), ((refl, record { moments = refl; published = refl; handed_out = refl }), tt));
           right = (waiting_is events (map Index k.waiting) book ∙ none, (tt, tt));
+          lengths = (tt, (tt, tt));
           good = g;
           book = append-nil (map Index k.waiting);
           goes = rw none refl;
@@ -61,18 +63,20 @@ module _ {T : Type 0} (c : ℕ) (pr co : Option ℕ) (k : Core ℕ) (p steps bac
                 wrote = Acted p Pop (answers.TheVariants.Popped None) ∷ [];
                 span = refl;
                 steps = omega arith;
-                backs = b;
               };
+          knows = omega arith;
+          up = record { write = omega arith; read = omega arith; paid = omega arith };
           others = λ q ne st f h. h;
           turned = omega arith;
         },
       )
 
-  pop_goes_on : (v : ℕ) (rest : List ℕ) → k.waiting ≡ v ∷ rest → co ≡ Some p → steps ≡ 1 → backs ≡ 0
+  pop_goes_on : (v : ℕ) (rest : List ℕ) → k.waiting ≡ v ∷ rest → co ≡ Some p → steps ≤ 1 → backs ≡ 0
       → Does Pop (Some (record { word = 0; op = Load })) (GoOn (Indices (rings.TheVariants.Pop (record { capacity = c; stage = pops.TheVariants.LoadsCell k.read [] })))) Quiet
   pop_goes_on v rest is holds s b =
-      quiet c pr co k p steps backs since changes events turns g book reached small Pop (Some (record { word = 0; op = Load })) (Indices (rings.TheVariants.Pop (record { capacity = c; stage = pops.TheVariants.LoadsCell k.read [] }))) k refl g (omega arith) refl
-      (record { span = refl; steps = omega arith; backs = b; at = (holds, refl, (v, rest, refl, is, refl)) })
+      quiet c pr co k p steps backs since changes events turns g book reached small 0 Pop (Some (record { word = 0; op = Load })) (Indices (rings.TheVariants.Pop (record { capacity = c; stage = pops.TheVariants.LoadsCell k.read [] }))) k refl refl refl g refl
+      (record { span = refl; steps = omega arith; at = (holds, refl, (v, rest, refl, is, refl)) })
+      (omega arith)
       (λ q ne st f h. h)
 
   -- nothing waits
@@ -93,7 +97,7 @@ module _ {T : Type 0} (c : ℕ) (pr co : Option ℕ) (k : Core ℕ) (p steps bac
       let ne : k.write ≢ k.read = grind (arith, nat_tests) in
       omega arith
 
-  pop_loads_write : co ≡ Some p → steps ≡ 1 → backs ≡ 0 → DoesOf Pop (Indices (rings.TheVariants.Pop (record { capacity = c; stage = pops.TheVariants.LoadsWrite k.read })))
+  pop_loads_write : co ≡ Some p → steps ≤ 1 → backs ≡ 0 → DoesOf Pop (Indices (rings.TheVariants.Pop (record { capacity = c; stage = pops.TheVariants.LoadsWrite k.read })))
   pop_loads_write holds s b = go (c == 0 || k.write == k.read) refl
     where
       go : (t : Bool) → (c == 0 || k.write == k.read) ≡ t → DoesOf Pop (Indices (rings.TheVariants.Pop (record { capacity = c; stage = pops.TheVariants.LoadsWrite k.read })))
@@ -109,7 +113,7 @@ module _ {T : Type 0} (c : ℕ) (pr co : Option ℕ) (k : Core ℕ) (p steps bac
           let front = first_of_some k.waiting (some t) in
           subst (λ a. Does Pop (Some (record { word = 0; op = Load })) a Acts) (sym goes) (pop_goes_on front.0 front.1 front.2 holds s b)
 
-  pop_loads_cell : (v : ℕ) (rest : List ℕ) → k.waiting ≡ v ∷ rest → co ≡ Some p → steps ≡ 2 → backs ≡ 0
+  pop_loads_cell : (v : ℕ) (rest : List ℕ) → k.waiting ≡ v ∷ rest → co ≡ Some p → steps ≤ 2 → backs ≡ 0
       → DoesOf Pop (Indices (rings.TheVariants.Pop (record { capacity = c; stage = pops.TheVariants.LoadsCell k.read [] })))
   pop_loads_cell v rest is holds s b =
       let few = g.few in
@@ -121,15 +125,18 @@ module _ {T : Type 0} (c : ℕ) (pr co : Option ℕ) (k : Core ℕ) (p steps bac
       in
       let same : words_after (layout pr co k) (Some (record { word = cell_word c 1 k.read 0; op = Load })) ≡ layout pr co k = set-get_or (layout pr co k) (cell_word c 1 k.read 0) 0 in
       subst (λ x. Does Pop (Some (record { word = cell_word c 1 k.read 0; op = Load })) (GoOn (Indices (rings.TheVariants.Pop (record { capacity = c; stage = pops.TheVariants.StoresRead k.read x })))) Quiet) (sym old)
-      (quiet c pr co k p steps backs since changes events turns g book reached small Pop (Some (record { word = cell_word c 1 k.read 0; op = Load })) (Indices (rings.TheVariants.Pop (record { capacity = c; stage = pops.TheVariants.StoresRead k.read v }))) k refl g (omega arith) same
-      (record { span = refl; steps = omega arith; backs = b; at = (holds, refl, (rest, refl, is)) })
+      (quiet c pr co k p steps backs since changes events turns g book reached small 0 Pop (Some (record { word = cell_word c 1 k.read 0; op = Load })) (Indices (rings.TheVariants.Pop (record { capacity = c; stage = pops.TheVariants.StoresRead k.read v }))) k refl refl refl g same
+      (record { span = refl; steps = omega arith; at = (holds, refl, (rest, refl, is)) })
+      (omega arith)
       (λ q ne st f h. h))
 
-  pop_stores_read : (v : ℕ) (rest : List ℕ) → k.waiting ≡ v ∷ rest → co ≡ Some p → steps ≡ 3 → backs ≡ 0
+  pop_stores_read : (v : ℕ) (rest : List ℕ) → k.waiting ≡ v ∷ rest → co ≡ Some p → steps ≤ 3 → backs ≡ 0
       → DoesOf Pop (Indices (rings.TheVariants.Pop (record { capacity = c; stage = pops.TheVariants.StoresRead k.read v })))
   pop_stores_read v rest is holds s b =
       let write = g.write in
       let next : after_position k.read ≡ k.read + 1 = omega arith in
+      let moved : (after_position k.read == k.read) ≡ false = grind (arith, nat_tests) in
+      let one : change_of (layout pr co k) (Some (record { word = 1; op = Store (after_position k.read) })) ≡ 1 = rw moved refl in
       let first : map {B = Item T} Index k.waiting ≡ Index v ∷ map Index rest = ap (map Index) is in (
         taken 1 words_of_index c k rest,
         ap (λ n. k.write ∷ n ∷ free pr ∷ free co ∷ k.cells) next,
@@ -137,6 +144,7 @@ module _ {T : Type 0} (c : ℕ) (pr co : Option ℕ) (k : Core ℕ) (p steps bac
           own = (refl, (refl, (refl, tt)));
           stands = ((refl, refl), ((refl, refl), ((refl, record { moments = refl; published = refl; handed_out = refl }), tt)));
           right = (tt, (tt, (tt, tt)));
+          lengths = (tt, (tt, (tt, tt)));
           good = takes 1 words_of_index c k v rest is g;
           book = append-nil (map Index k.waiting) ∙ first;
           goes = rw first refl;
@@ -147,21 +155,22 @@ module _ {T : Type 0} (c : ℕ) (pr co : Option ℕ) (k : Core ℕ) (p steps bac
                 wrote = HandedOut p (Index v) ∷ Acted p Pop (answers.TheVariants.Popped (Some (Index v))) ∷ [];
                 span = refl;
                 steps = omega arith;
-                backs = b;
               };
+          knows = omega arith;
+          up = record { write = omega arith; read = omega arith; paid = omega arith };
           others = λ q ne. kept c pr co pr co k (taken 1 words_of_index c k rest) q (λ h. h) (λ h. h) (λ mine w stage h. take_keeps c k v rest is w stage h) (λ mine stage h. absurd (clash co p q ne holds mine));
           turned = omega arith;
         },
       )
 
-  pub pop_step : (stage : pops.PopStage ℕ) → KnowsPop c k stage → co ≡ Some p → steps ≡ pop_number stage → backs ≡ 0 → DoesOf Pop (Indices (rings.TheVariants.Pop (record { capacity = c; stage = stage })))
+  pub pop_step : (stage : pops.PopStage ℕ) → KnowsPop c k stage → co ≡ Some p → steps ≤ pop_number stage → backs ≡ 0 → DoesOf Pop (Indices (rings.TheVariants.Pop (record { capacity = c; stage = stage })))
   pop_step pops.TheVariants.LoadsRead knows holds s b = pop_loads_read holds s b
   pop_step (pops.TheVariants.LoadsWrite read) knows holds s b =
       subst (λ r. DoesOf Pop (Indices (rings.TheVariants.Pop (record { capacity = c; stage = pops.TheVariants.LoadsWrite r })))) (sym knows)
       (pop_loads_write holds s b)
   pop_step (pops.TheVariants.LoadsCell read copied) knows holds s b =
       let none : length copied ≡ 0 = ap length knows.4 in
-      let two : steps ≡ 2 = omega arith in
+      let two : steps ≤ 2 = omega arith in
       subst (λ r. DoesOf Pop (Indices (rings.TheVariants.Pop (record { capacity = c; stage = pops.TheVariants.LoadsCell r copied })))) (sym knows.2)
       (subst (λ xs. DoesOf Pop (Indices (rings.TheVariants.Pop (record { capacity = c; stage = pops.TheVariants.LoadsCell k.read xs })))) (sym knows.4)
       (pop_loads_cell knows.0 knows.1 knows.3 holds two b))

@@ -22,28 +22,30 @@ use Rattle.machine.specs.declared.event.Answer as answers
 use Rattle.machine.specs.declared.event.Event.{Event}
 use Rattle.machine.specs.declared.event.Event.TheVariants.{Published, Acted}
 use Rattle.machine.specs.Calls.{after_of, words_of_index}
+use Rattle.machine.specs.Turns.{change_of}
 use Rattle.machine.specs.Reading.{published, handed_out}
 use Rattle.machine.proofs.Structures.Ring.Core as core
 use Rattle.machine.proofs.Structures.Ring.Core.{Core, Holds, Good, filled, taken, fills, one_filled, publishes, takes, front, cell_within, word_at, set_at}
-use Rattle.machine.proofs.Structures.Ring.Invariant.{free, KnowsPush, push_number, waiting_is}
+use Rattle.machine.proofs.Structures.Ring.Invariant.{free, layout, KnowsPush, push_number, waiting_is}
 use Rattle.machine.proofs.Structures.Ring.Keeping.{clash, kept, fill_keeps, publish_keeps}
 use Rattle.machine.proofs.Structures.Ring.Stages.{or_true, or_false, cell_place, Step, StepOf, quiet}
 
 module _ {T : Type 0} (c : ℕ) (pr co : Option ℕ) (k : Core ℕ) (p steps backs since changes : ℕ) (events : List (Event T)) (turns : ℕ) (g : Good 1 words_of_index c k) (book : published events ≡ handed_out events ++ map Index k.waiting) (reached : k.write ≤ turns) (small : turns < 2 ^ 64 - 2) where
   abbrev Does : Start T → Option Ask → After Flight (Answer T) → Effect T → Type 0
-  Does start ask after effect = Step c pr co k p steps backs since changes events turns start ask after effect
+  Does start ask after effect = Step c pr co k p steps backs since changes events turns start ask 0 after effect
 
   abbrev DoesOf : Start T → Flight → Type 0
   DoesOf start flight = StepOf c pr co k p steps backs since changes events turns start flight
 
-  push_loads_write : (v : ℕ) → pr ≡ Some p → steps ≡ 0 → backs ≡ 0 → DoesOf (Push (Index v)) (Indices (rings.TheVariants.Push (record { capacity = c; value = v; stage = pushes.TheVariants.LoadsWrite })))
+  push_loads_write : (v : ℕ) → pr ≡ Some p → steps ≤ 0 → backs ≡ 0 → DoesOf (Push (Index v)) (Indices (rings.TheVariants.Push (record { capacity = c; value = v; stage = pushes.TheVariants.LoadsWrite })))
   push_loads_write v holds s b =
       let call = λ (stage : pushes.PushStage). Indices (rings.TheVariants.Push (record { capacity = c; value = v; stage = stage })) in
       let t : (k.write == 2 ^ 64 - 1) ≡ false = grind (arith, nat_tests) in
       let goes : after_of {T = T} (call pushes.TheVariants.LoadsWrite) k.write ≡ GoOn (call (pushes.TheVariants.LoadsRead k.write)) = rw t refl in
       subst (λ a. Does (Push (Index v)) (Some (record { word = 0; op = Load })) a Quiet) (sym goes)
-      (quiet c pr co k p steps backs since changes events turns g book reached small (Push (Index v)) (Some (record { word = 0; op = Load })) (call (pushes.TheVariants.LoadsRead k.write)) k refl g (omega arith) refl
-      (record { span = refl; steps = omega arith; backs = b; at = (holds, refl, refl, refl) })
+      (quiet c pr co k p steps backs since changes events turns g book reached small 0 (Push (Index v)) (Some (record { word = 0; op = Load })) (call (pushes.TheVariants.LoadsRead k.write)) k refl refl refl g refl
+      (record { span = refl; steps = omega arith; at = (holds, refl, refl, refl) })
+      (omega arith)
       (λ q ne st f h. h))
 
   -- how far the read position is behind, as the push computes it
@@ -68,7 +70,7 @@ module _ {T : Type 0} (c : ℕ) (pr co : Option ℕ) (k : Core ℕ) (p steps bac
       let other : length k.waiting ≢ c = λ e. ne (far ∙ e) in
       omega arith
 
-  push_refused : (v : ℕ) → length k.waiting ≡ c → steps ≡ 1 → backs ≡ 0 → Does (Push (Index v)) (Some (record { word = 1; op = Load })) (Done (answers.TheVariants.Truth false)) Acts
+  push_refused : (v : ℕ) → length k.waiting ≡ c → steps ≤ 1 → backs ≡ 0 → Does (Push (Index v)) (Some (record { word = 1; op = Load })) (Done (answers.TheVariants.Truth false)) Acts
   push_refused v lap s b =
       let long : length (map {B = Item T} Index k.waiting) ≡ length k.waiting = length-map k.waiting Index in
       let t : nat_lt (length (map {B = Item T} Index k.waiting)) c ≡ false = grind (arith, nat_tests) in (
@@ -78,6 +80,7 @@ module _ {T : Type 0} (c : ℕ) (pr co : Option ℕ) (k : Core ℕ) (p steps bac
           own = (refl, (refl, tt));
           stands = ((refl, refl), ((refl, record { moments = refl; published = refl; handed_out = refl }), tt));
           right = (ap length (waiting_is events (map Index k.waiting) book) ∙ (long ∙ lap), (tt, tt));
+          lengths = (tt, (tt, tt));
           good = g;
           book = append-nil (map Index k.waiting);
           goes = rw t refl;
@@ -88,21 +91,23 @@ module _ {T : Type 0} (c : ℕ) (pr co : Option ℕ) (k : Core ℕ) (p steps bac
                 wrote = Acted p (Push (Index v)) (answers.TheVariants.Truth false) ∷ [];
                 span = refl;
                 steps = omega arith;
-                backs = b;
               };
+          knows = omega arith;
+          up = record { write = omega arith; read = omega arith; paid = omega arith };
           others = λ q ne st f h. h;
           turned = omega arith;
         },
       )
 
-  push_goes_on : (v : ℕ) → length k.waiting < c → pr ≡ Some p → steps ≡ 1 → backs ≡ 0
+  push_goes_on : (v : ℕ) → length k.waiting < c → pr ≡ Some p → steps ≤ 1 → backs ≡ 0
       → Does (Push (Index v)) (Some (record { word = 1; op = Load })) (GoOn (Indices (rings.TheVariants.Push (record { capacity = c; value = v; stage = pushes.TheVariants.StoresCell k.write 0 })))) Quiet
   push_goes_on v room holds s b =
-      quiet c pr co k p steps backs since changes events turns g book reached small (Push (Index v)) (Some (record { word = 1; op = Load })) (Indices (rings.TheVariants.Push (record { capacity = c; value = v; stage = pushes.TheVariants.StoresCell k.write 0 }))) k refl g (omega arith) refl
-      (record { span = refl; steps = omega arith; backs = b; at = (holds, refl, refl, (refl, room, omega arith, λ i h. absurd (omega arith))) })
+      quiet c pr co k p steps backs since changes events turns g book reached small 0 (Push (Index v)) (Some (record { word = 1; op = Load })) (Indices (rings.TheVariants.Push (record { capacity = c; value = v; stage = pushes.TheVariants.StoresCell k.write 0 }))) k refl refl refl g refl
+      (record { span = refl; steps = omega arith; at = (holds, refl, refl, (refl, room, omega arith, λ i h. absurd (omega arith))) })
+      (omega arith)
       (λ q ne st f h. h)
 
-  push_loads_read : (v : ℕ) → pr ≡ Some p → steps ≡ 1 → backs ≡ 0 → DoesOf (Push (Index v)) (Indices (rings.TheVariants.Push (record { capacity = c; value = v; stage = pushes.TheVariants.LoadsRead k.write })))
+  push_loads_read : (v : ℕ) → pr ≡ Some p → steps ≤ 1 → backs ≡ 0 → DoesOf (Push (Index v)) (Indices (rings.TheVariants.Push (record { capacity = c; value = v; stage = pushes.TheVariants.LoadsRead k.write })))
   push_loads_read v holds s b = go (c == 0 || distance k.write k.read == c) refl
     where
       go : (t : Bool) → (c == 0 || distance k.write k.read == c) ≡ t → DoesOf (Push (Index v)) (Indices (rings.TheVariants.Push (record { capacity = c; value = v; stage = pushes.TheVariants.LoadsRead k.write })))
@@ -117,24 +122,27 @@ module _ {T : Type 0} (c : ℕ) (pr co : Option ℕ) (k : Core ℕ) (p steps bac
           in
           subst (λ a. Does (Push (Index v)) (Some (record { word = 1; op = Load })) a Acts) (sym goes) (push_goes_on v (room t) holds s b)
 
-  push_stores_cell : (v : ℕ) → length k.waiting < c → pr ≡ Some p → steps ≡ 2 → backs ≡ 0
+  push_stores_cell : (v : ℕ) → length k.waiting < c → pr ≡ Some p → steps ≤ 2 → backs ≡ 0
       → DoesOf (Push (Index v)) (Indices (rings.TheVariants.Push (record { capacity = c; value = v; stage = pushes.TheVariants.StoresCell k.write 0 })))
   push_stores_cell v room holds s b =
       let some : 0 < c = omega arith in
       let place = cell_place c k.write some in
       let none : Holds 1 words_of_index c k.cells k.write v 0 = λ i h. absurd (omega arith) in
       let good = fills 1 words_of_index c k 0 v room (omega arith) g in
-      quiet c pr co k p steps backs since changes events turns g book reached small (Push (Index v)) (Some (record { word = cell_word c 1 k.write 0; op = Store v })) (Indices (rings.TheVariants.Push (record { capacity = c; value = v; stage = pushes.TheVariants.StoresWrite k.write }))) (filled 1 words_of_index c k 0 v) refl good (omega arith)
+      quiet c pr co k p steps backs since changes events turns g book reached small 0 (Push (Index v)) (Some (record { word = cell_word c 1 k.write 0; op = Store v })) (Indices (rings.TheVariants.Push (record { capacity = c; value = v; stage = pushes.TheVariants.StoresWrite k.write }))) (filled 1 words_of_index c k 0 v) refl refl refl good
       (set_at k.write k.read (free pr) (free co) k.cells (cell_word c 1 k.write 0) (1 * (k.write % c) + 0) v place)
-      (record { span = refl; steps = omega arith; backs = b; at = (holds, refl, refl, (refl, room, one_filled 1 words_of_index c k v 0 room (omega arith) g none)) })
+      (record { span = refl; steps = omega arith; at = (holds, refl, refl, (refl, room, one_filled 1 words_of_index c k v 0 room (omega arith) g none)) })
+      (omega arith)
       (λ q ne. kept c pr co pr co k (filled 1 words_of_index c k 0 v) q (λ h. h) (λ h. h) (λ mine w stage h. absurd (clash pr p q ne holds mine)) (λ mine stage h. fill_keeps c k 0 v stage h))
 
-  push_stores_write : (v : ℕ) → length k.waiting < c → Holds 1 words_of_index c k.cells k.write v 1 → pr ≡ Some p → steps ≡ 3 → backs ≡ 0
+  push_stores_write : (v : ℕ) → length k.waiting < c → Holds 1 words_of_index c k.cells k.write v 1 → pr ≡ Some p → steps ≤ 3 → backs ≡ 0
       → DoesOf (Push (Index v)) (Indices (rings.TheVariants.Push (record { capacity = c; value = v; stage = pushes.TheVariants.StoresWrite k.write })))
   push_stores_write v room whole holds s b =
       let long : length (map {B = Item T} Index k.waiting) ≡ length k.waiting = length-map k.waiting Index in
       let t : nat_lt (length (map {B = Item T} Index k.waiting)) c ≡ true = grind (arith, nat_tests) in
       let next : after_position k.write ≡ k.write + 1 = omega arith in
+      let moved : (after_position k.write == k.write) ≡ false = grind (arith, nat_tests) in
+      let one : change_of (layout pr co k) (Some (record { word = 0; op = Store (after_position k.write) })) ≡ 1 = rw moved refl in
       let joined : map {B = Item T} Index k.waiting ++ Index v ∷ [] ≡ map Index (k.waiting ++ v ∷ []) = sym (map-append Index k.waiting (v ∷ [])) in (
         core.published 1 words_of_index c k v,
         ap (λ n. n ∷ k.read ∷ free pr ∷ free co ∷ k.cells) next,
@@ -142,6 +150,7 @@ module _ {T : Type 0} (c : ℕ) (pr co : Option ℕ) (k : Core ℕ) (p steps bac
           own = (refl, (refl, (refl, tt)));
           stands = ((refl, refl), ((refl, refl), ((refl, record { moments = refl; published = refl; handed_out = refl }), tt)));
           right = (tt, (tt, (tt, tt)));
+          lengths = (tt, (tt, (tt, tt)));
           good = publishes 1 words_of_index c k v room g whole;
           book = joined;
           goes = rw t joined;
@@ -152,14 +161,15 @@ module _ {T : Type 0} (c : ℕ) (pr co : Option ℕ) (k : Core ℕ) (p steps bac
                 wrote = Published p (Index v) ∷ Acted p (Push (Index v)) (answers.TheVariants.Truth true) ∷ [];
                 span = refl;
                 steps = omega arith;
-                backs = b;
               };
+          knows = omega arith;
+          up = record { write = omega arith; read = omega arith; paid = omega arith };
           others = λ q ne. kept c pr co pr co k (core.published 1 words_of_index c k v) q (λ h. h) (λ h. h) (λ mine w stage h. absurd (clash pr p q ne holds mine)) (λ mine stage h. publish_keeps c k v stage h);
           turned = omega arith;
         },
       )
 
-  pub push_step : (v : ℕ) (stage : pushes.PushStage) → KnowsPush c k v stage → pr ≡ Some p → steps ≡ push_number stage → backs ≡ 0 → DoesOf (Push (Index v)) (Indices (rings.TheVariants.Push (record { capacity = c; value = v; stage = stage })))
+  pub push_step : (v : ℕ) (stage : pushes.PushStage) → KnowsPush c k v stage → pr ≡ Some p → steps ≤ push_number stage → backs ≡ 0 → DoesOf (Push (Index v)) (Indices (rings.TheVariants.Push (record { capacity = c; value = v; stage = stage })))
   push_step v pushes.TheVariants.LoadsWrite knows holds s b = push_loads_write v holds s b
   push_step v (pushes.TheVariants.LoadsRead write) knows holds s b =
       subst (λ w. DoesOf (Push (Index v)) (Indices (rings.TheVariants.Push (record { capacity = c; value = v; stage = pushes.TheVariants.LoadsRead w })))) (sym knows)
@@ -167,7 +177,7 @@ module _ {T : Type 0} (c : ℕ) (pr co : Option ℕ) (k : Core ℕ) (p steps bac
   push_step v (pushes.TheVariants.StoresCell write at) knows holds s b =
       let low = knows.2 in
       let none : 0 ≡ at = omega arith in
-      let two : steps ≡ 2 = omega arith in
+      let two : steps ≤ 2 = omega arith in
       subst (λ w. DoesOf (Push (Index v)) (Indices (rings.TheVariants.Push (record { capacity = c; value = v; stage = pushes.TheVariants.StoresCell w at })))) (sym knows.0)
       (subst (λ n. DoesOf (Push (Index v)) (Indices (rings.TheVariants.Push (record { capacity = c; value = v; stage = pushes.TheVariants.StoresCell k.write n })))) none
       (push_stores_cell v knows.1 holds two b))
