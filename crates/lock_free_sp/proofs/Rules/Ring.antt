@@ -1,0 +1,6 @@
+pub mod Lists
+pub mod Stays
+pub mod Pushes
+pub mod Pops
+pub mod Roles
+pub mod Comings

@@ -1,0 +1,200 @@
+-- What a seat knows stays so while another seat steps, and what stays of the rule at a step.
+use Rattle.std.proofs.Common.{◌≡◌, ◌≢◌, ℕ, ◌+◌, ◌<◌, ◌≤◌, ⊎_elim, if◌then◌else◌, eqb, eq-eqb, ne_eqb, List, length, get_or, set, sym, refl, ap, subst, ◌∙◌, arith, le_refl, get_or-set_other}
+use Rattle.std.specs.Prelude.{Option, Some, None}
+use Rattle.std.specs.List.{All}
+use Rattle.std.proofs.lemmas.List.Elements.{All-weaker}
+use mathlib.Core.Option.{some}
+use lib.ListN.{get_elem?}
+use lib.Seq.{set-get_or}
+use Rattle.atomic_table.specs.Table.{State, keeps, stepped}
+use Rattle.atomic_table.proofs.Lists.{at_set}
+use Rattle.lock_free_sp.specs.declared.ring.view.PushStage.{PushStage}
+use Rattle.lock_free_sp.specs.declared.ring.view.PushStage.TheVariants as pushing
+use Rattle.lock_free_sp.specs.declared.ring.view.PopStage.{PopStage}
+use Rattle.lock_free_sp.specs.declared.ring.view.PopStage.TheVariants as popping
+use Rattle.lock_free_sp.specs.declared.ring.view.View.{View}
+use Rattle.lock_free_sp.specs.Ring.Views.{with_push, with_pop}
+use Rattle.lock_free_sp.specs.Ring.Between.{Sound}
+use Rattle.lock_free_sp.specs.Ring.Kept.{Face, Book, face, Produces, Consumes, KnowsPush, KnowsPop, IsPublished, IsTaken, Knows, Fits, Kept}
+use Rattle.lock_free_sp.specs.Ring.Tells.{place}
+
+-- ---- a function that is changed at one number
+
+abbrev pub put : {A : Type 0} → (ℕ → A) → ℕ → A → ℕ → A
+put f i x j = if eqb j i then x else f j
+
+pub put_same : {A : Type 0} (f : ℕ → A) (i : ℕ) (x : A) → put f i x i ≡ x
+put_same f i x = ap (λ b. if b then x else f i) (eq-eqb i i refl)
+
+pub put_other : {A : Type 0} (f : ℕ → A) (i : ℕ) (x : A) (j : ℕ) → j ≢ i → put f i x j ≡ f j
+put_other f i x j ne = ap (λ b. if b then x else f j) (ne_eqb j i ne)
+
+abbrev number : Option ℕ → ℕ
+number None = 0
+number (Some x) = x
+
+pub same_some : (x y : ℕ) → Some x ≡ Some y → x ≡ y
+same_some x y e = ap number e
+
+module _ {T : Type 0} (capacity : ℕ) (f g : Face) (b c : Book T) (j : ℕ) where
+  -- positions only go up, and what is written of them stays
+  pub record Onwards : Type 0 where
+    pub behind : f.read ≤ f.write
+    pub write : f.write ≤ g.write
+    pub read : f.read ≤ g.read
+    pub log : (p : ℕ) → p < f.write → c.log p ≡ b.log p
+    pub publisher : (p : ℕ) → p < f.write → b.publisher p ≡ j → c.publisher p ≡ j
+    pub taker : (p : ℕ) → p < f.read → b.taker p ≡ j → c.taker p ≡ j
+
+  abbrev pub LeavesPush : Type 0
+  LeavesPush = Produces capacity f b j → Produces capacity g c j × (g.write ≡ f.write) × ((p i : ℕ) → g.cell p i ≡ f.cell p i)
+
+  abbrev pub LeavesPop : Type 0
+  LeavesPop = Consumes capacity f b j → Consumes capacity g c j × (g.read ≡ f.read)
+
+  -- how another seat's step may change what the seat j sees
+  pub record Passes : Type 0 where
+    pub onwards : Onwards
+    pub push : LeavesPush
+    pub pop : LeavesPop
+
+  pub push_stays : Onwards → LeavesPush → (stage : PushStage) → KnowsPush capacity f b j stage → KnowsPush capacity g c j stage
+  push_stays t l pushing.Away k = tt
+  push_stays t l pushing.Ready k = (l k).0
+  push_stays t l (pushing.SawWrite p) k = let h = l k.0 in (h.0, h.1 ∙ k.1, k.2)
+  push_stays t l (pushing.Storing p ws) k =
+      let h = l k.0 in
+      let room = k.3 in
+      let up = t.read in
+      (h.0, h.1 ∙ k.1, k.2, omega arith, λ i lt. h.2 p i ∙ k.4 i lt)
+
+  pub pop_stays : Onwards → LeavesPop → (stage : PopStage T) → KnowsPop capacity f b j stage → KnowsPop capacity g c j stage
+  pop_stays t l popping.Away k = tt
+  pop_stays t l popping.Ready k = (l k).0
+  pop_stays t l (popping.SawRead p) k = let h = l k.0 in (h.0, h.1 ∙ k.1)
+  pop_stays t l (popping.SawValue p x) k =
+      let h = l k.0 in
+      let waits = k.2 in
+      let up = t.write in
+      (h.0, h.1 ∙ k.1, omega arith, t.log p k.2 ∙ k.3)
+
+  pub last_push_stays : LeavesPush → (o : Option ℕ) → ((p : ℕ) → o ≡ Some p → Produces capacity f b j × (f.write ≡ p + 1)) → (p : ℕ) → o ≡ Some p → Produces capacity g c j × (g.write ≡ p + 1)
+  last_push_stays l o k p e = let h = k p e in let now = l h.0 in (now.0, now.1 ∙ h.1)
+
+  pub last_pop_stays : LeavesPop → (o : Option ℕ) → ((p : ℕ) → o ≡ Some p → Consumes capacity f b j × (f.read ≡ p + 1)) → (p : ℕ) → o ≡ Some p → Consumes capacity g c j × (g.read ≡ p + 1)
+  last_pop_stays l o k p e = let h = k p e in let now = l h.0 in (now.0, now.1 ∙ h.1)
+
+  pub published_stays : Onwards → (xs : List (ℕ × T)) → All (IsPublished capacity f b j) xs → All (IsPublished capacity g c j) xs
+  published_stays t xs h =
+      All-weaker (IsPublished capacity f b j) (IsPublished capacity g c j)
+      (λ x k. let low = k.0 in let up = t.write in (omega arith, t.log x.0 k.0 ∙ k.1, t.publisher x.0 k.0 k.2)) xs h
+
+  pub taken_stays : Onwards → (xs : List (ℕ × T)) → All (IsTaken capacity f b j) xs → All (IsTaken capacity g c j) xs
+  taken_stays t xs h =
+      All-weaker (IsTaken capacity f b j) (IsTaken capacity g c j)
+      (λ x k. let low = k.0 in let up = t.read in let behind = t.behind in (omega arith, t.log x.0 (omega arith) ∙ k.1, t.taker x.0 k.0 k.2)) xs h
+
+  pub stays : Passes → (v : View T) → Knows capacity f b j v → Knows capacity g c j v
+  stays t v k =
+      record {
+        push = push_stays t.onwards t.push v.push k.push;
+        last_push = last_push_stays t.push v.last_push k.last_push;
+        pop = pop_stays t.onwards t.pop v.pop k.pop;
+        last_pop = last_pop_stays t.pop v.last_pop k.last_pop;
+        published = published_stays t.onwards v.published k.published;
+        taken = taken_stays t.onwards v.taken k.taken;
+        published_once = k.published_once;
+        taken_once = k.taken_once;
+      }
+
+module _ {T : Type 0} (capacity : ℕ) (f : Face) (b : Book T) (j : ℕ) (v : View T) (k : Knows capacity f b j v) where
+  pub knows_push : (stage : PushStage) → KnowsPush capacity f b j stage → Knows capacity f b j (with_push stage v)
+  knows_push stage h =
+      record {
+        push = h;
+        last_push = k.last_push;
+        pop = k.pop;
+        last_pop = k.last_pop;
+        published = k.published;
+        taken = k.taken;
+        published_once = k.published_once;
+        taken_once = k.taken_once;
+      }
+
+  pub knows_pop : (stage : PopStage T) → KnowsPop capacity f b j stage → Knows capacity f b j (with_pop stage v)
+  knows_pop stage h =
+      record {
+        push = k.push;
+        last_push = k.last_push;
+        pop = h;
+        last_pop = k.last_pop;
+        published = k.published;
+        taken = k.taken;
+        published_once = k.published_once;
+        taken_once = k.taken_once;
+      }
+
+  -- the pairs of one seat fit together
+  pub sound : f.read ≤ f.write → f.write ≤ f.read + capacity → v.capacity ≡ capacity → Sound v
+  sound behind within is =
+      record {
+        published = k.published_once;
+        taken = k.taken_once;
+        values = λ i d lt p e near same.
+            let x = k.published i d lt in
+            let y = k.taken p e near in
+            sym x.1 ∙ (ap b.log same ∙ y.1);
+        last_push = λ p e.
+            let at = (k.last_push p e).1 in (
+              All-weaker (IsPublished capacity f b j) (λ x. x.0 < p + 1) (λ x h. let low = h.0 in omega arith) v.published k.published,
+              All-weaker (IsTaken capacity f b j) (λ x. x.0 < p + 1) (λ x h. let low = h.0 in omega arith) v.taken k.taken,
+            );
+        last_pop = λ p e.
+            let at = (k.last_pop p e).1 in (
+              All-weaker (IsTaken capacity f b j) (λ x. x.0 ≤ p) (λ x h. let low = h.0 in omega arith) v.taken k.taken,
+              All-weaker (IsPublished capacity f b j) (λ x. x.0 ≤ p + v.capacity) (λ x h. let low = h.0 in omega arith) v.published k.published,
+            );
+      }
+
+module _ {T : Type 0} (words_of : T → List ℕ) (n : ℕ) (capacity : ℕ) where
+  abbrev pub St : Type 0
+  St = State (Unit {0}) (View T)
+
+  -- the seat id steps, and the others know what they knew
+  pub steps : (s : St) (r : Kept words_of n capacity s) (ws : List ℕ) (id : ℕ) (w : View T) (c : Book T) → length ws ≡ length s.words
+      → Fits words_of n capacity (face capacity n ws) c.log → Knows capacity (face capacity n ws) c id w
+      → ((j : ℕ) → j ≢ id → Passes capacity (face capacity n s.words) (face capacity n ws) r.book c j)
+      → Kept words_of n capacity record { words = ws; homes = s.homes; views = set s.views id w }
+  steps s r ws id w c long fits mine others =
+      record {
+        book = c;
+        wide = long ∙ r.wide;
+        fits = fits;
+        seats = λ j v e. ⊎_elim
+            (λ (t : (j ≡ id) × (w ≡ v)). subst (λ (x : ℕ × View T). Knows capacity (face capacity n ws) c x.0 x.1) (λ i. (sym t.0 i, t.1 i)) mine)
+            (λ (t : (j ≢ id) × (get_elem? s.views j ≡ some v)). stays capacity (face capacity n s.words) (face capacity n ws) r.book c j (others j t.0) v (r.seats j v t.1))
+            (at_set s.views id j w v e);
+      }
+
+  -- nothing that a seat sees changes
+  pub onwards_same : (f : Face) (b : Book T) (j : ℕ) → f.read ≤ f.write → Onwards capacity f f b b j
+  onwards_same f b j behind =
+      record {
+        behind = behind;
+        write = le_refl f.write;
+        read = le_refl f.read;
+        log = λ p l. refl;
+        publisher = λ p l e. e;
+        taker = λ p l e. e;
+      }
+
+  -- a step that changes no word
+  pub looks : (s : St) (r : Kept words_of n capacity s) (word id : ℕ) (held : List (ℕ × Unit {0})) (w : View T) → Knows capacity (face capacity n s.words) r.book id w
+      → Kept words_of n capacity (stepped s word (get_or s.words word 0) id held w keeps)
+  looks s r word id held w mine =
+      subst (λ (ws : List ℕ). Kept words_of n capacity record { words = ws; homes = s.homes; views = set s.views id w }) (sym (set-get_or s.words word 0))
+      (steps s r s.words id w r.book refl r.fits mine (λ j other. record { onwards = onwards_same (face capacity n s.words) r.book j r.fits.behind; push = λ k. (k, refl, λ p i. refl); pop = λ k. (k, refl) }))
+
+  -- a step that changes one of the first four words leaves the cells
+  pub cells_stay : (ws : List ℕ) (word x : ℕ) → word < 4 → (p i : ℕ) → (face capacity n (set ws word x)).cell p i ≡ (face capacity n ws).cell p i
+  cells_stay ws word x low p i = get_or-set_other ws word (place capacity n p i) x 0 (λ e. absurd (omega arith))

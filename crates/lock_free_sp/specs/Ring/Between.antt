@@ -1,0 +1,33 @@
+-- What holds of the pairs that one pass knows, and of the pairs of any two.
+use Rattle.std.specs.Prelude.{◌≡◌, ◌≢◌, ℕ, ◌+◌, ◌<◌, ◌≤◌, Some, List, All, AllPairs}
+use Rattle.lock_free_sp.specs.declared.ring.view.View.{View}
+
+module _ {T : Type 0} where
+  -- no position stands in both
+  abbrev pub Apart : List (ℕ × T) → List (ℕ × T) → Type 0
+  Apart xs ys = All (λ (x : ℕ × T). All (λ (y : ℕ × T). x.0 ≢ y.0) ys) xs
+
+  -- equal positions carry equal values
+  abbrev pub Agree : List (ℕ × T) → List (ℕ × T) → Type 0
+  Agree xs ys = All (λ (x : ℕ × T). All (λ (y : ℕ × T). x.0 ≡ y.0 → x.1 ≡ y.1) ys) xs
+
+  -- each position that the view knows is below p
+  abbrev pub Below : ℕ → View T → Type 0
+  Below p v = All (λ (x : ℕ × T). x.0 < p) v.published × All (λ (x : ℕ × T). x.0 < p) v.taken
+
+  -- what holds of each pass, and of each guard
+  pub record Sound (v : View T) : Type 0 where
+    pub published : AllPairs (λ (x y : ℕ × T). x.0 ≢ y.0) v.published
+    pub taken : AllPairs (λ (x y : ℕ × T). x.0 ≢ y.0) v.taken
+    pub values : Agree v.published v.taken
+    pub last_push : (p : ℕ) → v.last_push ≡ Some p → Below (p + 1) v
+    pub last_pop : (p : ℕ) → v.last_pop ≡ Some p → All (λ (x : ℕ × T). x.0 ≤ p) v.taken × All (λ (x : ℕ × T). x.0 ≤ p + v.capacity) v.published
+
+  -- what holds between a pass, or a guard, and another pass
+  pub record Ruled (v w : View T) : Type 0 where
+    pub published : Apart v.published w.published
+    pub taken : Apart v.taken w.taken
+    pub published_taken : Agree v.published w.taken
+    pub taken_published : Agree v.taken w.published
+    pub last_push : (p : ℕ) → v.last_push ≡ Some p → Below (p + 1) w
+    pub last_pop : (p : ℕ) → v.last_pop ≡ Some p → All (λ (x : ℕ × T). x.0 ≤ p) w.taken × All (λ (x : ℕ × T). x.0 ≤ p + v.capacity) w.published

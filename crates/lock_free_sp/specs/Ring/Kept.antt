@@ -1,0 +1,87 @@
+-- The rule of a ring's table: how its words, its history and the views of all seats fit together.
+use Rattle.std.specs.Prelude.{◌≡◌, ◌≢◌, ℕ, ◌+◌, ◌-◌, ◌*◌, ◌^◌, ◌<◌, ◌≤◌, Some, List, length, All, AllPairs, slice_index}
+use mathlib.Core.Option.{some}
+use lib.ListN.{get_elem?}
+use Rattle.atomic_table.specs.Table.{State}
+use Rattle.lock_free_sp.specs.declared.ring.view.PushStage.{PushStage}
+use Rattle.lock_free_sp.specs.declared.ring.view.PushStage.TheVariants as pushing
+use Rattle.lock_free_sp.specs.declared.ring.view.PopStage.{PopStage}
+use Rattle.lock_free_sp.specs.declared.ring.view.PopStage.TheVariants as popping
+use Rattle.lock_free_sp.specs.declared.ring.view.View.{View}
+use Rattle.lock_free_sp.specs.Ring.Tells.{place}
+
+-- the words, as numbers
+pub record Face : Type 0 where
+  pub write : ℕ
+  pub read : ℕ
+  pub producer : ℕ  -- 0 while the role is taken
+  pub consumer : ℕ
+  pub cell : ℕ → ℕ → ℕ  -- of a position, at a place
+
+-- what has happened: the value at each position, who published it and who took it, and who has the roles
+pub record Book (T : Type 0) : Type 0 where
+  pub log : ℕ → T
+  pub publisher : ℕ → ℕ
+  pub taker : ℕ → ℕ
+  pub producer : ℕ
+  pub consumer : ℕ
+
+abbrev pub face : ℕ → ℕ → List ℕ → Face
+face capacity n words =
+    record {
+      write = slice_index words 0;
+      read = slice_index words 1;
+      producer = slice_index words 2;
+      consumer = slice_index words 3;
+      cell = λ p i. slice_index words (place capacity n p i);
+    }
+
+module _ {T : Type 0} (capacity : ℕ) (f : Face) (b : Book T) (seat : ℕ) where
+  abbrev pub Produces : Type 0
+  Produces = (f.producer ≡ 0) × (seat ≡ b.producer)
+
+  abbrev pub Consumes : Type 0
+  Consumes = (f.consumer ≡ 0) × (seat ≡ b.consumer)
+
+  abbrev pub KnowsPush : PushStage → Type 0
+  KnowsPush pushing.Away = Unit {0}
+  KnowsPush pushing.Ready = Produces
+  KnowsPush (pushing.SawWrite p) = Produces × (f.write ≡ p) × (p ≢ 2 ^ 64 - 1)
+  KnowsPush (pushing.Storing p ws) =
+      Produces × (f.write ≡ p) × (p ≢ 2 ^ 64 - 1) × (p < f.read + capacity) × ((i : ℕ) → i < length ws → f.cell p i ≡ slice_index ws i)
+
+  abbrev pub KnowsPop : PopStage T → Type 0
+  KnowsPop popping.Away = Unit {0}
+  KnowsPop popping.Ready = Consumes
+  KnowsPop (popping.SawRead p) = Consumes × (f.read ≡ p)
+  KnowsPop (popping.SawValue p x) = Consumes × (f.read ≡ p) × (p < f.write) × (b.log p ≡ x)
+
+  abbrev pub IsPublished : ℕ × T → Type 0
+  IsPublished x = (x.0 < f.write) × (b.log x.0 ≡ x.1) × (b.publisher x.0 ≡ seat)
+
+  abbrev pub IsTaken : ℕ × T → Type 0
+  IsTaken x = (x.0 < f.read) × (b.log x.0 ≡ x.1) × (b.taker x.0 ≡ seat)
+
+  pub record Knows (v : View T) : Type 0 where
+    pub push : KnowsPush v.push
+    pub last_push : (p : ℕ) → v.last_push ≡ Some p → Produces × (f.write ≡ p + 1)
+    pub pop : KnowsPop v.pop
+    pub last_pop : (p : ℕ) → v.last_pop ≡ Some p → Consumes × (f.read ≡ p + 1)
+    pub published : All IsPublished v.published
+    pub taken : All IsTaken v.taken
+    pub published_once : AllPairs (λ (x y : ℕ × T). x.0 ≢ y.0) v.published
+    pub taken_once : AllPairs (λ (x y : ℕ × T). x.0 ≢ y.0) v.taken
+
+module _ {T : Type 0} (words_of : T → List ℕ) (n : ℕ) (capacity : ℕ) where
+  -- at most the capacity waits, and what waits stands in the cells
+  pub record Fits (f : Face) (log : ℕ → T) : Type 0 where
+    pub behind : f.read ≤ f.write
+    pub within : f.write ≤ f.read + capacity
+    pub small : f.write < 2 ^ 64
+    pub cells : (p i : ℕ) → f.read ≤ p → p < f.write → i < n → f.cell p i ≡ slice_index (words_of (log p)) i
+
+  pub record Kept (s : State (Unit {0}) (View T)) : Type 0 where
+    pub book : Book T
+    pub wide : length s.words ≡ n * capacity + 4
+    pub fits : Fits (face capacity n s.words) book.log
+    pub seats : (j : ℕ) (v : View T) → get_elem? s.views j ≡ some v → Knows capacity (face capacity n s.words) book j v

@@ -1,0 +1,98 @@
+-- What each step tells its seat: of the view before, the number found (at a store, the number stored) and the view after.
+use Rattle.std.specs.Prelude.{◌≡◌, ◌≢◌, ℕ, ◌+◌, ◌-◌, ◌*◌, ◌%◌, ◌^◌, ◌<◌, ◌≤◌, Some, List, [], ◌∷◌, ◌++◌, All, slice_index}
+use Rattle.atomic_table.specs.Table.{Me, Step}
+use Rattle.lock_free_sp.specs.declared.ring.view.PushStage.{PushStage}
+use Rattle.lock_free_sp.specs.declared.ring.view.PushStage.TheVariants as pushing
+use Rattle.lock_free_sp.specs.declared.ring.view.PopStage.TheVariants as popping
+use Rattle.lock_free_sp.specs.declared.ring.view.View.{View}
+use Rattle.lock_free_sp.specs.Ring.Views.{with_push, with_pop, with_producer, without_producer, with_consumer, without_consumer, pushed, popped}
+use Rattle.lock_free_sp.specs.Ring.Between.{Below, Sound}
+
+-- the word of a position's cell at a place, where a value has n words
+abbrev pub place : ℕ → ℕ → ℕ → ℕ → ℕ
+place capacity n p i = 4 + n * (p % capacity) + i
+
+-- one word more is stored
+abbrev pub with_word : ℕ → PushStage → PushStage
+with_word x pushing.Away = pushing.Away
+with_word x pushing.Ready = pushing.Ready
+with_word x (pushing.SawWrite p) = pushing.SawWrite p
+with_word x (pushing.Storing p ws) = pushing.Storing p (ws ++ x ∷ [])
+
+module _ {T : Type 0} where
+  -- no slot is out with the seat that was not
+  abbrev pub tells : (View T → ℕ → View T → Type 0) → Step (Unit {0}) → Me (Unit {0}) (View T) → ℕ → Me (Unit {0}) (View T) → Type 0
+  tells told step old n new = told old.0 n new.0 × (new.1 ≡ old.1)
+
+  abbrev pub took_producer : View T → ℕ → View T → Type 0
+  took_producer v n w = (n ≡ 1 → w ≡ with_producer v) × (n ≢ 1 → w ≡ v)
+
+  abbrev pub left_producer : View T → ℕ → View T → Type 0
+  left_producer v n w = w ≡ without_producer v
+
+  abbrev pub took_consumer : View T → ℕ → View T → Type 0
+  took_consumer v n w = (n ≡ 1 → w ≡ with_consumer v) × (n ≢ 1 → w ≡ v)
+
+  abbrev pub left_consumer : View T → ℕ → View T → Type 0
+  left_consumer v n w = w ≡ without_consumer v
+
+  -- at the last position the push is over
+  abbrev pub saw_write : View T → ℕ → View T → Type 0
+  saw_write v n w =
+      (n ≡ 2 ^ 64 - 1 → w ≡ v)
+      × (n ≢ 2 ^ 64 - 1 → w ≡ with_push (pushing.SawWrite n) v)
+      × ((q : ℕ) → v.last_push ≡ Some q → n ≡ q + 1)
+
+  -- of the write position p and the read position n: where the queue is full the push is over
+  pub record SawRoom (v : View T) (n : ℕ) (w : View T) (p : ℕ) : Type 0 where
+    pub behind : n ≤ p
+    pub within : p ≤ n + v.capacity
+    pub room : p ≢ n + v.capacity → w ≡ with_push (pushing.Storing p []) v
+    pub full : p ≡ n + v.capacity → (w ≡ with_push pushing.Ready v) × All (λ (x : ℕ × T). x.0 + v.capacity < p) v.taken
+
+  abbrev pub saw_room : View T → ℕ → View T → Type 0
+  saw_room v n w = (p : ℕ) → v.push ≡ pushing.SawWrite p → SawRoom v n w p
+
+  abbrev pub stored : View T → ℕ → View T → Type 0
+  stored v n w = w ≡ with_push (with_word n v.push) v
+
+  -- the value x is published at p
+  pub record Published (v w : View T) (p : ℕ) (x : T) : Type 0 where
+    pub view : w ≡ pushed p x v
+    pub above : Below p v
+    pub next : (q : ℕ) → v.last_push ≡ Some q → p ≡ q + 1
+    pub sound : Sound w
+
+  abbrev pub published_at : (T → List ℕ) → View T → ℕ → View T → Type 0
+  published_at words v n w = (p : ℕ) (x : T) → v.push ≡ pushing.Storing p (words x) → Published v w p x
+
+  abbrev pub saw_read : View T → ℕ → View T → Type 0
+  saw_read v n w =
+      (w ≡ with_pop (popping.SawRead n) v) × ((q : ℕ) → v.last_pop ≡ Some q → n ≡ q + 1)
+
+  -- of the read position p and the write position n: where the queue is empty the pop is over
+  pub record SawValue (v : View T) (n : ℕ) (w : View T) (p : ℕ) : Type 0 where
+    pub behind : p ≤ n
+    pub some : p ≢ n → (x : T) × (w ≡ with_pop (popping.SawValue p x) v)
+    pub none : p ≡ n → (w ≡ with_pop popping.Ready v) × All (λ (x : ℕ × T). x.0 < p) v.published
+    pub within : n ≤ p + v.capacity
+
+  abbrev pub saw_value : View T → ℕ → View T → Type 0
+  saw_value v n w = (p : ℕ) → v.pop ≡ popping.SawRead p → SawValue v n w p
+
+  abbrev pub loaded : (T → List ℕ) → ℕ → ℕ → View T → ℕ → View T → Type 0
+  loaded words n word v found w =
+      (w ≡ v) × ((p i : ℕ) (x : T) → v.pop ≡ popping.SawValue p x → word ≡ place v.capacity n p i → i < n → found ≡ slice_index (words x) i)
+
+  -- the value x is taken at p
+  pub record Taken (v w : View T) (p : ℕ) (x : T) : Type 0 where
+    pub view : w ≡ popped p x v
+    pub above : All (λ (y : ℕ × T). y.0 < p) v.taken
+    pub next : (q : ℕ) → v.last_pop ≡ Some q → p ≡ q + 1
+    pub sound : Sound w
+
+  abbrev pub taken_at : View T → ℕ → View T → Type 0
+  taken_at v n w = (p : ℕ) (x : T) → v.pop ≡ popping.SawValue p x → Taken v w p x
+
+  abbrev pub learned : View T → ℕ → View T → Type 0
+  learned v n w = (w ≡ v) × Sound v

@@ -1,0 +1,52 @@
+-- What a seat knows of a ring, and how that changes.
+use Rattle.std.specs.Prelude.{ℕ, Some, None, [], ◌∷◌, ◌++◌}
+use Rattle.lock_free_sp.specs.declared.ring.view.PushStage.{PushStage}
+use Rattle.lock_free_sp.specs.declared.ring.view.PushStage.TheVariants as pushing
+use Rattle.lock_free_sp.specs.declared.ring.view.PopStage.{PopStage}
+use Rattle.lock_free_sp.specs.declared.ring.view.PopStage.TheVariants as popping
+use Rattle.lock_free_sp.specs.declared.ring.view.View.{View}
+
+module _ {T : Type 0} where
+  -- it knows nothing, and has no role
+  abbrev pub blank : ℕ → View T
+  blank capacity =
+      record {
+        capacity = capacity;
+        push = pushing.Away;
+        last_push = None;
+        pop = popping.Away;
+        last_pop = None;
+        published = [];
+        taken = [];
+      }
+
+  abbrev pub with_push : PushStage → View T → View T
+  with_push stage v = record v { push = stage }
+
+  abbrev pub with_pop : PopStage T → View T → View T
+  with_pop stage v = record v { pop = stage }
+
+  -- the producer's role, and no push yet
+  abbrev pub with_producer : View T → View T
+  with_producer v = record v { push = pushing.Ready; last_push = None }
+
+  abbrev pub without_producer : View T → View T
+  without_producer v = record v { push = pushing.Away; last_push = None }
+
+  abbrev pub with_consumer : View T → View T
+  with_consumer v = record v { pop = popping.Ready; last_pop = None }
+
+  abbrev pub without_consumer : View T → View T
+  without_consumer v = record v { pop = popping.Away; last_pop = None }
+
+  -- a push of x at the position p is done
+  abbrev pub pushed : ℕ → T → View T → View T
+  pushed p x v = record v { push = pushing.Ready; last_push = Some p; published = v.published ++ (p, x) ∷ [] }
+
+  -- a pop of x at the position p is done
+  abbrev pub popped : ℕ → T → View T → View T
+  popped p x v = record v { pop = popping.Ready; last_pop = Some p; taken = v.taken ++ (p, x) ∷ [] }
+
+  -- what both know, with the roles of the first
+  abbrev pub joined : View T → View T → View T
+  joined v w = record v { published = v.published ++ w.published; taken = v.taken ++ w.taken }

@@ -1,0 +1,39 @@
+//! How a ring's table is made.
+ghost use Rattle.std.specs.Prelude.{◌≡◌, IfOk};
+ghost use Rattle.std.specs.Arc.{arc_value};
+ghost use Rattle.lock_free_sp.specs.Ring.Views.{blank};
+ghost use Rattle.lock_free_sp.specs.Ring.Calls.{seen, table_of};
+
+use super::rule::Board;
+use super::token::{Held, Token};
+use atomic_table::Table;
+use std::alloc::{AllocError, Global};
+use std::sync::Arc;
+use steps::ring::{CONSUMER, FIRST_CELL, PRODUCER, READ, WRITE};
+use steps::words::Words;
+
+/// An empty ring with both positions here and both roles free, and a token that knows nothing.
+pub fn open<T: Words>(
+    alloc: Global,
+    capacity: u32,
+    position: u64,
+) -> Result<(Arc<Board<T>, Global>, Token<T>), AllocError>
+    ensures table { IfOk result (λ r. table_of r.1 ≡ (arc_value r.0).shared.table_id) }
+    ensures view { IfOk result (λ r. seen r.1 ≡ blank capacity) }
+    ensures capacity { IfOk result (λ r. r.1.capacity ≡ capacity) }
+{
+    let mut words = Vec::from_elem(alloc, 0u64, T::WORDS * capacity as usize + FIRST_CELL)?;
+    words[WRITE] = position;
+    words[READ] = position;
+    words[PRODUCER] = 1;
+    words[CONSUMER] = 1;
+    let (table, seat) = Table::of_words(alloc, words.as_slice(), &(capacity as u64))?;
+    let board = Arc::new(alloc, table)?;
+    let shared = Arc::try_clone(&board)?;
+    let token = Held {
+        seat,
+        board: shared,
+        capacity,
+    };
+    Ok((board, token))
+}

@@ -1,0 +1,116 @@
+//! What each step on a ring's table tells. These types are for the proofs alone.
+ghost use Rattle.lock_free_sp.specs.Ring.Views.{blank, joined};
+ghost use Rattle.lock_free_sp.specs.Ring.Tells.{tells, took_producer, left_producer, took_consumer, left_consumer, saw_write, saw_room, stored, published_at, saw_read, saw_value, loaded, taken_at, learned};
+
+use super::view::View;
+use atomic_table::{Join, Play, Split};
+use steps::words::Words;
+
+/// An exchange of the producer's role.
+pub struct TakesProducer;
+
+impl<T: Words> Play<(), View<T>> for TakesProducer {
+    ghost then = { tells took_producer };
+}
+
+/// A store of the producer's role.
+pub struct LeavesProducer;
+
+impl<T: Words> Play<(), View<T>> for LeavesProducer {
+    ghost then = { tells left_producer };
+}
+
+/// An exchange of the consumer's role.
+pub struct TakesConsumer;
+
+impl<T: Words> Play<(), View<T>> for TakesConsumer {
+    ghost then = { tells took_consumer };
+}
+
+/// A store of the consumer's role.
+pub struct LeavesConsumer;
+
+impl<T: Words> Play<(), View<T>> for LeavesConsumer {
+    ghost then = { tells left_consumer };
+}
+
+/// A push's load of the write position.
+pub struct SeesWrite;
+
+impl<T: Words> Play<(), View<T>> for SeesWrite {
+    ghost then = { tells saw_write };
+}
+
+/// A push's load of the read position.
+pub struct SeesRoom;
+
+impl<T: Words> Play<(), View<T>> for SeesRoom {
+    ghost then = { tells saw_room };
+}
+
+/// A push's store of a word into its cell.
+pub struct StoresWord;
+
+impl<T: Words> Play<(), View<T>> for StoresWord {
+    ghost then = { tells stored };
+}
+
+/// A push's store of the write position.
+pub struct Publishes;
+
+impl<T: Words> Play<(), View<T>> for Publishes {
+    ghost then = { tells (published_at T.words_of) };
+}
+
+/// A pop's load of the read position.
+pub struct SeesRead;
+
+impl<T: Words> Play<(), View<T>> for SeesRead {
+    ghost then = { tells saw_read };
+}
+
+/// A pop's load of the write position.
+pub struct SeesValue;
+
+impl<T: Words> Play<(), View<T>> for SeesValue {
+    ghost then = { tells saw_value };
+}
+
+/// A pop's load of a word of its cell.
+pub struct LoadsWord;
+
+impl<T: Words> Play<(), View<T>> for LoadsWord {
+    ghost then = { λ step. tells (loaded T.words_of T.WORDS step.word) step };
+}
+
+/// A pop's store of the read position.
+pub struct Takes;
+
+impl<T: Words> Play<(), View<T>> for Takes {
+    ghost then = { tells taken_at };
+}
+
+/// A load that shows how the pairs that the seat knows fit together.
+pub struct Learns;
+
+impl<T: Words> Play<(), View<T>> for Learns {
+    ghost then = { tells learned };
+}
+
+/// A new seat that knows nothing.
+pub struct Cut;
+
+impl<T: Words> Split<View<T>> for Cut {
+    ghost left = { λ v. v };
+
+    ghost right = { λ v. blank v.capacity };
+}
+
+/// Both views in one, with the roles of the first.
+pub struct Both;
+
+impl<T: Words> Join<View<T>> for Both {
+    ghost both = { joined };
+
+    ghost spent = { blank 0 };
+}

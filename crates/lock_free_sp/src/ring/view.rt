@@ -1,0 +1,41 @@
+//! What a seat at the table of a ring knows. No value of these types is made: they are for contracts and proofs.
+use std::collections::LinkedList;
+
+/// Where a seat's push stands.
+pub enum PushStage {
+    /// The seat does not have the producer's role.
+    Away,
+    /// It has the role, and no push is under way.
+    Ready,
+    /// It has loaded the write position.
+    SawWrite(u64),
+    /// There is room at this position, and these words stand in its cell so far.
+    Storing(u64, LinkedList<u64>),
+}
+
+/// Where a seat's pop stands.
+pub enum PopStage<T> {
+    /// The seat does not have the consumer's role.
+    Away,
+    /// It has the role, and no pop is under way.
+    Ready,
+    /// It has loaded the read position.
+    SawRead(u64),
+    /// This value waits at the read position.
+    SawValue(u64, T),
+}
+
+/// What a seat knows.
+pub struct View<T> {
+    pub capacity: u64,
+    pub push: PushStage,
+    /// The position of the last push since it has the producer's role.
+    pub last_push: Option<u64>,
+    pub pop: PopStage<T>,
+    /// The position of the last pop since it has the consumer's role.
+    pub last_pop: Option<u64>,
+    /// The positions at which it has published, with the values.
+    pub published: LinkedList<(u64, T)>,
+    /// The positions at which it has taken, with the values.
+    pub taken: LinkedList<(u64, T)>,
+}

@@ -1,0 +1,69 @@
+//! The bounded queue of numbers of 64 bits with one producer and one consumer, shared between threads.
+ghost use Rattle.std.specs.Prelude.{◌≡◌, None};
+ghost use Rattle.lock_free_sp.specs.declared.ring.view.PushStage.TheVariants as pushing;
+ghost use Rattle.lock_free_sp.specs.declared.ring.view.PopStage.TheVariants as popping;
+
+use crate::ring::rule::Board;
+use crate::ring::token::Token;
+use std::alloc::Global;
+use std::sync::Arc;
+
+mod calls;
+mod fixed;
+
+/// A queue of at most its capacity of numbers, from 0 to 2^32 - 1.
+#[derive(Drop)]
+pub struct IndexQueue {
+    board: Arc<Board<u64>, Global>,
+    capacity: u32,
+}
+
+/// A queue of CAPACITY numbers, which is from 0 to 2^32 - 1.
+#[derive(Drop)]
+pub struct FixedSizeIndexQueue<const CAPACITY: usize> {
+    queue: IndexQueue,
+    ghost sized: { queue.capacity ≡ CAPACITY },
+}
+
+/// What a caller knows of a queue, by which it makes its calls. It has no role.
+#[derive(Drop)]
+pub struct Pass {
+    token: Token<u64>,
+    ghost idle: { (token.seat.me.0.push ≡ pushing.Away) × (token.seat.me.0.last_push ≡ None) × (token.seat.me.0.pop ≡ popping.Away) × (token.seat.me.0.last_pop ≡ None) },
+}
+
+/// The end of a queue that pushes. There is one at a time. It owns the pass that it was acquired with.
+pub struct Producer<'a> {
+    queue: &'a IndexQueue,
+    token: Token<u64>,
+    ghost role: { (token.seat.me.0.push ≡ pushing.Ready) × (token.seat.me.0.pop ≡ popping.Away) × (token.seat.me.0.last_pop ≡ None) },
+}
+
+/// The end of a queue that pops. There is one at a time. It owns the pass that it was acquired with.
+pub struct Consumer<'a> {
+    queue: &'a IndexQueue,
+    token: Token<u64>,
+    ghost role: { (token.seat.me.0.pop ≡ popping.Ready) × (token.seat.me.0.push ≡ pushing.Away) × (token.seat.me.0.last_push ≡ None) },
+}
+
+impl<'a> Drop for Producer<'a> {
+    /// Gives the role back.
+    fn drop(self) {
+        let Self {
+            queue: _,
+            mut token,
+        } = self;
+        token.leave_producer();
+    }
+}
+
+impl<'a> Drop for Consumer<'a> {
+    /// Gives the role back.
+    fn drop(self) {
+        let Self {
+            queue: _,
+            mut token,
+        } = self;
+        token.leave_consumer();
+    }
+}

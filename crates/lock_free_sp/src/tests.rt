@@ -1,0 +1,233 @@
+//! Real calls, alone and between threads.
+use crate::ring::board::open;
+use crate::spsc::index_queue::{Consumer, FixedSizeIndexQueue, IndexQueue, Producer};
+use std::process::Abort;
+use std::sync::Wait;
+use std::test::Fail;
+use std::thread;
+use steps::ask::{After, Call, Want};
+use steps::enums::UniqueIndexCreationError;
+use steps::ring::{Pop, Push};
+
+#[test]
+fn push_and_pop_at_capacity_128(rt: HostRuntime) -> Result<(), Fail> {
+    let (queue, mut pass) = FixedSizeIndexQueue::<128>::new(rt.alloc())?;
+    let mine = pass.split().ok_or("no pass")?;
+    let other = pass.split().ok_or("no pass")?;
+    let mut producer = queue.acquire_producer(mine).map_err(|_| "taken")?;
+    let mut consumer = queue.acquire_consumer(other).map_err(|_| "taken")?;
+    assert_eq!(rt; consumer.pop(), None);
+    assert!(rt; queue.is_empty(&rt, &mut pass));
+    assert!(rt; producer.push(1234));
+    assert_eq!(rt; queue.len(&rt, &mut pass), 1);
+    assert!(rt; !queue.is_full(&rt, &mut pass));
+    assert_eq!(rt; consumer.pop(), Some(1234));
+    assert_eq!(rt; consumer.pop(), None);
+    assert_eq!(rt; queue.capacity(), 128);
+    Ok(())
+}
+
+#[test]
+fn a_queue_of_capacity_0_is_full_and_empty(rt: HostRuntime) -> Result<(), Fail> {
+    let (queue, mut pass) = IndexQueue::new(rt.alloc(), 0)?;
+    let mine = pass.split().ok_or("no pass")?;
+    let mut producer = queue.acquire_producer(mine).map_err(|_| "taken")?;
+    assert!(rt; !producer.push(1));
+    let mut consumer = queue
+        .acquire_consumer(producer.release())
+        .map_err(|_| "taken")?;
+    assert_eq!(rt; consumer.pop(), None);
+    assert_eq!(rt; queue.len(&rt, &mut pass), 0);
+    assert!(rt; queue.is_empty(&rt, &mut pass));
+    assert!(rt; queue.is_full(&rt, &mut pass));
+    Ok(())
+}
+
+#[test]
+fn a_role_is_taken_once(rt: HostRuntime) -> Result<(), Fail> {
+    let (queue, mut pass) = IndexQueue::new(rt.alloc(), 2)?;
+    let second = pass.split().ok_or("no pass")?;
+    let third = pass.split().ok_or("no pass")?;
+    let producer = queue.acquire_producer(pass).map_err(|_| "taken")?;
+    let Err(second) = queue.acquire_producer(second) else {
+        return Err(Fail::from("the role was taken twice"));
+    };
+    let mut consumer = queue.acquire_consumer(second).map_err(|_| "taken")?;
+    let Err(third) = queue.acquire_consumer(third) else {
+        return Err(Fail::from("the role was taken twice"));
+    };
+    // A guard that is released or dropped gives its role back.
+    let mut first = producer.release();
+    first.join(third);
+    let mut producer = queue.acquire_producer(first).map_err(|_| "taken")?;
+    assert!(rt; producer.push(7));
+    assert_eq!(rt; consumer.pop(), Some(7));
+    drop(consumer);
+    let mut consumer = queue
+        .acquire_consumer(producer.release())
+        .map_err(|_| "taken")?;
+    assert_eq!(rt; consumer.pop(), None);
+    drop(consumer);
+    Ok(())
+}
+
+#[test]
+fn a_dropped_producer_gives_its_role_back(rt: HostRuntime) -> Result<(), Fail> {
+    let (queue, mut pass) = IndexQueue::new(rt.alloc(), 2)?;
+    let second = pass.split().ok_or("no pass")?;
+    {
+        let mut producer = queue.acquire_producer(pass).map_err(|_| "taken")?;
+        assert!(rt; producer.push(1));
+    }
+    let mut producer = queue.acquire_producer(second).map_err(|_| "taken")?;
+    assert!(rt; producer.push(2));
+    assert!(rt; !producer.push(3));
+    let mut consumer = queue
+        .acquire_consumer(producer.release())
+        .map_err(|_| "taken")?;
+    assert_eq!(rt; consumer.pop(), Some(1));
+    assert_eq!(rt; consumer.pop(), Some(2));
+    Ok(())
+}
+
+#[test]
+fn capacities(rt: HostRuntime) {
+    let above = UniqueIndexCreationError::ProvidedCapacityGreaterThanMaxCapacity;
+    assert_eq!(rt; IndexQueue::new(rt.alloc(), 4294967296).err(), Some(above));
+    assert_eq!(rt;
+        FixedSizeIndexQueue::<4294967296>::new(rt.alloc()).err(),
+        Some(above)
+    );
+}
+
+#[test]
+fn the_last_write_position_takes_nothing(rt: HostRuntime) -> Result<(), Fail> {
+    let (queue, pass) = IndexQueue::new_at(rt.alloc(), 2, u64::MAX - 1)?;
+    let mut producer = queue.acquire_producer(pass).map_err(|_| "taken")?;
+    assert!(rt; producer.push(1));
+    assert!(rt; !producer.push(2));
+    let mut consumer = queue
+        .acquire_consumer(producer.release())
+        .map_err(|_| "taken")?;
+    assert_eq!(rt; consumer.pop(), Some(1));
+    assert_eq!(rt; consumer.pop(), None);
+    Ok(())
+}
+
+/// Pushes 0 to 999, each until it is taken.
+fn push_all(rt: &impl Wait, mut producer: Producer<'_>) {
+    for value in 0..1000 {
+        for _ in rt.forever() {
+            if producer.push(value) {
+                break;
+            }
+            thread::yield_now();
+        }
+    }
+}
+
+/// Whether the first 1,000 numbers are 0 to 999 in order.
+fn pop_all(rt: &impl Wait, mut consumer: Consumer<'_>) -> bool {
+    let mut ordered = true;
+    for expected in 0..1000 {
+        for _ in rt.forever() {
+            if let Some(value) = consumer.pop() {
+                ordered &= value == expected;
+                break;
+            }
+            thread::yield_now();
+        }
+    }
+    ordered
+}
+
+#[test]
+fn numbers_from_thread_to_thread(rt: HostRuntime) -> Result<(), Fail> {
+    let (queue, mut pass) = FixedSizeIndexQueue::<8>::new(rt.alloc())?;
+    let other = pass.split().ok_or("no pass")?;
+    let producer = queue.acquire_producer(pass).map_err(|_| "taken")?;
+    let consumer = queue.acquire_consumer(other).map_err(|_| "taken")?;
+    let (_, ordered) = thread::join(
+        &rt,
+        move || push_all(&rt, producer),
+        move || pop_all(&rt, consumer),
+    );
+    assert!(rt; ordered);
+    Ok(())
+}
+
+#[test]
+fn a_million_rounds(rt: HostRuntime) -> Result<(), Fail> {
+    let (queue, mut pass) = FixedSizeIndexQueue::<8>::new(rt.alloc())?;
+    let other = pass.split().ok_or("no pass")?;
+    let mut producer = queue.acquire_producer(pass).map_err(|_| "taken")?;
+    let mut consumer = queue.acquire_consumer(other).map_err(|_| "taken")?;
+    for round in 0..1_000_000 {
+        assert!(rt; producer.push(round));
+        assert_eq!(rt; consumer.pop(), Some(round));
+    }
+    Ok(())
+}
+
+/// Runs a call of `steps` to its end, alone on these words.
+fn alone<C: Call + Drop>(mut call: C, words: &mut [u64]) -> Option<C::Answer>
+where
+    C::Answer: Drop,
+{
+    for _ in 0..9 {
+        let old = match call.ask() {
+            Want::Ask(ask) if ask.word < words.len() => {
+                let old = words[ask.word];
+                words[ask.word] = ask.op.apply(old);
+                old
+            }
+            _ => 0,
+        };
+        match call.take(old) {
+            After::GoOn(next) => call = next,
+            After::Done(answer) => return Some(answer),
+        }
+    }
+    None
+}
+
+#[test]
+fn values_of_two_words_as_the_steps_have_them(rt: HostRuntime) -> Result<(), Fail> {
+    let (board, mut token) = open::<(u64, u64)>(rt.alloc(), 2, 0)?;
+    assert!(rt; token.take_producer());
+    assert!(rt; token.take_consumer());
+    let mut words = [0u64; 8];
+    let mut pushes = [false; 4];
+    let mut pops = [None; 4];
+    pushes[0] = token.push(&(1, 2));
+    pushes[1] = token.push(&(3, 4));
+    pushes[2] = token.push(&(5, 6));
+    pops[0] = token.pop();
+    pushes[3] = token.push(&(7, 8));
+    pops[1] = token.pop();
+    pops[2] = token.pop();
+    pops[3] = token.pop();
+    assert_eq!(rt; pushes, [true, true, false, true]);
+    assert_eq!(rt; pops, [Some((1, 2)), Some((3, 4)), Some((7, 8)), None]);
+    assert_eq!(rt; alone(Push::new(2, (1, 2)), &mut words), Some(true));
+    assert_eq!(rt; alone(Push::new(2, (3, 4)), &mut words), Some(true));
+    assert_eq!(rt; alone(Push::new(2, (5, 6)), &mut words), Some(false));
+    assert_eq!(rt;
+        alone(Pop::<(u64, u64)>::new(2), &mut words),
+        Some(Some((1, 2)))
+    );
+    assert_eq!(rt; alone(Push::new(2, (7, 8)), &mut words), Some(true));
+    assert_eq!(rt;
+        alone(Pop::<(u64, u64)>::new(2), &mut words),
+        Some(Some((3, 4)))
+    );
+    assert_eq!(rt;
+        alone(Pop::<(u64, u64)>::new(2), &mut words),
+        Some(Some((7, 8)))
+    );
+    assert_eq!(rt; alone(Pop::<(u64, u64)>::new(2), &mut words), Some(None));
+    for at in 0..8 {
+        assert_eq!(rt; board.shared.peek(at), words[at]);
+    }
+    Ok(())
+}
