@@ -1,0 +1,2 @@
+//! Why a structure is not made.
+pub use steps::enums::UniqueIndexCreationError;
