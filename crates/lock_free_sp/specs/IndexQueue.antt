@@ -4,6 +4,7 @@ use Rattle.std.specs.Arc.{arc_value}
 use Rattle.atomic_table.specs.Seated.{TableId}
 use Rattle.lock_free_sp.specs.declared.ring.view.View.{View}
 use Rattle.lock_free_sp.specs.declared.spsc.index_queue.IndexQueue.{IndexQueue}
+use Rattle.lock_free_sp.specs.declared.spsc.index_queue.FixedSizeIndexQueue.{FixedSizeIndexQueue}
 use Rattle.lock_free_sp.specs.declared.spsc.index_queue.Pass.{Pass}
 use Rattle.lock_free_sp.specs.declared.spsc.index_queue.Producer.{Producer}
 use Rattle.lock_free_sp.specs.declared.spsc.index_queue.Consumer.{Consumer}
@@ -37,3 +38,11 @@ consumer_view c = c.token.seat.me.0
 
 abbrev pub consumer_queue : Consumer → TableId
 consumer_queue c = c.token.seat.table_id
+
+-- the same of a queue whose capacity is part of its type
+module _ {CAPACITY : ℕ} where
+  abbrev pub fixed_queue_id : FixedSizeIndexQueue CAPACITY → TableId
+  fixed_queue_id q = queue_id q.queue
+
+  abbrev pub IsPassOfFixed : FixedSizeIndexQueue CAPACITY → Pass → Type 0
+  IsPassOfFixed q p = queue_of p ≡ fixed_queue_id q

@@ -1,6 +1,7 @@
 pub mod Lists
 pub mod Stays
+pub mod Roles
 pub mod Pushes
 pub mod Pops
-pub mod Roles
+pub mod Lengths
 pub mod Comings

@@ -7,6 +7,8 @@ use Rattle.lock_free_sp.specs.declared.ring.view.PushStage.{PushStage}
 use Rattle.lock_free_sp.specs.declared.ring.view.PushStage.TheVariants as pushing
 use Rattle.lock_free_sp.specs.declared.ring.view.PopStage.{PopStage}
 use Rattle.lock_free_sp.specs.declared.ring.view.PopStage.TheVariants as popping
+use Rattle.lock_free_sp.specs.declared.ring.view.LenStage.{LenStage}
+use Rattle.lock_free_sp.specs.declared.ring.view.LenStage.TheVariants as lengths
 use Rattle.lock_free_sp.specs.declared.ring.view.View.{View}
 use Rattle.lock_free_sp.specs.Ring.Tells.{place}
 
@@ -56,6 +58,12 @@ module _ {T : Type 0} (capacity : ℕ) (f : Face) (b : Book T) (seat : ℕ) wher
   KnowsPop (popping.SawRead p) = Consumes × (f.read ≡ p)
   KnowsPop (popping.SawValue p x) = Consumes × (f.read ≡ p) × (p < f.write) × (b.log p ≡ x)
 
+  -- the write position that stood with the read position lies between the one that was loaded before and the one now
+  abbrev pub KnowsLen : LenStage → Type 0
+  KnowsLen lengths.Idle = Unit {0}
+  KnowsLen (lengths.SawWrite w) = w ≤ f.write
+  KnowsLen (lengths.SawBoth w r) = (stood : ℕ) × (w ≤ stood) × (stood ≤ f.write) × (r ≤ stood) × (stood ≤ r + capacity)
+
   abbrev pub IsPublished : ℕ × T → Type 0
   IsPublished x = (x.0 < f.write) × (b.log x.0 ≡ x.1) × (b.publisher x.0 ≡ seat)
 
@@ -67,6 +75,7 @@ module _ {T : Type 0} (capacity : ℕ) (f : Face) (b : Book T) (seat : ℕ) wher
     pub last_push : (p : ℕ) → v.last_push ≡ Some p → Produces × (f.write ≡ p + 1)
     pub pop : KnowsPop v.pop
     pub last_pop : (p : ℕ) → v.last_pop ≡ Some p → Consumes × (f.read ≡ p + 1)
+    pub len : KnowsLen v.len
     pub published : All IsPublished v.published
     pub taken : All IsTaken v.taken
     pub published_once : AllPairs (λ (x y : ℕ × T). x.0 ≢ y.0) v.published

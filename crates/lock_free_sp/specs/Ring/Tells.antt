@@ -5,7 +5,8 @@ use Rattle.lock_free_sp.specs.declared.ring.view.PushStage.{PushStage}
 use Rattle.lock_free_sp.specs.declared.ring.view.PushStage.TheVariants as pushing
 use Rattle.lock_free_sp.specs.declared.ring.view.PopStage.TheVariants as popping
 use Rattle.lock_free_sp.specs.declared.ring.view.View.{View}
-use Rattle.lock_free_sp.specs.Ring.Views.{with_push, with_pop, with_producer, without_producer, with_consumer, without_consumer, pushed, popped}
+use Rattle.lock_free_sp.specs.declared.ring.view.LenStage.TheVariants as lengths
+use Rattle.lock_free_sp.specs.Ring.Views.{with_push, with_pop, with_len, with_producer, without_producer, with_consumer, without_consumer, pushed, popped}
 use Rattle.lock_free_sp.specs.Ring.Between.{Below, Sound}
 
 -- the word of a position's cell at a place, where a value has n words
@@ -93,6 +94,18 @@ module _ {T : Type 0} where
 
   abbrev pub taken_at : View T → ℕ → View T → Type 0
   taken_at v n w = (p : ℕ) (x : T) → v.pop ≡ popping.SawValue p x → Taken v w p x
+
+  abbrev pub len_saw_write : View T → ℕ → View T → Type 0
+  len_saw_write v n w = w ≡ with_len (lengths.SawWrite n) v
+
+  abbrev pub len_saw_read : View T → ℕ → View T → Type 0
+  len_saw_read v n w = (p : ℕ) → v.len ≡ lengths.SawWrite p → w ≡ with_len (lengths.SawBoth p n) v
+
+  -- where the write position is the one that was loaded first, both stood together
+  abbrev pub len_saw_again : View T → ℕ → View T → Type 0
+  len_saw_again v n w =
+      (p r : ℕ) → v.len ≡ lengths.SawBoth p r
+      → (w ≡ with_len lengths.Idle v) × (n ≡ p → (r ≤ p) × (p ≤ r + v.capacity))
 
   abbrev pub learned : View T → ℕ → View T → Type 0
   learned v n w = (w ≡ v) × Sound v

@@ -4,6 +4,8 @@ use Rattle.lock_free_sp.specs.declared.ring.view.PushStage.{PushStage}
 use Rattle.lock_free_sp.specs.declared.ring.view.PushStage.TheVariants as pushing
 use Rattle.lock_free_sp.specs.declared.ring.view.PopStage.{PopStage}
 use Rattle.lock_free_sp.specs.declared.ring.view.PopStage.TheVariants as popping
+use Rattle.lock_free_sp.specs.declared.ring.view.LenStage.{LenStage}
+use Rattle.lock_free_sp.specs.declared.ring.view.LenStage.TheVariants as lengths
 use Rattle.lock_free_sp.specs.declared.ring.view.View.{View}
 
 module _ {T : Type 0} where
@@ -16,6 +18,7 @@ module _ {T : Type 0} where
         last_push = None;
         pop = popping.Away;
         last_pop = None;
+        len = lengths.Idle;
         published = [];
         taken = [];
       }
@@ -25,6 +28,9 @@ module _ {T : Type 0} where
 
   abbrev pub with_pop : PopStage T → View T → View T
   with_pop stage v = record v { pop = stage }
+
+  abbrev pub with_len : LenStage → View T → View T
+  with_len stage v = record v { len = stage }
 
   -- the producer's role, and no push yet
   abbrev pub with_producer : View T → View T

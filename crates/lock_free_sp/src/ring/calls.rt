@@ -2,14 +2,16 @@
 ghost use Rattle.std.specs.Prelude.{◌≡◌, ◌≢◌, ℕ, ◌+◌, ◌-◌, ◌*◌, ◌%◌, ◌^◌, ◌<◌, ◌≤◌, true, false, IsTrue, IsFalse, Some, None, IfSome, IfNone, All, List, ◌∷◌, [], ◌++◌, length, slice_index, take};
 ghost use Rattle.lock_free_sp.specs.declared.ring.view.PushStage.TheVariants as pushing;
 ghost use Rattle.lock_free_sp.specs.declared.ring.view.PopStage.TheVariants as popping;
-ghost use Rattle.lock_free_sp.specs.Ring.Views.{with_push, with_pop, with_producer, without_producer, with_consumer, without_consumer, pushed, popped};
+ghost use Rattle.lock_free_sp.specs.declared.ring.view.LenStage.TheVariants as lengths;
+ghost use Rattle.lock_free_sp.specs.Ring.Views.{with_len, with_push, with_pop, with_producer, without_producer, with_consumer, without_consumer, pushed, popped};
 ghost use Rattle.lock_free_sp.specs.Ring.Between.{Below, Sound};
 ghost use Rattle.lock_free_sp.specs.Ring.Calls.{seen, table_of, IsSame, HasPushed, WasFull, HasPopped, WasEmpty};
 ghost use Rattle.lock_free_sp.specs.Ring.Tells.{place, with_word, saw_write, SawRoom, Published, saw_read, SawValue, Taken, took_producer, took_consumer};
 
 use super::plays::{
-    Learns, LeavesConsumer, LeavesProducer, LoadsWord, Publishes, SeesRead, SeesRoom, SeesValue,
-    SeesWrite, StoresWord, Takes, TakesConsumer, TakesProducer,
+    Learns, LeavesConsumer, LeavesProducer, LenSeesAgain, LenSeesRead, LenSeesWrite, LoadsWord,
+    Publishes, SeesRead, SeesRoom, SeesValue, SeesWrite, StoresWord, Takes, TakesConsumer,
+    TakesProducer,
 };
 use super::rule::RingRule;
 use super::token::Held;
@@ -217,36 +219,65 @@ impl<T: Words> Held<T, RingRule<T>> {
         Some(value)
     }
 
-    fn looks(&mut self, word: usize) -> u64
-        requires { word < 2 }
+    fn len_sees_write(&mut self) -> u64
+        ensures same { IsSame self.old self.new }
+        ensures told { seen self.new ≡ with_len (lengths.SawWrite result) (seen self.old) }
+    {
+        self.board
+            .shared
+            .load::<LenSeesWrite>(&mut self.seat, WRITE)
+    }
+
+    fn len_sees_read(&mut self, write: u64) -> u64
+        requires { (seen self.old).len ≡ lengths.SawWrite write }
+        ensures same { IsSame self.old self.new }
+        ensures told { seen self.new ≡ with_len (lengths.SawBoth write result) (seen self.old) }
+    {
+        self.board.shared.load::<LenSeesRead>(&mut self.seat, READ)
+    }
+
+    fn len_sees_again(&mut self, write: u64, read: u64) -> u64
+        requires { (seen self.old).len ≡ lengths.SawBoth write read }
+        ensures same { IsSame self.old self.new }
+        ensures view { seen self.new ≡ with_len lengths.Idle (seen self.old) }
+        ensures told { result ≡ write → (read ≤ write) × (write ≤ read + self.old.capacity) }
+    {
+        self.board
+            .shared
+            .load::<LenSeesAgain>(&mut self.seat, WRITE)
+    }
+
+    fn len_sees_last(&mut self) -> u64
         ensures same { IsSame self.old self.new }
         ensures view { seen self.new ≡ seen self.old }
         ensures sound { Sound (seen self.new) }
     {
-        self.board.shared.load::<Learns>(&mut self.seat, word)
+        self.board.shared.load::<Learns>(&mut self.seat, READ)
     }
 
     /// The number of values between the positions, where neither moved from its first load to its second.
     fn tries_len(&mut self) -> Option<u64>
+        requires { (seen self.old).len ≡ lengths.Idle }
         ensures same { IsSame self.old self.new }
         ensures view { seen self.new ≡ seen self.old }
-        ensures sound { Sound (seen self.new) }
+        ensures few { IfSome result (λ n. n ≤ self.old.capacity) }
     {
-        let write = self.looks(WRITE);
-        let read = self.looks(READ);
-        if self.looks(WRITE) == write && self.looks(READ) == read {
+        let write = self.len_sees_write();
+        let read = self.len_sees_read(write);
+        if self.len_sees_again(write, read) == write && self.len_sees_last() == read {
             Some(number_waiting(self.capacity, write, read))
         } else {
             None
         }
     }
 
-    /// How many values waited at one moment of the call. Four steps, and at most four more for each time that a
-    /// position has moved between its two loads.
+    /// How many values waited at one moment of the call, at most the capacity. Four steps, and at most four more for
+    /// each time that a position has moved between its two loads.
     pub fn len(&mut self, rt: &impl Wait) -> u64
+        requires { (seen self.old).len ≡ lengths.Idle }
         ensures same { IsSame self.old self.new }
         ensures view { seen self.new ≡ seen self.old }
-        ensures sound { Sound (seen self.new) }
+        ensures few { result ≤ self.old.capacity }
     {
         for _ in rt.forever() {
             if let Some(waiting) = self.tries_len() {

@@ -1,6 +1,6 @@
 //! What each step on a ring's table tells. These types are for the proofs alone.
 ghost use Rattle.lock_free_sp.specs.Ring.Views.{blank, joined};
-ghost use Rattle.lock_free_sp.specs.Ring.Tells.{tells, took_producer, left_producer, took_consumer, left_consumer, saw_write, saw_room, stored, published_at, saw_read, saw_value, loaded, taken_at, learned};
+ghost use Rattle.lock_free_sp.specs.Ring.Tells.{tells, took_producer, left_producer, took_consumer, left_consumer, saw_write, saw_room, stored, published_at, saw_read, saw_value, loaded, taken_at, len_saw_write, len_saw_read, len_saw_again, learned};
 
 use super::view::View;
 use atomic_table::{Join, Play, Split};
@@ -88,6 +88,27 @@ pub struct Takes;
 
 impl<T: Words> Play<(), View<T>> for Takes {
     ghost then = { tells taken_at };
+}
+
+/// The first load of a length, of the write position.
+pub struct LenSeesWrite;
+
+impl<T: Words> Play<(), View<T>> for LenSeesWrite {
+    ghost then = { tells len_saw_write };
+}
+
+/// Its second load, of the read position.
+pub struct LenSeesRead;
+
+impl<T: Words> Play<(), View<T>> for LenSeesRead {
+    ghost then = { tells len_saw_read };
+}
+
+/// Its third load, of the write position.
+pub struct LenSeesAgain;
+
+impl<T: Words> Play<(), View<T>> for LenSeesAgain {
+    ghost then = { tells len_saw_again };
 }
 
 /// A load that shows how the pairs that the seat knows fit together.

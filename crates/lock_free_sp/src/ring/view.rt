@@ -25,6 +25,16 @@ pub enum PopStage<T> {
     SawValue(u64, T),
 }
 
+/// Where a seat's look at the length stands.
+pub enum LenStage {
+    /// None is under way.
+    Idle,
+    /// It has loaded the write position.
+    SawWrite(u64),
+    /// It has loaded the write position and then the read position.
+    SawBoth(u64, u64),
+}
+
 /// What a seat knows.
 pub struct View<T> {
     pub capacity: u64,
@@ -34,6 +44,7 @@ pub struct View<T> {
     pub pop: PopStage<T>,
     /// The position of the last pop since it has the consumer's role.
     pub last_pop: Option<u64>,
+    pub len: LenStage,
     /// The positions at which it has published, with the values.
     pub published: LinkedList<(u64, T)>,
     /// The positions at which it has taken, with the values.

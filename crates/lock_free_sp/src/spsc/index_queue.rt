@@ -1,7 +1,9 @@
 //! The bounded queue of numbers of 64 bits with one producer and one consumer, shared between threads.
-ghost use Rattle.std.specs.Prelude.{◌≡◌, None};
+ghost use Rattle.std.specs.Prelude.{◌≡◌, ◌+◌, None};
+ghost use Rattle.std.specs.Arc.{arc_value};
 ghost use Rattle.lock_free_sp.specs.declared.ring.view.PushStage.TheVariants as pushing;
 ghost use Rattle.lock_free_sp.specs.declared.ring.view.PopStage.TheVariants as popping;
+ghost use Rattle.lock_free_sp.specs.declared.ring.view.LenStage.TheVariants as lengths;
 
 use crate::ring::rule::Board;
 use crate::ring::token::Token;
@@ -16,6 +18,7 @@ mod fixed;
 pub struct IndexQueue {
     board: Arc<Board<u64>, Global>,
     capacity: u32,
+    ghost sized: { (arc_value board).shared.table_id.words ≡ capacity + 4 },
 }
 
 /// A queue of CAPACITY numbers, which is from 0 to 2^32 - 1.
@@ -29,21 +32,21 @@ pub struct FixedSizeIndexQueue<const CAPACITY: usize> {
 #[derive(Drop)]
 pub struct Pass {
     token: Token<u64>,
-    ghost idle: { (token.seat.me.0.push ≡ pushing.Away) × (token.seat.me.0.last_push ≡ None) × (token.seat.me.0.pop ≡ popping.Away) × (token.seat.me.0.last_pop ≡ None) },
+    ghost idle: { (token.seat.me.0.push ≡ pushing.Away) × (token.seat.me.0.last_push ≡ None) × (token.seat.me.0.pop ≡ popping.Away) × (token.seat.me.0.last_pop ≡ None) × (token.seat.me.0.len ≡ lengths.Idle) },
 }
 
 /// The end of a queue that pushes. There is one at a time. It owns the pass that it was acquired with.
 pub struct Producer<'a> {
     queue: &'a IndexQueue,
     token: Token<u64>,
-    ghost role: { (token.seat.me.0.push ≡ pushing.Ready) × (token.seat.me.0.pop ≡ popping.Away) × (token.seat.me.0.last_pop ≡ None) },
+    ghost role: { (token.seat.me.0.push ≡ pushing.Ready) × (token.seat.me.0.pop ≡ popping.Away) × (token.seat.me.0.last_pop ≡ None) × (token.seat.me.0.len ≡ lengths.Idle) },
 }
 
 /// The end of a queue that pops. There is one at a time. It owns the pass that it was acquired with.
 pub struct Consumer<'a> {
     queue: &'a IndexQueue,
     token: Token<u64>,
-    ghost role: { (token.seat.me.0.pop ≡ popping.Ready) × (token.seat.me.0.push ≡ pushing.Away) × (token.seat.me.0.last_push ≡ None) },
+    ghost role: { (token.seat.me.0.pop ≡ popping.Ready) × (token.seat.me.0.push ≡ pushing.Away) × (token.seat.me.0.last_push ≡ None) × (token.seat.me.0.len ≡ lengths.Idle) },
 }
 
 impl<'a> Drop for Producer<'a> {

@@ -23,6 +23,7 @@ knows_nothing {T} capacity c f b j =
       last_push = λ p e. absurd (none_some p e);
       pop = tt;
       last_pop = λ p e. absurd (none_some p e);
+      len = tt;
       published = All-nil (IsPublished capacity f b j);
       taken = All-nil (IsTaken capacity f b j);
       published_once = λ i k d lt within. absurd (omega arith);
@@ -81,6 +82,7 @@ module _ {T : Type 0} (words_of : T → List ℕ) (n : ℕ) (capacity : ℕ) whe
         last_push = kept.last_push;
         pop = kept.pop;
         last_pop = kept.last_pop;
+        len = kept.len;
         published = All-append (IsPublished capacity f c id) v.published w.published kept.published
             (All-weaker (IsPublished capacity f b other) (IsPublished capacity f c id) (λ x h. (h.0, h.1, given_over b.publisher other id x.0 h.2)) w.published theirs.published);
         taken = All-append (IsTaken capacity f c id) v.taken w.taken kept.taken

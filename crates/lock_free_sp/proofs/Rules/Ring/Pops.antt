@@ -10,7 +10,7 @@ use Rattle.lock_free_sp.specs.declared.ring.view.View.{View}
 use Rattle.lock_free_sp.specs.Ring.Views.{with_pop, popped}
 use Rattle.lock_free_sp.specs.Ring.Kept.{Book, Kept, Fits, KnowsPop, Knows, IsPublished, IsTaken, Consumes, face}
 use Rattle.lock_free_sp.specs.Ring.Tells.{tells, place, saw_read, SawValue, saw_value, loaded, Taken, taken_at}
-use Rattle.lock_free_sp.proofs.Rules.Ring.Stays.{put, put_same, put_other, same_some, Onwards, LeavesPush, push_stays, last_push_stays, published_stays, taken_stays, knows_pop, sound, St, steps, looks, cells_stay}
+use Rattle.lock_free_sp.proofs.Rules.Ring.Stays.{put, put_same, put_other, same_some, Onwards, LeavesPush, push_stays, last_push_stays, len_stays, published_stays, taken_stays, knows_pop, sound, St, steps, looks, cells_stay}
 use mathlib.Core.Logic.{dite}
 use mathlib.Core.Option.{none}
 use native.Mathlib.Decide.{ℕ_discrete}
@@ -133,6 +133,7 @@ module _ {T : Type 0} (words_of : T → List ℕ) (n : ℕ) (capacity : ℕ) (sl
         last_push = last_push_stays capacity f g b c id (push id) v.last_push k.last_push;
         pop = consumes;
         last_pop = λ q e. (consumes, e₁ ∙ ap (λ z. z + 1) (same_some p q e));
+        len = len_stays capacity f g b c id (onwards id) v.len k.len;
         published = published_stays capacity f g b c id (onwards id) v.published k.published;
         taken = All-push (IsTaken capacity g c id) v.taken (p, x) (taken_stays capacity f g b c id (onwards id) v.taken k.taken) (omega arith, mine.3, put_same b.taker p id);
         published_once = k.published_once;

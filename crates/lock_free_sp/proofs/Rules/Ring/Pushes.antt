@@ -12,7 +12,7 @@ use Rattle.lock_free_sp.specs.Ring.Views.{with_push, pushed}
 use Rattle.lock_free_sp.specs.Ring.Kept.{Book, Kept, Fits, KnowsPush, Knows, IsPublished, IsTaken, Produces, face}
 use Rattle.lock_free_sp.specs.Ring.Tells.{tells, place, with_word, saw_write, SawRoom, saw_room, stored, Published, published_at}
 use Rattle.lock_free_sp.proofs.Rules.Ring.Lists.{other_place, place_within}
-use Rattle.lock_free_sp.proofs.Rules.Ring.Stays.{put, put_same, put_other, same_some, Onwards, LeavesPop, pop_stays, last_pop_stays, published_stays, taken_stays, knows_push, sound, St, steps, looks, cells_stay}
+use Rattle.lock_free_sp.proofs.Rules.Ring.Stays.{put, put_same, put_other, same_some, Onwards, LeavesPop, pop_stays, last_pop_stays, len_stays, published_stays, taken_stays, knows_push, sound, St, steps, looks, cells_stay}
 use mathlib.Core.Logic.{dite}
 use mathlib.Core.Option.{none}
 use native.Mathlib.Decide.{ℕ_discrete}
@@ -126,6 +126,7 @@ module _ {T : Type 0} (words_of : T → List ℕ) (n : ℕ) (capacity : ℕ) (sl
               last_push = λ q e. let h = k.last_push q e in (produces, e₀ ∙ h.1);
               pop = pop_stays capacity f g b b id (onwards id) (pop id) v.pop k.pop;
               last_pop = last_pop_stays capacity f g b b id (pop id) v.last_pop k.last_pop;
+              len = len_stays capacity f g b b id (onwards id) v.len k.len;
               published = published_stays capacity f g b b id (onwards id) v.published k.published;
               taken = taken_stays capacity f g b b id (onwards id) v.taken k.taken;
               published_once = k.published_once;
@@ -175,6 +176,7 @@ module _ {T : Type 0} (words_of : T → List ℕ) (n : ℕ) (capacity : ℕ) (sl
         last_push = λ q e. (produces, e₀ ∙ ap (λ z. z + 1) (same_some p q e));
         pop = pop_stays capacity f g b c id (onwards id) (pop id) v.pop k.pop;
         last_pop = last_pop_stays capacity f g b c id (pop id) v.last_pop k.last_pop;
+        len = len_stays capacity f g b c id (onwards id) v.len k.len;
         published = All-push (IsPublished capacity g c id) v.published (p, x) (published_stays capacity f g b c id (onwards id) v.published k.published) (omega arith, put_same b.log p x, put_same b.publisher p id);
         taken = taken_stays capacity f g b c id (onwards id) v.taken k.taken;
         published_once = all_pairs_push (λ (y z : ℕ × T). y.0 ≢ z.0) v.published (p, x) k.published_once (λ i d lt e. let h = below i d lt in absurd (omega arith));

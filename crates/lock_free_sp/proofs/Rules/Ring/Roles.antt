@@ -1,4 +1,4 @@
--- The steps on roles keep the rule, and so does a look at what a seat knows.
+-- The steps on roles keep the rule.
 use Rattle.std.proofs.Common.{◌≡◌, ◌≢◌, ℕ, ◌<◌, ◌≤◌, ◌==◌, List, get_or, set, sym, refl, subst, ◌∙◌, arith, length-set, get_or-set_same, get_or-set_other}
 use Rattle.std.specs.Prelude.{Some, None}
 use Rattle.atomic_table.specs.Table.{State, Me, Act, Valid, Allows, step, stepped, keeps, carried_after}
@@ -8,8 +8,8 @@ use Rattle.lock_free_sp.specs.declared.ring.view.PopStage.TheVariants as popping
 use Rattle.lock_free_sp.specs.declared.ring.view.View.{View}
 use Rattle.lock_free_sp.specs.Ring.Views.{with_producer, without_producer, with_consumer, without_consumer}
 use Rattle.lock_free_sp.specs.Ring.Kept.{Book, Kept, Fits, KnowsPush, KnowsPop, Knows, face}
-use Rattle.lock_free_sp.specs.Ring.Tells.{tells, took_producer, left_producer, took_consumer, left_consumer, learned}
-use Rattle.lock_free_sp.proofs.Rules.Ring.Stays.{Onwards, LeavesPush, LeavesPop, push_stays, pop_stays, last_push_stays, last_pop_stays, published_stays, taken_stays, sound, St, steps, looks, cells_stay}
+use Rattle.lock_free_sp.specs.Ring.Tells.{tells, took_producer, left_producer, took_consumer, left_consumer}
+use Rattle.lock_free_sp.proofs.Rules.Ring.Stays.{Onwards, LeavesPush, LeavesPop, push_stays, pop_stays, last_push_stays, last_pop_stays, len_stays, published_stays, taken_stays, St, steps, looks, cells_stay}
 use mathlib.Core.Option.{none}
 use prog.Atomic.{either}
 
@@ -71,6 +71,7 @@ module _ {T : Type 0} (words_of : T → List ℕ) (n : ℕ) (capacity : ℕ) (sl
             last_push = λ q e. absurd (none_some q e);
             pop = pop_stays capacity f g b c id (onwards id) (other id) v.pop k.pop;
             last_pop = last_pop_stays capacity f g b c id (other id) v.last_pop k.last_pop;
+            len = len_stays capacity f g b c id (onwards id) v.len k.len;
             published = published_stays capacity f g b c id (onwards id) v.published k.published;
             taken = taken_stays capacity f g b c id (onwards id) v.taken k.taken;
             published_once = k.published_once;
@@ -102,6 +103,7 @@ module _ {T : Type 0} (words_of : T → List ℕ) (n : ℕ) (capacity : ℕ) (sl
         last_push = λ q e. absurd (none_some q e);
         pop = pop_stays capacity f g b b id (onwards id) (other id) v.pop k.pop;
         last_pop = last_pop_stays capacity f g b b id (other id) v.last_pop k.last_pop;
+        len = len_stays capacity f g b b id (onwards id) v.len k.len;
         published = published_stays capacity f g b b id (onwards id) v.published k.published;
         taken = taken_stays capacity f g b b id (onwards id) v.taken k.taken;
         published_once = k.published_once;
@@ -139,6 +141,7 @@ module _ {T : Type 0} (words_of : T → List ℕ) (n : ℕ) (capacity : ℕ) (sl
             last_push = last_push_stays capacity f g b c id (other id) v.last_push k.last_push;
             pop = (e₃, refl);
             last_pop = λ q e. absurd (none_some q e);
+            len = len_stays capacity f g b c id (onwards id) v.len k.len;
             published = published_stays capacity f g b c id (onwards id) v.published k.published;
             taken = taken_stays capacity f g b c id (onwards id) v.taken k.taken;
             published_once = k.published_once;
@@ -170,15 +173,10 @@ module _ {T : Type 0} (words_of : T → List ℕ) (n : ℕ) (capacity : ℕ) (sl
         last_push = last_push_stays capacity f g b b id (other id) v.last_push k.last_push;
         pop = tt;
         last_pop = λ q e. absurd (none_some q e);
+        len = len_stays capacity f g b b id (onwards id) v.len k.len;
         published = published_stays capacity f g b b id (onwards id) v.published k.published;
         taken = taken_stays capacity f g b b id (onwards id) v.taken k.taken;
         published_once = k.published_once;
         taken_once = k.taken_once;
       } in
       (next, keeps, tt, steps words_of n capacity s r ws' id next b (length-set s.words 3 1) fits knows (λ j ne. record { onwards = onwards j; push = other j; pop = λ h. absurd (ne (h.1 ∙ sym mine.1)) }), (refl, refl))
-
-  -- a look at what the seat knows
-  pub learns : (word : ℕ) → v.capacity ≡ capacity → Allows H slots id m word (λ x. x) (tells learned (step slots word 0 0 none) m)
-  learns word cap s r wide at small =
-      let k = r.seats id v at in
-      (v, keeps, tt, looks words_of n capacity s r word id m.1 v k, ((refl, sound capacity (face capacity n s.words) r.book id v k r.fits.behind r.fits.within cap), refl))

@@ -12,10 +12,12 @@ use Rattle.lock_free_sp.specs.declared.ring.view.PushStage.{PushStage}
 use Rattle.lock_free_sp.specs.declared.ring.view.PushStage.TheVariants as pushing
 use Rattle.lock_free_sp.specs.declared.ring.view.PopStage.{PopStage}
 use Rattle.lock_free_sp.specs.declared.ring.view.PopStage.TheVariants as popping
+use Rattle.lock_free_sp.specs.declared.ring.view.LenStage.{LenStage}
+use Rattle.lock_free_sp.specs.declared.ring.view.LenStage.TheVariants as lengths
 use Rattle.lock_free_sp.specs.declared.ring.view.View.{View}
-use Rattle.lock_free_sp.specs.Ring.Views.{with_push, with_pop}
+use Rattle.lock_free_sp.specs.Ring.Views.{with_push, with_pop, with_len}
 use Rattle.lock_free_sp.specs.Ring.Between.{Sound}
-use Rattle.lock_free_sp.specs.Ring.Kept.{Face, Book, face, Produces, Consumes, KnowsPush, KnowsPop, IsPublished, IsTaken, Knows, Fits, Kept}
+use Rattle.lock_free_sp.specs.Ring.Kept.{Face, Book, face, Produces, Consumes, KnowsPush, KnowsPop, KnowsLen, IsPublished, IsTaken, Knows, Fits, Kept}
 use Rattle.lock_free_sp.specs.Ring.Tells.{place}
 
 -- ---- a function that is changed at one number
@@ -78,6 +80,11 @@ module _ {T : Type 0} (capacity : ℕ) (f g : Face) (b c : Book T) (j : ℕ) whe
       let up = t.write in
       (h.0, h.1 ∙ k.1, omega arith, t.log p k.2 ∙ k.3)
 
+  pub len_stays : Onwards → (stage : LenStage) → KnowsLen capacity f b j stage → KnowsLen capacity g c j stage
+  len_stays t lengths.Idle k = tt
+  len_stays t (lengths.SawWrite w) k = let up = t.write in omega arith
+  len_stays t (lengths.SawBoth w r) k = let up = t.write in let now = k.2 in (k.0, k.1, omega arith, k.3, k.4)
+
   pub last_push_stays : LeavesPush → (o : Option ℕ) → ((p : ℕ) → o ≡ Some p → Produces capacity f b j × (f.write ≡ p + 1)) → (p : ℕ) → o ≡ Some p → Produces capacity g c j × (g.write ≡ p + 1)
   last_push_stays l o k p e = let h = k p e in let now = l h.0 in (now.0, now.1 ∙ h.1)
 
@@ -101,6 +108,7 @@ module _ {T : Type 0} (capacity : ℕ) (f g : Face) (b c : Book T) (j : ℕ) whe
         last_push = last_push_stays t.push v.last_push k.last_push;
         pop = pop_stays t.onwards t.pop v.pop k.pop;
         last_pop = last_pop_stays t.pop v.last_pop k.last_pop;
+        len = len_stays t.onwards v.len k.len;
         published = published_stays t.onwards v.published k.published;
         taken = taken_stays t.onwards v.taken k.taken;
         published_once = k.published_once;
@@ -115,6 +123,7 @@ module _ {T : Type 0} (capacity : ℕ) (f : Face) (b : Book T) (j : ℕ) (v : Vi
         last_push = k.last_push;
         pop = k.pop;
         last_pop = k.last_pop;
+        len = k.len;
         published = k.published;
         taken = k.taken;
         published_once = k.published_once;
@@ -128,6 +137,21 @@ module _ {T : Type 0} (capacity : ℕ) (f : Face) (b : Book T) (j : ℕ) (v : Vi
         last_push = k.last_push;
         pop = h;
         last_pop = k.last_pop;
+        len = k.len;
+        published = k.published;
+        taken = k.taken;
+        published_once = k.published_once;
+        taken_once = k.taken_once;
+      }
+
+  pub knows_len : (stage : LenStage) → KnowsLen capacity f b j stage → Knows capacity f b j (with_len stage v)
+  knows_len stage h =
+      record {
+        push = k.push;
+        last_push = k.last_push;
+        pop = k.pop;
+        last_pop = k.last_pop;
+        len = h;
         published = k.published;
         taken = k.taken;
         published_once = k.published_once;

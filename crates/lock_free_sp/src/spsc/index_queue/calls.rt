@@ -1,5 +1,5 @@
 //! The calls of an index queue.
-ghost use Rattle.std.specs.Prelude.{◌≡◌, ◌⊎◌, ◌-◌, ◌^◌, ◌==◌, true, false, None, Some, IsTrue, IsFalse, IfOk, IfErr, OnOk, IfSome, IfNone};
+ghost use Rattle.std.specs.Prelude.{◌≡◌, ◌≤◌, ◌⊎◌, ◌-◌, ◌^◌, ◌==◌, true, false, None, Some, IsTrue, IsFalse, IfOk, IfErr, OnOk, IfSome, IfNone};
 ghost use Rattle.steps.specs.Enums.{capacity_refusal};
 ghost use Rattle.steps.specs.declared.enums.UniqueIndexCreationError.TheVariants.{NoMemory};
 ghost use Rattle.lock_free_sp.specs.Ring.Views.{blank, joined, with_producer, without_producer, with_consumer, without_consumer};
@@ -76,13 +76,13 @@ impl IndexQueue {
         }
     }
 
-    /// How many numbers waited at one moment of the call. Four steps, and at most four more for each time that a
+    /// How many numbers waited at one moment of the call, at most the capacity. Four steps, and at most four more for each time that a
     /// position has moved between its two loads.
     pub fn len(&self, rt: &impl Wait, pass: &mut Pass) -> usize
         requires { IsPassOf self.now pass.old }
         ensures queue { queue_of pass.new ≡ queue_of pass.old }
         ensures view { view pass.new ≡ view pass.old }
-        ensures sound { Sound (view pass.new) }
+        ensures few { result ≤ capacity_of self.now }
     {
         pass.token.len(rt) as usize
     }
@@ -92,7 +92,6 @@ impl IndexQueue {
         requires { IsPassOf self.now pass.old }
         ensures queue { queue_of pass.new ≡ queue_of pass.old }
         ensures view { view pass.new ≡ view pass.old }
-        ensures sound { Sound (view pass.new) }
     {
         pass.token.len(rt) == 0
     }
@@ -102,7 +101,6 @@ impl IndexQueue {
         requires { IsPassOf self.now pass.old }
         ensures queue { queue_of pass.new ≡ queue_of pass.old }
         ensures view { view pass.new ≡ view pass.old }
-        ensures sound { Sound (view pass.new) }
     {
         pass.token.len(rt) == self.capacity as u64
     }

@@ -1,10 +1,10 @@
 //! The queue whose capacity is part of its type.
-ghost use Rattle.std.specs.Prelude.{◌≡◌, ◌⊎◌, ◌-◌, ◌^◌, None, Some, IfOk, IfErr, OnOk};
+ghost use Rattle.std.specs.Prelude.{◌≡◌, ◌≤◌, ◌⊎◌, ◌-◌, ◌^◌, None, Some, IfOk, IfErr, OnOk};
 ghost use Rattle.steps.specs.Enums.{capacity_refusal};
 ghost use Rattle.steps.specs.declared.enums.UniqueIndexCreationError.TheVariants.{NoMemory};
 ghost use Rattle.lock_free_sp.specs.Ring.Views.{blank, with_producer, with_consumer};
 ghost use Rattle.lock_free_sp.specs.Ring.Between.{Sound};
-ghost use Rattle.lock_free_sp.specs.IndexQueue.{queue_id, view, queue_of, producer_view, producer_queue, consumer_view, consumer_queue};
+ghost use Rattle.lock_free_sp.specs.IndexQueue.{IsPassOfFixed, view, queue_of, producer_view, producer_queue, consumer_view, consumer_queue};
 
 use super::{Consumer, FixedSizeIndexQueue, IndexQueue, Pass, Producer};
 use std::alloc::Global;
@@ -16,7 +16,7 @@ impl<const CAPACITY: usize> FixedSizeIndexQueue<CAPACITY> {
     pub fn new(
         alloc: Global,
     ) -> Result<(FixedSizeIndexQueue<CAPACITY>, Pass), UniqueIndexCreationError>
-        ensures pass { IfOk result (λ r. (queue_of r.1 ≡ queue_id r.0.queue) × (view r.1 ≡ blank CAPACITY)) }
+        ensures pass { IfOk result (λ r. IsPassOfFixed r.0 r.1 × (view r.1 ≡ blank CAPACITY)) }
         ensures admitted { OnOk result (capacity_refusal 0 (2 ^ 32 - 1) CAPACITY ≡ None) }
         ensures refused { IfErr result (λ e. (capacity_refusal 0 (2 ^ 32 - 1) CAPACITY ≡ Some e) ⊎ (capacity_refusal 0 (2 ^ 32 - 1) CAPACITY ≡ None) × (e ≡ NoMemory)) }
     {
@@ -26,7 +26,7 @@ impl<const CAPACITY: usize> FixedSizeIndexQueue<CAPACITY> {
 
     /// Takes the producer's role, or hands the pass back where another has it. One step.
     pub fn acquire_producer(&self, pass: Pass) -> Result<Producer<'_>, Pass>
-        requires { queue_of pass ≡ queue_id self.now.queue }
+        requires { IsPassOfFixed self.now pass }
         ensures acquired { IfOk result (λ p. (producer_queue p ≡ queue_of pass) × (producer_view p ≡ with_producer (view pass))) }
         ensures refused { IfErr result (λ p. (queue_of p ≡ queue_of pass) × (view p ≡ view pass)) }
     {
@@ -35,40 +35,38 @@ impl<const CAPACITY: usize> FixedSizeIndexQueue<CAPACITY> {
 
     /// Takes the consumer's role, or hands the pass back where another has it. One step.
     pub fn acquire_consumer(&self, pass: Pass) -> Result<Consumer<'_>, Pass>
-        requires { queue_of pass ≡ queue_id self.now.queue }
+        requires { IsPassOfFixed self.now pass }
         ensures acquired { IfOk result (λ c. (consumer_queue c ≡ queue_of pass) × (consumer_view c ≡ with_consumer (view pass))) }
         ensures refused { IfErr result (λ p. (queue_of p ≡ queue_of pass) × (view p ≡ view pass)) }
     {
         self.queue.acquire_consumer(pass)
     }
 
-    /// How many numbers waited at one moment of the call. Four steps, and at most four more for each time that a
+    /// How many numbers waited at one moment of the call, at most the capacity. Four steps, and at most four more for each time that a
     /// position has moved between its two loads.
     pub fn len(&self, rt: &impl Wait, pass: &mut Pass) -> usize
-        requires { queue_of pass.old ≡ queue_id self.now.queue }
+        requires { IsPassOfFixed self.now pass.old }
         ensures queue { queue_of pass.new ≡ queue_of pass.old }
         ensures view { view pass.new ≡ view pass.old }
-        ensures sound { Sound (view pass.new) }
+        ensures few { result ≤ CAPACITY }
     {
         self.queue.len(rt, pass)
     }
 
     /// Whether none waited at one moment of the call, by the steps of `len`.
     pub fn is_empty(&self, rt: &impl Wait, pass: &mut Pass) -> bool
-        requires { queue_of pass.old ≡ queue_id self.now.queue }
+        requires { IsPassOfFixed self.now pass.old }
         ensures queue { queue_of pass.new ≡ queue_of pass.old }
         ensures view { view pass.new ≡ view pass.old }
-        ensures sound { Sound (view pass.new) }
     {
         self.queue.is_empty(rt, pass)
     }
 
     /// Whether as many as the capacity waited at one moment of the call, by the steps of `len`.
     pub fn is_full(&self, rt: &impl Wait, pass: &mut Pass) -> bool
-        requires { queue_of pass.old ≡ queue_id self.now.queue }
+        requires { IsPassOfFixed self.now pass.old }
         ensures queue { queue_of pass.new ≡ queue_of pass.old }
         ensures view { view pass.new ≡ view pass.old }
-        ensures sound { Sound (view pass.new) }
     {
         self.queue.is_full(rt, pass)
     }

@@ -1,6 +1,6 @@
 use Rattle.std.proofs.Common.{rules, ap, subst}
 use Rattle.lock_free_sp.specs.Ring.Between.{Sound}
-use Rattle.lock_free_sp.proofs.Rules.Ring.Roles.{learns}
+use Rattle.lock_free_sp.proofs.Rules.Ring.Lengths.{learns}
 use Rattle.lock_free_sp.proofs.Rules.Ring.Comings.{joins, ruled}
 use Rattle.lock_free_sp.proofs.ring.passes.Held+T+RingRule+T.join.Goals as goal
 
