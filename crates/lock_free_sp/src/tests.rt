@@ -1,6 +1,6 @@
 //! Real calls, alone and between threads.
 use crate::ring::board::open;
-use crate::spsc::index_queue::{Consumer, FixedSizeIndexQueue, IndexQueue, Producer};
+use crate::spsc::index_queue::{Consumer, FixedSizeIndexQueue, IndexQueue, Pass, Producer};
 use std::process::Abort;
 use std::sync::Wait;
 use std::test::Fail;
@@ -8,6 +8,21 @@ use std::thread;
 use steps::ask::{After, Call, Want};
 use steps::enums::UniqueIndexCreationError;
 use steps::ring::{Pop, Push};
+
+fn may_be_sent<T: Send>() {}
+
+fn may_be_shared<T: Sync>() {}
+
+#[test]
+fn what_crosses_threads(rt: HostRuntime) {
+    may_be_sent::<IndexQueue>();
+    may_be_shared::<IndexQueue>();
+    may_be_sent::<FixedSizeIndexQueue<8>>();
+    may_be_shared::<FixedSizeIndexQueue<8>>();
+    may_be_sent::<Pass>();
+    may_be_sent::<Producer<'_>>();
+    may_be_sent::<Consumer<'_>>();
+}
 
 #[test]
 fn push_and_pop_at_capacity_128(rt: HostRuntime) -> Result<(), Fail> {

@@ -13,7 +13,8 @@ use std::sync::Arc;
 mod calls;
 mod fixed;
 
-/// A queue of at most its capacity of numbers, from 0 to 2^32 - 1.
+/// A bounded queue of numbers, which threads share by reference. One producer pushes and one consumer pops at a time.
+/// After `IndexQueue` of the Rust crate.
 #[derive(Drop)]
 pub struct IndexQueue {
     board: Arc<Board<u64>, Global>,
@@ -21,28 +22,32 @@ pub struct IndexQueue {
     ghost sized: { (arc_value board).shared.table_id.words ≡ capacity + 4 },
 }
 
-/// A queue of CAPACITY numbers, which is from 0 to 2^32 - 1.
+/// The same for at most CAPACITY numbers, from 0 to 2^32 - 1. After `FixedSizeIndexQueue` of the Rust crate.
 #[derive(Drop)]
 pub struct FixedSizeIndexQueue<const CAPACITY: usize> {
     queue: IndexQueue,
     ghost sized: { queue.capacity ≡ CAPACITY },
 }
 
-/// What a caller knows of a queue, by which it makes its calls. It has no role.
+/// What a caller knows of a queue: the positions at which it has pushed and popped, with the numbers. Each call is made
+/// with a pass of its queue, which is the caller's concern, and only the caller's own calls change it. It has no role.
+/// This project's own.
 #[derive(Drop)]
 pub struct Pass {
     token: Token<u64>,
     ghost idle: { (token.seat.me.0.push ≡ pushing.Away) × (token.seat.me.0.last_push ≡ None) × (token.seat.me.0.pop ≡ popping.Away) × (token.seat.me.0.last_pop ≡ None) × (token.seat.me.0.len ≡ lengths.Idle) },
 }
 
-/// The end of a queue that pushes. There is one at a time. It owns the pass that it was acquired with.
+/// The end of a queue that pushes. There is one at a time. It owns the pass that it was acquired with, and gives the
+/// role back when it is dropped. After `Producer` of the Rust crate.
 pub struct Producer<'a> {
     queue: &'a IndexQueue,
     token: Token<u64>,
     ghost role: { (token.seat.me.0.push ≡ pushing.Ready) × (token.seat.me.0.pop ≡ popping.Away) × (token.seat.me.0.last_pop ≡ None) × (token.seat.me.0.len ≡ lengths.Idle) },
 }
 
-/// The end of a queue that pops. There is one at a time. It owns the pass that it was acquired with.
+/// The end of a queue that pops. There is one at a time. It owns the pass that it was acquired with, and gives the
+/// role back when it is dropped. After `Consumer` of the Rust crate.
 pub struct Consumer<'a> {
     queue: &'a IndexQueue,
     token: Token<u64>,

@@ -14,7 +14,10 @@ use std::sync::Wait;
 use steps::enums::{UniqueIndexCreationError, capacity_refusal};
 
 impl IndexQueue {
-    /// An empty queue, and a pass that knows nothing. Refused are, in this order, a capacity above 2^32 - 1 and memory.
+    /// An empty queue for at most `capacity` numbers, from 0 to 2^32 - 1, and its first pass, which knows nothing.
+    ///
+    /// Refused are, in this order, a capacity above 2^32 - 1 (`ProvidedCapacityGreaterThanMaxCapacity`) and memory
+    /// (`NoMemory`). After `IndexQueue::new` of the Rust crate.
     pub fn new(
         alloc: Global,
         capacity: usize,
@@ -27,7 +30,7 @@ impl IndexQueue {
         IndexQueue::new_at(alloc, capacity, 0)
     }
 
-    /// The same with both positions at `position`, as after so many pushes and pops.
+    /// The same with both positions at `position`, as after so many pushes and pops. This project's own.
     pub fn new_at(
         alloc: Global,
         capacity: usize,
@@ -48,7 +51,8 @@ impl IndexQueue {
         }
     }
 
-    /// Takes the producer's role, or hands the pass back where another has it. One step.
+    /// Takes the producer's role, or hands the pass back as it was where another has it. One step.
+    /// After `acquire_producer` of the Rust crate.
     pub fn acquire_producer(&self, pass: Pass) -> Result<Producer<'_>, Pass>
         requires { IsPassOf self.now pass }
         ensures acquired { IfOk result (λ p. (producer_queue p ≡ queue_of pass) × (producer_view p ≡ with_producer (view pass))) }
@@ -62,7 +66,8 @@ impl IndexQueue {
         }
     }
 
-    /// Takes the consumer's role, or hands the pass back where another has it. One step.
+    /// Takes the consumer's role, or hands the pass back as it was where another has it. One step.
+    /// After `acquire_consumer` of the Rust crate.
     pub fn acquire_consumer(&self, pass: Pass) -> Result<Consumer<'_>, Pass>
         requires { IsPassOf self.now pass }
         ensures acquired { IfOk result (λ c. (consumer_queue c ≡ queue_of pass) × (consumer_view c ≡ with_consumer (view pass))) }
@@ -76,8 +81,8 @@ impl IndexQueue {
         }
     }
 
-    /// How many numbers waited at one moment of the call, at most the capacity. Four steps, and at most four more for each time that a
-    /// position has moved between its two loads.
+    /// How many numbers waited at one moment of the call, at most the capacity. Four steps, and at most four more for
+    /// each time that a position has moved between its two loads. After `len` of the Rust crate.
     pub fn len(&self, rt: &impl Wait, pass: &mut Pass) -> usize
         requires { IsPassOf self.now pass.old }
         ensures queue { queue_of pass.new ≡ queue_of pass.old }
@@ -87,7 +92,7 @@ impl IndexQueue {
         pass.token.len(rt) as usize
     }
 
-    /// Whether none waited at one moment of the call, by the steps of `len`.
+    /// Whether none waited at one moment of the call, by the steps of `len`. After `is_empty` of the Rust crate.
     pub fn is_empty(&self, rt: &impl Wait, pass: &mut Pass) -> bool
         requires { IsPassOf self.now pass.old }
         ensures queue { queue_of pass.new ≡ queue_of pass.old }
@@ -97,6 +102,7 @@ impl IndexQueue {
     }
 
     /// Whether as many as the capacity waited at one moment of the call, by the steps of `len`.
+    /// After `is_full` of the Rust crate.
     pub fn is_full(&self, rt: &impl Wait, pass: &mut Pass) -> bool
         requires { IsPassOf self.now pass.old }
         ensures queue { queue_of pass.new ≡ queue_of pass.old }
@@ -105,7 +111,7 @@ impl IndexQueue {
         pass.token.len(rt) == self.capacity as u64
     }
 
-    /// The capacity that it was made with.
+    /// The capacity that it was made with. No step. After `capacity` of the Rust crate.
     pub fn capacity(&self) -> usize
         ensures { result ≡ capacity_of self.now }
     {
@@ -114,8 +120,8 @@ impl IndexQueue {
 }
 
 impl Pass {
-    /// A new pass of the same queue that knows nothing; this one keeps all that it knows. None where no further pass
-    /// can be counted. One load of the write position.
+    /// A new pass of the same queue that knows nothing; this one keeps all that it knows. None, and nothing changes,
+    /// where no further pass can be counted. One load of the write position. This project's own.
     pub fn split(&mut self) -> Option<Pass>
         ensures queue { queue_of self.new ≡ queue_of self.old }
         ensures view { view self.new ≡ view self.old }
@@ -125,7 +131,7 @@ impl Pass {
         Some(Pass { token })
     }
 
-    /// Takes in what the other pass knows. Two loads of the write position.
+    /// Takes in what the other pass of the queue knows. Two loads of the write position. This project's own.
     pub fn join(&mut self, other: Pass)
         requires { queue_of other ≡ queue_of self.old }
         ensures queue { queue_of self.new ≡ queue_of self.old }
@@ -139,7 +145,8 @@ impl Pass {
 }
 
 impl<'a> Producer<'a> {
-    /// Appends a number: true, or false where the queue is full or its write position at u64::MAX. At most four steps.
+    /// Appends a number: true, or false where the queue is full or its write position at u64::MAX, and then nothing
+    /// changes. At most four steps. After `Producer::push` of the Rust crate.
     pub fn push(&mut self, value: u64) -> bool
         ensures queue { producer_queue self.new ≡ producer_queue self.old }
         ensures pushed { IsTrue result → HasPushed value (producer_view self.old) (producer_view self.new) }
@@ -148,7 +155,7 @@ impl<'a> Producer<'a> {
         self.token.push(&value)
     }
 
-    /// Takes in what a pass of the queue knows. Two loads of the write position.
+    /// Takes in what a pass of the queue knows. Two loads of the write position. This project's own.
     pub fn join(&mut self, other: Pass)
         requires { queue_of other ≡ producer_queue self.old }
         ensures queue { producer_queue self.new ≡ producer_queue self.old }
@@ -160,7 +167,7 @@ impl<'a> Producer<'a> {
         self.token.join(token);
     }
 
-    /// Gives the role back. One step.
+    /// Gives the role back and hands the pass out. One step. This project's own, beside the drop.
     pub fn release(self) -> Pass
         ensures queue { queue_of result ≡ producer_queue self.entry }
         ensures view { view result ≡ without_producer (producer_view self.entry) }
@@ -175,7 +182,8 @@ impl<'a> Producer<'a> {
 }
 
 impl<'a> Consumer<'a> {
-    /// Takes the oldest number, or None where the queue is empty. At most four steps.
+    /// Takes the oldest number, or None where the queue is empty, and then nothing changes. At most four steps.
+    /// After `Consumer::pop` of the Rust crate.
     pub fn pop(&mut self) -> Option<u64>
         ensures queue { consumer_queue self.new ≡ consumer_queue self.old }
         ensures popped { IfSome result (λ x. HasPopped x (consumer_view self.old) (consumer_view self.new)) }
@@ -184,7 +192,7 @@ impl<'a> Consumer<'a> {
         self.token.pop()
     }
 
-    /// Takes in what a pass of the queue knows. Two loads of the write position.
+    /// Takes in what a pass of the queue knows. Two loads of the write position. This project's own.
     pub fn join(&mut self, other: Pass)
         requires { queue_of other ≡ consumer_queue self.old }
         ensures queue { consumer_queue self.new ≡ consumer_queue self.old }
@@ -196,7 +204,7 @@ impl<'a> Consumer<'a> {
         self.token.join(token);
     }
 
-    /// Gives the role back. One step.
+    /// Gives the role back and hands the pass out. One step. This project's own, beside the drop.
     pub fn release(self) -> Pass
         ensures queue { queue_of result ≡ consumer_queue self.entry }
         ensures view { view result ≡ without_consumer (consumer_view self.entry) }

@@ -12,7 +12,10 @@ use std::sync::Wait;
 use steps::enums::UniqueIndexCreationError;
 
 impl<const CAPACITY: usize> FixedSizeIndexQueue<CAPACITY> {
-    /// An empty queue, and a pass that knows nothing. Refused are, in this order, a capacity above 2^32 - 1 and memory.
+    /// An empty queue and its first pass, which knows nothing.
+    ///
+    /// Refused are, in this order, a CAPACITY above 2^32 - 1 (`ProvidedCapacityGreaterThanMaxCapacity`) and memory
+    /// (`NoMemory`). After `FixedSizeIndexQueue::new` of the Rust crate.
     pub fn new(
         alloc: Global,
     ) -> Result<(FixedSizeIndexQueue<CAPACITY>, Pass), UniqueIndexCreationError>
@@ -24,7 +27,8 @@ impl<const CAPACITY: usize> FixedSizeIndexQueue<CAPACITY> {
         Ok((FixedSizeIndexQueue { queue }, pass))
     }
 
-    /// Takes the producer's role, or hands the pass back where another has it. One step.
+    /// Takes the producer's role, or hands the pass back as it was where another has it. One step.
+    /// As of `IndexQueue`.
     pub fn acquire_producer(&self, pass: Pass) -> Result<Producer<'_>, Pass>
         requires { IsPassOfFixed self.now pass }
         ensures acquired { IfOk result (λ p. (producer_queue p ≡ queue_of pass) × (producer_view p ≡ with_producer (view pass))) }
@@ -33,7 +37,8 @@ impl<const CAPACITY: usize> FixedSizeIndexQueue<CAPACITY> {
         self.queue.acquire_producer(pass)
     }
 
-    /// Takes the consumer's role, or hands the pass back where another has it. One step.
+    /// Takes the consumer's role, or hands the pass back as it was where another has it. One step.
+    /// As of `IndexQueue`.
     pub fn acquire_consumer(&self, pass: Pass) -> Result<Consumer<'_>, Pass>
         requires { IsPassOfFixed self.now pass }
         ensures acquired { IfOk result (λ c. (consumer_queue c ≡ queue_of pass) × (consumer_view c ≡ with_consumer (view pass))) }
@@ -42,8 +47,8 @@ impl<const CAPACITY: usize> FixedSizeIndexQueue<CAPACITY> {
         self.queue.acquire_consumer(pass)
     }
 
-    /// How many numbers waited at one moment of the call, at most the capacity. Four steps, and at most four more for each time that a
-    /// position has moved between its two loads.
+    /// How many numbers waited at one moment of the call, at most the capacity. Four steps, and at most four more for
+    /// each time that a position has moved between its two loads. As of `IndexQueue`.
     pub fn len(&self, rt: &impl Wait, pass: &mut Pass) -> usize
         requires { IsPassOfFixed self.now pass.old }
         ensures queue { queue_of pass.new ≡ queue_of pass.old }
@@ -53,7 +58,7 @@ impl<const CAPACITY: usize> FixedSizeIndexQueue<CAPACITY> {
         self.queue.len(rt, pass)
     }
 
-    /// Whether none waited at one moment of the call, by the steps of `len`.
+    /// Whether none waited at one moment of the call, by the steps of `len`. As of `IndexQueue`.
     pub fn is_empty(&self, rt: &impl Wait, pass: &mut Pass) -> bool
         requires { IsPassOfFixed self.now pass.old }
         ensures queue { queue_of pass.new ≡ queue_of pass.old }
@@ -62,7 +67,7 @@ impl<const CAPACITY: usize> FixedSizeIndexQueue<CAPACITY> {
         self.queue.is_empty(rt, pass)
     }
 
-    /// Whether as many as the capacity waited at one moment of the call, by the steps of `len`.
+    /// Whether as many as the capacity waited at one moment of the call, by the steps of `len`. As of `IndexQueue`.
     pub fn is_full(&self, rt: &impl Wait, pass: &mut Pass) -> bool
         requires { IsPassOfFixed self.now pass.old }
         ensures queue { queue_of pass.new ≡ queue_of pass.old }
@@ -71,7 +76,7 @@ impl<const CAPACITY: usize> FixedSizeIndexQueue<CAPACITY> {
         self.queue.is_full(rt, pass)
     }
 
-    /// CAPACITY.
+    /// CAPACITY. No step.
     pub fn capacity(&self) -> usize
         ensures { result ≡ CAPACITY }
     {
