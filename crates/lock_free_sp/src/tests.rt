@@ -59,6 +59,35 @@ fn a_queue_of_capacity_0_is_full_and_empty(rt: HostRuntime) -> Result<(), Fail> 
 }
 
 #[test]
+fn lengths_of_a_queue(rt: HostRuntime) -> Result<(), Fail> {
+    let (queue, mut pass) = IndexQueue::new(rt.alloc(), 2)?;
+    let mine = pass.split().ok_or("no pass")?;
+    let mut producer = queue.acquire_producer(mine).map_err(|_| "taken")?;
+    assert!(rt; queue.is_empty(&rt, &mut pass));
+    assert!(rt; producer.push(7));
+    assert_eq!(rt; queue.len(&rt, &mut pass), 1);
+    assert!(rt; !queue.is_empty(&rt, &mut pass));
+    assert!(rt; !queue.is_full(&rt, &mut pass));
+    assert!(rt; producer.push(8));
+    assert!(rt; queue.is_full(&rt, &mut pass));
+    Ok(())
+}
+
+#[test]
+fn lengths_of_a_fixed_queue(rt: HostRuntime) -> Result<(), Fail> {
+    let (queue, mut pass) = FixedSizeIndexQueue::<1>::new(rt.alloc())?;
+    let mine = pass.split().ok_or("no pass")?;
+    let mut producer = queue.acquire_producer(mine).map_err(|_| "taken")?;
+    assert!(rt; queue.is_empty(&rt, &mut pass));
+    assert!(rt; !queue.is_full(&rt, &mut pass));
+    assert!(rt; producer.push(7));
+    assert!(rt; !queue.is_empty(&rt, &mut pass));
+    assert!(rt; queue.is_full(&rt, &mut pass));
+    assert_eq!(rt; queue.len(&rt, &mut pass), 1);
+    Ok(())
+}
+
+#[test]
 fn a_role_is_taken_once(rt: HostRuntime) -> Result<(), Fail> {
     let (queue, mut pass) = IndexQueue::new(rt.alloc(), 2)?;
     let second = pass.split().ok_or("no pass")?;
