@@ -8,6 +8,7 @@ pub mod ask;
 pub mod copied;
 pub mod enums;
 pub mod lengths;
+pub mod overflow;
 pub mod ring;
 pub mod roles;
 #[cfg(test)]

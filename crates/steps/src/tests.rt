@@ -2,6 +2,8 @@
 use crate::ask::{After, Call, Op, Want};
 use crate::enums::{OwnerId, OwnerIdNewError, UniqueIndexCreationError, capacity_refusal};
 use crate::lengths::{Len, LenStage, number_waiting};
+use crate::overflow;
+use crate::overflow::PopStage;
 use crate::ring::{CONSUMER, PRODUCER, Pop, Push};
 use crate::roles::{AcquireRole, ReleaseRole};
 use crate::words::Words;
@@ -113,6 +115,73 @@ fn a_length_is_read_twice(rt: HostRuntime) {
     assert!(rt; !call.turns_back(2));
     assert_eq!(rt; whole(call, &mut words), Some((1, 1)));
     assert_eq!(rt; number_waiting(2, 1, u64::MAX), 2);
+}
+
+#[test]
+fn an_overflowing_queue(rt: HostRuntime) {
+    let mut words = [0, 0, 1, 1, 0, 0, 0];
+    let rows = [(1, None, 4), (2, None, 4), (3, Some(1), 6)];
+    for (value, answer, steps) in rows {
+        assert_eq!(rt;
+            whole(overflow::Push::new(2, value), &mut words),
+            Some((answer, steps))
+        );
+    }
+    let rows = [(Some(2), 4), (Some(3), 4), (None, 2)];
+    for (answer, steps) in rows {
+        assert_eq!(rt;
+            whole(overflow::Pop::new(2), &mut words),
+            Some((answer, steps))
+        );
+    }
+    assert_eq!(rt; words, [3, 3, 1, 1, 1, 2, 3]);
+    // A pop moves the read position between a full push's load of it and its own move.
+    let mut call = overflow::Push::new(1, 9);
+    let mut full = [1, 0, 1, 1, 7, 0];
+    for taken in 0..4 {
+        match step(call, &mut full) {
+            After::GoOn(next) => call = next,
+            After::Done(_) => assert!(rt; taken > 4),
+        }
+    }
+    assert_eq!(rt; whole(overflow::Pop::new(1), &mut full), Some((Some(7), 4)));
+    assert_eq!(rt; whole(call, &mut full), Some((None, 1)));
+    // The last write position takes nothing more, and neither does a queue without capacity.
+    let mut last = [u64::MAX, u64::MAX, 1, 1, 0, 0];
+    assert_eq!(rt;
+        whole(overflow::Push::new(1, 7), &mut last),
+        Some((Some(7), 1))
+    );
+    let mut none = [0, 0, 1, 1, 0];
+    assert_eq!(rt;
+        whole(overflow::Push::new(0, 7), &mut none),
+        Some((Some(7), 1))
+    );
+    assert_eq!(rt; whole(overflow::Pop::new(0), &mut none), Some((None, 1)));
+    assert_eq!(rt; none, [0, 0, 1, 1, 0]);
+    assert!(rt; matches!(overflow::Push::new(0, 7).ask(), Want::Nothing));
+    assert!(rt; matches!(overflow::Pop::new(0).ask(), Want::Nothing));
+    assert_eq!(rt; overflow::cell_word(u32::MAX, 4294967295), 4294967299);
+}
+
+#[test]
+fn a_pop_reads_again_where_a_push_moved_the_read_position(rt: HostRuntime) {
+    let mut words = [1, 0, 1, 1, 1, 0];
+    let mut call = overflow::Pop::new(1);
+    for taken in 0..3 {
+        match step(call, &mut words) {
+            After::GoOn(next) => call = next,
+            After::Done(_) => assert!(rt; taken > 3),
+        }
+    }
+    assert_eq!(rt;
+        whole(overflow::Push::new(1, 2), &mut words),
+        Some((Some(1), 6))
+    );
+    assert!(rt; matches!(call.stage, PopStage::MovesRead { read: 0, value: 1 }));
+    assert!(rt; call.goes_back(1));
+    assert!(rt; !call.goes_back(0));
+    assert_eq!(rt; whole(call, &mut words), Some((Some(2), 3)));
 }
 
 #[test]
