@@ -3,8 +3,10 @@ use Rattle.std.proofs.Common.{ℕ, ◌≤◌, ◌==◌, Bool, true, false, cond,
 use Rattle.steps.specs.Ask.{written}
 use Rattle.steps.specs.declared.ask.Ask.{Ask}
 use Rattle.steps.specs.Lengths.{turns_back}
+use Rattle.steps.specs.Overflow.{goes_back}
+use Rattle.machine.specs.declared.call.OverflowCall as overflows
 use Rattle.machine.specs.declared.call.Flight.{Flight}
-use Rattle.machine.specs.declared.call.Flight.TheVariants.{Role, Indices, Length}
+use Rattle.machine.specs.declared.call.Flight.TheVariants.{Role, Indices, Overflow, Length}
 use Rattle.machine.specs.Calls.{back_of}
 use Rattle.machine.specs.Turns.{change_of, steps_of}
 
@@ -27,4 +29,6 @@ steps_small (Some ask) = omega arith
 pub back_small : (flight : Flight) (answer : ℕ) → back_of flight answer ≤ 1
 back_small (Role call) answer = omega arith
 back_small (Indices call) answer = omega arith
+back_small (Overflow (overflows.TheVariants.Push call)) answer = omega arith
+back_small (Overflow (overflows.TheVariants.Pop call)) answer = one_or_none (goes_back call.stage answer)
 back_small (Length which call) answer = one_or_none (turns_back call.stage answer)

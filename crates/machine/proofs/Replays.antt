@@ -4,7 +4,7 @@ use Rattle.std.proofs.lemmas.List.{map-append}
 use Rattle.std.proofs.lemmas.List.Sums.{fold-append}
 use Rattle.machine.specs.declared.event.Start.{Start}
 use Rattle.machine.specs.declared.event.Answer.{Answer}
-use Rattle.machine.specs.Objects.{Object, answers_from, IsLegal}
+use Rattle.machine.specs.Objects.{Object, answers_from, IsLegal, standing}
 
 module _ {T : Type 0} where
   abbrev pub calls_of : List (Start T × Answer T) → List (Start T)
@@ -14,10 +14,6 @@ module _ {T : Type 0} where
   answers_of moments = map (λ m. m.1) moments
 
 module _ {T State : Type 0} where
-  -- what the object is after these calls
-  abbrev pub standing : Object T State → List (Start T × Answer T) → State
-  standing o moments = fold o.after o.opening (calls_of moments)
-
   answers_more : (o : Object T State) (s : State) (calls more : List (Start T)) → answers_from o s (calls ++ more) ≡ answers_from o s calls ++ answers_from o (fold o.after s calls) more
   answers_more o s [] more = refl
   answers_more o s (call ∷ calls) more = ap (λ xs. o.answer s call ∷ xs) (answers_more o (o.after s call) calls more)

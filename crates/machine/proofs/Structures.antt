@@ -1,1 +1,3 @@
+pub mod Overflow
+pub mod Queues
 pub mod Ring

@@ -6,14 +6,14 @@ use Rattle.machine.specs.declared.event.Answer.{Answer}
 use Rattle.machine.specs.declared.event.Answer.TheVariants.{Truth, Popped, Number}
 use Rattle.machine.specs.declared.event.Event.{Event}
 use Rattle.machine.specs.declared.event.Event.TheVariants.{Begun, Published, HandedOut, Acted, Finished}
-use Rattle.machine.specs.declared.turn.Kind.TheVariants.{IndexQueue}
+use Rattle.machine.specs.declared.turn.Kind.TheVariants.{IndexQueue, Overflow}
 use Rattle.machine.specs.declared.turn.Turn.{Turn}
 use Rattle.machine.specs.declared.turn.Turn.TheVariants.{Begin, Next}
 use Rattle.machine.specs.World.{opening, progress_in}
 use Rattle.machine.specs.Turns.{run}
 use Rattle.machine.specs.Reading.{acts, waiting, moments, Open}
 use Rattle.machine.specs.Moments.{BeginsNone}
-use Rattle.machine.specs.Objects.{IsLegal, bounded_list}
+use Rattle.machine.specs.Objects.{IsLegal, bounded_list, overflowing_list}
 use Rattle.machine.specs.Promises.Spans.{Stands, Wrote}
 use Rattle.machine.specs.Promises.Book.{AnswersRight}
 use Rattle.machine.specs.Promises.Lengths.{TellsLength}
@@ -119,7 +119,140 @@ none_waited =
       held = refl;
     }
 
+-- ---- an overflowing queue
+
+-- roles as above, and 1 is pushed into a queue of capacity 1
+abbrev holding_one : List (Turn ℕ)
+holding_one =
+    Begin 0 AcquireProducer
+    ∷ Next 0
+    ∷ Begin 1 AcquireConsumer
+    ∷ Next 1
+    ∷ Begin 0 (Push (Index 1))
+    ∷ Next 0
+    ∷ Next 0
+    ∷ Next 0
+    ∷ Next 0
+    ∷ []
+
+abbrev holding_one_told : List (Event ℕ)
+holding_one_told =
+    Begun 0 AcquireProducer
+    ∷ Finished 0 AcquireProducer (Truth true)
+    ∷ Begun 1 AcquireConsumer
+    ∷ Finished 1 AcquireConsumer (Truth true)
+    ∷ Begun 0 (Push (Index 1))
+    ∷ Published 0 (Index 1)
+    ∷ Acted 0 (Push (Index 1)) (Popped None)
+    ∷ Finished 0 (Push (Index 1)) (Popped None)
+    ∷ []
+
+-- a push has published over the full queue, a length counts both values, and a pop makes the push act
+abbrev room_turns : List (Turn ℕ)
+room_turns =
+    Begin 0 (Push (Index 2))
+    ∷ Next 0
+    ∷ Next 0
+    ∷ Next 0
+    ∷ Next 0
+    ∷ Begin 2 Len
+    ∷ Next 2
+    ∷ Next 2
+    ∷ Next 2
+    ∷ Next 2
+    ∷ Begin 1 Pop
+    ∷ Next 1
+    ∷ Next 1
+    ∷ Next 1
+    ∷ Next 1
+    ∷ Next 0
+    ∷ []
+
+abbrev room_told : List (Event ℕ)
+room_told =
+    Begun 0 (Push (Index 2))
+    ∷ Published 0 (Index 2)
+    ∷ Begun 2 Len
+    ∷ Finished 2 Len (Number 2)
+    ∷ Begun 1 Pop
+    ∷ HandedOut 1 (Index 1)
+    ∷ Acted 1 Pop (Popped (Some (Index 1)))
+    ∷ Acted 0 (Push (Index 2)) (Popped None)
+    ∷ Finished 1 Pop (Popped (Some (Index 1)))
+    ∷ Finished 0 (Push (Index 2)) (Popped None)
+    ∷ []
+
+pub pop_makes_room : (run (holding_one ++ room_turns) (opening Overflow 1 3)).events ≡ holding_one_told ++ room_told
+pop_makes_room = refl
+
+pub room_is_legal : IsLegal (overflowing_list 1) (moments (holding_one_told ++ room_told))
+room_is_legal = refl
+
+-- a pop has loaded the cell, a push takes that value out, and the pop reads again
+abbrev again_turns : List (Turn ℕ)
+again_turns =
+    Begin 1 Pop
+    ∷ Next 1
+    ∷ Next 1
+    ∷ Next 1
+    ∷ Begin 0 (Push (Index 2))
+    ∷ Next 0
+    ∷ Next 0
+    ∷ Next 0
+    ∷ Next 0
+    ∷ Next 0
+    ∷ Next 0
+    ∷ Next 1
+    ∷ Next 1
+    ∷ Next 1
+    ∷ []
+
+abbrev again_told : List (Event ℕ)
+again_told =
+    Begun 1 Pop
+    ∷ Begun 0 (Push (Index 2))
+    ∷ Published 0 (Index 2)
+    ∷ HandedOut 0 (Index 1)
+    ∷ Acted 0 (Push (Index 2)) (Popped (Some (Index 1)))
+    ∷ Finished 0 (Push (Index 2)) (Popped (Some (Index 1)))
+    ∷ HandedOut 1 (Index 2)
+    ∷ Acted 1 Pop (Popped (Some (Index 2)))
+    ∷ Finished 1 Pop (Popped (Some (Index 2)))
+    ∷ []
+
+pub pop_reads_again : (run (holding_one ++ again_turns) (opening Overflow 1 3)).events ≡ holding_one_told ++ again_told
+pop_reads_again = refl
+
+pub pop_counts : progress_in (run (holding_one ++ again_turns) (opening Overflow 1 3)).world 1 ≡ Some (record { steps = 6; backs = 1; others = 3; finished = true })
+pop_counts = refl
+
+pub again_is_legal : IsLegal (overflowing_list 1) (moments (holding_one_told ++ again_told))
+again_is_legal = refl
+
 -- ---- what is refused
+
+-- a pop that answers the value that a push took out
+pub no_stale_pop : IsLegal {T = ℕ} (overflowing_list 1) ((Push (Index 1), Popped None) ∷ (Push (Index 2), Popped (Some (Index 1))) ∷ (Pop, Popped (Some (Index 1))) ∷ []) → ⊥
+no_stale_pop legal = cc
+
+-- a push that acts at its end, after a pop of the next value
+pub no_late_push : IsLegal {T = ℕ} (overflowing_list 1) ((Push (Index 1), Popped None) ∷ (Pop, Popped (Some (Index 2))) ∷ (Push (Index 2), Popped (Some (Index 1))) ∷ []) → ⊥
+no_late_push legal = cc
+
+-- a push that hands a value out of a bounded queue
+pub no_bounded_push_hands_out : Stands {T = ℕ} IndexQueue 1 (HandedOut 0 (Index 5)) (Open (Push (Index 5)) []) → ⊥
+no_bounded_push_hands_out stands = let h : Push (Index 5) ≡ Pop = stands.0 in cc
+
+-- a push that an overflowing queue loses, and one that it publishes without a place for it
+pub no_lost_overflow : Wrote {T = ℕ} Overflow 1 (Push (Index 5)) (Popped None) (Acted 0 (Push (Index 5)) (Popped None) ∷ []) → ⊥
+no_lost_overflow wrote = let p = wrote.published in cc
+
+pub no_place : Wrote {T = ℕ} Overflow 0 (Push (Index 5)) (Popped (Some (Index 5))) (Published 0 (Index 5) ∷ Acted 0 (Push (Index 5)) (Popped (Some (Index 5))) ∷ []) → ⊥
+no_place wrote = let p = wrote.published in cc
+
+-- a push that hands back the newest value
+pub no_newest : IsLegal {T = ℕ} (overflowing_list 1) ((Push (Index 1), Popped None) ∷ (Push (Index 2), Popped (Some (Index 2))) ∷ []) → ⊥
+no_newest legal = cc
 
 -- a pop of a value that nobody pushed
 pub no_invention : IsLegal {T = ℕ} (bounded_list 1) ((Pop, Popped (Some (Index 5))) ∷ []) → ⊥
@@ -130,15 +263,15 @@ pub no_excuse : IsLegal {T = ℕ} (bounded_list 1) ((Push (Index 5), Truth false
 no_excuse legal = cc
 
 -- a call that acts a second time
-pub no_second_act : Stands {T = ℕ} (Acted 0 Pop (Popped None)) (Open Pop (Acted 0 Pop (Popped None) ∷ [])) → ⊥
+pub no_second_act : Stands {T = ℕ} IndexQueue 1 (Acted 0 Pop (Popped None)) (Open Pop (Acted 0 Pop (Popped None) ∷ [])) → ⊥
 no_second_act stands = let h : (acts {T = ℕ} (Acted 0 Pop (Popped None))) ++ [] ≡ [] = stands.1 in cc
 
 -- a call that ends without having acted
-pub no_silent_end : Stands {T = ℕ} (Finished 0 Pop (Popped None)) (Open Pop []) → ⊥
+pub no_silent_end : Stands {T = ℕ} IndexQueue 1 (Finished 0 Pop (Popped None)) (Open Pop []) → ⊥
 no_silent_end stands = let h = stands.1 in let m = h.moments in cc
 
 -- a push that answers true and publishes nothing
-pub no_lost_push : Wrote {T = ℕ} (Push (Index 5)) (Truth true) (Acted 0 (Push (Index 5)) (Truth true) ∷ []) → ⊥
+pub no_lost_push : Wrote {T = ℕ} IndexQueue 1 (Push (Index 5)) (Truth true) (Acted 0 (Push (Index 5)) (Truth true) ∷ []) → ⊥
 no_lost_push wrote = let p = wrote.published in cc
 
 -- a pop that answers None while a value waits

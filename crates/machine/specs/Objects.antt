@@ -1,10 +1,12 @@
 -- The small sequential objects that calls answer as.
-use Rattle.std.specs.Prelude.{◌≡◌, ℕ, List, [], ◌∷◌, ◌++◌, length, drop, map, nat_lt, slice_get, if◌then◌else◌}
+use Rattle.std.specs.Prelude.{◌≡◌, ℕ, Option, None, List, [], ◌∷◌, ◌++◌, length, drop, fold, map, nat_lt, slice_get, if◌then◌else◌}
 use Rattle.machine.specs.declared.event.Item.{Item}
 use Rattle.machine.specs.declared.event.Start.{Start}
 use Rattle.machine.specs.declared.event.Start.TheVariants.{Push, Pop}
 use Rattle.machine.specs.declared.event.Answer.{Answer}
 use Rattle.machine.specs.declared.event.Answer.TheVariants.{Done, Truth, Popped}
+use Rattle.machine.specs.declared.turn.Kind.{Kind}
+use Rattle.machine.specs.declared.turn.Kind.TheVariants.{IndexQueue, Overflow}
 
 pub record Object (T State : Type 0) : Type 0 where
   pub opening : State
@@ -20,6 +22,10 @@ module _ {T State : Type 0} where
   -- the calls at these moments, run on the object from its opening, give these answers
   abbrev pub IsLegal : Object T State → List (Start T × Answer T) → Type 0
   IsLegal o moments = answers_from o o.opening (map (λ m. m.0) moments) ≡ map (λ m. m.1) moments
+
+  -- what it is after the calls at these moments
+  abbrev pub standing : Object T State → List (Start T × Answer T) → State
+  standing o moments = fold o.after o.opening (map (λ m. m.0) moments)
 
 module _ {T : Type 0} where
   -- ---- the bounded list
@@ -37,3 +43,33 @@ module _ {T : Type 0} where
   -- push appends and answers true where the length is below the capacity, else it answers false and changes nothing; pop takes the front, or answers None
   abbrev pub bounded_list : ℕ → Object T (List (Item T))
   bounded_list capacity = record { opening = []; after = list_after capacity; answer = list_answer capacity }
+
+  -- ---- the overflowing list
+
+  -- the front leaves where the list is too long
+  abbrev pub cut : ℕ → List (Item T) → List (Item T)
+  cut capacity items = if nat_lt capacity (length items) then drop 1 items else items
+
+  -- it is answered
+  abbrev pub cut_off : ℕ → List (Item T) → Option (Item T)
+  cut_off capacity items = if nat_lt capacity (length items) then slice_get items 0 else None
+
+  abbrev pub overflow_after : ℕ → List (Item T) → Start T → List (Item T)
+  overflow_after capacity items (Push item) = cut capacity (items ++ item ∷ [])
+  overflow_after capacity items Pop = drop 1 items
+  overflow_after capacity items other = items
+
+  abbrev pub overflow_answer : ℕ → List (Item T) → Start T → Answer T
+  overflow_answer capacity items (Push item) = Popped (cut_off capacity (items ++ item ∷ []))
+  overflow_answer capacity items Pop = Popped (slice_get items 0)
+  overflow_answer capacity items other = Done
+
+  -- push appends, and where the length then passes the capacity the front leaves and is answered, else None; pop takes the front, or answers None
+  abbrev pub overflowing_list : ℕ → Object T (List (Item T))
+  overflowing_list capacity =
+      record { opening = []; after = overflow_after capacity; answer = overflow_answer capacity }
+
+  -- the list that the calls of a kind answer as
+  abbrev pub list_of : Kind → ℕ → Object T (List (Item T))
+  list_of IndexQueue capacity = bounded_list capacity
+  list_of Overflow capacity = overflowing_list capacity

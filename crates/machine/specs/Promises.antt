@@ -1,10 +1,10 @@
 -- What holds of every turn and of every run.
-use Rattle.std.specs.Prelude.{ℕ, List, [], ◌∷◌}
+use Rattle.std.specs.Prelude.{◌≡◌, ℕ, List, [], ◌∷◌, take}
 use Rattle.machine.specs.declared.turn.Turn.{Turn}
 use Rattle.machine.specs.World.{Trace, progress_in}
 use Rattle.machine.specs.Turns.{turned}
-use Rattle.machine.specs.Reading.{Each, moments, span_of}
-use Rattle.machine.specs.Objects.{IsLegal, bounded_list}
+use Rattle.machine.specs.Reading.{Each, moments, waiting, span_of}
+use Rattle.machine.specs.Objects.{IsLegal, standing, list_of}
 pub mod Book
 pub mod Bounds
 pub mod Lengths
@@ -30,11 +30,12 @@ module _ {T : Type 0} where
   AreTurns t [] = Unit {0}
   AreTurns t (turn ∷ turns) = IsTurn t turn (turned t turn) × AreTurns (turned t turn) turns
 
-  -- the events of a run
+  -- The events of a run. The list of the moments is those that wait, without the newest while there is one more than the capacity.
   pub record IsKept (t : Trace T) : Type 0 where
-    pub spans : Each StandsRight t.events
-    pub moments : IsLegal (bounded_list t.world.capacity) (moments t.events)
+    pub spans : Each (StandsRight t.world.kind t.world.capacity) t.events
+    pub list : standing (list_of t.world.kind t.world.capacity) (moments t.events) ≡ take t.world.capacity (waiting t.events)
+    pub moments : IsLegal (list_of t.world.kind t.world.capacity) (moments t.events)
     pub book : IsBook t
     pub answers : Each (AnswersRight t.world.capacity) t.events
     pub lengths : Each (TellsLength t.world.capacity) t.events
-    pub progress : (p : ℕ) → Progresses (span_of p t.events) (progress_in t.world p)
+    pub progress : (p : ℕ) → Progresses t.world.kind (span_of p t.events) (progress_in t.world p)

@@ -5,6 +5,7 @@ use Rattle.steps.specs.declared.ask.Ask.{Ask}
 use Rattle.steps.specs.declared.ask.After.{After}
 use Rattle.steps.specs.declared.ask.After.TheVariants.{GoOn, Done}
 use Rattle.machine.specs.declared.call.Flight.{Flight}
+use Rattle.machine.specs.declared.effects.Effect.{Effect}
 use Rattle.machine.specs.declared.event.Start.{Start}
 use Rattle.machine.specs.declared.event.Start.TheVariants.{AcquireProducer, ReleaseProducer, AcquireConsumer, ReleaseConsumer}
 use Rattle.machine.specs.declared.event.Answer.{Answer}
@@ -19,7 +20,7 @@ use Rattle.machine.specs.declared.turn.Turn.{Turn}
 use Rattle.machine.specs.declared.turn.Turn.TheVariants.{Begin, Next, Decide, Die}
 use Rattle.machine.specs.World.{World, Trace, opening, party_of, put}
 use Rattle.machine.specs.Calls.{first_of, want_of, ask_of, after_of, back_of}
-use Rattle.machine.specs.Effects.{effect_of, told_after}
+use Rattle.machine.specs.Effects.{pending, effect_of, told_after}
 use Rattle.machine.specs.Refusals.{refusal_of}
 
 -- ---- one operation on one word
@@ -146,29 +147,34 @@ module _ {T : Type 0} where
 
   -- ---- what it writes down
 
-  abbrev pub resumed_told : Party T → ℕ → Doing → List (Event T)
-  resumed_told x answer (Over others) = []
-  resumed_told x answer (Going flight since) =
-      told_after x.number x.start (effect_of flight) (after_of flight answer)
+  -- what the step of a call does to the structure
+  abbrev pub effect_in : World T → Flight → ℕ → Effect T
+  effect_in w flight answer =
+      effect_of w.words (pending (slice_index w.words 1) w.producer w.latest) flight answer
+
+  abbrev pub resumed_told : World T → Party T → ℕ → Doing → List (Event T)
+  resumed_told w x answer (Over others) = []
+  resumed_told w x answer (Going flight since) =
+      told_after x.number x.start (effect_in w flight answer) (after_of flight answer)
 
   abbrev pub next_told : World T → Option (Party T) → List (Event T)
   next_told w None = []
-  next_told w (Some x) = resumed_told x (old_of w.words (ask_in x.doing)) x.doing
+  next_told w (Some x) = resumed_told w x (old_of w.words (ask_in x.doing)) x.doing
 
-  abbrev pub decision_told : Bool → Option (Party T) → List (Event T)
-  decision_told said None = []
-  decision_told said (Some x) = resumed_told x (number_of said) x.doing
+  abbrev pub decision_told : World T → Bool → Option (Party T) → List (Event T)
+  decision_told w said None = []
+  decision_told w said (Some x) = resumed_told w x (number_of said) x.doing
 
   abbrev pub told : World T → Turn T → List (Event T)
   told w (Begin p start) = Begun p start ∷ []
   told w (Next p) = next_told w (party_of p w.latest)
-  told w (Decide p said) = decision_told said (party_of p w.latest)
+  told w (Decide p said) = decision_told w said (party_of p w.latest)
   told w (Die owner) = []
 
   -- the call goes on from this answer, with what it writes down
   abbrev pub resumed_trace : Trace T → Party T → Option Ask → ℕ → Trace T
   resumed_trace t x ask answer =
-      record { world = resumed t.world x ask answer x.doing; events = t.events ++ resumed_told x answer x.doing }
+      record { world = resumed t.world x ask answer x.doing; events = t.events ++ resumed_told t.world x answer x.doing }
 
   -- ---- lists of turns
 

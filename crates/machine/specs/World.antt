@@ -10,7 +10,7 @@ use Rattle.machine.specs.declared.party.Party.{Party}
 use Rattle.machine.specs.declared.parts.Parts.{Parts}
 use Rattle.machine.specs.declared.party.Progress.{Progress}
 use Rattle.machine.specs.declared.turn.Kind.{Kind}
-use Rattle.machine.specs.declared.turn.Kind.TheVariants.{IndexQueue}
+use Rattle.machine.specs.declared.turn.Kind.TheVariants.{IndexQueue, Overflow}
 
 pub record World (T : Type 0) : Type 0 where
   pub kind : Kind
@@ -31,17 +31,24 @@ pub record Trace (T : Type 0) : Type 0 where
 -- the least capacity of a kind, and the greatest
 abbrev pub least_capacity : Kind → ℕ
 least_capacity IndexQueue = 0
+least_capacity Overflow = 0
 
 abbrev pub greatest_capacity : Kind → ℕ
 greatest_capacity IndexQueue = 2 ^ 32 - 1
+greatest_capacity Overflow = 2 ^ 32 - 1
 
 -- the refusal of a capacity that is not admitted
 abbrev pub capacity_error : Kind → ℕ → Option UniqueIndexCreationError
 capacity_error kind capacity = capacity_refusal (least_capacity kind) (greatest_capacity kind) capacity
 
+-- the cells of a queue: an overflowing one has one more than its capacity
+abbrev pub cells_of : Kind → ℕ → ℕ
+cells_of IndexQueue capacity = capacity
+cells_of Overflow capacity = capacity + 1
+
 -- write position, read position, both roles free, and the cells
 abbrev pub opening_words : Kind → ℕ → List ℕ
-opening_words IndexQueue capacity = 0 ∷ 0 ∷ 1 ∷ 1 ∷ replicate capacity 0
+opening_words kind capacity = 0 ∷ 0 ∷ 1 ∷ 1 ∷ replicate (cells_of kind capacity) 0
 
 -- the machine that these parts make
 abbrev pub trace_of : {T : Type 0} → Parts T → Trace T

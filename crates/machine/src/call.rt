@@ -1,12 +1,13 @@
 //! The calls under way, by families: what each wants, and how it goes on.
 ghost use Rattle.std.specs.Prelude.{◌≡◌, true, false};
 ghost use Rattle.steps.specs.declared.ask.After.{After};
-ghost use Rattle.machine.specs.Calls.{first_of, want_of, after_of, back_of, is_question, popped, length_answer};
+ghost use Rattle.machine.specs.Calls.{push_of, pop_of, first_of, want_of, after_of, back_of, is_question, popped, length_answer};
 
 use crate::event::{Answer, Item, Start};
 use crate::turn::Kind;
 use steps::ask::{After, Call, Want};
 use steps::lengths::Len;
+use steps::overflow;
 use steps::ring::{CONSUMER, PRODUCER, Pop, Push};
 use steps::roles::{AcquireRole, ReleaseRole};
 use steps::words::Words;
@@ -25,6 +26,13 @@ pub enum RingCall<V: Words> {
     Pop(Pop<V>),
 }
 
+/// A call on an overflowing queue.
+#[derive(Clone, Copy)]
+pub enum OverflowCall {
+    Push(overflow::Push),
+    Pop(overflow::Pop),
+}
+
 /// What a call asks of the number of values that wait.
 #[derive(Clone, Copy)]
 pub enum LengthOf {
@@ -38,36 +46,54 @@ pub enum LengthOf {
 pub enum Flight {
     Role(RoleCall),
     Indices(RingCall<u64>),
+    Overflow(OverflowCall),
     Length(LengthOf, Len),
+}
+
+/// A push of this index.
+fn push_of(kind: Kind, capacity: u32, index: u64) -> Flight
+    ensures { result ≡ push_of kind capacity index }
+{
+    match kind {
+        Kind::IndexQueue => Flight::Indices(RingCall::Push(Push::new(capacity, index))),
+        Kind::Overflow => {
+            Flight::Overflow(OverflowCall::Push(overflow::Push::new(capacity, index)))
+        }
+    }
+}
+
+fn pop_of(kind: Kind, capacity: u32) -> Flight
+    ensures { result ≡ pop_of kind capacity }
+{
+    match kind {
+        Kind::IndexQueue => Flight::Indices(RingCall::Pop(Pop::new(capacity))),
+        Kind::Overflow => Flight::Overflow(OverflowCall::Pop(overflow::Pop::new(capacity))),
+    }
 }
 
 /// The call that begins, or None where the kind has no such call.
 pub fn first<T: Copy>(kind: Kind, capacity: u32, start: Start<T>) -> Option<Flight>
     ensures { result ≡ first_of kind capacity start }
 {
-    match kind {
-        Kind::IndexQueue => match start {
-            Start::AcquireProducer => Some(Flight::Role(RoleCall::Acquire(AcquireRole {
-                word: PRODUCER,
-            }))),
-            Start::ReleaseProducer => Some(Flight::Role(RoleCall::Release(ReleaseRole {
-                word: PRODUCER,
-            }))),
-            Start::AcquireConsumer => Some(Flight::Role(RoleCall::Acquire(AcquireRole {
-                word: CONSUMER,
-            }))),
-            Start::ReleaseConsumer => Some(Flight::Role(RoleCall::Release(ReleaseRole {
-                word: CONSUMER,
-            }))),
-            Start::Push(Item::Index(index)) => Some(Flight::Indices(RingCall::Push(Push::new(
-                capacity, index,
-            )))),
-            Start::Push(Item::Value(_)) => None,
-            Start::Pop => Some(Flight::Indices(RingCall::Pop(Pop::new(capacity)))),
-            Start::Len => Some(Flight::Length(LengthOf::Len, Len::new(capacity))),
-            Start::IsEmpty => Some(Flight::Length(LengthOf::IsEmpty, Len::new(capacity))),
-            Start::IsFull => Some(Flight::Length(LengthOf::IsFull, Len::new(capacity))),
-        },
+    match start {
+        Start::AcquireProducer => Some(Flight::Role(RoleCall::Acquire(AcquireRole {
+            word: PRODUCER,
+        }))),
+        Start::ReleaseProducer => Some(Flight::Role(RoleCall::Release(ReleaseRole {
+            word: PRODUCER,
+        }))),
+        Start::AcquireConsumer => Some(Flight::Role(RoleCall::Acquire(AcquireRole {
+            word: CONSUMER,
+        }))),
+        Start::ReleaseConsumer => Some(Flight::Role(RoleCall::Release(ReleaseRole {
+            word: CONSUMER,
+        }))),
+        Start::Push(Item::Index(index)) => Some(push_of(kind, capacity, index)),
+        Start::Push(Item::Value(_)) => None,
+        Start::Pop => Some(pop_of(kind, capacity)),
+        Start::Len => Some(Flight::Length(LengthOf::Len, Len::new(capacity))),
+        Start::IsEmpty => Some(Flight::Length(LengthOf::IsEmpty, Len::new(capacity))),
+        Start::IsFull => Some(Flight::Length(LengthOf::IsFull, Len::new(capacity))),
     }
 }
 
@@ -101,6 +127,8 @@ impl Flight {
             Flight::Role(RoleCall::Release(call)) => call.ask(),
             Flight::Indices(RingCall::Push(call)) => call.ask(),
             Flight::Indices(RingCall::Pop(call)) => call.ask(),
+            Flight::Overflow(OverflowCall::Push(call)) => call.ask(),
+            Flight::Overflow(OverflowCall::Pop(call)) => call.ask(),
             Flight::Length(_, call) => call.ask(),
         }
     }
@@ -122,6 +150,10 @@ impl Flight {
         match self {
             Flight::Role(_) => 0,
             Flight::Indices(_) => 0,
+            Flight::Overflow(OverflowCall::Push(_)) => 0,
+            Flight::Overflow(OverflowCall::Pop(call)) => {
+                if call.goes_back(answer) { 1 } else { 0 }
+            }
             Flight::Length(_, call) => { if call.turns_back(answer) { 1 } else { 0 } }
         }
     }
@@ -145,6 +177,14 @@ impl Flight {
             },
             Flight::Indices(RingCall::Pop(call)) => match call.take(answer) {
                 After::GoOn(call) => After::GoOn(Flight::Indices(RingCall::Pop(call))),
+                After::Done(answer) => After::Done(popped(answer)),
+            },
+            Flight::Overflow(OverflowCall::Push(call)) => match call.take(answer) {
+                After::GoOn(call) => After::GoOn(Flight::Overflow(OverflowCall::Push(call))),
+                After::Done(answer) => After::Done(popped(answer)),
+            },
+            Flight::Overflow(OverflowCall::Pop(call)) => match call.take(answer) {
+                After::GoOn(call) => After::GoOn(Flight::Overflow(OverflowCall::Pop(call))),
                 After::Done(answer) => After::Done(popped(answer)),
             },
             Flight::Length(which, call) => {

@@ -28,9 +28,9 @@ pub enum Start<T> {
 pub enum Answer<T> {
     /// Of giving a role back.
     Done,
-    /// Of a push, of acquiring a role, and of asking whether a queue is empty or full.
+    /// Of a push of the bounded queue, of acquiring a role, and of asking whether a queue is empty or full.
     Truth(bool),
-    /// Of a pop.
+    /// Of a pop, and of a push of the overflowing queue.
     Popped(Option<Item<T>>),
     /// Of asking how many values wait.
     Number(u64),
@@ -43,9 +43,9 @@ pub enum Event<T> {
     Begun(u32, Start<T>),
     /// A push stored the next write position: from here on its value waits.
     Published(u32, Item<T>),
-    /// A pop stored the next read position: the value was the oldest that waited.
+    /// The read position went on, by a pop or by a push of the overflowing queue: the value was the oldest that waited.
     HandedOut(u32, Item<T>),
-    /// The linearization point of the call, with its answer.
+    /// The linearization point of the call, with its answer. It can come in the turn of another party.
     Acted(u32, Start<T>, Answer<T>),
     /// The call is done, in this turn.
     Finished(u32, Start<T>, Answer<T>),

@@ -121,8 +121,8 @@ impl<T: Words> Machine<T> {
         &self.parts.events
     }
 
-    /// The shared words as they are now. Of an index queue: the write position, the read position, the producer's role,
-    /// the consumer's role (1 while it is free), and the cells.
+    /// The shared words as they are now. Of a queue: the write position, the read position, the producer's role, the
+    /// consumer's role (1 while it is free), and the cells, of which an overflowing queue has one more than its capacity.
     pub fn words(&self) -> &[u64]
         ensures { result.now ≡ self.now.world.words }
     {

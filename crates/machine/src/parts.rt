@@ -1,13 +1,13 @@
 //! The parts of a machine, and what each turn does to them.
 ghost use Rattle.std.specs.Prelude.{◌≡◌, ◌+◌, ◌-◌, ◌^◌, ◌≤◌, ◌<◌, ◌⊎◌, None, Some, OnOk, OnErr, IfOk, IfErr, vec_len, vec_capacity, length, slice_index_or, option_copied};
-ghost use Rattle.machine.specs.World.{opening, opening_words, capacity_error, trace_of, place_of, party_of};
+ghost use Rattle.machine.specs.World.{cells_of, opening, opening_words, capacity_error, trace_of, place_of, party_of};
 ghost use Rattle.machine.specs.declared.party.Party.{Party};
 ghost use Rattle.machine.specs.Refusals.{refusal_of, IsRefusal, lacks_role, holds, is_due};
 ghost use Rattle.machine.specs.Small.{IsSmall};
 ghost use Rattle.machine.specs.Turns.{turn_of, number_of, ask_in, producer_after, consumer_after, doing_after, turned, resumed_trace};
 
 use crate::call::{Flight, first};
-use crate::effects::{MOST_EVENTS, effect_of, tell};
+use crate::effects::{MOST_EVENTS, effect_of, pending, tell};
 use crate::event::{Answer, Event, Start};
 use crate::party::{Doing, Party, flight_of, place_of, put};
 use crate::turn::{Kind, Refusal, Turn, capacity_error};
@@ -16,6 +16,7 @@ use std::alloc::{AllocError, Global};
 use std::mem;
 use steps::ask::{After, Ask, Want};
 use steps::enums::UniqueIndexCreationError;
+use steps::ring::READ;
 
 /// As many turns as a machine takes.
 const MOST_TURNS: u64 = u64::MAX - 1;
@@ -129,21 +130,28 @@ fn doing_after<T: Copy>(changes: u64, since: u64, after: After<Flight, Answer<T>
     }
 }
 
+/// How many cells a queue of this capacity has.
+fn cells_of(kind: Kind, capacity: u32) -> usize
+    ensures { result ≡ cells_of kind capacity }
+{
+    match kind {
+        Kind::IndexQueue => capacity as usize,
+        Kind::Overflow => capacity as usize + 1,
+    }
+}
+
 /// The words at the opening of a queue of this capacity.
 fn opening_words(alloc: Global, kind: Kind, capacity: u32) -> Result<Vec<u64>, AllocError>
     ensures { IfOk result (λ words. words.items ≡ opening_words kind capacity) }
 {
-    match kind {
-        Kind::IndexQueue => {
-            let mut words = Vec::with_capacity(alloc, 4 + capacity as usize)?;
-            words.push_reserved(0);
-            words.push_reserved(0);
-            words.push_reserved(1);
-            words.push_reserved(1);
-            words.resize(4 + capacity as usize, 0)?;
-            Ok(words)
-        }
-    }
+    let cells = cells_of(kind, capacity);
+    let mut words = Vec::with_capacity(alloc, 4 + cells)?;
+    words.push_reserved(0);
+    words.push_reserved(0);
+    words.push_reserved(1);
+    words.push_reserved(1);
+    words.resize(4 + cells, 0)?;
+    Ok(words)
 }
 
 impl<T: Copy> Parts<T> {
@@ -283,11 +291,13 @@ impl<T: Copy> Parts<T> {
     fn go_on(&mut self, number: u32, at: usize, ask: Option<Ask>, answer: u64)
         requires here { at ≡ place_of number self.old.latest.items }
         requires begun { at < vec_len self.old.latest }
-        requires room { vec_len self.old.events + 3 ≤ vec_capacity self.old.events }
+        requires room { vec_len self.old.events + MOST_EVENTS ≤ vec_capacity self.old.events }
         requires turns { self.old.turns < 2 ^ 64 - 2 }
         requires small { IsSmall (trace_of self.old).world }
         ensures { (x : Party T) → party_of number self.old.latest.items ≡ Some x → trace_of self.new ≡ resumed_trace (trace_of self.old) x ask answer }
     {
+        let position = words::word_at(&self.words, READ);
+        let pending = pending(position, self.producer, &self.latest);
         let blank = Party {
             number,
             start: Start::Pop,
@@ -314,7 +324,7 @@ impl<T: Copy> Parts<T> {
                 };
             }
             Doing::Going(flight, since) => {
-                let effect = effect_of(&flight);
+                let effect = effect_of(&self.words, pending, &flight, answer);
                 let back = flight.back(answer);
                 let after = flight.after(answer);
                 tell(&mut self.events, number, start, effect, &after);

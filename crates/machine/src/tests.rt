@@ -1,4 +1,4 @@
-//! The worked rows of the index queue, each refusal that it can show, and answers that no clause rules out.
+//! The worked rows of both queues, each refusal that it can show, and answers that no clause rules out.
 use crate::Machine;
 use crate::event::{Answer, Event, Item, Start};
 use crate::turn::{Kind, Refusal, Turn, capacity_error};
@@ -23,12 +23,29 @@ fn index(value: u64) -> Start<u128> {
     Start::Push(Item::Index(value))
 }
 
-/// An index queue of this capacity, party 0 with the producer's role and party 1 with the consumer's.
-fn with_roles(rt: &HostRuntime, capacity: usize) -> Result<Machine<u128>, Fail> {
-    let mut machine = Machine::new(rt.alloc(), Kind::IndexQueue, capacity, 2)?;
+/// A queue of this capacity and three parties, party 0 with the producer's role and party 1 with the consumer's.
+fn queue(rt: &HostRuntime, kind: Kind, capacity: usize) -> Result<Machine<u128>, Fail> {
+    let mut machine = Machine::new(rt.alloc(), kind, capacity, 3)?;
     calls(&mut machine, 0, Start::AcquireProducer, 1)?;
     calls(&mut machine, 1, Start::AcquireConsumer, 1)?;
     Ok(machine)
+}
+
+fn with_roles(rt: &HostRuntime, capacity: usize) -> Result<Machine<u128>, Fail> {
+    queue(rt, Kind::IndexQueue, capacity)
+}
+
+/// The events from this place on.
+fn events_from(machine: &Machine<u128>, at: usize) -> &[Event<u128>] {
+    machine.events().get(at..).unwrap_or(&[])
+}
+
+/// The answer of a push or a pop.
+fn popped(value: Option<u64>) -> Answer<u128> {
+    match value {
+        Some(index) => Answer::Popped(Some(Item::Index(index))),
+        None => Answer::Popped(None),
+    }
 }
 
 /// The answer of the last event, where that is a finish.
@@ -218,7 +235,118 @@ fn a_refused_turn_changes_nothing(rt: HostRuntime) -> Result<(), Fail> {
 }
 
 #[test]
+fn an_overflowing_queue(rt: HostRuntime) -> Result<(), Fail> {
+    let mut machine = queue(&rt, Kind::Overflow, 2)?;
+    let pushes = [(1, None, 4), (2, None, 4), (3, Some(1), 6)];
+    for (value, answer, steps) in pushes {
+        calls(&mut machine, 0, index(value), steps)?;
+        assert_eq!(rt; last_answer(&machine), Some(popped(answer)));
+        assert_eq!(rt; counts(&machine, 0)?, (steps, 0, 0, true));
+    }
+    assert_eq!(rt; machine.words(), [3, 1, 0, 0, 1, 2, 3].as_slice());
+    let pops = [(Some(2), 4), (Some(3), 4), (None, 2)];
+    for (answer, steps) in pops {
+        calls(&mut machine, 1, Start::Pop, steps)?;
+        assert_eq!(rt; last_answer(&machine), Some(popped(answer)));
+    }
+    Ok(())
+}
+
+#[test]
+fn an_overflowing_queue_of_capacity_0_takes_no_step(rt: HostRuntime) -> Result<(), Fail> {
+    let mut machine = queue(&rt, Kind::Overflow, 0)?;
+    calls(&mut machine, 0, index(7), 1)?;
+    calls(&mut machine, 1, Start::Pop, 1)?;
+    let push = index(7);
+    let told = [
+        Event::Begun(0, push),
+        Event::Acted(0, push, popped(Some(7))),
+        Event::Finished(0, push, popped(Some(7))),
+        Event::Begun(1, Start::Pop),
+        Event::Acted(1, Start::Pop, popped(None)),
+        Event::Finished(1, Start::Pop, popped(None)),
+    ];
+    assert_eq!(rt; events_from(&machine, 4), told.as_slice());
+    assert_eq!(rt; counts(&machine, 0)?, (0, 0, 0, true));
+    assert_eq!(rt; counts(&machine, 1)?, (0, 0, 0, true));
+    assert_eq!(rt; machine.words(), [0, 0, 0, 0, 0].as_slice());
+    calls(&mut machine, 2, Start::Len, 4)?;
+    assert_eq!(rt; last_answer(&machine), Some(Answer::Number(0)));
+    calls(&mut machine, 2, Start::IsEmpty, 4)?;
+    assert_eq!(rt; last_answer(&machine), Some(Answer::Truth(true)));
+    calls(&mut machine, 2, Start::IsFull, 4)?;
+    assert_eq!(rt; last_answer(&machine), Some(Answer::Truth(true)));
+    Ok(())
+}
+
+#[test]
+fn a_pop_makes_room_for_a_push(rt: HostRuntime) -> Result<(), Fail> {
+    let mut machine = queue(&rt, Kind::Overflow, 1)?;
+    calls(&mut machine, 0, index(1), 4)?;
+    calls(&mut machine, 0, index(2), 4)?;
+    // Two values wait, one more than the capacity.
+    calls(&mut machine, 2, Start::Len, 4)?;
+    assert_eq!(rt; last_answer(&machine), Some(Answer::Number(2)));
+    calls(&mut machine, 2, Start::IsFull, 4)?;
+    assert_eq!(rt; last_answer(&machine), Some(Answer::Truth(false)));
+    let before = machine.events().len();
+    calls(&mut machine, 1, Start::Pop, 4)?;
+    machine.step(Turn::Next(0))?;
+    let push = index(2);
+    let told = [
+        Event::Begun(1, Start::Pop),
+        Event::HandedOut(1, Item::Index(1)),
+        Event::Acted(1, Start::Pop, popped(Some(1))),
+        Event::Acted(0, push, popped(None)),
+        Event::Finished(1, Start::Pop, popped(Some(1))),
+        Event::Finished(0, push, popped(None)),
+    ];
+    assert_eq!(rt; events_from(&machine, before), told.as_slice());
+    assert_eq!(rt; counts(&machine, 0)?, (5, 0, 1, true));
+    Ok(())
+}
+
+#[test]
+fn a_push_meets_a_read_position_that_has_moved(rt: HostRuntime) -> Result<(), Fail> {
+    let mut machine = queue(&rt, Kind::Overflow, 1)?;
+    calls(&mut machine, 0, index(1), 4)?;
+    calls(&mut machine, 0, index(2), 3)?;
+    calls(&mut machine, 1, Start::Pop, 4)?;
+    let before = machine.events().len();
+    machine.step(Turn::Next(0))?;
+    let push = index(2);
+    let told = [
+        Event::Published(0, Item::Index(2)),
+        Event::Acted(0, push, popped(None)),
+    ];
+    assert_eq!(rt; events_from(&machine, before), told.as_slice());
+    machine.step(Turn::Next(0))?;
+    assert_eq!(rt; last_answer(&machine), Some(popped(None)));
+    Ok(())
+}
+
+#[test]
+fn a_pop_reads_again_where_a_push_took_its_value(rt: HostRuntime) -> Result<(), Fail> {
+    let mut machine = queue(&rt, Kind::Overflow, 1)?;
+    calls(&mut machine, 0, index(1), 4)?;
+    calls(&mut machine, 1, Start::Pop, 3)?;
+    calls(&mut machine, 0, index(2), 6)?;
+    assert_eq!(rt; last_answer(&machine), Some(popped(Some(1))));
+    assert_eq!(rt; counts(&machine, 1)?, (3, 0, 3, false));
+    machine.step(Turn::Next(1))?;
+    assert_eq!(rt; counts(&machine, 1)?, (4, 1, 3, false));
+    machine.step(Turn::Next(1))?;
+    machine.step(Turn::Next(1))?;
+    assert_eq!(rt; counts(&machine, 1)?, (6, 1, 3, true));
+    assert_eq!(rt; last_answer(&machine), Some(popped(Some(2))));
+    Ok(())
+}
+
+#[test]
 fn capacities(rt: HostRuntime) {
+    assert_eq!(rt; capacity_error(Kind::Overflow, 0), None);
+    assert_eq!(rt; capacity_error(Kind::Overflow, 4294967295), None);
+    assert!(rt; capacity_error(Kind::Overflow, 4294967296).is_some());
     assert_eq!(rt; capacity_error(Kind::IndexQueue, 0), None);
     assert_eq!(rt; capacity_error(Kind::IndexQueue, 4294967295), None);
     let above = Some(UniqueIndexCreationError::ProvidedCapacityGreaterThanMaxCapacity);

@@ -10,14 +10,17 @@ use thiserror::Error;
 #[derive(Debug, Clone, Copy, PartialEq, Eq)]
 pub enum Kind {
     IndexQueue,
+    /// The overflowing queue of indices.
+    Overflow,
 }
 
-/// Why a machine of this kind is not made with this capacity, or None. An index queue has from 0 to 2^32 - 1.
+/// Why a machine of this kind is not made with this capacity, or None. A queue has from 0 to 2^32 - 1.
 pub fn capacity_error(kind: Kind, capacity: usize) -> Option<UniqueIndexCreationError>
     ensures { result ≡ capacity_error kind capacity }
 {
     match kind {
         Kind::IndexQueue => capacity_refusal(capacity as u64, 0, u32::MAX as u64),
+        Kind::Overflow => capacity_refusal(capacity as u64, 0, u32::MAX as u64),
     }
 }
 

@@ -1,21 +1,22 @@
 //! One operation on one word of a machine.
-ghost use Rattle.std.specs.Prelude.{◌≡◌, ◌≤◌};
+ghost use Rattle.std.specs.Prelude.{◌≡◌, ◌≤◌, slice_index};
 ghost use Rattle.machine.specs.Turns.{old_of, words_after, change_of, steps_of};
 
 use steps::ask::Ask;
+
+/// The value of this word, or 0 where there is no such word.
+pub fn word_at(words: &Vec<u64>, word: usize) -> u64
+    ensures { result ≡ slice_index words.now.items word }
+{
+    if word < words.len() { words[word] } else { 0 }
+}
 
 /// The value of the asked word, or 0 where none is asked for or there is no such word.
 pub fn old(words: &Vec<u64>, ask: Option<Ask>) -> u64
     ensures { result ≡ old_of words.now.items ask }
 {
     match ask {
-        Some(ask) => {
-            if ask.word < words.len() {
-                words[ask.word]
-            } else {
-                0
-            }
-        }
+        Some(ask) => word_at(words, ask.word),
         None => 0,
     }
 }

@@ -4,7 +4,7 @@ use Rattle.machine.specs.declared.event.Start.{Start}
 use Rattle.machine.specs.declared.event.Start.TheVariants.{AcquireProducer, ReleaseProducer, AcquireConsumer, ReleaseConsumer, Push, Pop, Len, IsEmpty, IsFull}
 use Rattle.machine.specs.declared.event.Item.TheVariants.{Index}
 use Rattle.machine.specs.declared.turn.Kind.{Kind}
-use Rattle.machine.specs.declared.turn.Kind.TheVariants.{IndexQueue}
+use Rattle.machine.specs.declared.turn.Kind.TheVariants.{IndexQueue, Overflow}
 use Rattle.machine.specs.declared.turn.Turn.TheVariants.{Begin, Next, Decide, Die}
 use Rattle.schedule.specs.declared.error.Cause.{Cause}
 use Rattle.schedule.specs.declared.error.Cause.TheVariants.{MissingValue, BadValue, UnknownKind, UnknownTurn, UnknownCall, ExtraWords}
@@ -43,7 +43,10 @@ number_at greatest ws = do
 -- ---- the first line
 
 abbrev pub kind_of : List ℕ → Result Kind Cause
-kind_of name = if bytes_eq name (codes "index_queue") then Ok IndexQueue else Err UnknownKind
+kind_of name =
+    if bytes_eq name (codes "index_queue") then Ok IndexQueue
+    else if bytes_eq name (codes "overflow") then Ok Overflow
+    else Err UnknownKind
 
 -- a kind, a capacity and how many parties
 unfoldable pub setup_of : List (List ℕ) → Result Setup Cause
@@ -87,9 +90,10 @@ index_call name ws =
 unfoldable pub index_queue_call : List ℕ → List (List ℕ) → Result (Start ℕ × List (List ℕ)) Cause
 index_queue_call name ws = elim (role_call name) [ Some start ↦ Ok (start, ws) | None ↦ index_call name ws ]
 
--- the calls of each kind
+-- the calls of each kind; both queues of indices have the same
 abbrev pub call_of : Kind → List ℕ → List (List ℕ) → Result (Start ℕ × List (List ℕ)) Cause
 call_of IndexQueue name ws = index_queue_call name ws
+call_of Overflow name ws = index_queue_call name ws
 
 -- ---- turns
 

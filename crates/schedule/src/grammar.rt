@@ -66,6 +66,8 @@ fn kind_of(name: &[u8]) -> Result<Kind, Cause>
 {
     if name == b"index_queue".as_slice() {
         Ok(Kind::IndexQueue)
+    } else if name == b"overflow".as_slice() {
+        Ok(Kind::Overflow)
     } else {
         Err(Cause::UnknownKind)
     }
@@ -159,6 +161,7 @@ fn call_of<'a>(kind: Kind, name: &[u8], words: Parts<'a>) -> Result<(Start<u128>
 {
     match kind {
         Kind::IndexQueue => index_queue_call(name, words),
+        Kind::Overflow => index_queue_call(name, words),
     }
 }
 

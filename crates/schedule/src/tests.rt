@@ -135,13 +135,18 @@ fn a_stopped_push(rt: HostRuntime) -> Result<(), Fail> {
 
 #[test]
 fn broken_first_lines(rt: HostRuntime) -> Result<(), Fail> {
-    let table: [(&[u8], &[u8]); 16] = [
+    let table: [(&[u8], &[u8]); 18] = [
         (b"", b"line 1: missing value\n"),
         (b"\nindex_queue 1 1\n", b"line 1: missing value\n"),
         (b"index_queue", b"line 1: missing value\n"),
         (b"index_queue 1", b"line 1: missing value\n"),
         (b"ring 1 1", b"line 1: unknown kind\n"),
         (b"ring", b"line 1: unknown kind\n"),
+        (b"overflows 1 1", b"line 1: unknown kind\n"),
+        (
+            b"overflow 4294967296 1",
+            b"line 1: ProvidedCapacityGreaterThanMaxCapacity\n",
+        ),
         (b" index_queue 1 1", b"line 1: unknown kind\n"),
         (b"index_queue\r", b"line 1: unknown kind\n"),
         (b"index_queue 1 1 ", b"line 1: extra words\n"),
@@ -279,6 +284,51 @@ fn lengths(rt: HostRuntime) -> Result<(), Fail> {
         rt.alloc(),
         b"index_queue 0 1\n0 begin len\n0 next 4\n0 begin is_empty\n0 next 4\n0 begin is_full\n0 next 4\n",
         b"0 begun len\n0 finished len -> 0\n0 begun is_empty\n0 finished is_empty -> true\n0 begun is_full\n0 finished is_full -> true\n",
+        b"",
+        0,
+    )
+}
+
+#[test]
+fn an_overflowing_queue(rt: HostRuntime) -> Result<(), Fail> {
+    expect_run(
+        &rt,
+        rt.alloc(),
+        b"overflow 2 2\n0 begin acquire_producer\n0 next\n1 begin acquire_consumer\n1 next\n0 begin push 1\n0 next 9\n0 begin push 2\n0 next 9\n0 begin push 3\n0 next 9\n1 begin pop\n1 next 9\n1 begin pop\n1 next 9\n1 begin pop\n1 next 9\n",
+        b"0 begun acquire_producer\n0 finished acquire_producer -> true\n1 begun acquire_consumer\n1 finished acquire_consumer -> true\n0 begun push 1\n0 published 1\n0 acted push 1 -> none\n0 finished push 1 -> none\n0 begun push 2\n0 published 2\n0 acted push 2 -> none\n0 finished push 2 -> none\n0 begun push 3\n0 published 3\n0 handed_out 1\n0 acted push 3 -> some 1\n0 finished push 3 -> some 1\n1 begun pop\n1 handed_out 2\n1 acted pop -> some 2\n1 finished pop -> some 2\n1 begun pop\n1 handed_out 3\n1 acted pop -> some 3\n1 finished pop -> some 3\n1 begun pop\n1 acted pop -> none\n1 finished pop -> none\n",
+        b"",
+        0,
+    )?;
+    // Without capacity each call takes one turn and no step.
+    expect_run(
+        &rt,
+        rt.alloc(),
+        b"overflow 0 1\n0 begin acquire_producer\n0 next\n0 begin push 7\n0 next 9\n0 begin release_producer\n0 next\n0 begin acquire_consumer\n0 next\n0 begin pop\n0 next 9\n0 begin is_full\n0 next 9\n0 begin push\n",
+        b"0 begun acquire_producer\n0 finished acquire_producer -> true\n0 begun push 7\n0 acted push 7 -> some 7\n0 finished push 7 -> some 7\n0 begun release_producer\n0 finished release_producer -> done\n0 begun acquire_consumer\n0 finished acquire_consumer -> true\n0 begun pop\n0 acted pop -> none\n0 finished pop -> none\n0 begun is_full\n0 finished is_full -> true\n",
+        b"line 14: missing value\n",
+        2,
+    )
+}
+
+#[test]
+fn a_pop_makes_room_for_a_push(rt: HostRuntime) -> Result<(), Fail> {
+    expect_run(
+        &rt,
+        rt.alloc(),
+        b"overflow 1 3\n0 begin acquire_producer\n0 next\n1 begin acquire_consumer\n1 next\n0 begin push 1\n0 next 9\n0 begin push 2\n0 next 4\n2 begin len\n2 next 9\n1 begin pop\n1 next 9\n0 next 9\n",
+        b"0 begun acquire_producer\n0 finished acquire_producer -> true\n1 begun acquire_consumer\n1 finished acquire_consumer -> true\n0 begun push 1\n0 published 1\n0 acted push 1 -> none\n0 finished push 1 -> none\n0 begun push 2\n0 published 2\n2 begun len\n2 finished len -> 2\n1 begun pop\n1 handed_out 1\n1 acted pop -> some 1\n0 acted push 2 -> none\n1 finished pop -> some 1\n0 finished push 2 -> none\n",
+        b"",
+        0,
+    )
+}
+
+#[test]
+fn a_pop_reads_again(rt: HostRuntime) -> Result<(), Fail> {
+    expect_run(
+        &rt,
+        rt.alloc(),
+        b"overflow 1 3\n0 begin acquire_producer\n0 next\n1 begin acquire_consumer\n1 next\n0 begin push 1\n0 next 9\n1 begin pop\n1 next 3\n0 begin push 2\n0 next 9\n1 next 9\n",
+        b"0 begun acquire_producer\n0 finished acquire_producer -> true\n1 begun acquire_consumer\n1 finished acquire_consumer -> true\n0 begun push 1\n0 published 1\n0 acted push 1 -> none\n0 finished push 1 -> none\n1 begun pop\n0 begun push 2\n0 published 2\n0 handed_out 1\n0 acted push 2 -> some 1\n0 finished push 2 -> some 1\n1 handed_out 2\n1 acted pop -> some 2\n1 finished pop -> some 2\n",
         b"",
         0,
     )

@@ -1,11 +1,2 @@
-pub mod Core
-pub mod Invariant
-pub mod Justified
-pub mod Keeping
-pub mod Kept
-pub mod Lengths
 pub mod Pops
 pub mod Pushes
-pub mod Roles
-pub mod Sound
-pub mod Stages

@@ -7,24 +7,24 @@ use Rattle.machine.specs.declared.event.Start.TheVariants.{Push, Pop}
 use Rattle.machine.specs.declared.event.Answer.TheVariants.{Truth, Popped}
 use Rattle.machine.specs.declared.event.Event.{Event}
 use Rattle.machine.specs.declared.event.Event.TheVariants.{Acted}
-use Rattle.machine.specs.World.{Trace}
+use Rattle.machine.specs.World.{Trace, cells_of}
 use Rattle.machine.specs.Reading.{published, handed_out, waiting}
 
 module _ {T : Type 0} where
-  -- the values that stand in the cells from this position on
+  -- the values that stand in so many cells, from this position on
   abbrev pub stored : ℕ → List ℕ → ℕ → ℕ → List (Item T)
-  stored capacity words position zero = []
-  stored capacity words position (suc count) =
-      Index (slice_index words (cell_word capacity 1 position 0)) ∷ stored capacity words (position + 1) count
+  stored cells words position zero = []
+  stored cells words position (suc count) =
+      Index (slice_index words (cell_word cells 1 position 0)) ∷ stored cells words (position + 1) count
 
-  -- the values between the read position and the write position
+  -- of a queue with so many cells the values between the read position and the write position
   abbrev pub waiting_in : ℕ → List ℕ → List (Item T)
-  waiting_in capacity words = stored capacity words (slice_index words 1) (slice_index words 0 - slice_index words 1)
+  waiting_in cells words = stored cells words (slice_index words 1) (slice_index words 0 - slice_index words 1)
 
-  -- what was handed out is a beginning of what was published, and the rest waits in the words, at most capacity values
+  -- what was handed out is a beginning of what was published, and the rest waits in the words, at most a value a cell
   pub record IsBook (t : Trace T) : Type 0 where
-    pub rest : published t.events ≡ handed_out t.events ++ waiting_in t.world.capacity t.world.words
-    pub few : length (waiting_in t.world.capacity t.world.words) ≤ t.world.capacity
+    pub rest : published t.events ≡ handed_out t.events ++ waiting_in (cells_of t.world.kind t.world.capacity) t.world.words
+    pub few : length (waiting_in (cells_of t.world.kind t.world.capacity) t.world.words) ≤ cells_of t.world.kind t.world.capacity
 
   -- a push answers false only where capacity values wait, and a pop None only where nothing waits
   abbrev pub AnswersRight : ℕ → List (Event T) → Event T → Type 0

@@ -1,5 +1,5 @@
 -- What a call writes between its begin and its end.
-use Rattle.std.specs.Prelude.{◌≡◌, true, Some, List, [], ◌∷◌}
+use Rattle.std.specs.Prelude.{◌≡◌, ◌⊎◌, ℕ, zero, suc, true, Some, List, [], ◌∷◌}
 use Rattle.machine.specs.declared.event.Item.{Item}
 use Rattle.machine.specs.declared.event.Start.{Start}
 use Rattle.machine.specs.declared.event.Start.TheVariants.{Push, Pop}
@@ -7,6 +7,8 @@ use Rattle.machine.specs.declared.event.Answer.{Answer}
 use Rattle.machine.specs.declared.event.Answer.TheVariants.{Truth, Popped}
 use Rattle.machine.specs.declared.event.Event.{Event}
 use Rattle.machine.specs.declared.event.Event.TheVariants.{Begun, Published, HandedOut, Acted, Finished}
+use Rattle.machine.specs.declared.turn.Kind.{Kind}
+use Rattle.machine.specs.declared.turn.Kind.TheVariants.{IndexQueue, Overflow}
 use Rattle.machine.specs.Reading.{published, handed_out, moments, owner, Span, Never, Open, Ended, span_of}
 
 module _ {T : Type 0} where
@@ -16,27 +18,42 @@ module _ {T : Type 0} where
   moments_of Pop answer = (Pop, answer) ∷ []
   moments_of other answer = []
 
-  -- the values that it published
-  abbrev pub published_by : Start T → Answer T → List (Item T)
-  published_by (Push item) (Truth true) = item ∷ []
-  published_by start answer = []
+  -- a value that goes through the cells; an overflowing queue without capacity hands it back at once
+  abbrev pub passed : Kind → ℕ → Item T → List (Item T)
+  passed IndexQueue capacity item = item ∷ []
+  passed Overflow zero item = []
+  passed Overflow (suc less) item = item ∷ []
+
+  -- the values that it published; in an overflowing queue a push does so whatever it answers
+  abbrev pub published_by : Kind → ℕ → Start T → Answer T → List (Item T)
+  published_by kind capacity (Push item) (Truth true) = item ∷ []
+  published_by Overflow capacity (Push item) (Popped old) = passed Overflow capacity item
+  published_by kind capacity start answer = []
 
   -- the values that it handed out
-  abbrev pub handed_out_by : Answer T → List (Item T)
-  handed_out_by (Popped (Some item)) = item ∷ []
-  handed_out_by answer = []
+  abbrev pub handed_out_by : Kind → ℕ → Answer T → List (Item T)
+  handed_out_by kind capacity (Popped (Some item)) = passed kind capacity item
+  handed_out_by kind capacity answer = []
 
   -- what a finished call has written in its span
-  pub record Wrote (start : Start T) (answer : Answer T) (wrote : List (Event T)) : Type 0 where
+  pub record Wrote (kind : Kind) (capacity : ℕ) (start : Start T) (answer : Answer T) (wrote : List (Event T)) : Type 0 where
     pub moments : moments wrote ≡ moments_of start answer
-    pub published : published wrote ≡ published_by start answer
-    pub handed_out : handed_out wrote ≡ handed_out_by answer
+    pub published : published wrote ≡ published_by kind capacity start answer
+    pub handed_out : handed_out wrote ≡ handed_out_by kind capacity answer
 
-  -- the span is open for this call, and P holds of what it has written
+  -- the span is open for such a call, and P holds of what it has written
+  abbrev pub IsOpen : (Start T → Type 0) → (List (Event T) → Type 0) → Span T → Type 0
+  IsOpen Such P Never = ⊥
+  IsOpen Such P (Open call wrote) = Such call × P wrote
+  IsOpen Such P (Ended call answer wrote) = ⊥
+
   abbrev pub IsOpenFor : Start T → (List (Event T) → Type 0) → Span T → Type 0
-  IsOpenFor start P Never = ⊥
-  IsOpenFor start P (Open call wrote) = (call ≡ start) × P wrote
-  IsOpenFor start P (Ended call answer wrote) = ⊥
+  IsOpenFor start P span = IsOpen (λ call. call ≡ start) P span
+
+  -- the calls that hand values out: in an overflowing queue pushes too
+  abbrev pub HandsOut : Kind → Start T → Type 0
+  HandsOut IndexQueue call = call ≡ Pop
+  HandsOut Overflow call = (call ≡ Pop) ⊎ (item : Item T) × (call ≡ Push item)
 
   -- no call is under way
   abbrev pub IsShut : Span T → Type 0
@@ -45,12 +62,12 @@ module _ {T : Type 0} where
   IsShut (Ended start answer wrote) = Unit {0}
 
   -- Where an event may stand in its party's span: a call begins where none is under way, acts, publishes and hands out at most once, and finishes with what its answer says.
-  abbrev pub Stands : Event T → Span T → Type 0
-  Stands (Begun p start) span = IsShut span
-  Stands (Published p item) span = IsOpenFor (Push item) (λ wrote. published wrote ≡ []) span
-  Stands (HandedOut p item) span = IsOpenFor Pop (λ wrote. handed_out wrote ≡ []) span
-  Stands (Acted p start answer) span = IsOpenFor start (λ wrote. moments wrote ≡ []) span
-  Stands (Finished p start answer) span = IsOpenFor start (Wrote start answer) span
+  abbrev pub Stands : Kind → ℕ → Event T → Span T → Type 0
+  Stands kind capacity (Begun p start) span = IsShut span
+  Stands kind capacity (Published p item) span = IsOpenFor (Push item) (λ wrote. published wrote ≡ []) span
+  Stands kind capacity (HandedOut p item) span = IsOpen (HandsOut kind) (λ wrote. handed_out wrote ≡ []) span
+  Stands kind capacity (Acted p start answer) span = IsOpenFor start (λ wrote. moments wrote ≡ []) span
+  Stands kind capacity (Finished p start answer) span = IsOpenFor start (Wrote kind capacity start answer) span
 
-  abbrev pub StandsRight : List (Event T) → Event T → Type 0
-  StandsRight before e = Stands e (span_of (owner e) before)
+  abbrev pub StandsRight : Kind → ℕ → List (Event T) → Event T → Type 0
+  StandsRight kind capacity before e = Stands kind capacity e (span_of (owner e) before)

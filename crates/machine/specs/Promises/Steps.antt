@@ -1,5 +1,5 @@
 -- One turn, in its own words.
-use Rattle.std.specs.Prelude.{◌≡◌, ℕ, ◌+◌, Bool, true, false, Option, Some, None, [], length, option_map, IfSome}
+use Rattle.std.specs.Prelude.{◌≡◌, ℕ, zero, suc, ◌+◌, Bool, true, false, Option, Some, None, [], length, option_map, IfSome}
 use Rattle.std.specs.List.{AllByRecursion}
 use Rattle.steps.specs.declared.ask.Ask.{Ask}
 use Rattle.steps.specs.declared.ask.Op.TheVariants.{Load}
@@ -12,6 +12,8 @@ use Rattle.machine.specs.declared.event.Answer.TheVariants.{Truth, Popped}
 use Rattle.machine.specs.declared.event.Event.{Event}
 use Rattle.machine.specs.declared.event.Event.TheVariants.{Acted}
 use Rattle.machine.specs.declared.party.Progress.{Progress}
+use Rattle.machine.specs.declared.turn.Kind.{Kind}
+use Rattle.machine.specs.declared.turn.Kind.TheVariants.{IndexQueue, Overflow}
 use Rattle.machine.specs.declared.turn.Turn.{Turn}
 use Rattle.machine.specs.declared.turn.Turn.TheVariants.{Begin, Next, Decide, Die}
 use Rattle.machine.specs.World.{World, Trace, flight_in, progress_in}
@@ -22,6 +24,12 @@ use Rattle.machine.specs.Reading.{waiting}
 abbrev pub asked_of : Option Flight → Option Ask
 asked_of None = None
 asked_of (Some flight) = ask_of (want_of flight)
+
+-- where a pop finds that nothing waits: at its load of the write position, but an overflowing queue without capacity needs no word
+abbrev pub finding_none : Kind → ℕ → Option Ask
+finding_none IndexQueue capacity = Some (record { word = 0; op = Load })
+finding_none Overflow zero = None
+finding_none Overflow (suc less) = Some (record { word = 0; op = Load })
 
 -- one step more for an operation on a word, and one turn back more where a loop's turn begins again; how often others changed words stays
 abbrev pub after_step : ℕ → ℕ → Bool → Progress → Progress
@@ -83,7 +91,7 @@ module _ {T : Type 0} where
   ActsRight old turn (Acted p (Push item) (Truth false)) =
       (asked_by old.world turn ≡ Some (record { word = 1; op = Load })) × (length (waiting old.events) ≡ old.world.capacity)
   ActsRight old turn (Acted p Pop (Popped None)) =
-      (asked_by old.world turn ≡ Some (record { word = 0; op = Load })) × (waiting old.events ≡ [])
+      (asked_by old.world turn ≡ finding_none old.world.kind old.world.capacity) × (waiting old.events ≡ [])
   ActsRight old turn e = Unit {0}
 
   abbrev pub IsJustified : Trace T → Turn T → Type 0

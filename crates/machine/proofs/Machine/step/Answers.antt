@@ -2,8 +2,8 @@ use Rattle.machine.specs.World.{trace_of}
 use Rattle.machine.specs.Turns.{turned}
 use Rattle.machine.proofs.Reached.{reached_is, reached_more}
 use Rattle.machine.proofs.Small.{reached_small}
-use Rattle.machine.proofs.Structures.Ring.Justified.{step_turn}
-use Rattle.machine.proofs.Structures.Ring.Kept.{reached_kept}
+use Rattle.machine.proofs.Structures.Queues.Justified.{step_turn}
+use Rattle.machine.proofs.Structures.Queues.Kept.{reached_kept}
 use Rattle.machine.proofs.Machine.step.Goals as goal
 
 pub step-requires : goal.step-requires

@@ -7,6 +7,7 @@ use Rattle.steps.specs.declared.ask.Op.TheVariants.{Load, Store}
 use Rattle.steps.specs.declared.ask.After.{After}
 use Rattle.steps.specs.declared.ask.After.TheVariants.{GoOn, Done}
 use Rattle.steps.specs.declared.ring.PopStage as pops
+use Rattle.steps.specs.declared.ring.PushStage as pushes
 use Rattle.steps.specs.Ring.{cell_word, after_position}
 use Rattle.machine.specs.declared.call.RingCall as rings
 use Rattle.machine.specs.declared.call.Flight.{Flight}
@@ -21,27 +22,44 @@ use Rattle.machine.specs.declared.event.Answer.{Answer}
 use Rattle.machine.specs.declared.event.Answer as answers
 use Rattle.machine.specs.declared.event.Event.{Event}
 use Rattle.machine.specs.declared.event.Event.TheVariants.{HandedOut, Acted}
+use Rattle.machine.specs.declared.party.Party.{Party}
+use Rattle.machine.specs.declared.turn.Kind as kinds
+use Rattle.machine.specs.World.{party_of, doing_of, flight_of}
+use Rattle.machine.specs.Effects.{pending_at}
 use Rattle.machine.specs.Calls.{after_of, words_of_index}
 use Rattle.machine.specs.Turns.{words_after, change_of}
 use Rattle.machine.specs.Reading.{published, handed_out}
-use Rattle.machine.proofs.Structures.Ring.Core.{Core, Good, taken, takes, front, word_at}
-use Rattle.machine.proofs.Structures.Ring.Invariant.{free, layout, KnowsPop, pop_number, waiting_is}
-use Rattle.machine.proofs.Structures.Ring.Keeping.{clash, kept, take_keeps}
-use Rattle.machine.proofs.Structures.Ring.Stages.{or_true, or_false, first_of_some, cell_place, Step, StepOf, quiet}
+use Rattle.machine.proofs.Structures.Queues.Core.{Core, Good, taken, takes, front, word_at}
+use Rattle.machine.proofs.Structures.Queues.Invariant.{free, layout, KnowsPush, KnowsPop, pop_number, waiting_is}
+use Rattle.machine.proofs.Structures.Queues.Keeping.{clash, kept}
+use Rattle.machine.proofs.Structures.Queues.Stages.{or_true, or_false, first_of_some, cell_place, Step, StepOf, quiet}
 
-module _ {T : Type 0} (c : ℕ) (pr co : Option ℕ) (k : Core ℕ) (p steps backs since changes : ℕ) (events : List (Event T)) (turns : ℕ) (g : Good 1 words_of_index c k) (book : published events ≡ handed_out events ++ map Index k.waiting) (reached : k.write ≤ turns) (small : turns < 2 ^ 64 - 2) where
+-- the next read position keeps what a push knows
+take_keeps : (c : ℕ) (k : Core ℕ) (v : ℕ) (rest : List ℕ) → k.waiting ≡ v ∷ rest → (w : ℕ) (stage : pushes.PushStage) → KnowsPush c k w stage → KnowsPush c (taken 1 words_of_index c k rest) w stage
+take_keeps c k v rest is w pushes.TheVariants.LoadsWrite h = h
+take_keeps c k v rest is w (pushes.TheVariants.LoadsRead write) h = h
+take_keeps c k v rest is w (pushes.TheVariants.StoresCell write at) h =
+    let long : length k.waiting ≡ suc (length rest) = ap length is in
+    let room = h.1 in
+    (h.0, omega arith, h.2, h.3)
+take_keeps c k v rest is w (pushes.TheVariants.StoresWrite write) h =
+    let long : length k.waiting ≡ suc (length rest) = ap length is in
+    let room = h.1 in
+    (h.0, omega arith, h.2)
+
+module _ {T : Type 0} (c : ℕ) (pr co : Option ℕ) (k : Core ℕ) (p steps backs since changes : ℕ) (latest : List (Party T)) (events : List (Event T)) (turns : ℕ) (g : Good 1 words_of_index c k) (before : pending_at k.read (flight_of (doing_of (party_of p latest))) ≡ None) (book : published events ≡ handed_out events ++ map Index k.waiting) (reached : k.write ≤ turns) (small : turns < 2 ^ 64 - 2) where
   abbrev Does : Start T → Option Ask → After Flight (Answer T) → Effect T → Type 0
-  Does start ask after effect = Step c pr co k p steps backs since changes events turns start ask 0 after effect
+  Does start ask after effect = Step kinds.TheVariants.IndexQueue c pr co k p steps backs since changes latest events turns [] start ask 0 after effect
 
   abbrev DoesOf : Start T → Flight → Type 0
-  DoesOf start flight = StepOf c pr co k p steps backs since changes events turns start flight
+  DoesOf start flight = StepOf kinds.TheVariants.IndexQueue c pr co k p steps backs since changes latest events turns start flight
 
   pop_loads_read : co ≡ Some p → steps ≤ 0 → backs ≡ 0 → DoesOf Pop (Indices (rings.TheVariants.Pop (record { capacity = c; stage = pops.TheVariants.LoadsRead })))
   pop_loads_read holds s b =
-      quiet c pr co k p steps backs since changes events turns g book reached small 0 Pop (Some (record { word = 1; op = Load })) (Indices (rings.TheVariants.Pop (record { capacity = c; stage = pops.TheVariants.LoadsWrite k.read }))) k refl refl refl g refl
+      quiet kinds.TheVariants.IndexQueue c pr co k p steps backs since changes latest events turns g tt book reached small before 0 Pop (Some (record { word = 1; op = Load })) (Indices (rings.TheVariants.Pop (record { capacity = c; stage = pops.TheVariants.LoadsWrite k.read }))) k refl refl refl refl g refl
       (record { span = refl; steps = omega arith; at = (holds, refl, refl) })
       (omega arith)
-      (λ q ne st f h. h)
+      (λ q ne st f h. (h, refl))
 
   pop_refused : k.waiting ≡ [] → steps ≤ 1 → backs ≡ 0 → Does Pop (Some (record { word = 0; op = Load })) (Done (answers.TheVariants.Popped None)) Acts
   pop_refused empty s b =
@@ -54,6 +72,7 @@ module _ {T : Type 0} (c : ℕ) (pr co : Option ℕ) (k : Core ℕ) (p steps bac
           right = (waiting_is events (map Index k.waiting) book ∙ none, (tt, tt));
           lengths = (tt, (tt, tt));
           good = g;
+          hangs = tt;
           book = append-nil (map Index k.waiting);
           goes = rw none refl;
           answers = rw none refl;
@@ -66,7 +85,7 @@ module _ {T : Type 0} (c : ℕ) (pr co : Option ℕ) (k : Core ℕ) (p steps bac
               };
           knows = omega arith;
           up = record { write = omega arith; read = omega arith; paid = omega arith };
-          others = λ q ne st f h. h;
+          others = λ q ne st f h. (h, refl);
           turned = omega arith;
         },
       )
@@ -74,10 +93,10 @@ module _ {T : Type 0} (c : ℕ) (pr co : Option ℕ) (k : Core ℕ) (p steps bac
   pop_goes_on : (v : ℕ) (rest : List ℕ) → k.waiting ≡ v ∷ rest → co ≡ Some p → steps ≤ 1 → backs ≡ 0
       → Does Pop (Some (record { word = 0; op = Load })) (GoOn (Indices (rings.TheVariants.Pop (record { capacity = c; stage = pops.TheVariants.LoadsCell k.read [] })))) Quiet
   pop_goes_on v rest is holds s b =
-      quiet c pr co k p steps backs since changes events turns g book reached small 0 Pop (Some (record { word = 0; op = Load })) (Indices (rings.TheVariants.Pop (record { capacity = c; stage = pops.TheVariants.LoadsCell k.read [] }))) k refl refl refl g refl
+      quiet kinds.TheVariants.IndexQueue c pr co k p steps backs since changes latest events turns g tt book reached small before 0 Pop (Some (record { word = 0; op = Load })) (Indices (rings.TheVariants.Pop (record { capacity = c; stage = pops.TheVariants.LoadsCell k.read [] }))) k refl refl refl refl g refl
       (record { span = refl; steps = omega arith; at = (holds, refl, (v, rest, refl, is, refl)) })
       (omega arith)
-      (λ q ne st f h. h)
+      (λ q ne st f h. (h, refl))
 
   -- nothing waits
   empty : (c == 0 || k.write == k.read) ≡ true → k.waiting ≡ []
@@ -125,10 +144,10 @@ module _ {T : Type 0} (c : ℕ) (pr co : Option ℕ) (k : Core ℕ) (p steps bac
       in
       let same : words_after (layout pr co k) (Some (record { word = cell_word c 1 k.read 0; op = Load })) ≡ layout pr co k = set-get_or (layout pr co k) (cell_word c 1 k.read 0) 0 in
       subst (λ x. Does Pop (Some (record { word = cell_word c 1 k.read 0; op = Load })) (GoOn (Indices (rings.TheVariants.Pop (record { capacity = c; stage = pops.TheVariants.StoresRead k.read x })))) Quiet) (sym old)
-      (quiet c pr co k p steps backs since changes events turns g book reached small 0 Pop (Some (record { word = cell_word c 1 k.read 0; op = Load })) (Indices (rings.TheVariants.Pop (record { capacity = c; stage = pops.TheVariants.StoresRead k.read v }))) k refl refl refl g same
+      (quiet kinds.TheVariants.IndexQueue c pr co k p steps backs since changes latest events turns g tt book reached small before 0 Pop (Some (record { word = cell_word c 1 k.read 0; op = Load })) (Indices (rings.TheVariants.Pop (record { capacity = c; stage = pops.TheVariants.StoresRead k.read v }))) k refl refl refl refl g same
       (record { span = refl; steps = omega arith; at = (holds, refl, (rest, refl, is)) })
       (omega arith)
-      (λ q ne st f h. h))
+      (λ q ne st f h. (h, refl)))
 
   pop_stores_read : (v : ℕ) (rest : List ℕ) → k.waiting ≡ v ∷ rest → co ≡ Some p → steps ≤ 3 → backs ≡ 0
       → DoesOf Pop (Indices (rings.TheVariants.Pop (record { capacity = c; stage = pops.TheVariants.StoresRead k.read v })))
@@ -146,6 +165,7 @@ module _ {T : Type 0} (c : ℕ) (pr co : Option ℕ) (k : Core ℕ) (p steps bac
           right = (tt, (tt, (tt, tt)));
           lengths = (tt, (tt, (tt, tt)));
           good = takes 1 words_of_index c k v rest is g;
+          hangs = tt;
           book = append-nil (map Index k.waiting) ∙ first;
           goes = rw first refl;
           answers = rw first refl;
@@ -158,7 +178,7 @@ module _ {T : Type 0} (c : ℕ) (pr co : Option ℕ) (k : Core ℕ) (p steps bac
               };
           knows = omega arith;
           up = record { write = omega arith; read = omega arith; paid = omega arith };
-          others = λ q ne. kept c pr co pr co k (taken 1 words_of_index c k rest) q (λ h. h) (λ h. h) (λ mine w stage h. take_keeps c k v rest is w stage h) (λ mine stage h. absurd (clash co p q ne holds mine));
+          others = λ q ne. kept c pr co pr co k (taken 1 words_of_index c k rest) q (λ h. h) (λ h. h) kinds.TheVariants.IndexQueue (record { push = λ mine w stage h. take_keeps c k v rest is w stage h; pop = λ mine stage h. absurd (clash co p q ne holds mine) });
           turned = omega arith;
         },
       )

@@ -1,5 +1,5 @@
 -- The steps of a push.
-use Rattle.std.proofs.Common.{◌≡◌, ◌≢◌, ℕ, ◌+◌, ◌-◌, ◌*◌, ◌%◌, ◌^◌, ◌<◌, ◌≤◌, ◌==◌, nat_lt, Bool, true, false, ◌||◌, ⊎_elim, Option, Some, List, [], ◌∷◌, ◌++◌, length, map, refl, sym, ap, subst, ◌∙◌, append-nil, arith}
+use Rattle.std.proofs.Common.{◌≡◌, ◌≢◌, ℕ, ◌+◌, ◌-◌, ◌*◌, ◌%◌, ◌^◌, ◌<◌, ◌≤◌, ◌==◌, nat_lt, Bool, true, false, ◌||◌, ⊎_elim, Option, Some, None, List, [], ◌∷◌, ◌++◌, length, map, refl, sym, ap, subst, ◌∙◌, append-nil, arith}
 use Rattle.std.proofs.lemmas.Bool.Decides.{nat_tests}
 use Rattle.std.proofs.lemmas.List.{map-append, length-map}
 use Rattle.steps.specs.declared.ask.Ask.{Ask}
@@ -7,6 +7,7 @@ use Rattle.steps.specs.declared.ask.Op.TheVariants.{Load, Store}
 use Rattle.steps.specs.declared.ask.After.{After}
 use Rattle.steps.specs.declared.ask.After.TheVariants.{GoOn, Done}
 use Rattle.steps.specs.declared.ring.PushStage as pushes
+use Rattle.steps.specs.declared.ring.PopStage as pops
 use Rattle.steps.specs.Ring.{cell_word, distance, after_position}
 use Rattle.machine.specs.declared.call.RingCall as rings
 use Rattle.machine.specs.declared.call.Flight.{Flight}
@@ -21,21 +22,39 @@ use Rattle.machine.specs.declared.event.Answer.{Answer}
 use Rattle.machine.specs.declared.event.Answer as answers
 use Rattle.machine.specs.declared.event.Event.{Event}
 use Rattle.machine.specs.declared.event.Event.TheVariants.{Published, Acted}
+use Rattle.machine.specs.declared.party.Party.{Party}
+use Rattle.machine.specs.declared.turn.Kind as kinds
+use Rattle.machine.specs.World.{party_of, doing_of, flight_of}
+use Rattle.machine.specs.Effects.{pending_at}
 use Rattle.machine.specs.Calls.{after_of, words_of_index}
 use Rattle.machine.specs.Turns.{change_of}
 use Rattle.machine.specs.Reading.{published, handed_out}
-use Rattle.machine.proofs.Structures.Ring.Core as core
-use Rattle.machine.proofs.Structures.Ring.Core.{Core, Holds, Good, filled, taken, fills, one_filled, publishes, takes, front, cell_within, word_at, set_at}
-use Rattle.machine.proofs.Structures.Ring.Invariant.{free, layout, KnowsPush, push_number, waiting_is}
-use Rattle.machine.proofs.Structures.Ring.Keeping.{clash, kept, fill_keeps, publish_keeps}
-use Rattle.machine.proofs.Structures.Ring.Stages.{or_true, or_false, cell_place, Step, StepOf, quiet}
+use Rattle.machine.proofs.Structures.Queues.Core as core
+use Rattle.machine.proofs.Structures.Queues.Core.{Core, Holds, Good, filled, taken, fills, one_filled, publishes, takes, front, cell_within, word_at, set_at}
+use Rattle.machine.proofs.Structures.Queues.Invariant.{free, layout, KnowsPush, KnowsPop, push_number, waiting_is}
+use Rattle.machine.proofs.Structures.Queues.Keeping.{clash, kept}
+use Rattle.machine.proofs.Structures.Queues.Stages.{or_true, or_false, cell_place, Step, StepOf, quiet}
 
-module _ {T : Type 0} (c : ℕ) (pr co : Option ℕ) (k : Core ℕ) (p steps backs since changes : ℕ) (events : List (Event T)) (turns : ℕ) (g : Good 1 words_of_index c k) (book : published events ≡ handed_out events ++ map Index k.waiting) (reached : k.write ≤ turns) (small : turns < 2 ^ 64 - 2) where
+-- a store into a cell keeps what a pop knows
+fill_keeps : (c : ℕ) (k : Core ℕ) (at word : ℕ) (stage : pops.PopStage ℕ) → KnowsPop c k stage → KnowsPop c (filled 1 words_of_index c k at word) stage
+fill_keeps c k at word pops.TheVariants.LoadsRead h = h
+fill_keeps c k at word (pops.TheVariants.LoadsWrite read) h = h
+fill_keeps c k at word (pops.TheVariants.LoadsCell read copied) h = h
+fill_keeps c k at word (pops.TheVariants.StoresRead read value) h = h
+
+-- so does the next write position
+publish_keeps : (c : ℕ) (k : Core ℕ) (w : ℕ) (stage : pops.PopStage ℕ) → KnowsPop c k stage → KnowsPop c (core.published 1 words_of_index c k w) stage
+publish_keeps c k w pops.TheVariants.LoadsRead h = h
+publish_keeps c k w (pops.TheVariants.LoadsWrite read) h = h
+publish_keeps c k w (pops.TheVariants.LoadsCell read copied) h = (h.0, h.1 ++ w ∷ [], h.2, ap (λ xs. xs ++ w ∷ []) h.3, h.4)
+publish_keeps c k w (pops.TheVariants.StoresRead read value) h = (h.0 ++ w ∷ [], h.1, ap (λ xs. xs ++ w ∷ []) h.2)
+
+module _ {T : Type 0} (c : ℕ) (pr co : Option ℕ) (k : Core ℕ) (p steps backs since changes : ℕ) (latest : List (Party T)) (events : List (Event T)) (turns : ℕ) (g : Good 1 words_of_index c k) (before : pending_at k.read (flight_of (doing_of (party_of p latest))) ≡ None) (book : published events ≡ handed_out events ++ map Index k.waiting) (reached : k.write ≤ turns) (small : turns < 2 ^ 64 - 2) where
   abbrev Does : Start T → Option Ask → After Flight (Answer T) → Effect T → Type 0
-  Does start ask after effect = Step c pr co k p steps backs since changes events turns start ask 0 after effect
+  Does start ask after effect = Step kinds.TheVariants.IndexQueue c pr co k p steps backs since changes latest events turns [] start ask 0 after effect
 
   abbrev DoesOf : Start T → Flight → Type 0
-  DoesOf start flight = StepOf c pr co k p steps backs since changes events turns start flight
+  DoesOf start flight = StepOf kinds.TheVariants.IndexQueue c pr co k p steps backs since changes latest events turns start flight
 
   push_loads_write : (v : ℕ) → pr ≡ Some p → steps ≤ 0 → backs ≡ 0 → DoesOf (Push (Index v)) (Indices (rings.TheVariants.Push (record { capacity = c; value = v; stage = pushes.TheVariants.LoadsWrite })))
   push_loads_write v holds s b =
@@ -43,10 +62,10 @@ module _ {T : Type 0} (c : ℕ) (pr co : Option ℕ) (k : Core ℕ) (p steps bac
       let t : (k.write == 2 ^ 64 - 1) ≡ false = grind (arith, nat_tests) in
       let goes : after_of {T = T} (call pushes.TheVariants.LoadsWrite) k.write ≡ GoOn (call (pushes.TheVariants.LoadsRead k.write)) = rw t refl in
       subst (λ a. Does (Push (Index v)) (Some (record { word = 0; op = Load })) a Quiet) (sym goes)
-      (quiet c pr co k p steps backs since changes events turns g book reached small 0 (Push (Index v)) (Some (record { word = 0; op = Load })) (call (pushes.TheVariants.LoadsRead k.write)) k refl refl refl g refl
+      (quiet kinds.TheVariants.IndexQueue c pr co k p steps backs since changes latest events turns g tt book reached small before 0 (Push (Index v)) (Some (record { word = 0; op = Load })) (call (pushes.TheVariants.LoadsRead k.write)) k refl refl refl refl g refl
       (record { span = refl; steps = omega arith; at = (holds, refl, refl, refl) })
       (omega arith)
-      (λ q ne st f h. h))
+      (λ q ne st f h. (h, refl)))
 
   -- how far the read position is behind, as the push computes it
   behind : distance k.write k.read ≡ length k.waiting
@@ -82,6 +101,7 @@ module _ {T : Type 0} (c : ℕ) (pr co : Option ℕ) (k : Core ℕ) (p steps bac
           right = (ap length (waiting_is events (map Index k.waiting) book) ∙ (long ∙ lap), (tt, tt));
           lengths = (tt, (tt, tt));
           good = g;
+          hangs = tt;
           book = append-nil (map Index k.waiting);
           goes = rw t refl;
           answers = rw t refl;
@@ -94,7 +114,7 @@ module _ {T : Type 0} (c : ℕ) (pr co : Option ℕ) (k : Core ℕ) (p steps bac
               };
           knows = omega arith;
           up = record { write = omega arith; read = omega arith; paid = omega arith };
-          others = λ q ne st f h. h;
+          others = λ q ne st f h. (h, refl);
           turned = omega arith;
         },
       )
@@ -102,10 +122,10 @@ module _ {T : Type 0} (c : ℕ) (pr co : Option ℕ) (k : Core ℕ) (p steps bac
   push_goes_on : (v : ℕ) → length k.waiting < c → pr ≡ Some p → steps ≤ 1 → backs ≡ 0
       → Does (Push (Index v)) (Some (record { word = 1; op = Load })) (GoOn (Indices (rings.TheVariants.Push (record { capacity = c; value = v; stage = pushes.TheVariants.StoresCell k.write 0 })))) Quiet
   push_goes_on v room holds s b =
-      quiet c pr co k p steps backs since changes events turns g book reached small 0 (Push (Index v)) (Some (record { word = 1; op = Load })) (Indices (rings.TheVariants.Push (record { capacity = c; value = v; stage = pushes.TheVariants.StoresCell k.write 0 }))) k refl refl refl g refl
+      quiet kinds.TheVariants.IndexQueue c pr co k p steps backs since changes latest events turns g tt book reached small before 0 (Push (Index v)) (Some (record { word = 1; op = Load })) (Indices (rings.TheVariants.Push (record { capacity = c; value = v; stage = pushes.TheVariants.StoresCell k.write 0 }))) k refl refl refl refl g refl
       (record { span = refl; steps = omega arith; at = (holds, refl, refl, (refl, room, omega arith, λ i h. absurd (omega arith))) })
       (omega arith)
-      (λ q ne st f h. h)
+      (λ q ne st f h. (h, refl))
 
   push_loads_read : (v : ℕ) → pr ≡ Some p → steps ≤ 1 → backs ≡ 0 → DoesOf (Push (Index v)) (Indices (rings.TheVariants.Push (record { capacity = c; value = v; stage = pushes.TheVariants.LoadsRead k.write })))
   push_loads_read v holds s b = go (c == 0 || distance k.write k.read == c) refl
@@ -129,11 +149,11 @@ module _ {T : Type 0} (c : ℕ) (pr co : Option ℕ) (k : Core ℕ) (p steps bac
       let place = cell_place c k.write some in
       let none : Holds 1 words_of_index c k.cells k.write v 0 = λ i h. absurd (omega arith) in
       let good = fills 1 words_of_index c k 0 v room (omega arith) g in
-      quiet c pr co k p steps backs since changes events turns g book reached small 0 (Push (Index v)) (Some (record { word = cell_word c 1 k.write 0; op = Store v })) (Indices (rings.TheVariants.Push (record { capacity = c; value = v; stage = pushes.TheVariants.StoresWrite k.write }))) (filled 1 words_of_index c k 0 v) refl refl refl good
+      quiet kinds.TheVariants.IndexQueue c pr co k p steps backs since changes latest events turns g tt book reached small before 0 (Push (Index v)) (Some (record { word = cell_word c 1 k.write 0; op = Store v })) (Indices (rings.TheVariants.Push (record { capacity = c; value = v; stage = pushes.TheVariants.StoresWrite k.write }))) (filled 1 words_of_index c k 0 v) refl refl refl refl good
       (set_at k.write k.read (free pr) (free co) k.cells (cell_word c 1 k.write 0) (1 * (k.write % c) + 0) v place)
       (record { span = refl; steps = omega arith; at = (holds, refl, refl, (refl, room, one_filled 1 words_of_index c k v 0 room (omega arith) g none)) })
       (omega arith)
-      (λ q ne. kept c pr co pr co k (filled 1 words_of_index c k 0 v) q (λ h. h) (λ h. h) (λ mine w stage h. absurd (clash pr p q ne holds mine)) (λ mine stage h. fill_keeps c k 0 v stage h))
+      (λ q ne. kept c pr co pr co k (filled 1 words_of_index c k 0 v) q (λ h. h) (λ h. h) kinds.TheVariants.IndexQueue (record { push = λ mine w stage h. absurd (clash pr p q ne holds mine); pop = λ mine stage h. fill_keeps c k 0 v stage h }))
 
   push_stores_write : (v : ℕ) → length k.waiting < c → Holds 1 words_of_index c k.cells k.write v 1 → pr ≡ Some p → steps ≤ 3 → backs ≡ 0
       → DoesOf (Push (Index v)) (Indices (rings.TheVariants.Push (record { capacity = c; value = v; stage = pushes.TheVariants.StoresWrite k.write })))
@@ -152,6 +172,7 @@ module _ {T : Type 0} (c : ℕ) (pr co : Option ℕ) (k : Core ℕ) (p steps bac
           right = (tt, (tt, (tt, tt)));
           lengths = (tt, (tt, (tt, tt)));
           good = publishes 1 words_of_index c k v room g whole;
+          hangs = tt;
           book = joined;
           goes = rw t joined;
           answers = rw t refl;
@@ -164,7 +185,7 @@ module _ {T : Type 0} (c : ℕ) (pr co : Option ℕ) (k : Core ℕ) (p steps bac
               };
           knows = omega arith;
           up = record { write = omega arith; read = omega arith; paid = omega arith };
-          others = λ q ne. kept c pr co pr co k (core.published 1 words_of_index c k v) q (λ h. h) (λ h. h) (λ mine w stage h. absurd (clash pr p q ne holds mine)) (λ mine stage h. publish_keeps c k v stage h);
+          others = λ q ne. kept c pr co pr co k (core.published 1 words_of_index c k v) q (λ h. h) (λ h. h) kinds.TheVariants.IndexQueue (record { push = λ mine w stage h. absurd (clash pr p q ne holds mine); pop = λ mine stage h. publish_keeps c k v stage h });
           turned = omega arith;
         },
       )

@@ -26,7 +26,7 @@ returns-in-Going g c = λ x found.
     let same : y ≡ x = party_here c.args.number items c.args.at x y c.requires.here within read found in
     let number : y.number ≡ c.args.number = party_number c.args.number items y (found ∙ ap Some (sym same)) in
     rw (← same)
-    (rw (c.in-Going.is, c.tell.ensures, c.write.ensures, c.producer_after-self.ensures, c.consumer_after-self.ensures, c.count.ensures, c.doing_after.ensures, c.change-change.ensures, c.effect_of-effect.ensures, c.back-back.ensures, c.after-after.ensures)
+    (rw (c.in-Going.is, c.tell.ensures, c.write.ensures, c.producer_after-self.ensures, c.consumer_after-self.ensures, c.count.ensures, c.doing_after.ensures, c.change-change.ensures, c.effect_of-effect.ensures, c.pending-pending.ensures, c.word_at-position.ensures, c.back-back.ensures, c.after-after.ensures)
     (rw (put_again c.args.number items c.args.at c.replace-party.new.dest (moved_party y c.in-Going.since c.args.self.now.changes (steps_of c.args.ask) (change_of c.args.self.now.words.items c.args.ask) (back_of c.in-Going.flight c.args.answer) (after_of c.in-Going.flight c.args.answer)) c.requires.here within number) refl))
 
 small_change : (turns changes change : ℕ) → changes ≤ turns → turns < 2 ^ 64 - 2 → change ≤ 1 → changes + change < 2 ^ 64

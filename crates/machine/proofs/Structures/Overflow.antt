@@ -1,0 +1,4 @@
+pub mod Core
+pub mod Pops
+pub mod Pushes
+pub mod Waiting

@@ -1,0 +1,10 @@
+pub mod Core
+pub mod Invariant
+pub mod Justified
+pub mod Keeping
+pub mod Kept
+pub mod Lengths
+pub mod Pending
+pub mod Roles
+pub mod Sound
+pub mod Stages
