@@ -4,4 +4,5 @@ pub mod Roles
 pub mod Pushes
 pub mod Pops
 pub mod Lengths
+pub mod Overflows
 pub mod Comings

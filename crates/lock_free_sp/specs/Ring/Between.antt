@@ -21,7 +21,6 @@ module _ {T : Type 0} where
     pub taken : AllPairs (λ (x y : ℕ × T). x.0 ≢ y.0) v.taken
     pub values : Agree v.published v.taken
     pub last_push : (p : ℕ) → v.last_push ≡ Some p → Below (p + 1) v
-    pub last_pop : (p : ℕ) → v.last_pop ≡ Some p → All (λ (x : ℕ × T). x.0 ≤ p) v.taken × All (λ (x : ℕ × T). x.0 ≤ p + v.capacity) v.published
 
   -- what holds between a pass, or a guard, and another pass
   pub record Ruled (v w : View T) : Type 0 where
@@ -30,4 +29,9 @@ module _ {T : Type 0} where
     pub published_taken : Agree v.published w.taken
     pub taken_published : Agree v.taken w.published
     pub last_push : (p : ℕ) → v.last_push ≡ Some p → Below (p + 1) w
-    pub last_pop : (p : ℕ) → v.last_pop ≡ Some p → All (λ (x : ℕ × T). x.0 ≤ p) w.taken × All (λ (x : ℕ × T). x.0 ≤ p + v.capacity) w.published
+
+  -- where nobody else takes: no position above the guard's last pop is taken, and none is published more than the capacity above it
+  abbrev pub InOrder : View T → View T → Type 0
+  InOrder v w =
+      (p : ℕ) → v.last_pop ≡ Some p
+      → All (λ (x : ℕ × T). x.0 ≤ p) w.taken × All (λ (x : ℕ × T). x.0 ≤ p + v.capacity) w.published

@@ -1,24 +1,25 @@
 -- What the calls on a ring say of its tokens.
-use Rattle.std.specs.Prelude.{◌≡◌, ℕ, ◌+◌, ◌-◌, ◌^◌, ◌<◌, ◌≤◌, Some, All}
+use Rattle.std.specs.Prelude.{◌≡◌, ◌⊎◌, ℕ, ◌+◌, ◌-◌, ◌^◌, ◌<◌, ◌≤◌, Some, All}
 use Rattle.atomic_table.specs.Seated.{TableId}
 use Rattle.steps.specs.declared.words.Words.{Ghosts}
+use Rattle.lock_free_sp.specs.declared.ring.rule.Spare as spares
 use Rattle.lock_free_sp.specs.declared.ring.rule.RingRule.{RingRule}
 use Rattle.lock_free_sp.specs.declared.ring.token.Held.{Held}
 use Rattle.lock_free_sp.specs.declared.ring.view.View.{View}
-use Rattle.lock_free_sp.specs.Ring.Views.{pushed, popped}
-use Rattle.lock_free_sp.specs.Ring.Between.{Below, Sound}
+use Rattle.lock_free_sp.specs.Ring.Views.{pushed, popped, handed_back}
+use Rattle.lock_free_sp.specs.Ring.Between.{Below, Sound, InOrder}
 
-module _ {T : Type 0} {words : Ghosts T} where
+module _ {E T : Type 0} {spare : spares.Ghosts E} {words : Ghosts T} where
   -- what the token's seat knows
-  abbrev pub seen : Held T (RingRule T) words → View T
+  abbrev pub seen : Held E T (RingRule E T) spare words → View T
   seen t = t.seat.me.0
 
   -- which table it is for
-  abbrev pub table_of : Held T (RingRule T) words → TableId
+  abbrev pub table_of : Held E T (RingRule E T) spare words → TableId
   table_of t = t.seat.table_id
 
   -- the same seat, at the same table
-  abbrev pub IsSame : Held T (RingRule T) words → Held T (RingRule T) words → Type 0
+  abbrev pub IsSame : Held E T (RingRule E T) spare words → Held E T (RingRule E T) spare words → Type 0
   IsSame old new = (table_of new ≡ table_of old) × (new.seat.id ≡ old.seat.id) × (new.board ≡ old.board) × (new.capacity ≡ old.capacity)
 
 module _ {T : Type 0} where
@@ -29,6 +30,7 @@ module _ {T : Type 0} where
     pub above : Below position v
     pub next : (q : ℕ) → v.last_push ≡ Some q → position ≡ q + 1
     pub sound : Sound w
+    pub order : InOrder w w
 
   -- a push that was refused: no position above the guard's last push less the capacity is known to be taken
   pub record WasFull (v w : View T) : Type 0 where
@@ -42,8 +44,42 @@ module _ {T : Type 0} where
     pub above : All (λ (y : ℕ × T). y.0 < position) v.taken
     pub next : (q : ℕ) → v.last_pop ≡ Some q → position ≡ q + 1
     pub sound : Sound w
+    pub order : InOrder w w
 
   -- a pop that found nothing: no position above the guard's last pop is known to be published
   pub record WasEmpty (v w : View T) : Type 0 where
     pub same : w ≡ v
     pub empty : (q : ℕ) → v.last_pop ≡ Some q → All (λ (x : ℕ × T). x.0 ≤ q) v.published
+
+  -- ---- the overflowing queue
+
+  -- a push that took its value where there was room, or where a pop made room first
+  pub record HasAdded (x : T) (v w : View T) : Type 0 where
+    pub position : ℕ
+    pub adds : w ≡ pushed position x v
+    pub above : Below position v
+    pub next : (q : ℕ) → v.last_push ≡ Some q → position ≡ q + 1
+    pub sound : Sound w
+
+  -- a push that took x and handed back y, which it took at a position above all that were taken
+  pub record HasReplaced (x y : T) (v w : View T) : Type 0 where
+    pub position : ℕ
+    pub oldest : ℕ
+    pub adds : w ≡ handed_back oldest y (pushed position x v)
+    pub above : Below position v
+    pub next : (q : ℕ) → v.last_push ≡ Some q → position ≡ q + 1
+    pub taken : All (λ (z : ℕ × T). z.0 < oldest) v.taken
+    pub sound : Sound w
+
+  -- a push that handed its own value back: without capacity, or at the position's end
+  pub record WasHandedBack (x y : T) (v w : View T) : Type 0 where
+    pub own : y ≡ x
+    pub same : w ≡ v
+    pub end : (v.capacity ≡ 0) ⊎ ((q : ℕ) → v.last_push ≡ Some q → q ≡ 2 ^ 64 - 2)
+
+  -- a pop that took x at a position above all that were taken
+  pub record HasTaken (x : T) (v w : View T) : Type 0 where
+    pub position : ℕ
+    pub adds : w ≡ popped position x v
+    pub above : All (λ (y : ℕ × T). y.0 < position) v.taken
+    pub sound : Sound w

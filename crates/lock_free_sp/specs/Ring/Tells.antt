@@ -6,19 +6,21 @@ use Rattle.lock_free_sp.specs.declared.ring.view.PushStage.TheVariants as pushin
 use Rattle.lock_free_sp.specs.declared.ring.view.PopStage.TheVariants as popping
 use Rattle.lock_free_sp.specs.declared.ring.view.View.{View}
 use Rattle.lock_free_sp.specs.declared.ring.view.LenStage.TheVariants as lengths
-use Rattle.lock_free_sp.specs.Ring.Views.{with_push, with_pop, with_len, with_producer, without_producer, with_consumer, without_consumer, pushed, popped}
-use Rattle.lock_free_sp.specs.Ring.Between.{Below, Sound}
+use Rattle.lock_free_sp.specs.Ring.Views.{with_push, with_pop, with_len, with_producer, without_producer, with_consumer, without_consumer, pushed, popped, handed_back}
+use Rattle.lock_free_sp.specs.Ring.Between.{Below, Sound, InOrder}
 
--- the word of a position's cell at a place, where a value has n words
+-- the word of a position's cell at a place, where there are so many cells and a value has n words
 abbrev pub place : ℕ → ℕ → ℕ → ℕ → ℕ
-place capacity n p i = 4 + n * (p % capacity) + i
+place cells n p i = 4 + n * (p % cells) + i
 
 -- one word more is stored
 abbrev pub with_word : ℕ → PushStage → PushStage
 with_word x pushing.Away = pushing.Away
 with_word x pushing.Ready = pushing.Ready
 with_word x (pushing.SawWrite p) = pushing.SawWrite p
-with_word x (pushing.Storing p ws) = pushing.Storing p (ws ++ x ∷ [])
+with_word x (pushing.Storing p r ws) = pushing.Storing p r (ws ++ x ∷ [])
+with_word x (pushing.Full r) = pushing.Full r
+with_word x (pushing.HandsBack r ws) = pushing.HandsBack r ws
 
 module _ {T : Type 0} where
   -- no slot is out with the seat that was not
@@ -48,7 +50,7 @@ module _ {T : Type 0} where
   pub record SawRoom (v : View T) (n : ℕ) (w : View T) (p : ℕ) : Type 0 where
     pub behind : n ≤ p
     pub within : p ≤ n + v.capacity
-    pub room : p ≢ n + v.capacity → w ≡ with_push (pushing.Storing p []) v
+    pub room : p ≢ n + v.capacity → w ≡ with_push (pushing.Storing p n []) v
     pub full : p ≡ n + v.capacity → (w ≡ with_push pushing.Ready v) × All (λ (x : ℕ × T). x.0 + v.capacity < p) v.taken
 
   abbrev pub saw_room : View T → ℕ → View T → Type 0
@@ -63,9 +65,10 @@ module _ {T : Type 0} where
     pub above : Below p v
     pub next : (q : ℕ) → v.last_push ≡ Some q → p ≡ q + 1
     pub sound : Sound w
+    pub order : InOrder w w
 
   abbrev pub published_at : (T → List ℕ) → View T → ℕ → View T → Type 0
-  published_at words v n w = (p : ℕ) (x : T) → v.push ≡ pushing.Storing p (words x) → Published v w p x
+  published_at words v n w = (p r : ℕ) (x : T) → v.push ≡ pushing.Storing p r (words x) → Published v w p x
 
   abbrev pub saw_read : View T → ℕ → View T → Type 0
   saw_read v n w =
@@ -91,6 +94,7 @@ module _ {T : Type 0} where
     pub above : All (λ (y : ℕ × T). y.0 < p) v.taken
     pub next : (q : ℕ) → v.last_pop ≡ Some q → p ≡ q + 1
     pub sound : Sound w
+    pub order : InOrder w w
 
   abbrev pub taken_at : View T → ℕ → View T → Type 0
   taken_at v n w = (p : ℕ) (x : T) → v.pop ≡ popping.SawValue p x → Taken v w p x
@@ -102,10 +106,66 @@ module _ {T : Type 0} where
   len_saw_read v n w = (p : ℕ) → v.len ≡ lengths.SawWrite p → w ≡ with_len (lengths.SawBoth p n) v
 
   -- where the write position is the one that was loaded first, both stood together
-  abbrev pub len_saw_again : View T → ℕ → View T → Type 0
-  len_saw_again v n w =
+  abbrev pub len_saw_again : ℕ → View T → ℕ → View T → Type 0
+  len_saw_again spare v n w =
       (p r : ℕ) → v.len ≡ lengths.SawBoth p r
-      → (w ≡ with_len lengths.Idle v) × (n ≡ p → (r ≤ p) × (p ≤ r + v.capacity))
+      → (w ≡ with_len lengths.Idle v) × (n ≡ p → (r ≤ p) × (p ≤ r + v.capacity + spare))
 
-  abbrev pub learned : View T → ℕ → View T → Type 0
-  learned v n w = (w ≡ v) × Sound v
+  abbrev pub learned : ℕ → View T → ℕ → View T → Type 0
+  learned spare v n w = (w ≡ v) × Sound v × (spare ≡ 0 → InOrder v v)
+
+  -- ---- the overflowing queue
+
+  -- of the write position p and the read position n
+  pub record SawFront (v : View T) (n : ℕ) (w : View T) (p : ℕ) : Type 0 where
+    pub behind : n ≤ p
+    pub within : p ≤ n + v.capacity
+    pub view : w ≡ with_push (pushing.Storing p n []) v
+
+  abbrev pub saw_front : View T → ℕ → View T → Type 0
+  saw_front v n w = (p : ℕ) → v.push ≡ pushing.SawWrite p → SawFront v n w p
+
+  -- the value x is published at p, where the read position was r: past the capacity, the oldest is to be taken
+  pub record PublishedOver (v w : View T) (p r : ℕ) (x : T) : Type 0 where
+    pub size : w.capacity ≡ v.capacity
+    pub view : p ≢ r + v.capacity → w ≡ pushed p x v
+    pub over : p ≡ r + v.capacity → w ≡ with_push (pushing.Full r) (pushed p x v)
+    pub above : Below p v
+    pub next : (q : ℕ) → v.last_push ≡ Some q → p ≡ q + 1
+    pub sound : Sound w
+
+  abbrev pub published_over : (T → List ℕ) → View T → ℕ → View T → Type 0
+  published_over words v n w = (p r : ℕ) (x : T) → v.push ≡ pushing.Storing p r (words x) → PublishedOver v w p r x
+
+  -- the value x is taken at r, or the read position has moved
+  pub record TookBack (words : T → List ℕ) (v : View T) (n : ℕ) (w : View T) (r : ℕ) : Type 0 where
+    pub size : w.capacity ≡ v.capacity
+    pub taken : n ≡ r → (x : T) × (w ≡ with_push (pushing.HandsBack r (words x)) (handed_back r x v)) × All (λ (y : ℕ × T). y.0 < r) v.taken × Sound w
+    pub moved : n ≢ r → w ≡ with_push pushing.Ready v
+
+  abbrev pub took_back : (T → List ℕ) → View T → ℕ → View T → Type 0
+  took_back words v n w = (r : ℕ) → v.push ≡ pushing.Full r → TookBack words v n w r
+
+  abbrev pub loaded_back : View T → ℕ → View T → Type 0
+  loaded_back v n w = (w ≡ with_push pushing.Ready v) × ((r : ℕ) (ws : List ℕ) → v.push ≡ pushing.HandsBack r ws → n ≡ slice_index ws 0)
+
+  abbrev pub saw_front_to_pop : View T → ℕ → View T → Type 0
+  saw_front_to_pop v n w = w ≡ with_pop (popping.SawRead n) v
+
+  -- of the read position p and the write position n
+  abbrev pub saw_some : View T → ℕ → View T → Type 0
+  saw_some v n w =
+      (p : ℕ) → v.pop ≡ popping.SawRead p
+      → (p ≢ n → (w ≡ with_pop (popping.SawSome p) v) × (p < 2 ^ 64 - 1)) × (p ≡ n → w ≡ with_pop popping.Ready v)
+
+  abbrev pub copied : View T → ℕ → View T → Type 0
+  copied v n w = (p : ℕ) → v.pop ≡ popping.SawSome p → w ≡ with_pop (popping.Copied p (n ∷ [])) v
+
+  -- the value x is taken at p, or the read position has moved
+  pub record TookFront (words : T → List ℕ) (v : View T) (n : ℕ) (w : View T) (p word : ℕ) : Type 0 where
+    pub size : w.capacity ≡ v.capacity
+    pub taken : n ≡ p → (x : T) × (slice_index (words x) 0 ≡ word) × (w ≡ popped p x v) × All (λ (y : ℕ × T). y.0 < p) v.taken × Sound w
+    pub moved : n ≢ p → (w ≡ with_pop (popping.SawSome n) v) × (n < 2 ^ 64 - 1)
+
+  abbrev pub took_front : (T → List ℕ) → View T → ℕ → View T → Type 0
+  took_front words v n w = (p word : ℕ) → v.pop ≡ popping.Copied p (word ∷ []) → TookFront words v n w p word

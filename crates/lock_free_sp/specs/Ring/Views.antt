@@ -53,6 +53,10 @@ module _ {T : Type 0} where
   abbrev pub popped : ℕ → T → View T → View T
   popped p x v = record v { pop = popping.Ready; last_pop = Some p; taken = v.taken ++ (p, x) ∷ [] }
 
+  -- a push has taken x at the position p
+  abbrev pub handed_back : ℕ → T → View T → View T
+  handed_back p x v = record v { taken = v.taken ++ (p, x) ∷ [] }
+
   -- what both know, with the roles of the first
   abbrev pub joined : View T → View T → View T
   joined v w = record v { published = v.published ++ w.published; taken = v.taken ++ w.taken }

@@ -4,25 +4,30 @@ ghost use Rattle.std.specs.Arc.{arc_value};
 ghost use Rattle.lock_free_sp.specs.Ring.Views.{blank};
 ghost use Rattle.lock_free_sp.specs.Ring.Calls.{seen, table_of};
 
-use super::rule::Board;
+use super::rule::{Board, Spare};
 use super::token::{Held, Token};
 use atomic_table::Table;
 use std::alloc::{AllocError, Global};
+use std::marker::PhantomData;
 use std::sync::Arc;
 use steps::ring::{CONSUMER, FIRST_CELL, PRODUCER, READ, WRITE};
 use steps::words::Words;
 
 /// An empty ring with both positions here and both roles free, and a token that knows nothing.
-pub fn open<T: Words>(
+pub fn open<E: Spare, T: Words>(
     alloc: Global,
     capacity: u32,
     position: u64,
-) -> Result<(Arc<Board<T>, Global>, Token<T>), AllocError>
+) -> Result<(Arc<Board<E, T>, Global>, Token<E, T>), AllocError>
     ensures table { IfOk result (λ r. table_of r.1 ≡ (arc_value r.0).shared.table_id) }
     ensures view { IfOk result (λ r. seen r.1 ≡ blank capacity) }
     ensures capacity { IfOk result (λ r. r.1.capacity ≡ capacity) }
 {
-    let mut words = Vec::from_elem(alloc, 0u64, T::WORDS * capacity as usize + FIRST_CELL)?;
+    let mut words = Vec::from_elem(
+        alloc,
+        0u64,
+        T::WORDS * (capacity as usize + E::SPARE as usize) + FIRST_CELL,
+    )?;
     words[WRITE] = position;
     words[READ] = position;
     words[PRODUCER] = 1;
@@ -34,6 +39,7 @@ pub fn open<T: Words>(
         seat,
         board: shared,
         capacity,
+        of: PhantomData,
     };
     Ok((board, token))
 }

@@ -1,4 +1,5 @@
-//! The calls on a ring, each by the steps of `steps` in their order and by no others.
+//! The calls that both queues have, and the steps that their pushes share, each by the steps of `steps` in their order
+//! and by no others.
 ghost use Rattle.std.specs.Prelude.{◌≡◌, ◌≢◌, ℕ, ◌+◌, ◌-◌, ◌*◌, ◌%◌, ◌^◌, ◌<◌, ◌≤◌, true, false, IsTrue, IsFalse, Some, None, IfSome, IfNone, All, List, ◌∷◌, [], ◌++◌, length, slice_index, take};
 ghost use Rattle.lock_free_sp.specs.declared.ring.view.PushStage.TheVariants as pushing;
 ghost use Rattle.lock_free_sp.specs.declared.ring.view.PopStage.TheVariants as popping;
@@ -13,14 +14,14 @@ use super::plays::{
     Publishes, SeesRead, SeesRoom, SeesValue, SeesWrite, StoresWord, Takes, TakesConsumer,
     TakesProducer,
 };
-use super::rule::RingRule;
+use super::rule::{RingRule, Spare};
 use super::token::Held;
 use std::sync::Wait;
 use steps::lengths::number_waiting;
-use steps::ring::{CONSUMER, PRODUCER, READ, WRITE, cell_word};
+use steps::ring::{CONSUMER, FIRST_CELL, PRODUCER, READ, WRITE};
 use steps::words::Words;
 
-impl<T: Words> Held<T, RingRule<T>> {
+impl<E: Spare, T: Words> Held<E, T, RingRule<E, T>> {
     /// Takes the producer's role: true where it was free. One step.
     pub fn take_producer(&mut self) -> bool
         ensures same { IsSame self.old self.new }
@@ -67,7 +68,8 @@ impl<T: Words> Held<T, RingRule<T>> {
             .store::<LeavesConsumer>(&mut self.seat, CONSUMER, 1);
     }
 
-    fn sees_write(&mut self) -> u64
+    /// A push's load of the write position.
+    pub fn sees_write(&mut self) -> u64
         requires { (seen self.old).push ≡ pushing.Ready }
         ensures same { IsSame self.old self.new }
         ensures told { saw_write (seen self.old) result (seen self.new) }
@@ -75,27 +77,21 @@ impl<T: Words> Held<T, RingRule<T>> {
         self.board.shared.load::<SeesWrite>(&mut self.seat, WRITE)
     }
 
-    fn sees_room(&mut self, write: u64) -> u64
-        requires { (seen self.old).push ≡ pushing.SawWrite write }
-        ensures same { IsSame self.old self.new }
-        ensures told { SawRoom (seen self.old) result (seen self.new) write }
-    {
-        self.board.shared.load::<SeesRoom>(&mut self.seat, READ)
-    }
-
     /// The word that the position's cell has at this place.
-    fn cell(&self, position: u64, at: usize) -> usize
-        requires room { 0 < self.now.capacity }
+    pub fn cell(&self, position: u64, at: usize) -> usize
+        requires room { 0 < self.now.capacity + E.SPARE }
         requires at { at < T.WORDS }
-        ensures place { result ≡ place self.now.capacity T.WORDS position at }
+        ensures place { result ≡ place (self.now.capacity + E.SPARE) T.WORDS position at }
         ensures within { result < (table_of self.now).words }
     {
-        cell_word(self.capacity, T::WORDS as u8, position, at as u8)
+        let cells = self.capacity as u64 + E::SPARE;
+        FIRST_CELL + T::WORDS * (position % cells) as usize + at
     }
 
-    fn stores_word(&mut self, write: u64, at: usize, word: u64)
-        requires room { 0 < self.old.capacity }
-        requires stage { (ws : List ℕ) × ((seen self.old).push ≡ pushing.Storing write ws) × (length ws ≡ at) }
+    /// A push's store of a word into its cell.
+    pub fn stores_word(&mut self, write: u64, read: u64, at: usize, word: u64)
+        requires room { 0 < self.old.capacity + E.SPARE }
+        requires stage { (ws : List ℕ) × ((seen self.old).push ≡ pushing.Storing write read ws) × (length ws ≡ at) }
         requires at { at < T.WORDS }
         ensures same { IsSame self.old self.new }
         ensures told { seen self.new ≡ with_push (with_word word (seen self.old).push) (seen self.old) }
@@ -106,117 +102,16 @@ impl<T: Words> Held<T, RingRule<T>> {
             .store::<StoresWord>(&mut self.seat, cell, word);
     }
 
-    fn stores(&mut self, write: u64, value: &T)
-        requires room { 0 < self.old.capacity }
-        requires stage { (seen self.old).push ≡ pushing.Storing write [] }
+    /// Stores the value into the cell of the write position, word by word.
+    pub fn stores(&mut self, write: u64, read: u64, value: &T)
+        requires room { 0 < self.old.capacity + E.SPARE }
+        requires stage { (seen self.old).push ≡ pushing.Storing write read [] }
         ensures same { IsSame self.old self.new }
-        ensures told { seen self.new ≡ with_push (pushing.Storing write (T.words_of value.now)) (seen self.old) }
+        ensures told { seen self.new ≡ with_push (pushing.Storing write read (T.words_of value.now)) (seen self.old) }
     {
         for at in 0..T::WORDS {
-            self.stores_word(write, at, value.word(at));
+            self.stores_word(write, read, at, value.word(at));
         }
-    }
-
-    fn publishes(&mut self, write: u64, value: &T)
-        requires stage { (seen self.old).push ≡ pushing.Storing write (T.words_of value.now) }
-        requires end { write < 2 ^ 64 - 1 }
-        ensures same { IsSame self.old self.new }
-        ensures told { Published (seen self.old) (seen self.new) write value.now }
-    {
-        self.board
-            .shared
-            .store::<Publishes>(&mut self.seat, WRITE, write + 1);
-    }
-
-    /// Appends a value: true, or false where the queue is full or its write position at its end. At most
-    /// 3 + `T::WORDS` steps.
-    pub fn push(&mut self, value: &T) -> bool
-        requires { (seen self.old).push ≡ pushing.Ready }
-        ensures same { IsSame self.old self.new }
-        ensures pushed { IsTrue result → HasPushed value.now (seen self.old) (seen self.new) }
-        ensures full { IsFalse result → WasFull (seen self.old) (seen self.new) }
-    {
-        let write = self.sees_write();
-        if write == u64::MAX {
-            return false;
-        }
-        let read = self.sees_room(write);
-        if write - read == self.capacity as u64 {
-            return false;
-        }
-        self.stores(write, value);
-        self.publishes(write, value);
-        true
-    }
-
-    fn sees_read(&mut self) -> u64
-        requires { (seen self.old).pop ≡ popping.Ready }
-        ensures same { IsSame self.old self.new }
-        ensures told { saw_read (seen self.old) result (seen self.new) }
-    {
-        self.board.shared.load::<SeesRead>(&mut self.seat, READ)
-    }
-
-    fn sees_value(&mut self, read: u64) -> u64
-        requires { (seen self.old).pop ≡ popping.SawRead read }
-        ensures same { IsSame self.old self.new }
-        ensures told { SawValue (seen self.old) result (seen self.new) read }
-    {
-        self.board.shared.load::<SeesValue>(&mut self.seat, WRITE)
-    }
-
-    fn loads_word(&mut self, read: u64, at: usize) -> u64
-        requires room { 0 < self.old.capacity }
-        requires stage { (x : T) × ((seen self.old).pop ≡ popping.SawValue read x) }
-        requires at { at < T.WORDS }
-        ensures same { IsSame self.old self.new }
-        ensures view { seen self.new ≡ seen self.old }
-        ensures told { (x : T) → (seen self.old).pop ≡ popping.SawValue read x → result ≡ slice_index (T.words_of x) at }
-    {
-        let cell = self.cell(read, at);
-        self.board.shared.load::<LoadsWord>(&mut self.seat, cell)
-    }
-
-    fn loads(&mut self, read: u64) -> T
-        requires room { 0 < self.old.capacity }
-        requires stage { (x : T) × ((seen self.old).pop ≡ popping.SawValue read x) }
-        ensures same { IsSame self.old self.new }
-        ensures view { seen self.new ≡ seen self.old }
-        ensures told { (seen self.old).pop ≡ popping.SawValue read result }
-    {
-        let mut words = [0; 128];
-        for at in 0..T::WORDS {
-            words[at] = self.loads_word(read, at);
-        }
-        T::of_words(&words[..T::WORDS])
-    }
-
-    fn takes(&mut self, read: u64, value: &T)
-        requires stage { (seen self.old).pop ≡ popping.SawValue read value.now }
-        requires end { read < 2 ^ 64 - 1 }
-        ensures same { IsSame self.old self.new }
-        ensures told { Taken (seen self.old) (seen self.new) read value.now }
-    {
-        self.board
-            .shared
-            .store::<Takes>(&mut self.seat, READ, read + 1);
-    }
-
-    /// Takes the oldest value, or None where the queue is empty. At most 3 + `T::WORDS` steps.
-    pub fn pop(&mut self) -> Option<T>
-        requires { (seen self.old).pop ≡ popping.Ready }
-        ensures same { IsSame self.old self.new }
-        ensures popped { IfSome result (λ x. HasPopped x (seen self.old) (seen self.new)) }
-        ensures empty { IfNone result (WasEmpty (seen self.old) (seen self.new)) }
-    {
-        let read = self.sees_read();
-        let write = self.sees_value(read);
-        if write == read {
-            return None;
-        }
-        let value = self.loads(read);
-        self.takes(read, &value);
-        Some(value)
     }
 
     fn len_sees_write(&mut self) -> u64
@@ -240,11 +135,11 @@ impl<T: Words> Held<T, RingRule<T>> {
         requires { (seen self.old).len ≡ lengths.SawBoth write read }
         ensures same { IsSame self.old self.new }
         ensures view { seen self.new ≡ with_len lengths.Idle (seen self.old) }
-        ensures told { result ≡ write → (read ≤ write) × (write ≤ read + self.old.capacity) }
+        ensures told { result ≡ write → (read ≤ write) × (write ≤ read + self.old.capacity + E.SPARE) }
     {
         self.board
             .shared
-            .load::<LenSeesAgain>(&mut self.seat, WRITE)
+            .load::<LenSeesAgain<E>>(&mut self.seat, WRITE)
     }
 
     fn len_sees_last(&mut self) -> u64
@@ -252,7 +147,7 @@ impl<T: Words> Held<T, RingRule<T>> {
         ensures view { seen self.new ≡ seen self.old }
         ensures sound { Sound (seen self.new) }
     {
-        self.board.shared.load::<Learns>(&mut self.seat, READ)
+        self.board.shared.load::<Learns<E>>(&mut self.seat, READ)
     }
 
     /// The number of values between the positions, where neither moved from its first load to its second.
@@ -260,7 +155,7 @@ impl<T: Words> Held<T, RingRule<T>> {
         requires { (seen self.old).len ≡ lengths.Idle }
         ensures same { IsSame self.old self.new }
         ensures view { seen self.new ≡ seen self.old }
-        ensures few { IfSome result (λ n. n ≤ self.old.capacity) }
+        ensures few { IfSome result (λ n. n ≤ self.old.capacity + E.SPARE) }
     {
         let write = self.len_sees_write();
         let read = self.len_sees_read(write);
@@ -271,13 +166,13 @@ impl<T: Words> Held<T, RingRule<T>> {
         }
     }
 
-    /// How many values waited at one moment of the call, at most the capacity. Four steps, and at most four more for
+    /// How many values waited at one moment of the call, at most as many as there are cells. Four steps, and at most four more for
     /// each time that a position has moved between its two loads.
     pub fn len(&mut self, rt: &impl Wait) -> u64
         requires { (seen self.old).len ≡ lengths.Idle }
         ensures same { IsSame self.old self.new }
         ensures view { seen self.new ≡ seen self.old }
-        ensures few { result ≤ self.old.capacity }
+        ensures few { result ≤ self.old.capacity + E.SPARE }
     {
         for _ in rt.forever() {
             if let Some(waiting) = self.tries_len() {

@@ -1,18 +1,19 @@
 //! How tokens are made of one another.
 ghost use Rattle.std.specs.Prelude.{◌≡◌, IfSome};
 ghost use Rattle.lock_free_sp.specs.Ring.Views.{blank, joined};
-ghost use Rattle.lock_free_sp.specs.Ring.Between.{Sound, Ruled};
+ghost use Rattle.lock_free_sp.specs.Ring.Between.{Sound, Ruled, InOrder};
 ghost use Rattle.lock_free_sp.specs.Ring.Calls.{seen, table_of, IsSame};
 
 use super::plays::{Both, Cut, Learns};
-use super::rule::RingRule;
+use super::rule::{RingRule, Spare};
 use super::token::{Held, Token};
+use std::marker::PhantomData;
 use std::sync::Arc;
 use steps::words::Words;
 
-impl<T: Words> Held<T, RingRule<T>> {
+impl<E: Spare, T: Words> Held<E, T, RingRule<E, T>> {
     /// A token that knows nothing, at the same table. None where no further reference can be counted.
-    pub fn split(&mut self) -> Option<Token<T>>
+    pub fn split(&mut self) -> Option<Token<E, T>>
         ensures same { IsSame self.old self.new }
         ensures left { seen self.new ≡ seen self.old }
         ensures table { IfSome result (λ t. table_of t ≡ table_of self.old) }
@@ -26,19 +27,21 @@ impl<T: Words> Held<T, RingRule<T>> {
             seat,
             board,
             capacity: self.capacity,
+            of: PhantomData,
         })
     }
 
     /// Takes in what the other token knows. Two loads of the write position.
-    pub fn join(&mut self, other: Token<T>)
+    pub fn join(&mut self, other: Token<E, T>)
         requires table { table_of other ≡ table_of self.old }
         ensures same { IsSame self.old self.new }
         ensures both { seen self.new ≡ joined (seen self.old) (seen other) }
         ensures rule { Ruled (seen self.old) (seen other) }
         ensures sound { Sound (seen self.new) }
+        ensures order { E.SPARE ≡ 0 → InOrder (seen self.old) (seen other) }
     {
         let Held { seat, .. } = other;
         self.board.shared.join_seat::<Both>(&mut self.seat, seat);
-        self.board.shared.load::<Learns>(&mut self.seat, 0);
+        self.board.shared.load::<Learns<E>>(&mut self.seat, 0);
     }
 }

@@ -1,9 +1,11 @@
 //! What each step on a ring's table tells. These types are for the proofs alone.
 ghost use Rattle.lock_free_sp.specs.Ring.Views.{blank, joined};
-ghost use Rattle.lock_free_sp.specs.Ring.Tells.{tells, took_producer, left_producer, took_consumer, left_consumer, saw_write, saw_room, stored, published_at, saw_read, saw_value, loaded, taken_at, len_saw_write, len_saw_read, len_saw_again, learned};
+ghost use Rattle.lock_free_sp.specs.Ring.Tells.{tells, took_producer, left_producer, took_consumer, left_consumer, saw_write, saw_room, stored, published_at, saw_read, saw_value, loaded, taken_at, len_saw_write, len_saw_read, len_saw_again, learned, saw_front, published_over, took_back, loaded_back, saw_front_to_pop, saw_some, copied, took_front};
 
+use super::rule::Spare;
 use super::view::View;
 use atomic_table::{Join, Play, Split};
+use std::marker::PhantomData;
 use steps::words::Words;
 
 /// An exchange of the producer's role.
@@ -90,6 +92,62 @@ impl<T: Words> Play<(), View<T>> for Takes {
     ghost then = { tells taken_at };
 }
 
+/// A push's load of the read position, in the overflowing queue.
+pub struct SeesFront;
+
+impl<T: Words> Play<(), View<T>> for SeesFront {
+    ghost then = { tells saw_front };
+}
+
+/// A push's store of the write position, in the overflowing queue.
+pub struct PublishesOver;
+
+impl<T: Words> Play<(), View<T>> for PublishesOver {
+    ghost then = { tells (published_over T.words_of) };
+}
+
+/// A push's exchange of the read position.
+pub struct TakesBack;
+
+impl<T: Words> Play<(), View<T>> for TakesBack {
+    ghost then = { tells (took_back T.words_of) };
+}
+
+/// A push's load of the cell that it has taken.
+pub struct LoadsBack;
+
+impl<T: Words> Play<(), View<T>> for LoadsBack {
+    ghost then = { tells loaded_back };
+}
+
+/// A pop's load of the read position, in the overflowing queue.
+pub struct SeesFrontToPop;
+
+impl<T: Words> Play<(), View<T>> for SeesFrontToPop {
+    ghost then = { tells saw_front_to_pop };
+}
+
+/// A pop's load of the write position, in the overflowing queue.
+pub struct SeesSome;
+
+impl<T: Words> Play<(), View<T>> for SeesSome {
+    ghost then = { tells saw_some };
+}
+
+/// A pop's load of a cell that a push may take.
+pub struct Copies;
+
+impl<T: Words> Play<(), View<T>> for Copies {
+    ghost then = { tells copied };
+}
+
+/// A pop's exchange of the read position.
+pub struct TakesFront;
+
+impl<T: Words> Play<(), View<T>> for TakesFront {
+    ghost then = { tells (took_front T.words_of) };
+}
+
 /// The first load of a length, of the write position.
 pub struct LenSeesWrite;
 
@@ -105,17 +163,21 @@ impl<T: Words> Play<(), View<T>> for LenSeesRead {
 }
 
 /// Its third load, of the write position.
-pub struct LenSeesAgain;
+pub struct LenSeesAgain<E> {
+    of: PhantomData<E>,
+}
 
-impl<T: Words> Play<(), View<T>> for LenSeesAgain {
-    ghost then = { tells len_saw_again };
+impl<E: Spare, T: Words> Play<(), View<T>> for LenSeesAgain<E> {
+    ghost then = { tells (len_saw_again E.SPARE) };
 }
 
 /// A load that shows how the pairs that the seat knows fit together.
-pub struct Learns;
+pub struct Learns<E> {
+    of: PhantomData<E>,
+}
 
-impl<T: Words> Play<(), View<T>> for Learns {
-    ghost then = { tells learned };
+impl<E: Spare, T: Words> Play<(), View<T>> for Learns<E> {
+    ghost then = { tells (learned E.SPARE) };
 }
 
 /// A new seat that knows nothing.

@@ -1,24 +1,61 @@
 //! The rule of a ring's table.
 //!
 //! The words are those of `steps::ring`: write position, read position, the two roles, and the cells.
+ghost use Rattle.std.specs.Prelude.{ℕ, ◌≤◌};
+
 use super::view::View;
 use atomic_table::{Table, TableRule};
 use std::alloc::Global;
 use std::marker::PhantomData;
 use steps::words::Words;
 
-/// The rule, for the capacity that is the key.
-pub struct RingRule<T> {
-    of: PhantomData<T>,
+/// How many cells a ring has beyond its capacity.
+pub trait Spare {
+    const SPARE: u64;
+
+    ghost SPARE: { ℕ };
+
+    ghost few: { SPARE ≤ 1 };
 }
 
-impl<T: Words> TableRule<(), View<T>, u64> for RingRule<T> {
+/// The queue that refuses a push where it is full.
+pub struct Bounded;
+
+impl Spare for Bounded {
+    ghost use Rattle.std.proofs.Common.{zero-le};
+
+    const SPARE: u64 = 0;
+
+    ghost SPARE = { 0 };
+
+    ghost few = { zero-le };
+}
+
+/// The queue that hands its oldest value back where it is full. It keeps a cell for the value that pushes it out.
+pub struct Overflowing;
+
+impl Spare for Overflowing {
+    ghost use Rattle.std.proofs.Common.{le_refl};
+
+    const SPARE: u64 = 1;
+
+    ghost SPARE = { 1 };
+
+    ghost few = { le_refl 1 };
+}
+
+/// The rule, for the capacity that is the key.
+pub struct RingRule<E, T> {
+    of: PhantomData<(E, T)>,
+}
+
+impl<E: Spare, T: Words> TableRule<(), View<T>, u64> for RingRule<E, T> {
     ghost use Rattle.lock_free_sp.specs.Ring.Kept.{Kept};
     ghost use Rattle.lock_free_sp.specs.Ring.Views.{blank};
 
-    ghost holds = { λ capacity. Kept T.words_of T.WORDS capacity };
+    ghost holds = { λ capacity. Kept T.words_of T.WORDS E.SPARE capacity };
 
     ghost first = { λ capacity. blank capacity };
 }
 
-pub type Board<T> = Table<(), View<T>, u64, RingRule<T>, Global>;
+pub type Board<E, T> = Table<(), View<T>, u64, RingRule<E, T>, Global>;

@@ -9,8 +9,12 @@ pub enum PushStage {
     Ready,
     /// It has loaded the write position.
     SawWrite(u64),
-    /// There is room at this position, and these words stand in its cell so far.
-    Storing(u64, LinkedList<u64>),
+    /// There is room at this position, for this read position, and these words stand in its cell so far.
+    Storing(u64, u64, LinkedList<u64>),
+    /// It has published past the capacity, for this read position.
+    Full(u64),
+    /// It has taken at this position, in whose cell these words stand.
+    HandsBack(u64, LinkedList<u64>),
 }
 
 /// Where a seat's pop stands.
@@ -23,6 +27,10 @@ pub enum PopStage<T> {
     SawRead(u64),
     /// This value waits at the read position.
     SawValue(u64, T),
+    /// Something waits, at this read position or behind it.
+    SawSome(u64),
+    /// These words are of the value at this read position, if it has not moved.
+    Copied(u64, LinkedList<u64>),
 }
 
 /// Where a seat's look at the length stands.

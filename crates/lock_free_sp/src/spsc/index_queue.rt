@@ -5,7 +5,7 @@ ghost use Rattle.lock_free_sp.specs.declared.ring.view.PushStage.TheVariants as 
 ghost use Rattle.lock_free_sp.specs.declared.ring.view.PopStage.TheVariants as popping;
 ghost use Rattle.lock_free_sp.specs.declared.ring.view.LenStage.TheVariants as lengths;
 
-use crate::ring::rule::Board;
+use crate::ring::rule::{Board, Bounded};
 use crate::ring::token::Token;
 use std::alloc::Global;
 use std::sync::Arc;
@@ -17,7 +17,7 @@ mod fixed;
 /// After `IndexQueue` of the Rust crate.
 #[derive(Drop)]
 pub struct IndexQueue {
-    board: Arc<Board<u64>, Global>,
+    board: Arc<Board<Bounded, u64>, Global>,
     capacity: u32,
     ghost sized: { (arc_value board).shared.table_id.words ≡ capacity + 4 },
 }
@@ -34,7 +34,7 @@ pub struct FixedSizeIndexQueue<const CAPACITY: usize> {
 /// This project's own.
 #[derive(Drop)]
 pub struct Pass {
-    token: Token<u64>,
+    token: Token<Bounded, u64>,
     ghost idle: { (token.seat.me.0.push ≡ pushing.Away) × (token.seat.me.0.last_push ≡ None) × (token.seat.me.0.pop ≡ popping.Away) × (token.seat.me.0.last_pop ≡ None) × (token.seat.me.0.len ≡ lengths.Idle) },
 }
 
@@ -42,7 +42,7 @@ pub struct Pass {
 /// role back when it is dropped. After `Producer` of the Rust crate.
 pub struct Producer<'a> {
     queue: &'a IndexQueue,
-    token: Token<u64>,
+    token: Token<Bounded, u64>,
     ghost role: { (token.seat.me.0.push ≡ pushing.Ready) × (token.seat.me.0.pop ≡ popping.Away) × (token.seat.me.0.last_pop ≡ None) × (token.seat.me.0.len ≡ lengths.Idle) },
 }
 
@@ -50,7 +50,7 @@ pub struct Producer<'a> {
 /// role back when it is dropped. After `Consumer` of the Rust crate.
 pub struct Consumer<'a> {
     queue: &'a IndexQueue,
-    token: Token<u64>,
+    token: Token<Bounded, u64>,
     ghost role: { (token.seat.me.0.pop ≡ popping.Ready) × (token.seat.me.0.push ≡ pushing.Away) × (token.seat.me.0.last_push ≡ None) × (token.seat.me.0.len ≡ lengths.Idle) },
 }
 

@@ -1,5 +1,5 @@
 -- The loads of a length keep the rule, and so does a look at what a seat knows.
-use Rattle.std.proofs.Common.{◌≡◌, ℕ, List, get_or, sym, refl, ap, subst, ◌∙◌, arith, le_refl}
+use Rattle.std.proofs.Common.{◌≡◌, ℕ, ◌+◌, List, get_or, sym, refl, ap, subst, ◌∙◌, arith, le_refl}
 use Rattle.atomic_table.specs.Table.{Me, Allows, step, keeps}
 use Rattle.lock_free_sp.specs.declared.ring.view.LenStage.{LenStage}
 use Rattle.lock_free_sp.specs.declared.ring.view.LenStage.TheVariants as lengths
@@ -7,7 +7,7 @@ use Rattle.lock_free_sp.specs.declared.ring.view.View.{View}
 use Rattle.lock_free_sp.specs.Ring.Views.{with_len}
 use Rattle.lock_free_sp.specs.Ring.Kept.{Kept, KnowsLen, face}
 use Rattle.lock_free_sp.specs.Ring.Tells.{tells, len_saw_write, len_saw_read, len_saw_again, learned}
-use Rattle.lock_free_sp.proofs.Rules.Ring.Stays.{knows_len, sound, St, looks}
+use Rattle.lock_free_sp.proofs.Rules.Ring.Stays.{knows_len, sound, in_order, St, looks}
 use mathlib.Core.Option.{none}
 
 abbrev loaded_write : LenStage → ℕ
@@ -20,9 +20,9 @@ loaded_read lengths.Idle = 0
 loaded_read (lengths.SawWrite p) = 0
 loaded_read (lengths.SawBoth p r) = r
 
-module _ {T : Type 0} (words_of : T → List ℕ) (n : ℕ) (capacity : ℕ) (slots id : ℕ) (m : Me (Unit {0}) (View T)) where
-  abbrev H : St words_of n capacity → Type 0
-  H = Kept words_of n capacity
+module _ {T : Type 0} (words_of : T → List ℕ) (n : ℕ) (spare capacity : ℕ) (slots id : ℕ) (m : Me (Unit {0}) (View T)) where
+  abbrev H : St words_of n spare capacity → Type 0
+  H = Kept words_of n spare capacity
 
   abbrev v : View T
   v = m.0
@@ -32,29 +32,29 @@ module _ {T : Type 0} (words_of : T → List ℕ) (n : ℕ) (capacity : ℕ) (sl
   len_sees_write s r wide at small =
       let stage : LenStage = lengths.SawWrite (get_or s.words 0 0) in
       let k = r.seats id v at in
-      (with_len stage v, keeps, tt, looks words_of n capacity s r 0 id m.1 (with_len stage v) (knows_len capacity (face capacity n s.words) r.book id v k stage (le_refl (get_or s.words 0 0))), (refl, refl))
+      (with_len stage v, keeps, tt, looks words_of n spare capacity s r 0 id m.1 (with_len stage v) (knows_len words_of spare capacity (face (capacity + spare) n s.words) r.book id v k stage (le_refl (get_or s.words 0 0))), (refl, refl))
 
   -- the second load, of the read position
   pub len_sees_read : (p : ℕ) → v.len ≡ lengths.SawWrite p → Allows H slots id m 1 (λ x. x) (tells len_saw_read (step slots 1 0 0 none) m)
   len_sees_read p is s r wide at small =
       let found : ℕ = get_or s.words 1 0 in
-      let f = face capacity n s.words in
+      let f = face (capacity + spare) n s.words in
       let k = r.seats id v at in
-      let mine = subst (KnowsLen capacity f r.book id) is k.len in
+      let mine = subst (KnowsLen words_of spare capacity f r.book id) is k.len in
       let stage : LenStage = lengths.SawBoth p found in (
         with_len stage v,
         keeps,
         tt,
-        looks words_of n capacity s r 1 id m.1 (with_len stage v) (knows_len capacity f r.book id v k stage (f.write, mine, le_refl f.write, r.fits.behind, r.fits.within)),
+        looks words_of n spare capacity s r 1 id m.1 (with_len stage v) (knows_len words_of spare capacity f r.book id v k stage (f.write, mine, le_refl f.write, r.fits.behind, r.fits.within)),
         ((λ q e. ap (λ z. with_len (lengths.SawBoth z found) v) (ap loaded_write (sym is ∙ e))), refl),
       )
 
   -- the third load, of the write position again
-  pub len_sees_again : (p q : ℕ) → v.len ≡ lengths.SawBoth p q → v.capacity ≡ capacity → Allows H slots id m 0 (λ x. x) (tells len_saw_again (step slots 0 0 0 none) m)
+  pub len_sees_again : (p q : ℕ) → v.len ≡ lengths.SawBoth p q → v.capacity ≡ capacity → Allows H slots id m 0 (λ x. x) (tells (len_saw_again spare) (step slots 0 0 0 none) m)
   len_sees_again p q is cap s r wide at small =
-      let f = face capacity n s.words in
+      let f = face (capacity + spare) n s.words in
       let k = r.seats id v at in
-      let mine = subst (KnowsLen capacity f r.book id) is k.len in
+      let mine = subst (KnowsLen words_of spare capacity f r.book id) is k.len in
       let from = mine.1 in
       let to = mine.2 in
       let behind = mine.3 in
@@ -62,7 +62,7 @@ module _ {T : Type 0} (words_of : T → List ℕ) (n : ℕ) (capacity : ℕ) (sl
         with_len lengths.Idle v,
         keeps,
         tt,
-        looks words_of n capacity s r 0 id m.1 (with_len lengths.Idle v) (knows_len capacity f r.book id v k lengths.Idle tt),
+        looks words_of n spare capacity s r 0 id m.1 (with_len lengths.Idle v) (knows_len words_of spare capacity f r.book id v k lengths.Idle tt),
         (
           (λ p' q' e.
               let one : p ≡ p' = ap loaded_write (sym is ∙ e) in
@@ -73,7 +73,7 @@ module _ {T : Type 0} (words_of : T → List ℕ) (n : ℕ) (capacity : ℕ) (sl
       )
 
   -- a look at what the seat knows
-  pub learns : (word : ℕ) → v.capacity ≡ capacity → Allows H slots id m word (λ x. x) (tells learned (step slots word 0 0 none) m)
+  pub learns : (word : ℕ) → v.capacity ≡ capacity → Allows H slots id m word (λ x. x) (tells (learned spare) (step slots word 0 0 none) m)
   learns word cap s r wide at small =
       let k = r.seats id v at in
-      (v, keeps, tt, looks words_of n capacity s r word id m.1 v k, ((refl, sound capacity (face capacity n s.words) r.book id v k r.fits.behind r.fits.within cap), refl))
+      (v, keeps, tt, looks words_of n spare capacity s r word id m.1 v k, ((refl, sound words_of spare capacity (face (capacity + spare) n s.words) r.book id v k r.fits.behind, in_order words_of spare capacity (face (capacity + spare) n s.words) r.book id v k r.fits.within cap), refl))

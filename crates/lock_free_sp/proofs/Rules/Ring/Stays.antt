@@ -3,7 +3,9 @@ use Rattle.std.proofs.Common.{◌≡◌, ◌≢◌, ℕ, ◌+◌, ◌<◌, ◌�
 use Rattle.std.specs.Prelude.{Option, Some, None}
 use Rattle.std.specs.List.{All}
 use Rattle.std.proofs.lemmas.List.Elements.{All-weaker}
+use mathlib.Core.Logic.{dite}
 use mathlib.Core.Option.{some}
+use native.Mathlib.Decide.{dec_lt}
 use lib.ListN.{get_elem?}
 use lib.Seq.{set-get_or}
 use Rattle.atomic_table.specs.Table.{State, keeps, stepped}
@@ -16,7 +18,7 @@ use Rattle.lock_free_sp.specs.declared.ring.view.LenStage.{LenStage}
 use Rattle.lock_free_sp.specs.declared.ring.view.LenStage.TheVariants as lengths
 use Rattle.lock_free_sp.specs.declared.ring.view.View.{View}
 use Rattle.lock_free_sp.specs.Ring.Views.{with_push, with_pop, with_len}
-use Rattle.lock_free_sp.specs.Ring.Between.{Sound}
+use Rattle.lock_free_sp.specs.Ring.Between.{Sound, InOrder}
 use Rattle.lock_free_sp.specs.Ring.Kept.{Face, Book, face, Produces, Consumes, KnowsPush, KnowsPop, KnowsLen, IsPublished, IsTaken, Knows, Fits, Kept}
 use Rattle.lock_free_sp.specs.Ring.Tells.{place}
 
@@ -38,7 +40,7 @@ number (Some x) = x
 pub same_some : (x y : ℕ) → Some x ≡ Some y → x ≡ y
 same_some x y e = ap number e
 
-module _ {T : Type 0} (capacity : ℕ) (f g : Face) (b c : Book T) (j : ℕ) where
+module _ {T : Type 0} (words_of : T → List ℕ) (spare capacity : ℕ) (f g : Face) (b c : Book T) (j : ℕ) where
   -- positions only go up, and what is written of them stays
   pub record Onwards : Type 0 where
     pub behind : f.read ≤ f.write
@@ -49,10 +51,10 @@ module _ {T : Type 0} (capacity : ℕ) (f g : Face) (b c : Book T) (j : ℕ) whe
     pub taker : (p : ℕ) → p < f.read → b.taker p ≡ j → c.taker p ≡ j
 
   abbrev pub LeavesPush : Type 0
-  LeavesPush = Produces capacity f b j → Produces capacity g c j × (g.write ≡ f.write) × ((p i : ℕ) → g.cell p i ≡ f.cell p i)
+  LeavesPush = Produces words_of spare capacity f b j → Produces words_of spare capacity g c j × (g.write ≡ f.write) × ((p i : ℕ) → g.cell p i ≡ f.cell p i)
 
   abbrev pub LeavesPop : Type 0
-  LeavesPop = Consumes capacity f b j → Consumes capacity g c j × (g.read ≡ f.read)
+  LeavesPop = Consumes words_of spare capacity f b j → Consumes words_of spare capacity g c j × (f.read < g.read → g.read < g.write) × (spare ≡ 0 → g.read ≡ f.read)
 
   -- how another seat's step may change what the seat j sees
   pub record Passes : Type 0 where
@@ -60,54 +62,80 @@ module _ {T : Type 0} (capacity : ℕ) (f g : Face) (b c : Book T) (j : ℕ) whe
     pub push : LeavesPush
     pub pop : LeavesPop
 
-  pub push_stays : Onwards → LeavesPush → (stage : PushStage) → KnowsPush capacity f b j stage → KnowsPush capacity g c j stage
+  pub push_stays : Onwards → LeavesPush → (stage : PushStage) → KnowsPush words_of spare capacity f b j stage → KnowsPush words_of spare capacity g c j stage
   push_stays t l pushing.Away k = tt
-  push_stays t l pushing.Ready k = (l k).0
-  push_stays t l (pushing.SawWrite p) k = let h = l k.0 in (h.0, h.1 ∙ k.1, k.2)
-  push_stays t l (pushing.Storing p ws) k =
+  push_stays t l pushing.Ready k = let h = l k.0 in let same = h.1 in let few = k.1 in let up = t.read in (h.0, omega arith)
+  push_stays t l (pushing.SawWrite p) k = let h = l k.0 in let few = k.3 in let up = t.read in (h.0, h.1 ∙ k.1, k.2, omega arith)
+  push_stays t l (pushing.Storing p r₀ ws) k =
       let h = l k.0 in
-      let room = k.3 in
+      let low = k.3 in
       let up = t.read in
-      (h.0, h.1 ∙ k.1, k.2, omega arith, λ i lt. h.2 p i ∙ k.4 i lt)
+      (h.0, h.1 ∙ k.1, k.2, omega arith, k.4, λ i lt. h.2 p i ∙ k.5 i lt)
+  push_stays t l (pushing.Full r₀) k = let h = l k.0 in let low = k.2 in let up = t.read in (h.0, h.1 ∙ k.1, omega arith)
+  push_stays t l (pushing.HandsBack r₀ ws) k =
+      let h = l k.0 in
+      let same = h.1 in
+      let few = k.1 in
+      let up = t.read in
+      (h.0, omega arith, λ i lt. h.2 r₀ i ∙ k.2 i lt)
 
-  pub pop_stays : Onwards → LeavesPop → (stage : PopStage T) → KnowsPop capacity f b j stage → KnowsPop capacity g c j stage
+  -- what waits goes on waiting
+  pub some_stays : Onwards → (f.read < g.read → g.read < g.write) → f.read < f.write → g.read < g.write
+  some_stays t moved waits = let up = t.read in let on = t.write in dite (dec_lt f.read g.read) moved (λ still. omega arith)
+
+  pub pop_stays : Onwards → LeavesPop → (stage : PopStage T) → KnowsPop words_of spare capacity f b j stage → KnowsPop words_of spare capacity g c j stage
   pop_stays t l popping.Away k = tt
   pop_stays t l popping.Ready k = (l k).0
-  pop_stays t l (popping.SawRead p) k = let h = l k.0 in (h.0, h.1 ∙ k.1)
+  pop_stays t l (popping.SawRead p) k = let h = l k.0 in let low = k.1 in let up = t.read in
+      (h.0, omega arith, (λ past. dite (dec_lt p f.read) (λ was. some_stays t h.1 (k.2 was)) (λ not. h.1 (omega arith))), λ exact. h.2 exact ∙ k.3 exact)
   pop_stays t l (popping.SawValue p x) k =
       let h = l k.0 in
-      let waits = k.2 in
+      let waits = k.3 in
       let up = t.write in
-      (h.0, h.1 ∙ k.1, omega arith, t.log p k.2 ∙ k.3)
+      (h.0, k.1, h.2 k.1 ∙ k.2, omega arith, t.log p k.3 ∙ k.4)
+  pop_stays t l (popping.SawSome p) k = let h = l k.0 in let low = k.1 in let up = t.read in (h.0, omega arith, some_stays t h.1 k.2)
+  pop_stays t l (popping.Copied p ws) k =
+      let h = l k.0 in
+      let low = k.1 in
+      let some = k.2 in
+      let up = t.read in (
+        h.0,
+        omega arith,
+        some_stays t h.1 k.2,
+        λ e i lt.
+            let still : f.read ≡ p = omega arith in
+            let below : p < f.write = omega arith in
+            ap (λ z. get_or (words_of z) i 0) (t.log p below) ∙ k.3 still i lt,
+      )
 
-  pub len_stays : Onwards → (stage : LenStage) → KnowsLen capacity f b j stage → KnowsLen capacity g c j stage
+  pub len_stays : Onwards → (stage : LenStage) → KnowsLen words_of spare capacity f b j stage → KnowsLen words_of spare capacity g c j stage
   len_stays t lengths.Idle k = tt
   len_stays t (lengths.SawWrite w) k = let up = t.write in omega arith
   len_stays t (lengths.SawBoth w r) k = let up = t.write in let now = k.2 in (k.0, k.1, omega arith, k.3, k.4)
 
-  pub last_push_stays : LeavesPush → (o : Option ℕ) → ((p : ℕ) → o ≡ Some p → Produces capacity f b j × (f.write ≡ p + 1)) → (p : ℕ) → o ≡ Some p → Produces capacity g c j × (g.write ≡ p + 1)
+  pub last_push_stays : LeavesPush → (o : Option ℕ) → ((p : ℕ) → o ≡ Some p → Produces words_of spare capacity f b j × (f.write ≡ p + 1)) → (p : ℕ) → o ≡ Some p → Produces words_of spare capacity g c j × (g.write ≡ p + 1)
   last_push_stays l o k p e = let h = k p e in let now = l h.0 in (now.0, now.1 ∙ h.1)
 
-  pub last_pop_stays : LeavesPop → (o : Option ℕ) → ((p : ℕ) → o ≡ Some p → Consumes capacity f b j × (f.read ≡ p + 1)) → (p : ℕ) → o ≡ Some p → Consumes capacity g c j × (g.read ≡ p + 1)
-  last_pop_stays l o k p e = let h = k p e in let now = l h.0 in (now.0, now.1 ∙ h.1)
+  pub last_pop_stays : LeavesPop → (o : Option ℕ) → ((p : ℕ) → o ≡ Some p → Consumes words_of spare capacity f b j × (p < f.read) × (spare ≡ 0 → f.read ≡ p + 1)) → f.read ≤ g.read → (p : ℕ) → o ≡ Some p → Consumes words_of spare capacity g c j × (p < g.read) × (spare ≡ 0 → g.read ≡ p + 1)
+  last_pop_stays l o k up p e = let h = k p e in let now = l h.0 in let low = h.1 in (now.0, omega arith, λ exact. now.2 exact ∙ h.2 exact)
 
-  pub published_stays : Onwards → (xs : List (ℕ × T)) → All (IsPublished capacity f b j) xs → All (IsPublished capacity g c j) xs
+  pub published_stays : Onwards → (xs : List (ℕ × T)) → All (IsPublished words_of spare capacity f b j) xs → All (IsPublished words_of spare capacity g c j) xs
   published_stays t xs h =
-      All-weaker (IsPublished capacity f b j) (IsPublished capacity g c j)
+      All-weaker (IsPublished words_of spare capacity f b j) (IsPublished words_of spare capacity g c j)
       (λ x k. let low = k.0 in let up = t.write in (omega arith, t.log x.0 k.0 ∙ k.1, t.publisher x.0 k.0 k.2)) xs h
 
-  pub taken_stays : Onwards → (xs : List (ℕ × T)) → All (IsTaken capacity f b j) xs → All (IsTaken capacity g c j) xs
+  pub taken_stays : Onwards → (xs : List (ℕ × T)) → All (IsTaken words_of spare capacity f b j) xs → All (IsTaken words_of spare capacity g c j) xs
   taken_stays t xs h =
-      All-weaker (IsTaken capacity f b j) (IsTaken capacity g c j)
+      All-weaker (IsTaken words_of spare capacity f b j) (IsTaken words_of spare capacity g c j)
       (λ x k. let low = k.0 in let up = t.read in let behind = t.behind in (omega arith, t.log x.0 (omega arith) ∙ k.1, t.taker x.0 k.0 k.2)) xs h
 
-  pub stays : Passes → (v : View T) → Knows capacity f b j v → Knows capacity g c j v
+  pub stays : Passes → (v : View T) → Knows words_of spare capacity f b j v → Knows words_of spare capacity g c j v
   stays t v k =
       record {
         push = push_stays t.onwards t.push v.push k.push;
         last_push = last_push_stays t.push v.last_push k.last_push;
         pop = pop_stays t.onwards t.pop v.pop k.pop;
-        last_pop = last_pop_stays t.pop v.last_pop k.last_pop;
+        last_pop = last_pop_stays t.pop v.last_pop k.last_pop t.onwards.read;
         len = len_stays t.onwards v.len k.len;
         published = published_stays t.onwards v.published k.published;
         taken = taken_stays t.onwards v.taken k.taken;
@@ -115,8 +143,8 @@ module _ {T : Type 0} (capacity : ℕ) (f g : Face) (b c : Book T) (j : ℕ) whe
         taken_once = k.taken_once;
       }
 
-module _ {T : Type 0} (capacity : ℕ) (f : Face) (b : Book T) (j : ℕ) (v : View T) (k : Knows capacity f b j v) where
-  pub knows_push : (stage : PushStage) → KnowsPush capacity f b j stage → Knows capacity f b j (with_push stage v)
+module _ {T : Type 0} (words_of : T → List ℕ) (spare capacity : ℕ) (f : Face) (b : Book T) (j : ℕ) (v : View T) (k : Knows words_of spare capacity f b j v) where
+  pub knows_push : (stage : PushStage) → KnowsPush words_of spare capacity f b j stage → Knows words_of spare capacity f b j (with_push stage v)
   knows_push stage h =
       record {
         push = h;
@@ -130,7 +158,7 @@ module _ {T : Type 0} (capacity : ℕ) (f : Face) (b : Book T) (j : ℕ) (v : Vi
         taken_once = k.taken_once;
       }
 
-  pub knows_pop : (stage : PopStage T) → KnowsPop capacity f b j stage → Knows capacity f b j (with_pop stage v)
+  pub knows_pop : (stage : PopStage T) → KnowsPop words_of spare capacity f b j stage → Knows words_of spare capacity f b j (with_pop stage v)
   knows_pop stage h =
       record {
         push = k.push;
@@ -144,7 +172,7 @@ module _ {T : Type 0} (capacity : ℕ) (f : Face) (b : Book T) (j : ℕ) (v : Vi
         taken_once = k.taken_once;
       }
 
-  pub knows_len : (stage : LenStage) → KnowsLen capacity f b j stage → Knows capacity f b j (with_len stage v)
+  pub knows_len : (stage : LenStage) → KnowsLen words_of spare capacity f b j stage → Knows words_of spare capacity f b j (with_len stage v)
   knows_len stage h =
       record {
         push = k.push;
@@ -159,8 +187,8 @@ module _ {T : Type 0} (capacity : ℕ) (f : Face) (b : Book T) (j : ℕ) (v : Vi
       }
 
   -- the pairs of one seat fit together
-  pub sound : f.read ≤ f.write → f.write ≤ f.read + capacity → v.capacity ≡ capacity → Sound v
-  sound behind within is =
+  pub sound : f.read ≤ f.write → Sound v
+  sound behind =
       record {
         published = k.published_once;
         taken = k.taken_once;
@@ -170,38 +198,41 @@ module _ {T : Type 0} (capacity : ℕ) (f : Face) (b : Book T) (j : ℕ) (v : Vi
             sym x.1 ∙ (ap b.log same ∙ y.1);
         last_push = λ p e.
             let at = (k.last_push p e).1 in (
-              All-weaker (IsPublished capacity f b j) (λ x. x.0 < p + 1) (λ x h. let low = h.0 in omega arith) v.published k.published,
-              All-weaker (IsTaken capacity f b j) (λ x. x.0 < p + 1) (λ x h. let low = h.0 in omega arith) v.taken k.taken,
-            );
-        last_pop = λ p e.
-            let at = (k.last_pop p e).1 in (
-              All-weaker (IsTaken capacity f b j) (λ x. x.0 ≤ p) (λ x h. let low = h.0 in omega arith) v.taken k.taken,
-              All-weaker (IsPublished capacity f b j) (λ x. x.0 ≤ p + v.capacity) (λ x h. let low = h.0 in omega arith) v.published k.published,
+              All-weaker (IsPublished words_of spare capacity f b j) (λ x. x.0 < p + 1) (λ x h. let low = h.0 in omega arith) v.published k.published,
+              All-weaker (IsTaken words_of spare capacity f b j) (λ x. x.0 < p + 1) (λ x h. let low = h.0 in omega arith) v.taken k.taken,
             );
       }
 
-module _ {T : Type 0} (words_of : T → List ℕ) (n : ℕ) (capacity : ℕ) where
+  -- where nobody else takes
+  pub in_order : f.write ≤ f.read + capacity + spare → v.capacity ≡ capacity → spare ≡ 0 → InOrder v v
+  in_order within is exact p e =
+      let at = (k.last_pop p e).2 exact in (
+        All-weaker (IsTaken words_of spare capacity f b j) (λ x. x.0 ≤ p) (λ x h. let low = h.0 in omega arith) v.taken k.taken,
+        All-weaker (IsPublished words_of spare capacity f b j) (λ x. x.0 ≤ p + v.capacity) (λ x h. let low = h.0 in omega arith) v.published k.published,
+      )
+
+module _ {T : Type 0} (words_of : T → List ℕ) (n : ℕ) (spare capacity : ℕ) where
   abbrev pub St : Type 0
   St = State (Unit {0}) (View T)
 
   -- the seat id steps, and the others know what they knew
-  pub steps : (s : St) (r : Kept words_of n capacity s) (ws : List ℕ) (id : ℕ) (w : View T) (c : Book T) → length ws ≡ length s.words
-      → Fits words_of n capacity (face capacity n ws) c.log → Knows capacity (face capacity n ws) c id w
-      → ((j : ℕ) → j ≢ id → Passes capacity (face capacity n s.words) (face capacity n ws) r.book c j)
-      → Kept words_of n capacity record { words = ws; homes = s.homes; views = set s.views id w }
+  pub steps : (s : St) (r : Kept words_of n spare capacity s) (ws : List ℕ) (id : ℕ) (w : View T) (c : Book T) → length ws ≡ length s.words
+      → Fits words_of n spare capacity (face (capacity + spare) n ws) c.log → Knows words_of spare capacity (face (capacity + spare) n ws) c id w
+      → ((j : ℕ) → j ≢ id → Passes words_of spare capacity (face (capacity + spare) n s.words) (face (capacity + spare) n ws) r.book c j)
+      → Kept words_of n spare capacity record { words = ws; homes = s.homes; views = set s.views id w }
   steps s r ws id w c long fits mine others =
       record {
         book = c;
         wide = long ∙ r.wide;
         fits = fits;
         seats = λ j v e. ⊎_elim
-            (λ (t : (j ≡ id) × (w ≡ v)). subst (λ (x : ℕ × View T). Knows capacity (face capacity n ws) c x.0 x.1) (λ i. (sym t.0 i, t.1 i)) mine)
-            (λ (t : (j ≢ id) × (get_elem? s.views j ≡ some v)). stays capacity (face capacity n s.words) (face capacity n ws) r.book c j (others j t.0) v (r.seats j v t.1))
+            (λ (t : (j ≡ id) × (w ≡ v)). subst (λ (x : ℕ × View T). Knows words_of spare capacity (face (capacity + spare) n ws) c x.0 x.1) (λ i. (sym t.0 i, t.1 i)) mine)
+            (λ (t : (j ≢ id) × (get_elem? s.views j ≡ some v)). stays words_of spare capacity (face (capacity + spare) n s.words) (face (capacity + spare) n ws) r.book c j (others j t.0) v (r.seats j v t.1))
             (at_set s.views id j w v e);
       }
 
   -- nothing that a seat sees changes
-  pub onwards_same : (f : Face) (b : Book T) (j : ℕ) → f.read ≤ f.write → Onwards capacity f f b b j
+  pub onwards_same : (f : Face) (b : Book T) (j : ℕ) → f.read ≤ f.write → Onwards words_of spare capacity f f b b j
   onwards_same f b j behind =
       record {
         behind = behind;
@@ -213,12 +244,12 @@ module _ {T : Type 0} (words_of : T → List ℕ) (n : ℕ) (capacity : ℕ) whe
       }
 
   -- a step that changes no word
-  pub looks : (s : St) (r : Kept words_of n capacity s) (word id : ℕ) (held : List (ℕ × Unit {0})) (w : View T) → Knows capacity (face capacity n s.words) r.book id w
-      → Kept words_of n capacity (stepped s word (get_or s.words word 0) id held w keeps)
+  pub looks : (s : St) (r : Kept words_of n spare capacity s) (word id : ℕ) (held : List (ℕ × Unit {0})) (w : View T) → Knows words_of spare capacity (face (capacity + spare) n s.words) r.book id w
+      → Kept words_of n spare capacity (stepped s word (get_or s.words word 0) id held w keeps)
   looks s r word id held w mine =
-      subst (λ (ws : List ℕ). Kept words_of n capacity record { words = ws; homes = s.homes; views = set s.views id w }) (sym (set-get_or s.words word 0))
-      (steps s r s.words id w r.book refl r.fits mine (λ j other. record { onwards = onwards_same (face capacity n s.words) r.book j r.fits.behind; push = λ k. (k, refl, λ p i. refl); pop = λ k. (k, refl) }))
+      subst (λ (ws : List ℕ). Kept words_of n spare capacity record { words = ws; homes = s.homes; views = set s.views id w }) (sym (set-get_or s.words word 0))
+      (steps s r s.words id w r.book refl r.fits mine (λ j other. record { onwards = onwards_same (face (capacity + spare) n s.words) r.book j r.fits.behind; push = λ k. (k, refl, λ p i. refl); pop = λ k. (k, (λ moved. absurd (omega arith)), λ _. refl) }))
 
   -- a step that changes one of the first four words leaves the cells
-  pub cells_stay : (ws : List ℕ) (word x : ℕ) → word < 4 → (p i : ℕ) → (face capacity n (set ws word x)).cell p i ≡ (face capacity n ws).cell p i
-  cells_stay ws word x low p i = get_or-set_other ws word (place capacity n p i) x 0 (λ e. absurd (omega arith))
+  pub cells_stay : (ws : List ℕ) (word x : ℕ) → word < 4 → (p i : ℕ) → (face (capacity + spare) n (set ws word x)).cell p i ≡ (face (capacity + spare) n ws).cell p i
+  cells_stay ws word x low p i = get_or-set_other ws word (place (capacity + spare) n p i) x 0 (λ e. absurd (omega arith))

@@ -3,7 +3,7 @@ ghost use Rattle.std.specs.Prelude.{◌≡◌, ◌≤◌, ◌⊎◌, ◌-◌, �
 ghost use Rattle.steps.specs.Enums.{capacity_refusal};
 ghost use Rattle.steps.specs.declared.enums.UniqueIndexCreationError.TheVariants.{NoMemory};
 ghost use Rattle.lock_free_sp.specs.Ring.Views.{blank, joined, with_producer, without_producer, with_consumer, without_consumer};
-ghost use Rattle.lock_free_sp.specs.Ring.Between.{Sound, Ruled};
+ghost use Rattle.lock_free_sp.specs.Ring.Between.{Sound, Ruled, InOrder};
 ghost use Rattle.lock_free_sp.specs.Ring.Calls.{HasPushed, WasFull, HasPopped, WasEmpty};
 ghost use Rattle.lock_free_sp.specs.IndexQueue.{queue_id, capacity_of, view, queue_of, IsPassOf, producer_view, producer_queue, consumer_view, consumer_queue};
 
@@ -198,6 +198,7 @@ impl<'a> Consumer<'a> {
         ensures queue { consumer_queue self.new ≡ consumer_queue self.old }
         ensures view { consumer_view self.new ≡ joined (consumer_view self.old) (view other) }
         ensures rule { Ruled (consumer_view self.old) (view other) }
+        ensures order { InOrder (consumer_view self.old) (view other) }
         ensures sound { Sound (consumer_view self.new) }
     {
         let Pass { token } = other;

@@ -1,6 +1,0 @@
-use Rattle.std.proofs.Common.{rules}
-use Rattle.lock_free_sp.proofs.Rules.Ring.Roles.{leaves_producer}
-use Rattle.lock_free_sp.proofs.ring.calls.Held+T+RingRule+T.leave_producer.Goals as goal
-
-pub store-requires : goal.store-requires
-store-requires g c = (search rules, search rules, leaves_producer _ _ _ _ _ _ (search rules))
