@@ -1,6 +1,6 @@
 //! Real calls, alone and between threads.
 use crate::ring::board::open;
-use crate::ring::rule::Bounded;
+use crate::ring::rule::{Bounded, Overflowing};
 use crate::spsc::index_queue::{Consumer, FixedSizeIndexQueue, IndexQueue, Pass, Producer};
 use crate::spsc::safely_overflowing_index_queue as overflowing;
 use crate::spsc::safely_overflowing_index_queue::{
@@ -13,6 +13,7 @@ use std::test::Fail;
 use std::thread;
 use steps::ask::{After, Call, Want};
 use steps::enums::UniqueIndexCreationError;
+use steps::overflow;
 use steps::ring::{Pop, Push};
 
 fn may_be_sent<T: Send>() {}
@@ -284,6 +285,42 @@ fn values_of_two_words_as_the_steps_have_them(rt: HostRuntime) -> Result<(), Fai
     );
     assert_eq!(rt; alone(Pop::<(u64, u64)>::new(2), &mut words), Some(None));
     for at in 0..8 {
+        assert_eq!(rt; board.shared.peek(at), words[at]);
+    }
+    Ok(())
+}
+
+#[test]
+fn an_overflowing_queue_as_the_steps_have_it(rt: HostRuntime) -> Result<(), Fail> {
+    let (board, mut token) = open::<Overflowing, u64>(rt.alloc(), 2, 0)?;
+    assert!(rt; token.take_producer());
+    assert!(rt; token.take_consumer());
+    let mut words = [0u64; 7];
+    let mut pushes = [None; 4];
+    let mut pops = [None; 4];
+    pushes[0] = token.push(1);
+    pushes[1] = token.push(2);
+    pushes[2] = token.push(3);
+    pops[0] = token.pop(&rt);
+    pushes[3] = token.push(4);
+    pops[1] = token.pop(&rt);
+    pops[2] = token.pop(&rt);
+    pops[3] = token.pop(&rt);
+    assert_eq!(rt; pushes, [None, None, Some(1), None]);
+    assert_eq!(rt; pops, [Some(2), Some(3), Some(4), None]);
+    let mut pushes = [None; 4];
+    let mut pops = [None; 4];
+    pushes[0] = alone(overflow::Push::new(2, 1), &mut words).ok_or("no answer")?;
+    pushes[1] = alone(overflow::Push::new(2, 2), &mut words).ok_or("no answer")?;
+    pushes[2] = alone(overflow::Push::new(2, 3), &mut words).ok_or("no answer")?;
+    pops[0] = alone(overflow::Pop::new(2), &mut words).ok_or("no answer")?;
+    pushes[3] = alone(overflow::Push::new(2, 4), &mut words).ok_or("no answer")?;
+    pops[1] = alone(overflow::Pop::new(2), &mut words).ok_or("no answer")?;
+    pops[2] = alone(overflow::Pop::new(2), &mut words).ok_or("no answer")?;
+    pops[3] = alone(overflow::Pop::new(2), &mut words).ok_or("no answer")?;
+    assert_eq!(rt; pushes, [None, None, Some(1), None]);
+    assert_eq!(rt; pops, [Some(2), Some(3), Some(4), None]);
+    for at in 0..7 {
         assert_eq!(rt; board.shared.peek(at), words[at]);
     }
     Ok(())

@@ -1,5 +1,5 @@
 //! What a step of a call writes down.
-ghost use Rattle.std.specs.Prelude.{◌≡◌, ◌+◌, ◌≤◌, ◌<◌, ◌∷◌, [], ◌++◌, vec_len, vec_capacity, option_copied};
+ghost use Rattle.std.specs.Prelude.{◌≡◌, ◌+◌, ◌≤◌, ◌<◌, ◌++◌, vec_len, vec_capacity, option_copied};
 ghost use Rattle.machine.specs.Effects.{pending_at, pending, overflow_push_effect, overflow_pop_effect, effect_of, acts_if_done, ending_of, effects_of, told_after};
 
 use crate::call::{Flight, OverflowCall, RingCall};

@@ -2,7 +2,7 @@
 //! happened.
 #![tactic(auto)]
 
-ghost use Rattle.std.specs.Prelude.{◌≡◌, ◌≤◌, ◌<◌, None, Some, OnOk, OnErr, IfOk, IfErr, ◌⊎◌, vec_len, length, take};
+ghost use Rattle.std.specs.Prelude.{◌≡◌, ◌≤◌, ◌<◌, None, Some, OnOk, OnErr, IfOk, IfErr, ◌⊎◌, length, take};
 
 use std::alloc::Global;
 use std::marker::Model;

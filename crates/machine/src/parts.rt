@@ -1,5 +1,5 @@
 //! The parts of a machine, and what each turn does to them.
-ghost use Rattle.std.specs.Prelude.{◌≡◌, ◌+◌, ◌-◌, ◌^◌, ◌≤◌, ◌<◌, ◌⊎◌, None, Some, OnOk, OnErr, IfOk, IfErr, vec_len, vec_capacity, length, slice_index_or, option_copied};
+ghost use Rattle.std.specs.Prelude.{◌≡◌, ◌+◌, ◌-◌, ◌^◌, ◌≤◌, ◌<◌, ◌⊎◌, None, Some, OnOk, OnErr, IfOk, IfErr, vec_len, vec_capacity, option_copied};
 ghost use Rattle.machine.specs.World.{cells_of, opening, opening_words, capacity_error, trace_of, place_of, party_of};
 ghost use Rattle.machine.specs.declared.party.Party.{Party};
 ghost use Rattle.machine.specs.Refusals.{refusal_of, IsRefusal, lacks_role, holds, is_due};

@@ -1,5 +1,5 @@
 //! The latest call of each party.
-ghost use Rattle.std.specs.Prelude.{◌≡◌, option_copied, vec_len, OnOk, OnErr};
+ghost use Rattle.std.specs.Prelude.{◌≡◌, option_copied, OnOk, OnErr};
 ghost use Rattle.machine.specs.World.{party_of, put, place_of, doing_of, flight_of, progress_after};
 
 use crate::call::Flight;

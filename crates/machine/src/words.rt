@@ -1,5 +1,5 @@
 //! One operation on one word of a machine.
-ghost use Rattle.std.specs.Prelude.{◌≡◌, ◌≤◌, slice_index};
+ghost use Rattle.std.specs.Prelude.{◌≡◌, slice_index};
 ghost use Rattle.machine.specs.Turns.{old_of, words_after, change_of, steps_of};
 
 use steps::ask::Ask;

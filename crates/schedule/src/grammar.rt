@@ -1,5 +1,5 @@
 //! What a line says, read word by word.
-ghost use Rattle.std.specs.Prelude.{◌≡◌, ◌≤◌, ◌-◌, ◌^◌, ◌==◌, IfOk};
+ghost use Rattle.std.specs.Prelude.{◌≡◌, ◌≤◌, ◌-◌, ◌==◌, IfOk};
 ghost use Rattle.schedule.specs.Text.{parts_left, words};
 ghost use Rattle.schedule.specs.Grammar.{Gives, next_word, ended, number_at, kind_of, setup_of, role_call, length_call, push_index, index_call, index_queue_call, call_of, begin_of, count_of, next_of, decision_of, turn_of, death_of, command_of};
 

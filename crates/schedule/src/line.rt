@@ -1,6 +1,6 @@
 //! A line that is being made, in room of its own, so that printing takes no memory.
-ghost use Rattle.std.specs.Prelude.{◌≡◌, ◌+◌, ◌≤◌, ◌<◌, ◌++◌, [], length, decimal, codes};
-ghost use Rattle.schedule.specs.Print.{item_text, call_text, truth_text, popped_text, answer_text, answered_text, event_text, refusal_name, refusal_text, cause_text, error_text, message_text};
+ghost use Rattle.std.specs.Prelude.{◌≡◌, ◌+◌, ◌≤◌, ◌<◌, ◌++◌, [], length, decimal};
+ghost use Rattle.schedule.specs.Print.{item_text, call_text, answer_text, answered_text, event_text, refusal_name, refusal_text, cause_text, error_text};
 
 use crate::error::{Cause, ScheduleError};
 use machine::event::{Answer, Event, Item, Start};

@@ -1,5 +1,5 @@
 //! A whole run: the input is read, the machine is made, and the lines are done one after another.
-ghost use Rattle.std.specs.Prelude.{◌≡◌, ◌^◌, ◌<◌, Bool, length};
+ghost use Rattle.std.specs.Prelude.{◌^◌, ◌<◌, Bool, length};
 ghost use Rattle.schedule.specs.Grammar.{Gives};
 ghost use Rattle.schedule.specs.Output.{outcome, nexts, commanded, lines_from, machine_of, output};
 ghost use Rattle.schedule.specs.Run.{IsTurn, IsStep, Prints, IsOutput, IsRun};

@@ -1,5 +1,4 @@
 //! The two roles of a structure that has one producer and one consumer at a time.
-ghost use Rattle.std.specs.Prelude.{◌≡◌};
 ghost use Rattle.steps.specs.Roles.{acquire_want, acquire_after, release_want, release_after};
 
 use crate::ask::{After, Ask, Call, Op, Want};

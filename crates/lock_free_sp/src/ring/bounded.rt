@@ -1,23 +1,15 @@
 //! The push and the pop of the bounded queue, each by the steps of `steps` in their order and by no others.
-ghost use Rattle.std.specs.Prelude.{◌≡◌, ◌≢◌, ℕ, ◌+◌, ◌-◌, ◌*◌, ◌%◌, ◌^◌, ◌<◌, ◌≤◌, true, false, IsTrue, IsFalse, Some, None, IfSome, IfNone, All, List, ◌∷◌, [], ◌++◌, length, slice_index, take};
+ghost use Rattle.std.specs.Prelude.{◌≡◌, ◌+◌, ◌-◌, ◌^◌, ◌<◌, true, false, IsTrue, IsFalse, Some, None, IfSome, IfNone, slice_index};
 ghost use Rattle.lock_free_sp.specs.declared.ring.view.PushStage.TheVariants as pushing;
 ghost use Rattle.lock_free_sp.specs.declared.ring.view.PopStage.TheVariants as popping;
-ghost use Rattle.lock_free_sp.specs.declared.ring.view.LenStage.TheVariants as lengths;
-ghost use Rattle.lock_free_sp.specs.Ring.Views.{with_len, with_push, with_pop, with_producer, without_producer, with_consumer, without_consumer, pushed, popped};
-ghost use Rattle.lock_free_sp.specs.Ring.Between.{Below, Sound};
-ghost use Rattle.lock_free_sp.specs.Ring.Calls.{seen, table_of, IsSame, HasPushed, WasFull, HasPopped, WasEmpty};
-ghost use Rattle.lock_free_sp.specs.Ring.Tells.{place, with_word, saw_write, SawRoom, Published, saw_read, SawValue, Taken, took_producer, took_consumer};
+ghost use Rattle.lock_free_sp.specs.Ring.Views.{pushed, popped};
+ghost use Rattle.lock_free_sp.specs.Ring.Calls.{seen, IsSame, HasPushed, WasFull, HasPopped, WasEmpty};
+ghost use Rattle.lock_free_sp.specs.Ring.Tells.{SawRoom, Published, saw_read, SawValue, Taken};
 
-use super::plays::{
-    Learns, LeavesConsumer, LeavesProducer, LenSeesAgain, LenSeesRead, LenSeesWrite, LoadsWord,
-    Publishes, SeesRead, SeesRoom, SeesValue, SeesWrite, StoresWord, Takes, TakesConsumer,
-    TakesProducer,
-};
+use super::plays::{LoadsWord, Publishes, SeesRead, SeesRoom, SeesValue, Takes};
 use super::rule::{Bounded, RingRule};
 use super::token::Held;
-use std::sync::Wait;
-use steps::lengths::number_waiting;
-use steps::ring::{CONSUMER, FIRST_CELL, PRODUCER, READ, WRITE};
+use steps::ring::{READ, WRITE};
 use steps::words::Words;
 
 impl<T: Words> Held<Bounded, T, RingRule<Bounded, T>> {

@@ -1,18 +1,17 @@
 //! The calls that both queues have, and the steps that their pushes share, each by the steps of `steps` in their order
 //! and by no others.
-ghost use Rattle.std.specs.Prelude.{◌≡◌, ◌≢◌, ℕ, ◌+◌, ◌-◌, ◌*◌, ◌%◌, ◌^◌, ◌<◌, ◌≤◌, true, false, IsTrue, IsFalse, Some, None, IfSome, IfNone, All, List, ◌∷◌, [], ◌++◌, length, slice_index, take};
+ghost use Rattle.std.specs.Prelude.{◌≡◌, ℕ, ◌+◌, ◌-◌, ◌*◌, ◌%◌, ◌<◌, ◌≤◌, true, IsTrue, IsFalse, Some, None, IfSome, List, [], length};
 ghost use Rattle.lock_free_sp.specs.declared.ring.view.PushStage.TheVariants as pushing;
 ghost use Rattle.lock_free_sp.specs.declared.ring.view.PopStage.TheVariants as popping;
 ghost use Rattle.lock_free_sp.specs.declared.ring.view.LenStage.TheVariants as lengths;
-ghost use Rattle.lock_free_sp.specs.Ring.Views.{with_len, with_push, with_pop, with_producer, without_producer, with_consumer, without_consumer, pushed, popped};
-ghost use Rattle.lock_free_sp.specs.Ring.Between.{Below, Sound};
-ghost use Rattle.lock_free_sp.specs.Ring.Calls.{seen, table_of, IsSame, HasPushed, WasFull, HasPopped, WasEmpty};
-ghost use Rattle.lock_free_sp.specs.Ring.Tells.{place, with_word, saw_write, SawRoom, Published, saw_read, SawValue, Taken, took_producer, took_consumer};
+ghost use Rattle.lock_free_sp.specs.Ring.Views.{with_len, with_push, with_producer, without_producer, with_consumer, without_consumer};
+ghost use Rattle.lock_free_sp.specs.Ring.Between.{Sound};
+ghost use Rattle.lock_free_sp.specs.Ring.Calls.{seen, table_of, IsSame};
+ghost use Rattle.lock_free_sp.specs.Ring.Tells.{place, with_word, saw_write};
 
 use super::plays::{
-    Learns, LeavesConsumer, LeavesProducer, LenSeesAgain, LenSeesRead, LenSeesWrite, LoadsWord,
-    Publishes, SeesRead, SeesRoom, SeesValue, SeesWrite, StoresWord, Takes, TakesConsumer,
-    TakesProducer,
+    Learns, LeavesConsumer, LeavesProducer, LenSeesAgain, LenSeesRead, LenSeesWrite, SeesWrite,
+    StoresWord, TakesConsumer, TakesProducer,
 };
 use super::rule::{RingRule, Spare};
 use super::token::Held;
@@ -166,8 +165,8 @@ impl<E: Spare, T: Words> Held<E, T, RingRule<E, T>> {
         }
     }
 
-    /// How many values waited at one moment of the call, at most as many as there are cells. Four steps, and at most four more for
-    /// each time that a position has moved between its two loads.
+    /// How many values waited at one moment of the call, at most as many as there are cells. Four steps, and at most
+    /// four more for each time that a position has moved between its two loads.
     pub fn len(&mut self, rt: &impl Wait) -> u64
         requires { (seen self.old).len ≡ lengths.Idle }
         ensures same { IsSame self.old self.new }

@@ -1,5 +1,5 @@
 //! The push and the pop of the overflowing queue, each by the steps of `steps` in their order and by no others.
-ghost use Rattle.std.specs.Prelude.{◌≡◌, ◌≢◌, ◌⊎◌, ℕ, ◌+◌, ◌-◌, ◌^◌, ◌<◌, ◌∷◌, [], IfSome, IfNone, slice_index};
+ghost use Rattle.std.specs.Prelude.{◌≡◌, ◌≢◌, ◌⊎◌, ℕ, ◌+◌, ◌-◌, ◌^◌, ◌<◌, ◌∷◌, [], IfSome, IfNone};
 ghost use Rattle.lock_free_sp.specs.declared.ring.view.PushStage.TheVariants as pushing;
 ghost use Rattle.lock_free_sp.specs.declared.ring.view.PopStage.TheVariants as popping;
 ghost use Rattle.lock_free_sp.specs.Ring.Views.{with_push, with_pop};
@@ -61,10 +61,13 @@ impl Held<Overflowing, u64, RingRule<Overflowing, u64>> {
     pub fn push(&mut self, value: u64) -> Option<u64>
         requires { (seen self.old).push ≡ pushing.Ready }
         ensures same { IsSame self.old self.new }
+        ensures ready { (seen self.new).push ≡ pushing.Ready }
+        ensures pop { (seen self.new).pop ≡ (seen self.old).pop }
         ensures added { IfNone result (HasAdded value (seen self.old) (seen self.new)) }
         ensures handed_back { IfSome result (λ y. HasReplaced value y (seen self.old) (seen self.new) ⊎ WasHandedBack value y (seen self.old) (seen self.new)) }
     {
-        if self.capacity == 0 {
+        let capacity = self.capacity as u64;
+        if capacity == 0 {
             return Some(value);
         }
         let write = self.sees_write();
@@ -74,7 +77,7 @@ impl Held<Overflowing, u64, RingRule<Overflowing, u64>> {
         let read = self.sees_front(write);
         self.stores(write, read, &value);
         self.publishes_over(write, read, value);
-        if write - read != self.capacity as u64 {
+        if write - read != capacity {
             return None;
         }
         if self.takes_back(read) != read {
@@ -128,6 +131,8 @@ impl Held<Overflowing, u64, RingRule<Overflowing, u64>> {
     pub fn pop(&mut self, rt: &impl Wait) -> Option<u64>
         requires { (seen self.old).pop ≡ popping.Ready }
         ensures same { IsSame self.old self.new }
+        ensures ready { (seen self.new).pop ≡ popping.Ready }
+        ensures push { (seen self.new).push ≡ (seen self.old).push }
         ensures popped { IfSome result (λ x. HasTaken x (seen self.old) (seen self.new)) }
         ensures empty { IfNone result (seen self.new ≡ seen self.old) }
     {

@@ -14,8 +14,8 @@ use std::sync::Arc;
 mod calls;
 mod fixed;
 
-/// A queue of numbers whose push, where it is full, hands the oldest back. Threads share it by reference. One producer pushes and one consumer pops at a time.
-/// After `SafelyOverflowingIndexQueue` of the Rust crate.
+/// A queue of numbers whose push, where it is full, hands the oldest back. Threads share it by reference. One producer
+/// pushes and one consumer pops at a time. After `SafelyOverflowingIndexQueue` of the Rust crate.
 #[derive(Drop)]
 pub struct SafelyOverflowingIndexQueue {
     board: Arc<Board<Overflowing, u64>, Global>,
@@ -23,7 +23,8 @@ pub struct SafelyOverflowingIndexQueue {
     ghost sized: { (arc_value board).shared.table_id.words ≡ capacity + 5 },
 }
 
-/// The same for at most CAPACITY numbers, from 0 to 2^32 - 1. After `FixedSizeSafelyOverflowingIndexQueue` of the Rust crate.
+/// The same for at most CAPACITY numbers, from 0 to 2^32 - 1. After `FixedSizeSafelyOverflowingIndexQueue` of the Rust
+/// crate.
 #[derive(Drop)]
 pub struct FixedSizeSafelyOverflowingIndexQueue<const CAPACITY: usize> {
     queue: SafelyOverflowingIndexQueue,

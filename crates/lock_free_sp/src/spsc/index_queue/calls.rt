@@ -5,7 +5,7 @@ ghost use Rattle.steps.specs.declared.enums.UniqueIndexCreationError.TheVariants
 ghost use Rattle.lock_free_sp.specs.Ring.Views.{blank, joined, with_producer, without_producer, with_consumer, without_consumer};
 ghost use Rattle.lock_free_sp.specs.Ring.Between.{Sound, Ruled, InOrder};
 ghost use Rattle.lock_free_sp.specs.Ring.Calls.{HasPushed, WasFull, HasPopped, WasEmpty};
-ghost use Rattle.lock_free_sp.specs.IndexQueue.{queue_id, capacity_of, view, queue_of, IsPassOf, producer_view, producer_queue, consumer_view, consumer_queue};
+ghost use Rattle.lock_free_sp.specs.IndexQueue.{capacity_of, view, queue_of, IsPassOf, producer_view, producer_queue, consumer_view, consumer_queue};
 
 use super::{Consumer, IndexQueue, Pass, Producer};
 use crate::ring::board::open;

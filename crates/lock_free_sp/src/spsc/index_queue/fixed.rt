@@ -3,7 +3,6 @@ ghost use Rattle.std.specs.Prelude.{◌≡◌, ◌≤◌, ◌⊎◌, ◌-◌, �
 ghost use Rattle.steps.specs.Enums.{capacity_refusal};
 ghost use Rattle.steps.specs.declared.enums.UniqueIndexCreationError.TheVariants.{NoMemory};
 ghost use Rattle.lock_free_sp.specs.Ring.Views.{blank, with_producer, with_consumer};
-ghost use Rattle.lock_free_sp.specs.Ring.Between.{Sound};
 ghost use Rattle.lock_free_sp.specs.IndexQueue.{IsPassOfFixed, view, queue_of, producer_view, producer_queue, consumer_view, consumer_queue};
 
 use super::{Consumer, FixedSizeIndexQueue, IndexQueue, Pass, Producer};

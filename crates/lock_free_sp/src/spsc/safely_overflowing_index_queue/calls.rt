@@ -1,11 +1,11 @@
 //! The calls of an overflowing index queue.
-ghost use Rattle.std.specs.Prelude.{◌≡◌, ◌≤◌, ◌⊎◌, ◌+◌, ◌-◌, ◌^◌, ◌==◌, true, false, None, Some, IsTrue, IsFalse, IfOk, IfErr, OnOk, IfSome, IfNone};
+ghost use Rattle.std.specs.Prelude.{◌≡◌, ◌≤◌, ◌⊎◌, ◌+◌, ◌-◌, ◌^◌, ◌==◌, None, Some, IfOk, IfErr, OnOk, IfSome, IfNone};
 ghost use Rattle.steps.specs.Enums.{capacity_refusal};
 ghost use Rattle.steps.specs.declared.enums.UniqueIndexCreationError.TheVariants.{NoMemory};
 ghost use Rattle.lock_free_sp.specs.Ring.Views.{blank, joined, with_producer, without_producer, with_consumer, without_consumer};
 ghost use Rattle.lock_free_sp.specs.Ring.Between.{Sound, Ruled};
 ghost use Rattle.lock_free_sp.specs.Ring.Calls.{HasAdded, HasReplaced, WasHandedBack, HasTaken};
-ghost use Rattle.lock_free_sp.specs.OverflowingQueue.{queue_id, capacity_of, view, queue_of, IsPassOf, producer_view, producer_queue, consumer_view, consumer_queue};
+ghost use Rattle.lock_free_sp.specs.OverflowingQueue.{capacity_of, view, queue_of, IsPassOf, producer_view, producer_queue, consumer_view, consumer_queue};
 
 use super::{Consumer, Pass, Producer, SafelyOverflowingIndexQueue};
 use crate::ring::board::open;
@@ -85,7 +85,8 @@ impl SafelyOverflowingIndexQueue {
     }
 
     /// How many numbers waited at one moment of the call, at most the capacity, and one more while a push is under
-    /// way. Four steps, and at most four more for each time that a position has moved between its two loads. After `len` of the Rust crate.
+    /// way. Four steps, and at most four more for each time that a position has moved between its two loads.
+    /// After `len` of the Rust crate.
     pub fn len(&self, rt: &impl Wait, pass: &mut Pass) -> usize
         requires { IsPassOf self.now pass.old }
         ensures queue { queue_of pass.new ≡ queue_of pass.old }
@@ -188,7 +189,8 @@ impl<'a> Producer<'a> {
 
 impl<'a> Consumer<'a> {
     /// Takes the oldest number, or None where the queue is empty, and then nothing changes. Four steps, and two more
-    /// for each time that a push takes the number first; none without capacity. After `Consumer::pop` of the Rust crate.
+    /// for each time that a push takes the number first; none without capacity.
+    /// After `Consumer::pop` of the Rust crate.
     pub fn pop(&mut self, rt: &impl Wait) -> Option<u64>
         ensures queue { consumer_queue self.new ≡ consumer_queue self.old }
         ensures popped { IfSome result (λ x. HasTaken x (consumer_view self.old) (consumer_view self.new)) }

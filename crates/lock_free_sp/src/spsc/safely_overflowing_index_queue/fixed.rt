@@ -3,7 +3,6 @@ ghost use Rattle.std.specs.Prelude.{◌≡◌, ◌≤◌, ◌⊎◌, ◌+◌, �
 ghost use Rattle.steps.specs.Enums.{capacity_refusal};
 ghost use Rattle.steps.specs.declared.enums.UniqueIndexCreationError.TheVariants.{NoMemory};
 ghost use Rattle.lock_free_sp.specs.Ring.Views.{blank, with_producer, with_consumer};
-ghost use Rattle.lock_free_sp.specs.Ring.Between.{Sound};
 ghost use Rattle.lock_free_sp.specs.OverflowingQueue.{IsPassOfFixed, view, queue_of, producer_view, producer_queue, consumer_view, consumer_queue};
 
 use super::{
@@ -50,7 +49,8 @@ impl<const CAPACITY: usize> FixedSizeSafelyOverflowingIndexQueue<CAPACITY> {
     }
 
     /// How many numbers waited at one moment of the call, at most the capacity, and one more while a push is under
-    /// way. Four steps, and at most four more for each time that a position has moved between its two loads. As of `SafelyOverflowingIndexQueue`.
+    /// way. Four steps, and at most four more for each time that a position has moved between its two loads.
+    /// As of `SafelyOverflowingIndexQueue`.
     pub fn len(&self, rt: &impl Wait, pass: &mut Pass) -> usize
         requires { IsPassOfFixed self.now pass.old }
         ensures queue { queue_of pass.new ≡ queue_of pass.old }
@@ -69,7 +69,8 @@ impl<const CAPACITY: usize> FixedSizeSafelyOverflowingIndexQueue<CAPACITY> {
         self.queue.is_empty(rt, pass)
     }
 
-    /// Whether as many as the capacity waited at one moment of the call, by the steps of `len`. As of `SafelyOverflowingIndexQueue`.
+    /// Whether as many as the capacity waited at one moment of the call, by the steps of `len`.
+    /// As of `SafelyOverflowingIndexQueue`.
     pub fn is_full(&self, rt: &impl Wait, pass: &mut Pass) -> bool
         requires { IsPassOfFixed self.now pass.old }
         ensures queue { queue_of pass.new ≡ queue_of pass.old }
