@@ -1,6 +1,6 @@
 //! What a step of a call writes down.
 ghost use Rattle.std.specs.Prelude.{◌≡◌, ◌+◌, ◌≤◌, ◌<◌, ◌++◌, vec_len, vec_capacity, option_copied};
-ghost use Rattle.machine.specs.Effects.{pending_at, pending, overflow_push_effect, overflow_pop_effect, effect_of, acts_if_done, ending_of, effects_of, told_after};
+ghost use Rattle.machine.specs.Effects.{pending_at, pending, push_effect, pop_effect, overflow_push_effect, overflow_pop_effect, effect_of, acts_if_done, ending_of, effects_of, told_after};
 
 use crate::call::{Flight, OverflowCall, RingCall};
 use crate::event::{Answer, Event, Item, Start};
@@ -70,6 +70,29 @@ pub fn pending<T: Copy>(
     }
 }
 
+/// What a push of the bounded queue does with its value.
+fn push_effect<T: Copy>(item: Item<T>, stage: &ring::PushStage) -> Effect<T>
+    ensures { result ≡ push_effect item stage.now }
+{
+    match stage {
+        ring::PushStage::LoadsWrite => Effect::Quiet,
+        ring::PushStage::LoadsRead { .. } => Effect::Acts,
+        ring::PushStage::StoresCell { .. } => Effect::Quiet,
+        ring::PushStage::StoresWrite { .. } => Effect::Publishes(item),
+    }
+}
+
+fn pop_effect<T: Copy>(stage: &ring::PopStage<u64>) -> Effect<T>
+    ensures { result ≡ pop_effect Item.Index stage.now }
+{
+    match stage {
+        ring::PopStage::LoadsRead => Effect::Quiet,
+        ring::PopStage::LoadsWrite { .. } => Effect::Acts,
+        ring::PopStage::LoadsCell { .. } => Effect::Quiet,
+        ring::PopStage::StoresRead { value, .. } => Effect::HandsOut(Item::Index(*value)),
+    }
+}
+
 fn overflow_push_effect<T: Copy>(words: &Vec<u64>, call: &overflow::Push, answer: u64) -> Effect<T>
     ensures { result ≡ overflow_push_effect words.now.items call.now call.now.stage answer }
 {
@@ -136,18 +159,8 @@ pub fn effect_of<T: Copy>(
     match flight {
         Flight::Role(_) => Effect::Quiet,
         Flight::Length(_, _) => Effect::Quiet,
-        Flight::Indices(RingCall::Push(call)) => match call.stage {
-            ring::PushStage::LoadsWrite => Effect::Quiet,
-            ring::PushStage::LoadsRead { .. } => Effect::Acts,
-            ring::PushStage::StoresCell { .. } => Effect::Quiet,
-            ring::PushStage::StoresWrite { .. } => Effect::Publishes(Item::Index(call.value)),
-        },
-        Flight::Indices(RingCall::Pop(call)) => match &call.stage {
-            ring::PopStage::LoadsRead => Effect::Quiet,
-            ring::PopStage::LoadsWrite { .. } => Effect::Acts,
-            ring::PopStage::LoadsCell { .. } => Effect::Quiet,
-            ring::PopStage::StoresRead { value, .. } => Effect::HandsOut(Item::Index(*value)),
-        },
+        Flight::Indices(RingCall::Push(call)) => push_effect(Item::Index(call.value), &call.stage),
+        Flight::Indices(RingCall::Pop(call)) => pop_effect(&call.stage),
         Flight::Overflow(OverflowCall::Push(call)) => overflow_push_effect(words, call, answer),
         Flight::Overflow(OverflowCall::Pop(call)) => {
             overflow_pop_effect(words, pending, call, answer)

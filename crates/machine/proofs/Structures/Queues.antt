@@ -1,8 +1,10 @@
+pub mod Asks
 pub mod Core
 pub mod Invariant
 pub mod Justified
 pub mod Keeping
 pub mod Kept
+pub mod Knows
 pub mod Lengths
 pub mod Pending
 pub mod Roles

@@ -1,2 +1,3 @@
+pub mod Knows
 pub mod Pops
 pub mod Pushes

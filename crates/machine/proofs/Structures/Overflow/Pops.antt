@@ -39,34 +39,13 @@ use Rattle.machine.proofs.Readings.{span_of-own, span_of-other}
 use Rattle.machine.proofs.Structures.Overflow.Core.{one_passes, oldest, pop_front, pop_room}
 use Rattle.machine.proofs.Structures.Overflow.Waiting.{past_none, IsPending, pending_is}
 use Rattle.machine.proofs.Structures.Queues.Core.{Core, Good, taken, takes, word_at}
-use Rattle.machine.proofs.Structures.Queues.Invariant.{free, layout, Hangs, has_written, overflow_wrote, KnowsOverflowPush, KnowsOverflowPop, KnowsBacks, overflow_pop_number, OverflowAt, IsUnderWay, FitsDoing, Fits, Inv, still_fits, waiting_is}
+use Rattle.machine.proofs.Structures.Overflow.Knows.{KnowsOverflowPush, KnowsOverflowPop, KnowsBacks, overflow_pop_number, OverflowAt}
+use Rattle.machine.proofs.Structures.Queues.Knows.{free, layout, Hangs, has_written}
+use Rattle.machine.proofs.Structures.Queues.Invariant.{IsUnderWay, FitsDoing, Fits, Inv, still_fits, waiting_is}
 use Rattle.machine.proofs.Structures.Queues.Keeping.{clash, kept}
 use Rattle.machine.proofs.Structures.Queues.Pending.{pending_put, few_wait, none_hangs, nothing_waits}
 use Rattle.machine.proofs.Structures.Queues.Stages.{party_after, Step, Moves, MovesOf, still_hangs, quiet, alone}
-
--- what a push of another party goes on to know where a pop has moved the read position, and no push was pending
-take_keeps :
-    {T : Type 0} → (c : ℕ) (k : Core ℕ) (q : ℕ) (rest : List ℕ) → Good 1 words_of_index (c + 1) k → length k.waiting ≤ c → (w : ℕ) (stage : overflow_pushes.PushStage) → KnowsOverflowPush c k w stage
-    → KnowsOverflowPush c (taken 1 words_of_index (c + 1) k rest) w stage × (overflow_wrote {T = T} c (taken 1 words_of_index (c + 1) k rest) q w stage ≡ overflow_wrote c k q w stage)
-take_keeps c k q rest g few w overflow_pushes.TheVariants.HandsBack h = (h, refl)
-take_keeps c k q rest g few w overflow_pushes.TheVariants.LoadsWrite h = (h, refl)
-take_keeps c k q rest g few w (overflow_pushes.TheVariants.LoadsRead write) h = (h, refl)
-take_keeps c k q rest g few w (overflow_pushes.TheVariants.StoresCell write read) h =
-    let low = h.2 in
-    ((h.0, h.1, omega arith, h.3), refl)
-take_keeps c k q rest g few w (overflow_pushes.TheVariants.StoresWrite write read) h =
-    let low = h.2 in
-    ((h.0, h.1, omega arith, h.3, h.4), refl)
-take_keeps c k q rest g few w (overflow_pushes.TheVariants.MovesRead read) h =
-    let low = h.1 in
-    let far = h.2 in
-    let write = g.write in
-    let before : (read == k.read) ≡ false = (let apart : read ≢ k.read = λ e. absurd (omega arith) in grind (arith, nat_tests)) in
-    let after : (read == k.read + 1) ≡ false = (let apart : read ≢ k.read + 1 = λ e. absurd (omega arith) in grind (arith, nat_tests)) in
-    ((h.0, omega arith, far, λ same. absurd (omega arith)), rw (before, after) refl)
-take_keeps c k q rest g few w (overflow_pushes.TheVariants.LoadsCell read) h =
-    let low = h.1 in
-    ((h.0, omega arith, h.2), refl)
+use Rattle.machine.proofs.Structures.Overflow.Keeping.{take_keeps_push}
 
 module _ {T : Type 0} (c : ℕ) (pr co : Option ℕ) (k : Core ℕ) (p steps backs since changes : ℕ) (latest : List (Party T)) (events : List (Event T)) (turns : ℕ) (inv : Inv kinds.TheVariants.Overflow c pr co k latest events changes turns) (small : turns < 2 ^ 64 - 2) (holds : co ≡ Some p) where
   abbrev at : overflow_pops.PopStage → Flight
@@ -247,7 +226,7 @@ module _ {T : Type 0} (c : ℕ) (pr co : Option ℕ) (k : Core ℕ) (p steps bac
                   };
               knows = omega arith;
               up = record { write = omega arith; read = omega arith; paid = omega arith };
-              others = λ q ne. kept c pr co pr co k after_take q (λ h. h) (λ h. h) kinds.TheVariants.Overflow (record { push = λ mine w stage h. take_keeps c k q rest g few w stage h; pop = λ mine stage h. absurd (clash co p q ne holds mine) });
+              others = λ q ne. kept c pr co pr co k after_take q (λ h. h) (λ h. h) kinds.TheVariants.Overflow (record { push = λ mine w stage h. take_keeps_push c k q rest g few w stage h; pop = λ mine stage h. absurd (clash co p q ne holds mine) });
               turned = omega arith;
             },
           )

@@ -7,7 +7,6 @@ use Rattle.steps.specs.declared.ask.Op.TheVariants.{Load, Store, Exchange}
 use Rattle.steps.specs.declared.ask.After.{After}
 use Rattle.steps.specs.declared.ask.After.TheVariants.{GoOn, Done}
 use Rattle.steps.specs.declared.overflow.PushStage as overflow_pushes
-use Rattle.steps.specs.declared.overflow.PopStage as overflow_pops
 use Rattle.steps.specs.Ring.{distance, after_position}
 use Rattle.steps.specs.Overflow.{cell_word}
 use Rattle.machine.specs.declared.call.OverflowCall as overflows
@@ -32,52 +31,13 @@ use Rattle.machine.specs.Reading.{Open, span_of}
 use Rattle.machine.proofs.Structures.Overflow.Core.{none_passes, one_passes, oldest, push_room, push_waits, push_over}
 use Rattle.machine.proofs.Structures.Queues.Core as core
 use Rattle.machine.proofs.Structures.Queues.Core.{Core, Holds, Good, filled, taken, fills, one_filled, publishes, takes, word_at, set_at}
-use Rattle.machine.proofs.Structures.Queues.Invariant.{free, layout, Hangs, has_written, KnowsOverflowPush, KnowsOverflowPop, overflow_push_number, Inv}
+use Rattle.machine.proofs.Structures.Overflow.Knows.{KnowsOverflowPush, overflow_push_number}
+use Rattle.machine.proofs.Structures.Queues.Knows.{free, layout, Hangs, has_written}
+use Rattle.machine.proofs.Structures.Queues.Invariant.{Inv}
 use Rattle.machine.proofs.Structures.Queues.Keeping.{clash, kept}
 use Rattle.machine.proofs.Structures.Queues.Pending.{pending_here, few_wait, none_hangs}
 use Rattle.machine.proofs.Structures.Queues.Stages.{party_after, Step, Moves, MovesOf, still_hangs, quiet, alone}
-
--- ---- what a pop of another party goes on to know
-
--- a store into a cell
-fill_keeps : (c : ℕ) (k : Core ℕ) (at word : ℕ) (stage : overflow_pops.PopStage) → KnowsOverflowPop c k stage → KnowsOverflowPop c (filled 1 words_of_index (c + 1) k at word) stage
-fill_keeps c k at word overflow_pops.TheVariants.FindsNone h = h
-fill_keeps c k at word overflow_pops.TheVariants.LoadsRead h = h
-fill_keeps c k at word (overflow_pops.TheVariants.LoadsWrite read) h = h
-fill_keeps c k at word (overflow_pops.TheVariants.LoadsCell read) h = h
-fill_keeps c k at word (overflow_pops.TheVariants.MovesRead read value) h = h
-
--- the next write position
-publish_keeps : (c : ℕ) (k : Core ℕ) (v : ℕ) (stage : overflow_pops.PopStage) → KnowsOverflowPop c k stage → KnowsOverflowPop c (core.published 1 words_of_index (c + 1) k v) stage
-publish_keeps c k v overflow_pops.TheVariants.FindsNone h = h
-publish_keeps c k v overflow_pops.TheVariants.LoadsRead h = h
-publish_keeps c k v (overflow_pops.TheVariants.LoadsWrite read) h =
-    (h.0, h.1, λ moved. let waits = h.2 moved in omega arith)
-publish_keeps c k v (overflow_pops.TheVariants.LoadsCell read) h =
-    let waits = h.2 in
-    (h.0, h.1, omega arith)
-publish_keeps c k v (overflow_pops.TheVariants.MovesRead read value) h =
-    let waits = h.2 in
-    (h.0, h.1, omega arith, λ same. let first = h.3 same in (first.0 ++ v ∷ [], ap (λ xs. xs ++ v ∷ []) first.1))
-
--- the next read position, where at least the newest value stays
-take_keeps :
-    (c : ℕ) (k : Core ℕ) (rest : List ℕ) → k.write ≡ k.read + c + 1 → (stage : overflow_pops.PopStage) → KnowsOverflowPop c k stage
-    → KnowsOverflowPop c (taken 1 words_of_index (c + 1) k rest) stage
-take_keeps c k rest far overflow_pops.TheVariants.FindsNone h = h
-take_keeps c k rest far overflow_pops.TheVariants.LoadsRead h = h
-take_keeps c k rest far (overflow_pops.TheVariants.LoadsWrite read) h =
-    let some = h.0 in
-    let low = h.1 in
-    (some, omega arith, λ moved. omega arith)
-take_keeps c k rest far (overflow_pops.TheVariants.LoadsCell read) h =
-    let some = h.0 in
-    let low = h.1 in
-    (some, omega arith, omega arith)
-take_keeps c k rest far (overflow_pops.TheVariants.MovesRead read value) h =
-    let some = h.0 in
-    let low = h.1 in
-    (some, omega arith, omega arith, λ same. absurd (omega arith))
+use Rattle.machine.proofs.Structures.Overflow.Keeping.{fill_keeps_pop, publish_keeps_pop, take_keeps_pop}
 
 module _ {T : Type 0} (c : ℕ) (pr co : Option ℕ) (k : Core ℕ) (p steps backs since changes : ℕ) (latest : List (Party T)) (events : List (Event T)) (turns : ℕ) (inv : Inv kinds.TheVariants.Overflow c pr co k latest events changes turns) (small : turns < 2 ^ 64 - 2) (v : ℕ) (holds : pr ≡ Some p) (b : backs ≡ 0) where
   abbrev at : overflow_pushes.PushStage → Flight
@@ -172,7 +132,7 @@ module _ {T : Type 0} (c : ℕ) (pr co : Option ℕ) (k : Core ℕ) (p steps bac
       (set_at k.write k.read (free pr) (free co) k.cells (cell_word c k.write) (1 * (k.write % (c + 1)) + 0) v place)
       (record { span = refl; steps = omega arith; at = (holds, refl, refl, (some, refl, low, far, one_filled 1 words_of_index (c + 1) k v 0 (omega arith) (omega arith) g none)) })
       (omega arith)
-      (λ q ne. kept c pr co pr co k (filled 1 words_of_index (c + 1) k 0 v) q (λ h. h) (λ h. h) kinds.TheVariants.Overflow (record { push = λ mine w stage h. absurd (clash pr p q ne holds mine); pop = λ mine stage h. fill_keeps c k 0 v stage h }))
+      (λ q ne. kept c pr co pr co k (filled 1 words_of_index (c + 1) k 0 v) q (λ h. h) (λ h. h) kinds.TheVariants.Overflow (record { push = λ mine w stage h. absurd (clash pr p q ne holds mine); pop = λ mine stage h. fill_keeps_pop c k 0 v stage h }))
 
   -- ---- the store of the next write position
 
@@ -229,7 +189,7 @@ module _ {T : Type 0} (c : ℕ) (pr co : Option ℕ) (k : Core ℕ) (p steps bac
                 };
             knows = omega arith;
             up = record { write = omega arith; read = omega arith; paid = omega arith };
-            others = λ q ne. kept c pr co pr co k after_publish q (λ h. h) (λ h. h) kinds.TheVariants.Overflow (record { push = λ mine w stage h. absurd (clash pr p q ne holds mine); pop = λ mine stage h. publish_keeps c k v stage h });
+            others = λ q ne. kept c pr co pr co k after_publish q (λ h. h) (λ h. h) kinds.TheVariants.Overflow (record { push = λ mine w stage h. absurd (clash pr p q ne holds mine); pop = λ mine stage h. publish_keeps_pop c k v stage h });
             turned = omega arith;
           },
         )
@@ -261,7 +221,7 @@ module _ {T : Type 0} (c : ℕ) (pr co : Option ℕ) (k : Core ℕ) (p steps bac
             here = record { span = rw t refl; steps = omega arith; at = (holds, refl, refl, (some, omega arith, omega arith, λ same. (k.waiting, refl))) };
             knows = omega arith;
             up = record { write = omega arith; read = omega arith; paid = omega arith };
-            others = λ q ne. kept c pr co pr co k after_publish q (λ h. h) (λ h. h) kinds.TheVariants.Overflow (record { push = λ mine w stage h. absurd (clash pr p q ne holds mine); pop = λ mine stage h. publish_keeps c k v stage h });
+            others = λ q ne. kept c pr co pr co k after_publish q (λ h. h) (λ h. h) kinds.TheVariants.Overflow (record { push = λ mine w stage h. absurd (clash pr p q ne holds mine); pop = λ mine stage h. publish_keeps_pop c k v stage h });
             turned = omega arith;
           },
         )
@@ -295,7 +255,7 @@ module _ {T : Type 0} (c : ℕ) (pr co : Option ℕ) (k : Core ℕ) (p steps bac
             here = record { span = rw t refl; steps = omega arith; at = (holds, refl, refl, (some, omega arith, omega arith, λ same. absurd (omega arith))) };
             knows = omega arith;
             up = record { write = omega arith; read = omega arith; paid = omega arith };
-            others = λ q ne. kept c pr co pr co k after_publish q (λ h. h) (λ h. h) kinds.TheVariants.Overflow (record { push = λ mine w stage h. absurd (clash pr p q ne holds mine); pop = λ mine stage h. publish_keeps c k v stage h });
+            others = λ q ne. kept c pr co pr co k after_publish q (λ h. h) (λ h. h) kinds.TheVariants.Overflow (record { push = λ mine w stage h. absurd (clash pr p q ne holds mine); pop = λ mine stage h. publish_keeps_pop c k v stage h });
             turned = omega arith;
           },
         )
@@ -362,7 +322,7 @@ module _ {T : Type 0} (c : ℕ) (pr co : Option ℕ) (k : Core ℕ) (p steps bac
           here = record { span = refl; steps = omega arith; at = (holds, refl, refl, (some, omega arith, far)) };
           knows = omega arith;
           up = record { write = omega arith; read = omega arith; paid = omega arith };
-          others = λ q ne. kept c pr co pr co k (taken 1 words_of_index (c + 1) k rest) q (λ h. h) (λ h. h) kinds.TheVariants.Overflow (record { push = λ mine w stage h. absurd (clash pr p q ne holds mine); pop = λ mine stage h. take_keeps c k rest far stage h });
+          others = λ q ne. kept c pr co pr co k (taken 1 words_of_index (c + 1) k rest) q (λ h. h) (λ h. h) kinds.TheVariants.Overflow (record { push = λ mine w stage h. absurd (clash pr p q ne holds mine); pop = λ mine stage h. take_keeps_pop c k rest far stage h });
           turned = omega arith;
         },
       )

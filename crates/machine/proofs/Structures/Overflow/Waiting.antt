@@ -18,7 +18,9 @@ use Rattle.machine.specs.World.{party_of, doing_of, flight_of}
 use Rattle.machine.specs.Effects.{pending_from, pending_at, pending}
 use Rattle.machine.specs.Reading.{span_of, Span}
 use Rattle.machine.proofs.Structures.Queues.Core.{Core}
-use Rattle.machine.proofs.Structures.Queues.Invariant.{KnowsOverflowPush, OverflowAt, At, FitsDoing, Fits}
+use Rattle.machine.proofs.Structures.Overflow.Knows.{KnowsOverflowPush, OverflowAt}
+use Rattle.machine.proofs.Structures.Queues.Knows.{At}
+use Rattle.machine.proofs.Structures.Queues.Invariant.{FitsDoing, Fits}
 
 -- ---- no push waits for a read position that is still to come
 

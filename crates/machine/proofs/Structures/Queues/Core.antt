@@ -65,6 +65,12 @@ pub record Core (V : Type 0) : Type 0 where
   pub waiting : List V
   pub cells : List ℕ
 
+-- the positions do not go down, and what they go up by are changes of words
+pub record GoesUp {V : Type 0} (k k' : Core V) (changes changes' : ℕ) : Type 0 where
+  pub write : k.write ≤ k'.write
+  pub read : k.read ≤ k'.read
+  pub paid : k'.write + k'.read + changes ≤ k.write + k.read + changes'
+
 module _ {V : Type 0} (size : ℕ) (words_of : V → List ℕ) (c : ℕ) where
   -- the first words of the value stand in the position's cell
   abbrev pub Holds : List ℕ → ℕ → V → ℕ → Type 0

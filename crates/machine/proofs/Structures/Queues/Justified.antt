@@ -47,8 +47,12 @@ use Rattle.machine.proofs.Rows.{may_next, must_be_due}
 use Rattle.machine.proofs.Small.{reached_small}
 use Rattle.machine.proofs.Turns.{writes_one_word, goes_on, counts_step, counts_others}
 use Rattle.machine.proofs.Structures.Queues.Core.{Core}
-use Rattle.machine.proofs.Structures.Queues.Invariant.{layout, KnowsOverflowPop, RingAt, OverflowAt, If, At, Fits}
-use Rattle.machine.proofs.Structures.Queues.Sound.{Sound, under_way, step_in, never_due, reached_sound}
+use Rattle.machine.proofs.Structures.Ring.Knows.{RingAt}
+use Rattle.machine.proofs.Structures.Overflow.Knows.{KnowsOverflowPop, OverflowAt}
+use Rattle.machine.proofs.Structures.Queues.Knows.{layout, If, At}
+use Rattle.machine.proofs.Structures.Queues.Invariant.{Fits}
+use Rattle.machine.proofs.Structures.Queues.Asks.{never_due}
+use Rattle.machine.proofs.Structures.Queues.Sound.{Sound, under_way, step_in, reached_sound}
 
 -- where a pop of each kind finds nothing
 ring_finds : (kd : Kind) (c : ℕ) (A : Type 0) → If kd A ⊥ → (finding_none kd c ≡ Some (record { word = 0; op = Load })) × A

@@ -16,7 +16,9 @@ use Rattle.machine.specs.declared.event.Start.TheVariants.{AcquireProducer, Rele
 use Rattle.machine.specs.declared.turn.Kind.{Kind}
 use Rattle.machine.specs.declared.turn.Kind as kinds
 use Rattle.machine.proofs.Structures.Queues.Core.{Core}
-use Rattle.machine.proofs.Structures.Queues.Invariant.{KnowsPush, KnowsPop, KnowsOverflowPush, KnowsOverflowPop, overflow_wrote, has_written, RoleAt, RingAt, OverflowAt, If, At}
+use Rattle.machine.proofs.Structures.Ring.Knows.{KnowsPush, KnowsPop, RingAt}
+use Rattle.machine.proofs.Structures.Overflow.Knows.{KnowsOverflowPush, KnowsOverflowPop, overflow_wrote, OverflowAt}
+use Rattle.machine.proofs.Structures.Queues.Knows.{has_written, RoleAt, If, At}
 
 -- a role has one holder
 pub clash : (o : Option ℕ) (p q : ℕ) → q ≢ p → o ≡ Some p → o ≡ Some q → ⊥

@@ -35,7 +35,10 @@ use Rattle.machine.specs.Promises.{IsKept}
 use Rattle.machine.specs.Promises.Book.{stored, waiting_in}
 use Rattle.machine.specs.Promises.Bounds.{most_steps, Progresses}
 use Rattle.machine.proofs.Structures.Queues.Core.{Core, Good, take_all, at_below, word_at}
-use Rattle.machine.proofs.Structures.Queues.Invariant.{free, layout, listed, KnowsPush, KnowsPop, push_number, pop_number, overflow_push_number, overflow_pop_number, len_number, number_of, IsPaid, KnowsBacks, KnowsLen, KnowsFlight, KnowsDoing, Knows, RoleAt, RingAt, OverflowAt, LengthAt, At, FitsDoing, Fits, waiting_is}
+use Rattle.machine.proofs.Structures.Ring.Knows.{KnowsPush, KnowsPop, push_number, pop_number, RingAt}
+use Rattle.machine.proofs.Structures.Overflow.Knows.{overflow_push_number, overflow_pop_number, KnowsBacks, OverflowAt}
+use Rattle.machine.proofs.Structures.Queues.Knows.{free, layout, listed, len_number, number_of, IsPaid, KnowsLen, KnowsFlight, KnowsDoing, Knows, RoleAt, LengthAt, At}
+use Rattle.machine.proofs.Structures.Queues.Invariant.{FitsDoing, Fits, waiting_is}
 use Rattle.machine.proofs.Structures.Queues.Stages.{cell_place}
 use Rattle.machine.proofs.Structures.Queues.Sound.{Sound, reached_sound}
 

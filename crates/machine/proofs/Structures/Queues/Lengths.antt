@@ -35,7 +35,8 @@ use Rattle.machine.specs.Promises.Lengths.{TellsLength}
 use Rattle.machine.specs.Promises.Spans.{Wrote}
 use Rattle.machine.proofs.Moments.{held_now, held_so}
 use Rattle.machine.proofs.Structures.Queues.Core.{Core, Good}
-use Rattle.machine.proofs.Structures.Queues.Invariant.{layout, Hangs, Waited, KnowsLen, len_number, At, waiting_is}
+use Rattle.machine.proofs.Structures.Queues.Knows.{layout, Hangs, Waited, KnowsLen, len_number, At}
+use Rattle.machine.proofs.Structures.Queues.Invariant.{waiting_is}
 use Rattle.machine.proofs.Structures.Queues.Stages.{party_after, Stays, StepOf, still_hangs, quiet, ends}
 use Rattle.machine.proofs.Structures.Queues.Pending.{nothing_waits}
 

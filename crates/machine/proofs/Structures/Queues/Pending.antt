@@ -9,7 +9,7 @@ use Rattle.machine.specs.Calls.{words_of_index}
 use Rattle.machine.specs.Effects.{pending_at, pending}
 use Rattle.machine.proofs.Parties.{party_put_same, party_put_other}
 use Rattle.machine.proofs.Structures.Queues.Core.{Core, Good}
-use Rattle.machine.proofs.Structures.Queues.Invariant.{Hangs}
+use Rattle.machine.proofs.Structures.Queues.Knows.{Hangs}
 
 module _ {T : Type 0} where
   -- a party whose call is no such push, before and after it moved

@@ -18,7 +18,7 @@ use Rattle.machine.specs.Reading.{published, handed_out}
 use Rattle.machine.proofs.Structures.Queues.Core.{Core, Good}
 use Rattle.machine.proofs.Structures.Queues.Keeping.{clash, kept, keeps_same}
 use Rattle.machine.proofs.Structures.Queues.Stages.{party_after, StepOf, still_hangs, ends}
-use Rattle.machine.proofs.Structures.Queues.Invariant.{Hangs}
+use Rattle.machine.proofs.Structures.Queues.Knows.{Hangs}
 use Rattle.machine.proofs.Structures.Queues.Pending.{pending_here, few_wait, none_hangs}
 
 module _ {T : Type 0} (kd : Kind) (c : ℕ) (k : Core ℕ) (p steps backs since changes : ℕ) (latest : List (Party T)) (events : List (Event T)) (turns : ℕ) (g : Good 1 words_of_index (cells_of kd c) k) (before : pending_at k.read (flight_of (doing_of (party_of p latest))) ≡ None) (book : published events ≡ handed_out events ++ map Index k.waiting) (reached : k.write ≤ turns) (small : turns < 2 ^ 64 - 2) (s : steps ≤ 0) (b : backs ≡ 0) where

@@ -3,8 +3,6 @@ use Rattle.std.proofs.Common.{◌≡◌, ℕ, ◌+◌, ◌-◌, ◌^◌, ◌<◌
 use Rattle.std.proofs.lemmas.Bool.Decides.{nat_tests}
 use Rattle.std.proofs.lemmas.List.{length-replicate}
 use Rattle.std.proofs.Math.Seq.{take-nil}
-use Rattle.steps.specs.declared.ring.PushStage as pushes
-use Rattle.steps.specs.declared.ring.PopStage as pops
 use Rattle.steps.specs.declared.overflow.PushStage as overflow_pushes
 use Rattle.steps.specs.declared.overflow.PopStage as overflow_pops
 use Rattle.steps.specs.declared.lengths.Len as length_calls
@@ -32,7 +30,7 @@ use Rattle.machine.specs.declared.turn.Kind as kinds
 use Rattle.machine.specs.declared.turn.Turn.{Turn}
 use Rattle.machine.specs.declared.turn.Turn.TheVariants.{Begin, Next, Decide, Die}
 use Rattle.machine.specs.World.{World, Trace, cells_of, opening, party_of, put, doing_of, flight_of, flight_in}
-use Rattle.machine.specs.Calls.{push_of, pop_of, first_of, want_of, ask_of, after_of, back_of, is_question}
+use Rattle.machine.specs.Calls.{push_of, pop_of, first_of, want_of, ask_of, after_of, back_of}
 use Rattle.machine.specs.Effects.{pending_at, pending, effect_of, told_after}
 use Rattle.machine.specs.Refusals.{refusal_of, holds, is_due, lacks_role}
 use Rattle.machine.specs.Turns.{old_of, change_of, steps_of, ask_in, begun, begun_party, moved, moved_party, producer_after, consumer_after, resumed, resumed_told, next_of, next_told, turned, IsReached}
@@ -44,7 +42,10 @@ use Rattle.machine.proofs.Readings.{Each-nil}
 use Rattle.machine.proofs.Reached.{kept_by_runs}
 use Rattle.machine.proofs.Rows.{must_be_due, never_dies, may_begin, may_next, MayBegin, MayGoOn}
 use Rattle.machine.proofs.Structures.Queues.Core.{Core}
-use Rattle.machine.proofs.Structures.Queues.Invariant.{layout, listed, has_written, Hangs, KnowsLen, KnowsFlight, KnowsDoing, Knows, number_of, RoleAt, RingAt, OverflowAt, LengthAt, At, IsUnderWay, FitsDoing, Fits, Inv, Shows, owes, advance}
+use Rattle.machine.proofs.Structures.Ring.Knows.{RingAt}
+use Rattle.machine.proofs.Structures.Overflow.Knows.{OverflowAt}
+use Rattle.machine.proofs.Structures.Queues.Knows.{layout, listed, has_written, Hangs, KnowsLen, KnowsFlight, KnowsDoing, Knows, number_of, RoleAt, LengthAt, At}
+use Rattle.machine.proofs.Structures.Queues.Invariant.{IsUnderWay, FitsDoing, Fits, Inv, Shows, owes, advance}
 use Rattle.machine.proofs.Structures.Queues.Pending.{pending_put, hangs_same, none_hangs}
 use Rattle.machine.proofs.Structures.Queues.Stages.{StepOf, MovesOf, of_step}
 use Rattle.machine.proofs.Structures.Ring.Pushes.{push_step}
@@ -53,6 +54,7 @@ use Rattle.machine.proofs.Structures.Overflow.Pushes.{overflow_push_step}
 use Rattle.machine.proofs.Structures.Overflow.Pops.{overflow_pop_step}
 use Rattle.machine.proofs.Structures.Queues.Lengths.{len_step, is_empty_step, is_full_step}
 use Rattle.machine.proofs.Structures.Queues.Roles.{acquire_producer, acquire_consumer, release_producer, release_consumer}
+use Rattle.machine.proofs.Structures.Queues.Asks.{never_due}
 
 holds_is : (o : Option ℕ) (p : ℕ) → not (holds o p) ≡ false → o ≡ Some p
 holds_is None p e = absurd (cc)
@@ -61,55 +63,6 @@ holds_is (Some q) p e = go (q == p) refl e
     go : (b : Bool) → (q == p) ≡ b → not b ≡ false → Some q ≡ Some p
     go true t e = let same : q ≡ p = grind (arith, nat_tests) in ap Some same
     go false t e = absurd (cc)
-
--- ---- no call of a queue asks a question
-
-push_asks : (c v : ℕ) (stage : pushes.PushStage) → is_question (want_of (Indices (rings.TheVariants.Push (record { capacity = c; value = v; stage = stage })))) ≡ false
-push_asks c v pushes.TheVariants.LoadsWrite = refl
-push_asks c v (pushes.TheVariants.LoadsRead write) = refl
-push_asks c v (pushes.TheVariants.StoresCell write at) = refl
-push_asks c v (pushes.TheVariants.StoresWrite write) = refl
-
-pop_asks : (c : ℕ) (stage : pops.PopStage ℕ) → is_question (want_of (Indices (rings.TheVariants.Pop (record { capacity = c; stage = stage })))) ≡ false
-pop_asks c pops.TheVariants.LoadsRead = refl
-pop_asks c (pops.TheVariants.LoadsWrite read) = refl
-pop_asks c (pops.TheVariants.LoadsCell read copied) = refl
-pop_asks c (pops.TheVariants.StoresRead read value) = refl
-
-overflow_push_asks : (c v : ℕ) (stage : overflow_pushes.PushStage) → is_question (want_of (Overflow (overflows.TheVariants.Push (record { capacity = c; value = v; stage = stage })))) ≡ false
-overflow_push_asks c v overflow_pushes.TheVariants.HandsBack = refl
-overflow_push_asks c v overflow_pushes.TheVariants.LoadsWrite = refl
-overflow_push_asks c v (overflow_pushes.TheVariants.LoadsRead write) = refl
-overflow_push_asks c v (overflow_pushes.TheVariants.StoresCell write read) = refl
-overflow_push_asks c v (overflow_pushes.TheVariants.StoresWrite write read) = refl
-overflow_push_asks c v (overflow_pushes.TheVariants.MovesRead read) = refl
-overflow_push_asks c v (overflow_pushes.TheVariants.LoadsCell read) = refl
-
-overflow_pop_asks : (c : ℕ) (stage : overflow_pops.PopStage) → is_question (want_of (Overflow (overflows.TheVariants.Pop (record { capacity = c; stage = stage })))) ≡ false
-overflow_pop_asks c overflow_pops.TheVariants.FindsNone = refl
-overflow_pop_asks c overflow_pops.TheVariants.LoadsRead = refl
-overflow_pop_asks c (overflow_pops.TheVariants.LoadsWrite read) = refl
-overflow_pop_asks c (overflow_pops.TheVariants.LoadsCell read) = refl
-overflow_pop_asks c (overflow_pops.TheVariants.MovesRead read value) = refl
-
-len_asks : (which : LengthOf) (c : ℕ) (stage : LenStage) → is_question (want_of (Length which (record { capacity = c; stage = stage }))) ≡ false
-len_asks which c lens.TheVariants.LoadsWrite = refl
-len_asks which c (lens.TheVariants.LoadsRead write) = refl
-len_asks which c (lens.TheVariants.LoadsWriteAgain write read) = refl
-len_asks which c (lens.TheVariants.LoadsReadAgain write read) = refl
-
-never_asks : (flight : Flight) → is_question (want_of flight) ≡ false
-never_asks (Role (Acquire call)) = refl
-never_asks (Role (Release call)) = refl
-never_asks (Indices (rings.TheVariants.Push call)) = push_asks call.capacity call.value call.stage
-never_asks (Indices (rings.TheVariants.Pop call)) = pop_asks call.capacity call.stage
-never_asks (Overflow (overflows.TheVariants.Push call)) = overflow_push_asks call.capacity call.value call.stage
-never_asks (Overflow (overflows.TheVariants.Pop call)) = overflow_pop_asks call.capacity call.stage
-never_asks (Length which call) = len_asks which call.capacity call.stage
-
-pub never_due : (o : Option Flight) → not (is_due o) ≡ true
-never_due None = refl
-never_due (Some flight) = ap not (never_asks flight)
 
 module _ {T : Type 0} where
   -- the words hold a queue, and everything else fits it

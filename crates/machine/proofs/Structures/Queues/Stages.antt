@@ -25,7 +25,8 @@ use Rattle.machine.specs.Promises.Spans.{Wrote}
 use Rattle.machine.specs.Promises.Lengths.{TellsLength}
 use Rattle.machine.specs.Promises.Bounds.{most_steps}
 use Rattle.machine.proofs.Structures.Queues.Core.{Core, Good}
-use Rattle.machine.proofs.Structures.Queues.Invariant.{layout, listed, has_written, Hangs, KnowsFlight, At, IsUnderWay, Inv, Owes, Shows, owes}
+use Rattle.machine.proofs.Structures.Queues.Knows.{layout, listed, has_written, Hangs, KnowsFlight, At}
+use Rattle.machine.proofs.Structures.Queues.Invariant.{IsUnderWay, Inv, Owes, Shows, owes}
 use Rattle.machine.proofs.Structures.Queues.Pending.{pending_put, hangs_same}
 
 pub or_true : (a b : Bool) → (a || b) ≡ true → (a ≡ true) ⊎ (b ≡ true)

@@ -30,7 +30,9 @@ use Rattle.machine.specs.Calls.{after_of, words_of_index}
 use Rattle.machine.specs.Turns.{words_after, change_of}
 use Rattle.machine.specs.Reading.{published, handed_out}
 use Rattle.machine.proofs.Structures.Queues.Core.{Core, Good, taken, takes, front, word_at}
-use Rattle.machine.proofs.Structures.Queues.Invariant.{free, layout, KnowsPush, KnowsPop, pop_number, waiting_is}
+use Rattle.machine.proofs.Structures.Ring.Knows.{KnowsPush, KnowsPop, pop_number}
+use Rattle.machine.proofs.Structures.Queues.Knows.{free, layout}
+use Rattle.machine.proofs.Structures.Queues.Invariant.{waiting_is}
 use Rattle.machine.proofs.Structures.Queues.Keeping.{clash, kept}
 use Rattle.machine.proofs.Structures.Queues.Stages.{or_true, or_false, first_of_some, cell_place, Step, StepOf, quiet}
 

@@ -31,7 +31,9 @@ use Rattle.machine.specs.Turns.{change_of}
 use Rattle.machine.specs.Reading.{published, handed_out}
 use Rattle.machine.proofs.Structures.Queues.Core as core
 use Rattle.machine.proofs.Structures.Queues.Core.{Core, Holds, Good, filled, taken, fills, one_filled, publishes, takes, front, cell_within, word_at, set_at}
-use Rattle.machine.proofs.Structures.Queues.Invariant.{free, layout, KnowsPush, KnowsPop, push_number, waiting_is}
+use Rattle.machine.proofs.Structures.Ring.Knows.{KnowsPush, KnowsPop, push_number}
+use Rattle.machine.proofs.Structures.Queues.Knows.{free, layout}
+use Rattle.machine.proofs.Structures.Queues.Invariant.{waiting_is}
 use Rattle.machine.proofs.Structures.Queues.Keeping.{clash, kept}
 use Rattle.machine.proofs.Structures.Queues.Stages.{or_true, or_false, cell_place, Step, StepOf, quiet}
 

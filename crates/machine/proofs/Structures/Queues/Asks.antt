@@ -1,0 +1,63 @@
+-- No call of a queue asks a question.
+use Rattle.std.proofs.Common.{◌≡◌, ℕ, true, false, not, Option, Some, None, refl, ap}
+use Rattle.steps.specs.declared.ring.PushStage as pushes
+use Rattle.steps.specs.declared.ring.PopStage as pops
+use Rattle.steps.specs.declared.overflow.PushStage as overflow_pushes
+use Rattle.steps.specs.declared.overflow.PopStage as overflow_pops
+use Rattle.steps.specs.declared.lengths.LenStage.{LenStage}
+use Rattle.steps.specs.declared.lengths.LenStage as lens
+use Rattle.machine.specs.declared.call.RoleCall.TheVariants.{Acquire, Release}
+use Rattle.machine.specs.declared.call.RingCall as rings
+use Rattle.machine.specs.declared.call.OverflowCall as overflows
+use Rattle.machine.specs.declared.call.LengthOf.{LengthOf}
+use Rattle.machine.specs.declared.call.Flight.{Flight}
+use Rattle.machine.specs.declared.call.Flight.TheVariants.{Role, Indices, Overflow, Length}
+use Rattle.machine.specs.Calls.{want_of, is_question}
+use Rattle.machine.specs.Refusals.{is_due}
+
+push_asks : (c v : ℕ) (stage : pushes.PushStage) → is_question (want_of (Indices (rings.TheVariants.Push (record { capacity = c; value = v; stage = stage })))) ≡ false
+push_asks c v pushes.TheVariants.LoadsWrite = refl
+push_asks c v (pushes.TheVariants.LoadsRead write) = refl
+push_asks c v (pushes.TheVariants.StoresCell write at) = refl
+push_asks c v (pushes.TheVariants.StoresWrite write) = refl
+
+pop_asks : (c : ℕ) (stage : pops.PopStage ℕ) → is_question (want_of (Indices (rings.TheVariants.Pop (record { capacity = c; stage = stage })))) ≡ false
+pop_asks c pops.TheVariants.LoadsRead = refl
+pop_asks c (pops.TheVariants.LoadsWrite read) = refl
+pop_asks c (pops.TheVariants.LoadsCell read copied) = refl
+pop_asks c (pops.TheVariants.StoresRead read value) = refl
+
+overflow_push_asks : (c v : ℕ) (stage : overflow_pushes.PushStage) → is_question (want_of (Overflow (overflows.TheVariants.Push (record { capacity = c; value = v; stage = stage })))) ≡ false
+overflow_push_asks c v overflow_pushes.TheVariants.HandsBack = refl
+overflow_push_asks c v overflow_pushes.TheVariants.LoadsWrite = refl
+overflow_push_asks c v (overflow_pushes.TheVariants.LoadsRead write) = refl
+overflow_push_asks c v (overflow_pushes.TheVariants.StoresCell write read) = refl
+overflow_push_asks c v (overflow_pushes.TheVariants.StoresWrite write read) = refl
+overflow_push_asks c v (overflow_pushes.TheVariants.MovesRead read) = refl
+overflow_push_asks c v (overflow_pushes.TheVariants.LoadsCell read) = refl
+
+overflow_pop_asks : (c : ℕ) (stage : overflow_pops.PopStage) → is_question (want_of (Overflow (overflows.TheVariants.Pop (record { capacity = c; stage = stage })))) ≡ false
+overflow_pop_asks c overflow_pops.TheVariants.FindsNone = refl
+overflow_pop_asks c overflow_pops.TheVariants.LoadsRead = refl
+overflow_pop_asks c (overflow_pops.TheVariants.LoadsWrite read) = refl
+overflow_pop_asks c (overflow_pops.TheVariants.LoadsCell read) = refl
+overflow_pop_asks c (overflow_pops.TheVariants.MovesRead read value) = refl
+
+len_asks : (which : LengthOf) (c : ℕ) (stage : LenStage) → is_question (want_of (Length which (record { capacity = c; stage = stage }))) ≡ false
+len_asks which c lens.TheVariants.LoadsWrite = refl
+len_asks which c (lens.TheVariants.LoadsRead write) = refl
+len_asks which c (lens.TheVariants.LoadsWriteAgain write read) = refl
+len_asks which c (lens.TheVariants.LoadsReadAgain write read) = refl
+
+never_asks : (flight : Flight) → is_question (want_of flight) ≡ false
+never_asks (Role (Acquire call)) = refl
+never_asks (Role (Release call)) = refl
+never_asks (Indices (rings.TheVariants.Push call)) = push_asks call.capacity call.value call.stage
+never_asks (Indices (rings.TheVariants.Pop call)) = pop_asks call.capacity call.stage
+never_asks (Overflow (overflows.TheVariants.Push call)) = overflow_push_asks call.capacity call.value call.stage
+never_asks (Overflow (overflows.TheVariants.Pop call)) = overflow_pop_asks call.capacity call.stage
+never_asks (Length which call) = len_asks which call.capacity call.stage
+
+pub never_due : (o : Option Flight) → not (is_due o) ≡ true
+never_due None = refl
+never_due (Some flight) = ap not (never_asks flight)
