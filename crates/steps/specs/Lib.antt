@@ -5,4 +5,5 @@ pub mod Lengths
 pub mod Overflow
 pub mod Ring
 pub mod Roles
+pub mod Value
 pub mod Words

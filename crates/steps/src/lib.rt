@@ -13,4 +13,5 @@ pub mod ring;
 pub mod roles;
 #[cfg(test)]
 mod tests;
+pub mod value;
 pub mod words;

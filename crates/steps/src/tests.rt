@@ -6,6 +6,7 @@ use crate::overflow;
 use crate::overflow::PopStage;
 use crate::ring::{CONSUMER, PRODUCER, Pop, Push};
 use crate::roles::{AcquireRole, ReleaseRole};
+use crate::value::{Load, LoadStage, Store};
 use crate::words::Words;
 use std::test::Fail;
 
@@ -25,6 +26,20 @@ fn step<C: Call>(call: C, words: &mut [u64]) -> After<C, C::Answer> {
         Want::Nothing => 0,
     };
     call.take(answer)
+}
+
+/// Takes this many steps of the call, which does not end by them.
+fn partly<C: Call + Drop>(mut call: C, steps: u64, words: &mut [u64]) -> Option<C>
+where
+    C::Answer: Drop,
+{
+    for _ in 0..steps {
+        match step(call, words) {
+            After::GoOn(next) => call = next,
+            After::Done(_) => return None,
+        }
+    }
+    Some(call)
 }
 
 /// Runs the call to its end, of at most 9 steps: its answer and its steps.
@@ -182,6 +197,71 @@ fn a_pop_reads_again_where_a_push_moved_the_read_position(rt: HostRuntime) {
     assert!(rt; call.goes_back(1));
     assert!(rt; !call.goes_back(0));
     assert_eq!(rt; whole(call, &mut words), Some((Some(2), 3)));
+}
+
+#[test]
+fn a_value_of_two_words(rt: HostRuntime) {
+    let mut words = [1, 1, 0, 0, 0, 0];
+    let first: u128 = 18446744073709551618;
+    assert_eq!(rt; whole(Load::<u128>::new(), &mut words), Some((0, 4)));
+    assert_eq!(rt;
+        whole(Store::<u128>::new(first), &mut words),
+        Some((true, 4))
+    );
+    assert_eq!(rt; words, [2, 1, 0, 0, 1, 2]);
+    assert_eq!(rt; whole(Load::<u128>::new(), &mut words), Some((first, 4)));
+    assert_eq!(rt; words, [2, 1, 0, 0, 1, 2]);
+    assert_eq!(rt;
+        whole(Store::<(u64, u64)>::new((3, 4)), &mut words),
+        Some((true, 4))
+    );
+    assert_eq!(rt; words, [3, 1, 3, 4, 1, 2]);
+}
+
+#[test]
+fn a_load_goes_back_where_stores_moved_the_version(rt: HostRuntime) -> Result<(), Fail> {
+    let mut words = [1, 1, 0, 0, 0, 0];
+    let call = partly(Load::<u128>::new(), 2, &mut words).ok_or("it ended")?;
+    let stored: [u128; 2] = [18446744073709551618, 55340232221128654852];
+    for value in stored {
+        assert_eq!(rt;
+            whole(Store::<u128>::new(value), &mut words),
+            Some((true, 4))
+        );
+    }
+    let call = partly(call, 1, &mut words).ok_or("it ended")?;
+    // The copy is half the opening value and half the second store's.
+    assert!(rt;
+        matches!(
+            &call.stage,
+            LoadStage::ChecksVersion {
+                version: 1,
+                value: 4
+            }
+        )
+    );
+    assert!(rt; call.goes_back(3));
+    assert!(rt; !call.goes_back(1));
+    // With the three steps before, seven: it goes back once.
+    assert_eq!(rt; whole(call, &mut words), Some((stored[1], 4)));
+    assert_eq!(rt; words, [3, 1, 3, 4, 1, 2]);
+    Ok(())
+}
+
+#[test]
+fn a_value_of_one_word(rt: HostRuntime) {
+    let mut words = [2, 1, 7, 8];
+    assert_eq!(rt; whole(Load::<u64>::new(), &mut words), Some((8, 3)));
+    assert_eq!(rt; whole(Store::<u64>::new(9), &mut words), Some((true, 3)));
+    assert_eq!(rt; words, [3, 1, 9, 8]);
+    // The last version takes no value, and the value stands.
+    let mut last = [u64::MAX, 1, 7, 8];
+    assert_eq!(rt; whole(Store::<u64>::new(9), &mut last), Some((false, 1)));
+    assert_eq!(rt; last, [u64::MAX, 1, 7, 8]);
+    assert_eq!(rt; whole(Load::<u64>::new(), &mut last), Some((7, 3)));
+    // The number of the cell wraps.
+    let mut zero = [0, 1, 7, 8];
+    assert_eq!(rt; whole(Load::<u64>::new(), &mut zero), Some((8, 3)));
 }
 
 #[test]
