@@ -1,3 +1,4 @@
 pub mod Ring
 pub mod IndexQueue
+pub mod Queue
 pub mod OverflowingQueue

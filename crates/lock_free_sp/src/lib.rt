@@ -4,6 +4,8 @@
 //! structure is the view of its pass; the rule of the table says how the views of all passes fit together.
 #![tactic(auto)]
 
+#[cfg(test)]
+mod queue_tests;
 mod ring;
 pub mod spsc;
 #[cfg(test)]
