@@ -1,4 +1,6 @@
 pub mod Ring
+pub mod Value
 pub mod IndexQueue
 pub mod Queue
 pub mod OverflowingQueue
+pub mod UnrestrictedAtomic

@@ -7,6 +7,10 @@
 #[cfg(test)]
 mod queue_tests;
 mod ring;
+pub mod spmc;
 pub mod spsc;
 #[cfg(test)]
 mod tests;
+mod value;
+#[cfg(test)]
+mod value_tests;

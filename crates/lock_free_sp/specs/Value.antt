@@ -1,0 +1,5 @@
+pub mod Views
+pub mod Between
+pub mod Tells
+pub mod Kept
+pub mod Calls

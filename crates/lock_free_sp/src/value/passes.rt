@@ -1,0 +1,41 @@
+//! How tokens are made of one another.
+ghost use Rattle.std.specs.Prelude.{◌≡◌, IfSome};
+ghost use Rattle.lock_free_sp.specs.Value.Views.{blank, joined};
+ghost use Rattle.lock_free_sp.specs.Value.Between.{Sound, Ruled};
+ghost use Rattle.lock_free_sp.specs.Value.Calls.{seen, table_of, IsSame};
+
+use super::plays::{Both, Cut, Learns};
+use super::rule::{VERSION, ValueRule};
+use super::token::{Held, Token};
+use std::sync::Arc;
+use steps::words::Words;
+
+impl<T: Words> Held<T, ValueRule<T>> {
+    /// A token that knows nothing, at the same table. None where no further reference can be counted. One load of the
+    /// version.
+    pub fn split(&mut self) -> Option<Token<T>>
+        ensures same { IsSame self.old self.new }
+        ensures left { seen self.new ≡ seen self.old }
+        ensures table { IfSome result (λ t. table_of t ≡ table_of self.old) }
+        ensures right { IfSome result (λ t. seen t ≡ blank) }
+    {
+        let Ok(board) = Arc::try_clone(&self.board) else {
+            return None;
+        };
+        let seat = self.board.shared.split_seat::<Cut>(&mut self.seat);
+        Some(Held { seat, board })
+    }
+
+    /// Takes in what the other token knows. Two loads of the version.
+    pub fn join(&mut self, other: Token<T>)
+        requires table { table_of other ≡ table_of self.old }
+        ensures same { IsSame self.old self.new }
+        ensures both { seen self.new ≡ joined (seen self.old) (seen other) }
+        ensures rule { Ruled (seen self.old) (seen other) }
+        ensures sound { Sound (seen self.new) }
+    {
+        let Held { seat, .. } = other;
+        self.board.shared.join_seat::<Both>(&mut self.seat, seat);
+        self.board.shared.load::<Learns>(&mut self.seat, VERSION);
+    }
+}

@@ -1,0 +1,40 @@
+//! The rule of a value's table.
+//!
+//! Word 0 is the version, which opens at 1 or above and goes up by 1 at each store. Word 1 is the producer's role, 1
+//! while it is free. Two cells follow: the value of a version stands in the one whose number is the version less 1,
+//! modulo 2.
+
+use super::view::View;
+use atomic_table::{Table, TableRule};
+use std::alloc::Global;
+use std::marker::PhantomData;
+use steps::words::Words;
+
+pub const VERSION: usize = 0;
+
+pub const PRODUCER: usize = 1;
+
+pub const FIRST_CELL: usize = 2;
+
+/// What a table is made with, and so its key.
+#[derive(Clone, Copy)]
+pub struct Opening<T> {
+    pub version: u64,
+    pub value: T,
+}
+
+/// The rule. The first seat knows the opening value with its version.
+pub struct ValueRule<T> {
+    of: PhantomData<T>,
+}
+
+impl<T: Words> TableRule<(), View<T>, Opening<T>> for ValueRule<T> {
+    ghost use Rattle.lock_free_sp.specs.Value.Kept.{Kept};
+    ghost use Rattle.lock_free_sp.specs.Value.Views.{opened};
+
+    ghost holds = { λ opening. Kept T.words_of T.WORDS };
+
+    ghost first = { λ opening. opened opening.version opening.value };
+}
+
+pub type Board<T> = Table<(), View<T>, Opening<T>, ValueRule<T>, Global>;
