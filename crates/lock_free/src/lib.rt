@@ -5,4 +5,4 @@ pub mod mpmc;
 #[cfg(test)]
 mod tests;
 
-pub use lock_free_sp::spsc;
+pub use lock_free_sp::{spmc, spsc};
