@@ -1,6 +1,5 @@
 //! The queue of values: real calls, alone and between threads.
 use crate::spsc::queue::{Consumer, Pass, Producer, Queue};
-use std::process::Abort;
 use std::sync::Wait;
 use std::test::Fail;
 use std::thread;

@@ -22,7 +22,8 @@ pub struct Queue<T: Words, const CAPACITY: usize> {
     ring: Ring<T, RingRule<Bounded, T>, CAPACITY>,
 }
 
-/// A table with a cell for each of CAPACITY values.
+/// A table with a cell for each of CAPACITY values. Its rule is a parameter, as that of `Held` is: only so can its size
+/// be told by `T::WORDS`.
 #[derive(Drop)]
 struct Ring<T: Words, Q: TableRule<(), View<T>, u64>, const CAPACITY: usize> {
     board: Arc<Table<(), View<T>, u64, Q, Global>, Global>,

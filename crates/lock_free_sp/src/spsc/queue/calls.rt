@@ -1,5 +1,5 @@
 //! The calls of a queue of values.
-ghost use Rattle.std.specs.Prelude.{◌≡◌, ◌≤◌, ◌⊎◌, ◌-◌, ◌^◌, true, false, None, Some, IsTrue, IsFalse, IfOk, IfErr, OnOk, IfSome, IfNone};
+ghost use Rattle.std.specs.Prelude.{◌≡◌, ◌≤◌, ◌⊎◌, ◌-◌, ◌^◌, None, Some, IsTrue, IsFalse, IfOk, IfErr, OnOk, IfSome, IfNone};
 ghost use Rattle.steps.specs.Enums.{capacity_refusal};
 ghost use Rattle.steps.specs.declared.enums.UniqueIndexCreationError.TheVariants.{NoMemory};
 ghost use Rattle.lock_free_sp.specs.Ring.Views.{blank, joined, with_producer, without_producer, with_consumer, without_consumer};
