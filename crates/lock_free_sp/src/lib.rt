@@ -5,6 +5,8 @@
 #![tactic(auto)]
 
 #[cfg(test)]
+mod driven;
+#[cfg(test)]
 mod queue_tests;
 mod ring;
 pub mod spmc;

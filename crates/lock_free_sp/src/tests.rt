@@ -1,4 +1,5 @@
 //! Real calls, alone and between threads.
+use crate::driven::alone;
 use crate::ring::board::open;
 use crate::ring::rule::{Bounded, Overflowing};
 use crate::spsc::index_queue::{Consumer, FixedSizeIndexQueue, IndexQueue, Pass, Producer};
@@ -11,7 +12,6 @@ use std::process::Abort;
 use std::sync::Wait;
 use std::test::Fail;
 use std::thread;
-use steps::ask::{After, Call, Want};
 use steps::enums::UniqueIndexCreationError;
 use steps::overflow;
 use steps::ring::{Pop, Push};
@@ -225,28 +225,6 @@ fn a_million_rounds(rt: HostRuntime) -> Result<(), Fail> {
         assert_eq!(rt; consumer.pop(), Some(round));
     }
     Ok(())
-}
-
-/// Runs a call of `steps` to its end, alone on these words.
-fn alone<C: Call + Drop>(mut call: C, words: &mut [u64]) -> Option<C::Answer>
-where
-    C::Answer: Drop,
-{
-    for _ in 0..9 {
-        let old = match call.ask() {
-            Want::Ask(ask) if ask.word < words.len() => {
-                let old = words[ask.word];
-                words[ask.word] = ask.op.apply(old);
-                old
-            }
-            _ => 0,
-        };
-        match call.take(old) {
-            After::GoOn(next) => call = next,
-            After::Done(answer) => return Some(answer),
-        }
-    }
-    None
 }
 
 #[test]

@@ -4,11 +4,12 @@ ghost use Rattle.std.specs.Arc.{arc_value};
 ghost use Rattle.lock_free_sp.specs.Value.Views.{opened};
 ghost use Rattle.lock_free_sp.specs.Value.Calls.{seen, table_of};
 
-use super::rule::{Board, FIRST_CELL, Opening, PRODUCER, VERSION};
+use super::rule::{Board, Opening};
 use super::token::{Held, Token};
 use atomic_table::Table;
 use std::alloc::{AllocError, Global};
 use std::sync::Arc;
+use steps::value::{FIRST_CELL, PRODUCER, VERSION};
 use steps::words::Words;
 
 /// A value at this version with its role free, and a token that knows the two.

@@ -9,9 +9,10 @@ ghost use Rattle.lock_free_sp.specs.Value.Tells.{place, with_word, with_copied, 
 use super::plays::{
     CopiesWord, LeavesProducer, Publishes, SeesVersion, Settles, Starts, StoresWord, TakesProducer,
 };
-use super::rule::{FIRST_CELL, PRODUCER, VERSION, ValueRule};
+use super::rule::ValueRule;
 use super::token::Held;
 use std::sync::Wait;
+use steps::value::{FIRST_CELL, PRODUCER, VERSION};
 use steps::words::Words;
 
 impl<T: Words> Held<T, ValueRule<T>> {

@@ -5,9 +5,10 @@ ghost use Rattle.lock_free_sp.specs.Value.Between.{Sound, Ruled};
 ghost use Rattle.lock_free_sp.specs.Value.Calls.{seen, table_of, IsSame};
 
 use super::plays::{Both, Cut, Learns};
-use super::rule::{VERSION, ValueRule};
+use super::rule::ValueRule;
 use super::token::{Held, Token};
 use std::sync::Arc;
+use steps::value::VERSION;
 use steps::words::Words;
 
 impl<T: Words> Held<T, ValueRule<T>> {

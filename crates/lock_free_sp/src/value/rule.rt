@@ -1,20 +1,13 @@
 //! The rule of a value's table.
 //!
-//! Word 0 is the version, which opens at 1 or above and goes up by 1 at each store. Word 1 is the producer's role, 1
-//! while it is free. Two cells follow: the value of a version stands in the one whose number is the version less 1,
-//! modulo 2.
+//! The words are those of `steps::value`: the version, which opens at 1 or above and goes up by 1 at each store, the
+//! producer's role, and two cells: the value of a version stands in the one whose number is the version less 1, modulo 2.
 
 use super::view::View;
 use atomic_table::{Table, TableRule};
 use std::alloc::Global;
 use std::marker::PhantomData;
 use steps::words::Words;
-
-pub const VERSION: usize = 0;
-
-pub const PRODUCER: usize = 1;
-
-pub const FIRST_CELL: usize = 2;
 
 /// What a table is made with, and so its key.
 #[derive(Clone, Copy)]
