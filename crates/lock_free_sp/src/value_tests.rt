@@ -1,4 +1,6 @@
 //! Real calls on an unrestricted atomic value, alone and between threads.
+ghost use Rattle.lock_free_sp.specs.UnrestrictedAtomic.{IsPassOf};
+
 use crate::spmc::unrestricted_atomic::{Pass, Producer, UnrestrictedAtomic};
 use crate::value::board::open;
 use std::sync::Wait;
@@ -94,24 +96,34 @@ fn store_all(mut producer: Producer<'_, (u64, u64)>) -> bool {
     stored
 }
 
+/// One who loads.
+#[derive(Drop)]
+struct Reader<'a> {
+    value: &'a UnrestrictedAtomic<(u64, u64)>,
+    pass: Pass<(u64, u64)>,
+    ghost of: { IsPassOf value.now pass },
+}
+
+impl<'a> Reader<'a> {
+    fn load(&mut self, rt: &impl Wait) -> (u64, u64) {
+        self.value.load(rt, &mut self.pass)
+    }
+}
+
 /// Loads until it sees (10000, 10000): whether both halves of each pair were equal, and none below the one before.
-fn load_all(
-    rt: &impl Wait,
-    value: &UnrestrictedAtomic<(u64, u64)>,
-    mut pass: Pass<(u64, u64)>,
-) -> bool {
+fn load_all(rt: &impl Wait, mut reader: Reader<'_>) -> bool {
     let mut last = 0;
     let mut whole = true;
     for _ in rt.forever() {
-        let (left, right) = value.load(rt, &mut pass);
+        let (left, right) = reader.load(rt);
         whole &= left == right && left >= last;
         last = left;
         if left == 10_000 {
-            return whole;
+            break;
         }
         thread::yield_now();
     }
-    unreachable!()
+    whole
 }
 
 #[test]
@@ -120,15 +132,22 @@ fn pairs_from_one_writer_to_two_readers(rt: HostRuntime) -> Result<(), Fail> {
     let second = pass.split().ok_or("no pass")?;
     let third = pass.split().ok_or("no pass")?;
     let producer = value.acquire_producer(pass).map_err(|_| "taken")?;
-    let value = &value;
+    let one = Reader {
+        value: &value,
+        pass: second,
+    };
+    let other = Reader {
+        value: &value,
+        pass: third,
+    };
     let (stored, (one, other)) = thread::join(
         &rt,
         move || store_all(producer),
         move || {
             thread::join(
                 &rt,
-                move || load_all(&rt, value, second),
-                move || load_all(&rt, value, third),
+                move || load_all(&rt, one),
+                move || load_all(&rt, other),
             )
         },
     );
