@@ -1,5 +1,6 @@
 //! The public paths, as a caller names them.
 use crate::mpmc::unique_index_set_enums::UniqueIndexCreationError;
+use crate::spmc::unrestricted_atomic::UnrestrictedAtomic;
 use crate::spsc::index_queue::{FixedSizeIndexQueue, IndexQueue};
 use crate::spsc::queue::Queue;
 use std::test::Fail;
@@ -27,6 +28,16 @@ fn a_value_through_a_queue_of_values(rt: HostRuntime) -> Result<(), Fail> {
         .map_err(|_| "taken")?;
     assert_eq!(rt; consumer.pop(), Some(1234));
     assert_eq!(rt; consumer.pop(), None);
+    Ok(())
+}
+
+#[test]
+fn a_number_that_is_stored_and_loaded(rt: HostRuntime) -> Result<(), Fail> {
+    let (value, mut pass) = UnrestrictedAtomic::new(rt.alloc(), 7u64)?;
+    let other = pass.split().ok_or("no pass")?;
+    let mut producer = value.acquire_producer(other).map_err(|_| "taken")?;
+    assert!(rt; producer.store(8));
+    assert_eq!(rt; value.load(&rt, &mut pass), 8);
     Ok(())
 }
 

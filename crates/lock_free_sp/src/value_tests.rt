@@ -1,11 +1,14 @@
 //! Real calls on an unrestricted atomic value, alone and between threads.
 ghost use Rattle.lock_free_sp.specs.UnrestrictedAtomic.{IsPassOf};
 
+use crate::driven::alone;
 use crate::spmc::unrestricted_atomic::{Pass, Producer, UnrestrictedAtomic};
 use crate::value::board::open;
 use std::sync::Wait;
 use std::test::Fail;
 use std::thread;
+use steps::roles::AcquireRole;
+use steps::value::{Load, PRODUCER, Store};
 
 fn may_be_sent<T: Send>() {}
 
@@ -71,19 +74,26 @@ fn the_last_version_takes_nothing(rt: HostRuntime) -> Result<(), Fail> {
 }
 
 #[test]
-fn where_the_words_of_a_value_stand(rt: HostRuntime) -> Result<(), Fail> {
+fn a_value_as_the_steps_have_it(rt: HostRuntime) -> Result<(), Fail> {
     let (board, mut token) = open::<(u64, u64)>(rt.alloc(), 1, (1, 2))?;
     assert!(rt; token.take_producer());
     assert!(rt; !token.take_producer());
     assert!(rt; token.store(&(3, 4)));
     assert!(rt; token.store(&(5, 6)));
     assert_eq!(rt; token.load(&rt), (5, 6));
-    let words = [3, 0, 5, 6, 3, 4];
+    let mut words = [1, 1, 1, 2, 0, 0];
+    let role = AcquireRole { word: PRODUCER };
+    assert_eq!(rt; alone(role, &mut words), Some(true));
+    assert_eq!(rt; alone(role, &mut words), Some(false));
+    assert_eq!(rt; alone(Store::new((3, 4)), &mut words), Some(true));
+    assert_eq!(rt; alone(Store::new((5, 6)), &mut words), Some(true));
+    assert_eq!(rt; alone(Load::<(u64, u64)>::new(), &mut words), Some((5, 6)));
+    assert_eq!(rt; words, [3, 0, 5, 6, 3, 4]);
     for at in 0..6 {
         assert_eq!(rt; board.shared.peek(at), words[at]);
     }
     token.leave_producer();
-    assert_eq!(rt; board.shared.peek(1), 1);
+    assert_eq!(rt; board.shared.peek(PRODUCER), 1);
     Ok(())
 }
 
