@@ -13,7 +13,7 @@ use Rattle.lock_free_sp.specs.Value.Kept.{Face, Book, Kept, Knows, IsStored, IsL
 use Rattle.lock_free_sp.specs.Value.Tells.{place}
 use Rattle.lock_free_sp.proofs.Rules.Ring.Lists.{all_left, all_right, pairs_append, pairs_across}
 use Rattle.lock_free_sp.proofs.Rules.Ring.Roles.{none_some}
-use Rattle.lock_free_sp.proofs.Rules.Value.Stays.{Onwards, Passes, stays, St}
+use Rattle.lock_free_sp.proofs.Rules.Value.Stays.{Passes, stays, St}
 use mathlib.Core.Option.{some, some-injective, some-ne-none}
 use lib.ListN.{get_elem?}
 

@@ -1,6 +1,5 @@
 -- The steps of a load keep the rule of a value, and so does a look at what a seat knows.
-use Rattle.std.proofs.Common.{◌≡◌, ◌≢◌, ℕ, ◌+◌, ◌<◌, ◌≤◌, ◌==◌, List, [], ◌∷◌, ◌++◌, length, get_or, sym, refl, ap, subst, ◌∙◌, arith, le_refl, length-append}
-use Rattle.std.specs.List.{All}
+use Rattle.std.proofs.Common.{◌≡◌, ◌≢◌, ℕ, ◌<◌, ◌==◌, List, [], ◌∷◌, ◌++◌, length, get_or, sym, refl, ap, subst, ◌∙◌, arith, le_refl, length-append}
 use Rattle.std.proofs.lemmas.List.Elements.{All-push}
 use Rattle.std.proofs.lemmas.List.{get_or_append_left, get_or_push, ext_get_or}
 use Rattle.atomic_table.specs.Table.{State, Me, Act, Valid, Allows, step, stepped, keeps, carried_after}
@@ -13,8 +12,7 @@ use Rattle.lock_free_sp.specs.Value.Kept.{Kept, KnowsLoad, Knows, IsLoaded, face
 use Rattle.lock_free_sp.specs.Value.Tells.{tells, place, with_copied, load_started, word_copied, Settled, load_settled, learned}
 use Rattle.lock_free_sp.proofs.Rules.Value.Stays.{knows_load, up_to, sound, St, looks}
 use mathlib.Core.Logic.{dite}
-use mathlib.Core.Option.{none, some}
-use lib.ListN.{get_elem?}
+use mathlib.Core.Option.{none}
 use native.Mathlib.Decide.{ℕ_discrete}
 use prog.Atomic.{either}
 

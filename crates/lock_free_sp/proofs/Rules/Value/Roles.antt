@@ -1,5 +1,5 @@
 -- The steps on the role of a value keep the rule.
-use Rattle.std.proofs.Common.{◌≡◌, ◌≢◌, ℕ, ◌+◌, ◌<◌, ◌≤◌, ◌==◌, List, get_or, set, sym, refl, ap, subst, ◌∙◌, arith, length-set, get_or-set_same, get_or-set_other}
+use Rattle.std.proofs.Common.{◌≡◌, ◌≢◌, ℕ, ◌==◌, List, get_or, set, sym, refl, ap, subst, ◌∙◌, arith, length-set, get_or-set_same, get_or-set_other}
 use Rattle.atomic_table.specs.Table.{State, Me, Act, Valid, Allows, step, stepped, keeps, carried_after}
 use Rattle.atomic_table.proofs.Lists.{exchanged}
 use Rattle.lock_free_sp.specs.declared.value.view.StoreStage.TheVariants as storing

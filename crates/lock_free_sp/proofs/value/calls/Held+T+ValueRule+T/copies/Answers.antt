@@ -1,4 +1,4 @@
-use Rattle.std.proofs.Common.{arith, refl, sym, ap, ◌∙◌, ℕ, ◌≡◌, ◌<◌, ◌≤◌, length, take, length-set}
+use Rattle.std.proofs.Common.{arith, refl, sym, ap, ◌∙◌, ℕ, ◌≡◌, ◌<◌, length, take, length-set}
 use Rattle.std.proofs.lemmas.List.{take_more_set, length-take-le}
 use Rattle.lock_free_sp.specs.declared.value.view.LoadStage.TheVariants as loading
 use Rattle.lock_free_sp.specs.Value.Views.{with_load}

@@ -1,5 +1,4 @@
 use Rattle.std.proofs.Common.{rules, subst, sym}
-use Rattle.lock_free_sp.specs.Value.Calls.{seen}
 use Rattle.lock_free_sp.specs.Value.Tells.{Settled}
 use Rattle.lock_free_sp.proofs.Rules.Value.Loads.{settles}
 use Rattle.lock_free_sp.proofs.value.calls.Held+T+ValueRule+T.settles.Goals as goal
