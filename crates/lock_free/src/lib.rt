@@ -6,3 +6,4 @@ pub mod mpmc;
 mod tests;
 
 pub use lock_free_sp::{spmc, spsc};
+pub use steps::words;

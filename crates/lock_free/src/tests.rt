@@ -3,6 +3,7 @@ use crate::mpmc::unique_index_set_enums::UniqueIndexCreationError;
 use crate::spmc::unrestricted_atomic::UnrestrictedAtomic;
 use crate::spsc::index_queue::{FixedSizeIndexQueue, IndexQueue};
 use crate::spsc::queue::Queue;
+use crate::words::Words;
 use std::test::Fail;
 
 #[test]
@@ -38,6 +39,7 @@ fn a_number_that_is_stored_and_loaded(rt: HostRuntime) -> Result<(), Fail> {
     let mut producer = value.acquire_producer(other).map_err(|_| "taken")?;
     assert!(rt; producer.store(8));
     assert_eq!(rt; value.load(&rt, &mut pass), 8);
+    assert_eq!(rt; <u64 as Words>::WORDS, 1);
     Ok(())
 }
 

@@ -1,4 +1,5 @@
-//! The bounded queue of any values with words, shared between threads: its rule, its steps and its calls.
+//! The queues, shared between threads: their rule, their steps and their calls. The bounded one holds any values with
+//! words, the overflowing one numbers.
 pub mod board;
 pub mod bounded;
 pub mod calls;

@@ -22,7 +22,6 @@ module _ {T : Type 0} where
   -- what holds between a pass, or a guard, and another pass
   pub record Ruled (v w : View T) : Type 0 where
     pub stored : Apart v.stored w.stored
-    pub stored_stored : Agree v.stored w.stored
     pub stored_loaded : Agree v.stored w.loaded
     pub loaded_stored : Agree v.loaded w.stored
     pub loaded_loaded : Agree v.loaded w.loaded

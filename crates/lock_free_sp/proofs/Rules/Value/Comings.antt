@@ -139,7 +139,6 @@ module _ {T : Type 0} where
       let apart = pairs_across (λ (x y : ℕ × T). x.0 ≢ y.0) v.stored w.stored h.stored in
       record {
         stored = apart;
-        stored_stored = λ i d lt j e near same. absurd (apart i d lt j e near same);
         stored_loaded = agree_first v.stored w.stored v.loaded w.loaded h.stored_loaded;
         loaded_stored = agree_last v.stored w.stored v.loaded w.loaded h.stored_loaded;
         loaded_loaded = agree_first v.loaded w.loaded v.loaded w.loaded h.loaded;
