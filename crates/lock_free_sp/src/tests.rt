@@ -7,7 +7,7 @@ use crate::spsc::safely_overflowing_index_queue as overflowing;
 use crate::spsc::safely_overflowing_index_queue::{
     FixedSizeSafelyOverflowingIndexQueue, SafelyOverflowingIndexQueue,
 };
-use std::alloc::{AllocError, Global};
+use std::alloc::AllocError;
 use std::process::Abort;
 use std::sync::Wait;
 use std::test::Fail;
@@ -381,10 +381,9 @@ fn an_overflowing_role_is_taken_once(rt: HostRuntime) -> Result<(), Fail> {
 
 /// Pushes 0 to 9,999: the numbers that were handed back.
 fn overflow_all(
-    alloc: Global,
+    mut back: Vec<u64>,
     mut producer: overflowing::Producer<'_>,
 ) -> Result<Vec<u64>, AllocError> {
-    let mut back = Vec::with_capacity(alloc, 10_000)?;
     for value in 0..10_000 {
         if let Some(old) = producer.push(value) {
             back.push(old)?;
@@ -396,10 +395,9 @@ fn overflow_all(
 /// Pops up to 9,999, which is never handed back: the numbers that came.
 fn drain_all(
     rt: &impl Wait,
-    alloc: Global,
+    mut came: Vec<u64>,
     mut consumer: overflowing::Consumer<'_>,
 ) -> Result<Vec<u64>, AllocError> {
-    let mut came = Vec::with_capacity(alloc, 10_000)?;
     for _ in rt.forever() {
         match consumer.pop(rt) {
             Some(value) => {
@@ -421,10 +419,13 @@ fn numbers_come_or_are_handed_back(rt: HostRuntime) -> Result<(), Fail> {
     let other = pass.split().ok_or("no pass")?;
     let producer = queue.acquire_producer(pass).map_err(|_| "taken")?;
     let consumer = queue.acquire_consumer(other).map_err(|_| "taken")?;
+    // The room is had before the threads start: a thread that had none would leave the other waiting.
+    let back = Vec::with_capacity(alloc, 10_000)?;
+    let came = Vec::with_capacity(alloc, 10_000)?;
     let (back, came) = thread::join(
         &rt,
-        move || overflow_all(alloc, producer),
-        move || drain_all(&rt, alloc, consumer),
+        move || overflow_all(back, producer),
+        move || drain_all(&rt, came, consumer),
     );
     let (back, came) = (back?, came?);
     // Both are in order, and each number is in one of them.
