@@ -1,6 +1,6 @@
+pub mod Driver
+pub mod Seats
 pub mod Ring
+pub mod Ends
 pub mod Value
-pub mod IndexQueue
-pub mod Queue
-pub mod OverflowingQueue
 pub mod UnrestrictedAtomic

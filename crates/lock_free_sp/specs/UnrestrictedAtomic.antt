@@ -15,17 +15,17 @@ value_id a = (arc_value a.board).shared.table_id
 module _ {T : Type 0} {words : Ghosts T} where
   -- what a pass knows, and which value it is for
   abbrev pub view : Pass T words → View T
-  view p = p.token.seat.me.0
+  view p = p.token.seated.seat.me.0
 
   abbrev pub value_of_pass : Pass T words → TableId
-  value_of_pass p = p.token.seat.table_id
+  value_of_pass p = p.token.seated.seat.table_id
 
   abbrev pub IsPassOf : UnrestrictedAtomic T → Pass T words → Type 0
   IsPassOf a p = value_of_pass p ≡ value_id a
 
   -- the same of a guard
   abbrev pub producer_view : Producer T words → View T
-  producer_view p = p.token.seat.me.0
+  producer_view p = p.token.seated.seat.me.0
 
   abbrev pub value_of_producer : Producer T words → TableId
-  value_of_producer p = p.token.seat.table_id
+  value_of_producer p = p.token.seated.seat.table_id

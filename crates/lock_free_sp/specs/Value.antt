@@ -3,3 +3,4 @@ pub mod Between
 pub mod Tells
 pub mod Kept
 pub mod Calls
+pub mod Stages

@@ -1,11 +1,13 @@
-//! The queues, shared between threads: their rule, their steps and their calls. The bounded one holds any values with
-//! words, the overflowing one numbers.
-pub mod board;
-pub mod bounded;
-pub mod calls;
-pub mod overflowing;
-pub mod passes;
-pub mod plays;
+//! The queues, shared between threads: their rule, what is known at the steps of their calls, and their ends. The bounded
+//! ones hold any values with words, the overflowing one numbers.
+mod board;
+mod bounded;
+mod calls;
+mod drives;
+pub mod ends;
+mod overflowing;
+mod passes;
+mod plays;
 pub mod rule;
 pub mod token;
 pub mod view;

@@ -1,6 +1,7 @@
-//! One value of any type with words, shared between threads: its rule, its steps and its calls.
+//! One value of any type with words, shared between threads: its rule and its calls.
 pub mod board;
 pub mod calls;
+pub mod drives;
 pub mod passes;
 pub mod plays;
 pub mod rule;

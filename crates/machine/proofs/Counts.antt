@@ -29,6 +29,6 @@ steps_small (Some ask) = omega arith
 pub back_small : (flight : Flight) (answer : ℕ) → back_of flight answer ≤ 1
 back_small (Role call) answer = omega arith
 back_small (Indices call) answer = omega arith
-back_small (Overflow (overflows.TheVariants.Push call)) answer = omega arith
-back_small (Overflow (overflows.TheVariants.Pop call)) answer = one_or_none (goes_back call.stage answer)
-back_small (Length which call) answer = one_or_none (turns_back call.stage answer)
+back_small (Overflow (overflows.TheVariants.Push run)) answer = omega arith
+back_small (Overflow (overflows.TheVariants.Pop run)) answer = one_or_none (goes_back run.call.stage answer)
+back_small (Length which run) answer = one_or_none (turns_back run.call.stage answer)

@@ -1,9 +1,7 @@
 -- The list of the parties' latest calls.
-use Rattle.std.proofs.Common.{◌≡◌, ◌≢◌, ℕ, suc, ◌<◌, ◌≤◌, ◌==◌, Bool, true, false, Some, None, List, [], ◌∷◌, ◌++◌, length, get_or, set, set-set, refl, sym, ap, subst, ◌∙◌, arith}
+use Rattle.std.proofs.Common.{◌≡◌, ◌≢◌, ℕ, suc, ◌<◌, ◌≤◌, ◌==◌, Bool, true, false, Some, None, List, [], ◌∷◌, ◌++◌, length, get_or, set, refl, sym, ap, subst, ◌∙◌, arith}
 use Rattle.std.proofs.lemmas.Bool.Decides.{nat_tests}
-use Rattle.std.proofs.lemmas.List.{set-get_or}
 use Rattle.std.specs.List.{AllByRecursion}
-use Rattle.machine.specs.declared.party.Doing.{Doing}
 use Rattle.machine.specs.declared.party.Party.{Party}
 use Rattle.machine.specs.World.{party_of, place_of, put}
 
@@ -125,17 +123,9 @@ module _ {T : Type 0} where
       let read : party_of p xs ≡ Some y = party_read p xs at y e h is in
       cc
 
-  -- a party written in its place, after another value stood there
-  pub put_again : (p : ℕ) (xs : List (Party T)) (at : ℕ) (blank x : Party T) → at ≡ place_of p xs → at < length xs → x.number ≡ p → set (set xs at blank) at x ≡ put x xs
-  put_again p xs at blank x e h n =
+  -- a party written in its place
+  pub put_here : (p : ℕ) (xs : List (Party T)) (at : ℕ) (x : Party T) → at ≡ place_of p xs → at < length xs → x.number ≡ p → set xs at x ≡ put x xs
+  put_here p xs at x e h n =
       let here : place_of x.number xs ≡ at = ap (λ m. place_of m xs) n ∙ sym e in
       let within : place_of x.number xs < length xs = omega arith in
-      set-set xs at blank x ∙ (ap (λ m. set xs m x) (sym here) ∙ sym (put_at x xs within))
-
-  -- a party written as it was
-  pub put_same : (p : ℕ) (xs : List (Party T)) (at : ℕ) (blank x : Party T) → at ≡ place_of p xs → at < length xs → x ≡ get_or xs at x → set (set xs at blank) at x ≡ xs
-  put_same p xs at blank x e h is = set-set xs at blank x ∙ (ap (λ y. set xs at y) is ∙ set-get_or xs at x)
-
-  -- a party put together from its parts
-  pub party_is : (y : Party T) (doing : Doing) → y.doing ≡ doing → record { number = y.number; start = y.start; steps = y.steps; backs = y.backs; doing = doing } ≡ y
-  party_is y doing e = ap (λ (d : Doing). record { number = y.number; start = y.start; steps = y.steps; backs = y.backs; doing = d }) (sym e)
+      ap (λ m. set xs m x) (sym here) ∙ sym (put_at x xs within)

@@ -1,12 +1,15 @@
 -- Which calls a kind has, and how a call under way goes on.
-use Rattle.std.specs.Prelude.{ℕ, ◌==◌, Bool, true, false, Option, Some, None, List, [], ◌∷◌, if◌then◌else◌, slice_index}
+use Rattle.std.specs.Prelude.{ℕ, ◌==◌, Bool, true, false, Option, Some, None, List, [], ◌∷◌, if◌then◌else◌}
 use Rattle.steps.specs.declared.ask.Ask.{Ask}
 use Rattle.steps.specs.declared.ask.Want.{Want}
 use Rattle.steps.specs.declared.ask.Want as wants
 use Rattle.steps.specs.declared.ask.After.{After}
 use Rattle.steps.specs.declared.ask.After.TheVariants.{GoOn, Done}
+use Rattle.steps.specs.declared.copied.OneWord.{OneWord}
+use Rattle.steps.specs.Copied.{kept_in_one}
+use Rattle.steps.specs.Routine.{went_on}
 use Rattle.steps.specs.Roles.{acquire_want, acquire_after, release_want, release_after}
-use Rattle.steps.specs.Ring.{first_push, push_want, push_after, first_pop, pop_want, pop_after}
+use Rattle.steps.specs.Ring.{first_push, push_want, push_after, first_pop, pop_want, pop_after, pop_kept, pop_answer}
 use Rattle.steps.specs.Lengths.{first_len, len_want, len_after, turns_back}
 use Rattle.steps.specs.Overflow as overflow
 use Rattle.machine.specs.declared.call.RoleCall.TheVariants.{Acquire, Release}
@@ -30,49 +33,66 @@ use Rattle.machine.specs.declared.turn.Kind as kinds
 abbrev pub words_of_index : ℕ → List ℕ
 words_of_index index = index ∷ []
 
-abbrev pub index_of_words : List ℕ → ℕ
-index_of_words words = slice_index words 0
+-- ---- the calls that begin
+
+abbrev pub acquire_of : ℕ → Flight
+acquire_of word = Role (Acquire (record { call = record { word = word }; given = tt; room = tt }))
+
+abbrev pub release_of : ℕ → Flight
+release_of word = Role (Release (record { call = record { word = word }; given = tt; room = tt }))
+
+-- a room in which nothing was put
+abbrev pub fresh : OneWord
+fresh = record { 0 = 0 }
 
 abbrev pub push_of : Kind → ℕ → ℕ → Flight
-push_of kinds.TheVariants.IndexQueue capacity index = Indices (rings.TheVariants.Push (first_push capacity index))
+push_of kinds.TheVariants.IndexQueue capacity index =
+    Indices (rings.TheVariants.Push (record { call = first_push capacity; given = index; room = tt }))
 push_of kinds.TheVariants.Overflow capacity index =
-    Overflow (overflows.TheVariants.Push (overflow.first_push capacity index))
+    Overflow (overflows.TheVariants.Push (record { call = overflow.first_push capacity; given = index; room = fresh }))
 
 abbrev pub pop_of : Kind → ℕ → Flight
-pop_of kinds.TheVariants.IndexQueue capacity = Indices (rings.TheVariants.Pop (first_pop capacity))
-pop_of kinds.TheVariants.Overflow capacity = Overflow (overflows.TheVariants.Pop (overflow.first_pop capacity))
+pop_of kinds.TheVariants.IndexQueue capacity =
+    Indices (rings.TheVariants.Pop (record { call = first_pop capacity; given = tt; room = fresh }))
+pop_of kinds.TheVariants.Overflow capacity =
+    Overflow (overflows.TheVariants.Pop (record { call = overflow.first_pop capacity; given = tt; room = fresh }))
+
+abbrev pub length_of : LengthOf → ℕ → Flight
+length_of which capacity = Length which (record { call = first_len capacity; given = tt; room = tt })
 
 module _ {T : Type 0} where
   -- the call that begins, or None where the kind has no such call
   abbrev pub first_of : Kind → ℕ → Start T → Option Flight
-  first_of kind capacity starts.TheVariants.AcquireProducer = Some (Role (Acquire (record { word = 2 })))
-  first_of kind capacity starts.TheVariants.ReleaseProducer = Some (Role (Release (record { word = 2 })))
-  first_of kind capacity starts.TheVariants.AcquireConsumer = Some (Role (Acquire (record { word = 3 })))
-  first_of kind capacity starts.TheVariants.ReleaseConsumer = Some (Role (Release (record { word = 3 })))
+  first_of kind capacity starts.TheVariants.AcquireProducer = Some (acquire_of 2)
+  first_of kind capacity starts.TheVariants.ReleaseProducer = Some (release_of 2)
+  first_of kind capacity starts.TheVariants.AcquireConsumer = Some (acquire_of 3)
+  first_of kind capacity starts.TheVariants.ReleaseConsumer = Some (release_of 3)
   first_of kind capacity (starts.TheVariants.Push (items.TheVariants.Index index)) = Some (push_of kind capacity index)
   first_of kind capacity (starts.TheVariants.Push (items.TheVariants.Value value)) = None
   first_of kind capacity starts.TheVariants.Pop = Some (pop_of kind capacity)
-  first_of kind capacity starts.TheVariants.Len = Some (Length measures.TheVariants.Len (first_len capacity))
-  first_of kind capacity starts.TheVariants.IsEmpty = Some (Length measures.TheVariants.IsEmpty (first_len capacity))
-  first_of kind capacity starts.TheVariants.IsFull = Some (Length measures.TheVariants.IsFull (first_len capacity))
+  first_of kind capacity starts.TheVariants.Len = Some (length_of measures.TheVariants.Len capacity)
+  first_of kind capacity starts.TheVariants.IsEmpty = Some (length_of measures.TheVariants.IsEmpty capacity)
+  first_of kind capacity starts.TheVariants.IsFull = Some (length_of measures.TheVariants.IsFull capacity)
+
+-- ---- the calls under way
 
 -- what a call under way wants next
-abbrev pub want_of : Flight → Want ℕ
-want_of (Role (Acquire call)) = acquire_want call
-want_of (Role (Release call)) = release_want call
-want_of (Indices (rings.TheVariants.Push call)) = push_want 1 words_of_index call
-want_of (Indices (rings.TheVariants.Pop call)) = pop_want 1 call
-want_of (Overflow (overflows.TheVariants.Push call)) = overflow.push_want call
-want_of (Overflow (overflows.TheVariants.Pop call)) = overflow.pop_want call
-want_of (Length which call) = len_want call
+abbrev pub want_of : Flight → Want (Unit {0})
+want_of (Role (Acquire run)) = acquire_want run.call
+want_of (Role (Release run)) = release_want run.call
+want_of (Indices (rings.TheVariants.Push run)) = push_want words_of_index run.call run.given
+want_of (Indices (rings.TheVariants.Pop run)) = pop_want run.call
+want_of (Overflow (overflows.TheVariants.Push run)) = overflow.push_want run.call run.given
+want_of (Overflow (overflows.TheVariants.Pop run)) = overflow.pop_want run.call
+want_of (Length which run) = len_want run.call
 
 -- the operation that it asks for, if any
-abbrev pub ask_of : Want ℕ → Option Ask
+abbrev pub ask_of : Want (Unit {0}) → Option Ask
 ask_of (wants.TheVariants.Ask ask) = Some ask
 ask_of (wants.TheVariants.Question question) = None
 ask_of wants.TheVariants.Nothing = None
 
-abbrev pub is_question : Want ℕ → Bool
+abbrev pub is_question : Want (Unit {0}) → Bool
 is_question (wants.TheVariants.Ask ask) = false
 is_question (wants.TheVariants.Question question) = true
 is_question wants.TheVariants.Nothing = false
@@ -91,30 +111,42 @@ length_answer measures.TheVariants.IsFull capacity number = answers.TheVariants.
 abbrev pub back_of : Flight → ℕ → ℕ
 back_of (Role call) old = 0
 back_of (Indices call) old = 0
-back_of (Overflow (overflows.TheVariants.Push call)) old = 0
-back_of (Overflow (overflows.TheVariants.Pop call)) old = if overflow.goes_back call.stage old then 1 else 0
-back_of (Length which call) old = if turns_back call.stage old then 1 else 0
+back_of (Overflow (overflows.TheVariants.Push run)) old = 0
+back_of (Overflow (overflows.TheVariants.Pop run)) old = if overflow.goes_back run.call.stage old then 1 else 0
+back_of (Length which run) old = if turns_back run.call.stage old then 1 else 0
 
-module _ {T C A : Type 0} where
+module _ {T R A : Type 0} where
   -- a call of one family as a call of the machine
-  abbrev pub carried : (C → Flight) → (A → Answer T) → After C A → After Flight (Answer T)
-  carried flight answer (GoOn call) = GoOn (flight call)
+  abbrev pub carried : (R → Flight) → (A → Answer T) → After R A → After Flight (Answer T)
+  carried flight answer (GoOn run) = GoOn (flight run)
   carried flight answer (Done result) = Done (answer result)
+
+-- an end that is the answer
+abbrev pub as_it_is : {E G M : Type 0} → E → G → M → E
+as_it_is end given room = end
 
 module _ {T : Type 0} where
   -- how it goes on from the old value of its word
   abbrev pub after_of : Flight → ℕ → After Flight (Answer T)
-  after_of (Role (Acquire call)) old =
-      carried (λ c. Role (Acquire c)) answers.TheVariants.Truth (acquire_after call old)
-  after_of (Role (Release call)) old =
-      carried (λ c. Role (Release c)) (λ _. answers.TheVariants.Done) (release_after call old)
-  after_of (Indices (rings.TheVariants.Push call)) old =
-      carried (λ c. Indices (rings.TheVariants.Push c)) answers.TheVariants.Truth (push_after 1 call old)
-  after_of (Indices (rings.TheVariants.Pop call)) old =
-      carried (λ c. Indices (rings.TheVariants.Pop c)) popped (pop_after 1 index_of_words call old)
-  after_of (Overflow (overflows.TheVariants.Push call)) old =
-      carried (λ c. Overflow (overflows.TheVariants.Push c)) popped (overflow.push_after call old)
-  after_of (Overflow (overflows.TheVariants.Pop call)) old =
-      carried (λ c. Overflow (overflows.TheVariants.Pop c)) popped (overflow.pop_after call old)
-  after_of (Length which call) old =
-      carried (λ c. Length which c) (length_answer which call.capacity) (len_after call old)
+  after_of (Role (Acquire run)) old =
+      carried (λ r. Role (Acquire r)) answers.TheVariants.Truth (went_on as_it_is run.given run.room (acquire_after run.call old))
+  after_of (Role (Release run)) old =
+      carried (λ r. Role (Release r)) (λ _. answers.TheVariants.Done) (went_on as_it_is run.given run.room (release_after run.call old))
+  after_of (Indices (rings.TheVariants.Push run)) old =
+      carried (λ r. Indices (rings.TheVariants.Push r)) answers.TheVariants.Truth (went_on as_it_is run.given run.room (push_after 1 run.call old))
+  after_of (Indices (rings.TheVariants.Pop run)) old =
+      carried (λ r. Indices (rings.TheVariants.Pop r)) popped
+      (went_on (λ end given room. pop_answer room.0 end) run.given (pop_kept kept_in_one run.call run.room old) (pop_after 1 run.call old))
+  after_of (Overflow (overflows.TheVariants.Push run)) old =
+      carried (λ r. Overflow (overflows.TheVariants.Push r)) popped
+      (went_on (λ end given room. overflow.push_answer given room.0 end) run.given (overflow.push_kept run.call run.room old) (overflow.push_after run.call old))
+  after_of (Overflow (overflows.TheVariants.Pop run)) old =
+      carried (λ r. Overflow (overflows.TheVariants.Pop r)) popped
+      (went_on (λ end given room. overflow.pop_answer room.0 end) run.given (overflow.pop_kept run.call run.room old) (overflow.pop_after run.call old))
+  after_of (Length which run) old =
+      carried (λ r. Length which r) (length_answer which run.call.capacity) (went_on as_it_is run.given run.room (len_after run.call old))
+
+-- the answer of a call that is done
+abbrev pub answer_in : {C A : Type 0} → After C A → Option A
+answer_in (GoOn call) = None
+answer_in (Done answer) = Some answer

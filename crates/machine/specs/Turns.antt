@@ -19,7 +19,7 @@ use Rattle.machine.specs.declared.turn.Refusal.{Refusal}
 use Rattle.machine.specs.declared.turn.Turn.{Turn}
 use Rattle.machine.specs.declared.turn.Turn.TheVariants.{Begin, Next, Decide, Die}
 use Rattle.machine.specs.World.{World, Trace, opening, party_of, put}
-use Rattle.machine.specs.Calls.{first_of, want_of, ask_of, after_of, back_of}
+use Rattle.machine.specs.Calls.{first_of, want_of, ask_of, after_of, back_of, answer_in}
 use Rattle.machine.specs.Effects.{pending, effect_of, told_after}
 use Rattle.machine.specs.Refusals.{refusal_of}
 
@@ -53,22 +53,27 @@ abbrev pub steps_of : Option Ask → ℕ
 steps_of None = 0
 steps_of (Some ask) = 1
 
+-- a call that is done keeps how often others changed words until now
+abbrev pub ended_where : Bool → ℕ → Doing → Doing
+ended_where true changes (Going flight since) = Over (changes - since)
+ended_where is_done changes doing = doing
+
 module _ {T : Type 0} where
   -- ---- the roles: held from the end of an acquire that answers true to the end of the giving back
 
-  abbrev pub producer_after : ℕ → Start T → After Flight (Answer T) → Option ℕ → Option ℕ
-  producer_after p AcquireProducer (Done (Truth true)) holder = Some p
-  producer_after p ReleaseProducer (Done answer) holder = None
-  producer_after p start after holder = holder
+  abbrev pub producer_after : ℕ → Start T → Option (Answer T) → Option ℕ → Option ℕ
+  producer_after p AcquireProducer (Some (Truth true)) holder = Some p
+  producer_after p ReleaseProducer (Some answer) holder = None
+  producer_after p start outcome holder = holder
 
-  abbrev pub consumer_after : ℕ → Start T → After Flight (Answer T) → Option ℕ → Option ℕ
-  consumer_after p AcquireConsumer (Done (Truth true)) holder = Some p
-  consumer_after p ReleaseConsumer (Done answer) holder = None
-  consumer_after p start after holder = holder
+  abbrev pub consumer_after : ℕ → Start T → Option (Answer T) → Option ℕ → Option ℕ
+  consumer_after p AcquireConsumer (Some (Truth true)) holder = Some p
+  consumer_after p ReleaseConsumer (Some answer) holder = None
+  consumer_after p start outcome holder = holder
 
   -- ---- a turn that is not refused
 
-  -- a call that is done keeps how often others changed words until now
+  -- where the call stands after it went on
   abbrev pub doing_after : ℕ → ℕ → After Flight (Answer T) → Doing
   doing_after changes since (GoOn flight) = Going flight since
   doing_after changes since (Done answer) = Over (changes - since)
@@ -112,8 +117,8 @@ module _ {T : Type 0} where
         capacity = w.capacity;
         parties = w.parties;
         words = words_after w.words ask;
-        producer = producer_after x.number x.start after w.producer;
-        consumer = consumer_after x.number x.start after w.consumer;
+        producer = producer_after x.number x.start (answer_in after) w.producer;
+        consumer = consumer_after x.number x.start (answer_in after) w.consumer;
         latest = put (moved_party x since w.changes (steps_of ask) (change_of w.words ask) back after) w.latest;
         changes = w.changes + change_of w.words ask;
         turns = w.turns + 1;
@@ -155,7 +160,7 @@ module _ {T : Type 0} where
   abbrev pub resumed_told : World T → Party T → ℕ → Doing → List (Event T)
   resumed_told w x answer (Over others) = []
   resumed_told w x answer (Going flight since) =
-      told_after x.number x.start (effect_in w flight answer) (after_of flight answer)
+      told_after x.number x.start (effect_in w flight answer) (answer_in (after_of flight answer))
 
   abbrev pub next_told : World T → Option (Party T) → List (Event T)
   next_told w None = []

@@ -1,36 +1,37 @@
 //! The calls under way, by families: what each wants, and how it goes on.
-ghost use Rattle.std.specs.Prelude.{◌≡◌, true, false};
-ghost use Rattle.steps.specs.declared.ask.After.{After};
-ghost use Rattle.machine.specs.Calls.{push_of, pop_of, first_of, want_of, after_of, back_of, is_question, popped, length_answer};
+ghost use Rattle.std.specs.Prelude.{◌≡◌, MatchOption};
+ghost use Rattle.steps.specs.declared.ask.After.TheVariants.{GoOn, Done};
+ghost use Rattle.machine.specs.Calls.{acquire_of, release_of, push_of, pop_of, length_of, first_of, want_of, after_of, back_of, is_question, popped, length_answer};
 
 use crate::event::{Answer, Item, Start};
 use crate::turn::Kind;
-use steps::ask::{After, Call, Want};
+use steps::ask::Want;
+use steps::copied::OneWord;
 use steps::lengths::Len;
 use steps::overflow;
 use steps::ring::{CONSUMER, PRODUCER, Pop, Push};
 use steps::roles::{AcquireRole, ReleaseRole};
-use steps::words::Words;
+use steps::routine::Running;
 
 /// A call on a role.
 #[derive(Drop)]
 pub enum RoleCall {
-    Acquire(AcquireRole),
-    Release(ReleaseRole),
+    Acquire(Running<AcquireRole, (), ()>),
+    Release(Running<ReleaseRole, (), ()>),
 }
 
-/// A call on a bounded queue of the values V.
+/// A call on a bounded queue of the values V, which a pop reads by way of a room R.
 #[derive(Drop)]
-pub enum RingCall<V: Words> {
-    Push(Push<V>),
-    Pop(Pop<V>),
+pub enum RingCall<V, R> {
+    Push(Running<Push<V>, V, ()>),
+    Pop(Running<Pop<V, R>, (), R>),
 }
 
 /// A call on an overflowing queue.
-#[derive(Clone, Copy)]
+#[derive(Drop)]
 pub enum OverflowCall {
-    Push(overflow::Push),
-    Pop(overflow::Pop),
+    Push(Running<overflow::Push, u64, OneWord>),
+    Pop(Running<overflow::Pop, (), OneWord>),
 }
 
 /// What a call asks of the number of values that wait.
@@ -45,9 +46,31 @@ pub enum LengthOf {
 #[derive(Drop)]
 pub enum Flight {
     Role(RoleCall),
-    Indices(RingCall<u64>),
+    Indices(RingCall<u64, OneWord>),
     Overflow(OverflowCall),
-    Length(LengthOf, Len),
+    Length(LengthOf, Running<Len, (), ()>),
+}
+
+/// An acquiring of the role with this word.
+fn acquire_of(word: usize) -> Flight
+    ensures { result ≡ acquire_of word }
+{
+    Flight::Role(RoleCall::Acquire(Running {
+        call: AcquireRole { word },
+        given: (),
+        room: (),
+    }))
+}
+
+/// A giving back of the role with this word.
+fn release_of(word: usize) -> Flight
+    ensures { result ≡ release_of word }
+{
+    Flight::Role(RoleCall::Release(Running {
+        call: ReleaseRole { word },
+        given: (),
+        room: (),
+    }))
 }
 
 /// A push of this index.
@@ -55,10 +78,16 @@ fn push_of(kind: Kind, capacity: u32, index: u64) -> Flight
     ensures { result ≡ push_of kind capacity index }
 {
     match kind {
-        Kind::IndexQueue => Flight::Indices(RingCall::Push(Push::new(capacity, index))),
-        Kind::Overflow => {
-            Flight::Overflow(OverflowCall::Push(overflow::Push::new(capacity, index)))
-        }
+        Kind::IndexQueue => Flight::Indices(RingCall::Push(Running {
+            call: Push::new(capacity),
+            given: index,
+            room: (),
+        })),
+        Kind::Overflow => Flight::Overflow(OverflowCall::Push(Running {
+            call: overflow::Push::new(capacity),
+            given: index,
+            room: OneWord(0),
+        })),
     }
 }
 
@@ -66,9 +95,30 @@ fn pop_of(kind: Kind, capacity: u32) -> Flight
     ensures { result ≡ pop_of kind capacity }
 {
     match kind {
-        Kind::IndexQueue => Flight::Indices(RingCall::Pop(Pop::new(capacity))),
-        Kind::Overflow => Flight::Overflow(OverflowCall::Pop(overflow::Pop::new(capacity))),
+        Kind::IndexQueue => Flight::Indices(RingCall::Pop(Running {
+            call: Pop::new(capacity),
+            given: (),
+            room: OneWord(0),
+        })),
+        Kind::Overflow => Flight::Overflow(OverflowCall::Pop(Running {
+            call: overflow::Pop::new(capacity),
+            given: (),
+            room: OneWord(0),
+        })),
     }
+}
+
+fn length_of(which: LengthOf, capacity: u32) -> Flight
+    ensures { result ≡ length_of which capacity }
+{
+    Flight::Length(
+        which,
+        Running {
+            call: Len::new(capacity),
+            given: (),
+            room: (),
+        },
+    )
 }
 
 /// The call that begins, or None where the kind has no such call.
@@ -76,24 +126,16 @@ pub fn first<T: Copy>(kind: Kind, capacity: u32, start: Start<T>) -> Option<Flig
     ensures { result ≡ first_of kind capacity start }
 {
     match start {
-        Start::AcquireProducer => Some(Flight::Role(RoleCall::Acquire(AcquireRole {
-            word: PRODUCER,
-        }))),
-        Start::ReleaseProducer => Some(Flight::Role(RoleCall::Release(ReleaseRole {
-            word: PRODUCER,
-        }))),
-        Start::AcquireConsumer => Some(Flight::Role(RoleCall::Acquire(AcquireRole {
-            word: CONSUMER,
-        }))),
-        Start::ReleaseConsumer => Some(Flight::Role(RoleCall::Release(ReleaseRole {
-            word: CONSUMER,
-        }))),
+        Start::AcquireProducer => Some(acquire_of(PRODUCER)),
+        Start::ReleaseProducer => Some(release_of(PRODUCER)),
+        Start::AcquireConsumer => Some(acquire_of(CONSUMER)),
+        Start::ReleaseConsumer => Some(release_of(CONSUMER)),
         Start::Push(Item::Index(index)) => Some(push_of(kind, capacity, index)),
         Start::Push(Item::Value(_)) => None,
         Start::Pop => Some(pop_of(kind, capacity)),
-        Start::Len => Some(Flight::Length(LengthOf::Len, Len::new(capacity))),
-        Start::IsEmpty => Some(Flight::Length(LengthOf::IsEmpty, Len::new(capacity))),
-        Start::IsFull => Some(Flight::Length(LengthOf::IsFull, Len::new(capacity))),
+        Start::Len => Some(length_of(LengthOf::Len, capacity)),
+        Start::IsEmpty => Some(length_of(LengthOf::IsEmpty, capacity)),
+        Start::IsFull => Some(length_of(LengthOf::IsFull, capacity)),
     }
 }
 
@@ -119,17 +161,17 @@ fn length_answer<T: Copy>(which: LengthOf, capacity: u32, number: u64) -> Answer
 
 impl Flight {
     /// What the call wants next.
-    pub fn want(&self) -> Want<u64>
+    pub fn want(&self) -> Want<()>
         ensures { result ≡ want_of self.now }
     {
         match self {
-            Flight::Role(RoleCall::Acquire(call)) => call.ask(),
-            Flight::Role(RoleCall::Release(call)) => call.ask(),
-            Flight::Indices(RingCall::Push(call)) => call.ask(),
-            Flight::Indices(RingCall::Pop(call)) => call.ask(),
-            Flight::Overflow(OverflowCall::Push(call)) => call.ask(),
-            Flight::Overflow(OverflowCall::Pop(call)) => call.ask(),
-            Flight::Length(_, call) => call.ask(),
+            Flight::Role(RoleCall::Acquire(run)) => run.want(),
+            Flight::Role(RoleCall::Release(run)) => run.want(),
+            Flight::Indices(RingCall::Push(run)) => run.want(),
+            Flight::Indices(RingCall::Pop(run)) => run.want(),
+            Flight::Overflow(OverflowCall::Push(run)) => run.want(),
+            Flight::Overflow(OverflowCall::Pop(run)) => run.want(),
+            Flight::Length(_, run) => run.want(),
         }
     }
 
@@ -151,48 +193,46 @@ impl Flight {
             Flight::Role(_) => 0,
             Flight::Indices(_) => 0,
             Flight::Overflow(OverflowCall::Push(_)) => 0,
-            Flight::Overflow(OverflowCall::Pop(call)) => {
-                if call.goes_back(answer) { 1 } else { 0 }
+            Flight::Overflow(OverflowCall::Pop(run)) => {
+                if run.call.goes_back(answer) { 1 } else { 0 }
             }
-            Flight::Length(_, call) => { if call.turns_back(answer) { 1 } else { 0 } }
+            Flight::Length(_, run) => { if run.call.turns_back(answer) { 1 } else { 0 } }
         }
     }
 
-    /// How the call goes on from an answer.
-    pub fn after<T: Copy>(self, answer: u64) -> After<Flight, Answer<T>>
-        ensures { result ≡ after_of self answer }
+    /// Lets the call go on from an answer, where it lies: its own answer, where it is done.
+    pub fn go_on<T: Copy>(&mut self, answer: u64) -> Option<Answer<T>>
+        ensures { MatchOption result (after_of {T = T} self.old answer ≡ GoOn self.new) (λ a. after_of self.old answer ≡ Done a) }
     {
         match self {
-            Flight::Role(RoleCall::Acquire(call)) => match call.take(answer) {
-                After::GoOn(call) => After::GoOn(Flight::Role(RoleCall::Acquire(call))),
-                After::Done(taken) => After::Done(Answer::Truth(taken)),
-            },
-            Flight::Role(RoleCall::Release(call)) => match call.take(answer) {
-                After::GoOn(call) => After::GoOn(Flight::Role(RoleCall::Release(call))),
-                After::Done(()) => After::Done(Answer::Done),
-            },
-            Flight::Indices(RingCall::Push(call)) => match call.take(answer) {
-                After::GoOn(call) => After::GoOn(Flight::Indices(RingCall::Push(call))),
-                After::Done(pushed) => After::Done(Answer::Truth(pushed)),
-            },
-            Flight::Indices(RingCall::Pop(call)) => match call.take(answer) {
-                After::GoOn(call) => After::GoOn(Flight::Indices(RingCall::Pop(call))),
-                After::Done(answer) => After::Done(popped(answer)),
-            },
-            Flight::Overflow(OverflowCall::Push(call)) => match call.take(answer) {
-                After::GoOn(call) => After::GoOn(Flight::Overflow(OverflowCall::Push(call))),
-                After::Done(answer) => After::Done(popped(answer)),
-            },
-            Flight::Overflow(OverflowCall::Pop(call)) => match call.take(answer) {
-                After::GoOn(call) => After::GoOn(Flight::Overflow(OverflowCall::Pop(call))),
-                After::Done(answer) => After::Done(popped(answer)),
-            },
-            Flight::Length(which, call) => {
-                let capacity = call.capacity;
-                match call.take(answer) {
-                    After::GoOn(call) => After::GoOn(Flight::Length(which, call)),
-                    After::Done(number) => After::Done(length_answer(which, capacity, number)),
-                }
+            Flight::Role(RoleCall::Acquire(run)) => {
+                let taken = run.go_on(answer)?;
+                Some(Answer::Truth(taken))
+            }
+            Flight::Role(RoleCall::Release(run)) => {
+                let () = run.go_on(answer)?;
+                Some(Answer::Done)
+            }
+            Flight::Indices(RingCall::Push(run)) => {
+                let pushed = run.go_on(answer)?;
+                Some(Answer::Truth(pushed))
+            }
+            Flight::Indices(RingCall::Pop(run)) => {
+                let value = run.go_on(answer)?;
+                Some(popped(value))
+            }
+            Flight::Overflow(OverflowCall::Push(run)) => {
+                let oldest = run.go_on(answer)?;
+                Some(popped(oldest))
+            }
+            Flight::Overflow(OverflowCall::Pop(run)) => {
+                let value = run.go_on(answer)?;
+                Some(popped(value))
+            }
+            Flight::Length(which, run) => {
+                let capacity = run.call.capacity;
+                let number = run.go_on(answer)?;
+                Some(length_answer(*which, capacity, number))
             }
         }
     }

@@ -6,7 +6,6 @@ use crate::call::{Flight, OverflowCall, RingCall};
 use crate::event::{Answer, Event, Item, Start};
 use crate::party::{Party, flight_of};
 use crate::words::word_at;
-use steps::ask::After;
 use steps::overflow::cell_word;
 use steps::ring::READ;
 use steps::{overflow, ring};
@@ -38,10 +37,10 @@ fn pending_at(position: u64, flight: Option<&Flight>) -> Option<u64>
     ensures { result ≡ pending_at position (option_copied flight.entry) }
 {
     match flight {
-        Some(Flight::Overflow(OverflowCall::Push(call))) => match call.stage {
+        Some(Flight::Overflow(OverflowCall::Push(run))) => match run.call.stage {
             overflow::PushStage::MovesRead { read } => {
                 if read == position {
-                    Some(call.value)
+                    Some(run.given)
                 } else {
                     None
                 }
@@ -82,23 +81,28 @@ fn push_effect<T: Copy>(item: Item<T>, stage: &ring::PushStage) -> Effect<T>
     }
 }
 
-fn pop_effect<T: Copy>(stage: &ring::PopStage<u64>) -> Effect<T>
-    ensures { result ≡ pop_effect Item.Index stage.now }
+/// What a pop of the bounded queue does, where this is the value that it has read.
+fn pop_effect<T: Copy>(item: Item<T>, stage: &ring::PopStage) -> Effect<T>
+    ensures { result ≡ pop_effect item stage.now }
 {
     match stage {
         ring::PopStage::LoadsRead => Effect::Quiet,
         ring::PopStage::LoadsWrite { .. } => Effect::Acts,
         ring::PopStage::LoadsCell { .. } => Effect::Quiet,
-        ring::PopStage::StoresRead { value, .. } => Effect::HandsOut(Item::Index(*value)),
+        ring::PopStage::StoresRead { .. } => Effect::HandsOut(item),
     }
 }
 
-fn overflow_push_effect<T: Copy>(words: &Vec<u64>, call: &overflow::Push, answer: u64) -> Effect<T>
-    ensures { result ≡ overflow_push_effect words.now.items call.now call.now.stage answer }
+fn overflow_push_effect<T: Copy>(
+    words: &Vec<u64>,
+    capacity: u32,
+    item: Item<T>,
+    stage: &overflow::PushStage,
+    answer: u64,
+) -> Effect<T>
+    ensures { result ≡ overflow_push_effect words.now.items capacity item stage.now answer }
 {
-    let capacity = call.capacity;
-    let item = Item::Index(call.value);
-    match call.stage {
+    match *stage {
         overflow::PushStage::HandsBack => Effect::Acts,
         overflow::PushStage::LoadsWrite => Effect::Quiet,
         overflow::PushStage::LoadsRead { .. } => Effect::Quiet,
@@ -124,21 +128,22 @@ fn overflow_push_effect<T: Copy>(words: &Vec<u64>, call: &overflow::Push, answer
 fn overflow_pop_effect<T: Copy>(
     words: &Vec<u64>,
     pending: Option<(u32, u64)>,
-    call: &overflow::Pop,
+    capacity: u32,
+    stage: &overflow::PopStage,
     answer: u64,
 ) -> Effect<T>
-    ensures { result ≡ overflow_pop_effect words.now.items pending call.now call.now.stage answer }
+    ensures { result ≡ overflow_pop_effect words.now.items pending capacity stage.now answer }
 {
-    match call.stage {
+    match *stage {
         overflow::PopStage::FindsNone => Effect::Acts,
         overflow::PopStage::LoadsRead => Effect::Quiet,
         overflow::PopStage::LoadsWrite { .. } => Effect::Acts,
         overflow::PopStage::LoadsCell { .. } => Effect::Quiet,
-        overflow::PopStage::MovesRead { read, .. } => {
+        overflow::PopStage::MovesRead { read } => {
             if answer != read {
                 return Effect::Quiet;
             }
-            let oldest = Item::Index(word_at(words, cell_word(call.capacity, read)));
+            let oldest = Item::Index(word_at(words, cell_word(capacity, read)));
             match pending {
                 Some((number, value)) => Effect::MakesRoom(oldest, number, Item::Index(value)),
                 None => Effect::HandsOut(oldest),
@@ -159,11 +164,18 @@ pub fn effect_of<T: Copy>(
     match flight {
         Flight::Role(_) => Effect::Quiet,
         Flight::Length(_, _) => Effect::Quiet,
-        Flight::Indices(RingCall::Push(call)) => push_effect(Item::Index(call.value), &call.stage),
-        Flight::Indices(RingCall::Pop(call)) => pop_effect(&call.stage),
-        Flight::Overflow(OverflowCall::Push(call)) => overflow_push_effect(words, call, answer),
-        Flight::Overflow(OverflowCall::Pop(call)) => {
-            overflow_pop_effect(words, pending, call, answer)
+        Flight::Indices(RingCall::Push(run)) => {
+            push_effect(Item::Index(run.given), &run.call.stage)
+        }
+        Flight::Indices(RingCall::Pop(run)) => {
+            pop_effect(Item::Index(run.room.0), &run.call.stage)
+        }
+        Flight::Overflow(OverflowCall::Push(run)) => {
+            let item = Item::Index(run.given);
+            overflow_push_effect(words, run.call.capacity, item, &run.call.stage, answer)
+        }
+        Flight::Overflow(OverflowCall::Pop(run)) => {
+            overflow_pop_effect(words, pending, run.call.capacity, &run.call.stage, answer)
         }
     }
 }
@@ -173,14 +185,14 @@ fn tell_end<T: Copy>(
     events: &mut Vec<Event<T>>,
     number: u32,
     start: Start<T>,
-    after: &After<Flight, Answer<T>>,
+    done: Option<Answer<T>>,
 )
     requires { vec_len events.old + 1 ≤ vec_capacity events.old }
-    ensures { events.new.items ≡ events.old.items ++ ending_of number start after.now }
+    ensures { events.new.items ≡ events.old.items ++ ending_of number start done }
 {
-    match after {
-        After::GoOn(_) => {}
-        After::Done(answer) => events.push_reserved(Event::Finished(number, start, *answer)),
+    match done {
+        None => {}
+        Some(answer) => events.push_reserved(Event::Finished(number, start, answer)),
     }
 }
 
@@ -189,15 +201,15 @@ fn tell_act<T: Copy>(
     events: &mut Vec<Event<T>>,
     number: u32,
     start: Start<T>,
-    after: &After<Flight, Answer<T>>,
+    done: Option<Answer<T>>,
 )
     requires { vec_len events.old + 1 ≤ vec_capacity events.old }
-    ensures items { events.new.items ≡ events.old.items ++ acts_if_done number start after.now }
+    ensures items { events.new.items ≡ events.old.items ++ acts_if_done number start done }
     ensures room { vec_capacity events.new ≡ vec_capacity events.old }
 {
-    match after {
-        After::GoOn(_) => {}
-        After::Done(answer) => events.push_reserved(Event::Acted(number, start, *answer)),
+    match done {
+        None => {}
+        Some(answer) => events.push_reserved(Event::Acted(number, start, answer)),
     }
 }
 
@@ -207,19 +219,19 @@ fn tell_effects<T: Copy>(
     number: u32,
     start: Start<T>,
     effect: Effect<T>,
-    after: &After<Flight, Answer<T>>,
+    done: Option<Answer<T>>,
 )
     requires { vec_len events.old + 3 ≤ vec_capacity events.old }
-    ensures items { events.new.items ≡ events.old.items ++ effects_of number start effect after.now }
+    ensures items { events.new.items ≡ events.old.items ++ effects_of number start effect done }
     ensures few { vec_len events.new ≤ vec_len events.old + 3 }
     ensures room { vec_capacity events.new ≡ vec_capacity events.old }
 {
     match effect {
         Effect::Quiet => {}
-        Effect::Acts => tell_act(events, number, start, after),
+        Effect::Acts => tell_act(events, number, start, done),
         Effect::Publishes(item) => {
             events.push_reserved(Event::Published(number, item));
-            tell_act(events, number, start, after);
+            tell_act(events, number, start, done);
         }
         Effect::PublishesAndActs(item) => {
             events.push_reserved(Event::Published(number, item));
@@ -227,7 +239,7 @@ fn tell_effects<T: Copy>(
         }
         Effect::HandsOut(item) => {
             events.push_reserved(Event::HandedOut(number, item));
-            tell_act(events, number, start, after);
+            tell_act(events, number, start, done);
         }
         Effect::TakesOut(item) => {
             events.push_reserved(Event::HandedOut(number, item));
@@ -235,7 +247,7 @@ fn tell_effects<T: Copy>(
         }
         Effect::MakesRoom(item, other, pushed) => {
             events.push_reserved(Event::HandedOut(number, item));
-            tell_act(events, number, start, after);
+            tell_act(events, number, start, done);
             events.push_reserved(Event::Acted(other, Start::Push(pushed), Answer::Popped(None)));
         }
     }
@@ -247,11 +259,11 @@ pub fn tell<T: Copy>(
     number: u32,
     start: Start<T>,
     effect: Effect<T>,
-    after: &After<Flight, Answer<T>>,
+    done: Option<Answer<T>>,
 )
     requires { vec_len events.old + MOST_EVENTS ≤ vec_capacity events.old }
-    ensures { events.new.items ≡ events.old.items ++ told_after number start effect after.now }
+    ensures { events.new.items ≡ events.old.items ++ told_after number start effect done }
 {
-    tell_effects(events, number, start, effect, after);
-    tell_end(events, number, start, after);
+    tell_effects(events, number, start, effect, done);
+    tell_end(events, number, start, done);
 }

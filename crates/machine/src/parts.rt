@@ -4,7 +4,7 @@ ghost use Rattle.machine.specs.World.{cells_of, opening, opening_words, capacity
 ghost use Rattle.machine.specs.declared.party.Party.{Party};
 ghost use Rattle.machine.specs.Refusals.{refusal_of, IsRefusal, lacks_role, holds, is_due};
 ghost use Rattle.machine.specs.Small.{IsSmall};
-ghost use Rattle.machine.specs.Turns.{turn_of, number_of, ask_in, producer_after, consumer_after, doing_after, turned, resumed_trace};
+ghost use Rattle.machine.specs.Turns.{turn_of, number_of, ask_in, producer_after, consumer_after, ended_where, turned, resumed_trace};
 
 use crate::call::{Flight, first};
 use crate::effects::{MOST_EVENTS, effect_of, pending, tell};
@@ -13,8 +13,7 @@ use crate::party::{Doing, Party, flight_of, place_of, put};
 use crate::turn::{Kind, Refusal, Turn, capacity_error};
 use crate::words;
 use std::alloc::{AllocError, Global};
-use std::mem;
-use steps::ask::{After, Ask, Want};
+use steps::ask::{Ask, Want};
 use steps::enums::UniqueIndexCreationError;
 use steps::ring::READ;
 
@@ -76,57 +75,49 @@ fn ask_in(doing: &Doing) -> Option<Ask>
     }
 }
 
-/// Who holds the producer's role after a party's call went on.
+/// Who holds the producer's role after a party's call went on, with its answer where it is done.
 fn producer_after<T: Copy>(
     number: u32,
     start: Start<T>,
-    after: &After<Flight, Answer<T>>,
+    done: Option<Answer<T>>,
     holder: Option<u32>,
 ) -> Option<u32>
-    ensures { result ≡ producer_after number start after.now holder }
+    ensures { result ≡ producer_after number start done holder }
 {
-    match start {
-        Start::AcquireProducer => match after {
-            After::Done(Answer::Truth(true)) => Some(number),
-            _ => holder,
-        },
-        Start::ReleaseProducer => match after {
-            After::Done(_) => None,
-            After::GoOn(_) => holder,
-        },
+    match (start, done) {
+        (Start::AcquireProducer, Some(Answer::Truth(true))) => Some(number),
+        (Start::ReleaseProducer, Some(_)) => None,
         _ => holder,
     }
 }
 
-/// Who holds the consumer's role after a party's call went on.
+/// Who holds the consumer's role after a party's call went on, with its answer where it is done.
 fn consumer_after<T: Copy>(
     number: u32,
     start: Start<T>,
-    after: &After<Flight, Answer<T>>,
+    done: Option<Answer<T>>,
     holder: Option<u32>,
 ) -> Option<u32>
-    ensures { result ≡ consumer_after number start after.now holder }
+    ensures { result ≡ consumer_after number start done holder }
 {
-    match start {
-        Start::AcquireConsumer => match after {
-            After::Done(Answer::Truth(true)) => Some(number),
-            _ => holder,
-        },
-        Start::ReleaseConsumer => match after {
-            After::Done(_) => None,
-            After::GoOn(_) => holder,
-        },
+    match (start, done) {
+        (Start::AcquireConsumer, Some(Answer::Truth(true))) => Some(number),
+        (Start::ReleaseConsumer, Some(_)) => None,
         _ => holder,
     }
 }
 
-/// Where the call stands after it went on, with these changes of words in all and before it or by itself.
-fn doing_after<T: Copy>(changes: u64, since: u64, after: After<Flight, Answer<T>>) -> Doing
-    ensures { result ≡ doing_after changes since after }
+/// A call that is done keeps how often others changed words until now.
+fn end_where(is_done: bool, changes: u64, doing: &mut Doing)
+    ensures { doing.new ≡ ended_where is_done changes doing.old }
 {
-    match after {
-        After::GoOn(flight) => Doing::Going(flight, since),
-        After::Done(_) => Doing::Over(changes.saturating_sub(since)),
+    match doing {
+        Doing::Going(_, since) => {
+            if is_done {
+                *doing = Doing::Over(changes.saturating_sub(*since));
+            }
+        }
+        Doing::Over(_) => {}
     }
 }
 
@@ -298,51 +289,24 @@ impl<T: Copy> Parts<T> {
     {
         let position = words::word_at(&self.words, READ);
         let pending = pending(position, self.producer, &self.latest);
-        let blank = Party {
-            number,
-            start: Start::Pop,
-            steps: 0,
-            backs: 0,
-            doing: Doing::Over(0),
+        let change = words::change(&self.words, ask);
+        let party = &mut self.latest[at];
+        let start = party.start;
+        let Doing::Going(flight, since) = &mut party.doing else {
+            return;
         };
-        let party = mem::replace(&mut self.latest[at], blank);
-        let Party {
-            number,
-            start,
-            steps,
-            backs,
-            doing,
-        } = party;
-        match doing {
-            Doing::Over(others) => {
-                self.latest[at] = Party {
-                    number,
-                    start,
-                    steps,
-                    backs,
-                    doing: Doing::Over(others),
-                };
-            }
-            Doing::Going(flight, since) => {
-                let effect = effect_of(&self.words, pending, &flight, answer);
-                let back = flight.back(answer);
-                let after = flight.after(answer);
-                tell(&mut self.events, number, start, effect, &after);
-                self.producer = producer_after(number, start, &after, self.producer);
-                self.consumer = consumer_after(number, start, &after, self.consumer);
-                let change = words::change(&self.words, ask);
-                words::write(&mut self.words, ask);
-                self.changes += change;
-                self.latest[at] = Party {
-                    number,
-                    start,
-                    steps: steps + words::count(ask),
-                    backs: backs + back,
-                    doing: doing_after(self.changes, since + change, after),
-                };
-                self.turns += 1;
-            }
-        }
+        let effect = effect_of(&self.words, pending, flight, answer);
+        party.backs += flight.back(answer);
+        let done = flight.go_on(answer);
+        party.steps += words::count(ask);
+        *since += change;
+        self.changes += change;
+        end_where(done.is_some(), self.changes, &mut party.doing);
+        tell(&mut self.events, number, start, effect, done);
+        self.producer = producer_after(number, start, done, self.producer);
+        self.consumer = consumer_after(number, start, done, self.consumer);
+        words::write(&mut self.words, ask);
+        self.turns += 1;
     }
 
     /// The party's call takes its step, or is handed a decision. The turn is not refused.

@@ -1,5 +1,7 @@
 -- What an operation makes of a word.
-use Rattle.std.specs.Prelude.{ℕ, ◌+◌, ◌-◌, ◌%◌, ◌^◌, ◌==◌, if◌then◌else◌, bit_and, bit_or}
+use Rattle.std.specs.Prelude.{ℕ, ◌+◌, ◌-◌, ◌%◌, ◌^◌, ◌==◌, Bool, true, false, if◌then◌else◌, bit_and, bit_or}
+use Rattle.steps.specs.declared.ask.Want.{Want}
+use Rattle.steps.specs.declared.ask.Want as wants
 use Rattle.steps.specs.declared.ask.Op.{Op}
 use Rattle.steps.specs.declared.ask.Op.TheVariants.{Load, Store, Swap, Add, Sub, And, Or, Exchange}
 
@@ -9,7 +11,23 @@ written Load word = word
 written (Store new) word = new
 written (Swap new) word = new
 written (Add by) word = (word + by) % 2 ^ 64
-written (Sub by) word = (word + 2 ^ 64 - by) % 2 ^ 64
+written (Sub by) word = (word + (2 ^ 64 - by)) % 2 ^ 64
 written (And bits) word = bit_and word bits
 written (Or bits) word = bit_or word bits
 written (Exchange from to) word = if word == from then to else word
+
+abbrev pub is_store_op : Op → Bool
+is_store_op Load = false
+is_store_op (Store new) = true
+is_store_op (Swap new) = false
+is_store_op (Add by) = false
+is_store_op (Sub by) = false
+is_store_op (And bits) = false
+is_store_op (Or bits) = false
+is_store_op (Exchange from to) = false
+
+-- whether a store is wanted, of which a call needs to hear nothing
+abbrev pub is_store : {V : Type 0} → Want V → Bool
+is_store (wants.TheVariants.Ask ask) = is_store_op ask.op
+is_store (wants.TheVariants.Question question) = false
+is_store wants.TheVariants.Nothing = false

@@ -1,9 +1,12 @@
--- A value that is read word by word.
-use Rattle.std.specs.Prelude.{ℕ, ◌+◌, List, [], ◌∷◌, ◌++◌, length, if◌then◌else◌, nat_lt}
-use Rattle.steps.specs.declared.copied.Copying.{Copying}
-use Rattle.steps.specs.declared.copied.Copying.TheVariants.{More, Whole}
+-- Words that are kept at their places.
+use Rattle.std.specs.Prelude.{◌≡◌, ℕ, zero, suc, [], ◌∷◌, slice_set, refl}
+use Rattle.steps.specs.declared.copied.OneWord.{OneWord}
 
--- one word more; the last makes the value
-abbrev pub with_word : {V : Type 0} → ℕ → (List ℕ → V) → List ℕ → ℕ → Copying V
-with_word size value_of copied word =
-    if nat_lt (length copied + 1) size then More (copied ++ word ∷ []) else Whole (value_of (copied ++ word ∷ []))
+-- a room of one word has one place
+abbrev pub kept_in_one : OneWord → ℕ → ℕ → OneWord
+kept_in_one x zero word = record { 0 = word }
+kept_in_one x (suc at) word = x
+
+pub one_put_in : (x : OneWord) (at word : ℕ) → (kept_in_one x at word).0 ∷ [] ≡ slice_set (x.0 ∷ []) at word
+one_put_in x zero word = refl
+one_put_in x (suc at) word = refl

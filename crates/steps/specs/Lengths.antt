@@ -19,13 +19,13 @@ abbrev pub at_len : Len → LenStage → Len
 at_len call stage = record { capacity = call.capacity; stage = stage }
 
 -- load write; load read; load write; load read
-abbrev pub len_asks : LenStage → Want ℕ
+abbrev pub len_asks : LenStage → Want (Unit {0})
 len_asks LoadsWrite = load 0
 len_asks (LoadsRead write) = load 1
 len_asks (LoadsWriteAgain write read) = load 0
 len_asks (LoadsReadAgain write read) = load 1
 
-abbrev pub len_want : Len → Want ℕ
+abbrev pub len_want : Len → Want (Unit {0})
 len_want call = len_asks call.stage
 
 -- a position that has moved since it was loaded

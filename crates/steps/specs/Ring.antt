@@ -1,14 +1,11 @@
 -- The calls of the bounded queue, one step after another.
--- V is the type of the values, size the number of their words.
-use Rattle.std.specs.Prelude.{ℕ, ◌+◌, ◌-◌, ◌*◌, ◌%◌, ◌^◌, ◌==◌, ◌||◌, Bool, true, false, Option, Some, None, List, [], length, if◌then◌else◌, nat_lt, slice_index}
-use Rattle.steps.specs.Copied.{with_word}
+-- V is the type of the values, size the number of their words, R the room for them.
+use Rattle.std.specs.Prelude.{ℕ, ◌+◌, ◌-◌, ◌*◌, ◌%◌, ◌^◌, ◌==◌, ◌||◌, Bool, true, false, Option, Some, None, List, if◌then◌else◌, nat_lt, slice_index}
 use Rattle.steps.specs.declared.ask.Op.TheVariants.{Load, Store}
 use Rattle.steps.specs.declared.ask.Want.{Want}
 use Rattle.steps.specs.declared.ask.Want as wants
 use Rattle.steps.specs.declared.ask.After.{After}
 use Rattle.steps.specs.declared.ask.After.TheVariants.{GoOn, Done}
-use Rattle.steps.specs.declared.copied.Copying.{Copying}
-use Rattle.steps.specs.declared.copied.Copying.TheVariants.{More, Whole}
 use Rattle.steps.specs.declared.ring.Push.{Push}
 use Rattle.steps.specs.declared.ring.PushStage as pushes
 use Rattle.steps.specs.declared.ring.Pop.{Pop}
@@ -22,33 +19,37 @@ after_position position = (position + 1) % 2 ^ 64
 abbrev pub distance : ℕ → ℕ → ℕ
 distance write read = (write + 2 ^ 64 - read) % 2 ^ 64
 
--- the word that the position's cell has at this place
-abbrev pub cell_word : ℕ → ℕ → ℕ → ℕ → ℕ
-cell_word capacity size position at = if capacity == 0 then 4 else 4 + size * (position % capacity) + at
+-- the first word of the position's cell
+abbrev pub cell_word : ℕ → ℕ → ℕ → ℕ
+cell_word capacity size position = if capacity == 0 then 4 else 4 + size * (position % capacity)
+
+-- the word of a cell at this place, by its first word
+abbrev pub word_at : ℕ → ℕ → ℕ
+word_at cell at = (cell + at) % 2 ^ 64
+
+abbrev pub load : ℕ → Want (Unit {0})
+load word = wants.TheVariants.Ask (record { word = word; op = Load })
+
+abbrev pub store : ℕ → ℕ → Want (Unit {0})
+store word new = wants.TheVariants.Ask (record { word = word; op = Store new })
 
 module _ {V : Type 0} where
-  abbrev pub load : ℕ → Want V
-  load word = wants.TheVariants.Ask (record { word = word; op = Load })
-
-  abbrev pub store : ℕ → ℕ → Want V
-  store word new = wants.TheVariants.Ask (record { word = word; op = Store new })
-
-  abbrev pub first_push : ℕ → V → Push V
-  first_push capacity value = record { capacity = capacity; value = value; stage = pushes.TheVariants.LoadsWrite }
-
   abbrev pub at_push : Push V → pushes.PushStage → Push V
-  at_push call stage = record { capacity = call.capacity; value = call.value; stage = stage }
+  at_push call stage = record call { stage = stage }
+
+  abbrev pub first_push : ℕ → Push V
+  first_push capacity = record { capacity = capacity; stage = pushes.TheVariants.LoadsWrite; of = record {} }
 
   -- load write; load read; store the cell, word by word; store write + 1
-  abbrev pub push_asks : ℕ → (V → List ℕ) → Push V → pushes.PushStage → Want V
-  push_asks size words_of call pushes.TheVariants.LoadsWrite = load 0
-  push_asks size words_of call (pushes.TheVariants.LoadsRead write) = load 1
-  push_asks size words_of call (pushes.TheVariants.StoresCell write at) =
-      store (cell_word call.capacity size write at) (slice_index (words_of call.value) at)
-  push_asks size words_of call (pushes.TheVariants.StoresWrite write) = store 0 (after_position write)
+  abbrev pub push_asks : (V → List ℕ) → pushes.PushStage → V → Want (Unit {0})
+  push_asks words_of pushes.TheVariants.LoadsWrite value = load 0
+  push_asks words_of (pushes.TheVariants.LoadsRead write) value = load 1
+  push_asks words_of (pushes.TheVariants.StoresCell write cell at) value =
+      store (word_at cell at) (slice_index (words_of value) at)
+  push_asks words_of (pushes.TheVariants.StoresWrite write) value = store 0 (after_position write)
 
-  abbrev pub push_want : ℕ → (V → List ℕ) → Push V → Want V
-  push_want size words_of call = push_asks size words_of call call.stage
+  abbrev pub push_want : (V → List ℕ) → Push V → V → Want (Unit {0})
+  push_want words_of call value = push_asks words_of call.stage value
 
   abbrev pub push_takes : ℕ → Push V → pushes.PushStage → ℕ → After (Push V) Bool
   push_takes size call pushes.TheVariants.LoadsWrite old =
@@ -56,46 +57,74 @@ module _ {V : Type 0} where
   push_takes size call (pushes.TheVariants.LoadsRead write) old =
       if call.capacity == 0 || distance write old == call.capacity
       then Done false
-      else GoOn (at_push call (pushes.TheVariants.StoresCell write 0))
-  push_takes size call (pushes.TheVariants.StoresCell write at) old =
+      else GoOn (at_push call (pushes.TheVariants.StoresCell write (cell_word call.capacity size write) 0))
+  push_takes size call (pushes.TheVariants.StoresCell write cell at) old =
       if nat_lt (at + 1) size
-      then GoOn (at_push call (pushes.TheVariants.StoresCell write (at + 1)))
+      then GoOn (at_push call (pushes.TheVariants.StoresCell write cell (at + 1)))
       else GoOn (at_push call (pushes.TheVariants.StoresWrite write))
   push_takes size call (pushes.TheVariants.StoresWrite write) old = Done true
 
   abbrev pub push_after : ℕ → Push V → ℕ → After (Push V) Bool
   push_after size call old = push_takes size call call.stage old
 
-  abbrev pub first_pop : ℕ → Pop V
-  first_pop capacity = record { capacity = capacity; stage = pops.TheVariants.LoadsRead }
+-- it goes down at each step
+abbrev pub push_left : ℕ → pushes.PushStage → ℕ
+push_left size pushes.TheVariants.LoadsWrite = size + 3
+push_left size (pushes.TheVariants.LoadsRead write) = size + 2
+push_left size (pushes.TheVariants.StoresCell write cell at) = size - at + 1
+push_left size (pushes.TheVariants.StoresWrite write) = 0
 
-  abbrev pub at_pop : Pop V → pops.PopStage V → Pop V
-  at_pop call stage = record { capacity = call.capacity; stage = stage }
+-- load read; load write; load the cell, word by word; store read + 1
+abbrev pub pop_asks : pops.PopStage → Want (Unit {0})
+pop_asks pops.TheVariants.LoadsRead = load 1
+pop_asks (pops.TheVariants.LoadsWrite read) = load 0
+pop_asks (pops.TheVariants.LoadsCell read cell at) = load (word_at cell at)
+pop_asks (pops.TheVariants.StoresRead read) = store 1 (after_position read)
 
-  -- load read; load write; load the cell, word by word; store read + 1
-  abbrev pub pop_asks : ℕ → Pop V → pops.PopStage V → Want V
-  pop_asks size call pops.TheVariants.LoadsRead = load 1
-  pop_asks size call (pops.TheVariants.LoadsWrite read) = load 0
-  pop_asks size call (pops.TheVariants.LoadsCell read copied) = load (cell_word call.capacity size read (length copied))
-  pop_asks size call (pops.TheVariants.StoresRead read value) = store 1 (after_position read)
+module _ {R : Type 0} where
+  -- each word of the cell goes to its place in the room
+  abbrev pub pop_keeps : (R → ℕ → ℕ → R) → R → pops.PopStage → ℕ → R
+  pop_keeps with_word room pops.TheVariants.LoadsRead old = room
+  pop_keeps with_word room (pops.TheVariants.LoadsWrite read) old = room
+  pop_keeps with_word room (pops.TheVariants.LoadsCell read cell at) old = with_word room at old
+  pop_keeps with_word room (pops.TheVariants.StoresRead read) old = room
 
-  abbrev pub pop_want : ℕ → Pop V → Want V
-  pop_want size call = pop_asks size call call.stage
+module _ {V R : Type 0} where
+  abbrev pub at_pop : Pop V R → pops.PopStage → Pop V R
+  at_pop call stage = record call { stage = stage }
 
-  -- the copy goes on until it is whole
-  abbrev pub copies_on : Pop V → ℕ → Copying V → pops.PopStage V
-  copies_on call read (More copied) = pops.TheVariants.LoadsCell read copied
-  copies_on call read (Whole value) = pops.TheVariants.StoresRead read value
+  abbrev pub first_pop : ℕ → Pop V R
+  first_pop capacity = record { capacity = capacity; stage = pops.TheVariants.LoadsRead; of = record {} }
 
-  abbrev pub pop_takes : ℕ → (List ℕ → V) → Pop V → pops.PopStage V → ℕ → After (Pop V) (Option V)
-  pop_takes size value_of call pops.TheVariants.LoadsRead old = GoOn (at_pop call (pops.TheVariants.LoadsWrite old))
-  pop_takes size value_of call (pops.TheVariants.LoadsWrite read) old =
+  abbrev pub pop_want : Pop V R → Want (Unit {0})
+  pop_want call = pop_asks call.stage
+
+  abbrev pub pop_takes : ℕ → Pop V R → pops.PopStage → ℕ → After (Pop V R) Bool
+  pop_takes size call pops.TheVariants.LoadsRead old = GoOn (at_pop call (pops.TheVariants.LoadsWrite old))
+  pop_takes size call (pops.TheVariants.LoadsWrite read) old =
       if call.capacity == 0 || old == read
-      then Done None
-      else GoOn (at_pop call (pops.TheVariants.LoadsCell read []))
-  pop_takes size value_of call (pops.TheVariants.LoadsCell read copied) old =
-      GoOn (at_pop call (copies_on call read (with_word size value_of copied old)))
-  pop_takes size value_of call (pops.TheVariants.StoresRead read value) old = Done (Some value)
+      then Done false
+      else GoOn (at_pop call (pops.TheVariants.LoadsCell read (cell_word call.capacity size read) 0))
+  pop_takes size call (pops.TheVariants.LoadsCell read cell at) old =
+      if nat_lt (at + 1) size
+      then GoOn (at_pop call (pops.TheVariants.LoadsCell read cell (at + 1)))
+      else GoOn (at_pop call (pops.TheVariants.StoresRead read))
+  pop_takes size call (pops.TheVariants.StoresRead read) old = Done true
 
-  abbrev pub pop_after : ℕ → (List ℕ → V) → Pop V → ℕ → After (Pop V) (Option V)
-  pop_after size value_of call old = pop_takes size value_of call call.stage old
+  abbrev pub pop_after : ℕ → Pop V R → ℕ → After (Pop V R) Bool
+  pop_after size call old = pop_takes size call call.stage old
+
+  abbrev pub pop_kept : (R → ℕ → ℕ → R) → Pop V R → R → ℕ → R
+  pop_kept with_word call room old = pop_keeps with_word room call.stage old
+
+-- it goes down at each step
+abbrev pub pop_left : ℕ → pops.PopStage → ℕ
+pop_left size pops.TheVariants.LoadsRead = size + 3
+pop_left size (pops.TheVariants.LoadsWrite read) = size + 2
+pop_left size (pops.TheVariants.LoadsCell read cell at) = size - at + 1
+pop_left size (pops.TheVariants.StoresRead read) = 0
+
+-- the value that was read, where there was one
+abbrev pub pop_answer : {V : Type 0} → V → Bool → Option V
+pop_answer value true = Some value
+pop_answer value false = None

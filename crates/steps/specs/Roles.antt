@@ -9,13 +9,13 @@ use Rattle.steps.specs.declared.roles.AcquireRole.{AcquireRole}
 use Rattle.steps.specs.declared.roles.ReleaseRole.{ReleaseRole}
 
 -- a role word is 1 where the role is free, 0 where it is taken
-abbrev pub acquire_want : AcquireRole → Want ℕ
+abbrev pub acquire_want : AcquireRole → Want (Unit {0})
 acquire_want call = wants.TheVariants.Ask (record { word = call.word; op = Exchange 1 0 })
 
 abbrev pub acquire_after : AcquireRole → ℕ → After AcquireRole Bool
 acquire_after call old = Done (old == 1)
 
-abbrev pub release_want : ReleaseRole → Want ℕ
+abbrev pub release_want : ReleaseRole → Want (Unit {0})
 release_want call = wants.TheVariants.Ask (record { word = call.word; op = Store 1 })
 
 abbrev pub release_after : ReleaseRole → ℕ → After ReleaseRole (Unit {0})

@@ -2,16 +2,18 @@
 ghost use Rattle.std.specs.Prelude.{◌≡◌};
 ghost use Rattle.steps.specs.Lengths.{number_waiting, first_len, len_want, len_after, turns_back};
 
-use crate::ask::{After, Ask, Call, Op, Want};
+use crate::ask::{After, Ask, Op, Want};
 use crate::ring::{READ, WRITE};
+use crate::routine::Routine;
 
-/// The number of values that wait, at one moment of the call. Four steps, and four more for each turn back.
+/// The number of values that wait, at one moment of the call. Four steps, and at most four more for each turn back.
 ///
 /// It loads the write position, the read position, the write position again and the read position again. Where the
 /// third load differs from the first (tested before the fourth is asked), or the fourth from the second, it begins
 /// again. Once neither has moved, both stood together at the moment of the second and of the third load. A queue of
-/// capacity 0 has no value, whatever its words say. After `len`, `is_empty` and `is_full` of the Rust crate's queues,
-/// which compare this number with 0 and the capacity.
+/// capacity 0 has no value, whatever its words say. In an overflowing queue the number is one more than the capacity
+/// while a push is between its two moves. After `len`, `is_empty` and `is_full` of the Rust crate's queues, which compare
+/// this number with 0 and the capacity.
 #[derive(Debug, Clone, Copy)]
 pub struct Len {
     pub capacity: u32,
@@ -40,6 +42,7 @@ pub fn number_waiting(capacity: u32, write: u64, read: u64) -> u64
 
 impl Len {
     /// A call that has taken no step.
+    #[inline(always)]
     pub fn new(capacity: u32) -> Len
         ensures { result ≡ first_len capacity }
     {
@@ -62,16 +65,33 @@ impl Len {
     }
 }
 
-impl Call for Len {
+impl Routine for Len {
+    ghost use Rattle.steps.specs.Laws.{len_tells};
+
+    type Given = ();
+
+    type Room = ();
+
+    type End = u64;
+
     type Value = u64;
 
     type Answer = u64;
 
-    ghost want_of = { len_want };
+    ghost want_of = { λ c given. len_want c };
 
-    ghost after = { len_after };
+    ghost after = { λ c given old. len_after c old };
 
-    fn ask(&self) -> Want<u64> {
+    ghost kept = { λ c room old. room };
+
+    ghost value_of = { λ given room. 0 };
+
+    ghost answer_of = { λ end given room. end };
+
+    ghost store_tells_nothing = { λ c given room m n t. len_tells c c.stage room m n t };
+
+    #[inline(always)]
+    fn ask(self, _given: &()) -> Want<()> {
         let word = match self.stage {
             LenStage::LoadsWrite => WRITE,
             LenStage::LoadsRead { .. } => READ,
@@ -81,7 +101,8 @@ impl Call for Len {
         Want::Ask(Ask { word, op: Op::Load })
     }
 
-    fn take(self, answer: u64) -> After<Len, u64> {
+    #[inline(always)]
+    fn take(self, _given: &(), _room: &mut (), answer: u64) -> After<Len, u64> {
         let capacity = self.capacity;
         let stage = match self.stage {
             LenStage::LoadsWrite => LenStage::LoadsRead { write: answer },
@@ -104,5 +125,14 @@ impl Call for Len {
             }
         };
         After::GoOn(Len { capacity, stage })
+    }
+
+    fn value(_given: &(), _room: &()) -> u64 {
+        0
+    }
+
+    #[inline(always)]
+    fn answer(end: u64, _given: &(), _room: &()) -> u64 {
+        end
     }
 }

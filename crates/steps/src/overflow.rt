@@ -4,19 +4,23 @@
 //! p mod (capacity + 1), so a push writes its value before it takes the oldest one out. A queue of capacity 0 has one
 //! cell and never asks for it.
 ghost use Rattle.std.specs.Prelude.{◌≡◌};
-ghost use Rattle.steps.specs.Overflow.{cell_word, first_push, push_want, push_after, first_pop, pop_want, pop_after, goes_back};
+ghost use Rattle.steps.specs.Overflow.{cell_word, first_push, push_want, push_after, push_kept, push_answer, first_pop, pop_want, pop_after, pop_kept, pop_answer, goes_back};
 
-use crate::ask::{After, Ask, Call, Op, Want};
+use crate::ask::{After, Ask, Op, Want};
+use crate::copied::OneWord;
 use crate::ring::{FIRST_CELL, READ, WRITE};
+use crate::routine::{Ends, Routine};
 
 /// The word of the position's cell.
+#[inline(always)]
 pub fn cell_word(capacity: u32, position: u64) -> usize
     ensures { result ≡ cell_word capacity position }
 {
     FIRST_CELL + (position % (capacity as u64 + 1)) as usize
 }
 
-/// Appends a value. Where the queue was full its oldest value leaves: None, or Some of that value. At most 6 steps.
+/// Appends the value that it is given: None, or Some of the oldest value where the queue was full and it left. At most 6
+/// steps.
 ///
 /// It loads the write position (u64::MAX: the value itself, and nothing changes), loads the read position, stores the
 /// cell, and stores the next write position. Where the read position was not `capacity` behind: None. Else it moves the
@@ -26,7 +30,6 @@ pub fn cell_word(capacity: u32, position: u64) -> usize
 #[derive(Debug, Clone, Copy)]
 pub struct Push {
     pub capacity: u32,
-    pub value: u64,
     pub stage: PushStage,
 }
 
@@ -42,6 +45,17 @@ pub enum PushStage {
     LoadsCell { read: u64 },
 }
 
+/// How a push ends.
+#[derive(Debug, Clone, Copy, PartialEq, Eq)]
+pub enum PushEnd {
+    /// Its value was taken, and none left.
+    Added,
+    /// Its own value comes back.
+    Own,
+    /// Its value was taken, and the oldest, which it has read, has left.
+    Oldest,
+}
+
 /// Takes the oldest value, or None where the queue is empty. At most 4 steps, and 2 more for each turn back.
 ///
 /// It loads the read position, loads the write position (the same: None, and nothing changes), loads the cell, and moves
@@ -54,24 +68,24 @@ pub struct Pop {
     pub stage: PopStage,
 }
 
-/// What a pop does next, and what it has loaded.
+/// What a pop does next, and the position that it has loaded.
 #[derive(Debug, Clone, Copy)]
 pub enum PopStage {
     FindsNone,
     LoadsRead,
     LoadsWrite { read: u64 },
     LoadsCell { read: u64 },
-    MovesRead { read: u64, value: u64 },
+    MovesRead { read: u64 },
 }
 
 impl Push {
     /// A push that has taken no step.
-    pub fn new(capacity: u32, value: u64) -> Push
-        ensures { result ≡ first_push capacity value }
+    #[inline(always)]
+    pub fn new(capacity: u32) -> Push
+        ensures { result ≡ first_push capacity }
     {
         Push {
             capacity,
-            value,
             stage: match capacity {
                 0 => PushStage::HandsBack,
                 _ => PushStage::LoadsWrite,
@@ -82,6 +96,7 @@ impl Push {
 
 impl Pop {
     /// A pop that has taken no step.
+    #[inline(always)]
     pub fn new(capacity: u32) -> Pop
         ensures { result ≡ first_pop capacity }
     {
@@ -103,62 +118,59 @@ impl Pop {
             PopStage::LoadsRead => false,
             PopStage::LoadsWrite { .. } => false,
             PopStage::LoadsCell { .. } => false,
-            PopStage::MovesRead { read, .. } => answer != read,
+            PopStage::MovesRead { read } => answer != read,
         }
     }
 }
 
-impl Call for Push {
+impl Routine for Push {
+    ghost use Rattle.steps.specs.Laws.{overflow_push_tells};
+
+    type Given = u64;
+
+    type Room = OneWord;
+
+    type End = PushEnd;
+
     type Value = u64;
 
     type Answer = Option<u64>;
 
     ghost want_of = { push_want };
 
-    ghost after = { push_after };
+    ghost after = { λ c given old. push_after c old };
 
-    fn ask(&self) -> Want<u64> {
-        let capacity = self.capacity;
-        match self.stage {
-            PushStage::HandsBack => Want::Nothing,
-            PushStage::LoadsWrite => Want::Ask(Ask {
-                word: WRITE,
-                op: Op::Load,
-            }),
-            PushStage::LoadsRead { .. } => Want::Ask(Ask {
-                word: READ,
-                op: Op::Load,
-            }),
-            PushStage::StoresCell { write, .. } => Want::Ask(Ask {
-                word: cell_word(capacity, write),
-                op: Op::Store(self.value),
-            }),
-            PushStage::StoresWrite { write, .. } => Want::Ask(Ask {
-                word: WRITE,
-                op: Op::Store(write.wrapping_add(1)),
-            }),
-            PushStage::MovesRead { read } => Want::Ask(Ask {
-                word: READ,
-                op: Op::Exchange(read, read.wrapping_add(1)),
-            }),
-            PushStage::LoadsCell { read } => Want::Ask(Ask {
-                word: cell_word(capacity, read),
-                op: Op::Load,
-            }),
-        }
+    ghost kept = { push_kept };
+
+    ghost value_of = { λ given room. given };
+
+    ghost answer_of = { λ end given room. push_answer given room.0 end };
+
+    ghost store_tells_nothing = { λ c given room m n t. overflow_push_tells c c.stage given room m n t };
+
+    #[inline(always)]
+    fn ask(self, given: &u64) -> Want<()> {
+        let (word, op) = match self.stage {
+            PushStage::HandsBack => return Want::Nothing,
+            PushStage::LoadsWrite => (WRITE, Op::Load),
+            PushStage::LoadsRead { .. } => (READ, Op::Load),
+            PushStage::StoresCell { write, .. } => {
+                (cell_word(self.capacity, write), Op::Store(*given))
+            }
+            PushStage::StoresWrite { write, .. } => (WRITE, Op::Store(write.wrapping_add(1))),
+            PushStage::MovesRead { read } => (READ, Op::Exchange(read, read.wrapping_add(1))),
+            PushStage::LoadsCell { read } => (cell_word(self.capacity, read), Op::Load),
+        };
+        Want::Ask(Ask { word, op })
     }
 
-    fn take(self, answer: u64) -> After<Push, Option<u64>> {
-        let Push {
-            capacity,
-            value,
-            stage,
-        } = self;
-        let stage = match stage {
-            PushStage::HandsBack => return After::Done(Some(value)),
+    #[inline(always)]
+    fn take(self, _given: &u64, room: &mut OneWord, answer: u64) -> After<Push, PushEnd> {
+        let stage = match self.stage {
+            PushStage::HandsBack => return After::Done(PushEnd::Own),
             PushStage::LoadsWrite => {
                 if answer == u64::MAX {
-                    return After::Done(Some(value));
+                    return After::Done(PushEnd::Own);
                 }
                 PushStage::LoadsRead { write: answer }
             }
@@ -168,81 +180,122 @@ impl Call for Push {
             },
             PushStage::StoresCell { write, read } => PushStage::StoresWrite { write, read },
             PushStage::StoresWrite { write, read } => {
-                if write.wrapping_sub(read) != capacity as u64 {
-                    return After::Done(None);
+                if write.wrapping_sub(read) != self.capacity as u64 {
+                    return After::Done(PushEnd::Added);
                 }
                 PushStage::MovesRead { read }
             }
             PushStage::MovesRead { read } => {
                 if answer != read {
-                    return After::Done(None);
+                    return After::Done(PushEnd::Added);
                 }
                 PushStage::LoadsCell { read }
             }
-            PushStage::LoadsCell { .. } => return After::Done(Some(answer)),
+            PushStage::LoadsCell { .. } => {
+                room.0 = answer;
+                return After::Done(PushEnd::Oldest);
+            }
         };
         After::GoOn(Push {
-            capacity,
-            value,
+            capacity: self.capacity,
             stage,
         })
     }
+
+    fn value(given: &u64, _room: &OneWord) -> u64 {
+        *given
+    }
+
+    #[inline(always)]
+    fn answer(end: PushEnd, given: &u64, room: &OneWord) -> Option<u64> {
+        match end {
+            PushEnd::Added => None,
+            PushEnd::Own => Some(*given),
+            PushEnd::Oldest => Some(room.0),
+        }
+    }
 }
 
-impl Call for Pop {
+impl Ends for Push {
+    ghost use Rattle.steps.specs.Overflow.{push_left};
+    ghost use Rattle.steps.specs.Laws.{overflow_push_fewer};
+
+    ghost left = { λ c. push_left c.stage };
+
+    ghost fewer = { λ c d given n goes. overflow_push_fewer c d n goes };
+}
+
+impl Routine for Pop {
+    ghost use Rattle.steps.specs.Laws.{overflow_pop_tells};
+
+    type Given = ();
+
+    type Room = OneWord;
+
+    type End = bool;
+
     type Value = u64;
 
     type Answer = Option<u64>;
 
-    ghost want_of = { pop_want };
+    ghost want_of = { λ c given. pop_want c };
 
-    ghost after = { pop_after };
+    ghost after = { λ c given old. pop_after c old };
 
-    fn ask(&self) -> Want<u64> {
-        let capacity = self.capacity;
-        match self.stage {
-            PopStage::FindsNone => Want::Nothing,
-            PopStage::LoadsRead => Want::Ask(Ask {
-                word: READ,
-                op: Op::Load,
-            }),
-            PopStage::LoadsWrite { .. } => Want::Ask(Ask {
-                word: WRITE,
-                op: Op::Load,
-            }),
-            PopStage::LoadsCell { read } => Want::Ask(Ask {
-                word: cell_word(capacity, read),
-                op: Op::Load,
-            }),
-            PopStage::MovesRead { read, .. } => Want::Ask(Ask {
-                word: READ,
-                op: Op::Exchange(read, read.wrapping_add(1)),
-            }),
-        }
+    ghost kept = { pop_kept };
+
+    ghost value_of = { λ given room. room.0 };
+
+    ghost answer_of = { λ end given room. pop_answer room.0 end };
+
+    ghost store_tells_nothing = { λ c given room m n t. overflow_pop_tells c c.stage room m n t };
+
+    #[inline(always)]
+    fn ask(self, _given: &()) -> Want<()> {
+        let (word, op) = match self.stage {
+            PopStage::FindsNone => return Want::Nothing,
+            PopStage::LoadsRead => (READ, Op::Load),
+            PopStage::LoadsWrite { .. } => (WRITE, Op::Load),
+            PopStage::LoadsCell { read } => (cell_word(self.capacity, read), Op::Load),
+            PopStage::MovesRead { read } => (READ, Op::Exchange(read, read.wrapping_add(1))),
+        };
+        Want::Ask(Ask { word, op })
     }
 
-    fn take(self, answer: u64) -> After<Pop, Option<u64>> {
-        let Pop { capacity, stage } = self;
-        let stage = match stage {
-            PopStage::FindsNone => return After::Done(None),
+    #[inline(always)]
+    fn take(self, _given: &(), room: &mut OneWord, answer: u64) -> After<Pop, bool> {
+        let stage = match self.stage {
+            PopStage::FindsNone => return After::Done(false),
             PopStage::LoadsRead => PopStage::LoadsWrite { read: answer },
             PopStage::LoadsWrite { read } => {
                 if answer == read {
-                    return After::Done(None);
+                    return After::Done(false);
                 }
                 PopStage::LoadsCell { read }
             }
-            PopStage::LoadsCell { read } => PopStage::MovesRead {
-                read,
-                value: answer,
-            },
-            PopStage::MovesRead { read, value } => {
+            PopStage::LoadsCell { read } => {
+                room.0 = answer;
+                PopStage::MovesRead { read }
+            }
+            PopStage::MovesRead { read } => {
                 if answer == read {
-                    return After::Done(Some(value));
+                    return After::Done(true);
                 }
                 PopStage::LoadsCell { read: answer }
             }
         };
-        After::GoOn(Pop { capacity, stage })
+        After::GoOn(Pop {
+            capacity: self.capacity,
+            stage,
+        })
+    }
+
+    fn value(_given: &(), room: &OneWord) -> u64 {
+        room.0
+    }
+
+    #[inline(always)]
+    fn answer(end: bool, _given: &(), room: &OneWord) -> Option<u64> {
+        if end { Some(room.0) } else { None }
     }
 }

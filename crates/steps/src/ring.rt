@@ -2,12 +2,15 @@
 //!
 //! Its words are the write position, the read position, the producer's role, the consumer's role, and then the cells,
 //! `capacity` of them with `T::WORDS` words each. The position p stands in the cell p mod capacity.
-ghost use Rattle.std.specs.Prelude.{◌≡◌, ◌<◌};
-ghost use Rattle.steps.specs.Ring.{cell_word, first_push, push_want, push_after, first_pop, pop_want, pop_after};
+ghost use Rattle.std.specs.Prelude.{◌≡◌, take};
+ghost use Rattle.steps.specs.Ring.{cell_word, first_push, push_want, push_after, first_pop, pop_want, pop_after, pop_kept, pop_answer};
 
-use crate::ask::{After, Ask, Call, Op, Want};
-use crate::copied::{Copied, Copying};
+use crate::ask::{After, Ask, Op, Want};
+use crate::copied::Room;
+use crate::routine::{Ends, Routine};
 use crate::words::Words;
+use std::alloc::AllocError;
+use std::marker::PhantomData;
 
 /// The word of the write position.
 pub const WRITE: usize = 0;
@@ -20,234 +23,283 @@ pub const CONSUMER: usize = 3;
 /// The first word of the first cell.
 pub const FIRST_CELL: usize = 4;
 
-/// The word that the position's cell has at this place, where a value has so many words. A queue of capacity 0 has no
-/// cell, and never asks for one.
-pub fn cell_word(capacity: u32, words: u8, position: u64, at: u8) -> usize
-    ensures { result ≡ cell_word capacity words position at }
+/// The first word of the position's cell, where a value has so many words. A queue of capacity 0 has no cell, and never
+/// asks for one.
+#[inline(always)]
+pub fn cell_word(capacity: u32, words: u8, position: u64) -> usize
+    ensures { result ≡ cell_word capacity words position }
 {
     if capacity == 0 {
         FIRST_CELL
     } else {
-        FIRST_CELL + words as usize * (position % capacity as u64) as usize + at as usize
+        FIRST_CELL + words as usize * (position % capacity as u64) as usize
     }
 }
 
-/// Appends a value: true, or false where the queue is full. At most 3 + `T::WORDS` steps.
+/// Appends the value that it is given: true, or false where the queue is full. At most 3 + `T::WORDS` steps.
 ///
 /// It loads the write position (u64::MAX: false, and nothing changes), loads the read position (`capacity` behind: false,
 /// and nothing changes), stores the value's words into its cell, and stores the next write position. One push at a time
 /// is the caller's concern. After `push` of the Rust crate's `IndexQueue` and `Queue`.
-#[derive(Drop)]
-pub struct Push<T: Words> {
+#[derive(Debug, Clone, Copy)]
+pub struct Push<T> {
     pub capacity: u32,
-    pub value: T,
     pub stage: PushStage,
+    pub of: PhantomData<T>,
 }
 
-/// What a push does next, and the positions that it has loaded.
+/// What a push does next, the positions that it has loaded, and the first word of its cell.
 #[derive(Debug, Clone, Copy)]
 pub enum PushStage {
     LoadsWrite,
     LoadsRead { write: u64 },
-    StoresCell { write: u64, at: u8 },
+    StoresCell { write: u64, cell: usize, at: u8 },
     StoresWrite { write: u64 },
 }
 
-/// Takes the oldest value, or None where the queue is empty. At most 3 + `T::WORDS` steps.
+/// Takes the oldest value, or None where the queue is empty, by way of a room R. At most 3 + `T::WORDS` steps.
 ///
 /// It loads the read position, loads the write position (the same: None, and nothing changes), loads the cell's words,
 /// and stores the next read position. One pop at a time is the caller's concern. After `pop` of the Rust crate's
 /// `IndexQueue` and `Queue`.
-#[derive(Drop)]
-pub struct Pop<T: Words> {
+pub struct Pop<T, R> {
     pub capacity: u32,
-    pub stage: PopStage<T>,
+    pub stage: PopStage,
+    pub of: PhantomData<(T, R)>,
 }
 
-/// What a pop does next, and what it has loaded.
-#[derive(Drop)]
-pub enum PopStage<T: Words> {
+/// What a pop does next, the position that it has loaded, and the first word of its cell.
+#[derive(Debug, Clone, Copy)]
+pub enum PopStage {
     LoadsRead,
     LoadsWrite { read: u64 },
-    LoadsCell { read: u64, copied: Copied<T> },
-    StoresRead { read: u64, value: T },
+    LoadsCell { read: u64, cell: usize, at: u8 },
+    StoresRead { read: u64 },
 }
+
+impl<T, R> Clone for Pop<T, R> {
+    fn clone(&self) -> Result<Pop<T, R>, AllocError> {
+        Ok(*self)
+    }
+}
+
+impl<T, R> Copy for Pop<T, R> {}
 
 impl<T: Words> Push<T> {
     /// A push that has taken no step.
-    pub fn new(capacity: u32, value: T) -> Push<T>
-        ensures { result ≡ first_push capacity value }
+    #[inline(always)]
+    pub fn new(capacity: u32) -> Push<T>
+        ensures { result ≡ first_push capacity }
     {
         Push {
             capacity,
-            value,
             stage: PushStage::LoadsWrite,
+            of: PhantomData,
         }
     }
 }
 
-impl<T: Words> Pop<T> {
+impl<T: Words, R: Room<T>> Pop<T, R> {
     /// A pop that has taken no step.
-    pub fn new(capacity: u32) -> Pop<T>
+    #[inline(always)]
+    pub fn new(capacity: u32) -> Pop<T, R>
         ensures { result ≡ first_pop capacity }
     {
         Pop {
             capacity,
             stage: PopStage::LoadsRead,
+            of: PhantomData,
         }
     }
 }
 
-impl<T: Words> Call for Push<T> {
+impl<T: Words> Routine for Push<T> {
+    ghost use Rattle.steps.specs.Laws.{push_tells};
+
+    type Given = T;
+
+    type Room = ();
+
+    type End = bool;
+
     type Value = T;
 
     type Answer = bool;
 
-    ghost want_of = { push_want T.WORDS T.words_of };
+    ghost want_of = { push_want T.words_of };
 
-    ghost after = { push_after T.WORDS };
+    ghost after = { λ c given old. push_after T.WORDS c old };
 
-    fn ask(&self) -> Want<T> {
-        let capacity = self.capacity;
-        match self.stage {
-            PushStage::LoadsWrite => Want::Ask(Ask {
-                word: WRITE,
-                op: Op::Load,
-            }),
-            PushStage::LoadsRead { .. } => Want::Ask(Ask {
-                word: READ,
-                op: Op::Load,
-            }),
-            PushStage::StoresCell { write, at } => {
-                let word = cell_word(capacity, T::WORDS as u8, write, at);
+    ghost kept = { λ c room old. room };
+
+    ghost value_of = { λ given room. given };
+
+    ghost answer_of = { λ end given room. end };
+
+    ghost store_tells_nothing = { λ c given room m n t. push_tells T.words_of T.WORDS c c.stage given room m n t };
+
+    #[inline(always)]
+    fn ask(self, given: &T) -> Want<()> {
+        let (word, op) = match self.stage {
+            PushStage::LoadsWrite => (WRITE, Op::Load),
+            PushStage::LoadsRead { .. } => (READ, Op::Load),
+            PushStage::StoresCell { cell, at, .. } => {
                 let new = if (at as usize) < T::WORDS {
-                    self.value.word(at as usize)
+                    given.word(at as usize)
                 } else {
                     0
                 };
-                Want::Ask(Ask {
-                    word,
-                    op: Op::Store(new),
-                })
+                (cell.wrapping_add(at as usize), Op::Store(new))
             }
-            PushStage::StoresWrite { write } => Want::Ask(Ask {
-                word: WRITE,
-                op: Op::Store(write.wrapping_add(1)),
-            }),
-        }
+            PushStage::StoresWrite { write } => (WRITE, Op::Store(write.wrapping_add(1))),
+        };
+        Want::Ask(Ask { word, op })
     }
 
-    fn take(self, answer: u64) -> After<Push<T>, bool> {
-        let Push {
-            capacity,
-            value,
-            stage,
-        } = self;
-        match stage {
+    #[inline(always)]
+    fn take(self, _given: &T, _room: &mut (), answer: u64) -> After<Push<T>, bool> {
+        let stage = match self.stage {
             PushStage::LoadsWrite => {
                 if answer == u64::MAX {
-                    After::Done(false)
-                } else {
-                    After::GoOn(Push {
-                        capacity,
-                        value,
-                        stage: PushStage::LoadsRead { write: answer },
-                    })
+                    return After::Done(false);
                 }
+                PushStage::LoadsRead { write: answer }
             }
             PushStage::LoadsRead { write } => {
-                if capacity == 0 || write.wrapping_sub(answer) == capacity as u64 {
-                    After::Done(false)
-                } else {
-                    After::GoOn(Push {
-                        capacity,
-                        value,
-                        stage: PushStage::StoresCell { write, at: 0 },
-                    })
+                if self.capacity == 0 || write.wrapping_sub(answer) == self.capacity as u64 {
+                    return After::Done(false);
+                }
+                PushStage::StoresCell {
+                    write,
+                    cell: cell_word(self.capacity, T::WORDS as u8, write),
+                    at: 0,
                 }
             }
-            PushStage::StoresCell { write, at } => {
+            PushStage::StoresCell { write, cell, at } => {
                 if (at as usize) + 1 < T::WORDS {
-                    After::GoOn(Push {
-                        capacity,
-                        value,
-                        stage: PushStage::StoresCell { write, at: at + 1 },
-                    })
+                    PushStage::StoresCell {
+                        write,
+                        cell,
+                        at: at + 1,
+                    }
                 } else {
-                    After::GoOn(Push {
-                        capacity,
-                        value,
-                        stage: PushStage::StoresWrite { write },
-                    })
+                    PushStage::StoresWrite { write }
                 }
             }
-            PushStage::StoresWrite { .. } => After::Done(true),
-        }
+            PushStage::StoresWrite { .. } => return After::Done(true),
+        };
+        After::GoOn(Push {
+            capacity: self.capacity,
+            stage,
+            of: PhantomData,
+        })
+    }
+
+    fn value(given: &T, _room: &()) -> T {
+        *given
+    }
+
+    #[inline(always)]
+    fn answer(end: bool, _given: &T, _room: &()) -> bool {
+        end
     }
 }
 
-impl<T: Words> Call for Pop<T> {
+impl<T: Words> Ends for Push<T> {
+    ghost use Rattle.steps.specs.Ring.{push_left};
+    ghost use Rattle.steps.specs.Laws.{push_fewer};
+
+    ghost left = { λ c. push_left T.WORDS c.stage };
+
+    ghost fewer = { λ c d given n goes. push_fewer T.WORDS c d n goes };
+}
+
+impl<T: Words, R: Room<T> + Drop> Routine for Pop<T, R> {
+    ghost use Rattle.steps.specs.Laws.{pop_tells};
+
+    type Given = ();
+
+    type Room = R;
+
+    type End = bool;
+
     type Value = T;
 
     type Answer = Option<T>;
 
-    ghost want_of = { pop_want T.WORDS };
+    ghost want_of = { λ c given. pop_want c };
 
-    ghost after = { pop_after T.WORDS T.value_of };
+    ghost after = { λ c given old. pop_after T.WORDS c old };
 
-    fn ask(&self) -> Want<T> {
-        let capacity = self.capacity;
-        match &self.stage {
-            PopStage::LoadsRead => Want::Ask(Ask {
-                word: READ,
-                op: Op::Load,
-            }),
-            PopStage::LoadsWrite { .. } => Want::Ask(Ask {
-                word: WRITE,
-                op: Op::Load,
-            }),
-            PopStage::LoadsCell { read, copied } => Want::Ask(Ask {
-                word: cell_word(capacity, T::WORDS as u8, *read, copied.len()),
-                op: Op::Load,
-            }),
-            PopStage::StoresRead { read, .. } => Want::Ask(Ask {
-                word: READ,
-                op: Op::Store(read.wrapping_add(1)),
-            }),
-        }
+    ghost kept = { pop_kept R.with_word };
+
+    ghost value_of = { λ given room. T.value_of (take T.WORDS (R.words_in room)) };
+
+    ghost answer_of = { λ end given room. pop_answer (T.value_of (take T.WORDS (R.words_in room))) end };
+
+    ghost store_tells_nothing = { λ c given room m n t. pop_tells R.with_word T.WORDS c c.stage room m n t };
+
+    #[inline(always)]
+    fn ask(self, _given: &()) -> Want<()> {
+        let (word, op) = match self.stage {
+            PopStage::LoadsRead => (READ, Op::Load),
+            PopStage::LoadsWrite { .. } => (WRITE, Op::Load),
+            PopStage::LoadsCell { cell, at, .. } => (cell.wrapping_add(at as usize), Op::Load),
+            PopStage::StoresRead { read } => (READ, Op::Store(read.wrapping_add(1))),
+        };
+        Want::Ask(Ask { word, op })
     }
 
-    fn take(self, answer: u64) -> After<Pop<T>, Option<T>> {
-        let Pop { capacity, stage } = self;
-        match stage {
-            PopStage::LoadsRead => After::GoOn(Pop {
-                capacity,
-                stage: PopStage::LoadsWrite { read: answer },
-            }),
+    #[inline(always)]
+    fn take(self, _given: &(), room: &mut R, answer: u64) -> After<Pop<T, R>, bool> {
+        let stage = match self.stage {
+            PopStage::LoadsRead => PopStage::LoadsWrite { read: answer },
             PopStage::LoadsWrite { read } => {
-                if capacity == 0 || answer == read {
-                    After::Done(None)
-                } else {
-                    After::GoOn(Pop {
-                        capacity,
-                        stage: PopStage::LoadsCell {
-                            read,
-                            copied: Copied::new(),
-                        },
-                    })
+                if self.capacity == 0 || answer == read {
+                    return After::Done(false);
+                }
+                PopStage::LoadsCell {
+                    read,
+                    cell: cell_word(self.capacity, T::WORDS as u8, read),
+                    at: 0,
                 }
             }
-            PopStage::LoadsCell { read, copied } => match copied.with(answer) {
-                Copying::More(copied) => After::GoOn(Pop {
-                    capacity,
-                    stage: PopStage::LoadsCell { read, copied },
-                }),
-                Copying::Whole(value) => After::GoOn(Pop {
-                    capacity,
-                    stage: PopStage::StoresRead { read, value },
-                }),
-            },
-            PopStage::StoresRead { value, .. } => After::Done(Some(value)),
-        }
+            PopStage::LoadsCell { read, cell, at } => {
+                room.put(at as usize, answer);
+                if (at as usize) + 1 < T::WORDS {
+                    PopStage::LoadsCell {
+                        read,
+                        cell,
+                        at: at + 1,
+                    }
+                } else {
+                    PopStage::StoresRead { read }
+                }
+            }
+            PopStage::StoresRead { .. } => return After::Done(true),
+        };
+        After::GoOn(Pop {
+            capacity: self.capacity,
+            stage,
+            of: PhantomData,
+        })
     }
+
+    fn value(_given: &(), room: &R) -> T {
+        room.value()
+    }
+
+    #[inline(always)]
+    fn answer(end: bool, _given: &(), room: &R) -> Option<T> {
+        if end { Some(room.value()) } else { None }
+    }
+}
+
+impl<T: Words, R: Room<T> + Drop> Ends for Pop<T, R> {
+    ghost use Rattle.steps.specs.Ring.{pop_left};
+    ghost use Rattle.steps.specs.Laws.{pop_fewer};
+
+    ghost left = { λ c. pop_left T.WORDS c.stage };
+
+    ghost fewer = { λ c d given n goes. pop_fewer T.WORDS c d n goes };
 }

@@ -1,7 +1,8 @@
 //! The two roles of a structure that has one producer and one consumer at a time.
 ghost use Rattle.steps.specs.Roles.{acquire_want, acquire_after, release_want, release_after};
 
-use crate::ask::{After, Ask, Call, Op, Want};
+use crate::ask::{After, Ask, Op, Want};
+use crate::routine::{Ends, Routine};
 
 #[derive(Debug, Clone, Copy, PartialEq, Eq)]
 pub enum Role {
@@ -24,44 +25,112 @@ pub struct ReleaseRole {
     pub word: usize,
 }
 
-impl Call for AcquireRole {
+impl Routine for AcquireRole {
+    ghost use Rattle.steps.specs.Laws.{acquire_tells};
+
+    type Given = ();
+
+    type Room = ();
+
+    type End = bool;
+
     type Value = u64;
 
     type Answer = bool;
 
-    ghost want_of = { acquire_want };
+    ghost want_of = { λ c given. acquire_want c };
 
-    ghost after = { acquire_after };
+    ghost after = { λ c given old. acquire_after c old };
 
-    fn ask(&self) -> Want<u64> {
+    ghost kept = { λ c room old. room };
+
+    ghost value_of = { λ given room. 0 };
+
+    ghost answer_of = { λ end given room. end };
+
+    ghost store_tells_nothing = { λ c given room m n t. acquire_tells c room m n t };
+
+    #[inline(always)]
+    fn ask(self, _given: &()) -> Want<()> {
         Want::Ask(Ask {
             word: self.word,
             op: Op::Exchange(1, 0),
         })
     }
 
-    fn take(self, answer: u64) -> After<AcquireRole, bool> {
+    #[inline(always)]
+    fn take(self, _given: &(), _room: &mut (), answer: u64) -> After<AcquireRole, bool> {
         After::Done(answer == 1)
+    }
+
+    fn value(_given: &(), _room: &()) -> u64 {
+        0
+    }
+
+    #[inline(always)]
+    fn answer(end: bool, _given: &(), _room: &()) -> bool {
+        end
     }
 }
 
-impl Call for ReleaseRole {
+impl Ends for AcquireRole {
+    ghost use Rattle.steps.specs.Laws.{acquire_fewer};
+
+    ghost left = { λ c. 0 };
+
+    ghost fewer = { λ c d given n goes. acquire_fewer c d n goes };
+}
+
+impl Routine for ReleaseRole {
+    ghost use Rattle.steps.specs.Laws.{release_tells};
+
+    type Given = ();
+
+    type Room = ();
+
+    type End = ();
+
     type Value = u64;
 
     type Answer = ();
 
-    ghost want_of = { release_want };
+    ghost want_of = { λ c given. release_want c };
 
-    ghost after = { release_after };
+    ghost after = { λ c given old. release_after c old };
 
-    fn ask(&self) -> Want<u64> {
+    ghost kept = { λ c room old. room };
+
+    ghost value_of = { λ given room. 0 };
+
+    ghost answer_of = { λ end given room. end };
+
+    ghost store_tells_nothing = { λ c given room m n t. release_tells c room m n t };
+
+    #[inline(always)]
+    fn ask(self, _given: &()) -> Want<()> {
         Want::Ask(Ask {
             word: self.word,
             op: Op::Store(1),
         })
     }
 
-    fn take(self, answer: u64) -> After<ReleaseRole, ()> {
+    #[inline(always)]
+    fn take(self, _given: &(), _room: &mut (), _answer: u64) -> After<ReleaseRole, ()> {
         After::Done(())
     }
+
+    fn value(_given: &(), _room: &()) -> u64 {
+        0
+    }
+
+    #[inline(always)]
+    fn answer(_end: (), _given: &(), _room: &()) {}
+}
+
+impl Ends for ReleaseRole {
+    ghost use Rattle.steps.specs.Laws.{release_fewer};
+
+    ghost left = { λ c. 0 };
+
+    ghost fewer = { λ c d given n goes. release_fewer c d n goes };
 }

@@ -6,3 +6,9 @@ pub mod Pops
 pub mod Lengths
 pub mod Overflows
 pub mod Comings
+pub mod RoleRuns
+pub mod LenRuns
+pub mod PushRuns
+pub mod PopRuns
+pub mod OverPushRuns
+pub mod OverPopRuns

@@ -1,5 +1,5 @@
 -- What holds of the pairs that one pass knows, and of the pairs of any two.
-use Rattle.std.specs.Prelude.{◌≡◌, ◌≢◌, ℕ, ◌+◌, ◌<◌, ◌≤◌, Some, List, All, AllPairs}
+use Rattle.std.specs.Prelude.{◌≡◌, ◌≢◌, ℕ, zero, suc, ◌+◌, ◌<◌, ◌≤◌, Some, List, All, AllPairs}
 use Rattle.lock_free_sp.specs.declared.ring.view.View.{View}
 
 module _ {T : Type 0} where
@@ -35,3 +35,8 @@ module _ {T : Type 0} where
   InOrder v w =
       (p : ℕ) → v.last_pop ≡ Some p
       → All (λ (x : ℕ × T). x.0 ≤ p) w.taken × All (λ (x : ℕ × T). x.0 ≤ p + v.capacity) w.published
+
+-- what holds only of a queue with no cell beyond its capacity
+abbrev pub IfExact : ℕ → Type 0 → Type 0
+IfExact zero P = P
+IfExact (suc spare) P = Unit {0}

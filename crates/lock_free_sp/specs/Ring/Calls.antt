@@ -1,5 +1,5 @@
 -- What the calls on a ring say of its tokens.
-use Rattle.std.specs.Prelude.{◌≡◌, ◌⊎◌, ℕ, ◌+◌, ◌-◌, ◌^◌, ◌<◌, ◌≤◌, Some, All}
+use Rattle.std.specs.Prelude.{◌≡◌, ◌⊎◌, ℕ, ◌+◌, ◌-◌, ◌^◌, ◌<◌, ◌≤◌, ◌==◌, Some, All, if◌then◌else◌}
 use Rattle.atomic_table.specs.Seated.{TableId}
 use Rattle.steps.specs.declared.words.Words.{Ghosts}
 use Rattle.lock_free_sp.specs.declared.ring.rule.Spare as spares
@@ -12,15 +12,15 @@ use Rattle.lock_free_sp.specs.Ring.Between.{Below, Sound, InOrder}
 module _ {E T : Type 0} {spare : spares.Ghosts E} {words : Ghosts T} where
   -- what the token's seat knows
   abbrev pub seen : Held E T (RingRule E T) spare words → View T
-  seen t = t.seat.me.0
+  seen t = t.seated.seat.me.0
 
   -- which table it is for
   abbrev pub table_of : Held E T (RingRule E T) spare words → TableId
-  table_of t = t.seat.table_id
+  table_of t = t.seated.seat.table_id
 
   -- the same seat, at the same table
   abbrev pub IsSame : Held E T (RingRule E T) spare words → Held E T (RingRule E T) spare words → Type 0
-  IsSame old new = (table_of new ≡ table_of old) × (new.seat.id ≡ old.seat.id) × (new.board ≡ old.board) × (new.capacity ≡ old.capacity)
+  IsSame old new = (table_of new ≡ table_of old) × (new.seated.seat.id ≡ old.seated.seat.id) × (new.seated.table ≡ old.seated.table) × (new.capacity ≡ old.capacity)
 
 module _ {T : Type 0} where
   -- a push that took x: at a position above all that was known, and right after the guard's last push
@@ -51,7 +51,21 @@ module _ {T : Type 0} where
     pub same : w ≡ v
     pub empty : (q : ℕ) → v.last_pop ≡ Some q → All (λ (x : ℕ × T). x.0 ≤ q) v.published
 
+  -- a length: both positions stood together at one moment, no further apart than there are cells, and above what is known
+  pub record Stood (spare : ℕ) (v : View T) (waiting : ℕ) : Type 0 where
+    pub write : ℕ
+    pub read : ℕ
+    pub number : waiting ≡ (if v.capacity == 0 then 0 else write - read)
+    pub behind : read ≤ write
+    pub within : write ≤ read + v.capacity + spare
+    pub published : All (λ (x : ℕ × T). x.0 < write) v.published
+    pub taken : All (λ (x : ℕ × T). x.0 < read) v.taken
+
   -- ---- the overflowing queue
+
+  -- a queue without capacity, or a guard whose last push has the last position but one: no push takes a value
+  abbrev pub TakesNone : View T → Type 0
+  TakesNone v = (v.capacity ≡ 0) ⊎ (v.last_push ≡ Some (2 ^ 64 - 2))
 
   -- a push that took its value where there was room, or where a pop made room first
   pub record HasAdded (x : T) (v w : View T) : Type 0 where

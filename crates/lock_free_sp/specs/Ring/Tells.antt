@@ -100,10 +100,11 @@ module _ {T : Type 0} where
   taken_at v n w = (p : ℕ) (x : T) → v.pop ≡ popping.SawValue p x → Taken v w p x
 
   abbrev pub len_saw_write : View T → ℕ → View T → Type 0
-  len_saw_write v n w = w ≡ with_len (lengths.SawWrite n) v
+  len_saw_write v n w = (w ≡ with_len (lengths.SawWrite n) v) × All (λ (x : ℕ × T). x.0 < n) v.published
 
   abbrev pub len_saw_read : View T → ℕ → View T → Type 0
-  len_saw_read v n w = (p : ℕ) → v.len ≡ lengths.SawWrite p → w ≡ with_len (lengths.SawBoth p n) v
+  len_saw_read v n w =
+      (p : ℕ) → v.len ≡ lengths.SawWrite p → (w ≡ with_len (lengths.SawBoth p n) v) × All (λ (x : ℕ × T). x.0 < n) v.taken
 
   -- where the write position is the one that was loaded first, both stood together
   abbrev pub len_saw_again : ℕ → View T → ℕ → View T → Type 0

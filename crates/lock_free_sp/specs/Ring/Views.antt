@@ -1,5 +1,5 @@
 -- What a seat knows of a ring, and how that changes.
-use Rattle.std.specs.Prelude.{ℕ, Some, None, [], ◌∷◌, ◌++◌}
+use Rattle.std.specs.Prelude.{◌≡◌, ℕ, Some, None, [], ◌∷◌, ◌++◌}
 use Rattle.lock_free_sp.specs.declared.ring.view.PushStage.{PushStage}
 use Rattle.lock_free_sp.specs.declared.ring.view.PushStage.TheVariants as pushing
 use Rattle.lock_free_sp.specs.declared.ring.view.PopStage.{PopStage}
@@ -60,3 +60,16 @@ module _ {T : Type 0} where
   -- what both know, with the roles of the first
   abbrev pub joined : View T → View T → View T
   joined v w = record v { published = v.published ++ w.published; taken = v.taken ++ w.taken }
+
+  -- it has no role, and no call under way
+  abbrev pub IsIdle : View T → Type 0
+  IsIdle v =
+      (v.push ≡ pushing.Away) × (v.last_push ≡ None) × (v.pop ≡ popping.Away) × (v.last_pop ≡ None) × (v.len ≡ lengths.Idle)
+
+  -- it has the producer's role alone, and no call under way
+  abbrev pub IsProducing : View T → Type 0
+  IsProducing v = (v.push ≡ pushing.Ready) × (v.pop ≡ popping.Away) × (v.last_pop ≡ None) × (v.len ≡ lengths.Idle)
+
+  -- it has the consumer's role alone, and no call under way
+  abbrev pub IsConsuming : View T → Type 0
+  IsConsuming v = (v.pop ≡ popping.Ready) × (v.push ≡ pushing.Away) × (v.last_push ≡ None) × (v.len ≡ lengths.Idle)

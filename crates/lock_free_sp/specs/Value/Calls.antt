@@ -11,15 +11,15 @@ use Rattle.lock_free_sp.specs.Value.Between.{Below, UpTo, Sound}
 module _ {T : Type 0} {words : Ghosts T} where
   -- what the token's seat knows
   abbrev pub seen : Held T (ValueRule T) words → View T
-  seen t = t.seat.me.0
+  seen t = t.seated.seat.me.0
 
   -- which table it is for
   abbrev pub table_of : Held T (ValueRule T) words → TableId
-  table_of t = t.seat.table_id
+  table_of t = t.seated.seat.table_id
 
   -- the same seat, at the same table
   abbrev pub IsSame : Held T (ValueRule T) words → Held T (ValueRule T) words → Type 0
-  IsSame old new = (table_of new ≡ table_of old) × (new.seat.id ≡ old.seat.id) × (new.board ≡ old.board)
+  IsSame old new = (table_of new ≡ table_of old) × (new.seated.seat.id ≡ old.seated.seat.id) × (new.seated.table ≡ old.seated.table)
 
 module _ {T : Type 0} where
   -- a store of x: at a version above all that were known, and right after the guard's last store

@@ -6,6 +6,7 @@ ghost use Rattle.lock_free_sp.specs.Ring.Calls.{seen, table_of};
 
 use super::rule::{Board, Spare};
 use super::token::{Held, Token};
+use crate::driver::seated::Seated;
 use atomic_table::Table;
 use std::alloc::{AllocError, Global};
 use std::marker::PhantomData;
@@ -20,6 +21,7 @@ pub fn open<E: Spare, T: Words>(
     position: u64,
 ) -> Result<(Arc<Board<E, T>, Global>, Token<E, T>), AllocError>
     ensures table { IfOk result (λ r. table_of r.1 ≡ (arc_value r.0).shared.table_id) }
+    ensures key { IfOk result (λ r. (arc_value r.0).shared.key ≡ capacity) }
     ensures view { IfOk result (λ r. seen r.1 ≡ blank capacity) }
     ensures capacity { IfOk result (λ r. r.1.capacity ≡ capacity) }
 {
@@ -33,13 +35,15 @@ pub fn open<E: Spare, T: Words>(
     words[PRODUCER] = 1;
     words[CONSUMER] = 1;
     let (table, seat) = Table::of_words(alloc, words.as_slice(), &(capacity as u64))?;
-    let board = Arc::new(alloc, table)?;
-    let shared = Arc::try_clone(&board)?;
+    let table = Arc::new(alloc, table)?;
+    let shared = Arc::try_clone(&table)?;
     let token = Held {
-        seat,
-        board: shared,
-        capacity,
         of: PhantomData,
+        seated: Seated {
+            seat,
+            table: shared,
+        },
+        capacity,
     };
-    Ok((board, token))
+    Ok((table, token))
 }

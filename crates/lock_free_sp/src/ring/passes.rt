@@ -7,27 +7,30 @@ ghost use Rattle.lock_free_sp.specs.Ring.Calls.{seen, table_of, IsSame};
 use super::plays::{Both, Cut, Learns};
 use super::rule::{RingRule, Spare};
 use super::token::{Held, Token};
+use crate::driver::seated::Seated;
 use std::marker::PhantomData;
 use std::sync::Arc;
+use steps::ring::WRITE;
 use steps::words::Words;
 
 impl<E: Spare, T: Words> Held<E, T, RingRule<E, T>> {
-    /// A token that knows nothing, at the same table. None where no further reference can be counted.
+    /// A token that knows nothing, at the same table. None where no further reference can be counted. One load of the
+    /// write position.
     pub fn split(&mut self) -> Option<Token<E, T>>
         ensures same { IsSame self.old self.new }
         ensures left { seen self.new ≡ seen self.old }
         ensures table { IfSome result (λ t. table_of t ≡ table_of self.old) }
         ensures right { IfSome result (λ t. seen t ≡ blank (seen self.old).capacity) }
     {
-        let Ok(board) = Arc::try_clone(&self.board) else {
+        let seated = &mut self.seated;
+        let Ok(table) = Arc::try_clone(&seated.table) else {
             return None;
         };
-        let seat = self.board.shared.split_seat::<Cut>(&mut self.seat);
+        let seat = seated.table.shared.split_seat::<Cut>(&mut seated.seat);
         Some(Held {
-            seat,
-            board,
-            capacity: self.capacity,
             of: PhantomData,
+            seated: Seated { seat, table },
+            capacity: self.capacity,
         })
     }
 
@@ -39,9 +42,18 @@ impl<E: Spare, T: Words> Held<E, T, RingRule<E, T>> {
         ensures rule { Ruled (seen self.old) (seen other) }
         ensures sound { Sound (seen self.new) }
         ensures order { E.SPARE ≡ 0 → InOrder (seen self.old) (seen other) }
+        ensures joined_order { E.SPARE ≡ 0 → InOrder (seen self.new) (seen self.new) }
     {
-        let Held { seat, .. } = other;
-        self.board.shared.join_seat::<Both>(&mut self.seat, seat);
-        self.board.shared.load::<Learns<E>>(&mut self.seat, 0);
+        let Held { seated: other, .. } = other;
+        let Seated { seat, .. } = other;
+        let seated = &mut self.seated;
+        seated
+            .table
+            .shared
+            .join_seat::<Both>(&mut seated.seat, seat);
+        seated
+            .table
+            .shared
+            .load::<Learns<E>>(&mut seated.seat, WRITE);
     }
 }

@@ -1,9 +1,10 @@
 //! The rule of a ring's table.
 //!
 //! The words are those of `steps::ring`: write position, read position, the two roles, and the cells.
-ghost use Rattle.std.specs.Prelude.{ℕ, ◌≤◌};
+ghost use Rattle.std.specs.Prelude.{◌≡◌, ℕ, ◌≤◌};
 
 use super::view::View;
+use crate::driver::rule::Rule;
 use atomic_table::{Table, TableRule};
 use std::alloc::Global;
 use std::marker::PhantomData;
@@ -18,10 +19,15 @@ pub trait Spare {
     ghost few: { SPARE ≤ 1 };
 }
 
-/// The queue that refuses a push where it is full.
-pub struct Bounded;
+/// A ring that refuses a push where it is full.
+pub trait Exact: Spare {
+    ghost exact: { Self.SPARE ≡ 0 };
+}
 
-impl Spare for Bounded {
+/// The queue of numbers that refuses a push where it is full.
+pub struct Numbers;
+
+impl Spare for Numbers {
     ghost use Rattle.std.proofs.Common.{zero-le};
 
     const SPARE: u64 = 0;
@@ -31,7 +37,32 @@ impl Spare for Bounded {
     ghost few = { zero-le };
 }
 
-/// The queue that hands its oldest value back where it is full. It keeps a cell for the value that pushes it out.
+impl Exact for Numbers {
+    ghost use Rattle.std.specs.Prelude.{refl};
+
+    ghost exact = { refl };
+}
+
+/// The queue of values that refuses a push where it is full.
+pub struct Values;
+
+impl Spare for Values {
+    ghost use Rattle.std.proofs.Common.{zero-le};
+
+    const SPARE: u64 = 0;
+
+    ghost SPARE = { 0 };
+
+    ghost few = { zero-le };
+}
+
+impl Exact for Values {
+    ghost use Rattle.std.specs.Prelude.{refl};
+
+    ghost exact = { refl };
+}
+
+/// The queue that hands its oldest number back where it is full. It keeps a cell for the number that pushes it out.
 pub struct Overflowing;
 
 impl Spare for Overflowing {
@@ -56,6 +87,16 @@ impl<E: Spare, T: Words> TableRule<(), View<T>, u64> for RingRule<E, T> {
     ghost holds = { λ capacity. Kept T.words_of T.WORDS E.SPARE capacity };
 
     ghost first = { λ capacity. blank capacity };
+}
+
+impl<E: Spare, T: Words> Rule<View<T>, u64> for RingRule<E, T> {
+    ghost use Rattle.std.specs.Prelude.{◌+◌, ◌*◌};
+
+    ghost size = { λ capacity. T.WORDS * (capacity + E.SPARE) + 4 };
+
+    ghost capacity = { λ capacity. capacity };
+
+    ghost capacity_seen = { λ v. v.capacity };
 }
 
 pub type Board<E, T> = Table<(), View<T>, u64, RingRule<E, T>, Global>;

@@ -1,78 +1,80 @@
 //! The bounded queue of any values with words, with one producer and one consumer, shared between threads.
-ghost use Rattle.std.specs.Prelude.{◌≡◌, ◌+◌, ◌*◌, None};
-ghost use Rattle.std.specs.Arc.{arc_value};
-ghost use Rattle.lock_free_sp.specs.declared.ring.view.PushStage.TheVariants as pushing;
-ghost use Rattle.lock_free_sp.specs.declared.ring.view.PopStage.TheVariants as popping;
-ghost use Rattle.lock_free_sp.specs.declared.ring.view.LenStage.TheVariants as lengths;
+ghost use Rattle.std.specs.Prelude.{◌≡◌, ◌⊎◌, ◌-◌, ◌^◌, true, false, None, Some, IsTrue, IsFalse, IfOk, IfErr, OnOk, IfSome, IfNone};
+ghost use Rattle.steps.specs.Enums.{capacity_refusal};
+ghost use Rattle.steps.specs.declared.enums.UniqueIndexCreationError.TheVariants.{NoMemory};
+ghost use Rattle.lock_free_sp.specs.Ring.Views.{blank};
+ghost use Rattle.lock_free_sp.specs.Ring.Calls.{HasPushed, WasFull, HasPopped, WasEmpty};
+ghost use Rattle.lock_free_sp.specs.Ends.{view, IsPassOf, ring_of, producer_view, producer_queue, consumer_view, consumer_queue};
 
-use crate::ring::rule::{Bounded, RingRule};
-use crate::ring::token::Token;
-use crate::ring::view::View;
-use atomic_table::{Table, TableRule};
+use crate::ring::ends;
+use crate::ring::ends::FixedSize;
+use crate::ring::rule::{RingRule, Values};
 use std::alloc::Global;
-use std::sync::Arc;
+use steps::copied::Copied;
+use steps::enums::UniqueIndexCreationError;
 use steps::words::Words;
-
-mod calls;
 
 /// A bounded queue of at most CAPACITY values, from 0 to 2^32 - 1, which threads share by reference. One producer pushes
 /// and one consumer pops at a time. After `Queue` of the Rust crate.
-#[derive(Drop)]
-pub struct Queue<T: Words, const CAPACITY: usize> {
-    ring: Ring<T, RingRule<Bounded, T>, CAPACITY>,
-}
+pub type Queue<T, const CAPACITY: usize> = FixedSize<Values, T, RingRule<Values, T>, CAPACITY>;
 
-/// A table with a cell for each of CAPACITY values. Its rule is a parameter, as that of `Held` is: only so can its size
-/// be told by `T::WORDS`.
-#[derive(Drop)]
-struct Ring<T: Words, Q: TableRule<(), View<T>, u64>, const CAPACITY: usize> {
-    board: Arc<Table<(), View<T>, u64, Q, Global>, Global>,
-    ghost sized: { (arc_value board).shared.table_id.words ≡ T.WORDS * CAPACITY + 4 },
-}
+/// What a caller knows of a queue of values.
+pub type Pass<T> = ends::Pass<Values, T>;
 
-/// What a caller knows of a queue: the positions at which it has pushed and popped, with the values. Each call is made
-/// with a pass of its queue, which is the caller's concern, and only the caller's own calls change it. It has no role.
-/// This project's own.
-#[derive(Drop)]
-pub struct Pass<T: Words> {
-    token: Token<Bounded, T>,
-    ghost idle: { (token.seat.me.0.push ≡ pushing.Away) × (token.seat.me.0.last_push ≡ None) × (token.seat.me.0.pop ≡ popping.Away) × (token.seat.me.0.last_pop ≡ None) × (token.seat.me.0.len ≡ lengths.Idle) },
-}
+/// The end of a queue of values that pushes.
+pub type Producer<'a, T> = ends::Producer<'a, Values, T>;
 
-/// The end of a queue that pushes. There is one at a time. It owns the pass that it was acquired with, and gives the
-/// role back when it is dropped. After `Producer` of the Rust crate.
-pub struct Producer<'a, T: Words, const CAPACITY: usize> {
-    queue: &'a Queue<T, CAPACITY>,
-    token: Token<Bounded, T>,
-    ghost role: { (token.seat.me.0.push ≡ pushing.Ready) × (token.seat.me.0.pop ≡ popping.Away) × (token.seat.me.0.last_pop ≡ None) × (token.seat.me.0.len ≡ lengths.Idle) },
-}
+/// The end of a queue of values that pops.
+pub type Consumer<'a, T> = ends::Consumer<'a, Values, T>;
 
-/// The end of a queue that pops. There is one at a time. It owns the pass that it was acquired with, and gives the
-/// role back when it is dropped. After `Consumer` of the Rust crate.
-pub struct Consumer<'a, T: Words, const CAPACITY: usize> {
-    queue: &'a Queue<T, CAPACITY>,
-    token: Token<Bounded, T>,
-    ghost role: { (token.seat.me.0.pop ≡ popping.Ready) × (token.seat.me.0.push ≡ pushing.Away) × (token.seat.me.0.last_push ≡ None) × (token.seat.me.0.len ≡ lengths.Idle) },
-}
+impl<T: Words, const CAPACITY: usize> Queue<T, CAPACITY> {
+    /// An empty queue and its first pass, which knows nothing.
+    ///
+    /// Refused are, in this order, a CAPACITY above 2^32 - 1 (`ProvidedCapacityGreaterThanMaxCapacity`) and memory
+    /// (`NoMemory`). After `Queue::new` of the Rust crate.
+    pub fn new(
+        alloc: Global,
+    ) -> Result<(Queue<T, CAPACITY>, Pass<T>), UniqueIndexCreationError>
+        ensures pass { IfOk result (λ r. IsPassOf (ring_of r.0) r.1 × (view r.1 ≡ blank CAPACITY)) }
+        ensures admitted { OnOk result (capacity_refusal 0 (2 ^ 32 - 1) CAPACITY ≡ None) }
+        ensures refused { IfErr result (λ e. (capacity_refusal 0 (2 ^ 32 - 1) CAPACITY ≡ Some e) ⊎ (capacity_refusal 0 (2 ^ 32 - 1) CAPACITY ≡ None) × (e ≡ NoMemory)) }
+    {
+        FixedSize::open(alloc, 0)
+    }
 
-impl<'a, T: Words, const CAPACITY: usize> Drop for Producer<'a, T, CAPACITY> {
-    /// Gives the role back.
-    fn drop(self) {
-        let Self {
-            queue: _,
-            mut token,
-        } = self;
-        token.leave_producer();
+    /// The same with both positions at `position`, as after so many pushes and pops. This project's own.
+    pub fn new_at(
+        alloc: Global,
+        position: u64,
+    ) -> Result<(Queue<T, CAPACITY>, Pass<T>), UniqueIndexCreationError>
+        ensures pass { IfOk result (λ r. IsPassOf (ring_of r.0) r.1 × (view r.1 ≡ blank CAPACITY)) }
+        ensures admitted { OnOk result (capacity_refusal 0 (2 ^ 32 - 1) CAPACITY ≡ None) }
+        ensures refused { IfErr result (λ e. (capacity_refusal 0 (2 ^ 32 - 1) CAPACITY ≡ Some e) ⊎ (capacity_refusal 0 (2 ^ 32 - 1) CAPACITY ≡ None) × (e ≡ NoMemory)) }
+    {
+        FixedSize::open(alloc, position)
     }
 }
 
-impl<'a, T: Words, const CAPACITY: usize> Drop for Consumer<'a, T, CAPACITY> {
-    /// Gives the role back.
-    fn drop(self) {
-        let Self {
-            queue: _,
-            mut token,
-        } = self;
-        token.leave_consumer();
+impl<'a, T: Words> Producer<'a, T> {
+    /// Appends a value: true, or false where the queue is full or its write position at u64::MAX, and then nothing
+    /// changes. At most 3 + `T::WORDS` steps. After `Producer::push` of the Rust crate.
+    pub fn push(&mut self, value: &T) -> bool
+        ensures queue { producer_queue self.new ≡ producer_queue self.old }
+        ensures pushed { IsTrue result → HasPushed value.now (producer_view self.old) (producer_view self.new) }
+        ensures full { IsFalse result → WasFull (producer_view self.old) (producer_view self.new) }
+    {
+        self.token.push(value)
+    }
+}
+
+impl<'a, T: Words> Consumer<'a, T> {
+    /// Takes the oldest value, or None where the queue is empty, and then nothing changes. At most 3 + `T::WORDS` steps.
+    /// After `Consumer::pop` of the Rust crate.
+    pub fn pop(&mut self) -> Option<T>
+        ensures queue { consumer_queue self.new ≡ consumer_queue self.old }
+        ensures popped { IfSome result (λ x. HasPopped x (consumer_view self.old) (consumer_view self.new)) }
+        ensures empty { IfNone result (WasEmpty (consumer_view self.old) (consumer_view self.new)) }
+    {
+        self.token.pop(Copied::new())
     }
 }

@@ -6,6 +6,7 @@ ghost use Rattle.lock_free_sp.specs.Value.Calls.{seen, table_of};
 
 use super::rule::{Board, Opening};
 use super::token::{Held, Token};
+use crate::driver::seated::Seated;
 use atomic_table::Table;
 use std::alloc::{AllocError, Global};
 use std::sync::Arc;
@@ -30,11 +31,13 @@ pub fn open<T: Words>(
         words[first + at] = value.word(at);
     }
     let (table, seat) = Table::of_words(alloc, words.as_slice(), &Opening { version, value })?;
-    let board = Arc::new(alloc, table)?;
-    let shared = Arc::try_clone(&board)?;
+    let table = Arc::new(alloc, table)?;
+    let shared = Arc::try_clone(&table)?;
     let token = Held {
-        seat,
-        board: shared,
+        seated: Seated {
+            seat,
+            table: shared,
+        },
     };
-    Ok((board, token))
+    Ok((table, token))
 }

@@ -7,6 +7,7 @@ ghost use Rattle.lock_free_sp.specs.Value.Calls.{seen, table_of, IsSame};
 use super::plays::{Both, Cut, Learns};
 use super::rule::ValueRule;
 use super::token::{Held, Token};
+use crate::driver::seated::Seated;
 use std::sync::Arc;
 use steps::value::VERSION;
 use steps::words::Words;
@@ -20,11 +21,14 @@ impl<T: Words> Held<T, ValueRule<T>> {
         ensures table { IfSome result (λ t. table_of t ≡ table_of self.old) }
         ensures right { IfSome result (λ t. seen t ≡ blank) }
     {
-        let Ok(board) = Arc::try_clone(&self.board) else {
+        let seated = &mut self.seated;
+        let Ok(table) = Arc::try_clone(&seated.table) else {
             return None;
         };
-        let seat = self.board.shared.split_seat::<Cut>(&mut self.seat);
-        Some(Held { seat, board })
+        let seat = seated.table.shared.split_seat::<Cut>(&mut seated.seat);
+        Some(Held {
+            seated: Seated { seat, table },
+        })
     }
 
     /// Takes in what the other token knows. Two loads of the version.
@@ -35,8 +39,16 @@ impl<T: Words> Held<T, ValueRule<T>> {
         ensures rule { Ruled (seen self.old) (seen other) }
         ensures sound { Sound (seen self.new) }
     {
-        let Held { seat, .. } = other;
-        self.board.shared.join_seat::<Both>(&mut self.seat, seat);
-        self.board.shared.load::<Learns>(&mut self.seat, VERSION);
+        let Held { seated: other } = other;
+        let Seated { seat, .. } = other;
+        let seated = &mut self.seated;
+        seated
+            .table
+            .shared
+            .join_seat::<Both>(&mut seated.seat, seat);
+        seated
+            .table
+            .shared
+            .load::<Learns>(&mut seated.seat, VERSION);
     }
 }

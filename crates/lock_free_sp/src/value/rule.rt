@@ -4,6 +4,7 @@
 //! producer's role, and two cells: the value of a version stands in the one whose number is the version less 1, modulo 2.
 
 use super::view::View;
+use crate::driver::rule::Rule;
 use atomic_table::{Table, TableRule};
 use std::alloc::Global;
 use std::marker::PhantomData;
@@ -28,6 +29,17 @@ impl<T: Words> TableRule<(), View<T>, Opening<T>> for ValueRule<T> {
     ghost holds = { λ opening. Kept T.words_of T.WORDS };
 
     ghost first = { λ opening. opened opening.version opening.value };
+}
+
+/// A value has no capacity.
+impl<T: Words> Rule<View<T>, Opening<T>> for ValueRule<T> {
+    ghost use Rattle.std.specs.Prelude.{◌+◌, ◌*◌};
+
+    ghost size = { λ opening. T.WORDS * 2 + 2 };
+
+    ghost capacity = { λ opening. 0 };
+
+    ghost capacity_seen = { λ v. 0 };
 }
 
 pub type Board<T> = Table<(), View<T>, Opening<T>, ValueRule<T>, Global>;

@@ -15,7 +15,7 @@ module _ {T : Type 0} where
   abbrev pub stored : ℕ → List ℕ → ℕ → ℕ → List (Item T)
   stored cells words position zero = []
   stored cells words position (suc count) =
-      Index (slice_index words (cell_word cells 1 position 0)) ∷ stored cells words (position + 1) count
+      Index (slice_index words (cell_word cells 1 position)) ∷ stored cells words (position + 1) count
 
   -- of a queue with so many cells the values between the read position and the write position
   abbrev pub waiting_in : ℕ → List ℕ → List (Item T)

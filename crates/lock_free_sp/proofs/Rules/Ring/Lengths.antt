@@ -1,11 +1,12 @@
 -- The loads of a length keep the rule, and so does a look at what a seat knows.
-use Rattle.std.proofs.Common.{◌≡◌, ℕ, ◌+◌, List, get_or, sym, refl, ap, subst, ◌∙◌, arith, le_refl}
+use Rattle.std.proofs.Common.{◌≡◌, ℕ, ◌+◌, ◌<◌, List, get_or, sym, refl, ap, subst, ◌∙◌, arith, le_refl}
+use Rattle.std.proofs.lemmas.List.Elements.{All-weaker}
 use Rattle.atomic_table.specs.Table.{Me, Allows, step, keeps}
 use Rattle.lock_free_sp.specs.declared.ring.view.LenStage.{LenStage}
 use Rattle.lock_free_sp.specs.declared.ring.view.LenStage.TheVariants as lengths
 use Rattle.lock_free_sp.specs.declared.ring.view.View.{View}
 use Rattle.lock_free_sp.specs.Ring.Views.{with_len}
-use Rattle.lock_free_sp.specs.Ring.Kept.{Kept, KnowsLen, face}
+use Rattle.lock_free_sp.specs.Ring.Kept.{Kept, KnowsLen, IsPublished, IsTaken, face}
 use Rattle.lock_free_sp.specs.Ring.Tells.{tells, len_saw_write, len_saw_read, len_saw_again, learned}
 use Rattle.lock_free_sp.proofs.Rules.Ring.Stays.{knows_len, sound, in_order, St, looks}
 use mathlib.Core.Option.{none}
@@ -32,7 +33,7 @@ module _ {T : Type 0} (words_of : T → List ℕ) (n : ℕ) (spare capacity : �
   len_sees_write s r wide at small =
       let stage : LenStage = lengths.SawWrite (get_or s.words 0 0) in
       let k = r.seats id v at in
-      (with_len stage v, keeps, tt, looks words_of n spare capacity s r 0 id m.1 (with_len stage v) (knows_len words_of spare capacity (face (capacity + spare) n s.words) r.book id v k stage (le_refl (get_or s.words 0 0))), (refl, refl))
+      (with_len stage v, keeps, tt, looks words_of n spare capacity s r 0 id m.1 (with_len stage v) (knows_len words_of spare capacity (face (capacity + spare) n s.words) r.book id v k stage (le_refl (get_or s.words 0 0))), ((refl, All-weaker (IsPublished words_of spare capacity (face (capacity + spare) n s.words) r.book id) (λ x. x.0 < get_or s.words 0 0) (λ x h. h.0) v.published k.published), refl))
 
   -- the second load, of the read position
   pub len_sees_read : (p : ℕ) → v.len ≡ lengths.SawWrite p → Allows H slots id m 1 (λ x. x) (tells len_saw_read (step slots 1 0 0 none) m)
@@ -46,7 +47,7 @@ module _ {T : Type 0} (words_of : T → List ℕ) (n : ℕ) (spare capacity : �
         keeps,
         tt,
         looks words_of n spare capacity s r 1 id m.1 (with_len stage v) (knows_len words_of spare capacity f r.book id v k stage (f.write, mine, le_refl f.write, r.fits.behind, r.fits.within)),
-        ((λ q e. ap (λ z. with_len (lengths.SawBoth z found) v) (ap loaded_write (sym is ∙ e))), refl),
+        ((λ q e. (ap (λ z. with_len (lengths.SawBoth z found) v) (ap loaded_write (sym is ∙ e)), All-weaker (IsTaken words_of spare capacity f r.book id) (λ x. x.0 < found) (λ x h. h.0) v.taken k.taken)), refl),
       )
 
   -- the third load, of the write position again

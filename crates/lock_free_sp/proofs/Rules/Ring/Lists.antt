@@ -73,9 +73,11 @@ place_within capacity n p i room below =
     let step : n * (p % capacity + 1) ≤ n * capacity = mul-le-mul_left n (omega arith) in
     omega arith
 
--- where there is a cell, the steps ask for this word
-pub cell_is : (capacity n p i : ℕ) → 0 < capacity → cell_word capacity n p i ≡ place capacity n p i
-cell_is capacity n p i room = ap (λ b. if b then 4 else place capacity n p i) (ne_eqb capacity 0 (λ e. absurd (omega arith)))
+-- where there is a cell, its first word
+pub cell_is : (capacity n p : ℕ) → 0 < capacity → cell_word capacity n p ≡ place capacity n p 0
+cell_is capacity n p room =
+    let e : cell_word capacity n p ≡ 4 + n * (p % capacity) = ap (λ b. if b then 4 else 4 + n * (p % capacity)) (ne_eqb capacity 0 (λ e. absurd (omega arith))) in
+    omega arith
 
 -- ---- a value read word by word
 

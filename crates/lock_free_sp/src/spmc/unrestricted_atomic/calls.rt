@@ -58,8 +58,8 @@ impl<T: Words> UnrestrictedAtomic<T> {
         }
     }
 
-    /// The value that was newest at the last step. 2 + `T::WORDS` steps, and 1 + `T::WORDS` more for each time that a
-    /// store has moved the version. After `load` of the Rust crate.
+    /// The value that was newest at the last step. 2 + `T::WORDS` steps, and at most 1 + `T::WORDS` more for each time
+    /// that a store has moved the version. After `load` of the Rust crate.
     pub fn load(&self, rt: &impl Wait, pass: &mut Pass<T>) -> T
         requires { IsPassOf self.now pass.old }
         ensures value { value_of_pass pass.new ≡ value_of_pass pass.old }

@@ -1,6 +1,8 @@
+use Rattle.std.proofs.Common.{◌<◌, ◌^◌, arith}
 use Rattle.machine.specs.World.{trace_of}
 use Rattle.machine.specs.Turns.{turned}
-use Rattle.machine.proofs.Reached.{reached_is, reached_more}
+use Rattle.machine.specs.Promises.{IsKept}
+use Rattle.machine.proofs.Reached.{reached_is, reached_more, taken_making}
 use Rattle.machine.proofs.Small.{reached_small}
 use Rattle.machine.proofs.Structures.Queues.Justified.{step_turn}
 use Rattle.machine.proofs.Structures.Queues.Kept.{reached_kept}
@@ -21,26 +23,32 @@ pub returns-clause-ok : goal.returns-clause-ok
 returns-clause-ok g c = rw (← c.self.view_is) c.in_ok-step.ensures.ok
 
 pub returns-clause-word : goal.returns-clause-word
-returns-clause-word g c = (step_turn (trace_of c.self.inside.parts) c.args.self.now (trace_of c.step.new.self) c.args.turn c.self.view_is c.self.invariant c.in_ok-step.ensures.allowed c.in_ok-step.ensures.ok).word
+returns-clause-word g c = (step_turn (trace_of c.self.inside.parts) c.args.self.now (trace_of c.step.new.self) c.args.turn c.self.view_is (omega arith) c.self.invariant c.in_ok-step.ensures.allowed c.in_ok-step.ensures.ok).word
 
 pub returns-clause-call : goal.returns-clause-call
-returns-clause-call g c = (step_turn (trace_of c.self.inside.parts) c.args.self.now (trace_of c.step.new.self) c.args.turn c.self.view_is c.self.invariant c.in_ok-step.ensures.allowed c.in_ok-step.ensures.ok).call
+returns-clause-call g c = (step_turn (trace_of c.self.inside.parts) c.args.self.now (trace_of c.step.new.self) c.args.turn c.self.view_is (omega arith) c.self.invariant c.in_ok-step.ensures.allowed c.in_ok-step.ensures.ok).call
 
 pub returns-clause-steps : goal.returns-clause-steps
-returns-clause-steps g c = (step_turn (trace_of c.self.inside.parts) c.args.self.now (trace_of c.step.new.self) c.args.turn c.self.view_is c.self.invariant c.in_ok-step.ensures.allowed c.in_ok-step.ensures.ok).steps
+returns-clause-steps g c = (step_turn (trace_of c.self.inside.parts) c.args.self.now (trace_of c.step.new.self) c.args.turn c.self.view_is (omega arith) c.self.invariant c.in_ok-step.ensures.allowed c.in_ok-step.ensures.ok).steps
 
 pub returns-clause-others : goal.returns-clause-others
-returns-clause-others g c = (step_turn (trace_of c.self.inside.parts) c.args.self.now (trace_of c.step.new.self) c.args.turn c.self.view_is c.self.invariant c.in_ok-step.ensures.allowed c.in_ok-step.ensures.ok).others
+returns-clause-others g c = (step_turn (trace_of c.self.inside.parts) c.args.self.now (trace_of c.step.new.self) c.args.turn c.self.view_is (omega arith) c.self.invariant c.in_ok-step.ensures.allowed c.in_ok-step.ensures.ok).others
 
 pub returns-clause-justified : goal.returns-clause-justified
-returns-clause-justified g c = (step_turn (trace_of c.self.inside.parts) c.args.self.now (trace_of c.step.new.self) c.args.turn c.self.view_is c.self.invariant c.in_ok-step.ensures.allowed c.in_ok-step.ensures.ok).justified
+returns-clause-justified g c = (step_turn (trace_of c.self.inside.parts) c.args.self.now (trace_of c.step.new.self) c.args.turn c.self.view_is (omega arith) c.self.invariant c.in_ok-step.ensures.allowed c.in_ok-step.ensures.ok).justified
 
 pub returns-clause-kept : goal.returns-clause-kept
 returns-clause-kept g c =
-    reached_kept (trace_of c.step.new.self)
-    (reached_is (trace_of c.step.new.self) (turned (trace_of c.self.inside.parts) c.args.turn) c.in_ok-step.ensures.ok
-    (reached_more (trace_of c.self.inside.parts) c.args.turn c.in_ok-step.ensures.allowed c.self.invariant))
+    let inside = trace_of c.self.inside.parts in
+    let making = taken_making inside.world c.args.turn in
+    let fits : c.self.inside.parts.capacity < 2 ^ 32 = omega arith in
+    let turn : IsKept (turned inside c.args.turn) =
+    reached_kept (turned inside c.args.turn) (rw making.capacity fits) (reached_more inside c.args.turn c.in_ok-step.ensures.allowed c.self.invariant)
+    in
+    rw c.in_ok-step.ensures.ok turn
 
 pub returns-in_err-step-clause-kept : goal.returns-in_err-step-clause-kept
 returns-in_err-step-clause-kept g c =
-    reached_kept (trace_of c.step.new.self) (reached_is (trace_of c.step.new.self) (trace_of c.self.inside.parts) c.in_err-step.ensures.err c.self.invariant)
+    let inside = trace_of c.self.inside.parts in
+    let kept : IsKept inside = reached_kept inside (omega arith) c.self.invariant in
+    rw c.in_err-step.ensures.err kept

@@ -1,6 +1,7 @@
 -- What a call of another party goes on to know in an overflowing queue.
 use Rattle.std.proofs.Common.{◌≡◌, ◌≢◌, ℕ, ◌+◌, ◌≤◌, ◌==◌, false, List, [], ◌∷◌, ◌++◌, length, refl, ap, arith}
 use Rattle.std.proofs.lemmas.Bool.Decides.{nat_tests}
+use Rattle.steps.specs.declared.copied.OneWord.{OneWord}
 use Rattle.steps.specs.declared.overflow.PushStage as overflow_pushes
 use Rattle.steps.specs.declared.overflow.PopStage as overflow_pops
 use Rattle.machine.specs.Calls.{words_of_index}
@@ -11,41 +12,41 @@ use Rattle.machine.proofs.Structures.Overflow.Knows.{KnowsOverflowPush, KnowsOve
 -- ---- a pop, where a push takes a step
 
 -- a store into a cell
-pub fill_keeps_pop : (c : ℕ) (k : Core ℕ) (at word : ℕ) (stage : overflow_pops.PopStage) → KnowsOverflowPop c k stage → KnowsOverflowPop c (filled 1 words_of_index (c + 1) k at word) stage
-fill_keeps_pop c k at word overflow_pops.TheVariants.FindsNone h = h
-fill_keeps_pop c k at word overflow_pops.TheVariants.LoadsRead h = h
-fill_keeps_pop c k at word (overflow_pops.TheVariants.LoadsWrite read) h = h
-fill_keeps_pop c k at word (overflow_pops.TheVariants.LoadsCell read) h = h
-fill_keeps_pop c k at word (overflow_pops.TheVariants.MovesRead read value) h = h
+pub fill_keeps_pop : (c : ℕ) (k : Core ℕ) (at word : ℕ) (room : OneWord) (stage : overflow_pops.PopStage) → KnowsOverflowPop c k room stage → KnowsOverflowPop c (filled 1 words_of_index (c + 1) k at word) room stage
+fill_keeps_pop c k at word room overflow_pops.TheVariants.FindsNone h = h
+fill_keeps_pop c k at word room overflow_pops.TheVariants.LoadsRead h = h
+fill_keeps_pop c k at word room (overflow_pops.TheVariants.LoadsWrite read) h = h
+fill_keeps_pop c k at word room (overflow_pops.TheVariants.LoadsCell read) h = h
+fill_keeps_pop c k at word room (overflow_pops.TheVariants.MovesRead read) h = h
 
 -- the next write position
-pub publish_keeps_pop : (c : ℕ) (k : Core ℕ) (v : ℕ) (stage : overflow_pops.PopStage) → KnowsOverflowPop c k stage → KnowsOverflowPop c (core.published 1 words_of_index (c + 1) k v) stage
-publish_keeps_pop c k v overflow_pops.TheVariants.FindsNone h = h
-publish_keeps_pop c k v overflow_pops.TheVariants.LoadsRead h = h
-publish_keeps_pop c k v (overflow_pops.TheVariants.LoadsWrite read) h =
+pub publish_keeps_pop : (c : ℕ) (k : Core ℕ) (v : ℕ) (room : OneWord) (stage : overflow_pops.PopStage) → KnowsOverflowPop c k room stage → KnowsOverflowPop c (core.published 1 words_of_index (c + 1) k v) room stage
+publish_keeps_pop c k v room overflow_pops.TheVariants.FindsNone h = h
+publish_keeps_pop c k v room overflow_pops.TheVariants.LoadsRead h = h
+publish_keeps_pop c k v room (overflow_pops.TheVariants.LoadsWrite read) h =
     (h.0, h.1, λ moved. let waits = h.2 moved in omega arith)
-publish_keeps_pop c k v (overflow_pops.TheVariants.LoadsCell read) h =
+publish_keeps_pop c k v room (overflow_pops.TheVariants.LoadsCell read) h =
     let waits = h.2 in
     (h.0, h.1, omega arith)
-publish_keeps_pop c k v (overflow_pops.TheVariants.MovesRead read value) h =
+publish_keeps_pop c k v room (overflow_pops.TheVariants.MovesRead read) h =
     let waits = h.2 in
     (h.0, h.1, omega arith, λ same. let first = h.3 same in (first.0 ++ v ∷ [], ap (λ xs. xs ++ v ∷ []) first.1))
 
 -- the next read position, where at least the newest value stays
 pub take_keeps_pop :
-    (c : ℕ) (k : Core ℕ) (rest : List ℕ) → k.write ≡ k.read + c + 1 → (stage : overflow_pops.PopStage) → KnowsOverflowPop c k stage
-    → KnowsOverflowPop c (taken 1 words_of_index (c + 1) k rest) stage
-take_keeps_pop c k rest far overflow_pops.TheVariants.FindsNone h = h
-take_keeps_pop c k rest far overflow_pops.TheVariants.LoadsRead h = h
-take_keeps_pop c k rest far (overflow_pops.TheVariants.LoadsWrite read) h =
+    (c : ℕ) (k : Core ℕ) (rest : List ℕ) → k.write ≡ k.read + c + 1 → (room : OneWord) (stage : overflow_pops.PopStage) → KnowsOverflowPop c k room stage
+    → KnowsOverflowPop c (taken 1 words_of_index (c + 1) k rest) room stage
+take_keeps_pop c k rest far room overflow_pops.TheVariants.FindsNone h = h
+take_keeps_pop c k rest far room overflow_pops.TheVariants.LoadsRead h = h
+take_keeps_pop c k rest far room (overflow_pops.TheVariants.LoadsWrite read) h =
     let some = h.0 in
     let low = h.1 in
     (some, omega arith, λ moved. omega arith)
-take_keeps_pop c k rest far (overflow_pops.TheVariants.LoadsCell read) h =
+take_keeps_pop c k rest far room (overflow_pops.TheVariants.LoadsCell read) h =
     let some = h.0 in
     let low = h.1 in
     (some, omega arith, omega arith)
-take_keeps_pop c k rest far (overflow_pops.TheVariants.MovesRead read value) h =
+take_keeps_pop c k rest far room (overflow_pops.TheVariants.MovesRead read) h =
     let some = h.0 in
     let low = h.1 in
     (some, omega arith, omega arith, λ same. absurd (omega arith))

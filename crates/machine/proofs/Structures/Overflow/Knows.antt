@@ -1,5 +1,6 @@
 -- What a push and a pop of the overflowing queue know where they stand.
 use Rattle.std.proofs.Common.{◌≡◌, ℕ, ◌+◌, ◌%◌, ◌<◌, ◌≤◌, ◌==◌, Option, Some, None, List, [], ◌∷◌, ◌++◌, if◌then◌else◌, get_or, arith}
+use Rattle.steps.specs.declared.copied.OneWord.{OneWord}
 use Rattle.steps.specs.declared.overflow.PushStage as overflow_pushes
 use Rattle.steps.specs.declared.overflow.PopStage as overflow_pops
 use Rattle.machine.specs.declared.call.OverflowCall as overflows
@@ -12,6 +13,18 @@ use Rattle.machine.specs.declared.event.Event.TheVariants.{Published, HandedOut,
 use Rattle.machine.specs.Calls.{words_of_index}
 use Rattle.machine.proofs.Structures.Queues.Core.{Core, Holds}
 use Rattle.machine.proofs.Structures.Queues.Core.{GoesUp}
+
+-- ---- the calls by their stages
+
+abbrev pub overflow_push_at : ℕ → ℕ → OneWord → overflow_pushes.PushStage → overflows.OverflowCall
+overflow_push_at c v room stage =
+    overflows.TheVariants.Push (record { call = record { capacity = c; stage = stage }; given = v; room = room })
+
+abbrev pub overflow_pop_at : ℕ → OneWord → overflow_pops.PopStage → overflows.OverflowCall
+overflow_pop_at c room stage =
+    overflows.TheVariants.Pop (record { call = record { capacity = c; stage = stage }; given = tt; room = room })
+
+-- ---- what they know
 
 -- A push that has loaded the read position can find it moved on, and so can a pop. A push leaves at least its own value behind, so after its move something waits.
 abbrev pub KnowsOverflowPush : ℕ → Core ℕ → ℕ → overflow_pushes.PushStage → Type 0
@@ -26,14 +39,15 @@ KnowsOverflowPush c k v (overflow_pushes.TheVariants.MovesRead read) =
     (0 < c) × (read ≤ k.read) × (k.write ≡ read + c + 1) × (read ≡ k.read → (others : List ℕ) × (k.waiting ≡ others ++ v ∷ []))
 KnowsOverflowPush c k v (overflow_pushes.TheVariants.LoadsCell read) = (0 < c) × (read < k.read) × (k.write ≡ read + c + 1)
 
-abbrev pub KnowsOverflowPop : ℕ → Core ℕ → overflow_pops.PopStage → Type 0
-KnowsOverflowPop c k overflow_pops.TheVariants.FindsNone = c ≡ 0
-KnowsOverflowPop c k overflow_pops.TheVariants.LoadsRead = 0 < c
-KnowsOverflowPop c k (overflow_pops.TheVariants.LoadsWrite read) =
+-- once the cell is loaded, the room has the front value, unless the read position has moved
+abbrev pub KnowsOverflowPop : ℕ → Core ℕ → OneWord → overflow_pops.PopStage → Type 0
+KnowsOverflowPop c k room overflow_pops.TheVariants.FindsNone = c ≡ 0
+KnowsOverflowPop c k room overflow_pops.TheVariants.LoadsRead = 0 < c
+KnowsOverflowPop c k room (overflow_pops.TheVariants.LoadsWrite read) =
     (0 < c) × (read ≤ k.read) × (read < k.read → k.read < k.write)
-KnowsOverflowPop c k (overflow_pops.TheVariants.LoadsCell read) = (0 < c) × (read ≤ k.read) × (k.read < k.write)
-KnowsOverflowPop c k (overflow_pops.TheVariants.MovesRead read value) =
-    (0 < c) × (read ≤ k.read) × (k.read < k.write) × (read ≡ k.read → (rest : List ℕ) × (k.waiting ≡ value ∷ rest))
+KnowsOverflowPop c k room (overflow_pops.TheVariants.LoadsCell read) = (0 < c) × (read ≤ k.read) × (k.read < k.write)
+KnowsOverflowPop c k room (overflow_pops.TheVariants.MovesRead read) =
+    (0 < c) × (read ≤ k.read) × (k.read < k.write) × (read ≡ k.read → (rest : List ℕ) × (k.waiting ≡ room.0 ∷ rest))
 
 -- how many steps the call has taken at most, in a pop besides two for each time that it turned back
 abbrev pub overflow_push_number : overflow_pushes.PushStage → ℕ
@@ -50,7 +64,7 @@ overflow_pop_number overflow_pops.TheVariants.FindsNone = 0
 overflow_pop_number overflow_pops.TheVariants.LoadsRead = 0
 overflow_pop_number (overflow_pops.TheVariants.LoadsWrite read) = 1
 overflow_pop_number (overflow_pops.TheVariants.LoadsCell read) = 2
-overflow_pop_number (overflow_pops.TheVariants.MovesRead read value) = 3
+overflow_pop_number (overflow_pops.TheVariants.MovesRead read) = 3
 
 -- Of an overflowing queue's pop: the same, of the read position alone.
 abbrev pub KnowsBacks : Core ℕ → ℕ → ℕ → ℕ → overflow_pops.PopStage → Type 0
@@ -60,7 +74,7 @@ KnowsBacks k since changes backs (overflow_pops.TheVariants.LoadsWrite read) =
     (read ≤ k.read) × (backs + since + k.read ≤ changes + read)
 KnowsBacks k since changes backs (overflow_pops.TheVariants.LoadsCell read) =
     (read ≤ k.read) × (backs + since + k.read ≤ changes + read)
-KnowsBacks k since changes backs (overflow_pops.TheVariants.MovesRead read value) =
+KnowsBacks k since changes backs (overflow_pops.TheVariants.MovesRead read) =
     (read ≤ k.read) × (backs + since + k.read ≤ changes + read)
 
 -- a turn of another party keeps it
@@ -90,7 +104,7 @@ module _ (k k' : Core ℕ) (changes changes' : ℕ) (up : GoesUp k k' changes ch
       let low = h.0 in
       let paid = h.1 in
       (omega arith, omega arith)
-  backs_keep since backs (overflow_pops.TheVariants.MovesRead read value) h =
+  backs_keep since backs (overflow_pops.TheVariants.MovesRead read) h =
       let w = up.write in
       let r = up.read in
       let more = up.paid in
@@ -115,8 +129,8 @@ module _ {T : Type 0} where
       ∷ []
 
   abbrev pub OverflowAt : ℕ → Option ℕ → Option ℕ → Core ℕ → ℕ → Start T → overflows.OverflowCall → Type 0
-  OverflowAt c pr co k p (Push (Index v)) (overflows.TheVariants.Push call) =
-      (pr ≡ Some p) × (call.capacity ≡ c) × (call.value ≡ v) × KnowsOverflowPush c k v call.stage
-  OverflowAt c pr co k p Pop (overflows.TheVariants.Pop call) =
-      (co ≡ Some p) × (call.capacity ≡ c) × KnowsOverflowPop c k call.stage
+  OverflowAt c pr co k p (Push (Index v)) (overflows.TheVariants.Push run) =
+      (pr ≡ Some p) × (run.call.capacity ≡ c) × (run.given ≡ v) × KnowsOverflowPush c k v run.call.stage
+  OverflowAt c pr co k p Pop (overflows.TheVariants.Pop run) =
+      (co ≡ Some p) × (run.call.capacity ≡ c) × KnowsOverflowPop c k run.room run.call.stage
   OverflowAt c pr co k p start call = ⊥

@@ -8,7 +8,7 @@ use Rattle.steps.specs.declared.ask.Ask.{Ask}
 use Rattle.steps.specs.declared.ask.Op.TheVariants.{Load, Exchange}
 use Rattle.steps.specs.declared.ask.After.{After}
 use Rattle.steps.specs.declared.ask.After.TheVariants.{GoOn, Done}
-use Rattle.steps.specs.declared.overflow.Push as overflow_push
+use Rattle.steps.specs.declared.copied.OneWord.{OneWord}
 use Rattle.steps.specs.declared.overflow.PushStage as overflow_pushes
 use Rattle.steps.specs.declared.overflow.PopStage as overflow_pops
 use Rattle.steps.specs.Ring.{after_position}
@@ -37,9 +37,9 @@ use Rattle.machine.specs.Objects.{cut_off}
 use Rattle.machine.specs.Promises.Spans.{Stands}
 use Rattle.machine.proofs.Readings.{span_of-own, span_of-other}
 use Rattle.machine.proofs.Structures.Overflow.Core.{one_passes, oldest, pop_front, pop_room}
-use Rattle.machine.proofs.Structures.Overflow.Waiting.{past_none, IsPending, pending_is}
+use Rattle.machine.proofs.Structures.Overflow.Waiting.{past_none, Pushing, IsPending, pending_is}
 use Rattle.machine.proofs.Structures.Queues.Core.{Core, Good, taken, takes, word_at}
-use Rattle.machine.proofs.Structures.Overflow.Knows.{KnowsOverflowPush, KnowsOverflowPop, KnowsBacks, overflow_pop_number, OverflowAt}
+use Rattle.machine.proofs.Structures.Overflow.Knows.{overflow_pop_at, KnowsOverflowPush, KnowsOverflowPop, KnowsBacks, overflow_pop_number, OverflowAt}
 use Rattle.machine.proofs.Structures.Queues.Knows.{free, layout, Hangs, has_written}
 use Rattle.machine.proofs.Structures.Queues.Invariant.{IsUnderWay, FitsDoing, Fits, Inv, still_fits, waiting_is}
 use Rattle.machine.proofs.Structures.Queues.Keeping.{clash, kept}
@@ -47,9 +47,13 @@ use Rattle.machine.proofs.Structures.Queues.Pending.{pending_put, few_wait, none
 use Rattle.machine.proofs.Structures.Queues.Stages.{party_after, Step, Moves, MovesOf, still_hangs, quiet, alone}
 use Rattle.machine.proofs.Structures.Overflow.Keeping.{take_keeps_push}
 
-module _ {T : Type 0} (c : ℕ) (pr co : Option ℕ) (k : Core ℕ) (p steps backs since changes : ℕ) (latest : List (Party T)) (events : List (Event T)) (turns : ℕ) (inv : Inv kinds.TheVariants.Overflow c pr co k latest events changes turns) (small : turns < 2 ^ 64 - 2) (holds : co ≡ Some p) where
+module _ {T : Type 0} (c : ℕ) (pr co : Option ℕ) (k : Core ℕ) (p steps backs since changes : ℕ) (latest : List (Party T)) (events : List (Event T)) (turns : ℕ) (inv : Inv kinds.TheVariants.Overflow c pr co k latest events changes turns) (small : turns < 2 ^ 64 - 2) (holds : co ≡ Some p) (room : OneWord) where
   abbrev at : overflow_pops.PopStage → Flight
-  at stage = Overflow (overflows.TheVariants.Pop (record { capacity = c; stage = stage }))
+  at stage = Overflow (overflow_pop_at c room stage)
+
+  -- once it has read this value
+  abbrev with_value : ℕ → overflow_pops.PopStage → Flight
+  with_value value stage = Overflow (overflow_pop_at c (record { 0 = value }) stage)
 
   abbrev Does : Option Ask → ℕ → After Flight (Answer T) → Effect T → Type 0
   Does ask back after effect = Step kinds.TheVariants.Overflow c pr co k p steps backs since changes latest events turns [] Pop ask back after effect
@@ -128,13 +132,13 @@ module _ {T : Type 0} (c : ℕ) (pr co : Option ℕ) (k : Core ℕ) (p steps bac
             subst (λ a. Does (Some (record { word = 0; op = Load })) 0 a Acts) (sym goes) (goes_on read some low waits s paid)
 
     loads_cell : (read : ℕ) → 0 < c → read ≤ k.read → k.read < k.write → steps ≤ 2 * backs + 2 → backs + since + k.read ≤ changes + read
-        → Does (Some (record { word = cell_word c read; op = Load })) 0 (GoOn (at (overflow_pops.TheVariants.MovesRead read (get_or k.cells (read % (c + 1)) 0)))) Quiet
+        → Does (Some (record { word = cell_word c read; op = Load })) 0 (GoOn (with_value (get_or k.cells (read % (c + 1)) 0) (overflow_pops.TheVariants.MovesRead read))) Quiet
     loads_cell read some low waits s paid =
         let g = inv.good in
         let write = g.write in
         let old = oldest c k g (omega arith) in
         let same : words_after (layout pr co k) (Some (record { word = cell_word c read; op = Load })) ≡ layout pr co k = set-get_or (layout pr co k) (cell_word c read) 0 in
-        quiet kinds.TheVariants.Overflow c pr co k p steps backs since changes latest events turns inv.good inv.hangs inv.book inv.turned small (calm k.read) 0 Pop (Some (record { word = cell_word c read; op = Load })) (at (overflow_pops.TheVariants.MovesRead read (get_or k.cells (read % (c + 1)) 0))) k refl refl refl refl inv.good same
+        quiet kinds.TheVariants.Overflow c pr co k p steps backs since changes latest events turns inv.good inv.hangs inv.book inv.turned small (calm k.read) 0 Pop (Some (record { word = cell_word c read; op = Load })) (with_value (get_or k.cells (read % (c + 1)) 0) (overflow_pops.TheVariants.MovesRead read)) k refl refl refl refl inv.good same
         (record { span = refl; steps = omega arith; at = (holds, refl, (some, low, waits, λ here. (old.0, subst (λ r. k.waiting ≡ get_or k.cells (r % (c + 1)) 0 ∷ old.0) (sym here) old.1))) })
         (low, omega arith)
         (λ q ne st f h. (h, refl))
@@ -143,9 +147,9 @@ module _ {T : Type 0} (c : ℕ) (pr co : Option ℕ) (k : Core ℕ) (p steps bac
     asks_move read = Some (record { word = 1; op = Exchange read (after_position read) })
 
     -- a push has moved the read position, and the cell is loaded again
-    goes_back : (read value : ℕ) → 0 < c → read < k.read → k.read < k.write → steps ≤ 2 * backs + 3 → backs + since + k.read ≤ changes + read
+    goes_back : (read : ℕ) → 0 < c → read < k.read → k.read < k.write → steps ≤ 2 * backs + 3 → backs + since + k.read ≤ changes + read
         → Does (asks_move read) 1 (GoOn (at (overflow_pops.TheVariants.LoadsCell k.read))) Quiet
-    goes_back read value some moved waits s paid =
+    goes_back read some moved waits s paid =
         let t : (k.read == read) ≡ false = (let apart : k.read ≢ read = λ e. absurd (omega arith) in grind (arith, nat_tests)) in
         quiet kinds.TheVariants.Overflow c pr co k p steps backs since changes latest events turns inv.good inv.hangs inv.book inv.turned small (calm k.read) 1 Pop (asks_move read) (at (overflow_pops.TheVariants.LoadsCell k.read)) k refl refl refl refl inv.good (rw t refl)
         (record { span = refl; steps = omega arith; at = (holds, refl, (some, omega arith, waits)) })
@@ -226,7 +230,7 @@ module _ {T : Type 0} (c : ℕ) (pr co : Option ℕ) (k : Core ℕ) (p steps bac
                   };
               knows = omega arith;
               up = record { write = omega arith; read = omega arith; paid = omega arith };
-              others = λ q ne. kept c pr co pr co k after_take q (λ h. h) (λ h. h) kinds.TheVariants.Overflow (record { push = λ mine w stage h. take_keeps_push c k q rest g few w stage h; pop = λ mine stage h. absurd (clash co p q ne holds mine) });
+              others = λ q ne. kept c pr co pr co k after_take q (λ h. h) (λ h. h) kinds.TheVariants.Overflow (record { push = λ mine w stage h. take_keeps_push c k q rest g few w stage h; pop = λ mine other stage h. absurd (clash co p q ne holds mine) });
               turned = omega arith;
             },
           )
@@ -264,39 +268,39 @@ module _ {T : Type 0} (c : ℕ) (pr co : Option ℕ) (k : Core ℕ) (p steps bac
             append_assoc run_2 (acts_q ∷ []) (ends_p ∷ [])
             ∙ (append_assoc run_1 (acts_p ∷ []) (acts_q ∷ ends_p ∷ []) ∙ append_assoc events (hands ∷ []) (acts_p ∷ acts_q ∷ ends_p ∷ []))
 
-        abbrev pushing : overflow_push.Push → Flight
-        pushing call = Overflow (overflows.TheVariants.Push call)
+        abbrev pushing : Pushing → Flight
+        pushing run = Overflow (overflows.TheVariants.Push run)
 
-        start_is : (start : Start T) (call : overflow_push.Push) → OverflowAt c pr co k q start (overflows.TheVariants.Push call) → call.value ≡ w → start ≡ Push (Index w)
-        start_is (Push (Index v)) call h e = let same : v ≡ w = sym h.2 ∙ e in ap (λ (n : ℕ). Push (Index n)) same
-        start_is start call h e = absurd h
+        start_is : (start : Start T) (run : Pushing) → OverflowAt c pr co k q start (overflows.TheVariants.Push run) → run.given ≡ w → start ≡ Push (Index w)
+        start_is (Push (Index v)) run h e = let same : v ≡ w = sym h.2 ∙ e in ap (λ (n : ℕ). Push (Index n)) same
+        start_is start run h e = absurd h
 
-        still_at : (start : Start T) (call : overflow_push.Push) → call.stage ≡ overflow_pushes.TheVariants.MovesRead k.read → OverflowAt c pr co k q start (overflows.TheVariants.Push call) → OverflowAt c pr co after_take q start (overflows.TheVariants.Push call)
-        still_at (Push (Index v)) call e h =
+        still_at : (start : Start T) (run : Pushing) → run.call.stage ≡ overflow_pushes.TheVariants.MovesRead k.read → OverflowAt c pr co k q start (overflows.TheVariants.Push run) → OverflowAt c pr co after_take q start (overflows.TheVariants.Push run)
+        still_at (Push (Index v)) run e h =
             let knows = subst (KnowsOverflowPush c k v) e h.3 in
             let now : KnowsOverflowPush c after_take v (overflow_pushes.TheVariants.MovesRead k.read) = (knows.0, omega arith, knows.2, λ same. absurd (omega arith)) in
             (h.0, h.1, h.2, subst (KnowsOverflowPush c after_take v) (sym e) now)
-        still_at start call e h = absurd h
+        still_at start run e h = absurd h
 
-        module _ (producer : pr ≡ Some q) (x : Party T) (call : overflow_push.Push) (begun : ℕ) (is : IsPending k.read latest q w x call begun) where
+        module _ (producer : pr ≡ Some q) (x : Party T) (run : Pushing) (begun : ℕ) (is : IsPending k.read latest q w x run begun) where
           other : q ≢ p
           other e =
               let none : pending_at k.read (flight_of (doing_of (party_of q latest))) ≡ None = subst (λ n. pending_at k.read (flight_of (doing_of (party_of n latest))) ≡ None) (sym e) (calm k.read) in
               let clashing : None ≡ Some w = sym none ∙ is.waits in
               cc
 
-          under : IsUnderWay kinds.TheVariants.Overflow c pr co k q x (pushing call) (span_of q events)
+          under : IsUnderWay kinds.TheVariants.Overflow c pr co k q x (pushing run) (span_of q events)
           under =
               subst (λ d. FitsDoing kinds.TheVariants.Overflow c pr co k q x d (span_of q events)) is.doing
               (subst (λ o. Fits kinds.TheVariants.Overflow c pr co k q o (span_of q events)) is.found (inv.calls q))
 
           start : x.start ≡ Push (Index w)
-          start = start_is x.start call under.at is.value
+          start = start_is x.start run under.at is.value
 
-          wrote : has_written {T = T} c k q (pushing call) ≡ Published q (Index w) ∷ []
+          wrote : has_written {T = T} c k q (pushing run) ≡ Published q (Index w) ∷ []
           wrote = let t : (k.read == k.read) ≡ true = grind (arith, nat_tests) in rw (is.value, is.stage, t) refl
 
-          writes : has_written {T = T} c after_take q (pushing call) ≡ Published q (Index w) ∷ acts_q ∷ []
+          writes : has_written {T = T} c after_take q (pushing run) ≡ Published q (Index w) ∷ acts_q ∷ []
           writes =
               let t : (k.read == k.read + 1) ≡ false = (let apart : k.read ≢ k.read + 1 = omega arith in grind (arith, nat_tests)) in
               rw (is.value, is.stage, t) refl
@@ -318,7 +322,7 @@ module _ {T : Type 0} (c : ℕ) (pr co : Option ℕ) (k : Core ℕ) (p steps bac
           q_2 =
               span_of-other p q run_1 (acts_p ∷ []) other (refl, tt)
               ∙ (span_of-other p q events (hands ∷ []) other (refl, tt)
-              ∙ (under.span ∙ (ap (λ st. Open st (has_written c k q (pushing call))) start ∙ ap (λ es. Open (Push (Index w)) es) wrote)))
+              ∙ (under.span ∙ (ap (λ st. Open st (has_written c k q (pushing run))) start ∙ ap (λ es. Open (Push (Index w)) es) wrote)))
 
           q_4 : span_of q (events ++ told) ≡ Open (Push (Index w)) (Published q (Index w) ∷ acts_q ∷ [])
           q_4 =
@@ -335,11 +339,11 @@ module _ {T : Type 0} (c : ℕ) (pr co : Option ℕ) (k : Core ℕ) (p steps bac
 
           pushing_fits : Fits kinds.TheVariants.Overflow c pr co after_take q (party_of q latest) (span_of q (events ++ told))
           pushing_fits =
-              let now : IsUnderWay kinds.TheVariants.Overflow c pr co after_take q x (pushing call) (span_of q (events ++ told)) =
+              let now : IsUnderWay kinds.TheVariants.Overflow c pr co after_take q x (pushing run) (span_of q (events ++ told)) =
               record {
-                span = q_4 ∙ (ap (λ es. Open (Push (Index w)) es) (sym writes) ∙ ap (λ st. Open st (has_written c after_take q (pushing call))) (sym start));
+                span = q_4 ∙ (ap (λ es. Open (Push (Index w)) es) (sym writes) ∙ ap (λ st. Open st (has_written c after_take q (pushing run))) (sym start));
                 steps = under.steps;
-                at = still_at x.start call is.stage under.at;
+                at = still_at x.start run is.stage under.at;
               }
               in
               subst (λ o. Fits kinds.TheVariants.Overflow c pr co after_take q o (span_of q (events ++ told))) (sym is.found)
@@ -349,7 +353,7 @@ module _ {T : Type 0} (c : ℕ) (pr co : Option ℕ) (k : Core ℕ) (p steps bac
           other_fits r np nq =
               subst (λ a. Fits kinds.TheVariants.Overflow c pr co after_take r (party_of r latest) a) (sym (theirs r np nq))
               (still_fits kinds.TheVariants.Overflow c pr co pr co k after_take r
-              (kept c pr co pr co k after_take r (λ h. h) (λ h. h) kinds.TheVariants.Overflow (record { push = λ mine v stage h. absurd (clash pr q r nq producer mine); pop = λ mine stage h. absurd (clash co p r np holds mine) }))
+              (kept c pr co pr co k after_take r (λ h. h) (λ h. h) kinds.TheVariants.Overflow (record { push = λ mine v stage h. absurd (clash pr q r nq producer mine); pop = λ mine other stage h. absurd (clash co p r np holds mine) }))
               (party_of r latest) (span_of r events) (inv.calls r))
 
           takes_for : MovesBy (asks_move k.read) 0 (Done answer) (MakesRoom (Index value) q (Index w))
@@ -408,10 +412,10 @@ module _ {T : Type 0} (c : ℕ) (pr co : Option ℕ) (k : Core ℕ) (p steps bac
           go (Some push) e =
               subst (λ o. MovesBy (asks_move k.read) 0 (Done answer) (takes_effect (Index value) o)) (sym e) (makes_room seen push.0 push.1 e)
 
-    moves_read : (read value : ℕ) → KnowsOverflowPop c k (overflow_pops.TheVariants.MovesRead read value) → steps ≤ 2 * backs + 3 → backs + since + k.read ≤ changes + read → span_of p events ≡ Open Pop [] → Moved (overflow_pops.TheVariants.MovesRead read value)
-    moves_read read value knows s paid seen = go (k.read == read) refl
+    moves_read : (read : ℕ) → KnowsOverflowPop c k room (overflow_pops.TheVariants.MovesRead read) → steps ≤ 2 * backs + 3 → backs + since + k.read ≤ changes + read → span_of p events ≡ Open Pop [] → Moved (overflow_pops.TheVariants.MovesRead read)
+    moves_read read knows s paid seen = go (k.read == read) refl
       where
-        go : (here : Bool) → (k.read == read) ≡ here → Moved (overflow_pops.TheVariants.MovesRead read value)
+        go : (here : Bool) → (k.read == read) ≡ here → Moved (overflow_pops.TheVariants.MovesRead read)
         go true e =
             let same : read ≡ k.read = grind (arith, nat_tests) in
             let t : (k.read == k.read) ≡ true = grind (arith, nat_tests) in
@@ -420,26 +424,26 @@ module _ {T : Type 0} (c : ℕ) (pr co : Option ℕ) (k : Core ℕ) (p steps bac
             let g = inv.good in
             let write = g.write in
             let old = oldest c k g (omega arith) in
-            let both : get_or k.cells (k.read % (c + 1)) 0 ∷ old.0 ≡ value ∷ last.0 = sym old.1 ∙ last.1 in
-            let cell : get_or k.cells (k.read % (c + 1)) 0 ≡ value = cc in
-            let place : get_or (layout pr co k) (cell_word c k.read) 0 ≡ value = word_at k.write k.read (free pr) (free co) k.cells (cell_word c k.read) (k.read % (c + 1)) refl ∙ cell in
-            let goes : after_of {T = T} (at (overflow_pops.TheVariants.MovesRead k.read value)) k.read ≡ Done (Popped (Some (Index value))) = rw t refl in
-            let back : back_of (at (overflow_pops.TheVariants.MovesRead k.read value)) k.read ≡ 0 = rw t refl in
-            let told : effect_of {T = T} (layout pr co k) (pending k.read pr latest) (at (overflow_pops.TheVariants.MovesRead k.read value)) k.read ≡ takes_effect (Index value) (pending k.read pr latest) = rw (t, place) refl in
-            subst (λ r. Moved (overflow_pops.TheVariants.MovesRead r value)) (sym same)
-            (subst (λ n. MovesBy (asks_move k.read) n (after_of (at (overflow_pops.TheVariants.MovesRead k.read value)) k.read) (effect_of (layout pr co k) (pending k.read pr latest) (at (overflow_pops.TheVariants.MovesRead k.read value)) k.read)) (sym back)
-            (subst (λ a. MovesBy (asks_move k.read) 0 a (effect_of (layout pr co k) (pending k.read pr latest) (at (overflow_pops.TheVariants.MovesRead k.read value)) k.read)) (sym goes)
-            (subst (λ f. MovesBy (asks_move k.read) 0 (Done (Popped (Some (Index value)))) f) (sym told) (takes_it value last.0 knows.0 last.1 s (omega arith) seen))))
+            let both : get_or k.cells (k.read % (c + 1)) 0 ∷ old.0 ≡ room.0 ∷ last.0 = sym old.1 ∙ last.1 in
+            let cell : get_or k.cells (k.read % (c + 1)) 0 ≡ room.0 = cc in
+            let place : get_or (layout pr co k) (cell_word c k.read) 0 ≡ room.0 = word_at k.write k.read (free pr) (free co) k.cells (cell_word c k.read) (k.read % (c + 1)) refl ∙ cell in
+            let goes : after_of {T = T} (at (overflow_pops.TheVariants.MovesRead k.read)) k.read ≡ Done (Popped (Some (Index room.0))) = rw t refl in
+            let back : back_of (at (overflow_pops.TheVariants.MovesRead k.read)) k.read ≡ 0 = rw t refl in
+            let told : effect_of {T = T} (layout pr co k) (pending k.read pr latest) (at (overflow_pops.TheVariants.MovesRead k.read)) k.read ≡ takes_effect (Index room.0) (pending k.read pr latest) = rw (t, place) refl in
+            subst (λ r. Moved (overflow_pops.TheVariants.MovesRead r)) (sym same)
+            (subst (λ n. MovesBy (asks_move k.read) n (after_of (at (overflow_pops.TheVariants.MovesRead k.read)) k.read) (effect_of (layout pr co k) (pending k.read pr latest) (at (overflow_pops.TheVariants.MovesRead k.read)) k.read)) (sym back)
+            (subst (λ a. MovesBy (asks_move k.read) 0 a (effect_of (layout pr co k) (pending k.read pr latest) (at (overflow_pops.TheVariants.MovesRead k.read)) k.read)) (sym goes)
+            (subst (λ f. MovesBy (asks_move k.read) 0 (Done (Popped (Some (Index room.0)))) f) (sym told) (takes_it room.0 last.0 knows.0 last.1 s (omega arith) seen))))
         go false e =
             let apart : k.read ≢ read = grind (arith, nat_tests) in
             let low = knows.1 in
-            let goes : after_of {T = T} (at (overflow_pops.TheVariants.MovesRead read value)) k.read ≡ GoOn (at (overflow_pops.TheVariants.LoadsCell k.read)) = rw e refl in
-            let back : back_of (at (overflow_pops.TheVariants.MovesRead read value)) k.read ≡ 1 = rw e refl in
-            let told : effect_of {T = T} (layout pr co k) (pending k.read pr latest) (at (overflow_pops.TheVariants.MovesRead read value)) k.read ≡ Quiet = rw e refl in
-            subst (λ n. MovesBy (asks_move read) n (after_of (at (overflow_pops.TheVariants.MovesRead read value)) k.read) (effect_of (layout pr co k) (pending k.read pr latest) (at (overflow_pops.TheVariants.MovesRead read value)) k.read)) (sym back)
-            (subst (λ a. MovesBy (asks_move read) 1 a (effect_of (layout pr co k) (pending k.read pr latest) (at (overflow_pops.TheVariants.MovesRead read value)) k.read)) (sym goes)
+            let goes : after_of {T = T} (at (overflow_pops.TheVariants.MovesRead read)) k.read ≡ GoOn (at (overflow_pops.TheVariants.LoadsCell k.read)) = rw e refl in
+            let back : back_of (at (overflow_pops.TheVariants.MovesRead read)) k.read ≡ 1 = rw e refl in
+            let told : effect_of {T = T} (layout pr co k) (pending k.read pr latest) (at (overflow_pops.TheVariants.MovesRead read)) k.read ≡ Quiet = rw e refl in
+            subst (λ n. MovesBy (asks_move read) n (after_of (at (overflow_pops.TheVariants.MovesRead read)) k.read) (effect_of (layout pr co k) (pending k.read pr latest) (at (overflow_pops.TheVariants.MovesRead read)) k.read)) (sym back)
+            (subst (λ a. MovesBy (asks_move read) 1 a (effect_of (layout pr co k) (pending k.read pr latest) (at (overflow_pops.TheVariants.MovesRead read)) k.read)) (sym goes)
             (subst (λ f. MovesBy (asks_move read) 1 (GoOn (at (overflow_pops.TheVariants.LoadsCell k.read))) f) (sym told)
-            (alone kinds.TheVariants.Overflow c pr co k p steps backs since changes latest events turns inv [] Pop (asks_move read) 1 (GoOn (at (overflow_pops.TheVariants.LoadsCell k.read))) Quiet seen (goes_back read value knows.0 (omega arith) knows.2 s paid))))
+            (alone kinds.TheVariants.Overflow c pr co k p steps backs since changes latest events turns inv [] Pop (asks_move read) 1 (GoOn (at (overflow_pops.TheVariants.LoadsCell k.read))) Quiet seen (goes_back read knows.0 (omega arith) knows.2 s paid))))
 
   -- ---- every step
 
@@ -450,7 +454,7 @@ module _ {T : Type 0} (c : ℕ) (pr co : Option ℕ) (k : Core ℕ) (p steps bac
   calm_at stage found position = ap (pending_at position) found
 
   pub overflow_pop_step :
-      (stage : overflow_pops.PopStage) → KnowsOverflowPop c k stage → steps ≤ 2 * backs + overflow_pop_number stage → KnowsBacks k since changes backs stage
+      (stage : overflow_pops.PopStage) → KnowsOverflowPop c k room stage → steps ≤ 2 * backs + overflow_pop_number stage → KnowsBacks k since changes backs stage
       → flight_of (doing_of (party_of p latest)) ≡ Some (at stage) → span_of p events ≡ Open Pop [] → Moved stage
   overflow_pop_step overflow_pops.TheVariants.FindsNone knows s b found seen =
       let none = nothing_waits kinds.TheVariants.Overflow c k (pending k.read pr latest) knows inv.good inv.hangs in
@@ -461,7 +465,7 @@ module _ {T : Type 0} (c : ℕ) (pr co : Option ℕ) (k : Core ℕ) (p steps bac
       by_itself (Some (record { word = 0; op = Load })) (after_of (at (overflow_pops.TheVariants.LoadsWrite read)) k.write) Acts seen (loads_write (calm_at (overflow_pops.TheVariants.LoadsWrite read) found) read knows.0 knows.1 knows.2 s b.1)
   overflow_pop_step (overflow_pops.TheVariants.LoadsCell read) knows s b found seen =
       let old : get_or (layout pr co k) (cell_word c read) 0 ≡ get_or k.cells (read % (c + 1)) 0 = word_at k.write k.read (free pr) (free co) k.cells (cell_word c read) (read % (c + 1)) refl in
-      subst (λ n. MovesBy (Some (record { word = cell_word c read; op = Load })) 0 (GoOn (at (overflow_pops.TheVariants.MovesRead read n))) Quiet) (sym old)
-      (by_itself (Some (record { word = cell_word c read; op = Load })) (GoOn (at (overflow_pops.TheVariants.MovesRead read (get_or k.cells (read % (c + 1)) 0)))) Quiet seen (loads_cell (calm_at (overflow_pops.TheVariants.LoadsCell read) found) read knows.0 knows.1 knows.2 s b.1))
-  overflow_pop_step (overflow_pops.TheVariants.MovesRead read value) knows s b found seen =
-      moves_read (calm_at (overflow_pops.TheVariants.MovesRead read value) found) read value knows s b.1 seen
+      subst (λ n. MovesBy (Some (record { word = cell_word c read; op = Load })) 0 (GoOn (with_value n (overflow_pops.TheVariants.MovesRead read))) Quiet) (sym old)
+      (by_itself (Some (record { word = cell_word c read; op = Load })) (GoOn (with_value (get_or k.cells (read % (c + 1)) 0) (overflow_pops.TheVariants.MovesRead read))) Quiet seen (loads_cell (calm_at (overflow_pops.TheVariants.LoadsCell read) found) read knows.0 knows.1 knows.2 s b.1))
+  overflow_pop_step (overflow_pops.TheVariants.MovesRead read) knows s b found seen =
+      moves_read (calm_at (overflow_pops.TheVariants.MovesRead read) found) read knows s b.1 seen

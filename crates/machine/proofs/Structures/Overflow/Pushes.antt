@@ -6,10 +6,10 @@ use Rattle.steps.specs.declared.ask.Ask.{Ask}
 use Rattle.steps.specs.declared.ask.Op.TheVariants.{Load, Store, Exchange}
 use Rattle.steps.specs.declared.ask.After.{After}
 use Rattle.steps.specs.declared.ask.After.TheVariants.{GoOn, Done}
+use Rattle.steps.specs.declared.copied.OneWord.{OneWord}
 use Rattle.steps.specs.declared.overflow.PushStage as overflow_pushes
 use Rattle.steps.specs.Ring.{distance, after_position}
 use Rattle.steps.specs.Overflow.{cell_word}
-use Rattle.machine.specs.declared.call.OverflowCall as overflows
 use Rattle.machine.specs.declared.call.Flight.{Flight}
 use Rattle.machine.specs.declared.call.Flight.TheVariants.{Overflow}
 use Rattle.machine.specs.declared.effects.Effect.{Effect}
@@ -31,7 +31,7 @@ use Rattle.machine.specs.Reading.{Open, span_of}
 use Rattle.machine.proofs.Structures.Overflow.Core.{none_passes, one_passes, oldest, push_room, push_waits, push_over}
 use Rattle.machine.proofs.Structures.Queues.Core as core
 use Rattle.machine.proofs.Structures.Queues.Core.{Core, Holds, Good, filled, taken, fills, one_filled, publishes, takes, word_at, set_at}
-use Rattle.machine.proofs.Structures.Overflow.Knows.{KnowsOverflowPush, overflow_push_number}
+use Rattle.machine.proofs.Structures.Overflow.Knows.{overflow_push_at, KnowsOverflowPush, overflow_push_number}
 use Rattle.machine.proofs.Structures.Queues.Knows.{free, layout, Hangs, has_written}
 use Rattle.machine.proofs.Structures.Queues.Invariant.{Inv}
 use Rattle.machine.proofs.Structures.Queues.Keeping.{clash, kept}
@@ -39,9 +39,9 @@ use Rattle.machine.proofs.Structures.Queues.Pending.{pending_here, few_wait, non
 use Rattle.machine.proofs.Structures.Queues.Stages.{party_after, Step, Moves, MovesOf, still_hangs, quiet, alone}
 use Rattle.machine.proofs.Structures.Overflow.Keeping.{fill_keeps_pop, publish_keeps_pop, take_keeps_pop}
 
-module _ {T : Type 0} (c : ℕ) (pr co : Option ℕ) (k : Core ℕ) (p steps backs since changes : ℕ) (latest : List (Party T)) (events : List (Event T)) (turns : ℕ) (inv : Inv kinds.TheVariants.Overflow c pr co k latest events changes turns) (small : turns < 2 ^ 64 - 2) (v : ℕ) (holds : pr ≡ Some p) (b : backs ≡ 0) where
+module _ {T : Type 0} (c : ℕ) (pr co : Option ℕ) (k : Core ℕ) (p steps backs since changes : ℕ) (latest : List (Party T)) (events : List (Event T)) (turns : ℕ) (inv : Inv kinds.TheVariants.Overflow c pr co k latest events changes turns) (small : turns < 2 ^ 64 - 2) (v : ℕ) (room : OneWord) (holds : pr ≡ Some p) (b : backs ≡ 0) where
   abbrev at : overflow_pushes.PushStage → Flight
-  at stage = Overflow (overflows.TheVariants.Push (record { capacity = c; value = v; stage = stage }))
+  at stage = Overflow (overflow_push_at c v room stage)
 
   abbrev Does : List (Event T) → Option Ask → After Flight (Answer T) → Effect T → Type 0
   Does wrote ask after effect = Step kinds.TheVariants.Overflow c pr co k p steps backs since changes latest events turns wrote (Push (Index v)) ask 0 after effect
@@ -112,7 +112,7 @@ module _ {T : Type 0} (c : ℕ) (pr co : Option ℕ) (k : Core ℕ) (p steps bac
 
   loads_read : 0 < c → steps ≤ 1 → IsCalm → Does [] (Some (record { word = 1; op = Load })) (GoOn (at (overflow_pushes.TheVariants.StoresCell k.write k.read))) Quiet
   loads_read some s calm =
-      let room = few calm in
+      let below = few calm in
       let g = inv.good in
       let write = g.write in
       quiet kinds.TheVariants.Overflow c pr co k p steps backs since changes latest events turns inv.good inv.hangs inv.book inv.turned small calm 0 (Push (Index v)) (Some (record { word = 1; op = Load })) (at (overflow_pushes.TheVariants.StoresCell k.write k.read)) k refl refl refl refl inv.good refl
@@ -132,7 +132,7 @@ module _ {T : Type 0} (c : ℕ) (pr co : Option ℕ) (k : Core ℕ) (p steps bac
       (set_at k.write k.read (free pr) (free co) k.cells (cell_word c k.write) (1 * (k.write % (c + 1)) + 0) v place)
       (record { span = refl; steps = omega arith; at = (holds, refl, refl, (some, refl, low, far, one_filled 1 words_of_index (c + 1) k v 0 (omega arith) (omega arith) g none)) })
       (omega arith)
-      (λ q ne. kept c pr co pr co k (filled 1 words_of_index (c + 1) k 0 v) q (λ h. h) (λ h. h) kinds.TheVariants.Overflow (record { push = λ mine w stage h. absurd (clash pr p q ne holds mine); pop = λ mine stage h. fill_keeps_pop c k 0 v stage h }))
+      (λ q ne. kept c pr co pr co k (filled 1 words_of_index (c + 1) k 0 v) q (λ h. h) (λ h. h) kinds.TheVariants.Overflow (record { push = λ mine w stage h. absurd (clash pr p q ne holds mine); pop = λ mine other stage h. fill_keeps_pop c k 0 v other stage h }))
 
   -- ---- the store of the next write position
 
@@ -163,8 +163,8 @@ module _ {T : Type 0} (c : ℕ) (pr co : Option ℕ) (k : Core ℕ) (p steps bac
 
     -- there is room now, as when the read position was loaded or since
     publishes_done : length k.waiting < c → Does [] next_write (Done (Popped None)) (Publishes (Index v))
-    publishes_done room =
-        let list = push_room {T = T} c k.waiting v room in
+    publishes_done below =
+        let list = push_room {T = T} c k.waiting v below in
         let longer = length-append k.waiting (v ∷ []) in
         let change = one in
         let reached = inv.turned in (
@@ -189,7 +189,7 @@ module _ {T : Type 0} (c : ℕ) (pr co : Option ℕ) (k : Core ℕ) (p steps bac
                 };
             knows = omega arith;
             up = record { write = omega arith; read = omega arith; paid = omega arith };
-            others = λ q ne. kept c pr co pr co k after_publish q (λ h. h) (λ h. h) kinds.TheVariants.Overflow (record { push = λ mine w stage h. absurd (clash pr p q ne holds mine); pop = λ mine stage h. publish_keeps_pop c k v stage h });
+            others = λ q ne. kept c pr co pr co k after_publish q (λ h. h) (λ h. h) kinds.TheVariants.Overflow (record { push = λ mine w stage h. absurd (clash pr p q ne holds mine); pop = λ mine other stage h. publish_keeps_pop c k v other stage h });
             turned = omega arith;
           },
         )
@@ -221,7 +221,7 @@ module _ {T : Type 0} (c : ℕ) (pr co : Option ℕ) (k : Core ℕ) (p steps bac
             here = record { span = rw t refl; steps = omega arith; at = (holds, refl, refl, (some, omega arith, omega arith, λ same. (k.waiting, refl))) };
             knows = omega arith;
             up = record { write = omega arith; read = omega arith; paid = omega arith };
-            others = λ q ne. kept c pr co pr co k after_publish q (λ h. h) (λ h. h) kinds.TheVariants.Overflow (record { push = λ mine w stage h. absurd (clash pr p q ne holds mine); pop = λ mine stage h. publish_keeps_pop c k v stage h });
+            others = λ q ne. kept c pr co pr co k after_publish q (λ h. h) (λ h. h) kinds.TheVariants.Overflow (record { push = λ mine w stage h. absurd (clash pr p q ne holds mine); pop = λ mine other stage h. publish_keeps_pop c k v other stage h });
             turned = omega arith;
           },
         )
@@ -233,8 +233,8 @@ module _ {T : Type 0} (c : ℕ) (pr co : Option ℕ) (k : Core ℕ) (p steps bac
         let write = g.write in
         let change = one in
         let reached = inv.turned in
-        let room : length k.waiting < c = omega arith in
-        let list = push_room {T = T} c k.waiting v room in
+        let below : length k.waiting < c = omega arith in
+        let list = push_room {T = T} c k.waiting v below in
         let longer = length-append k.waiting (v ∷ []) in
         let t : (read == k.read) ≡ false = grind (arith, nat_tests) in
         let calm : pending k.read pr (put (after_it next_write (GoOn (at (overflow_pushes.TheVariants.MovesRead read)))) latest) ≡ None =
@@ -255,7 +255,7 @@ module _ {T : Type 0} (c : ℕ) (pr co : Option ℕ) (k : Core ℕ) (p steps bac
             here = record { span = rw t refl; steps = omega arith; at = (holds, refl, refl, (some, omega arith, omega arith, λ same. absurd (omega arith))) };
             knows = omega arith;
             up = record { write = omega arith; read = omega arith; paid = omega arith };
-            others = λ q ne. kept c pr co pr co k after_publish q (λ h. h) (λ h. h) kinds.TheVariants.Overflow (record { push = λ mine w stage h. absurd (clash pr p q ne holds mine); pop = λ mine stage h. publish_keeps_pop c k v stage h });
+            others = λ q ne. kept c pr co pr co k after_publish q (λ h. h) (λ h. h) kinds.TheVariants.Overflow (record { push = λ mine w stage h. absurd (clash pr p q ne holds mine); pop = λ mine other stage h. publish_keeps_pop c k v other stage h });
             turned = omega arith;
           },
         )
@@ -271,8 +271,8 @@ module _ {T : Type 0} (c : ℕ) (pr co : Option ℕ) (k : Core ℕ) (p steps bac
             let reached = inv.turned in
             let apart : distance k.write read ≢ c = grind (arith, nat_tests) in
             let behind : distance k.write read ≡ k.write - read = omega arith in
-            let room : length k.waiting < c = (let other : k.write - read ≢ c = λ h. apart (behind ∙ h) in omega arith) in
-            rw t (publishes_done room)
+            let below : length k.waiting < c = (let other : k.write - read ≢ c = λ h. apart (behind ∙ h) in omega arith) in
+            rw t (publishes_done below)
         go true true t e =
             let reached = inv.turned in
             let full : distance k.write read ≡ c = grind (arith, nat_tests) in
@@ -322,7 +322,7 @@ module _ {T : Type 0} (c : ℕ) (pr co : Option ℕ) (k : Core ℕ) (p steps bac
           here = record { span = refl; steps = omega arith; at = (holds, refl, refl, (some, omega arith, far)) };
           knows = omega arith;
           up = record { write = omega arith; read = omega arith; paid = omega arith };
-          others = λ q ne. kept c pr co pr co k (taken 1 words_of_index (c + 1) k rest) q (λ h. h) (λ h. h) kinds.TheVariants.Overflow (record { push = λ mine w stage h. absurd (clash pr p q ne holds mine); pop = λ mine stage h. take_keeps_pop c k rest far stage h });
+          others = λ q ne. kept c pr co pr co k (taken 1 words_of_index (c + 1) k rest) q (λ h. h) (λ h. h) kinds.TheVariants.Overflow (record { push = λ mine w stage h. absurd (clash pr p q ne holds mine); pop = λ mine other stage h. take_keeps_pop c k rest far other stage h });
           turned = omega arith;
         },
       )

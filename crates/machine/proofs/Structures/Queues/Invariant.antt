@@ -1,6 +1,6 @@
 -- What holds of a queue's machine between any two turns, and what a turn must show to keep it. An overflowing queue
 -- with a capacity is, as far as its words go, a queue with one cell more.
-use Rattle.std.proofs.Common.{◌≡◌, ◌≢◌, ℕ, ◌+◌, ◌≤◌, ⊎_elim, Option, Some, None, List, ◌++◌, length, drop, map, fold, refl, sym, ap, subst, ◌∙◌, append_assoc}
+use Rattle.std.proofs.Common.{◌≡◌, ◌≢◌, ℕ, ◌+◌, ◌^◌, ◌<◌, ◌≤◌, ⊎_elim, Option, Some, None, List, ◌++◌, length, drop, map, fold, refl, sym, ap, subst, ◌∙◌, append_assoc}
 use Rattle.std.proofs.lemmas.Bool.{cases_eq}
 use Rattle.std.proofs.lemmas.List.{drop_at}
 use Rattle.std.proofs.lemmas.List.Concat.{flat_map-append}
@@ -57,6 +57,7 @@ module _ {T : Type 0} where
   -- ---- the invariant
 
   pub record Inv (kd : Kind) (c : ℕ) (pr co : Option ℕ) (k : Core ℕ) (latest : List (Party T)) (events : List (Event T)) (changes turns : ℕ) : Type 0 where
+    pub fits : c < 2 ^ 32
     pub good : Good 1 words_of_index (cells_of kd c) k
     pub hangs : Hangs kd c k (pending k.read pr latest)
     pub book : published events ≡ handed_out events ++ map Index k.waiting
@@ -106,6 +107,7 @@ module _ {T : Type 0} where
     advance inv s =
         let more = flat_map-append acts events es in
         record {
+          fits = inv.fits;
           good = s.good;
           hangs = s.hangs;
           book = book_more events es (map Index k.waiting) (map Index k'.waiting) inv.book s.book;

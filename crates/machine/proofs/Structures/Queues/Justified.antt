@@ -4,12 +4,16 @@ use Rattle.std.specs.List.{AllByRecursion}
 use Rattle.steps.specs.declared.ask.Op.TheVariants.{Load}
 use Rattle.steps.specs.declared.ask.After.{After}
 use Rattle.steps.specs.declared.ask.After.TheVariants.{GoOn, Done}
+use Rattle.steps.specs.declared.copied.OneWord.{OneWord}
 use Rattle.steps.specs.declared.ring.PushStage as pushes
 use Rattle.steps.specs.declared.ring.PopStage as pops
 use Rattle.steps.specs.declared.overflow.Push as overflow_push
 use Rattle.steps.specs.declared.overflow.Pop as overflow_pop
 use Rattle.steps.specs.declared.overflow.PopStage as overflow_pops
-use Rattle.steps.specs.Overflow.{cell_word, push_after}
+use Rattle.steps.specs.declared.overflow.PushEnd.{PushEnd}
+use Rattle.steps.specs.declared.overflow.PushEnd.TheVariants.{Added, Own, Oldest}
+use Rattle.steps.specs.Routine.{went_on}
+use Rattle.steps.specs.Overflow.{cell_word, push_after, push_kept, push_answer, pop_answer}
 use Rattle.machine.specs.declared.call.OverflowCall as overflows
 use Rattle.machine.specs.declared.call.RingCall as rings
 use Rattle.machine.specs.declared.call.Flight.{Flight}
@@ -32,7 +36,7 @@ use Rattle.machine.specs.declared.turn.Kind as kinds
 use Rattle.machine.specs.declared.turn.Turn.{Turn}
 use Rattle.machine.specs.declared.turn.Turn.TheVariants.{Begin, Next, Decide, Die}
 use Rattle.machine.specs.World.{Trace, party_of, flight_in}
-use Rattle.machine.specs.Calls.{want_of, ask_of, after_of, carried, popped}
+use Rattle.machine.specs.Calls.{want_of, ask_of, after_of, answer_in, carried, popped}
 use Rattle.machine.specs.Effects.{pending, takes_effect, effect_of, acts_if_done, ending_of, effects_of, told_after}
 use Rattle.machine.specs.Refusals.{refusal_of, is_due}
 use Rattle.machine.specs.Turns.{old_of, ask_in, resumed_told, next_told, turned, AreAllowed, IsReached}
@@ -41,14 +45,14 @@ use Rattle.machine.specs.Promises.{IsTurn, AreTurns}
 use Rattle.machine.specs.Promises.Book.{AnswersRight}
 use Rattle.machine.specs.Promises.Steps.{finding_none, asked_by, ActsRight, IsJustified}
 use Rattle.machine.proofs.Parties.{party_number}
-use Rattle.machine.proofs.Reached.{reached_more}
+use Rattle.machine.proofs.Reached.{taken_making, reached_more}
 use Rattle.machine.proofs.Readings.{AreRight}
 use Rattle.machine.proofs.Rows.{may_next, must_be_due}
 use Rattle.machine.proofs.Small.{reached_small}
 use Rattle.machine.proofs.Turns.{writes_one_word, goes_on, counts_step, counts_others}
 use Rattle.machine.proofs.Structures.Queues.Core.{Core}
-use Rattle.machine.proofs.Structures.Ring.Knows.{RingAt}
-use Rattle.machine.proofs.Structures.Overflow.Knows.{KnowsOverflowPop, OverflowAt}
+use Rattle.machine.proofs.Structures.Ring.Knows.{push_at, pop_at, RingAt}
+use Rattle.machine.proofs.Structures.Overflow.Knows.{overflow_pop_at, KnowsOverflowPop, OverflowAt}
 use Rattle.machine.proofs.Structures.Queues.Knows.{layout, If, At}
 use Rattle.machine.proofs.Structures.Queues.Invariant.{Fits}
 use Rattle.machine.proofs.Structures.Queues.Asks.{never_due}
@@ -75,12 +79,12 @@ module _ {T : Type 0} (t : Trace T) (turn : Turn T) (p : ℕ) where
   both [] ys h r = r
   both (x ∷ xs) ys h r = (h.0, both xs ys h.1 r)
 
-  the_end : (start : Start T) (after : After Flight (Answer T)) → Justified (ending_of p start after)
-  the_end start (GoOn flight) = tt
-  the_end start (Done answer) = (tt, tt)
+  the_end : (start : Start T) (outcome : Option (Answer T)) → Justified (ending_of p start outcome)
+  the_end start None = tt
+  the_end start (Some answer) = (tt, tt)
 
-  quiet : (start : Start T) (after : After Flight (Answer T)) → Justified (told_after p start Quiet after)
-  quiet start after = the_end start after
+  quiet : (start : Start T) (outcome : Option (Answer T)) → Justified (told_after p start Quiet outcome)
+  quiet start outcome = the_end start outcome
 
   push_acted : (item : Item T) (answer : Answer T) → asked_by t.world turn ≡ Some (record { word = 1; op = Load }) → AnswersRight t.world.capacity t.events (Acted p (Push item) answer) → ActsRight t turn (Acted p (Push item) answer)
   push_acted item answers.TheVariants.Done asked h = tt
@@ -89,9 +93,9 @@ module _ {T : Type 0} (t : Trace T) (turn : Turn T) (p : ℕ) where
   push_acted item (answers.TheVariants.Popped popped) asked h = tt
   push_acted item (answers.TheVariants.Number number) asked h = tt
 
-  push_acts : (item : Item T) (after : After Flight (Answer T)) → asked_by t.world turn ≡ Some (record { word = 1; op = Load }) → Right (told_after p (Push item) Acts after) → Justified (told_after p (Push item) Acts after)
-  push_acts item (GoOn flight) asked h = tt
-  push_acts item (Done answer) asked h = (push_acted item answer asked h.0, (tt, tt))
+  push_acts : (item : Item T) (outcome : Option (Answer T)) → asked_by t.world turn ≡ Some (record { word = 1; op = Load }) → Right (told_after p (Push item) Acts outcome) → Justified (told_after p (Push item) Acts outcome)
+  push_acts item None asked h = tt
+  push_acts item (Some answer) asked h = (push_acted item answer asked h.0, (tt, tt))
 
   pop_acted : (answer : Answer T) → asked_by t.world turn ≡ finding_none t.world.kind t.world.capacity → AnswersRight t.world.capacity t.events (Acted p Pop answer) → ActsRight t turn (Acted p Pop answer)
   pop_acted answers.TheVariants.Done asked h = tt
@@ -100,96 +104,101 @@ module _ {T : Type 0} (t : Trace T) (turn : Turn T) (p : ℕ) where
   pop_acted (answers.TheVariants.Popped (Some item)) asked h = tt
   pop_acted (answers.TheVariants.Number number) asked h = tt
 
-  pop_acts : (after : After Flight (Answer T)) → asked_by t.world turn ≡ finding_none t.world.kind t.world.capacity → Right (told_after p Pop Acts after) → Justified (told_after p Pop Acts after)
-  pop_acts (GoOn flight) asked h = tt
-  pop_acts (Done answer) asked h = (pop_acted answer asked h.0, (tt, tt))
+  pop_acts : (outcome : Option (Answer T)) → asked_by t.world turn ≡ finding_none t.world.kind t.world.capacity → Right (told_after p Pop Acts outcome) → Justified (told_after p Pop Acts outcome)
+  pop_acts None asked h = tt
+  pop_acts (Some answer) asked h = (pop_acted answer asked h.0, (tt, tt))
 
   -- a push of an overflowing queue answers nothing that is asked about
-  overflow_act : (item : Item T) (after : After overflow_push.Push (Option ℕ)) → Justified (acts_if_done p (Push item) (carried (λ call. Overflow (overflows.TheVariants.Push call)) popped after))
-  overflow_act item (GoOn call) = tt
-  overflow_act item (Done None) = (tt, tt)
-  overflow_act item (Done (Some v)) = (tt, tt)
+  module _ (item : Item T) (given : ℕ) (room : OneWord) where
+    abbrev answered : After overflow_push.Push PushEnd → Option (Answer T)
+    answered after = answer_in (carried (λ r. Overflow (overflows.TheVariants.Push r)) popped (went_on (λ end given room. push_answer given room.0 end) given room after))
 
-  overflow_told : (item : Item T) (effect : Effect T) (after : After overflow_push.Push (Option ℕ)) → Justified (effects_of p (Push item) effect (carried (λ call. Overflow (overflows.TheVariants.Push call)) popped after))
-  overflow_told item Quiet after = tt
-  overflow_told item Acts after = overflow_act item after
-  overflow_told item (Publishes out) after = (tt, overflow_act item after)
-  overflow_told item (PublishesAndActs out) after = (tt, (tt, tt))
-  overflow_told item (HandsOut out) after = (tt, overflow_act item after)
-  overflow_told item (TakesOut out) after = (tt, (tt, tt))
-  overflow_told item (MakesRoom out q pushed) after =
-      (tt, both (acts_if_done p (Push item) (carried (λ call. Overflow (overflows.TheVariants.Push call)) popped after)) (Acted q (Push pushed) (answers.TheVariants.Popped None) ∷ []) (overflow_act item after) (tt, tt))
+    overflow_act : (after : After overflow_push.Push PushEnd) → Justified (acts_if_done p (Push item) (answered after))
+    overflow_act (GoOn call) = tt
+    overflow_act (Done Added) = (tt, tt)
+    overflow_act (Done Own) = (tt, tt)
+    overflow_act (Done Oldest) = (tt, tt)
+
+    overflow_told : (effect : Effect T) (after : After overflow_push.Push PushEnd) → Justified (effects_of p (Push item) effect (answered after))
+    overflow_told Quiet after = tt
+    overflow_told Acts after = overflow_act after
+    overflow_told (Publishes out) after = (tt, overflow_act after)
+    overflow_told (PublishesAndActs out) after = (tt, (tt, tt))
+    overflow_told (HandsOut out) after = (tt, overflow_act after)
+    overflow_told (TakesOut out) after = (tt, (tt, tt))
+    overflow_told (MakesRoom out q pushed) after =
+        (tt, both (acts_if_done p (Push item) (answered after)) (Acted q (Push pushed) (answers.TheVariants.Popped None) ∷ []) (overflow_act after) (tt, tt))
 
   -- the events of a step of a call, where these are the words
   abbrev Tells : List ℕ → Start T → Flight → ℕ → List (Event T)
-  Tells words start flight old = told_after p start (effect_of words (pending (get_or words 1 0) t.world.producer t.world.latest) flight old) (after_of flight old)
+  Tells words start flight old = told_after p start (effect_of words (pending (get_or words 1 0) t.world.producer t.world.latest) flight old) (answer_in (after_of flight old))
 
   module _ (words : List ℕ) where
     push_right :
-        (v capacity : ℕ) (stage : pushes.PushStage) (old : ℕ) → asked_by t.world turn ≡ ask_of (want_of (Indices (rings.TheVariants.Push (record { capacity = capacity; value = v; stage = stage }))))
-        → Right (Tells words (Push (Index v)) (Indices (rings.TheVariants.Push (record { capacity = capacity; value = v; stage = stage }))) old)
-        → Justified (Tells words (Push (Index v)) (Indices (rings.TheVariants.Push (record { capacity = capacity; value = v; stage = stage }))) old)
-    push_right v capacity pushes.TheVariants.LoadsWrite old asked h = quiet (Push (Index v)) (after_of (Indices (rings.TheVariants.Push (record { capacity = capacity; value = v; stage = pushes.TheVariants.LoadsWrite }))) old)
-    push_right v capacity (pushes.TheVariants.LoadsRead write) old asked h = push_acts (Index v) (after_of (Indices (rings.TheVariants.Push (record { capacity = capacity; value = v; stage = pushes.TheVariants.LoadsRead write }))) old) asked h
-    push_right v capacity (pushes.TheVariants.StoresCell write at) old asked h = quiet (Push (Index v)) (after_of (Indices (rings.TheVariants.Push (record { capacity = capacity; value = v; stage = pushes.TheVariants.StoresCell write at }))) old)
+        (v capacity : ℕ) (stage : pushes.PushStage) (old : ℕ) → asked_by t.world turn ≡ ask_of (want_of (Indices (push_at capacity v stage)))
+        → Right (Tells words (Push (Index v)) (Indices (push_at capacity v stage)) old)
+        → Justified (Tells words (Push (Index v)) (Indices (push_at capacity v stage)) old)
+    push_right v capacity pushes.TheVariants.LoadsWrite old asked h = quiet (Push (Index v)) (answer_in (after_of (Indices (push_at capacity v pushes.TheVariants.LoadsWrite)) old))
+    push_right v capacity (pushes.TheVariants.LoadsRead write) old asked h = push_acts (Index v) (answer_in (after_of (Indices (push_at capacity v (pushes.TheVariants.LoadsRead write))) old)) asked h
+    push_right v capacity (pushes.TheVariants.StoresCell write cell at) old asked h = quiet (Push (Index v)) (answer_in (after_of (Indices (push_at capacity v (pushes.TheVariants.StoresCell write cell at))) old))
     push_right v capacity (pushes.TheVariants.StoresWrite write) old asked h = (tt, (tt, (tt, tt)))
 
     pop_right :
-        (capacity : ℕ) (stage : pops.PopStage ℕ) (old : ℕ) → asked_by t.world turn ≡ ask_of (want_of (Indices (rings.TheVariants.Pop (record { capacity = capacity; stage = stage }))))
+        (capacity : ℕ) (room : OneWord) (stage : pops.PopStage) (old : ℕ) → asked_by t.world turn ≡ ask_of (want_of (Indices (pop_at capacity room stage)))
         → finding_none t.world.kind t.world.capacity ≡ Some (record { word = 0; op = Load })
-        → Right (Tells words Pop (Indices (rings.TheVariants.Pop (record { capacity = capacity; stage = stage }))) old)
-        → Justified (Tells words Pop (Indices (rings.TheVariants.Pop (record { capacity = capacity; stage = stage }))) old)
-    pop_right capacity pops.TheVariants.LoadsRead old asked finds h = tt
-    pop_right capacity (pops.TheVariants.LoadsWrite read) old asked finds h = pop_acts (after_of (Indices (rings.TheVariants.Pop (record { capacity = capacity; stage = pops.TheVariants.LoadsWrite read }))) old) (asked ∙ sym finds) h
-    pop_right capacity (pops.TheVariants.LoadsCell read copied) old asked finds h = tt
-    pop_right capacity (pops.TheVariants.StoresRead read value) old asked finds h = (tt, (tt, (tt, tt)))
+        → Right (Tells words Pop (Indices (pop_at capacity room stage)) old)
+        → Justified (Tells words Pop (Indices (pop_at capacity room stage)) old)
+    pop_right capacity room pops.TheVariants.LoadsRead old asked finds h = tt
+    pop_right capacity room (pops.TheVariants.LoadsWrite read) old asked finds h = pop_acts (answer_in (after_of (Indices (pop_at capacity room (pops.TheVariants.LoadsWrite read))) old)) (asked ∙ sym finds) h
+    pop_right capacity room (pops.TheVariants.LoadsCell read cell at) old asked finds h = quiet Pop (answer_in (after_of (Indices (pop_at capacity room (pops.TheVariants.LoadsCell read cell at))) old))
+    pop_right capacity room (pops.TheVariants.StoresRead read) old asked finds h = (tt, (tt, (tt, tt)))
 
     -- a pop that moves the read position answers a value
-    taking : (item : Item T) (push : Option (ℕ × ℕ)) (value : ℕ) (on : overflow_pop.Pop) (b : Bool)
-        → Justified (told_after p Pop (cond b (takes_effect item push) Quiet) (carried (λ call. Overflow (overflows.TheVariants.Pop call)) popped (cond b (Done (Some value)) (GoOn on))))
-    taking item None value on true = (tt, (tt, (tt, tt)))
-    taking item (Some push) value on true = (tt, (tt, (tt, (tt, tt))))
-    taking item push value on false = tt
+    taking : (item : Item T) (push : Option (ℕ × ℕ)) (room : OneWord) (on : overflow_pop.Pop) (b : Bool)
+        → Justified (told_after p Pop (cond b (takes_effect item push) Quiet) (answer_in (carried (λ r. Overflow (overflows.TheVariants.Pop r)) popped (went_on (λ end given room. pop_answer room.0 end) tt room (cond b (Done true) (GoOn on))))))
+    taking item None room on true = (tt, (tt, (tt, tt)))
+    taking item (Some push) room on true = (tt, (tt, (tt, (tt, tt))))
+    taking item push room on false = tt
 
     overflow_pop_right :
-        (k : Core ℕ) (stage : overflow_pops.PopStage) (old : ℕ) → KnowsOverflowPop t.world.capacity k stage
-        → (asked_by t.world turn ≡ ask_of (want_of (Overflow (overflows.TheVariants.Pop (record { capacity = t.world.capacity; stage = stage })))))
+        (k : Core ℕ) (room : OneWord) (stage : overflow_pops.PopStage) (old : ℕ) → KnowsOverflowPop t.world.capacity k room stage
+        → (asked_by t.world turn ≡ ask_of (want_of (Overflow (overflow_pop_at t.world.capacity room stage))))
         → (0 < t.world.capacity → finding_none t.world.kind t.world.capacity ≡ Some (record { word = 0; op = Load })) → (t.world.capacity ≡ 0 → finding_none t.world.kind t.world.capacity ≡ None)
-        → Right (Tells words Pop (Overflow (overflows.TheVariants.Pop (record { capacity = t.world.capacity; stage = stage }))) old)
-        → Justified (Tells words Pop (Overflow (overflows.TheVariants.Pop (record { capacity = t.world.capacity; stage = stage }))) old)
-    overflow_pop_right k overflow_pops.TheVariants.FindsNone old knows asked some none h =
-        pop_acts (after_of (Overflow (overflows.TheVariants.Pop (record { capacity = t.world.capacity; stage = overflow_pops.TheVariants.FindsNone }))) old) (asked ∙ sym (none knows)) h
-    overflow_pop_right k overflow_pops.TheVariants.LoadsRead old knows asked some none h = tt
-    overflow_pop_right k (overflow_pops.TheVariants.LoadsWrite read) old knows asked some none h =
-        pop_acts (after_of (Overflow (overflows.TheVariants.Pop (record { capacity = t.world.capacity; stage = overflow_pops.TheVariants.LoadsWrite read }))) old) (asked ∙ sym (some knows.0)) h
-    overflow_pop_right k (overflow_pops.TheVariants.LoadsCell read) old knows asked some none h = tt
-    overflow_pop_right k (overflow_pops.TheVariants.MovesRead read value) old knows asked some none h =
-        taking (Index (get_or words (cell_word t.world.capacity read) 0)) (pending (get_or words 1 0) t.world.producer t.world.latest) value (record { capacity = t.world.capacity; stage = overflow_pops.TheVariants.LoadsCell old }) (old == read)
+        → Right (Tells words Pop (Overflow (overflow_pop_at t.world.capacity room stage)) old)
+        → Justified (Tells words Pop (Overflow (overflow_pop_at t.world.capacity room stage)) old)
+    overflow_pop_right k room overflow_pops.TheVariants.FindsNone old knows asked some none h =
+        pop_acts (answer_in (after_of (Overflow (overflow_pop_at t.world.capacity room overflow_pops.TheVariants.FindsNone)) old)) (asked ∙ sym (none knows)) h
+    overflow_pop_right k room overflow_pops.TheVariants.LoadsRead old knows asked some none h = tt
+    overflow_pop_right k room (overflow_pops.TheVariants.LoadsWrite read) old knows asked some none h =
+        pop_acts (answer_in (after_of (Overflow (overflow_pop_at t.world.capacity room (overflow_pops.TheVariants.LoadsWrite read))) old)) (asked ∙ sym (some knows.0)) h
+    overflow_pop_right k room (overflow_pops.TheVariants.LoadsCell read) old knows asked some none h = tt
+    overflow_pop_right k room (overflow_pops.TheVariants.MovesRead read) old knows asked some none h =
+        taking (Index (get_or words (cell_word t.world.capacity read) 0)) (pending (get_or words 1 0) t.world.producer t.world.latest) room (record { capacity = t.world.capacity; stage = overflow_pops.TheVariants.LoadsCell old }) (old == read)
 
     ring_right :
-        (pr co : Option ℕ) (k : Core ℕ) (start : Start T) (call : rings.RingCall ℕ) (old : ℕ) → RingAt t.world.capacity pr co k p start call → finding_none t.world.kind t.world.capacity ≡ Some (record { word = 0; op = Load })
+        (pr co : Option ℕ) (k : Core ℕ) (start : Start T) (call : rings.RingCall ℕ OneWord) (old : ℕ) → RingAt t.world.capacity pr co k p start call → finding_none t.world.kind t.world.capacity ≡ Some (record { word = 0; op = Load })
         → asked_by t.world turn ≡ ask_of (want_of (Indices call)) → Right (Tells words start (Indices call) old) → Justified (Tells words start (Indices call) old)
-    ring_right pr co k (Push (Index v)) (rings.TheVariants.Push call) old at finds asked h =
-        subst (λ x. Right (Tells words (Push (Index v)) (Indices (rings.TheVariants.Push (record { capacity = call.capacity; value = x; stage = call.stage }))) old) → asked_by t.world turn ≡ ask_of (want_of (Indices (rings.TheVariants.Push (record { capacity = call.capacity; value = x; stage = call.stage })))) → Justified (Tells words (Push (Index v)) (Indices (rings.TheVariants.Push (record { capacity = call.capacity; value = x; stage = call.stage }))) old)) (sym at.2)
-        (λ right as_asked. push_right v call.capacity call.stage old as_asked right)
+    ring_right pr co k (Push (Index v)) (rings.TheVariants.Push run) old at finds asked h =
+        subst (λ x. Right (Tells words (Push (Index v)) (Indices (push_at run.call.capacity x run.call.stage)) old) → asked_by t.world turn ≡ ask_of (want_of (Indices (push_at run.call.capacity x run.call.stage))) → Justified (Tells words (Push (Index v)) (Indices (push_at run.call.capacity x run.call.stage)) old)) (sym at.2)
+        (λ right as_asked. push_right v run.call.capacity run.call.stage old as_asked right)
         h
         asked
-    ring_right pr co k Pop (rings.TheVariants.Pop call) old at finds asked h = pop_right call.capacity call.stage old asked finds h
+    ring_right pr co k Pop (rings.TheVariants.Pop run) old at finds asked h = pop_right run.call.capacity run.room run.call.stage old asked finds h
     ring_right pr co k start call old at finds asked h = absurd at
 
     overflow_right :
         (pr co : Option ℕ) (k : Core ℕ) (start : Start T) (call : overflows.OverflowCall) (old : ℕ) → OverflowAt t.world.capacity pr co k p start call
         → (0 < t.world.capacity → finding_none t.world.kind t.world.capacity ≡ Some (record { word = 0; op = Load })) → (t.world.capacity ≡ 0 → finding_none t.world.kind t.world.capacity ≡ None)
         → asked_by t.world turn ≡ ask_of (want_of (Overflow call)) → Right (Tells words start (Overflow call) old) → Justified (Tells words start (Overflow call) old)
-    overflow_right pr co k (Push (Index v)) (overflows.TheVariants.Push call) old at some none asked h =
-        let effect = effect_of {T = T} words (pending (get_or words 1 0) t.world.producer t.world.latest) (Overflow (overflows.TheVariants.Push call)) old in
-        let after = push_after call old in
-        both (effects_of p (Push (Index v)) effect (carried (λ c. Overflow (overflows.TheVariants.Push c)) popped after)) (ending_of p (Push (Index v)) (carried (λ c. Overflow (overflows.TheVariants.Push c)) popped after))
-        (overflow_told (Index v) effect after)
-        (the_end (Push (Index v)) (carried (λ c. Overflow (overflows.TheVariants.Push c)) popped after))
-    overflow_right pr co k Pop (overflows.TheVariants.Pop call) old at some none asked h =
-        subst (λ x. Right (Tells words Pop (Overflow (overflows.TheVariants.Pop (record { capacity = x; stage = call.stage }))) old) → asked_by t.world turn ≡ ask_of (want_of (Overflow (overflows.TheVariants.Pop (record { capacity = x; stage = call.stage })))) → Justified (Tells words Pop (Overflow (overflows.TheVariants.Pop (record { capacity = x; stage = call.stage }))) old)) (sym at.1)
-        (λ right as_asked. overflow_pop_right k call.stage old at.2 as_asked some none right)
+    overflow_right pr co k (Push (Index v)) (overflows.TheVariants.Push run) old at some none asked h =
+        let effect = effect_of {T = T} words (pending (get_or words 1 0) t.world.producer t.world.latest) (Overflow (overflows.TheVariants.Push run)) old in
+        let outcome = answer_in (after_of {T = T} (Overflow (overflows.TheVariants.Push run)) old) in
+        both (effects_of p (Push (Index v)) effect outcome) (ending_of p (Push (Index v)) outcome)
+        (overflow_told (Index v) run.given (push_kept run.call run.room old) effect (push_after run.call old))
+        (the_end (Push (Index v)) outcome)
+    overflow_right pr co k Pop (overflows.TheVariants.Pop run) old at some none asked h =
+        subst (λ x. Right (Tells words Pop (Overflow (overflow_pop_at x run.room run.call.stage)) old) → asked_by t.world turn ≡ ask_of (want_of (Overflow (overflow_pop_at x run.room run.call.stage))) → Justified (Tells words Pop (Overflow (overflow_pop_at x run.room run.call.stage)) old)) (sym at.1)
+        (λ right as_asked. overflow_pop_right k run.room run.call.stage old at.2 as_asked some none right)
         h
         asked
     overflow_right pr co k start call old at some none asked h = absurd at
@@ -197,14 +206,14 @@ module _ {T : Type 0} (t : Trace T) (turn : Turn T) (p : ℕ) where
     step_right :
         (pr co : Option ℕ) (k : Core ℕ) (start : Start T) (flight : Flight) (old : ℕ) → At t.world.kind t.world.capacity pr co k p start flight → asked_by t.world turn ≡ ask_of (want_of flight) → Right (Tells words start flight old)
         → Justified (Tells words start flight old)
-    step_right pr co k start (Role call) old at asked h = quiet start (after_of (Role call) old)
+    step_right pr co k start (Role call) old at asked h = quiet start (answer_in (after_of (Role call) old))
     step_right pr co k start (Indices call) old at asked h =
         let ring = ring_finds t.world.kind t.world.capacity (RingAt t.world.capacity pr co k p start call) at in
         ring_right pr co k start call old ring.1 ring.0 asked h
     step_right pr co k start (Overflow call) old at asked h =
         let finds = overflow_finds t.world.kind t.world.capacity (OverflowAt t.world.capacity pr co k p start call) at in
         overflow_right pr co k start call old finds.2 finds.0 finds.1 asked h
-    step_right pr co k start (Length which call) old at asked h = quiet start (after_of (Length which call) old)
+    step_right pr co k start (Length which call) old at asked h = quiet start (answer_in (after_of (Length which call) old))
 
 module _ {T : Type 0} where
   moved_right :
@@ -245,22 +254,23 @@ module _ {T : Type 0} where
       absurd (cc)
   turn_justified t (Die owner) e s = tt
 
-  pub reached_turn : (t : Trace T) (turn : Turn T) → refusal_of t.world turn ≡ None → IsReached t → IsTurn t turn (turned t turn)
-  reached_turn t turn e r =
+  pub reached_turn : (t : Trace T) (turn : Turn T) → refusal_of t.world turn ≡ None → t.world.capacity < 2 ^ 32 → IsReached t → IsTurn t turn (turned t turn)
+  reached_turn t turn e fits r =
       record {
         word = writes_one_word t.world turn;
         call = goes_on t.world turn;
         steps = counts_step t.world turn;
         others = counts_others t.world turn (reached_small t r);
-        justified = turn_justified t turn e (reached_sound t r);
+        justified = turn_justified t turn e (reached_sound t fits r);
       }
 
-  pub reached_turns : (t : Trace T) (turns : List (Turn T)) → IsReached t → AreAllowed t turns → AreTurns t turns
-  reached_turns t [] r all = tt
-  reached_turns t (turn ∷ turns) r all =
-      (reached_turn t turn all.0 r, reached_turns (turned t turn) turns (reached_more t turn all.0 r) all.1)
+  pub reached_turns : (t : Trace T) (turns : List (Turn T)) → t.world.capacity < 2 ^ 32 → IsReached t → AreAllowed t turns → AreTurns t turns
+  reached_turns t [] fits r all = tt
+  reached_turns t (turn ∷ turns) fits r all =
+      let making = taken_making t.world turn in
+      (reached_turn t turn all.0 fits r, reached_turns (turned t turn) turns (rw making.capacity fits) (reached_more t turn all.0 r) all.1)
 
   -- the same of a machine that is seen as `now`
-  pub step_turn : (inside now new : Trace T) (turn : Turn T) → inside ≡ now → IsReached inside → refusal_of inside.world turn ≡ None → new ≡ turned inside turn → IsTurn now turn new
-  step_turn inside now new turn is r free goes =
-      subst (λ t. IsTurn t turn new) is (subst (λ t. IsTurn inside turn t) (sym goes) (reached_turn inside turn free r))
+  pub step_turn : (inside now new : Trace T) (turn : Turn T) → inside ≡ now → inside.world.capacity < 2 ^ 32 → IsReached inside → refusal_of inside.world turn ≡ None → new ≡ turned inside turn → IsTurn now turn new
+  step_turn inside now new turn is fits r free goes =
+      subst (λ t. IsTurn t turn new) is (subst (λ t. IsTurn inside turn t) (sym goes) (reached_turn inside turn free fits r))

@@ -1,13 +1,15 @@
 -- What the invariant says of the events, in the promises' words.
-use Rattle.std.proofs.Common.{◌≡◌, ℕ, suc, ◌+◌, ◌-◌, ◌%◌, ◌*◌, ◌≤◌, Option, Some, None, List, [], ◌∷◌, length, get_or, map, slice_get, take, refl, sym, ap, subst, ◌∙◌, arith}
+use Rattle.std.proofs.Common.{◌≡◌, ℕ, suc, ◌+◌, ◌-◌, ◌%◌, ◌*◌, ◌^◌, ◌<◌, ◌≤◌, Option, Some, None, List, [], ◌∷◌, length, get_or, map, slice_get, take, refl, sym, ap, subst, ◌∙◌, arith}
 use Rattle.std.proofs.lemmas.List.{length-map, take-map}
+use Rattle.steps.specs.declared.copied.OneWord.{OneWord}
 use Rattle.steps.specs.declared.ring.PushStage as pushes
 use Rattle.steps.specs.declared.ring.PopStage as pops
 use Rattle.steps.specs.declared.overflow.PushStage as overflow_pushes
 use Rattle.steps.specs.declared.overflow.PopStage as overflow_pops
-use Rattle.steps.specs.declared.lengths.Len as length_calls
+use Rattle.steps.specs.declared.lengths.Len.{Len}
 use Rattle.steps.specs.declared.lengths.LenStage.{LenStage}
 use Rattle.steps.specs.declared.lengths.LenStage as lens
+use Rattle.steps.specs.declared.routine.Running.{Running}
 use Rattle.steps.specs.Ring.{cell_word}
 use Rattle.machine.specs.declared.call.RoleCall.{RoleCall}
 use Rattle.machine.specs.declared.call.RingCall as rings
@@ -19,7 +21,8 @@ use Rattle.machine.specs.declared.call.Flight.TheVariants.{Role, Indices, Overfl
 use Rattle.machine.specs.declared.event.Item.{Item}
 use Rattle.machine.specs.declared.event.Item.TheVariants.{Index}
 use Rattle.machine.specs.declared.event.Start.{Start}
-use Rattle.machine.specs.declared.event.Start.TheVariants.{Push, Pop, Len, IsEmpty, IsFull}
+use Rattle.machine.specs.declared.event.Start.TheVariants.{Push, Pop, IsEmpty, IsFull}
+use Rattle.machine.specs.declared.event.Start as starts
 use Rattle.machine.specs.declared.event.Event.{Event}
 use Rattle.machine.specs.declared.party.Doing.{Doing}
 use Rattle.machine.specs.declared.party.Doing.TheVariants.{Going, Over}
@@ -47,14 +50,14 @@ use Rattle.machine.proofs.Structures.Queues.Sound.{Sound, reached_sound}
 push_most : (c : ℕ) (k : Core ℕ) (v : ℕ) (stage : pushes.PushStage) → KnowsPush c k v stage → push_number stage ≤ 4
 push_most c k v pushes.TheVariants.LoadsWrite h = omega arith
 push_most c k v (pushes.TheVariants.LoadsRead write) h = omega arith
-push_most c k v (pushes.TheVariants.StoresCell write at) h = let low = h.2 in omega arith
+push_most c k v (pushes.TheVariants.StoresCell write cell at) h = let none = h.3 in omega arith
 push_most c k v (pushes.TheVariants.StoresWrite write) h = omega arith
 
-pop_most : (c : ℕ) (k : Core ℕ) (stage : pops.PopStage ℕ) → KnowsPop c k stage → pop_number stage ≤ 4
-pop_most c k pops.TheVariants.LoadsRead h = omega arith
-pop_most c k (pops.TheVariants.LoadsWrite read) h = omega arith
-pop_most c k (pops.TheVariants.LoadsCell read copied) h = let none : length copied ≡ 0 = ap length h.4 in omega arith
-pop_most c k (pops.TheVariants.StoresRead read value) h = omega arith
+pop_most : (c : ℕ) (k : Core ℕ) (room : OneWord) (stage : pops.PopStage) → KnowsPop c k room stage → pop_number stage ≤ 4
+pop_most c k room pops.TheVariants.LoadsRead h = omega arith
+pop_most c k room (pops.TheVariants.LoadsWrite read) h = omega arith
+pop_most c k room (pops.TheVariants.LoadsCell read cell at) h = let none = h.5 in omega arith
+pop_most c k room (pops.TheVariants.StoresRead read) h = omega arith
 
 overflow_push_most : (stage : overflow_pushes.PushStage) → overflow_push_number stage ≤ 6
 overflow_push_most overflow_pushes.TheVariants.HandsBack = omega arith
@@ -70,7 +73,7 @@ overflow_pop_most backs overflow_pops.TheVariants.FindsNone = omega arith
 overflow_pop_most backs overflow_pops.TheVariants.LoadsRead = omega arith
 overflow_pop_most backs (overflow_pops.TheVariants.LoadsWrite read) = omega arith
 overflow_pop_most backs (overflow_pops.TheVariants.LoadsCell read) = omega arith
-overflow_pop_most backs (overflow_pops.TheVariants.MovesRead read value) = omega arith
+overflow_pop_most backs (overflow_pops.TheVariants.MovesRead read) = omega arith
 
 len_most : (backs : ℕ) (stage : LenStage) → 4 * backs + len_number stage ≤ 4 * (backs + 1)
 len_most backs lens.TheVariants.LoadsWrite = omega arith
@@ -92,26 +95,26 @@ pop_paid k since changes backs overflow_pops.TheVariants.FindsNone h = omega ari
 pop_paid k since changes backs overflow_pops.TheVariants.LoadsRead h = omega arith
 pop_paid k since changes backs (overflow_pops.TheVariants.LoadsWrite read) h = let low = h.0 in let paid = h.1 in omega arith
 pop_paid k since changes backs (overflow_pops.TheVariants.LoadsCell read) h = let low = h.0 in let paid = h.1 in omega arith
-pop_paid k since changes backs (overflow_pops.TheVariants.MovesRead read value) h = let low = h.0 in let paid = h.1 in omega arith
+pop_paid k since changes backs (overflow_pops.TheVariants.MovesRead read) h = let low = h.0 in let paid = h.1 in omega arith
 
 module _ {T : Type 0} where
   role_most : (kd : Kind) (pr co : Option ℕ) (p backs : ℕ) (start : Start T) (call : RoleCall) → RoleAt pr co p start call → 0 ≤ most_steps kd start backs
   role_most kd pr co p backs start call h = omega arith
 
-  ring_most : (c : ℕ) (pr co : Option ℕ) (k : Core ℕ) (p backs : ℕ) (start : Start T) (call : rings.RingCall ℕ) → RingAt c pr co k p start call → number_of (Indices call) backs ≤ most_steps IndexQueue start backs
-  ring_most c pr co k p backs (Push (Index v)) (rings.TheVariants.Push call) h = push_most c k v call.stage h.3
-  ring_most c pr co k p backs Pop (rings.TheVariants.Pop call) h = pop_most c k call.stage h.2
+  ring_most : (c : ℕ) (pr co : Option ℕ) (k : Core ℕ) (p backs : ℕ) (start : Start T) (call : rings.RingCall ℕ OneWord) → RingAt c pr co k p start call → number_of (Indices call) backs ≤ most_steps IndexQueue start backs
+  ring_most c pr co k p backs (Push (Index v)) (rings.TheVariants.Push run) h = push_most c k v run.call.stage h.3
+  ring_most c pr co k p backs Pop (rings.TheVariants.Pop run) h = pop_most c k run.room run.call.stage h.2
   ring_most c pr co k p backs start call h = absurd h
 
   overflow_most : (c : ℕ) (pr co : Option ℕ) (k : Core ℕ) (p backs : ℕ) (start : Start T) (call : overflows.OverflowCall) → OverflowAt c pr co k p start call → number_of (Overflow call) backs ≤ most_steps kinds.TheVariants.Overflow start backs
-  overflow_most c pr co k p backs (Push (Index v)) (overflows.TheVariants.Push call) h = overflow_push_most call.stage
-  overflow_most c pr co k p backs Pop (overflows.TheVariants.Pop call) h = overflow_pop_most backs call.stage
+  overflow_most c pr co k p backs (Push (Index v)) (overflows.TheVariants.Push run) h = overflow_push_most run.call.stage
+  overflow_most c pr co k p backs Pop (overflows.TheVariants.Pop run) h = overflow_pop_most backs run.call.stage
   overflow_most c pr co k p backs start call h = absurd h
 
-  length_most : (kd : Kind) (c backs : ℕ) (start : Start T) (which : LengthOf) (call : length_calls.Len) → LengthAt c start which call.capacity → number_of (Length which call) backs ≤ most_steps kd start backs
-  length_most kd c backs Len measures.TheVariants.Len call h = len_most backs call.stage
-  length_most kd c backs IsEmpty measures.TheVariants.IsEmpty call h = len_most backs call.stage
-  length_most kd c backs IsFull measures.TheVariants.IsFull call h = len_most backs call.stage
+  length_most : (kd : Kind) (c backs : ℕ) (start : Start T) (which : LengthOf) (run : Running Len (Unit {0}) (Unit {0})) → LengthAt c start which run.call.capacity → number_of (Length which run) backs ≤ most_steps kd start backs
+  length_most kd c backs starts.TheVariants.Len measures.TheVariants.Len run h = len_most backs run.call.stage
+  length_most kd c backs IsEmpty measures.TheVariants.IsEmpty run h = len_most backs run.call.stage
+  length_most kd c backs IsFull measures.TheVariants.IsFull run h = len_most backs run.call.stage
   length_most kd c backs start which call h = absurd h
 
   steps_most : (kd : Kind) (c : ℕ) (pr co : Option ℕ) (k : Core ℕ) (p backs : ℕ) (start : Start T) (flight : Flight) → At kd c pr co k p start flight → number_of flight backs ≤ most_steps kd start backs
@@ -134,8 +137,8 @@ module _ {T : Type 0} where
   backs_paid c k p events since changes backs (Role call) h = omega arith
   backs_paid c k p events since changes backs (Indices call) h = omega arith
   backs_paid c k p events since changes backs (Overflow (overflows.TheVariants.Push call)) h = omega arith
-  backs_paid c k p events since changes backs (Overflow (overflows.TheVariants.Pop call)) h = pop_paid k since changes backs call.stage h
-  backs_paid c k p events since changes backs (Length which call) h = len_paid c k p events since changes backs call.stage h
+  backs_paid c k p events since changes backs (Overflow (overflows.TheVariants.Pop run)) h = pop_paid k since changes backs run.call.stage h
+  backs_paid c k p events since changes backs (Length which run) h = len_paid c k p events since changes backs run.call.stage h
 
   progresses : (kd : Kind) (c : ℕ) (pr co : Option ℕ) (k : Core ℕ) (p : ℕ) (events : List (Event T)) (changes : ℕ) (o : Option (Party T)) (seen : Span T) → Fits kd c pr co k p o seen → Knows c k p events changes o
       → Progresses kd seen (progress_after changes o)
@@ -152,11 +155,11 @@ module _ {T : Type 0} where
   -- ---- the values that wait in the words
 
   stored_is :
-      (n : ℕ) (words : List ℕ) (position : ℕ) (xs : List ℕ) → ((i v : ℕ) → slice_get xs i ≡ Some v → get_or words (cell_word n 1 (position + i) 0) 0 ≡ v)
+      (n : ℕ) (words : List ℕ) (position : ℕ) (xs : List ℕ) → ((i v : ℕ) → slice_get xs i ≡ Some v → get_or words (cell_word n 1 (position + i)) 0 ≡ v)
       → stored {T = T} n words position (length xs) ≡ map Index xs
   stored_is n words position [] held = refl
   stored_is n words position (x ∷ xs) held =
-      let first : get_or words (cell_word n 1 position 0) 0 ≡ x =
+      let first : get_or words (cell_word n 1 position) 0 ≡ x =
       (let same : position + 0 ≡ position = omega arith in rw same at (held 0 x refl))
       in
       let rest = stored_is n words (position + 1) xs (λ i v e. let same : position + 1 + i ≡ position + suc i = omega arith in rw same (held (suc i) v e)) in
@@ -170,12 +173,12 @@ module _ {T : Type 0} where
       rw many
       (stored_is n (layout pr co k) k.read k.waiting held)
     where
-      held : (i v : ℕ) → slice_get k.waiting i ≡ Some v → get_or (layout pr co k) (cell_word n 1 (k.read + i) 0) 0 ≡ v
+      held : (i v : ℕ) → slice_get k.waiting i ≡ Some v → get_or (layout pr co k) (cell_word n 1 (k.read + i)) 0 ≡ v
       held i v e =
           let below = at_below 1 words_of_index n k.waiting i v e in
           let few = g.few in
           let place = cell_place n (k.read + i) (omega arith) in
-          word_at k.write k.read (free pr) (free co) k.cells (cell_word n 1 (k.read + i) 0) (1 * ((k.read + i) % n) + 0) place
+          word_at k.write k.read (free pr) (free co) k.cells (cell_word n 1 (k.read + i)) (1 * ((k.read + i) % n) + 0) place
           ∙ g.held i v e 0 (omega arith)
 
   listed_is : (kd : Kind) (c : ℕ) (k : Core ℕ) → Good 1 words_of_index (cells_of kd c) k → listed {T = T} kd c k.waiting ≡ take c (map Index k.waiting)
@@ -204,5 +207,5 @@ module _ {T : Type 0} where
         progress = λ p. progresses w.kind w.capacity w.producer w.consumer k p t.events w.changes (party_of p w.latest) (span_of p t.events) (inv.calls p) (inv.knows p);
       }
 
-  pub reached_kept : (t : Trace T) → IsReached t → IsKept t
-  reached_kept t r = kept t (reached_sound t r)
+  pub reached_kept : (t : Trace T) → t.world.capacity < 2 ^ 32 → IsReached t → IsKept t
+  reached_kept t fits r = kept t (reached_sound t fits r)

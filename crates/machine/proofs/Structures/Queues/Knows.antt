@@ -1,7 +1,9 @@
 -- What a call of a queue knows where it stands: of the words, of the events and of the counts.
 use Rattle.std.proofs.Common.{◌≡◌, ℕ, ◌+◌, ◌*◌, ◌<◌, ◌≤◌, Option, Some, None, List, [], ◌∷◌, ◌++◌, length, take, map, arith}
+use Rattle.steps.specs.declared.lengths.Len.{Len}
 use Rattle.steps.specs.declared.lengths.LenStage.{LenStage}
 use Rattle.steps.specs.declared.lengths.LenStage as lens
+use Rattle.steps.specs.declared.routine.Running.{Running}
 use Rattle.steps.specs.Lengths.{number_waiting}
 use Rattle.machine.specs.declared.call.RoleCall.{RoleCall}
 use Rattle.machine.specs.declared.call.RoleCall.TheVariants.{Acquire, Release}
@@ -14,7 +16,8 @@ use Rattle.machine.specs.declared.call.Flight.TheVariants.{Role, Indices, Overfl
 use Rattle.machine.specs.declared.event.Item.{Item}
 use Rattle.machine.specs.declared.event.Item.TheVariants.{Index}
 use Rattle.machine.specs.declared.event.Start.{Start}
-use Rattle.machine.specs.declared.event.Start.TheVariants.{AcquireProducer, ReleaseProducer, AcquireConsumer, ReleaseConsumer, Len, IsEmpty, IsFull}
+use Rattle.machine.specs.declared.event.Start as starts
+use Rattle.machine.specs.declared.event.Start.TheVariants.{AcquireProducer, ReleaseProducer, AcquireConsumer, ReleaseConsumer, IsEmpty, IsFull}
 use Rattle.machine.specs.declared.event.Event.{Event}
 use Rattle.machine.specs.declared.party.Doing.{Doing}
 use Rattle.machine.specs.declared.party.Doing.TheVariants.{Going, Over}
@@ -38,6 +41,10 @@ free (Some p) = 0
 abbrev pub layout : Option ℕ → Option ℕ → Core ℕ → List ℕ
 layout producer consumer k = k.write ∷ k.read ∷ free producer ∷ free consumer ∷ k.cells
 
+-- a length call by its stage
+abbrev pub len_at : ℕ → LenStage → Running Len (Unit {0}) (Unit {0})
+len_at c stage = record { call = record { capacity = c; stage = stage }; given = tt; room = tt }
+
 -- How many steps the call has taken at most, having turned back so often. Which of a length call's loads turned it back is not kept.
 abbrev pub len_number : LenStage → ℕ
 len_number lens.TheVariants.LoadsWrite = 0
@@ -47,11 +54,11 @@ len_number (lens.TheVariants.LoadsReadAgain write read) = 3
 
 abbrev pub number_of : Flight → ℕ → ℕ
 number_of (Role call) backs = 0
-number_of (Indices (rings.TheVariants.Push call)) backs = push_number call.stage
-number_of (Indices (rings.TheVariants.Pop call)) backs = pop_number call.stage
-number_of (Overflow (overflows.TheVariants.Push call)) backs = overflow_push_number call.stage
-number_of (Overflow (overflows.TheVariants.Pop call)) backs = 2 * backs + overflow_pop_number call.stage
-number_of (Length which call) backs = 4 * backs + len_number call.stage
+number_of (Indices (rings.TheVariants.Push run)) backs = push_number run.call.stage
+number_of (Indices (rings.TheVariants.Pop run)) backs = pop_number run.call.stage
+number_of (Overflow (overflows.TheVariants.Push run)) backs = overflow_push_number run.call.stage
+number_of (Overflow (overflows.TheVariants.Pop run)) backs = 2 * backs + overflow_pop_number run.call.stage
+number_of (Length which run) backs = 4 * backs + len_number run.call.stage
 
 -- Of a length call: the positions that it loaded are not above those of now. Each turn back is paid by a change since the call began, and so is each move of a position since it was loaded, which is to be the next turn back.
 abbrev pub IsPaid : Core ℕ → ℕ → ℕ → ℕ → ℕ → ℕ → Type 0
@@ -80,7 +87,7 @@ module _ {T : Type 0} where
   abbrev pub has_written : ℕ → Core ℕ → ℕ → Flight → List (Event T)
   has_written c k p (Role call) = []
   has_written c k p (Indices call) = []
-  has_written c k p (Overflow (overflows.TheVariants.Push call)) = overflow_wrote c k p call.value call.stage
+  has_written c k p (Overflow (overflows.TheVariants.Push run)) = overflow_wrote c k p run.given run.call.stage
   has_written c k p (Overflow (overflows.TheVariants.Pop call)) = []
   has_written c k p (Length which call) = []
 
@@ -105,10 +112,10 @@ module _ {T : Type 0} where
   KnowsFlight c k p events since changes backs (Role call) = backs ≡ 0
   KnowsFlight c k p events since changes backs (Indices call) = backs ≡ 0
   KnowsFlight c k p events since changes backs (Overflow (overflows.TheVariants.Push call)) = backs ≡ 0
-  KnowsFlight c k p events since changes backs (Overflow (overflows.TheVariants.Pop call)) =
-      KnowsBacks k since changes backs call.stage
-  KnowsFlight c k p events since changes backs (Length which call) =
-      KnowsLen c k p events since changes backs call.stage
+  KnowsFlight c k p events since changes backs (Overflow (overflows.TheVariants.Pop run)) =
+      KnowsBacks k since changes backs run.call.stage
+  KnowsFlight c k p events since changes backs (Length which run) =
+      KnowsLen c k p events since changes backs run.call.stage
 
   abbrev pub KnowsDoing : ℕ → Core ℕ → ℕ → List (Event T) → ℕ → ℕ → Doing → Type 0
   KnowsDoing c k p events changes backs (Going flight since) = KnowsFlight c k p events since changes backs flight
@@ -158,8 +165,8 @@ module _ {T : Type 0} where
     flight_keeps since backs (Role call) h = h
     flight_keeps since backs (Indices call) h = h
     flight_keeps since backs (Overflow (overflows.TheVariants.Push call)) h = h
-    flight_keeps since backs (Overflow (overflows.TheVariants.Pop call)) h = backs_keep k k' changes changes' up since backs call.stage h
-    flight_keeps since backs (Length which call) h = len_keeps since backs call.stage h
+    flight_keeps since backs (Overflow (overflows.TheVariants.Pop run)) h = backs_keep k k' changes changes' up since backs run.call.stage h
+    flight_keeps since backs (Length which run) h = len_keeps since backs run.call.stage h
 
     doing_keeps : (backs : ℕ) (doing : Doing) → KnowsDoing c k p events changes backs doing → KnowsDoing c k' p (events ++ es) changes' backs doing
     doing_keeps backs (Going flight since) h = flight_keeps since backs flight h
@@ -172,14 +179,14 @@ module _ {T : Type 0} where
   -- ---- where a call under way stands
 
   abbrev pub RoleAt : Option ℕ → Option ℕ → ℕ → Start T → RoleCall → Type 0
-  RoleAt pr co p AcquireProducer (Acquire call) = call.word ≡ 2
-  RoleAt pr co p ReleaseProducer (Release call) = (call.word ≡ 2) × (pr ≡ Some p)
-  RoleAt pr co p AcquireConsumer (Acquire call) = call.word ≡ 3
-  RoleAt pr co p ReleaseConsumer (Release call) = (call.word ≡ 3) × (co ≡ Some p)
+  RoleAt pr co p AcquireProducer (Acquire run) = run.call.word ≡ 2
+  RoleAt pr co p ReleaseProducer (Release run) = (run.call.word ≡ 2) × (pr ≡ Some p)
+  RoleAt pr co p AcquireConsumer (Acquire run) = run.call.word ≡ 3
+  RoleAt pr co p ReleaseConsumer (Release run) = (run.call.word ≡ 3) × (co ≡ Some p)
   RoleAt pr co p start call = ⊥
 
   abbrev pub LengthAt : ℕ → Start T → LengthOf → ℕ → Type 0
-  LengthAt c Len measures.TheVariants.Len capacity = capacity ≡ c
+  LengthAt c starts.TheVariants.Len measures.TheVariants.Len capacity = capacity ≡ c
   LengthAt c IsEmpty measures.TheVariants.IsEmpty capacity = capacity ≡ c
   LengthAt c IsFull measures.TheVariants.IsFull capacity = capacity ≡ c
   LengthAt c start which capacity = ⊥
@@ -188,4 +195,4 @@ module _ {T : Type 0} where
   At kd c pr co k p start (Role call) = RoleAt pr co p start call
   At kd c pr co k p start (Indices call) = If kd (RingAt c pr co k p start call) ⊥
   At kd c pr co k p start (Overflow call) = If kd ⊥ (OverflowAt c pr co k p start call)
-  At kd c pr co k p start (Length which call) = LengthAt c start which call.capacity
+  At kd c pr co k p start (Length which run) = LengthAt c start which run.call.capacity

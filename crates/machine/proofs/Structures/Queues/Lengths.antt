@@ -9,7 +9,8 @@ use Rattle.steps.specs.declared.lengths.Len.{Len}
 use Rattle.steps.specs.declared.lengths.LenStage.{LenStage}
 use Rattle.steps.specs.declared.lengths.LenStage as lens
 use Rattle.steps.specs.Ring.{distance}
-use Rattle.steps.specs.Lengths.{number_waiting}
+use Rattle.steps.specs.Routine.{went_on}
+use Rattle.steps.specs.Lengths.{number_waiting, first_len}
 use Rattle.machine.specs.declared.call.LengthOf.{LengthOf}
 use Rattle.machine.specs.declared.call.LengthOf as measures
 use Rattle.machine.specs.declared.call.Flight.{Flight}
@@ -27,7 +28,7 @@ use Rattle.machine.specs.declared.party.Party.{Party}
 use Rattle.machine.specs.declared.turn.Kind.{Kind}
 use Rattle.machine.specs.World.{party_of, doing_of, flight_of, cells_of}
 use Rattle.machine.specs.Effects.{pending_at, pending}
-use Rattle.machine.specs.Calls.{want_of, ask_of, after_of, back_of, carried, words_of_index, length_answer}
+use Rattle.machine.specs.Calls.{want_of, ask_of, after_of, back_of, carried, as_it_is, words_of_index, length_answer}
 use Rattle.machine.specs.Reading.{published, handed_out, waiting}
 use Rattle.machine.specs.Turns.{old_of}
 use Rattle.machine.specs.Promises.Bounds.{most_steps}
@@ -35,13 +36,10 @@ use Rattle.machine.specs.Promises.Lengths.{TellsLength}
 use Rattle.machine.specs.Promises.Spans.{Wrote}
 use Rattle.machine.proofs.Moments.{held_now, held_so}
 use Rattle.machine.proofs.Structures.Queues.Core.{Core, Good}
-use Rattle.machine.proofs.Structures.Queues.Knows.{layout, Hangs, Waited, KnowsLen, len_number, At}
+use Rattle.machine.proofs.Structures.Queues.Knows.{layout, len_at, Hangs, Waited, KnowsLen, len_number, At}
 use Rattle.machine.proofs.Structures.Queues.Invariant.{waiting_is}
 use Rattle.machine.proofs.Structures.Queues.Stages.{party_after, Stays, StepOf, still_hangs, quiet, ends}
 use Rattle.machine.proofs.Structures.Queues.Pending.{nothing_waits}
-
-abbrev len_at : ℕ → LenStage → Len
-len_at c stage = record { capacity = c; stage = stage }
 
 abbrev pub call_at : LengthOf → ℕ → LenStage → Flight
 call_at which c stage = Length which (len_at c stage)
@@ -67,7 +65,7 @@ module _ {T : Type 0} (kd : Kind) (c : ℕ) (pr co : Option ℕ) (k : Core ℕ) 
   -- what the three calls have in common
   module _ (which : LengthOf) (start : Start T) (at : (stage : LenStage) → At kd c pr co k p start (call_at which c stage)) (most : (b : ℕ) → 4 * (b + 1) ≤ most_steps kd start b) (wrote : (n : ℕ) → Wrote kd c start (length_answer which c n) []) (tells : (write read : ℕ) → Waited c p events write read → TellsLength c events (Finished p start (length_answer which c (number_waiting c write read)))) where
     abbrev goes_on : After Len ℕ → After Flight (Answer T)
-    goes_on after = carried (λ call. Length which call) (length_answer which c) after
+    goes_on after = carried (λ r. Length which r) (length_answer which c) (went_on {M = Unit {0}} as_it_is tt tt after)
 
     abbrev StaysAt : LenStage → Type 0
     StaysAt stage =
@@ -97,7 +95,7 @@ module _ {T : Type 0} (kd : Kind) (c : ℕ) (pr co : Option ℕ) (k : Core ℕ) 
       where
         go : (b : Bool) → (k.write == write) ≡ b
             → Stays kd c pr co k p steps backs since changes latest events turns start (Some (record { word = 0; op = Load })) (cond (not b) 1 0)
-            (goes_on (cond b (GoOn (len_at c (lens.TheVariants.LoadsReadAgain write read))) (GoOn (len_at c lens.TheVariants.LoadsWrite))))
+            (goes_on (cond b (GoOn (record { capacity = c; stage = lens.TheVariants.LoadsReadAgain write read })) (GoOn (first_len c))))
             Quiet
         go true e =
             let low = h.0.0 in
@@ -123,7 +121,7 @@ module _ {T : Type 0} (kd : Kind) (c : ℕ) (pr co : Option ℕ) (k : Core ℕ) 
       where
         go : (b : Bool) → (k.read == read) ≡ b
             → Stays kd c pr co k p steps backs since changes latest events turns start (Some (record { word = 1; op = Load })) (cond (not b) 1 0)
-            (goes_on (cond b (Done (number_waiting c write read)) (GoOn (len_at c lens.TheVariants.LoadsWrite))))
+            (goes_on (cond b (Done (number_waiting c write read)) (GoOn (first_len c))))
             Quiet
         go true e =
             let low = h.0.0 in

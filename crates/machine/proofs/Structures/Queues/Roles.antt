@@ -1,8 +1,6 @@
 -- What the steps of the calls on roles show. A role's word is 1 while the role is free.
 use Rattle.std.proofs.Common.{◌≡◌, ℕ, ◌-◌, ◌^◌, ◌<◌, ◌≤◌, ◌++◌, true, false, Option, Some, None, option_map, List, map, refl, ap, arith}
 use Rattle.steps.specs.declared.ask.Op.TheVariants.{Store, Exchange}
-use Rattle.machine.specs.declared.call.RoleCall.TheVariants.{Acquire, Release}
-use Rattle.machine.specs.declared.call.Flight.TheVariants.{Role}
 use Rattle.machine.specs.declared.event.Item.TheVariants.{Index}
 use Rattle.machine.specs.declared.event.Start.TheVariants.{AcquireProducer, ReleaseProducer, AcquireConsumer, ReleaseConsumer}
 use Rattle.machine.specs.declared.event.Answer.{Answer}
@@ -13,7 +11,7 @@ use Rattle.machine.specs.declared.party.Party.{Party}
 use Rattle.machine.specs.declared.turn.Kind.{Kind}
 use Rattle.machine.specs.World.{party_of, put, doing_of, flight_of, cells_of}
 use Rattle.machine.specs.Effects.{pending_at, pending}
-use Rattle.machine.specs.Calls.{words_of_index}
+use Rattle.machine.specs.Calls.{acquire_of, release_of, words_of_index}
 use Rattle.machine.specs.Reading.{published, handed_out}
 use Rattle.machine.proofs.Structures.Queues.Core.{Core, Good}
 use Rattle.machine.proofs.Structures.Queues.Keeping.{clash, kept, keeps_same}
@@ -22,7 +20,7 @@ use Rattle.machine.proofs.Structures.Queues.Knows.{Hangs}
 use Rattle.machine.proofs.Structures.Queues.Pending.{pending_here, few_wait, none_hangs}
 
 module _ {T : Type 0} (kd : Kind) (c : ℕ) (k : Core ℕ) (p steps backs since changes : ℕ) (latest : List (Party T)) (events : List (Event T)) (turns : ℕ) (g : Good 1 words_of_index (cells_of kd c) k) (before : pending_at k.read (flight_of (doing_of (party_of p latest))) ≡ None) (book : published events ≡ handed_out events ++ map Index k.waiting) (reached : k.write ≤ turns) (small : turns < 2 ^ 64 - 2) (s : steps ≤ 0) (b : backs ≡ 0) where
-  pub acquire_producer : (pr co : Option ℕ) → Hangs kd c k (pending k.read pr latest) → StepOf kd c pr co k p steps backs since changes latest events turns AcquireProducer (Role (Acquire (record { word = 2 })))
+  pub acquire_producer : (pr co : Option ℕ) → Hangs kd c k (pending k.read pr latest) → StepOf kd c pr co k p steps backs since changes latest events turns AcquireProducer (acquire_of 2)
   acquire_producer None co hangs = (
     k,
     refl,
@@ -46,7 +44,7 @@ module _ {T : Type 0} (kd : Kind) (c : ℕ) (k : Core ℕ) (p steps backs since 
         (λ q ne st f h. (h, refl)),
   )
 
-  pub acquire_consumer : (pr co : Option ℕ) → Hangs kd c k (pending k.read pr latest) → StepOf kd c pr co k p steps backs since changes latest events turns AcquireConsumer (Role (Acquire (record { word = 3 })))
+  pub acquire_consumer : (pr co : Option ℕ) → Hangs kd c k (pending k.read pr latest) → StepOf kd c pr co k p steps backs since changes latest events turns AcquireConsumer (acquire_of 3)
   acquire_consumer pr None hangs = (
     k,
     refl,
@@ -70,7 +68,7 @@ module _ {T : Type 0} (kd : Kind) (c : ℕ) (k : Core ℕ) (p steps backs since 
         (λ q ne st f h. (h, refl)),
   )
 
-  pub release_producer : (co : Option ℕ) → Hangs kd c k (pending k.read (Some p) latest) → StepOf kd c (Some p) co k p steps backs since changes latest events turns ReleaseProducer (Role (Release (record { word = 2 })))
+  pub release_producer : (co : Option ℕ) → Hangs kd c k (pending k.read (Some p) latest) → StepOf kd c (Some p) co k p steps backs since changes latest events turns ReleaseProducer (release_of 2)
   release_producer co hangs = (
     k,
     refl,
@@ -83,7 +81,7 @@ module _ {T : Type 0} (kd : Kind) (c : ℕ) (k : Core ℕ) (p steps backs since 
         (λ q ne. kept c (Some p) co None co k k q (λ h. absurd (clash (Some p) p q ne refl h)) (λ h. h) kd (keeps_same T kd c (Some p) co k q)),
   )
 
-  pub release_consumer : (pr : Option ℕ) → Hangs kd c k (pending k.read pr latest) → StepOf kd c pr (Some p) k p steps backs since changes latest events turns ReleaseConsumer (Role (Release (record { word = 3 })))
+  pub release_consumer : (pr : Option ℕ) → Hangs kd c k (pending k.read pr latest) → StepOf kd c pr (Some p) k p steps backs since changes latest events turns ReleaseConsumer (release_of 3)
   release_consumer pr hangs = (
     k,
     refl,

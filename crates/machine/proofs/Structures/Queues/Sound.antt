@@ -3,11 +3,11 @@ use Rattle.std.proofs.Common.{◌≡◌, ℕ, ◌+◌, ◌-◌, ◌^◌, ◌<◌
 use Rattle.std.proofs.lemmas.Bool.Decides.{nat_tests}
 use Rattle.std.proofs.lemmas.List.{length-replicate}
 use Rattle.std.proofs.Math.Seq.{take-nil}
+use Rattle.steps.specs.declared.copied.OneWord.{OneWord}
 use Rattle.steps.specs.declared.overflow.PushStage as overflow_pushes
 use Rattle.steps.specs.declared.overflow.PopStage as overflow_pops
-use Rattle.steps.specs.declared.lengths.Len as length_calls
-use Rattle.steps.specs.declared.lengths.LenStage.{LenStage}
-use Rattle.steps.specs.declared.lengths.LenStage as lens
+use Rattle.steps.specs.declared.lengths.Len.{Len}
+use Rattle.steps.specs.declared.routine.Running.{Running}
 use Rattle.machine.specs.declared.call.RoleCall.{RoleCall}
 use Rattle.machine.specs.declared.call.RoleCall.TheVariants.{Acquire, Release}
 use Rattle.machine.specs.declared.call.RingCall as rings
@@ -18,7 +18,8 @@ use Rattle.machine.specs.declared.call.Flight.{Flight}
 use Rattle.machine.specs.declared.call.Flight.TheVariants.{Role, Indices, Overflow, Length}
 use Rattle.machine.specs.declared.event.Item.TheVariants.{Index, Value}
 use Rattle.machine.specs.declared.event.Start.{Start}
-use Rattle.machine.specs.declared.event.Start.TheVariants.{AcquireProducer, ReleaseProducer, AcquireConsumer, ReleaseConsumer, Push, Pop, Len, IsEmpty, IsFull}
+use Rattle.machine.specs.declared.event.Start.TheVariants.{AcquireProducer, ReleaseProducer, AcquireConsumer, ReleaseConsumer, Push, Pop, IsEmpty, IsFull}
+use Rattle.machine.specs.declared.event.Start as starts
 use Rattle.machine.specs.declared.event.Event.{Event}
 use Rattle.machine.specs.declared.event.Event.TheVariants.{Begun}
 use Rattle.machine.specs.declared.party.Doing.{Doing}
@@ -30,7 +31,7 @@ use Rattle.machine.specs.declared.turn.Kind as kinds
 use Rattle.machine.specs.declared.turn.Turn.{Turn}
 use Rattle.machine.specs.declared.turn.Turn.TheVariants.{Begin, Next, Decide, Die}
 use Rattle.machine.specs.World.{World, Trace, cells_of, opening, party_of, put, doing_of, flight_of, flight_in}
-use Rattle.machine.specs.Calls.{push_of, pop_of, first_of, want_of, ask_of, after_of, back_of}
+use Rattle.machine.specs.Calls.{acquire_of, release_of, fresh, push_of, pop_of, length_of, first_of, want_of, ask_of, after_of, back_of, answer_in}
 use Rattle.machine.specs.Effects.{pending_at, pending, effect_of, told_after}
 use Rattle.machine.specs.Refusals.{refusal_of, holds, is_due, lacks_role}
 use Rattle.machine.specs.Turns.{old_of, change_of, steps_of, ask_in, begun, begun_party, moved, moved_party, producer_after, consumer_after, resumed, resumed_told, next_of, next_told, turned, IsReached}
@@ -42,9 +43,9 @@ use Rattle.machine.proofs.Readings.{Each-nil}
 use Rattle.machine.proofs.Reached.{kept_by_runs}
 use Rattle.machine.proofs.Rows.{must_be_due, never_dies, may_begin, may_next, MayBegin, MayGoOn}
 use Rattle.machine.proofs.Structures.Queues.Core.{Core}
-use Rattle.machine.proofs.Structures.Ring.Knows.{RingAt}
-use Rattle.machine.proofs.Structures.Overflow.Knows.{OverflowAt}
-use Rattle.machine.proofs.Structures.Queues.Knows.{layout, listed, has_written, Hangs, KnowsLen, KnowsFlight, KnowsDoing, Knows, number_of, RoleAt, LengthAt, At}
+use Rattle.machine.proofs.Structures.Ring.Knows.{push_at, pop_at, RingAt}
+use Rattle.machine.proofs.Structures.Overflow.Knows.{overflow_push_at, overflow_pop_at, OverflowAt}
+use Rattle.machine.proofs.Structures.Queues.Knows.{layout, len_at, listed, has_written, Hangs, KnowsLen, KnowsFlight, KnowsDoing, Knows, number_of, RoleAt, LengthAt, At}
 use Rattle.machine.proofs.Structures.Queues.Invariant.{IsUnderWay, FitsDoing, Fits, Inv, Shows, owes, advance}
 use Rattle.machine.proofs.Structures.Queues.Pending.{pending_put, hangs_same, none_hangs}
 use Rattle.machine.proofs.Structures.Queues.Stages.{StepOf, MovesOf, of_step}
@@ -81,62 +82,62 @@ module _ {T : Type 0} where
     role_step :
         (kd : Kind) (pr co : Option ℕ) → Inv kd c pr co k latest events changes turns → (start : Start T) (call : RoleCall) → RoleAt pr co p start call → steps ≤ 0 → backs ≡ 0
         → pending_at k.read (flight_of (doing_of (party_of p latest))) ≡ None → StepOf kd c pr co k p steps backs since changes latest events turns start (Role call)
-    role_step kd pr co inv AcquireProducer (Acquire call) at s b before =
-        subst (λ w. StepOf kd c pr co k p steps backs since changes latest events turns AcquireProducer (Role (Acquire (record { word = w })))) (sym at)
+    role_step kd pr co inv AcquireProducer (Acquire run) at s b before =
+        subst (λ w. StepOf kd c pr co k p steps backs since changes latest events turns AcquireProducer (acquire_of w)) (sym at)
         (acquire_producer kd c k p steps backs since changes latest events turns inv.good before inv.book inv.turned small s b pr co inv.hangs)
-    role_step kd pr co inv ReleaseProducer (Release call) at s b before =
-        subst (λ o. Hangs kd c k (pending k.read o latest) → StepOf kd c o co k p steps backs since changes latest events turns ReleaseProducer (Role (Release call))) (sym at.1)
-        (λ hangs. subst (λ w. StepOf kd c (Some p) co k p steps backs since changes latest events turns ReleaseProducer (Role (Release (record { word = w })))) (sym at.0)
+    role_step kd pr co inv ReleaseProducer (Release run) at s b before =
+        subst (λ o. Hangs kd c k (pending k.read o latest) → StepOf kd c o co k p steps backs since changes latest events turns ReleaseProducer (Role (Release run))) (sym at.1)
+        (λ hangs. subst (λ w. StepOf kd c (Some p) co k p steps backs since changes latest events turns ReleaseProducer (release_of w)) (sym at.0)
         (release_producer kd c k p steps backs since changes latest events turns inv.good before inv.book inv.turned small s b co hangs))
         inv.hangs
-    role_step kd pr co inv AcquireConsumer (Acquire call) at s b before =
-        subst (λ w. StepOf kd c pr co k p steps backs since changes latest events turns AcquireConsumer (Role (Acquire (record { word = w })))) (sym at)
+    role_step kd pr co inv AcquireConsumer (Acquire run) at s b before =
+        subst (λ w. StepOf kd c pr co k p steps backs since changes latest events turns AcquireConsumer (acquire_of w)) (sym at)
         (acquire_consumer kd c k p steps backs since changes latest events turns inv.good before inv.book inv.turned small s b pr co inv.hangs)
-    role_step kd pr co inv ReleaseConsumer (Release call) at s b before =
-        subst (λ o. StepOf kd c pr o k p steps backs since changes latest events turns ReleaseConsumer (Role (Release call))) (sym at.1)
-        (subst (λ w. StepOf kd c pr (Some p) k p steps backs since changes latest events turns ReleaseConsumer (Role (Release (record { word = w })))) (sym at.0)
+    role_step kd pr co inv ReleaseConsumer (Release run) at s b before =
+        subst (λ o. StepOf kd c pr o k p steps backs since changes latest events turns ReleaseConsumer (Role (Release run))) (sym at.1)
+        (subst (λ w. StepOf kd c pr (Some p) k p steps backs since changes latest events turns ReleaseConsumer (release_of w)) (sym at.0)
         (release_consumer kd c k p steps backs since changes latest events turns inv.good before inv.book inv.turned small s b pr inv.hangs))
     role_step kd pr co inv start call at s b before = absurd at
 
     ring_step :
-        (pr co : Option ℕ) → Inv IndexQueue c pr co k latest events changes turns → (start : Start T) (call : rings.RingCall ℕ) → RingAt c pr co k p start call → steps ≤ number_of (Indices call) backs → backs ≡ 0
+        (pr co : Option ℕ) → Inv IndexQueue c pr co k latest events changes turns → (start : Start T) (call : rings.RingCall ℕ OneWord) → RingAt c pr co k p start call → steps ≤ number_of (Indices call) backs → backs ≡ 0
         → pending_at k.read (flight_of (doing_of (party_of p latest))) ≡ None → StepOf IndexQueue c pr co k p steps backs since changes latest events turns start (Indices call)
-    ring_step pr co inv (Push (Index v)) (rings.TheVariants.Push call) at s b before =
-        subst (λ n. StepOf IndexQueue c pr co k p steps backs since changes latest events turns (Push (Index v)) (Indices (rings.TheVariants.Push (record { capacity = n; value = call.value; stage = call.stage })))) (sym at.1)
-        (subst (λ n. StepOf IndexQueue c pr co k p steps backs since changes latest events turns (Push (Index v)) (Indices (rings.TheVariants.Push (record { capacity = c; value = n; stage = call.stage })))) (sym at.2)
-        (push_step c pr co k p steps backs since changes latest events turns inv.good before inv.book inv.turned small v call.stage at.3 at.0 s b))
-    ring_step pr co inv Pop (rings.TheVariants.Pop call) at s b before =
-        subst (λ n. StepOf IndexQueue c pr co k p steps backs since changes latest events turns Pop (Indices (rings.TheVariants.Pop (record { capacity = n; stage = call.stage })))) (sym at.1)
-        (pop_step c pr co k p steps backs since changes latest events turns inv.good before inv.book inv.turned small call.stage at.2 at.0 s b)
+    ring_step pr co inv (Push (Index v)) (rings.TheVariants.Push run) at s b before =
+        subst (λ n. StepOf IndexQueue c pr co k p steps backs since changes latest events turns (Push (Index v)) (Indices (push_at n run.given run.call.stage))) (sym at.1)
+        (subst (λ n. StepOf IndexQueue c pr co k p steps backs since changes latest events turns (Push (Index v)) (Indices (push_at c n run.call.stage))) (sym at.2)
+        (push_step c pr co k p steps backs since changes latest events turns inv.fits inv.good before inv.book inv.turned small v run.call.stage at.3 at.0 s b))
+    ring_step pr co inv Pop (rings.TheVariants.Pop run) at s b before =
+        subst (λ n. StepOf IndexQueue c pr co k p steps backs since changes latest events turns Pop (Indices (pop_at n run.room run.call.stage))) (sym at.1)
+        (pop_step c pr co k p steps backs since changes latest events turns run.room inv.fits inv.good before inv.book inv.turned small run.call.stage at.2 at.0 s b)
     ring_step pr co inv start call at s b before = absurd at
 
     length_step :
-        (kd : Kind) (pr co : Option ℕ) → Inv kd c pr co k latest events changes turns → (start : Start T) (which : LengthOf) (call : length_calls.Len) → LengthAt c start which call.capacity → steps ≤ number_of (Length which call) backs
-        → KnowsLen c k p events since changes backs call.stage → pending_at k.read (flight_of (doing_of (party_of p latest))) ≡ None → StepOf kd c pr co k p steps backs since changes latest events turns start (Length which call)
-    length_step kd pr co inv Len measures.TheVariants.Len call at s b before =
-        subst (λ n. StepOf kd c pr co k p steps backs since changes latest events turns Len (Length measures.TheVariants.Len (record { capacity = n; stage = call.stage }))) (sym at)
-        (len_step kd c pr co k p steps backs since changes latest events turns inv.good inv.hangs before inv.book inv.turned small call.stage s b)
-    length_step kd pr co inv IsEmpty measures.TheVariants.IsEmpty call at s b before =
-        subst (λ n. StepOf kd c pr co k p steps backs since changes latest events turns IsEmpty (Length measures.TheVariants.IsEmpty (record { capacity = n; stage = call.stage }))) (sym at)
-        (is_empty_step kd c pr co k p steps backs since changes latest events turns inv.good inv.hangs before inv.book inv.turned small call.stage s b)
-    length_step kd pr co inv IsFull measures.TheVariants.IsFull call at s b before =
-        subst (λ n. StepOf kd c pr co k p steps backs since changes latest events turns IsFull (Length measures.TheVariants.IsFull (record { capacity = n; stage = call.stage }))) (sym at)
-        (is_full_step kd c pr co k p steps backs since changes latest events turns inv.good inv.hangs before inv.book inv.turned small call.stage s b)
+        (kd : Kind) (pr co : Option ℕ) → Inv kd c pr co k latest events changes turns → (start : Start T) (which : LengthOf) (run : Running Len (Unit {0}) (Unit {0})) → LengthAt c start which run.call.capacity → steps ≤ number_of (Length which run) backs
+        → KnowsLen c k p events since changes backs run.call.stage → pending_at k.read (flight_of (doing_of (party_of p latest))) ≡ None → StepOf kd c pr co k p steps backs since changes latest events turns start (Length which run)
+    length_step kd pr co inv starts.TheVariants.Len measures.TheVariants.Len run at s b before =
+        subst (λ n. StepOf kd c pr co k p steps backs since changes latest events turns starts.TheVariants.Len (Length measures.TheVariants.Len (len_at n run.call.stage))) (sym at)
+        (len_step kd c pr co k p steps backs since changes latest events turns inv.good inv.hangs before inv.book inv.turned small run.call.stage s b)
+    length_step kd pr co inv IsEmpty measures.TheVariants.IsEmpty run at s b before =
+        subst (λ n. StepOf kd c pr co k p steps backs since changes latest events turns IsEmpty (Length measures.TheVariants.IsEmpty (len_at n run.call.stage))) (sym at)
+        (is_empty_step kd c pr co k p steps backs since changes latest events turns inv.good inv.hangs before inv.book inv.turned small run.call.stage s b)
+    length_step kd pr co inv IsFull measures.TheVariants.IsFull run at s b before =
+        subst (λ n. StepOf kd c pr co k p steps backs since changes latest events turns IsFull (Length measures.TheVariants.IsFull (len_at n run.call.stage))) (sym at)
+        (is_full_step kd c pr co k p steps backs since changes latest events turns inv.good inv.hangs before inv.book inv.turned small run.call.stage s b)
     length_step kd pr co inv start which call at s b before = absurd at
 
     overflow_step :
         (pr co : Option ℕ) → Inv kinds.TheVariants.Overflow c pr co k latest events changes turns → (start : Start T) (call : overflows.OverflowCall) → OverflowAt c pr co k p start call → steps ≤ number_of (Overflow call) backs
         → KnowsFlight c k p events since changes backs (Overflow call) → flight_of (doing_of (party_of p latest)) ≡ Some (Overflow call) → span_of p events ≡ Open start (has_written c k p (Overflow call))
         → MovesOf kinds.TheVariants.Overflow c pr co k p steps backs since changes latest events turns start (Overflow call)
-    overflow_step pr co inv (Push (Index v)) (overflows.TheVariants.Push call) at s b found seen =
-        subst (λ n. MovesFrom c pr co k p steps backs since changes latest events turns (Push (Index v)) (overflows.TheVariants.Push (record { capacity = n; value = call.value; stage = call.stage }))) (sym at.1)
-        (subst (λ n. MovesFrom c pr co k p steps backs since changes latest events turns (Push (Index v)) (overflows.TheVariants.Push (record { capacity = c; value = n; stage = call.stage }))) (sym at.2)
-        (λ found seen. overflow_push_step c pr co k p steps backs since changes latest events turns inv small v at.0 b call.stage at.3 s found seen))
+    overflow_step pr co inv (Push (Index v)) (overflows.TheVariants.Push run) at s b found seen =
+        subst (λ n. MovesFrom c pr co k p steps backs since changes latest events turns (Push (Index v)) (overflow_push_at n run.given run.room run.call.stage)) (sym at.1)
+        (subst (λ n. MovesFrom c pr co k p steps backs since changes latest events turns (Push (Index v)) (overflow_push_at c n run.room run.call.stage)) (sym at.2)
+        (λ found seen. overflow_push_step c pr co k p steps backs since changes latest events turns inv small v run.room at.0 b run.call.stage at.3 s found seen))
         found
         seen
-    overflow_step pr co inv Pop (overflows.TheVariants.Pop call) at s b found seen =
-        subst (λ n. MovesFrom c pr co k p steps backs since changes latest events turns Pop (overflows.TheVariants.Pop (record { capacity = n; stage = call.stage }))) (sym at.1)
-        (λ found seen. overflow_pop_step c pr co k p steps backs since changes latest events turns inv small at.0 call.stage at.2 s b found seen)
+    overflow_step pr co inv Pop (overflows.TheVariants.Pop run) at s b found seen =
+        subst (λ n. MovesFrom c pr co k p steps backs since changes latest events turns Pop (overflow_pop_at n run.room run.call.stage)) (sym at.1)
+        (λ found seen. overflow_pop_step c pr co k p steps backs since changes latest events turns inv small at.0 run.room run.call.stage at.2 s b found seen)
         found
         seen
     overflow_step pr co inv start call at s b found seen = absurd at
@@ -202,7 +203,7 @@ module _ {T : Type 0} where
               turns = t.world.turns;
             }
             x since (ask_of (want_of flight)) (back_of flight (old_of words (ask_of (want_of flight)))) (after_of flight (old_of words (ask_of (want_of flight))));
-        events = t.events ++ told_after x.number x.start (effect_of words (pending (get_or words 1 0) t.world.producer t.world.latest) flight (old_of words (ask_of (want_of flight)))) (after_of flight (old_of words (ask_of (want_of flight))));
+        events = t.events ++ told_after x.number x.start (effect_of words (pending (get_or words 1 0) t.world.producer t.world.latest) flight (old_of words (ask_of (want_of flight)))) (answer_in (after_of flight (old_of words (ask_of (want_of flight)))));
       }
 
   moved_sound : (t : Trace T) (x : Party T) (flight : Flight) (since : ℕ) → party_of x.number t.world.latest ≡ Some x → x.doing ≡ Going flight since → t.world.turns < 2 ^ 64 - 2 → Sound t → AfterMove t x flight since t.world.words
@@ -216,7 +217,7 @@ module _ {T : Type 0} where
       let change = change_of (layout w.producer w.consumer k) (ask_of (want_of flight)) in
       let y = moved_party x since w.changes (steps_of (ask_of (want_of flight))) change (back_of flight old) after in
       let next =
-      advance w.kind w.capacity w.producer w.consumer (producer_after x.number x.start after w.producer) (consumer_after x.number x.start after w.consumer) k step.0 y w.latest t.events (told_after x.number x.start (effect_of (layout w.producer w.consumer k) (pending k.read w.producer w.latest) flight old) after) w.changes (w.changes + change) w.turns
+      advance w.kind w.capacity w.producer w.consumer (producer_after x.number x.start (answer_in after) w.producer) (consumer_after x.number x.start (answer_in after) w.consumer) k step.0 y w.latest t.events (told_after x.number x.start (effect_of (layout w.producer w.consumer k) (pending k.read w.producer w.latest) flight old) (answer_in after)) w.changes (w.changes + change) w.turns
       inv
       step.2
       in
@@ -248,7 +249,7 @@ module _ {T : Type 0} where
     first_push_is kinds.TheVariants.Overflow v holds = go (c == 0) refl
       where
         first : Bool → Flight
-        first b = Overflow (overflows.TheVariants.Push (record { capacity = c; value = v; stage = cond b overflow_pushes.TheVariants.HandsBack overflow_pushes.TheVariants.LoadsWrite }))
+        first b = Overflow (overflow_push_at c v fresh (cond b overflow_pushes.TheVariants.HandsBack overflow_pushes.TheVariants.LoadsWrite))
 
         go : (b : Bool) → (c == 0) ≡ b → IsFirst kinds.TheVariants.Overflow c pr co k p events changes (Push (Index v)) (first b)
         go true e = let none : c ≡ 0 = grind (arith, nat_tests) in record { at = (holds, refl, refl, none); knows = refl; calm = refl; wrote = refl }
@@ -259,7 +260,7 @@ module _ {T : Type 0} where
     first_pop_is kinds.TheVariants.Overflow holds = go (c == 0) refl
       where
         first : Bool → Flight
-        first b = Overflow (overflows.TheVariants.Pop (record { capacity = c; stage = cond b overflow_pops.TheVariants.FindsNone overflow_pops.TheVariants.LoadsRead }))
+        first b = Overflow (overflow_pop_at c fresh (cond b overflow_pops.TheVariants.FindsNone overflow_pops.TheVariants.LoadsRead))
 
         go : (b : Bool) → (c == 0) ≡ b → IsFirst kinds.TheVariants.Overflow c pr co k p events changes Pop (first b)
         go true e = let none : c ≡ 0 = grind (arith, nat_tests) in record { at = (holds, refl, none); knows = omega arith; calm = refl; wrote = refl }
@@ -270,16 +271,16 @@ module _ {T : Type 0} where
       (w : World T) (k : Core ℕ) (p : ℕ) (events : List (Event T)) (start : Start T) (flight : Flight) → first_of w.kind w.capacity start ≡ Some flight → lacks_role w p start ≡ false
       → IsFirst w.kind w.capacity w.producer w.consumer k p events w.changes start flight
   first_is w k p events AcquireProducer flight e r =
-      let same : Role (Acquire (record { word = 2 })) ≡ flight = cc in
+      let same : acquire_of 2 ≡ flight = cc in
       subst (λ f. IsFirst w.kind w.capacity w.producer w.consumer k p events w.changes AcquireProducer f) same (record { at = refl; knows = refl; calm = refl; wrote = refl })
   first_is w k p events ReleaseProducer flight e r =
-      let same : Role (Release (record { word = 2 })) ≡ flight = cc in
+      let same : release_of 2 ≡ flight = cc in
       subst (λ f. IsFirst w.kind w.capacity w.producer w.consumer k p events w.changes ReleaseProducer f) same (record { at = (refl, holds_is w.producer p r); knows = refl; calm = refl; wrote = refl })
   first_is w k p events AcquireConsumer flight e r =
-      let same : Role (Acquire (record { word = 3 })) ≡ flight = cc in
+      let same : acquire_of 3 ≡ flight = cc in
       subst (λ f. IsFirst w.kind w.capacity w.producer w.consumer k p events w.changes AcquireConsumer f) same (record { at = refl; knows = refl; calm = refl; wrote = refl })
   first_is w k p events ReleaseConsumer flight e r =
-      let same : Role (Release (record { word = 3 })) ≡ flight = cc in
+      let same : release_of 3 ≡ flight = cc in
       subst (λ f. IsFirst w.kind w.capacity w.producer w.consumer k p events w.changes ReleaseConsumer f) same (record { at = (refl, holds_is w.consumer p r); knows = refl; calm = refl; wrote = refl })
   first_is w k p events (Push (Index v)) flight e r =
       let same : push_of w.kind w.capacity v ≡ flight = cc in
@@ -290,14 +291,14 @@ module _ {T : Type 0} where
       let same : pop_of w.kind w.capacity ≡ flight = cc in
       subst (λ f. IsFirst w.kind w.capacity w.producer w.consumer k p events w.changes Pop f) same
       (first_pop_is w.capacity w.producer w.consumer k p events w.changes w.kind (holds_is w.consumer p r))
-  first_is w k p events Len flight e r =
-      let same : Length measures.TheVariants.Len (record { capacity = w.capacity; stage = lens.TheVariants.LoadsWrite }) ≡ flight = cc in
-      subst (λ f. IsFirst w.kind w.capacity w.producer w.consumer k p events w.changes Len f) same (record { at = refl; knows = (omega arith); calm = refl; wrote = refl })
+  first_is w k p events starts.TheVariants.Len flight e r =
+      let same : length_of measures.TheVariants.Len w.capacity ≡ flight = cc in
+      subst (λ f. IsFirst w.kind w.capacity w.producer w.consumer k p events w.changes starts.TheVariants.Len f) same (record { at = refl; knows = (omega arith); calm = refl; wrote = refl })
   first_is w k p events IsEmpty flight e r =
-      let same : Length measures.TheVariants.IsEmpty (record { capacity = w.capacity; stage = lens.TheVariants.LoadsWrite }) ≡ flight = cc in
+      let same : length_of measures.TheVariants.IsEmpty w.capacity ≡ flight = cc in
       subst (λ f. IsFirst w.kind w.capacity w.producer w.consumer k p events w.changes IsEmpty f) same (record { at = refl; knows = (omega arith); calm = refl; wrote = refl })
   first_is w k p events IsFull flight e r =
-      let same : Length measures.TheVariants.IsFull (record { capacity = w.capacity; stage = lens.TheVariants.LoadsWrite }) ≡ flight = cc in
+      let same : length_of measures.TheVariants.IsFull w.capacity ≡ flight = cc in
       subst (λ f. IsFirst w.kind w.capacity w.producer w.consumer k p events w.changes IsFull f) same (record { at = refl; knows = (omega arith); calm = refl; wrote = refl })
 
   -- a party without a call under way has a span that is shut
@@ -361,12 +362,13 @@ module _ {T : Type 0} where
   empty IndexQueue c = refl
   empty kinds.TheVariants.Overflow c = sym (ap (map Index) (take-nil {A = ℕ} c))
 
-  opening_sound : (kd : Kind) (capacity parties : ℕ) → Sound (opening {T = T} kd capacity parties)
-  opening_sound kd capacity parties =
+  opening_sound : (kd : Kind) (capacity parties : ℕ) → capacity < 2 ^ 32 → Sound (opening {T = T} kd capacity parties)
+  opening_sound kd capacity parties fits =
       let k : Core ℕ = record { write = 0; read = 0; waiting = []; cells = replicate (cells_of kd capacity) 0 } in (
         k,
         refl,
         record {
+          fits = fits;
           good =
               record {
                 write = refl;
@@ -387,6 +389,7 @@ module _ {T : Type 0} where
         },
       )
 
-  pub reached_sound : (t : Trace T) → IsReached t → Sound t
-  reached_sound t r =
-      kept_by_runs Sound (λ u turn e h. turned_sound u turn e h) t (opening_sound t.world.kind t.world.capacity t.world.parties) r
+  -- a capacity is a number of 32 bits
+  pub reached_sound : (t : Trace T) → t.world.capacity < 2 ^ 32 → IsReached t → Sound t
+  reached_sound t fits r =
+      kept_by_runs Sound (λ u turn e h. turned_sound u turn e h) t (opening_sound t.world.kind t.world.capacity t.world.parties fits) r

@@ -4,7 +4,7 @@ use Rattle.std.proofs.lemmas.Bool.Decides.{nat_tests}
 use Rattle.steps.specs.declared.ask.Ask.{Ask}
 use Rattle.steps.specs.declared.ask.After.{After}
 use Rattle.steps.specs.declared.ask.After.TheVariants.{GoOn, Done}
-use Rattle.steps.specs.Ring.{cell_word}
+use Rattle.steps.specs.Ring.{cell_word, word_at}
 use Rattle.machine.specs.declared.call.Flight.{Flight}
 use Rattle.machine.specs.declared.effects.Effect.{Effect}
 use Rattle.machine.specs.declared.effects.Effect.TheVariants.{Quiet}
@@ -15,7 +15,7 @@ use Rattle.machine.specs.declared.event.Event.{Event}
 use Rattle.machine.specs.declared.event.Event.TheVariants.{Finished}
 use Rattle.machine.specs.declared.party.Doing.TheVariants.{Over}
 use Rattle.machine.specs.declared.party.Party.{Party}
-use Rattle.machine.specs.Calls.{want_of, ask_of, after_of, back_of, words_of_index}
+use Rattle.machine.specs.Calls.{want_of, ask_of, after_of, back_of, answer_in, words_of_index}
 use Rattle.machine.specs.declared.turn.Kind.{Kind}
 use Rattle.machine.specs.World.{party_of, put, doing_of, flight_of, cells_of}
 use Rattle.machine.specs.Effects.{pending_at, pending, effect_of, told_after}
@@ -42,10 +42,20 @@ or_false true b e = absurd (cc)
 or_false false b e = (refl, e)
 
 -- the place of a cell's word among the words
-pub cell_place : (c position : ℕ) → 0 < c → cell_word c 1 position 0 ≡ 4 + (1 * (position % c) + 0)
+pub cell_place : (c position : ℕ) → 0 < c → cell_word c 1 position ≡ 4 + (1 * (position % c) + 0)
 cell_place c position some =
     let t : (c == 0) ≡ false = grind (arith, nat_tests) in
     rw t (omega arith)
+
+-- the word of a cell as a call asks for it, which wraps
+abbrev pub cell_asked : ℕ → ℕ → ℕ
+cell_asked c position = word_at (cell_word c 1 position) 0
+
+pub asked_place : (c position : ℕ) → 0 < c → c < 2 ^ 32 → cell_asked c position ≡ 4 + (1 * (position % c) + 0)
+asked_place c position some fits =
+    let place = cell_place c position some in
+    let low : position % c < c = omega arith in
+    omega arith
 
 module _ {T : Type 0} (kd : Kind) (c : ℕ) (pr co : Option ℕ) (k : Core ℕ) (p steps backs since changes : ℕ) (latest : List (Party T)) (events : List (Event T)) (turns : ℕ) where
   -- the party as it stands before the step
@@ -61,10 +71,10 @@ module _ {T : Type 0} (kd : Kind) (c : ℕ) (pr co : Option ℕ) (k : Core ℕ) 
   abbrev pub Leaves : Option ℕ → Option ℕ → List (Event T) → Start T → Option Ask → ℕ → After Flight (Answer T) → Effect T → Type 0
   Leaves pr' co' wrote start ask back after effect =
       (k' : Core ℕ) × (words_after (layout pr co k) ask ≡ layout pr' co' k')
-      × Shows kd c pr co pr' co' k k' (Open start wrote) (party_after start ask back after) latest events (told_after p start effect after) changes (changes + change_of (layout pr co k) ask) turns
+      × Shows kd c pr co pr' co' k k' (Open start wrote) (party_after start ask back after) latest events (told_after p start effect (answer_in after)) changes (changes + change_of (layout pr co k) ask) turns
 
   abbrev pub Step : List (Event T) → Start T → Option Ask → ℕ → After Flight (Answer T) → Effect T → Type 0
-  Step wrote start ask back after effect = Leaves (producer_after p start after pr) (consumer_after p start after co) wrote start ask back after effect
+  Step wrote start ask back after effect = Leaves (producer_after p start (answer_in after) pr) (consumer_after p start (answer_in after) co) wrote start ask back after effect
 
   abbrev pub StepOf : Start T → Flight → Type 0
   StepOf start flight =
@@ -140,8 +150,8 @@ module _ {T : Type 0} (kd : Kind) (c : ℕ) (pr co : Option ℕ) (k : Core ℕ) 
 
   abbrev pub Moves : Start T → Option Ask → ℕ → After Flight (Answer T) → Effect T → Type 0
   Moves start ask back after effect =
-      (k' : Core ℕ) × (words_after (layout pr co k) ask ≡ layout (producer_after p start after pr) (consumer_after p start after co) k')
-      × Owes kd c pr co (producer_after p start after pr) (consumer_after p start after co) k k' (party_after start ask back after) latest events (told_after p start effect after) changes (changes + change_of (layout pr co k) ask) turns
+      (k' : Core ℕ) × (words_after (layout pr co k) ask ≡ layout (producer_after p start (answer_in after) pr) (consumer_after p start (answer_in after) co) k')
+      × Owes kd c pr co (producer_after p start (answer_in after) pr) (consumer_after p start (answer_in after) co) k k' (party_after start ask back after) latest events (told_after p start effect (answer_in after)) changes (changes + change_of (layout pr co k) ask) turns
 
   abbrev pub MovesOf : Start T → Flight → Type 0
   MovesOf start flight =
@@ -153,7 +163,7 @@ module _ {T : Type 0} (kd : Kind) (c : ℕ) (pr co : Option ℕ) (k : Core ℕ) 
   alone inv wrote start ask back after effect seen step = (
     step.0,
     step.1,
-    owes kd c pr co (producer_after p start after pr) (consumer_after p start after co) k step.0 (Open start wrote) (party_after start ask back after) latest events (told_after p start effect after) changes (changes + change_of (layout pr co k) ask) turns seen inv step.2,
+    owes kd c pr co (producer_after p start (answer_in after) pr) (consumer_after p start (answer_in after) co) k step.0 (Open start wrote) (party_after start ask back after) latest events (told_after p start effect (answer_in after)) changes (changes + change_of (layout pr co k) ask) turns seen inv step.2,
   )
 
   pub of_step : Inv kd c pr co k latest events changes turns → (start : Start T) (flight : Flight) → span_of p events ≡ Open start (has_written c k p flight) → StepOf start flight → MovesOf start flight

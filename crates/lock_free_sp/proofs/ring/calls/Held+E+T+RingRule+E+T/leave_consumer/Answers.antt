@@ -1,6 +1,5 @@
-use Rattle.std.proofs.Common.{rules}
-use Rattle.lock_free_sp.proofs.Rules.Ring.Roles.{leaves_consumer}
+use Rattle.lock_free_sp.proofs.Rules.Ring.RoleRuns.{leaves_consumer_keeps}
 use Rattle.lock_free_sp.proofs.ring.calls.Held+E+T+RingRule+E+T.leave_consumer.Goals as goal
 
-pub store-requires : goal.store-requires
-store-requires g c = (search rules, search rules, leaves_consumer _ _ _ _ _ _ _ (search rules))
+pub drive-requires-clause-rule : goal.drive-requires-clause-rule
+drive-requires-clause-rule g c = leaves_consumer_keeps g.T.Words.words_of g.T.Words.WORDS g.E.Spare.SPARE

@@ -1,6 +1,5 @@
-use Rattle.std.proofs.Common.{rules}
-use Rattle.lock_free_sp.proofs.Rules.Ring.Roles.{leaves_producer}
+use Rattle.lock_free_sp.proofs.Rules.Ring.RoleRuns.{leaves_producer_keeps}
 use Rattle.lock_free_sp.proofs.ring.calls.Held+E+T+RingRule+E+T.leave_producer.Goals as goal
 
-pub store-requires : goal.store-requires
-store-requires g c = (search rules, search rules, leaves_producer _ _ _ _ _ _ _ (search rules))
+pub drive-requires-clause-rule : goal.drive-requires-clause-rule
+drive-requires-clause-rule g c = leaves_producer_keeps g.T.Words.words_of g.T.Words.WORDS g.E.Spare.SPARE

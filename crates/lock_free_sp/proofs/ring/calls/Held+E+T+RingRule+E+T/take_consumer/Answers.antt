@@ -1,6 +1,5 @@
-use Rattle.std.proofs.Common.{rules}
-use Rattle.lock_free_sp.proofs.Rules.Ring.Roles.{takes_consumer}
+use Rattle.lock_free_sp.proofs.Rules.Ring.RoleRuns.{takes_consumer_keeps}
 use Rattle.lock_free_sp.proofs.ring.calls.Held+E+T+RingRule+E+T.take_consumer.Goals as goal
 
-pub compare_exchange-requires : goal.compare_exchange-requires
-compare_exchange-requires g c = (search rules, search rules, takes_consumer _ _ _ _ _ _ _)
+pub drive-end-requires-clause-rule : goal.drive-end-requires-clause-rule
+drive-end-requires-clause-rule g c = takes_consumer_keeps g.T.Words.words_of g.T.Words.WORDS g.E.Spare.SPARE

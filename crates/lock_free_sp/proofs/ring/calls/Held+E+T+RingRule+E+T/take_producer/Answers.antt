@@ -1,6 +1,5 @@
-use Rattle.std.proofs.Common.{rules}
-use Rattle.lock_free_sp.proofs.Rules.Ring.Roles.{takes_producer}
+use Rattle.lock_free_sp.proofs.Rules.Ring.RoleRuns.{takes_producer_keeps}
 use Rattle.lock_free_sp.proofs.ring.calls.Held+E+T+RingRule+E+T.take_producer.Goals as goal
 
-pub compare_exchange-requires : goal.compare_exchange-requires
-compare_exchange-requires g c = (search rules, search rules, takes_producer _ _ _ _ _ _ _)
+pub drive-end-requires-clause-rule : goal.drive-end-requires-clause-rule
+drive-end-requires-clause-rule g c = takes_producer_keeps g.T.Words.words_of g.T.Words.WORDS g.E.Spare.SPARE

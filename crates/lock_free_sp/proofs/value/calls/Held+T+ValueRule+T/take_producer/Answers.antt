@@ -1,6 +1,5 @@
-use Rattle.std.proofs.Common.{rules}
-use Rattle.lock_free_sp.proofs.Rules.Value.Roles.{takes_producer}
+use Rattle.lock_free_sp.proofs.Rules.Value.RoleRuns.{takes_rule}
 use Rattle.lock_free_sp.proofs.value.calls.Held+T+ValueRule+T.take_producer.Goals as goal
 
-pub compare_exchange-requires : goal.compare_exchange-requires
-compare_exchange-requires g c = (search rules, search rules, takes_producer _ _ _ _ _)
+pub drive-taken-requires-clause-rule : goal.drive-taken-requires-clause-rule
+drive-taken-requires-clause-rule g c = takes_rule g.T.Words.words_of g.T.Words.WORDS

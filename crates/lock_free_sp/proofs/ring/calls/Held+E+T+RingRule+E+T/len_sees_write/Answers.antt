@@ -1,6 +1,0 @@
-use Rattle.std.proofs.Common.{rules}
-use Rattle.lock_free_sp.proofs.Rules.Ring.Lengths.{len_sees_write}
-use Rattle.lock_free_sp.proofs.ring.calls.Held+E+T+RingRule+E+T.len_sees_write.Goals as goal
-
-pub load-requires : goal.load-requires
-load-requires g c = (search rules, search rules, len_sees_write _ _ _ _ _ _ _)

@@ -1,0 +1,16 @@
+//! A seat at a table that is shared.
+ghost use Rattle.std.specs.Prelude.{◌≡◌, []};
+ghost use Rattle.std.specs.Arc.{arc_value};
+
+use atomic_table::{Seat, Table, TableRule};
+use std::alloc::Global;
+use std::sync::Arc;
+
+/// What a caller steps with: a seat, and the one reference to its table that its steps go through.
+#[derive(Drop)]
+pub struct Seated<V, K, Q: TableRule<(), V, K>> {
+    pub seat: Seat<(), V>,
+    pub table: Arc<Table<(), V, K, Q, Global>, Global>,
+    ghost seated: { seat.table_id ≡ (arc_value table).shared.table_id },
+    ghost bare: { seat.me.1 ≡ [] },
+}
