@@ -1,7 +1,5 @@
 -- What a seat at a table is for, and what a call owes the rule of the table.
 use Rattle.std.specs.Prelude.{◌≡◌, ℕ, ◌<◌, []}
-use Rattle.std.specs.Arc.{arc_value}
-use Rattle.atomic_table.specs.Seated.{TableId}
 use Rattle.atomic_table.specs.Table.{State, Me, Allows}
 use Rattle.steps.specs.Ask.{written}
 use Rattle.steps.specs.declared.ask.Op.{Op}

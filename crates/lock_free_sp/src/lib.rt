@@ -1,6 +1,7 @@
 //! The structures with one producer at a time, shared between threads.
 //!
-//! Each call drives the very value of the crate `steps` that the machine runs, on the words of a table of `atomic_table`.
+//! Each call drives a value of the crate `steps` on the words of a table of `atomic_table`; those of the queues of numbers
+//! are the ones that the machine runs.
 //! What a caller knows of a structure is the view of its pass; the rule of the table says how the views of all passes fit
 //! together.
 #![tactic(auto)]

@@ -1,6 +1,11 @@
 -- Words that are kept at their places.
-use Rattle.std.specs.Prelude.{◌≡◌, ℕ, zero, suc, [], ◌∷◌, slice_set, refl}
+use Rattle.std.specs.Prelude.{◌≡◌, ℕ, zero, suc, List, [], ◌∷◌, length, take, replicate, slice_set, if◌then◌else◌, nat_lt, refl}
 use Rattle.steps.specs.declared.copied.OneWord.{OneWord}
+
+-- the value that the first of these words make; where they are too few, that of zeros
+abbrev pub value_in : {V : Type 0} → (List ℕ → V) → ℕ → List ℕ → V
+value_in value_of size words =
+    if nat_lt (length words) size then value_of (take size (replicate 128 0)) else value_of (take size words)
 
 -- a room of one word has one place
 abbrev pub kept_in_one : OneWord → ℕ → ℕ → OneWord

@@ -1,5 +1,6 @@
 //! Room for the words of a value while they are read.
-ghost use Rattle.std.specs.Prelude.{◌≡◌, ℕ, List, length, take, slice_set};
+ghost use Rattle.std.specs.Prelude.{◌≡◌, ℕ, List, length, slice_set};
+ghost use Rattle.steps.specs.Copied.{value_in};
 
 use crate::words::Words;
 
@@ -13,9 +14,9 @@ pub trait Room<T: Words> {
     fn put(&mut self, at: usize, word: u64)
         ensures { self.new ≡ with_word self.old at word };
 
-    /// The value that its words make.
+    /// The value that its first words make.
     fn value(&self) -> T
-        ensures { result ≡ T.value_of (take T.WORDS (words_in self.now)) };
+        ensures { result ≡ value_in T.value_of T.WORDS (words_in self.now) };
 
     ghost put_in: { (x : Self) (at word : ℕ) → words_in (with_word x at word) ≡ slice_set (words_in x) at word };
 }
@@ -47,24 +48,39 @@ impl Room<u64> for OneWord {
     }
 }
 
-/// Room for any value. It keeps room for the greatest in itself, so that reading takes no memory.
+/// Room for a value of at most N words. It keeps them in itself, so that reading takes no memory.
 #[derive(Clone, Copy)]
-pub struct Copied {
+pub struct Kept<const N: usize> {
     /// The words, of which a value takes the first ones.
-    pub words: [u64; 128],
+    pub words: [u64; N],
 }
 
-impl Copied {
+/// Room for any value.
+pub type Copied = Kept<128>;
+
+impl<const N: usize> Kept<N> {
     /// No word is read yet.
     #[inline(always)]
-    pub fn new() -> Copied
-        ensures { length result.words ≡ 128 }
+    pub fn new() -> Kept<N>
+        ensures { length result.words ≡ N }
     {
-        Copied { words: [0; 128] }
+        Kept { words: [0; N] }
     }
 }
 
-impl<T: Words> Room<T> for Copied {
+/// The value that the first of these words make, or the one of zeros where they are too few.
+#[inline(always)]
+fn value_in<T: Words>(words: &[u64]) -> T
+    ensures { result ≡ value_in T.value_of T.WORDS words.now }
+{
+    if T::WORDS <= words.len() {
+        T::of_words(&words[..T::WORDS])
+    } else {
+        T::of_words(&[0; 128][..T::WORDS])
+    }
+}
+
+impl<T: Words, const N: usize> Room<T> for Kept<N> {
     ghost use Rattle.std.specs.Prelude.{refl};
 
     ghost words_in = { λ x. x.words };
@@ -75,13 +91,13 @@ impl<T: Words> Room<T> for Copied {
 
     #[inline(always)]
     fn put(&mut self, at: usize, word: u64) {
-        if at < 128 {
+        if at < N {
             self.words[at] = word;
         }
     }
 
     #[inline(always)]
     fn value(&self) -> T {
-        T::of_words(&self.words[..T::WORDS])
+        value_in(&self.words[..])
     }
 }

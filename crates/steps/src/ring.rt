@@ -2,7 +2,8 @@
 //!
 //! Its words are the write position, the read position, the producer's role, the consumer's role, and then the cells,
 //! `capacity` of them with `T::WORDS` words each. The position p stands in the cell p mod capacity.
-ghost use Rattle.std.specs.Prelude.{◌≡◌, take};
+ghost use Rattle.std.specs.Prelude.{◌≡◌};
+ghost use Rattle.steps.specs.Copied.{value_in};
 ghost use Rattle.steps.specs.Ring.{cell_word, first_push, push_want, push_after, first_pop, pop_want, pop_after, pop_kept, pop_answer};
 
 use crate::ask::{After, Ask, Op, Want};
@@ -233,9 +234,9 @@ impl<T: Words, R: Room<T> + Drop> Routine for Pop<T, R> {
 
     ghost kept = { pop_kept R.with_word };
 
-    ghost value_of = { λ given room. T.value_of (take T.WORDS (R.words_in room)) };
+    ghost value_of = { λ given room. value_in T.value_of T.WORDS (R.words_in room) };
 
-    ghost answer_of = { λ end given room. pop_answer (T.value_of (take T.WORDS (R.words_in room))) end };
+    ghost answer_of = { λ end given room. pop_answer (value_in T.value_of T.WORDS (R.words_in room)) end };
 
     ghost store_tells_nothing = { λ c given room m n t. pop_tells R.with_word T.WORDS c c.stage room m n t };
 

@@ -4,7 +4,8 @@
 //! The value of version v stands in the cell (v - 1) mod 2, and a store at version v writes the cell v mod 2, so it
 //! never writes where the value of that version stands. Differences wrap: the value of a version 0 would stand in the
 //! cell 1.
-ghost use Rattle.std.specs.Prelude.{◌≡◌, take};
+ghost use Rattle.std.specs.Prelude.{◌≡◌};
+ghost use Rattle.steps.specs.Copied.{value_in};
 ghost use Rattle.steps.specs.Value.{cell_word, first_store, store_want, store_after, first_load, load_want, load_after, load_kept, goes_back};
 
 use crate::ask::{After, Ask, Op, Want};
@@ -221,9 +222,9 @@ impl<T: Words, R: Room<T> + Drop> Routine for Load<T, R> {
 
     ghost kept = { load_kept R.with_word };
 
-    ghost value_of = { λ given room. T.value_of (take T.WORDS (R.words_in room)) };
+    ghost value_of = { λ given room. value_in T.value_of T.WORDS (R.words_in room) };
 
-    ghost answer_of = { λ end given room. T.value_of (take T.WORDS (R.words_in room)) };
+    ghost answer_of = { λ end given room. value_in T.value_of T.WORDS (R.words_in room) };
 
     ghost store_tells_nothing = { λ c given room m n t. load_tells R.with_word T.WORDS c c.stage room m n t };
 

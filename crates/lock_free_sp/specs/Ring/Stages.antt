@@ -1,6 +1,7 @@
 -- What the view of a seat is while a call is at a stage, and how the call ends: of the view with which it began, and the view now.
 use Rattle.std.specs.Prelude.{◌≡◌, ℕ, ◌+◌, ◌-◌, ◌*◌, ◌^◌, ◌<◌, ◌≤◌, Bool, true, false, Some, List, [], ◌∷◌, take, length, slice_index}
 use Rattle.std.specs.List.{All}
+use Rattle.steps.specs.Copied.{value_in}
 use Rattle.steps.specs.declared.copied.OneWord.{OneWord}
 use Rattle.steps.specs.declared.roles.AcquireRole.{AcquireRole}
 use Rattle.steps.specs.declared.roles.ReleaseRole.{ReleaseRole}
@@ -115,8 +116,10 @@ module _ {T R : Type 0} (words_of : T → List ℕ) (n : ℕ) (words_in : R → 
       (base.pop ≡ popping.Ready) × (c.capacity ≡ base.capacity) × (n * c.capacity + 4 < 2 ^ 64)
       × (n ≤ length (words_in room)) × PopStands base v c.capacity room c.stage
 
+module _ {T R : Type 0} (value_of : List ℕ → T) (n : ℕ) (words_in : R → List ℕ) where
+  -- the value is the one that the words in the room make
   abbrev pub PopEnds : View T → Bool → R → View T → Type 0
-  PopEnds base true room w = (x : T) × HasPopped x base w × (take n (words_in room) ≡ words_of x)
+  PopEnds base true room w = HasPopped (value_in value_of n (words_in room)) base w
   PopEnds base false room w = WasEmpty base w
 
 -- ---- the overflowing queue

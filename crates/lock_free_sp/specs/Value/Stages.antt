@@ -1,5 +1,6 @@
 -- What the view of a seat is while a call is at a stage, and how the call ends: of the view with which it began, and the view now.
 use Rattle.std.specs.Prelude.{◌≡◌, ℕ, ◌+◌, ◌<◌, ◌≤◌, Bool, true, false, List, length, take}
+use Rattle.steps.specs.Copied.{value_in}
 use Rattle.steps.specs.declared.roles.AcquireRole.{AcquireRole}
 use Rattle.steps.specs.declared.roles.ReleaseRole.{ReleaseRole}
 use Rattle.steps.specs.declared.value.Store.{Store}
@@ -64,4 +65,4 @@ module _ {T R : Type 0} (n : ℕ) (words_in : R → List ℕ) where
 module _ {T R : Type 0} (value_of : List ℕ → T) (n : ℕ) (words_in : R → List ℕ) where
   -- the value is the one that the words in the room make
   abbrev pub LoadEnds : View T → Unit {0} → R → View T → Type 0
-  LoadEnds base end room w = HasLoaded (value_of (take n (words_in room))) base w
+  LoadEnds base end room w = HasLoaded (value_in value_of n (words_in room)) base w

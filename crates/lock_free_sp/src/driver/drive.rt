@@ -44,10 +44,14 @@ impl<V, K, Q: Rule<V, K>> Seated<V, K, Q> {
             Op::Swap(new) => table.shared.swap::<Says<M>>(&mut self.seat, word, new),
             Op::Add(by) => table.shared.fetch_add::<Says<M>>(&mut self.seat, word, by),
             Op::Sub(by) => table.shared.fetch_sub::<Says<M>>(&mut self.seat, word, by),
-            Op::And(bits) => table.shared.fetch_and::<Says<M>>(&mut self.seat, word, bits),
+            Op::And(bits) => table
+                .shared
+                .fetch_and::<Says<M>>(&mut self.seat, word, bits),
             Op::Or(bits) => table.shared.fetch_or::<Says<M>>(&mut self.seat, word, bits),
             Op::Exchange(from, to) => {
-                table.shared.compare_exchange::<Says<M>>(&mut self.seat, word, from, to)
+                table
+                    .shared
+                    .compare_exchange::<Says<M>>(&mut self.seat, word, from, to)
             }
         }
     }
@@ -131,6 +135,19 @@ impl<V, K, Q: Rule<V, K>> Seated<V, K, Q> {
         ensures capacity { Q.capacity_seen (seen self.new) ≡ Q.capacity_seen (seen self.old) }
         ensures end { D.ends given.now (seen self.old) result room.new (seen self.new) }
     {
+        // The first steps stand by themselves, as in `drive`.
+        let call = match self.once::<Brand, C, D>(call, given, room) {
+            After::GoOn(next) => next,
+            After::Done(end) => return end,
+        };
+        let call = match self.once::<Brand, C, D>(call, given, room) {
+            After::GoOn(next) => next,
+            After::Done(end) => return end,
+        };
+        let call = match self.once::<Brand, C, D>(call, given, room) {
+            After::GoOn(next) => next,
+            After::Done(end) => return end,
+        };
         let mut call = call;
         for _ in rt.forever() {
             match self.once::<Brand, C, D>(call, given, room) {

@@ -14,7 +14,8 @@ use std::sync::Arc;
 use steps::ring::{CONSUMER, FIRST_CELL, PRODUCER, READ, WRITE};
 use steps::words::Words;
 
-/// An empty ring with both positions here and both roles free, and a token that knows nothing.
+/// An empty ring with both positions here and both roles free (no clause says so, tests do), and a token that knows
+/// nothing.
 pub fn open<E: Spare, T: Words>(
     alloc: Global,
     capacity: u32,

@@ -65,8 +65,8 @@ impl<E: Spare, T: Words> Held<E, T, RingRule<E, T>> {
             .drive::<ReleaseRole, LeavesConsumer>(call, &(), &mut ());
     }
 
-    /// How many values wait, by two positions that stood together. Four steps, and at most four more for each time that
-    /// a position has moved between its two loads.
+    /// How many values wait; the contract bounds the number. Four steps, and at most four more for each time that a
+    /// position has moved between its two loads.
     pub fn len(&mut self, rt: &impl Wait) -> u64
         requires { (seen self.old).len ≡ lengths.Idle }
         ensures same { IsSame self.old self.new }

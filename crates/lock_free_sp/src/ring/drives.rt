@@ -74,7 +74,7 @@ pub struct Pops;
 impl<T: Words, R: Room<T> + Drop> Drives<View<T>, Pop<T, R>> for Pops {
     ghost at = { λ given. PopAt T.words_of T.WORDS R.words_in };
 
-    ghost ends = { λ given. PopEnds T.words_of T.WORDS R.words_in };
+    ghost ends = { λ given. PopEnds T.value_of T.WORDS R.words_in };
 }
 
 /// To push, and take the oldest value out where there is no room.

@@ -17,9 +17,13 @@ use steps::enums::UniqueIndexCreationError;
 /// After `IndexQueue` of the Rust crate.
 pub type IndexQueue = Ring<Numbers, u64, RingRule<Numbers, u64>>;
 
-/// The same for at most CAPACITY numbers, from 0 to 2^32 - 1. After `FixedSizeIndexQueue` of the Rust crate.
-pub type FixedSizeIndexQueue<const CAPACITY: usize> =
-    FixedSize<Numbers, u64, RingRule<Numbers, u64>, CAPACITY>;
+/// The same for at most CAPACITY numbers; CAPACITY is from 0 to 2^32 - 1. After `FixedSizeIndexQueue` of the Rust crate.
+pub type FixedSizeIndexQueue<const CAPACITY: usize> = FixedSize<
+    Numbers,
+    u64,
+    RingRule<Numbers, u64>,
+    CAPACITY,
+>;
 
 /// What a caller knows of an index queue.
 pub type Pass = ends::Pass<Numbers, u64>;
@@ -31,7 +35,7 @@ pub type Producer<'a> = ends::Producer<'a, Numbers, u64>;
 pub type Consumer<'a> = ends::Consumer<'a, Numbers, u64>;
 
 impl IndexQueue {
-    /// An empty queue for at most `capacity` numbers, from 0 to 2^32 - 1, and its first pass, which knows nothing.
+    /// An empty queue for at most `capacity` numbers, and its first pass, which knows nothing.
     ///
     /// Refused are, in this order, a capacity above 2^32 - 1 (`ProvidedCapacityGreaterThanMaxCapacity`) and memory
     /// (`NoMemory`). After `IndexQueue::new` of the Rust crate.

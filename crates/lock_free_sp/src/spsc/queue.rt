@@ -10,12 +10,12 @@ use crate::ring::ends;
 use crate::ring::ends::FixedSize;
 use crate::ring::rule::{RingRule, Values};
 use std::alloc::Global;
-use steps::copied::Copied;
+use steps::copied::Kept;
 use steps::enums::UniqueIndexCreationError;
 use steps::words::Words;
 
-/// A bounded queue of at most CAPACITY values, from 0 to 2^32 - 1, which threads share by reference. One producer pushes
-/// and one consumer pops at a time. After `Queue` of the Rust crate.
+/// A bounded queue of at most CAPACITY values, which threads share by reference; CAPACITY is from 0 to 2^32 - 1. One
+/// producer pushes and one consumer pops at a time. After `Queue` of the Rust crate.
 pub type Queue<T, const CAPACITY: usize> = FixedSize<Values, T, RingRule<Values, T>, CAPACITY>;
 
 /// What a caller knows of a queue of values.
@@ -32,9 +32,7 @@ impl<T: Words, const CAPACITY: usize> Queue<T, CAPACITY> {
     ///
     /// Refused are, in this order, a CAPACITY above 2^32 - 1 (`ProvidedCapacityGreaterThanMaxCapacity`) and memory
     /// (`NoMemory`). After `Queue::new` of the Rust crate.
-    pub fn new(
-        alloc: Global,
-    ) -> Result<(Queue<T, CAPACITY>, Pass<T>), UniqueIndexCreationError>
+    pub fn new(alloc: Global) -> Result<(Queue<T, CAPACITY>, Pass<T>), UniqueIndexCreationError>
         ensures pass { IfOk result (λ r. IsPassOf (ring_of r.0) r.1 × (view r.1 ≡ blank CAPACITY)) }
         ensures admitted { OnOk result (capacity_refusal 0 (2 ^ 32 - 1) CAPACITY ≡ None) }
         ensures refused { IfErr result (λ e. (capacity_refusal 0 (2 ^ 32 - 1) CAPACITY ≡ Some e) ⊎ (capacity_refusal 0 (2 ^ 32 - 1) CAPACITY ≡ None) × (e ≡ NoMemory)) }
@@ -75,6 +73,13 @@ impl<'a, T: Words> Consumer<'a, T> {
         ensures popped { IfSome result (λ x. HasPopped x (consumer_view self.old) (consumer_view self.new)) }
         ensures empty { IfNone result (WasEmpty (consumer_view self.old) (consumer_view self.new)) }
     {
-        self.token.pop(Copied::new())
+        // a room is filled with zeros: the smallest that the words fit in
+        if T::WORDS <= 2 {
+            self.token.pop(Kept::<2>::new())
+        } else if T::WORDS <= 16 {
+            self.token.pop(Kept::<16>::new())
+        } else {
+            self.token.pop(Kept::<128>::new())
+        }
     }
 }

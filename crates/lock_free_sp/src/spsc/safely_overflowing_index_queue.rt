@@ -18,10 +18,14 @@ use steps::enums::UniqueIndexCreationError;
 /// pushes and one consumer pops at a time. After `SafelyOverflowingIndexQueue` of the Rust crate.
 pub type SafelyOverflowingIndexQueue = Ring<Overflowing, u64, RingRule<Overflowing, u64>>;
 
-/// The same for at most CAPACITY numbers, from 0 to 2^32 - 1. After `FixedSizeSafelyOverflowingIndexQueue` of the Rust
-/// crate.
-pub type FixedSizeSafelyOverflowingIndexQueue<const CAPACITY: usize> =
-    FixedSize<Overflowing, u64, RingRule<Overflowing, u64>, CAPACITY>;
+/// The same for at most CAPACITY numbers; CAPACITY is from 0 to 2^32 - 1. After `FixedSizeSafelyOverflowingIndexQueue` of
+/// the Rust crate.
+pub type FixedSizeSafelyOverflowingIndexQueue<const CAPACITY: usize> = FixedSize<
+    Overflowing,
+    u64,
+    RingRule<Overflowing, u64>,
+    CAPACITY,
+>;
 
 /// What a caller knows of an overflowing queue.
 pub type Pass = ends::Pass<Overflowing, u64>;
@@ -33,7 +37,7 @@ pub type Producer<'a> = ends::Producer<'a, Overflowing, u64>;
 pub type Consumer<'a> = ends::Consumer<'a, Overflowing, u64>;
 
 impl SafelyOverflowingIndexQueue {
-    /// An empty queue for at most `capacity` numbers, from 0 to 2^32 - 1, and its first pass, which knows nothing.
+    /// An empty queue for at most `capacity` numbers, and its first pass, which knows nothing.
     ///
     /// Refused are, in this order, a capacity above 2^32 - 1 (`ProvidedCapacityGreaterThanMaxCapacity`) and memory
     /// (`NoMemory`). After `SafelyOverflowingIndexQueue::new` of the Rust crate.

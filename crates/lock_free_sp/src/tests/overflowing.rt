@@ -95,10 +95,7 @@ fn an_overflowing_role_is_taken_once(rt: HostRuntime) -> Result<(), Fail> {
 }
 
 /// Pushes 0 to 9,999: the numbers that were handed back.
-fn overflow_all(
-    mut back: Vec<u64>,
-    mut producer: Producer<'_>,
-) -> Result<Vec<u64>, AllocError> {
+fn overflow_all(mut back: Vec<u64>, mut producer: Producer<'_>) -> Result<Vec<u64>, AllocError> {
     for value in 0..10_000 {
         if let Some(old) = producer.push(value) {
             back.push(old)?;

@@ -13,7 +13,7 @@ use std::sync::Arc;
 use steps::value::{FIRST_CELL, PRODUCER, VERSION};
 use steps::words::Words;
 
-/// A value at this version with its role free, and a token that knows the two.
+/// A value at this version with its role free (tests say so, no clause does), and a token that knows value and version.
 pub fn open<T: Words>(
     alloc: Global,
     version: u64,

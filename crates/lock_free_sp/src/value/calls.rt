@@ -9,7 +9,7 @@ use super::drives::{LeavesProducer, Loads, Stores, TakesProducer};
 use super::rule::ValueRule;
 use super::token::Held;
 use std::sync::Wait;
-use steps::copied::{Copied, Room};
+use steps::copied::{Kept, Room};
 use steps::roles::{AcquireRole, ReleaseRole};
 use steps::routine::Routine;
 use steps::value::{Load, PRODUCER, Store};
@@ -53,8 +53,8 @@ impl<T: Words> Held<T, ValueRule<T>> {
         Store::<T>::answer(stored, value, &())
     }
 
-    /// The value that is newest at the last step, by way of this room. 2 + `T::WORDS` steps, and 1 + `T::WORDS` more
-    /// for each time that a store has moved the version.
+    /// The value that is newest at the last step, by way of this room. 2 + `T::WORDS` steps, and at most
+    /// 1 + `T::WORDS` more for each time that a store has moved the version.
     #[inline(always)]
     pub fn load_by<R: Room<T> + Drop>(&mut self, rt: &impl Wait, room: R) -> T
         requires idle { (seen self.old).load ≡ loading.Idle }
@@ -75,6 +75,13 @@ impl<T: Words> Held<T, ValueRule<T>> {
         ensures same { IsSame self.old self.new }
         ensures loaded { HasLoaded result (seen self.old) (seen self.new) }
     {
-        self.load_by(rt, Copied::new())
+        // a room is filled with zeros: the smallest that the words fit in
+        if T::WORDS <= 2 {
+            self.load_by(rt, Kept::<2>::new())
+        } else if T::WORDS <= 16 {
+            self.load_by(rt, Kept::<16>::new())
+        } else {
+            self.load_by(rt, Kept::<128>::new())
+        }
     }
 }

@@ -1,5 +1,5 @@
 -- A length, as a value, keeps the rule at each of its stages.
-use Rattle.std.proofs.Common.{◌≡◌, ◌≢◌, ℕ, ◌+◌, ◌-◌, ◌*◌, ◌%◌, ◌^◌, ◌<◌, ◌≤◌, ◌==◌, if◌then◌else◌, List, [], sym, refl, ap, subst, ◌∙◌, arith}
+use Rattle.std.proofs.Common.{◌≡◌, ℕ, ◌+◌, ◌-◌, ◌*◌, ◌<◌, ◌≤◌, ◌==◌, if◌then◌else◌, List, [], sym, ap, subst, ◌∙◌, arith}
 use Rattle.std.specs.List.{All}
 use Rattle.steps.specs.Picks.{by_eq}
 use Rattle.steps.specs.Ring.{distance}
@@ -16,7 +16,7 @@ use Rattle.lock_free_sp.specs.Ring.Views.{with_len}
 use Rattle.lock_free_sp.specs.Ring.Kept.{Kept}
 use Rattle.lock_free_sp.specs.Ring.Calls.{Stood}
 use Rattle.lock_free_sp.specs.Ring.Tells.{len_saw_write, len_saw_read, len_saw_again, learned}
-use Rattle.lock_free_sp.specs.Ring.Stages.{LenAt, LenStands, LenEnds}
+use Rattle.lock_free_sp.specs.Ring.Stages.{LenAt, LenEnds}
 use Rattle.lock_free_sp.proofs.Driving.{weaker}
 use Rattle.lock_free_sp.proofs.Rules.Ring.Lengths.{len_sees_write, len_sees_read, len_sees_again, learns}
 
@@ -38,9 +38,9 @@ module _ {T : Type 0} (words_of : T → List ℕ) (n spare : ℕ) where
     loads_write =
         weaker (Kept words_of n spare key) words slots id len_saw_write (Tell lens.TheVariants.LoadsWrite) 0 Load (v, [])
         (λ k small w h. (
-              ap (λ (z : View T). z.capacity) h.0,
-              λ base at. (at.0, at.1, (h.0 ∙ ap (with_len (lengths.SawWrite k)) at.2, small, subst (λ (z : View T). All (λ (x : ℕ × T). x.0 < k) z.published) at.2 h.1)),
-            ))
+          ap (λ (z : View T). z.capacity) h.0,
+          λ base at. (at.0, at.1, (h.0 ∙ ap (with_len (lengths.SawWrite k)) at.2, small, subst (λ (z : View T). All (λ (x : ℕ × T). x.0 < k) z.published) at.2 h.1)),
+        ))
         (omega arith, len_sees_write words_of n spare key slots id (v, []))
 
     loads_read : (base : View T) (p : ℕ) → At base (lens.TheVariants.LoadsRead p) → Owe (lens.TheVariants.LoadsRead p)
@@ -48,9 +48,9 @@ module _ {T : Type 0} (words_of : T → List ℕ) (n spare : ℕ) where
         let saw : v.len ≡ lengths.SawWrite p = ap (λ (z : View T). z.len) at₀.2.0 in
         weaker (Kept words_of n spare key) words slots id len_saw_read (Tell (lens.TheVariants.LoadsRead p)) 1 Load (v, [])
         (λ k small w told. let h = told p saw in (
-              ap (λ (z : View T). z.capacity) h.0,
-              λ base at. (at.0, at.1, (h.0 ∙ ap (with_len (lengths.SawBoth p k)) at.2.0, at.2.1, at.2.2, subst (λ (z : View T). All (λ (x : ℕ × T). x.0 < k) z.taken) at.2.0 h.1)),
-            ))
+          ap (λ (z : View T). z.capacity) h.0,
+          λ base at. (at.0, at.1, (h.0 ∙ ap (with_len (lengths.SawBoth p k)) at.2.0, at.2.1, at.2.2, subst (λ (z : View T). All (λ (x : ℕ × T). x.0 < k) z.taken) at.2.0 h.1)),
+        ))
         (omega arith, len_sees_read words_of n spare key slots id (v, []) p saw)
 
     loads_write_again : (base : View T) (p r : ℕ) → At base (lens.TheVariants.LoadsWriteAgain p r) → Owe (lens.TheVariants.LoadsWriteAgain p r)
@@ -58,39 +58,42 @@ module _ {T : Type 0} (words_of : T → List ℕ) (n spare : ℕ) where
         let saw : v.len ≡ lengths.SawBoth p r = ap (λ (z : View T). z.len) at₀.2.0 in
         weaker (Kept words_of n spare key) words slots id (len_saw_again spare) (Tell (lens.TheVariants.LoadsWriteAgain p r)) 0 Load (v, [])
         (λ k small w told.
-              let h = told p r saw in (
-                ap (λ (z : View T). z.capacity) h.0,
-                λ base at.
-                    let idle : w ≡ base = h.0 ∙ (ap (with_len lengths.Idle) at.2.0 ∙ ap (λ s. with_len s base) (sym at.0)) in
-                    let same : v.capacity ≡ base.capacity = ap (λ (z : View T). z.capacity) at.2.0 in
-                    by_eq (λ a. Goes base a w) k p (GoOn (at_len c (lens.TheVariants.LoadsReadAgain p r))) (GoOn (first_len c.capacity))
-                    (λ e. let stood = h.1 e in (at.0, at.1, (idle, at.2.1, stood.0, (let within = stood.1 in omega arith), at.2.2, at.2.3)))
-                    (λ ne. (at.0, at.1, idle)),
-              ))
+        let h = told p r saw in (
+          ap (λ (z : View T). z.capacity) h.0,
+          λ base at.
+              let idle : w ≡ base = h.0 ∙ (ap (with_len lengths.Idle) at.2.0 ∙ ap (λ s. with_len s base) (sym at.0)) in
+              let same : v.capacity ≡ base.capacity = ap (λ (z : View T). z.capacity) at.2.0 in
+              by_eq (λ a. Goes base a w) k p (GoOn (at_len c (lens.TheVariants.LoadsReadAgain p r))) (GoOn (first_len c.capacity))
+              (λ e. let stood = h.1 e in (at.0, at.1, (idle, at.2.1, stood.0, (let within = stood.1 in omega arith), at.2.2, at.2.3)))
+              (λ ne. (at.0, at.1, idle)),
+        ))
         (omega arith, len_sees_again words_of n spare key slots id (v, []) p r saw cap)
 
     loads_read_again : (base : View T) (p r : ℕ) → At base (lens.TheVariants.LoadsReadAgain p r) → Owe (lens.TheVariants.LoadsReadAgain p r)
     loads_read_again base₀ p r at₀ =
         weaker (Kept words_of n spare key) words slots id (learned spare) (Tell (lens.TheVariants.LoadsReadAgain p r)) 1 Load (v, [])
         (λ k small w h. (
-              ap (λ (z : View T). z.capacity) h.0,
-              λ base at.
-                  let idle : w ≡ base = h.0 ∙ at.2.0 in
-                  let big = at.2.1 in
-                  let behind = at.2.2 in
-                  let far : distance p r ≡ p - r = omega arith in
-                  by_eq (λ a. Goes base a w) k r (Done (number_waiting c.capacity p r)) (GoOn (first_len c.capacity))
-                  (λ e. (idle, record {
-                    write = p;
-                    read = r;
-                    number = ap (λ (z : ℕ × ℕ). if z.0 == 0 then 0 else z.1) (λ i. (at.1 i, far i));
-                    behind = behind;
-                    within = at.2.3;
-                    published = at.2.4;
-                    taken = at.2.5;
-                  }))
-                  (λ ne. (at.0, at.1, idle)),
-            ))
+          ap (λ (z : View T). z.capacity) h.0,
+          λ base at.
+              let idle : w ≡ base = h.0 ∙ at.2.0 in
+              let big = at.2.1 in
+              let behind = at.2.2 in
+              let far : distance p r ≡ p - r = omega arith in
+              by_eq (λ a. Goes base a w) k r (Done (number_waiting c.capacity p r)) (GoOn (first_len c.capacity))
+              (λ e. (
+                idle,
+                record {
+                  write = p;
+                  read = r;
+                  number = ap (λ (z : ℕ × ℕ). if z.0 == 0 then 0 else z.1) (λ i. (at.1 i, far i));
+                  behind = behind;
+                  within = at.2.3;
+                  published = at.2.4;
+                  taken = at.2.5;
+                },
+              ))
+              (λ ne. (at.0, at.1, idle)),
+        ))
         (omega arith, learns words_of n spare key slots id (v, []) 1 cap)
 
     stage_owes : (base : View T) (stage : lens.LenStage) → At base stage → Owe stage

@@ -1,5 +1,5 @@
 -- A pop of the overflowing queue, as a value, keeps the rule at each of its stages.
-use Rattle.std.proofs.Common.{◌≡◌, ◌≢◌, ℕ, ◌+◌, ◌-◌, ◌*◌, ◌%◌, ◌^◌, ◌<◌, ◌≤◌, ◌==◌, Bool, true, false, List, [], ◌∷◌, sym, refl, ap, subst, ◌∙◌, arith}
+use Rattle.std.proofs.Common.{◌≡◌, ℕ, ◌+◌, ◌*◌, ◌%◌, ◌<◌, ◌==◌, Bool, true, false, List, [], ◌∷◌, sym, refl, ap, subst, ◌∙◌, arith}
 use Rattle.std.specs.List.{All}
 use Rattle.atomic_table.specs.Table.{Allows, step}
 use Rattle.steps.specs.Picks.{by_eq}
@@ -15,7 +15,6 @@ use Rattle.lock_free_sp.specs.declared.ring.view.View.{View}
 use Rattle.lock_free_sp.specs.declared.ring.view.PopStage.TheVariants as popping
 use Rattle.lock_free_sp.specs.Driver.{Told, Next, KeepsRule, Owes}
 use Rattle.lock_free_sp.specs.Ring.Views.{with_pop, popped}
-use Rattle.lock_free_sp.specs.Ring.Calls.{HasTaken}
 use Rattle.lock_free_sp.specs.Ring.Kept.{Kept}
 use Rattle.lock_free_sp.specs.Ring.Tells.{place, saw_front_to_pop, saw_some, copied, TookFront, took_front, tells}
 use Rattle.lock_free_sp.specs.Ring.Stages.{PopOverAt, PopOverEnds}
@@ -55,12 +54,12 @@ module _ (v : View ℕ) (c : Pop) (room : OneWord) (key words slots id : ℕ) (s
       let saw : v.pop ≡ popping.SawRead p = ap (λ (z : View ℕ). z.pop) at₀.2 in
       weaker (Kept words_of 1 1 key) words slots id saw_some (Tell (pops.TheVariants.LoadsWrite p)) 0 Load (v, [])
       (λ k small w told.
-            let h = told p saw in (
-              dite (ℕ_discrete p k) (λ e. ap (λ (z : View ℕ). z.capacity) (h.1 e)) (λ ne. ap (λ (z : View ℕ). z.capacity) (h.0 ne).0),
-              λ base at. by_eq (λ a. Goes base a w) k p (Done false) (GoOn (at_pop c (pops.TheVariants.LoadsCell p)))
-                  (λ e. h.1 (sym e) ∙ (ap (with_pop popping.Ready) at.2 ∙ ap (λ s. with_pop s base) (sym at.0)))
-                  (λ ne. let some = h.0 (λ e. ne (sym e)) in (at.0, at.1, (some.0 ∙ ap (with_pop (popping.SawSome p)) at.2, some.1))),
-            ))
+      let h = told p saw in (
+        dite (ℕ_discrete p k) (λ e. ap (λ (z : View ℕ). z.capacity) (h.1 e)) (λ ne. ap (λ (z : View ℕ). z.capacity) (h.0 ne).0),
+        λ base at. by_eq (λ a. Goes base a w) k p (Done false) (GoOn (at_pop c (pops.TheVariants.LoadsCell p)))
+            (λ e. h.1 (sym e) ∙ (ap (with_pop popping.Ready) at.2 ∙ ap (λ s. with_pop s base) (sym at.0)))
+            (λ ne. let some = h.0 (λ e. ne (sym e)) in (at.0, at.1, (some.0 ∙ ap (with_pop (popping.SawSome p)) at.2, some.1))),
+      ))
       (omega arith, sees_some words_of 1 1 key slots id (v, []) refl p saw)
 
   loads_cell : (base : View ℕ) (p : ℕ) → At base (pops.TheVariants.LoadsCell p) → Owe (pops.TheVariants.LoadsCell p)
@@ -84,14 +83,14 @@ module _ (v : View ℕ) (c : Pop) (room : OneWord) (key words slots id : ℕ) (s
       let next : after_position p ≡ p + 1 = omega arith in
       weaker (Kept words_of 1 1 key) words slots id (took_front words_of) (Tell (pops.TheVariants.MovesRead p)) 1 (Exchange p (after_position p)) (v, [])
       (λ k small w told.
-            let h : TookFront words_of v k w p x = told p x is in (
-              h.size,
-              λ base at. by_eq (λ a. Goes base a w) k p (Done true) (GoOn (at_pop c (pops.TheVariants.LoadsCell k)))
-                  (λ e.
-                  let t = h.taken e in
-                  record { position = p; adds = t.2 ∙ (ap (λ z. popped p z v) t.1 ∙ ap (popped p x) at.2.0); above = subst (λ (z : View ℕ). All (λ (y : ℕ × ℕ). y.0 < p) z.taken) at.2.0 t.3; sound = t.4 })
-                  (λ ne. let m = h.moved ne in (at.0, at.1, (m.0 ∙ ap (with_pop (popping.SawSome k)) at.2.0, m.1))),
-            ))
+      let h : TookFront words_of v k w p x = told p x is in (
+        h.size,
+        λ base at. by_eq (λ a. Goes base a w) k p (Done true) (GoOn (at_pop c (pops.TheVariants.LoadsCell k)))
+            (λ e.
+            let t = h.taken e in
+            record { position = p; adds = t.2 ∙ (ap (λ z. popped p z v) t.1 ∙ ap (popped p x) at.2.0); above = subst (λ (z : View ℕ). All (λ (y : ℕ × ℕ). y.0 < p) z.taken) at.2.0 t.3; sound = t.4 })
+            (λ ne. let m = h.moved ne in (at.0, at.1, (m.0 ∙ ap (with_pop (popping.SawSome k)) at.2.0, m.1))),
+      ))
       (omega arith, subst (λ z. Allows (Kept words_of 1 1 key) slots id (v, []) 1 (λ y. either (y == p) z y) (tells (took_front words_of) (step slots 1 p z none) (v, []))) (sym next) (takes_front words_of 1 1 key slots id (v, []) refl p x is))
 
   stage_owes : (base : View ℕ) (stage : pops.PopStage) → At base stage → Owe stage

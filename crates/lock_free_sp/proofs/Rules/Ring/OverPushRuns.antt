@@ -1,5 +1,5 @@
 -- A push of the overflowing queue, as a value, keeps the rule at each of its stages.
-use Rattle.std.proofs.Common.{◌≡◌, ◌≢◌, ℕ, ◌+◌, ◌-◌, ◌*◌, ◌%◌, ◌^◌, ◌<◌, ◌≤◌, ◌==◌, Some, List, [], ◌∷◌, length, slice_index, sym, refl, ap, subst, ◌∙◌, arith, inl, inr}
+use Rattle.std.proofs.Common.{◌≡◌, ◌≢◌, ℕ, ◌+◌, ◌-◌, ◌*◌, ◌%◌, ◌^◌, ◌<◌, ◌==◌, Some, List, [], ◌∷◌, slice_index, sym, refl, ap, subst, ◌∙◌, arith, inl, inr}
 use Rattle.std.specs.List.{All}
 use Rattle.atomic_table.specs.Table.{Allows, step}
 use Rattle.steps.specs.Picks.{by_eq}
@@ -12,16 +12,15 @@ use Rattle.steps.specs.declared.copied.OneWord.{OneWord}
 use Rattle.steps.specs.declared.overflow.Push.{Push}
 use Rattle.steps.specs.declared.overflow.PushStage as pushes
 use Rattle.steps.specs.declared.overflow.PushEnd.{PushEnd}
-use Rattle.steps.specs.declared.overflow.PushEnd.TheVariants.{Added, Own, Oldest}
+use Rattle.steps.specs.declared.overflow.PushEnd.TheVariants.{Added, Own}
 use Rattle.lock_free_sp.specs.declared.ring.view.View.{View}
 use Rattle.lock_free_sp.specs.declared.ring.view.PushStage.TheVariants as pushing
 use Rattle.lock_free_sp.specs.Driver.{Told, Next, KeepsRule, Owes}
 use Rattle.lock_free_sp.specs.Ring.Views.{with_push, pushed, handed_back}
 use Rattle.lock_free_sp.specs.Ring.Between.{Below, Sound}
-use Rattle.lock_free_sp.specs.Ring.Calls.{HasAdded, HasReplaced, WasHandedBack}
 use Rattle.lock_free_sp.specs.Ring.Kept.{Kept}
 use Rattle.lock_free_sp.specs.Ring.Tells.{place, with_word, saw_write, SawFront, saw_front, stored, PublishedOver, published_over, TookBack, took_back, loaded_back, tells}
-use Rattle.lock_free_sp.specs.Ring.Stages.{PushOverAt, PushOverStands, PushOverEnds, Follows, HasRoom}
+use Rattle.lock_free_sp.specs.Ring.Stages.{PushOverAt, PushOverEnds, Follows}
 use Rattle.lock_free_sp.proofs.Driving.{weaker}
 use Rattle.lock_free_sp.proofs.Rules.Ring.Lists.{place_within}
 use Rattle.lock_free_sp.proofs.Rules.Ring.Pushes.{sees_write, stores_word}
@@ -58,13 +57,13 @@ module _ (v : View ℕ) (c : Push) (x : ℕ) (room : OneWord) (key words slots i
       let ready : v.push ≡ pushing.Ready = ap (λ (z : View ℕ). z.push) at₀.2.0 ∙ at₀.0 in
       weaker (Kept words_of 1 1 key) words slots id saw_write (Tell pushes.TheVariants.LoadsWrite) 0 Load (v, [])
       (λ k small w h. (
-            dite (ℕ_discrete k (2 ^ 64 - 1)) (λ e. ap (λ (z : View ℕ). z.capacity) (h.0 e)) (λ ne. ap (λ (z : View ℕ). z.capacity) (h.1 ne)),
-            λ base at.
-                let follows : (q : ℕ) → base.last_push ≡ Some q → k ≡ q + 1 = λ q last. h.2 q (ap (λ (z : View ℕ). z.last_push) at.2.0 ∙ last) in
-                by_eq (λ a. Goes base a room w) k (2 ^ 64 - 1) (Done Own) (GoOn (at_push c (pushes.TheVariants.LoadsRead k)))
-                (λ e. record { own = refl; same = h.0 e ∙ at.2.0; end = inr (λ q last. let f = follows q last in omega arith) })
-                (λ ne. (at.0, at.1, (h.1 ne ∙ ap (with_push (pushing.SawWrite k)) at.2.0, at.2.1, omega arith, follows))),
-          ))
+        dite (ℕ_discrete k (2 ^ 64 - 1)) (λ e. ap (λ (z : View ℕ). z.capacity) (h.0 e)) (λ ne. ap (λ (z : View ℕ). z.capacity) (h.1 ne)),
+        λ base at.
+            let follows : (q : ℕ) → base.last_push ≡ Some q → k ≡ q + 1 = λ q last. h.2 q (ap (λ (z : View ℕ). z.last_push) at.2.0 ∙ last) in
+            by_eq (λ a. Goes base a room w) k (2 ^ 64 - 1) (Done Own) (GoOn (at_push c (pushes.TheVariants.LoadsRead k)))
+            (λ e. record { own = refl; same = h.0 e ∙ at.2.0; end = inr (λ q last. let f = follows q last in omega arith) })
+            (λ ne. (at.0, at.1, (h.1 ne ∙ ap (with_push (pushing.SawWrite k)) at.2.0, at.2.1, omega arith, follows))),
+      ))
       (omega arith, sees_write words_of 1 1 key slots id (v, []) ready)
 
   loads_read : (base : View ℕ) (p : ℕ) → At base (pushes.TheVariants.LoadsRead p) → Owe (pushes.TheVariants.LoadsRead p)
@@ -72,14 +71,14 @@ module _ (v : View ℕ) (c : Push) (x : ℕ) (room : OneWord) (key words slots i
       let saw : v.push ≡ pushing.SawWrite p = ap (λ (z : View ℕ). z.push) at₀.2.0 in
       weaker (Kept words_of 1 1 key) words slots id saw_front (Tell (pushes.TheVariants.LoadsRead p)) 1 Load (v, [])
       (λ k small w told.
-            let h : SawFront v k w p = told p saw in (
-              ap (λ (z : View ℕ). z.capacity) h.view,
-              λ base at.
-                  let same : v.capacity ≡ base.capacity = ap (λ (z : View ℕ). z.capacity) at.2.0 in
-                  let own = at.1 in
-                  let within = h.within in
-                  (at.0, at.1, (h.view ∙ ap (with_push (pushing.Storing p k [])) at.2.0, at.2.1, at.2.2, h.behind, omega arith)),
-            ))
+      let h : SawFront v k w p = told p saw in (
+        ap (λ (z : View ℕ). z.capacity) h.view,
+        λ base at.
+            let same : v.capacity ≡ base.capacity = ap (λ (z : View ℕ). z.capacity) at.2.0 in
+            let own = at.1 in
+            let within = h.within in
+            (at.0, at.1, (h.view ∙ ap (with_push (pushing.Storing p k [])) at.2.0, at.2.1, at.2.2, h.behind, omega arith)),
+      ))
       (omega arith, sees_front words_of 1 1 key slots id (v, []) refl p saw cap)
 
   stores_cell : (base : View ℕ) (p r : ℕ) → At base (pushes.TheVariants.StoresCell p r) → Owe (pushes.TheVariants.StoresCell p r)
@@ -93,11 +92,11 @@ module _ (v : View ℕ) (c : Push) (x : ℕ) (room : OneWord) (key words slots i
       let inside = place_within (key + 1) 1 p 0 (omega arith) (omega arith) in
       weaker (Kept words_of 1 1 key) words slots id stored (Tell (pushes.TheVariants.StoresCell p r)) word (Store x) (v, [])
       (λ k small w h. (
-            ap (λ (z : View ℕ). z.capacity) h,
-            λ base at.
-                let is' : v.push ≡ pushing.Storing p r [] = ap (λ (z : View ℕ). z.push) at.2.0 in
-                (at.0, at.1, (h ∙ (ap (λ s. with_push (with_word x s) v) is' ∙ ap (with_push (pushing.Storing p r (x ∷ []))) at.2.0), at.2.1, at.2.2, at.2.3, at.2.4)),
-          ))
+        ap (λ (z : View ℕ). z.capacity) h,
+        λ base at.
+            let is' : v.push ≡ pushing.Storing p r [] = ap (λ (z : View ℕ). z.push) at.2.0 in
+            (at.0, at.1, (h ∙ (ap (λ s. with_push (with_word x s) v) is' ∙ ap (with_push (pushing.Storing p r (x ∷ []))) at.2.0), at.2.1, at.2.2, at.2.3, at.2.4)),
+      ))
       (subst (λ z. word < z) (sym size) (subst (λ z. z < 1 * (key + 1) + 4) (sym there) inside), stores_word words_of 1 1 key slots id (v, []) p r x word [] is (omega arith) there)
 
   stores_write : (base : View ℕ) (p r : ℕ) → At base (pushes.TheVariants.StoresWrite p r) → Owe (pushes.TheVariants.StoresWrite p r)
@@ -107,28 +106,28 @@ module _ (v : View ℕ) (c : Push) (x : ℕ) (room : OneWord) (key words slots i
       let next : after_position p ≡ p + 1 = omega arith in
       weaker (Kept words_of 1 1 key) words slots id (published_over words_of) (Tell (pushes.TheVariants.StoresWrite p r)) 0 (Store (after_position p)) (v, [])
       (λ k small' w told.
-            let h : PublishedOver v w p r x = told p r x is in (
-              h.size,
-              λ base at.
-                  let same : v.capacity ≡ base.capacity = ap (λ (z : View ℕ). z.capacity) at.2.0 in
-                  let own = at.1 in
-                  let behind = at.2.3 in
-                  let within = at.2.4 in
-                  let below = at.2.2 in
-                  let far : distance p r ≡ p - r = omega arith in
-                  let above : Below p base = subst (λ (z : View ℕ). Below p z) at.2.0 h.above in
-                  let follows : (q : ℕ) → base.last_push ≡ Some q → p ≡ q + 1 = λ q last. h.next q (ap (λ (z : View ℕ). z.last_push) at.2.0 ∙ last) in
-                  by_eq (λ a. Goes base a room w) (distance p r) c.capacity (GoOn (at_push c (pushes.TheVariants.MovesRead r))) (Done Added)
-                  (λ e.
-                  let full : p ≡ r + v.capacity = omega arith in
-                  let now : w ≡ with_push (pushing.Full r) (pushed p x base) = h.over full ∙ ap (λ z. with_push (pushing.Full r) (pushed p x z)) at.2.0 in
-                  let so : Sound (with_push (pushing.Full r) (pushed p x base)) = subst Sound now h.sound in
-                  (at.0, at.1, (p, now, at.2.1, omega arith, (below, above, follows), record { published = so.published; taken = so.taken; values = so.values; last_push = so.last_push })))
-                  (λ ne.
-                  let roomy : p ≢ r + v.capacity = λ e. ne (omega arith) in
-                  let some : 0 < base.capacity = let some' = at.2.1 in omega arith in
-                  (record { position = p; adds = h.view roomy ∙ ap (pushed p x) at.2.0; above = above; next = follows; sound = h.sound }, (some, λ q last. let f = follows q last in omega arith))),
-            ))
+      let h : PublishedOver v w p r x = told p r x is in (
+        h.size,
+        λ base at.
+            let same : v.capacity ≡ base.capacity = ap (λ (z : View ℕ). z.capacity) at.2.0 in
+            let own = at.1 in
+            let behind = at.2.3 in
+            let within = at.2.4 in
+            let below = at.2.2 in
+            let far : distance p r ≡ p - r = omega arith in
+            let above : Below p base = subst (λ (z : View ℕ). Below p z) at.2.0 h.above in
+            let follows : (q : ℕ) → base.last_push ≡ Some q → p ≡ q + 1 = λ q last. h.next q (ap (λ (z : View ℕ). z.last_push) at.2.0 ∙ last) in
+            by_eq (λ a. Goes base a room w) (distance p r) c.capacity (GoOn (at_push c (pushes.TheVariants.MovesRead r))) (Done Added)
+            (λ e.
+            let full : p ≡ r + v.capacity = omega arith in
+            let now : w ≡ with_push (pushing.Full r) (pushed p x base) = h.over full ∙ ap (λ z. with_push (pushing.Full r) (pushed p x z)) at.2.0 in
+            let so : Sound (with_push (pushing.Full r) (pushed p x base)) = subst Sound now h.sound in
+            (at.0, at.1, (p, now, at.2.1, omega arith, (below, above, follows), record { published = so.published; taken = so.taken; values = so.values; last_push = so.last_push })))
+            (λ ne.
+            let roomy : p ≢ r + v.capacity = λ e. ne (omega arith) in
+            let some : 0 < base.capacity = let some' = at.2.1 in omega arith in
+            (record { position = p; adds = h.view roomy ∙ ap (pushed p x) at.2.0; above = above; next = follows; sound = h.sound }, (some, λ q last. let f = follows q last in omega arith))),
+      ))
       (omega arith, subst (λ z. Allows (Kept words_of 1 1 key) slots id (v, []) 0 (λ _. z) (λ _. tells (published_over words_of) (step slots 0 z 0 none) (v, []) z)) (sym next) (publishes_over words_of 1 1 key slots id (v, []) refl value_of (λ y. refl) (λ y. refl) cap p r x is))
 
   moves_read : (base : View ℕ) (r : ℕ) → At base (pushes.TheVariants.MovesRead r) → Owe (pushes.TheVariants.MovesRead r)
@@ -141,25 +140,25 @@ module _ (v : View ℕ) (c : Push) (x : ℕ) (room : OneWord) (key words slots i
       let next : after_position r ≡ r + 1 = omega arith in
       weaker (Kept words_of 1 1 key) words slots id (took_back words_of) (Tell (pushes.TheVariants.MovesRead r)) 1 (Exchange r (after_position r)) (v, [])
       (λ k small' w told.
-            let h : TookBack words_of v k w r = told r is in (
-              h.size,
-              λ base at.
-                  let p : ℕ = at.2.0 in
-                  let view : v ≡ with_push (pushing.Full r) (pushed p x base) = at.2.1 in
-                  let follows : Follows base p = at.2.4 in
-                  by_eq (λ a. Goes base a room w) k r (GoOn (at_push c (pushes.TheVariants.LoadsCell r))) (Done Added)
-                  (λ e.
-                  let t = h.taken e in
-                  let y : ℕ = t.0 in
-                  let now : w ≡ with_push (pushing.HandsBack r (y ∷ [])) (handed_back r y (pushed p x base)) = t.1 ∙ ap (λ z. with_push (pushing.HandsBack r (y ∷ [])) (handed_back r y z)) view in
-                  let so : Sound (with_push (pushing.HandsBack r (y ∷ [])) (handed_back r y (pushed p x base))) = subst Sound now t.3 in
-                  (at.0, at.1, (p, y, now, at.2.2, at.2.3, follows, subst (λ (z : View ℕ). All (λ (z' : ℕ × ℕ). z'.0 < r) z.taken) view t.2, record { published = so.published; taken = so.taken; values = so.values; last_push = so.last_push })))
-                  (λ ne.
-                  let now : w ≡ pushed p x base = h.moved ne ∙ ap (with_push pushing.Ready) view in
-                  let room' : 0 < base.capacity = let own' = at.1 in let some' = at.2.2 in omega arith in
-                  let below = follows.0 in
-                  (record { position = p; adds = now; above = follows.1; next = follows.2; sound = subst Sound (sym now) at.2.5 }, (room', λ q last. let f = follows.2 q last in omega arith))),
-            ))
+      let h : TookBack words_of v k w r = told r is in (
+        h.size,
+        λ base at.
+            let p : ℕ = at.2.0 in
+            let view : v ≡ with_push (pushing.Full r) (pushed p x base) = at.2.1 in
+            let follows : Follows base p = at.2.4 in
+            by_eq (λ a. Goes base a room w) k r (GoOn (at_push c (pushes.TheVariants.LoadsCell r))) (Done Added)
+            (λ e.
+            let t = h.taken e in
+            let y : ℕ = t.0 in
+            let now : w ≡ with_push (pushing.HandsBack r (y ∷ [])) (handed_back r y (pushed p x base)) = t.1 ∙ ap (λ z. with_push (pushing.HandsBack r (y ∷ [])) (handed_back r y z)) view in
+            let so : Sound (with_push (pushing.HandsBack r (y ∷ [])) (handed_back r y (pushed p x base))) = subst Sound now t.3 in
+            (at.0, at.1, (p, y, now, at.2.2, at.2.3, follows, subst (λ (z : View ℕ). All (λ (z' : ℕ × ℕ). z'.0 < r) z.taken) view t.2, record { published = so.published; taken = so.taken; values = so.values; last_push = so.last_push })))
+            (λ ne.
+            let now : w ≡ pushed p x base = h.moved ne ∙ ap (with_push pushing.Ready) view in
+            let room' : 0 < base.capacity = let own' = at.1 in let some' = at.2.2 in omega arith in
+            let below = follows.0 in
+            (record { position = p; adds = now; above = follows.1; next = follows.2; sound = subst Sound (sym now) at.2.5 }, (room', λ q last. let f = follows.2 q last in omega arith))),
+      ))
       (omega arith, subst (λ z. Allows (Kept words_of 1 1 key) slots id (v, []) 1 (λ y. either (y == r) z y) (tells (took_back words_of) (step slots 1 r z none) (v, []))) (sym next) (takes_back words_of 1 1 key slots id (v, []) refl (λ y. refl) (omega arith) r is))
 
   loads_cell : (base : View ℕ) (r : ℕ) → At base (pushes.TheVariants.LoadsCell r) → Owe (pushes.TheVariants.LoadsCell r)
@@ -174,19 +173,19 @@ module _ (v : View ℕ) (c : Push) (x : ℕ) (room : OneWord) (key words slots i
       let inside = place_within (key + 1) 1 r 0 (omega arith) (omega arith) in
       weaker (Kept words_of 1 1 key) words slots id loaded_back (Tell (pushes.TheVariants.LoadsCell r)) word Load (v, [])
       (λ k small w h. (
-            ap (λ (z : View ℕ). z.capacity) h.0,
-            λ base at.
-                let p : ℕ = at.2.0 in
-                let y : ℕ = at.2.1 in
-                let view : v ≡ with_push (pushing.HandsBack r (y ∷ [])) (handed_back r y (pushed p x base)) = at.2.2 in
-                let found : k ≡ y = h.1 r (y ∷ []) (ap (λ (z : View ℕ). z.push) view) in
-                let now : w ≡ handed_back r k (pushed p x base) = h.0 ∙ (ap (with_push pushing.Ready) view ∙ ap (λ z. handed_back r z (pushed p x base)) (sym found)) in
-                let follows : Follows base p = at.2.5 in
-                let room' : 0 < base.capacity = let own' = at.1 in let some' = at.2.3 in omega arith in
-                let so : Sound (handed_back r k (pushed p x base)) = subst (λ z. Sound (handed_back r z (pushed p x base))) (sym found) at.2.7 in
-                let below = follows.0 in
-                (record { position = p; oldest = r; adds = now; above = follows.1; next = follows.2; taken = at.2.6; sound = subst Sound (sym now) so }, (room', λ q last. let f = follows.2 q last in omega arith)),
-          ))
+        ap (λ (z : View ℕ). z.capacity) h.0,
+        λ base at.
+            let p : ℕ = at.2.0 in
+            let y : ℕ = at.2.1 in
+            let view : v ≡ with_push (pushing.HandsBack r (y ∷ [])) (handed_back r y (pushed p x base)) = at.2.2 in
+            let found : k ≡ y = h.1 r (y ∷ []) (ap (λ (z : View ℕ). z.push) view) in
+            let now : w ≡ handed_back r k (pushed p x base) = h.0 ∙ (ap (with_push pushing.Ready) view ∙ ap (λ z. handed_back r z (pushed p x base)) (sym found)) in
+            let follows : Follows base p = at.2.5 in
+            let room' : 0 < base.capacity = let own' = at.1 in let some' = at.2.3 in omega arith in
+            let so : Sound (handed_back r k (pushed p x base)) = subst (λ z. Sound (handed_back r z (pushed p x base))) (sym found) at.2.7 in
+            let below = follows.0 in
+            (record { position = p; oldest = r; adds = now; above = follows.1; next = follows.2; taken = at.2.6; sound = subst Sound (sym now) so }, (room', λ q last. let f = follows.2 q last in omega arith)),
+      ))
       (subst (λ z. word < z) (sym size) (subst (λ z. z < 1 * (key + 1) + 4) (sym there) inside), loads_back words_of 1 1 key slots id (v, []) refl r word (y₀ ∷ []) is (omega arith) there)
 
   stage_owes : (base : View ℕ) (stage : pushes.PushStage) → At base stage → Owe stage

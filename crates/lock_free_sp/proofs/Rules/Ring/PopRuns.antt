@@ -1,9 +1,10 @@
 -- A pop of the bounded queue, as a value, keeps the rule at each of its stages.
-use Rattle.std.proofs.Common.{◌≡◌, ◌≢◌, ℕ, ◌+◌, ◌-◌, ◌*◌, ◌%◌, ◌^◌, ◌<◌, ◌≤◌, ◌==◌, Bool, true, false, nat_lt, slice_index, slice_set, get_or, Some, List, [], length, take, sym, refl, ap, subst, ◌∙◌, arith, length-set}
+use Rattle.std.proofs.Common.{◌≡◌, ℕ, ◌+◌, ◌*◌, ◌<◌, ◌≤◌, Bool, false, nat_lt, slice_index, slice_set, List, [], length, sym, refl, ap, subst, ◌∙◌, arith, length-set}
 use Rattle.std.specs.List.{All}
 use Rattle.std.proofs.lemmas.Bool.Decides.{nat_tests}
 use Rattle.std.proofs.lemmas.List.Elements.{All-weaker}
 use Rattle.atomic_table.specs.Table.{Allows, step}
+use Rattle.steps.specs.Copied.{value_in}
 use Rattle.steps.specs.Picks.{by_test, by_either}
 use Rattle.steps.specs.Ring.{cell_word, after_position, word_at, at_pop, pop_want, pop_after, pop_kept}
 use Rattle.steps.specs.declared.ask.Op.TheVariants.{Load, Store}
@@ -18,18 +19,18 @@ use Rattle.lock_free_sp.specs.Ring.Views.{with_pop, popped}
 use Rattle.lock_free_sp.specs.Ring.Calls.{HasPopped, WasEmpty}
 use Rattle.lock_free_sp.specs.Ring.Kept.{Kept}
 use Rattle.lock_free_sp.specs.Ring.Tells.{place, saw_read, SawValue, saw_value, loaded, Taken, taken_at, tells}
-use Rattle.lock_free_sp.specs.Ring.Stages.{PopAt, PopStands, PopEnds}
-use Rattle.lock_free_sp.proofs.Driving.{weaker}
+use Rattle.lock_free_sp.specs.Ring.Stages.{PopAt, PopEnds}
+use Rattle.lock_free_sp.proofs.Driving.{weaker, enough}
 use Rattle.lock_free_sp.proofs.Rules.Ring.Lists.{place_within, cell_is, one_more, whole}
 use Rattle.lock_free_sp.proofs.Rules.Ring.Pops.{sees_read, sees_value, loads_word, takes}
 use mathlib.Core.Logic.{dite}
 use mathlib.Core.Option.{none}
 use native.Mathlib.Decide.{ℕ_discrete}
 
-module _ {T R : Type 0} (words_of : T → List ℕ) (n : ℕ) (sized : (y : T) → length (words_of y) ≡ n) (some : 1 ≤ n) (words_in : R → List ℕ) (with_word : R → ℕ → ℕ → R) (put_in : (x : R) (at word : ℕ) → words_in (with_word x at word) ≡ slice_set (words_in x) at word) where
+module _ {T R : Type 0} (words_of : T → List ℕ) (value_of : List ℕ → T) (n : ℕ) (given_back : (y : T) → value_of (words_of y) ≡ y) (sized : (y : T) → length (words_of y) ≡ n) (some : 1 ≤ n) (words_in : R → List ℕ) (with_word : R → ℕ → ℕ → R) (put_in : (x : R) (at word : ℕ) → words_in (with_word x at word) ≡ slice_set (words_in x) at word) where
   module _ (v : View T) (c : Pop T R) (room : R) (key words slots id : ℕ) (size : words ≡ n * (key + 0) + 4) (cap : v.capacity ≡ key) where
     abbrev Tell : pops.PopStage → View T → ℕ → View T → Type 0
-    Tell stage = Told (λ (z : View T). z.capacity) (PopAt words_of n words_in) (PopEnds words_of n words_in) (λ d k. pop_after n d k) (pop_kept with_word) (at_pop c stage) room
+    Tell stage = Told (λ (z : View T). z.capacity) (PopAt words_of n words_in) (PopEnds value_of n words_in) (λ d k. pop_after n d k) (pop_kept with_word) (at_pop c stage) room
 
     abbrev Owe : pops.PopStage → Type 0
     Owe stage = Owes (Kept words_of n 0 key) words slots id (Tell stage) (pop_want (at_pop c stage)) (v, [])
@@ -38,16 +39,16 @@ module _ {T R : Type 0} (words_of : T → List ℕ) (n : ℕ) (sized : (y : T) �
     At base stage = PopAt words_of n words_in base v (at_pop c stage) room
 
     abbrev Goes : View T → After (Pop T R) Bool → R → View T → Type 0
-    Goes base after m w = Next (λ (z : View T). z.capacity) (PopAt words_of n words_in) (PopEnds words_of n words_in) base after m w
+    Goes base after m w = Next (λ (z : View T). z.capacity) (PopAt words_of n words_in) (PopEnds value_of n words_in) base after m w
 
     loads_read : (base : View T) → At base pops.TheVariants.LoadsRead → Owe pops.TheVariants.LoadsRead
     loads_read base₀ at₀ =
         let ready : v.pop ≡ popping.Ready = ap (λ (z : View T). z.pop) at₀.4 ∙ at₀.0 in
         weaker (Kept words_of n 0 key) words slots id saw_read (Tell pops.TheVariants.LoadsRead) 1 Load (v, [])
         (λ k small w h. (
-              ap (λ (z : View T). z.capacity) h.0,
-              λ base at. (at.0, at.1, at.2, at.3, (h.0 ∙ ap (with_pop (popping.SawRead k)) at.4, small, λ q last. h.1 q (ap (λ (z : View T). z.last_pop) at.4 ∙ last))),
-            ))
+          ap (λ (z : View T). z.capacity) h.0,
+          λ base at. (at.0, at.1, at.2, at.3, (h.0 ∙ ap (with_pop (popping.SawRead k)) at.4, small, λ q last. h.1 q (ap (λ (z : View T). z.last_pop) at.4 ∙ last))),
+        ))
         (omega arith, sees_read words_of n 0 key slots id (v, []) refl ready)
 
     loads_write : (base : View T) (p : ℕ) → At base (pops.TheVariants.LoadsWrite p) → Owe (pops.TheVariants.LoadsWrite p)
@@ -55,29 +56,29 @@ module _ {T R : Type 0} (words_of : T → List ℕ) (n : ℕ) (sized : (y : T) �
         let saw : v.pop ≡ popping.SawRead p = ap (λ (z : View T). z.pop) at₀.4.0 in
         weaker (Kept words_of n 0 key) words slots id saw_value (Tell (pops.TheVariants.LoadsWrite p)) 0 Load (v, [])
         (λ k small w told.
-              let h : SawValue v k w p = told p saw in (
-                dite (ℕ_discrete p k) (λ e. ap (λ (z : View T). z.capacity) (h.none e).0) (λ ne. ap (λ (z : View T). z.capacity) (h.some ne).1),
-                λ base at.
-                    let behind = h.behind in
-                    let within = h.within in
-                    let of_base : v.capacity ≡ base.capacity = ap (λ (z : View T). z.capacity) at.4.0 in
-                    let same_capacity = at.1 in
-                    let known : v.published ≡ base.published = ap (λ (z : View T). z.published) at.4.0 in
-                    let empty : p ≡ k → WasEmpty base w =
-                    λ e. record {
-                      same = (h.none e).0 ∙ (ap (with_pop popping.Ready) at.4.0 ∙ ap (λ s. with_pop s base) (sym at.0));
-                      empty = λ q last.
-                          let follows = at.4.2 q last in
-                          subst (All (λ (y : ℕ × T). y.0 ≤ q)) known (All-weaker (λ (y : ℕ × T). y.0 < p) (λ (y : ℕ × T). y.0 ≤ q) (λ y low. omega arith) v.published (h.none e).1);
-                    } in
-                    by_either (λ a. Goes base a room w) c.capacity 0 k p (Done false) (GoOn (at_pop c (pops.TheVariants.LoadsCell p (cell_word c.capacity n p) 0)))
-                    (λ e. empty (omega arith))
-                    (λ e. empty (sym e))
-                    (λ ne apart.
-                    let roomy : 0 < c.capacity = omega arith in
-                    let found = h.some (λ e. apart (sym e)) in
-                    (at.0, at.1, at.2, at.3, (found.0, found.1 ∙ ap (with_pop (popping.SawValue p found.0)) at.4.0, omega arith, some, cell_is c.capacity n p roomy, roomy, λ i lt. absurd (omega arith)))),
-              ))
+        let h : SawValue v k w p = told p saw in (
+          dite (ℕ_discrete p k) (λ e. ap (λ (z : View T). z.capacity) (h.none e).0) (λ ne. ap (λ (z : View T). z.capacity) (h.some ne).1),
+          λ base at.
+              let behind = h.behind in
+              let within = h.within in
+              let of_base : v.capacity ≡ base.capacity = ap (λ (z : View T). z.capacity) at.4.0 in
+              let same_capacity = at.1 in
+              let known : v.published ≡ base.published = ap (λ (z : View T). z.published) at.4.0 in
+              let empty : p ≡ k → WasEmpty base w =
+              λ e. record {
+                same = (h.none e).0 ∙ (ap (with_pop popping.Ready) at.4.0 ∙ ap (λ s. with_pop s base) (sym at.0));
+                empty = λ q last.
+                    let follows = at.4.2 q last in
+                    subst (All (λ (y : ℕ × T). y.0 ≤ q)) known (All-weaker (λ (y : ℕ × T). y.0 < p) (λ (y : ℕ × T). y.0 ≤ q) (λ y low. omega arith) v.published (h.none e).1);
+              } in
+              by_either (λ a. Goes base a room w) c.capacity 0 k p (Done false) (GoOn (at_pop c (pops.TheVariants.LoadsCell p (cell_word c.capacity n p) 0)))
+              (λ e. empty (omega arith))
+              (λ e. empty (sym e))
+              (λ ne apart.
+              let roomy : 0 < c.capacity = omega arith in
+              let found = h.some (λ e. apart (sym e)) in
+              (at.0, at.1, at.2, at.3, (found.0, found.1 ∙ ap (with_pop (popping.SawValue p found.0)) at.4.0, omega arith, some, cell_is c.capacity n p roomy, roomy, λ i lt. absurd (omega arith)))),
+        ))
         (omega arith, sees_value words_of n 0 key slots id (v, []) refl p saw cap)
 
     loads_cell : (base : View T) (p cell i : ℕ) → At base (pops.TheVariants.LoadsCell p cell i) → Owe (pops.TheVariants.LoadsCell p cell i)
@@ -97,25 +98,25 @@ module _ {T R : Type 0} (words_of : T → List ℕ) (n : ℕ) (sized : (y : T) �
         let own : c.capacity ≡ v.capacity = omega arith in
         weaker (Kept words_of n 0 key) words slots id (loaded words_of n word) (Tell (pops.TheVariants.LoadsCell p cell i)) word Load (v, [])
         (λ k small' w h. (
-              ap (λ (z : View T). z.capacity) h.0,
-              λ base at.
-                  let x : T = at.4.0 in
-                  let is' : v.pop ≡ popping.SawValue p x = ap (λ (z : View T). z.pop) at.4.1 in
-                  let found : k ≡ slice_index (words_of x) i = h.1 p i x is' (here ∙ ap (λ z. place z n p i) own) lt in
-                  let next : R = with_word room i k in
-                  let put : words_in next ≡ slice_set (words_in room) i k = put_in room i k in
-                  let long : length (words_in next) ≡ length (words_in room) = ap length put ∙ length-set (words_in room) i k in
-                  let wide : n ≤ length (words_in room) = at.3 in
-                  let wide' : n ≤ length (words_in next) = omega arith in
-                  let each : (j : ℕ) → j < i + 1 → slice_index (words_in next) j ≡ slice_index (words_of x) j =
-                  λ j low. ap (λ l. slice_index l j) put ∙ one_more (words_in room) (words_of x) i k (omega arith) found at.4.6 j low in
-                  let now : w ≡ with_pop (popping.SawValue p x) base = h.0 ∙ at.4.1 in
-                  by_test (λ a. Goes base a next w) (nat_lt (i + 1) n) (GoOn (at_pop c (pops.TheVariants.LoadsCell p cell (i + 1)))) (GoOn (at_pop c (pops.TheVariants.StoresRead p)))
-                  (λ t. let further : i + 1 < n = grind (arith, nat_tests) in (at.0, at.1, at.2, wide', (x, now, at.4.2, further, at.4.4, at.4.5, each)))
-                  (λ t.
-                  let last : n ≤ i + 1 = grind (arith, nat_tests) in
-                  (at.0, at.1, at.2, wide', (x, now, at.4.2, whole (words_in next) (words_of x) n (sized x) wide' (λ j low. each j (omega arith))))),
-            ))
+          ap (λ (z : View T). z.capacity) h.0,
+          λ base at.
+              let x : T = at.4.0 in
+              let is' : v.pop ≡ popping.SawValue p x = ap (λ (z : View T). z.pop) at.4.1 in
+              let found : k ≡ slice_index (words_of x) i = h.1 p i x is' (here ∙ ap (λ z. place z n p i) own) lt in
+              let next : R = with_word room i k in
+              let put : words_in next ≡ slice_set (words_in room) i k = put_in room i k in
+              let long : length (words_in next) ≡ length (words_in room) = ap length put ∙ length-set (words_in room) i k in
+              let wide : n ≤ length (words_in room) = at.3 in
+              let wide' : n ≤ length (words_in next) = omega arith in
+              let each : (j : ℕ) → j < i + 1 → slice_index (words_in next) j ≡ slice_index (words_of x) j =
+              λ j low. ap (λ l. slice_index l j) put ∙ one_more (words_in room) (words_of x) i k (omega arith) found at.4.6 j low in
+              let now : w ≡ with_pop (popping.SawValue p x) base = h.0 ∙ at.4.1 in
+              by_test (λ a. Goes base a next w) (nat_lt (i + 1) n) (GoOn (at_pop c (pops.TheVariants.LoadsCell p cell (i + 1)))) (GoOn (at_pop c (pops.TheVariants.StoresRead p)))
+              (λ t. let further : i + 1 < n = grind (arith, nat_tests) in (at.0, at.1, at.2, wide', (x, now, at.4.2, further, at.4.4, at.4.5, each)))
+              (λ t.
+              let last : n ≤ i + 1 = grind (arith, nat_tests) in
+              (at.0, at.1, at.2, wide', (x, now, at.4.2, whole (words_in next) (words_of x) n (sized x) wide' (λ j low. each j (omega arith))))),
+        ))
         (subst (λ z. word < z) (sym size) (subst (λ z. word < n * z + 4) (sym same_key) (omega arith)), loads_word words_of n 0 key slots id (v, []) word p x₀ is cap)
 
     stores_read : (base : View T) (p : ℕ) → At base (pops.TheVariants.StoresRead p) → Owe (pops.TheVariants.StoresRead p)
@@ -126,22 +127,21 @@ module _ {T R : Type 0} (words_of : T → List ℕ) (n : ℕ) (sized : (y : T) �
         let next : after_position p ≡ p + 1 = omega arith in
         weaker (Kept words_of n 0 key) words slots id taken_at (Tell (pops.TheVariants.StoresRead p)) 1 (Store (after_position p)) (v, [])
         (λ k small' w told. (
-              ap (λ (z : View T). z.capacity) (told p x₀ is).view,
-              λ base at.
-                  let x : T = at.4.0 in
-                  let h : Taken v w p x = told p x (ap (λ (z : View T). z.pop) at.4.1) in (
-                    x,
-                    record {
-                      position = p;
-                      adds = h.view ∙ ap (popped p x) at.4.1;
-                      above = subst (λ (z : View T). All (λ (y : ℕ × T). y.0 < p) z.taken) at.4.1 h.above;
-                      next = λ q last. h.next q (ap (λ (z : View T). z.last_pop) at.4.1 ∙ last);
-                      sound = h.sound;
-                      order = h.order;
-                    },
-                    at.4.3,
-                  ),
-            ))
+          ap (λ (z : View T). z.capacity) (told p x₀ is).view,
+          λ base at.
+              let x : T = at.4.0 in
+              let h : Taken v w p x = told p x (ap (λ (z : View T). z.pop) at.4.1) in
+              let popped_x : HasPopped x base w = record {
+                position = p;
+                adds = h.view ∙ ap (popped p x) at.4.1;
+                above = subst (λ (z : View T). All (λ (y : ℕ × T). y.0 < p) z.taken) at.4.1 h.above;
+                next = λ q last. h.next q (ap (λ (z : View T). z.last_pop) at.4.1 ∙ last);
+                sound = h.sound;
+                order = h.order;
+              } in
+              let made : value_in value_of n (words_in room) ≡ x = enough value_of n (words_in room) at.3 ∙ (ap value_of at.4.3 ∙ given_back x) in
+              subst (λ z. HasPopped z base w) (sym made) popped_x,
+        ))
         (omega arith, subst (λ z. Allows (Kept words_of n 0 key) slots id (v, []) 1 (λ _. z) (λ _. tells taken_at (step slots 1 z 0 none) (v, []) z)) (sym next) (takes words_of n 0 key slots id (v, []) p x₀ is cap))
 
     stage_owes : (base : View T) (stage : pops.PopStage) → At base stage → Owe stage
@@ -151,7 +151,7 @@ module _ {T R : Type 0} (words_of : T → List ℕ) (n : ℕ) (sized : (y : T) �
     stage_owes base (pops.TheVariants.StoresRead p) at = stores_read base p at
 
   abbrev Keeps : ℕ → Type 0
-  Keeps spare = KeepsRule (λ (v : View T). v.capacity) (PopAt words_of n words_in) (PopEnds words_of n words_in) (λ (key : ℕ). n * (key + spare) + 4) (λ key. key) (λ key. Kept words_of n spare key) pop_want (λ c k. pop_after n c k) (pop_kept with_word)
+  Keeps spare = KeepsRule (λ (v : View T). v.capacity) (PopAt words_of n words_in) (PopEnds value_of n words_in) (λ (key : ℕ). n * (key + spare) + 4) (λ key. key) (λ key. Kept words_of n spare key) pop_want (λ c k. pop_after n c k) (pop_kept with_word)
 
   exactly : Keeps 0
   exactly base v c m key words slots id size cap at = stage_owes v c m key words slots id size cap base c.stage at

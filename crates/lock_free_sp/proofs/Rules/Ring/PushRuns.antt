@@ -1,5 +1,5 @@
 -- A push of the bounded queue, as a value, keeps the rule at each of its stages.
-use Rattle.std.proofs.Common.{◌≡◌, ◌≢◌, ℕ, ◌+◌, ◌-◌, ◌*◌, ◌%◌, ◌^◌, ◌<◌, ◌≤◌, ◌==◌, Bool, true, false, nat_lt, slice_index, Some, List, [], ◌∷◌, ◌++◌, length, take, sym, refl, ap, subst, ◌∙◌, arith}
+use Rattle.std.proofs.Common.{◌≡◌, ℕ, ◌+◌, ◌-◌, ◌*◌, ◌^◌, ◌<◌, ◌≤◌, Bool, false, nat_lt, slice_index, Some, List, [], ◌∷◌, ◌++◌, length, take, sym, refl, ap, subst, ◌∙◌, arith}
 use Rattle.std.specs.List.{All}
 use Rattle.std.proofs.lemmas.Bool.Decides.{nat_tests}
 use Rattle.std.proofs.lemmas.List.{take_more, take_all, length-take-le}
@@ -17,7 +17,7 @@ use Rattle.lock_free_sp.specs.declared.ring.view.PushStage.TheVariants as pushin
 use Rattle.lock_free_sp.specs.Driver.{Told, Next, KeepsRule, Owes}
 use Rattle.lock_free_sp.specs.Ring.Views.{with_push, pushed}
 use Rattle.lock_free_sp.specs.Ring.Between.{Below}
-use Rattle.lock_free_sp.specs.Ring.Calls.{HasPushed, WasFull}
+use Rattle.lock_free_sp.specs.Ring.Calls.{WasFull}
 use Rattle.lock_free_sp.specs.Ring.Kept.{Kept}
 use Rattle.lock_free_sp.specs.Ring.Tells.{place, with_word, saw_write, SawRoom, saw_room, stored, Published, published_at, tells}
 use Rattle.lock_free_sp.specs.Ring.Stages.{PushAt, PushStands, PushEnds}
@@ -47,13 +47,13 @@ module _ {T : Type 0} (words_of : T → List ℕ) (value_of : List ℕ → T) (n
         let ready : v.push ≡ pushing.Ready = ap (λ (z : View T). z.push) at₀.3 ∙ at₀.0 in
         weaker (Kept words_of n 0 key) words slots id saw_write (Tell pushes.TheVariants.LoadsWrite) 0 Load (v, [])
         (λ k small w h. (
-              dite (ℕ_discrete k (2 ^ 64 - 1)) (λ e. ap (λ (z : View T). z.capacity) (h.0 e)) (λ ne. ap (λ (z : View T). z.capacity) (h.1 ne)),
-              λ base at.
-                  let follows : (q : ℕ) → base.last_push ≡ Some q → k ≡ q + 1 = λ q last. h.2 q (ap (λ (z : View T). z.last_push) at.3 ∙ last) in
-                  by_eq (λ a. Goes base a w) k (2 ^ 64 - 1) (Done false) (GoOn (at_push c (pushes.TheVariants.LoadsRead k)))
-                  (λ e. record { same = h.0 e ∙ at.3; full = λ q last below. let f = follows q last in absurd (omega arith) })
-                  (λ ne. (at.0, at.1, at.2, (h.1 ne ∙ ap (with_push (pushing.SawWrite k)) at.3, omega arith, follows))),
-            ))
+          dite (ℕ_discrete k (2 ^ 64 - 1)) (λ e. ap (λ (z : View T). z.capacity) (h.0 e)) (λ ne. ap (λ (z : View T). z.capacity) (h.1 ne)),
+          λ base at.
+              let follows : (q : ℕ) → base.last_push ≡ Some q → k ≡ q + 1 = λ q last. h.2 q (ap (λ (z : View T). z.last_push) at.3 ∙ last) in
+              by_eq (λ a. Goes base a w) k (2 ^ 64 - 1) (Done false) (GoOn (at_push c (pushes.TheVariants.LoadsRead k)))
+              (λ e. record { same = h.0 e ∙ at.3; full = λ q last below. let f = follows q last in absurd (omega arith) })
+              (λ ne. (at.0, at.1, at.2, (h.1 ne ∙ ap (with_push (pushing.SawWrite k)) at.3, omega arith, follows))),
+        ))
         (omega arith, sees_write words_of n 0 key slots id (v, []) ready)
 
     loads_read : (base : View T) (p : ℕ) → At base (pushes.TheVariants.LoadsRead p) → Owe (pushes.TheVariants.LoadsRead p)
@@ -61,30 +61,30 @@ module _ {T : Type 0} (words_of : T → List ℕ) (value_of : List ℕ → T) (n
         let saw : v.push ≡ pushing.SawWrite p = ap (λ (z : View T). z.push) at₀.3.0 in
         weaker (Kept words_of n 0 key) words slots id saw_room (Tell (pushes.TheVariants.LoadsRead p)) 1 Load (v, [])
         (λ k small w told.
-              let h : SawRoom v k w p = told p saw in (
-                dite (ℕ_discrete p (k + v.capacity)) (λ e. ap (λ (z : View T). z.capacity) (h.full e).0) (λ ne. ap (λ (z : View T). z.capacity) (h.room ne)),
-                λ base at.
-                    let behind = h.behind in
-                    let within = h.within in
-                    let below = at.3.1 in
-                    let of_base : v.capacity ≡ base.capacity = ap (λ (z : View T). z.capacity) at.3.0 in
-                    let same_capacity = at.1 in
-                    let known : v.taken ≡ base.taken = ap (λ (z : View T). z.taken) at.3.0 in
-                    let far : distance p k ≡ p - k = omega arith in
-                    let full : p ≡ k + v.capacity → WasFull base w =
-                    λ e. record {
-                      same = (h.full e).0 ∙ (ap (with_push pushing.Ready) at.3.0 ∙ ap (λ s. with_push s base) (sym at.0));
-                      full = λ q last small'.
-                          let follows = at.3.2 q last in
-                          subst (All (λ (y : ℕ × T). y.0 + base.capacity ≤ q)) known (All-weaker (λ (y : ℕ × T). y.0 + v.capacity < p) (λ (y : ℕ × T). y.0 + base.capacity ≤ q) (λ y low. omega arith) v.taken (h.full e).1);
-                    } in
-                    by_either (λ a. Goes base a w) c.capacity 0 (distance p k) c.capacity (Done false) (GoOn (at_push c (pushes.TheVariants.StoresCell p (cell_word c.capacity n p) 0)))
-                    (λ e. full (omega arith))
-                    (λ e. full (omega arith))
-                    (λ ne far_off.
-                    let room : 0 < c.capacity = omega arith in
-                    (at.0, at.1, at.2, (k, h.room (λ e. far_off (omega arith)) ∙ ap (with_push (pushing.Storing p k [])) at.3.0, below, some, cell_is c.capacity n p room, room))),
-              ))
+        let h : SawRoom v k w p = told p saw in (
+          dite (ℕ_discrete p (k + v.capacity)) (λ e. ap (λ (z : View T). z.capacity) (h.full e).0) (λ ne. ap (λ (z : View T). z.capacity) (h.room ne)),
+          λ base at.
+              let behind = h.behind in
+              let within = h.within in
+              let below = at.3.1 in
+              let of_base : v.capacity ≡ base.capacity = ap (λ (z : View T). z.capacity) at.3.0 in
+              let same_capacity = at.1 in
+              let known : v.taken ≡ base.taken = ap (λ (z : View T). z.taken) at.3.0 in
+              let far : distance p k ≡ p - k = omega arith in
+              let full : p ≡ k + v.capacity → WasFull base w =
+              λ e. record {
+                same = (h.full e).0 ∙ (ap (with_push pushing.Ready) at.3.0 ∙ ap (λ s. with_push s base) (sym at.0));
+                full = λ q last small'.
+                    let follows = at.3.2 q last in
+                    subst (All (λ (y : ℕ × T). y.0 + base.capacity ≤ q)) known (All-weaker (λ (y : ℕ × T). y.0 + v.capacity < p) (λ (y : ℕ × T). y.0 + base.capacity ≤ q) (λ y low. omega arith) v.taken (h.full e).1);
+              } in
+              by_either (λ a. Goes base a w) c.capacity 0 (distance p k) c.capacity (Done false) (GoOn (at_push c (pushes.TheVariants.StoresCell p (cell_word c.capacity n p) 0)))
+              (λ e. full (omega arith))
+              (λ e. full (omega arith))
+              (λ ne far_off.
+              let room : 0 < c.capacity = omega arith in
+              (at.0, at.1, at.2, (k, h.room (λ e. far_off (omega arith)) ∙ ap (with_push (pushing.Storing p k [])) at.3.0, below, some, cell_is c.capacity n p room, room))),
+        ))
         (omega arith, sees_room words_of n 0 key slots id (v, []) refl p saw cap)
 
     stores_cell : (base : View T) (p cell i : ℕ) → At base (pushes.TheVariants.StoresCell p cell i) → Owe (pushes.TheVariants.StoresCell p cell i)
@@ -107,19 +107,19 @@ module _ {T : Type 0} (words_of : T → List ℕ) (value_of : List ℕ → T) (n
         let new : ℕ = slice_index (words_of x) i in
         weaker (Kept words_of n 0 key) words slots id stored (Tell (pushes.TheVariants.StoresCell p cell i)) word (Store new) (v, [])
         (λ k small' w h. (
-              ap (λ (z : View T). z.capacity) h,
-              λ base at.
-                  let is' : v.push ≡ pushing.Storing p at.3.0 ws = ap (λ (z : View T). z.push) at.3.1 in
-                  let more : take (i + 1) (words_of x) ≡ ws ++ new ∷ [] = let whole = sized x in take_more (words_of x) i 0 (omega arith) in
-                  let now : w ≡ with_push (pushing.Storing p at.3.0 (take (i + 1) (words_of x))) base =
-                  h ∙ (ap (λ s. with_push (with_word new s) v) is' ∙ (ap (with_push (pushing.Storing p at.3.0 (ws ++ new ∷ []))) at.3.1 ∙ ap (λ l. with_push (pushing.Storing p at.3.0 l) base) (sym more))) in
-                  by_test (λ a. Goes base a w) (nat_lt (i + 1) n) (GoOn (at_push c (pushes.TheVariants.StoresCell p cell (i + 1)))) (GoOn (at_push c (pushes.TheVariants.StoresWrite p)))
-                  (λ t. let further : i + 1 < n = grind (arith, nat_tests) in (at.0, at.1, at.2, (at.3.0, now, at.3.2, further, at.3.4, at.3.5)))
-                  (λ t.
-                  let last : n ≤ i + 1 = grind (arith, nat_tests) in
-                  let all : take (i + 1) (words_of x) ≡ words_of x = let whole = sized x in take_all (i + 1) (words_of x) (omega arith) in
-                  (at.0, at.1, at.2, (at.3.0, now ∙ ap (λ l. with_push (pushing.Storing p at.3.0 l) base) all, at.3.2))),
-            ))
+          ap (λ (z : View T). z.capacity) h,
+          λ base at.
+              let is' : v.push ≡ pushing.Storing p at.3.0 ws = ap (λ (z : View T). z.push) at.3.1 in
+              let more : take (i + 1) (words_of x) ≡ ws ++ new ∷ [] = let whole = sized x in take_more (words_of x) i 0 (omega arith) in
+              let now : w ≡ with_push (pushing.Storing p at.3.0 (take (i + 1) (words_of x))) base =
+              h ∙ (ap (λ s. with_push (with_word new s) v) is' ∙ (ap (with_push (pushing.Storing p at.3.0 (ws ++ new ∷ []))) at.3.1 ∙ ap (λ l. with_push (pushing.Storing p at.3.0 l) base) (sym more))) in
+              by_test (λ a. Goes base a w) (nat_lt (i + 1) n) (GoOn (at_push c (pushes.TheVariants.StoresCell p cell (i + 1)))) (GoOn (at_push c (pushes.TheVariants.StoresWrite p)))
+              (λ t. let further : i + 1 < n = grind (arith, nat_tests) in (at.0, at.1, at.2, (at.3.0, now, at.3.2, further, at.3.4, at.3.5)))
+              (λ t.
+              let last : n ≤ i + 1 = grind (arith, nat_tests) in
+              let all : take (i + 1) (words_of x) ≡ words_of x = let whole = sized x in take_all (i + 1) (words_of x) (omega arith) in
+              (at.0, at.1, at.2, (at.3.0, now ∙ ap (λ l. with_push (pushing.Storing p at.3.0 l) base) all, at.3.2))),
+        ))
         (subst (λ z. word < z) (sym size) (subst (λ z. word < n * z + 4) (sym same_key) (omega arith)), stores_word words_of n 0 key slots id (v, []) p r₀ new word ws is (omega arith) there)
 
     stores_write : (base : View T) (p : ℕ) → At base (pushes.TheVariants.StoresWrite p) → Owe (pushes.TheVariants.StoresWrite p)
@@ -130,17 +130,17 @@ module _ {T : Type 0} (words_of : T → List ℕ) (value_of : List ℕ → T) (n
         let next : after_position p ≡ p + 1 = omega arith in
         weaker (Kept words_of n 0 key) words slots id (published_at words_of) (Tell (pushes.TheVariants.StoresWrite p)) 0 (Store (after_position p)) (v, [])
         (λ k small' w told.
-              let h : Published v w p x = told p r₀ x is in (
-                ap (λ (z : View T). z.capacity) h.view,
-                λ base at. record {
-                      position = p;
-                      adds = h.view ∙ ap (pushed p x) at.3.1;
-                      above = subst (λ (z : View T). Below p z) at.3.1 h.above;
-                      next = λ q last. h.next q (ap (λ (z : View T). z.last_push) at.3.1 ∙ last);
-                      sound = h.sound;
-                      order = h.order;
-                    },
-              ))
+        let h : Published v w p x = told p r₀ x is in (
+          ap (λ (z : View T). z.capacity) h.view,
+          λ base at. record {
+            position = p;
+            adds = h.view ∙ ap (pushed p x) at.3.1;
+            above = subst (λ (z : View T). Below p z) at.3.1 h.above;
+            next = λ q last. h.next q (ap (λ (z : View T). z.last_push) at.3.1 ∙ last);
+            sound = h.sound;
+            order = h.order;
+          },
+        ))
         (omega arith, subst (λ z. Allows (Kept words_of n 0 key) slots id (v, []) 0 (λ _. z) (λ _. tells (published_at words_of) (step slots 0 z 0 none) (v, []) z)) (sym next) (publishes words_of n 0 key slots id (v, []) value_of given_back sized cap refl p r₀ x is))
 
     stage_owes : (base : View T) (stage : pushes.PushStage) → At base stage → Owe stage

@@ -1,10 +1,8 @@
 -- The calls on roles, as values, keep the rule.
-use Rattle.std.proofs.Common.{◌≡◌, ◌≢◌, ℕ, ◌+◌, ◌*◌, ◌==◌, Bool, List, [], sym, refl, ap, subst, ◌∙◌, arith}
+use Rattle.std.proofs.Common.{◌≡◌, ℕ, ◌+◌, ◌*◌, List, [], sym, ap, subst, ◌∙◌, arith}
 use Rattle.steps.specs.Picks.{by_equal}
 use Rattle.steps.specs.Roles.{acquire_want, acquire_after, release_want, release_after}
 use Rattle.steps.specs.declared.ask.Op.TheVariants.{Store, Exchange}
-use Rattle.steps.specs.declared.roles.AcquireRole.{AcquireRole}
-use Rattle.steps.specs.declared.roles.ReleaseRole.{ReleaseRole}
 use Rattle.lock_free_sp.specs.declared.ring.view.PushStage.TheVariants as pushing
 use Rattle.lock_free_sp.specs.declared.ring.view.PopStage.TheVariants as popping
 use Rattle.lock_free_sp.specs.declared.ring.view.View.{View}
@@ -24,9 +22,9 @@ module _ {T : Type 0} (words_of : T → List ℕ) (n spare : ℕ) where
       subst (λ z. OwesAsk (Kept words_of n spare key) words slots id (Told (λ (v : View T). v.capacity) TakesProducerAt TakesProducerEnds (λ c k. acquire_after c k) (λ c m k. m) c m) z (Exchange 1 0) (v, [])) (sym at.1)
       (weaker (Kept words_of n spare key) words slots id took_producer (Told (λ (v : View T). v.capacity) TakesProducerAt TakesProducerEnds (λ c k. acquire_after c k) (λ c m k. m) c m) 2 (Exchange 1 0) (v, [])
       (λ k small w h. (
-            dite (ℕ_discrete k 1) (λ e. ap (λ (z : View T). z.capacity) (h.0 e)) (λ ne. ap (λ (z : View T). z.capacity) (h.1 ne)),
-            λ base' at'. by_equal (λ b. TakesProducerEnds base' b m w) k 1 (λ e. h.0 e ∙ ap with_producer at'.0) (λ ne. h.1 ne ∙ at'.0),
-          ))
+        dite (ℕ_discrete k 1) (λ e. ap (λ (z : View T). z.capacity) (h.0 e)) (λ ne. ap (λ (z : View T). z.capacity) (h.1 ne)),
+        λ base' at'. by_equal (λ b. TakesProducerEnds base' b m w) k 1 (λ e. h.0 e ∙ ap with_producer at'.0) (λ ne. h.1 ne ∙ at'.0),
+      ))
       (omega arith, takes_producer words_of n spare key slots id (v, [])))
 
   pub takes_consumer_keeps : KeepsRule (λ (v : View T). v.capacity) TakesConsumerAt TakesConsumerEnds (λ (key : ℕ). n * (key + spare) + 4) (λ key. key) (λ key. Kept words_of n spare key) acquire_want (λ c k. acquire_after c k) (λ c m k. m)
@@ -34,9 +32,9 @@ module _ {T : Type 0} (words_of : T → List ℕ) (n spare : ℕ) where
       subst (λ z. OwesAsk (Kept words_of n spare key) words slots id (Told (λ (v : View T). v.capacity) TakesConsumerAt TakesConsumerEnds (λ c k. acquire_after c k) (λ c m k. m) c m) z (Exchange 1 0) (v, [])) (sym at.1)
       (weaker (Kept words_of n spare key) words slots id took_consumer (Told (λ (v : View T). v.capacity) TakesConsumerAt TakesConsumerEnds (λ c k. acquire_after c k) (λ c m k. m) c m) 3 (Exchange 1 0) (v, [])
       (λ k small w h. (
-            dite (ℕ_discrete k 1) (λ e. ap (λ (z : View T). z.capacity) (h.0 e)) (λ ne. ap (λ (z : View T). z.capacity) (h.1 ne)),
-            λ base' at'. by_equal (λ b. TakesConsumerEnds base' b m w) k 1 (λ e. h.0 e ∙ ap with_consumer at'.0) (λ ne. h.1 ne ∙ at'.0),
-          ))
+        dite (ℕ_discrete k 1) (λ e. ap (λ (z : View T). z.capacity) (h.0 e)) (λ ne. ap (λ (z : View T). z.capacity) (h.1 ne)),
+        λ base' at'. by_equal (λ b. TakesConsumerEnds base' b m w) k 1 (λ e. h.0 e ∙ ap with_consumer at'.0) (λ ne. h.1 ne ∙ at'.0),
+      ))
       (omega arith, takes_consumer words_of n spare key slots id (v, [])))
 
   pub leaves_producer_keeps : KeepsRule (λ (v : View T). v.capacity) LeavesProducerAt LeavesProducerEnds (λ (key : ℕ). n * (key + spare) + 4) (λ key. key) (λ key. Kept words_of n spare key) release_want (λ c k. release_after c k) (λ c m k. m)

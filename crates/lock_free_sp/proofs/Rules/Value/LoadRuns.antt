@@ -14,11 +14,12 @@ use Rattle.lock_free_sp.specs.declared.value.view.View.{View}
 use Rattle.lock_free_sp.specs.declared.value.view.LoadStage.TheVariants as loading
 use Rattle.lock_free_sp.specs.Driver.{Next, Told, Owes, KeepsRule}
 use Rattle.lock_free_sp.specs.Value.Between.{UpTo}
+use Rattle.lock_free_sp.specs.Value.Calls.{HasLoaded}
 use Rattle.lock_free_sp.specs.Value.Kept.{Kept}
 use Rattle.lock_free_sp.specs.Value.Tells.{place, with_copied, load_started, word_copied, Settled, load_settled}
 use Rattle.lock_free_sp.specs.Value.Views.{with_load, loaded_at}
 use Rattle.lock_free_sp.specs.Value.Stages.{LoadAt, LoadEnds}
-use Rattle.lock_free_sp.proofs.Driving.{weaker}
+use Rattle.lock_free_sp.proofs.Driving.{weaker, enough}
 use Rattle.lock_free_sp.proofs.Rules.Value.Stays.{cell_within}
 use Rattle.lock_free_sp.proofs.Rules.Value.Loads.{starts, copies_word, settles}
 
@@ -94,12 +95,13 @@ module _ {T R : Type 0} (words_of : T → List ℕ) (value_of : List ℕ → T) 
           λ base at. by_eq (Goes base room w) k p (Done tt) (GoOn (at_load c (load_begins n k)))
               (λ e.
               let l = h.loaded e in
-              record {
+              let loaded_it : HasLoaded (value_of ws) base w = record {
                 version = p;
                 adds = l.0 ∙ ap (loaded_at p (value_of ws)) at.2;
                 not_below = subst (λ (z : View T). UpTo p z) at.2 l.1;
                 sound = l.2;
-              })
+              } in
+              subst (λ z. HasLoaded z base w) (sym (enough value_of n (words_in room) at.1)) loaded_it)
               (λ ne. let m = h.moved ne in (at.0, at.1, (m.0 ∙ ap (with_load (loading.Copying k [])) at.2, some, cell_of n k m.1 small))),
         ))
         (omega arith, settles words_of n slots id (v, []) value_of given_back sized p ws is long)

@@ -7,7 +7,8 @@ use std::ops::Deref;
 use steps::words::Words;
 
 /// The calls are those of the queue that it has.
-impl<E: Spare, T: Words, const CAPACITY: usize> Deref for FixedSize<E, T, RingRule<E, T>, CAPACITY> {
+impl<E: Spare, T: Words, const CAPACITY: usize> Deref
+    for FixedSize<E, T, RingRule<E, T>, CAPACITY> {
     ghost use Rattle.lock_free_sp.specs.Ends.{ring_of, capacity_of};
 
     type Target = Ring<E, T, RingRule<E, T>>;

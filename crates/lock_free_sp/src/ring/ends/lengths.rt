@@ -9,9 +9,9 @@ use std::sync::Wait;
 use steps::words::Words;
 
 impl<E: Spare, T: Words> Ring<E, T, RingRule<E, T>> {
-    /// How many values wait, as the difference of two positions that stood together at one moment of the call. At most
-    /// the capacity; in the overflowing queue one more while a push is under way. Four steps, and at most four more for
-    /// each time that a position has moved between its two loads. After `len` of the Rust crate.
+    /// How many values wait: at most the capacity, in the overflowing queue one more. The contract promises this bound; that
+    /// it is the number at one moment of the call is proved of the machine. Four steps, and at most four more for each time
+    /// that a position has moved between its two loads. After `len` of the Rust crate.
     pub fn len(&self, rt: &impl Wait, pass: &mut Pass<E, T>) -> usize
         requires { IsPassOf self.now pass.old }
         ensures queue { queue_of pass.new ≡ queue_of pass.old }
@@ -32,7 +32,7 @@ impl<E: Spare, T: Words> Ring<E, T, RingRule<E, T>> {
         pass.token.len(rt) == 0
     }
 
-    /// Whether as many values as the capacity wait, by the number that `len` answers. After `is_full` of the Rust crate.
+    /// Whether as many values as the capacity wait, and no more, by the number that `len` answers. After `is_full` of the Rust crate.
     pub fn is_full(&self, rt: &impl Wait, pass: &mut Pass<E, T>) -> bool
         requires { IsPassOf self.now pass.old }
         ensures queue { queue_of pass.new ≡ queue_of pass.old }

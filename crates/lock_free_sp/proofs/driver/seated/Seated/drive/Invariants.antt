@@ -1,4 +1,4 @@
-use Rattle.std.proofs.Common.{◌≡◌, ℕ}
+use Rattle.std.proofs.Common.{◌≡◌}
 use Rattle.lock_free_sp.specs.Driver.{Told}
 use Rattle.lock_free_sp.specs.Seats.{seen, IsSame}
 use Rattle.lock_free_sp.proofs.driver.seated.Seated.drive.Given as goal

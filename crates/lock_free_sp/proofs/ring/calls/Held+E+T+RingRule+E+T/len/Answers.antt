@@ -1,4 +1,4 @@
-use Rattle.std.proofs.Common.{◌≡◌, ◌+◌, ◌≤◌, sym, subst}
+use Rattle.std.proofs.Common.{◌+◌, ◌≤◌, sym, subst}
 use Rattle.lock_free_sp.specs.Ring.Calls.{seen}
 use Rattle.lock_free_sp.proofs.Rules.Ring.LenRuns.{len_keeps, stood_few}
 use Rattle.lock_free_sp.proofs.ring.calls.Held+E+T+RingRule+E+T.len.Goals as goal

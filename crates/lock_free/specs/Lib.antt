@@ -1,0 +1,13 @@
+-- The words of the public contracts.
+pub use Rattle.lock_free_sp.specs.Ends
+pub use Rattle.lock_free_sp.specs.Ring
+pub use Rattle.lock_free_sp.specs.Value
+pub use Rattle.lock_free_sp.specs.UnrestrictedAtomic
+pub use Rattle.steps.specs.Enums
+-- The types that they speak of.
+pub use Rattle.lock_free_sp.specs.declared.ring.view as QueueView
+pub use Rattle.lock_free_sp.specs.declared.value.view as ValueView
+pub use Rattle.steps.specs.declared.enums.UniqueIndexCreationError
+pub use Rattle.steps.specs.declared.words.Words
+pub mod Facts
+pub mod TwoNumbers
