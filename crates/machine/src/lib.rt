@@ -9,15 +9,11 @@ use std::marker::Model;
 use steps::enums::UniqueIndexCreationError;
 use steps::words::Words;
 
-mod call;
-mod effects;
-pub mod event;
 mod parts;
-pub mod party;
 #[cfg(test)]
 mod tests;
-pub mod turn;
-mod words;
+
+pub use model::{event, party, turn};
 
 use event::Event;
 use parts::Parts;
@@ -32,8 +28,9 @@ pub struct Machine<T> {
 }
 
 impl<T> Model for Machine<T> {
-    ghost use Rattle.machine.specs.World.{Trace, trace_of};
-    ghost use Rattle.machine.specs.Turns.{IsReached};
+    ghost use Rattle.model.specs.World.{Trace};
+    ghost use Rattle.machine.specs.Parts.{trace_of};
+    ghost use Rattle.model.specs.Turns.{IsReached};
 
     ghost Value = { Trace T };
 
@@ -43,11 +40,11 @@ impl<T> Model for Machine<T> {
 }
 
 impl<T: Words> Machine<T> {
-    ghost use Rattle.machine.specs.World.{opening, capacity_error, progress_in, progress_after, party_of};
-    ghost use Rattle.machine.specs.Refusals.{refusal_of, IsRefusal, is_going};
-    ghost use Rattle.machine.specs.Turns.{turned, all_taken, AreAllowed};
-    ghost use Rattle.machine.specs.Promises.{IsKept, AreTurns};
-    ghost use Rattle.machine.specs.Promises.Steps.{WritesOneWord, GoesOn, CountsStep, CountsOthers, IsJustified};
+    ghost use Rattle.model.specs.World.{opening, capacity_error, progress_in, progress_after, party_of};
+    ghost use Rattle.model.specs.Refusals.{refusal_of, IsRefusal, is_going};
+    ghost use Rattle.model.specs.Turns.{turned, all_taken, AreAllowed};
+    ghost use Rattle.model.specs.Promises.{IsKept, AreTurns};
+    ghost use Rattle.model.specs.Promises.Steps.{WritesOneWord, GoesOn, CountsStep, CountsOthers, IsJustified};
 
     /// A structure that is empty, with both roles free, and this many parties, numbered from 0. Parties cost nothing
     /// until they begin a call.

@@ -1,21 +1,22 @@
 //! The parts of a machine, and what each turn does to them.
 ghost use Rattle.std.specs.Prelude.{◌≡◌, ◌+◌, ◌-◌, ◌^◌, ◌≤◌, ◌<◌, ◌⊎◌, None, Some, OnOk, OnErr, IfOk, IfErr, vec_len, vec_capacity, option_copied};
-ghost use Rattle.machine.specs.World.{cells_of, opening, opening_words, capacity_error, trace_of, place_of, party_of};
-ghost use Rattle.machine.specs.declared.party.Party.{Party};
-ghost use Rattle.machine.specs.Refusals.{refusal_of, IsRefusal, lacks_role, holds, is_due};
-ghost use Rattle.machine.specs.Small.{IsSmall};
-ghost use Rattle.machine.specs.Turns.{turn_of, number_of, ask_in, producer_after, consumer_after, ended_where, turned, resumed_trace};
+ghost use Rattle.model.specs.World.{cells_of, opening, opening_words, capacity_error, place_of, party_of};
+ghost use Rattle.machine.specs.Parts.{trace_of};
+ghost use Rattle.model.specs.declared.party.Party.{Party};
+ghost use Rattle.model.specs.Refusals.{refusal_of, IsRefusal, lacks_role, holds, is_due};
+ghost use Rattle.model.specs.Small.{IsSmall};
+ghost use Rattle.model.specs.Turns.{turn_of, number_of, ask_in, producer_after, consumer_after, ended_where, turned, resumed_trace};
 
-use crate::call::{Flight, first};
-use crate::effects::{MOST_EVENTS, effect_of, pending, tell};
-use crate::event::{Answer, Event, Start};
-use crate::party::{Doing, Party, flight_of, place_of, put};
-use crate::turn::{Kind, Refusal, Turn, capacity_error};
-use crate::words;
+use model::call::{Flight, first};
+use model::effects::{MOST_EVENTS, effect_of, pending, tell};
+use model::event::{Answer, Event, Start};
+use model::party::{Doing, Party, flight_of, place_of, put};
+use model::turn::{Kind, Refusal, Turn, capacity_error};
+use model::words;
 use std::alloc::{AllocError, Global};
 use steps::ask::{Ask, Want};
 use steps::enums::UniqueIndexCreationError;
-use steps::ring::READ;
+use steps::queues::ring::READ;
 
 /// As many turns as a machine takes.
 const MOST_TURNS: u64 = u64::MAX - 1;

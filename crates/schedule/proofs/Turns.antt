@@ -3,12 +3,12 @@ use Rattle.std.proofs.Common.{◌≡◌, inl, inr, ℕ, suc, ◌-◌, Bool, true
 use Rattle.std.specs.Io.KnownBytes.{Appends}
 use Rattle.std.proofs.KnownBytes.{Appends-trans, Appends-nil}
 use Rattle.std.proofs.lemmas.List.{take_rest, drop_at}
-use Rattle.machine.specs.declared.turn.Refusal.{Refusal}
-use Rattle.machine.specs.declared.turn.Turn.{Turn}
-use Rattle.machine.specs.declared.turn.Turn.TheVariants.{Next}
-use Rattle.machine.specs.World.{World}
-use Rattle.machine.specs.Refusals.{refusal_of, IsRefusal}
-use Rattle.machine.specs.Turns.{taken, told}
+use Rattle.model.specs.declared.turn.Refusal.{Refusal}
+use Rattle.model.specs.declared.turn.Turn.{Turn}
+use Rattle.model.specs.declared.turn.Turn.TheVariants.{Next}
+use Rattle.model.specs.World.{World}
+use Rattle.model.specs.Refusals.{refusal_of, IsRefusal}
+use Rattle.model.specs.Turns.{taken, told}
 use Rattle.schedule.specs.declared.error.ScheduleError.{ScheduleError}
 use Rattle.schedule.specs.declared.error.ScheduleError.TheVariants.{WriteFailed}
 use Rattle.schedule.specs.Print.{events_text, refusal_text}

@@ -3,7 +3,7 @@ use Rattle.std.proofs.Common.{◌≡◌, ℕ, List, [], ◌++◌, Option, refl, 
 use Rattle.std.specs.Io.KnownBytes.{Appends, Keeps}
 use Rattle.std.proofs.KnownBytes.{Appends-trans, Appends-nil, Appends-kept}
 use Rattle.std.proofs.lemmas.List.{at_drop_more}
-use Rattle.machine.specs.declared.event.Event.{Event}
+use Rattle.model.specs.declared.event.Event.{Event}
 use Rattle.schedule.specs.Print.{event_text, events_text}
 use Rattle.schedule.specs.Written.{AppendsPart}
 

@@ -1,11 +1,11 @@
 -- What a line says, read from left to right: a value, or the first cause that is met.
 use Rattle.std.specs.Prelude.{◌≡◌, ℕ, ◌-◌, ◌^◌, ◌==◌, Bool, true, false, List, [], ◌∷◌, Option, Some, None, Result, Ok, Err, if◌then◌else◌, bytes_eq, codes}
-use Rattle.machine.specs.declared.event.Start.{Start}
-use Rattle.machine.specs.declared.event.Start.TheVariants.{AcquireProducer, ReleaseProducer, AcquireConsumer, ReleaseConsumer, Push, Pop, Len, IsEmpty, IsFull}
-use Rattle.machine.specs.declared.event.Item.TheVariants.{Index}
-use Rattle.machine.specs.declared.turn.Kind.{Kind}
-use Rattle.machine.specs.declared.turn.Kind.TheVariants.{IndexQueue, Overflow}
-use Rattle.machine.specs.declared.turn.Turn.TheVariants.{Begin, Next, Decide, Die}
+use Rattle.model.specs.declared.event.Start.{Start}
+use Rattle.model.specs.declared.event.Start.TheVariants.{AcquireProducer, ReleaseProducer, AcquireConsumer, ReleaseConsumer, Push, Pop, Len, IsEmpty, IsFull}
+use Rattle.model.specs.declared.event.Item.TheVariants.{Index}
+use Rattle.model.specs.declared.turn.Kind.{Kind}
+use Rattle.model.specs.declared.turn.Kind.TheVariants.{IndexQueue, Overflow}
+use Rattle.model.specs.declared.turn.Turn.TheVariants.{Begin, Next, Decide, Die}
 use Rattle.schedule.specs.declared.error.Cause.{Cause}
 use Rattle.schedule.specs.declared.error.Cause.TheVariants.{MissingValue, BadValue, UnknownKind, UnknownTurn, UnknownCall, ExtraWords}
 use Rattle.schedule.specs.declared.grammar.Command.{Command}

@@ -2,14 +2,14 @@
 use Rattle.std.specs.Prelude.{ℕ, zero, suc, ◌+◌, Bool, true, false, ◌&&◌, Option, Some, None, Result, Ok, Err, List, [], ◌∷◌, ◌++◌, if◌then◌else◌}
 use Rattle.steps.specs.declared.enums.UniqueIndexCreationError.{UniqueIndexCreationError}
 use Rattle.steps.specs.declared.enums.UniqueIndexCreationError.TheVariants as creation
-use Rattle.machine.specs.declared.turn.Kind.{Kind}
-use Rattle.machine.specs.declared.turn.Refusal.{Refusal}
-use Rattle.machine.specs.declared.turn.Refusal.TheVariants.{NoMemory}
-use Rattle.machine.specs.declared.turn.Turn.{Turn}
-use Rattle.machine.specs.declared.turn.Turn.TheVariants.{Next}
-use Rattle.machine.specs.World.{World, opening, capacity_error}
-use Rattle.machine.specs.Refusals.{refusal_of, is_going}
-use Rattle.machine.specs.Turns.{taken, told}
+use Rattle.model.specs.declared.turn.Kind.{Kind}
+use Rattle.model.specs.declared.turn.Refusal.{Refusal}
+use Rattle.model.specs.declared.turn.Refusal.TheVariants.{NoMemory}
+use Rattle.model.specs.declared.turn.Turn.{Turn}
+use Rattle.model.specs.declared.turn.Turn.TheVariants.{Next}
+use Rattle.model.specs.World.{World, opening, capacity_error}
+use Rattle.model.specs.Refusals.{refusal_of, is_going}
+use Rattle.model.specs.Turns.{taken, told}
 use Rattle.schedule.specs.declared.error.Cause.{Cause}
 use Rattle.schedule.specs.declared.error.Cause.TheVariants as causes
 use Rattle.schedule.specs.declared.grammar.Command.{Command}

@@ -1,7 +1,7 @@
 -- What a run wrote, and how it ended.
 use Rattle.std.specs.Prelude.{◌≡◌, ℕ, Bool, Option, Result, Ok, Err, List, ◌++◌, IfSome}
 use Rattle.std.specs.Io.KnownBytes.{Appends, Keeps}
-use Rattle.machine.specs.World.{World}
+use Rattle.model.specs.World.{World}
 use Rattle.schedule.specs.declared.error.ScheduleError.{ScheduleError}
 use Rattle.schedule.specs.declared.error.ScheduleError.TheVariants as errors
 use Rattle.schedule.specs.Output.{Outcome, State, Printed, Output, goes_on, output}

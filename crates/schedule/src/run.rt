@@ -4,7 +4,7 @@ ghost use Rattle.schedule.specs.Grammar.{Gives};
 ghost use Rattle.schedule.specs.Output.{outcome, nexts, commanded, lines_from, machine_of, output};
 ghost use Rattle.schedule.specs.Run.{IsTurn, IsStep, Prints, IsOutput, IsRun};
 ghost use Rattle.schedule.specs.Text.{words, parts_left};
-ghost use Rattle.machine.specs.declared.turn.Turn.TheVariants.{Next};
+ghost use Rattle.model.specs.declared.turn.Turn.TheVariants.{Next};
 
 use crate::error::{Cause, ScheduleError};
 use crate::grammar::{Command, Setup, command_of, setup_of};

@@ -7,29 +7,29 @@ use Rattle.steps.specs.Picks.{by_test, by_eq, by_either}
 use Rattle.steps.specs.declared.ask.After.{After}
 use Rattle.steps.specs.declared.ask.After.TheVariants.{GoOn, Done}
 use Rattle.steps.specs.declared.copied.OneWord.{OneWord}
-use Rattle.steps.specs.declared.roles.AcquireRole.{AcquireRole}
-use Rattle.steps.specs.declared.roles.ReleaseRole.{ReleaseRole}
-use Rattle.steps.specs.declared.lengths.Len.{Len}
-use Rattle.steps.specs.declared.lengths.LenStage as lens
-use Rattle.steps.specs.declared.ring.Push.{Push}
-use Rattle.steps.specs.declared.ring.PushStage as pushes
-use Rattle.steps.specs.declared.ring.Pop.{Pop}
-use Rattle.steps.specs.declared.ring.PopStage as pops
-use Rattle.steps.specs.declared.overflow.Push as over
-use Rattle.steps.specs.declared.overflow.PushStage as over_pushes
-use Rattle.steps.specs.declared.overflow.PushEnd.{PushEnd}
-use Rattle.steps.specs.declared.overflow.PushEnd.TheVariants.{Added}
-use Rattle.steps.specs.declared.overflow.Pop as over_pop
-use Rattle.steps.specs.declared.overflow.PopStage as over_pops
-use Rattle.steps.specs.declared.value.Store.{Store}
-use Rattle.steps.specs.declared.value.StoreStage as stores
-use Rattle.steps.specs.declared.value.Load.{Load}
-use Rattle.steps.specs.declared.value.LoadStage as loads
-use Rattle.steps.specs.Roles.{acquire_want, acquire_after, release_want, release_after}
-use Rattle.steps.specs.Lengths.{len_asks, len_takes}
-use Rattle.steps.specs.Ring.{cell_word, distance, at_push, push_asks, push_takes, push_after, push_left, at_pop, pop_asks, pop_takes, pop_after, pop_keeps, pop_left}
-use Rattle.steps.specs.Overflow as overflow
-use Rattle.steps.specs.Value as value
+use Rattle.steps.specs.declared.queues.roles.AcquireRole.{AcquireRole}
+use Rattle.steps.specs.declared.queues.roles.ReleaseRole.{ReleaseRole}
+use Rattle.steps.specs.declared.queues.lengths.Len.{Len}
+use Rattle.steps.specs.declared.queues.lengths.LenStage as lens
+use Rattle.steps.specs.declared.queues.ring.Push.{Push}
+use Rattle.steps.specs.declared.queues.ring.PushStage as pushes
+use Rattle.steps.specs.declared.queues.ring.Pop.{Pop}
+use Rattle.steps.specs.declared.queues.ring.PopStage as pops
+use Rattle.steps.specs.declared.queues.overflow.Push as over
+use Rattle.steps.specs.declared.queues.overflow.PushStage as over_pushes
+use Rattle.steps.specs.declared.queues.overflow.PushEnd.{PushEnd}
+use Rattle.steps.specs.declared.queues.overflow.PushEnd.TheVariants.{Added}
+use Rattle.steps.specs.declared.queues.overflow.Pop as over_pop
+use Rattle.steps.specs.declared.queues.overflow.PopStage as over_pops
+use Rattle.steps.specs.declared.atomic.Store.{Store}
+use Rattle.steps.specs.declared.atomic.StoreStage as stores
+use Rattle.steps.specs.declared.atomic.Load.{Load}
+use Rattle.steps.specs.declared.atomic.LoadStage as loads
+use Rattle.steps.specs.Queues.Roles.{acquire_want, acquire_after, release_want, release_after}
+use Rattle.steps.specs.Queues.Lengths.{len_asks, len_takes}
+use Rattle.steps.specs.Queues.Ring.{cell_word, distance, at_push, push_asks, push_takes, push_after, push_left, at_pop, pop_asks, pop_takes, pop_after, pop_keeps, pop_left}
+use Rattle.steps.specs.Queues.Overflow as overflow
+use Rattle.steps.specs.Atomic as value
 
 no_store : {A : Type 0} → IsTrue false → A
 no_store t = absurd (true≢false (sym t))

@@ -1,12 +1,9 @@
 pub mod Ask
+pub mod Atomic
 pub mod Copied
 pub mod Enums
 pub mod Laws
-pub mod Lengths
-pub mod Overflow
 pub mod Picks
-pub mod Ring
-pub mod Roles
+pub mod Queues
 pub mod Routine
-pub mod Value
 pub mod Words

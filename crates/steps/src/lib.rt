@@ -6,14 +6,11 @@
 #![tactic(auto)]
 
 pub mod ask;
+pub mod atomic;
 pub mod copied;
 pub mod enums;
-pub mod lengths;
-pub mod overflow;
-pub mod ring;
-pub mod roles;
+pub mod queues;
 pub mod routine;
 #[cfg(test)]
 mod tests;
-pub mod value;
 pub mod words;

@@ -5,11 +5,11 @@ mod values;
 
 use crate::ask::{After, Ask, Call, Want};
 use crate::copied::{Copied, OneWord};
-use crate::lengths::Len;
-use crate::overflow;
-use crate::ring::{Pop, Push};
+use crate::queues::lengths::Len;
+use crate::queues::overflow;
+use crate::queues::ring::{Pop, Push};
 use crate::routine::{Routine, Running};
-use crate::value::{Load, Store};
+use crate::atomic::{Load, Store};
 use crate::words::Words;
 use std::fmt::Debug;
 use std::process::Abort;

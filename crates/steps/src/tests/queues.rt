@@ -5,9 +5,9 @@ use super::{
 };
 use crate::ask::{Call, Want};
 use crate::copied::OneWord;
-use crate::lengths::{Len, LenStage, number_waiting};
-use crate::overflow;
-use crate::overflow::PopStage;
+use crate::queues::lengths::{Len, LenStage, number_waiting};
+use crate::queues::overflow;
+use crate::queues::overflow::PopStage;
 use std::test::Fail;
 
 #[test]

@@ -2,9 +2,9 @@
 use super::{bare, whole};
 use crate::ask::Op;
 use crate::enums::{OwnerId, OwnerIdNewError, UniqueIndexCreationError, capacity_refusal};
-use crate::ring::{CONSUMER, PRODUCER};
-use crate::roles::{AcquireRole, ReleaseRole};
-use crate::value::{Load, Store};
+use crate::queues::ring::{CONSUMER, PRODUCER};
+use crate::queues::roles::{AcquireRole, ReleaseRole};
+use crate::atomic::{Load, Store};
 use crate::words::Words;
 use std::test::Fail;
 

@@ -1,6 +1,6 @@
 //! The single value, step by step.
 use super::{Three, Wide, load, load_one, partly, store, store_and_load, whole, with};
-use crate::value::LoadStage;
+use crate::atomic::LoadStage;
 use std::test::Fail;
 
 #[test]

@@ -1,5 +1,6 @@
-use Rattle.machine.specs.World.{opening, trace_of}
-use Rattle.machine.proofs.Reached.{reached_is, reached_opening}
+use Rattle.model.specs.World.{opening}
+use Rattle.machine.specs.Parts.{trace_of}
+use Rattle.model.proofs.Reached.{reached_is, reached_opening}
 use Rattle.machine.proofs.Machine.new.Goals as goal
 
 pub invariant_of-result : goal.invariant_of-result

@@ -1,8 +1,8 @@
 use Rattle.std.proofs.Common.{◌≡◌, ◌<◌, length, take, refl, subst, arith}
-use Rattle.machine.specs.Turns.{IsReached}
-use Rattle.machine.proofs.Reached.{one_more}
-use Rattle.machine.proofs.Structures.Queues.Justified.{reached_turns}
-use Rattle.machine.proofs.Structures.Queues.Kept.{reached_kept}
+use Rattle.model.specs.Turns.{IsReached}
+use Rattle.model.proofs.Reached.{one_more}
+use Rattle.queue_laws.proofs.Queues.Justified.{reached_turns}
+use Rattle.queue_laws.proofs.Queues.Kept.{reached_kept}
 use Rattle.machine.proofs.Machine.run.Goals as goal
 
 pub loop-at-init : goal.loop-at-init

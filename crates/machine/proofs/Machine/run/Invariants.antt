@@ -1,6 +1,6 @@
 use Rattle.std.proofs.Common.{◌≡◌, take}
-use Rattle.machine.specs.Turns.{all_taken, AreAllowed}
-use Rattle.machine.specs.Promises.{IsKept}
+use Rattle.model.specs.Turns.{all_taken, AreAllowed}
+use Rattle.model.specs.Promises.{IsKept}
 use Rattle.machine.proofs.Machine.run.Given as goal
 
 abbrev pub invariant-loop-at : goal.invariant-loop-at

@@ -1,11 +1,11 @@
 use Rattle.std.proofs.Common.{◌<◌, ◌^◌, arith}
-use Rattle.machine.specs.World.{trace_of}
-use Rattle.machine.specs.Turns.{turned}
-use Rattle.machine.specs.Promises.{IsKept}
-use Rattle.machine.proofs.Reached.{reached_is, reached_more, taken_making}
-use Rattle.machine.proofs.Small.{reached_small}
-use Rattle.machine.proofs.Structures.Queues.Justified.{step_turn}
-use Rattle.machine.proofs.Structures.Queues.Kept.{reached_kept}
+use Rattle.machine.specs.Parts.{trace_of}
+use Rattle.model.specs.Turns.{turned}
+use Rattle.model.specs.Promises.{IsKept}
+use Rattle.model.proofs.Reached.{reached_is, reached_more, taken_making}
+use Rattle.model.proofs.Small.{reached_small}
+use Rattle.queue_laws.proofs.Queues.Justified.{step_turn}
+use Rattle.queue_laws.proofs.Queues.Kept.{reached_kept}
 use Rattle.machine.proofs.Machine.step.Goals as goal
 
 pub step-requires : goal.step-requires

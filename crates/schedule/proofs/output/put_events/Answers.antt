@@ -1,8 +1,8 @@
 use Rattle.std.proofs.Common.{ℕ, ◌∙◌, ◌++◌, arith}
 use Rattle.std.proofs.KnownBytes.{Appends-trans}
-use Rattle.machine.specs.declared.event.Event.{Event}
-use Rattle.machine.specs.declared.event.Event.TheVariants.{Begun}
-use Rattle.machine.specs.declared.event.Start.TheVariants.{AcquireProducer}
+use Rattle.model.specs.declared.event.Event.{Event}
+use Rattle.model.specs.declared.event.Event.TheVariants.{Begun}
+use Rattle.model.specs.declared.event.Start.TheVariants.{AcquireProducer}
 use Rattle.schedule.proofs.Writing.{part_within, events_more}
 use Rattle.schedule.proofs.output.put_events.Goals as goal
 

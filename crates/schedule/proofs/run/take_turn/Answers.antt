@@ -1,6 +1,6 @@
 use Rattle.std.proofs.Common.{◌++◌, ap, sym, ◌∙◌, subst}
 use Rattle.std.specs.Io.KnownBytes.{Appends}
-use Rattle.machine.specs.Turns.{told}
+use Rattle.model.specs.Turns.{told}
 use Rattle.schedule.specs.Print.{events_text}
 use Rattle.schedule.specs.Written.{AppendsPart}
 use Rattle.schedule.proofs.Turns.{events_behind, taken_written, taken_failed, refused_written, refused_failed}

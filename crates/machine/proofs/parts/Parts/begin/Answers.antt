@@ -1,7 +1,7 @@
 use Rattle.std.proofs.Common.{◌≡◌, false, None, is_none, sym, ◌∙◌}
-use Rattle.machine.specs.World.{trace_of}
-use Rattle.machine.specs.Calls.{first_of}
-use Rattle.machine.proofs.Rows.{may_begin}
+use Rattle.machine.specs.Parts.{trace_of}
+use Rattle.model.specs.Calls.{first_of}
+use Rattle.model.proofs.Rows.{may_begin}
 use Rattle.machine.proofs.parts.Parts.begin.Goals as goal
 
 pub unreachable-requires : goal.unreachable-requires

@@ -3,14 +3,14 @@ use Rattle.std.proofs.lemmas.List.{set-get_or}
 use Rattle.std.specs.Prelude.{MatchOption}
 use Rattle.steps.specs.declared.ask.After.{After}
 use Rattle.steps.specs.declared.ask.After.TheVariants.{GoOn, Done}
-use Rattle.machine.specs.declared.call.Flight.{Flight}
-use Rattle.machine.specs.declared.event.Answer.{Answer}
-use Rattle.machine.specs.declared.party.Doing.TheVariants.{Going}
-use Rattle.machine.specs.Calls.{after_of, back_of, answer_in}
-use Rattle.machine.specs.Small.{HasSmallCounts}
-use Rattle.machine.specs.Turns.{moved_party, doing_after, ended_where, steps_of, change_of}
-use Rattle.machine.proofs.Parties.{party_here, party_read, party_number, put_here, all_at}
-use Rattle.machine.proofs.Counts.{change_small, steps_small, back_small}
+use Rattle.model.specs.declared.call.Flight.{Flight}
+use Rattle.model.specs.declared.event.Answer.{Answer}
+use Rattle.model.specs.declared.party.Doing.TheVariants.{Going}
+use Rattle.model.specs.Calls.{after_of, back_of, answer_in}
+use Rattle.model.specs.Small.{HasSmallCounts}
+use Rattle.model.specs.Turns.{moved_party, doing_after, ended_where, steps_of, change_of}
+use Rattle.model.proofs.Parties.{party_here, party_read, party_number, put_here, all_at}
+use Rattle.model.proofs.Counts.{change_small, steps_small, back_small}
 use Rattle.machine.proofs.parts.Parts.go_on.Goals as goal
 
 module _ {T : Type 0} where

@@ -1,7 +1,8 @@
 use Rattle.std.proofs.Common.{◌≡◌, ◌<◌, ◌≤◌, None, length, refl, arith}
-use Rattle.machine.specs.World.{trace_of, party_of, place_of}
-use Rattle.machine.proofs.Parties.{party_read, party_past}
-use Rattle.machine.proofs.Rows.{may_resume}
+use Rattle.model.specs.World.{party_of, place_of}
+use Rattle.machine.specs.Parts.{trace_of}
+use Rattle.model.proofs.Parties.{party_read, party_past}
+use Rattle.model.proofs.Rows.{may_resume}
 use Rattle.machine.proofs.parts.Parts.resume.Goals as goal
 
 pub unreachable-requires : goal.unreachable-requires

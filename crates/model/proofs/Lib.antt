@@ -1,0 +1,10 @@
+pub mod Counts
+pub mod Moments
+pub mod Parties
+pub mod Reached
+pub mod Readings
+pub mod Replays
+pub mod Rows
+pub mod Small
+pub mod Turns
+pub mod Worked

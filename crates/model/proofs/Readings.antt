@@ -1,0 +1,96 @@
+-- How readings of events go on as a run grows. No kind is in it.
+use Rattle.std.proofs.Common.{◌≡◌, ◌≢◌, ℕ, ◌==◌, true, false, List, [], ◌∷◌, ◌++◌, fold, refl, sym, ap, subst, ◌∙◌, append_assoc, append-nil, arith}
+use Rattle.std.proofs.lemmas.Bool.Decides.{nat_tests}
+use Rattle.std.proofs.lemmas.List.Sums.{fold-append}
+use Rattle.model.specs.declared.event.Event.{Event}
+use Rattle.model.specs.Reading.{Each, owner, Span, Never, own_after, span_after, span_of}
+
+module _ {A : Type 0} where
+  -- the last of a list, or one before it
+  pub data SplitAt (xs : List A) (x : A) (before : List A) (y : A) (after : List A) : Type 0 where
+    Last : xs ≡ before → x ≡ y → SplitAt xs x before y after
+    Earlier : (rest : List A) → xs ≡ before ++ y ∷ rest → SplitAt xs x before y after
+
+  no_more : (bs : List A) (y : A) (after : List A) → [] ≡ bs ++ y ∷ after → ⊥
+  no_more [] y after e = cc
+  no_more (b ∷ bs) y after e = cc
+
+  pub split_last : (xs : List A) (x : A) (before : List A) (y : A) (after : List A) → xs ++ x ∷ [] ≡ before ++ y ∷ after → SplitAt xs x before y after
+  split_last [] x [] y after e = let h : x ≡ y = cc in Last refl h
+  split_last [] x (b ∷ bs) y after e = let h : [] ≡ bs ++ y ∷ after = cc in absurd (no_more bs y after h)
+  split_last (z ∷ zs) x [] y after e = let h : z ≡ y = cc in Earlier zs (ap (λ (a : A). a ∷ zs) h)
+  split_last (z ∷ zs) x (b ∷ bs) y after e =
+      let h : z ≡ b = cc in
+      let t : zs ++ x ∷ [] ≡ bs ++ y ∷ after = cc in
+      go (split_last zs x bs y after t) h
+    where
+      go : SplitAt zs x bs y after → z ≡ b → SplitAt (z ∷ zs) x (b ∷ bs) y after
+      go (Last p q) h = Last (cc) q
+      go (Earlier rest p) h = Earlier rest (cc)
+
+module _ {T : Type 0} where
+  -- ---- a promise on each event
+
+  abbrev pub AreRight : (List (Event T) → Event T → Type 0) → List (Event T) → List (Event T) → Type 0
+  AreRight P before [] = Unit {0}
+  AreRight P before (e ∷ es) = P before e × AreRight P (before ++ e ∷ []) es
+
+  one_right : (P : List (Event T) → Event T → Type 0) (events : List (Event T)) (e : Event T) → Each P events → P events e → Each P (events ++ e ∷ [])
+  one_right P events e all here before after x is = go (split_last events e before x after is)
+    where
+      go : SplitAt events e before x after → P before x
+      go (Last p q) = subst (λ y. P before y) q (subst (λ xs. P xs e) p here)
+      go (Earlier rest p) = all before rest x p
+
+  pub Each-append : (P : List (Event T) → Event T → Type 0) (events es : List (Event T)) → Each P events → AreRight P events es → Each P (events ++ es)
+  Each-append P events [] all right = subst (Each P) (sym (append-nil events)) all
+  Each-append P events (e ∷ es) all right =
+      subst (Each P) (append_assoc events (e ∷ []) es)
+      (Each-append P (events ++ e ∷ []) es (one_right P events e all right.0) right.1)
+
+  pub Each-nil : (P : List (Event T) → Event T → Type 0) → Each P []
+  Each-nil P before after e is = absurd (no_more before e after is)
+
+  -- ---- spans
+
+  -- all of these are p's events
+  abbrev pub AreOwn : ℕ → List (Event T) → Type 0
+  AreOwn p [] = Unit {0}
+  AreOwn p (e ∷ es) = (owner e ≡ p) × AreOwn p es
+
+  own_one : (p : ℕ) (span : Span T) (e : Event T) → owner e ≡ p → span_after p span e ≡ own_after span e
+  own_one p span e h = let t : (owner e == p) ≡ true = grind (arith, nat_tests) in rw t refl
+
+  other_one : (q : ℕ) (span : Span T) (e : Event T) → owner e ≢ q → span_after q span e ≡ span
+  other_one q span e h = let t : (owner e == q) ≡ false = grind (arith, nat_tests) in rw t refl
+
+  own_fold : (p : ℕ) (span : Span T) (es : List (Event T)) → AreOwn p es → fold (span_after p) span es ≡ fold own_after span es
+  own_fold p span [] own = refl
+  own_fold p span (e ∷ es) own =
+      ap (λ s. fold (span_after p) s es) (own_one p span e own.0) ∙ own_fold p (own_after span e) es own.1
+
+  other_fold : (p q : ℕ) (span : Span T) (es : List (Event T)) → q ≢ p → AreOwn p es → fold (span_after q) span es ≡ span
+  other_fold p q span [] ne own = refl
+  other_fold p q span (e ∷ es) ne own =
+      ap (λ s. fold (span_after q) s es) (other_one q span e (λ h. ne (sym h ∙ own.0))) ∙ other_fold p q span es ne own.1
+
+  -- a party's own events go on with its span
+  pub span_of-own : (p : ℕ) (events es : List (Event T)) → AreOwn p es → span_of p (events ++ es) ≡ fold own_after (span_of p events) es
+  span_of-own p events es own = fold-append (span_after p) Never events es ∙ own_fold p (span_of p events) es own
+
+  -- the events of another party leave it
+  pub span_of-other : (p q : ℕ) (events es : List (Event T)) → q ≢ p → AreOwn p es → span_of q (events ++ es) ≡ span_of q events
+  span_of-other p q events es ne own = fold-append (span_after q) Never events es ∙ other_fold p q (span_of q events) es ne own
+
+  -- each event stands right in the span that the earlier ones leave
+  abbrev pub AllFollow : (Event T → Span T → Type 0) → Span T → List (Event T) → Type 0
+  AllFollow R span [] = Unit {0}
+  AllFollow R span (e ∷ es) = R e span × AllFollow R (own_after span e) es
+
+  pub spans_right : (R : Event T → Span T → Type 0) (p : ℕ) (events es : List (Event T)) (span : Span T) → span_of p events ≡ span → AreOwn p es → AllFollow R span es
+      → AreRight (λ before e. R e (span_of (owner e) before)) events es
+  spans_right R p events [] span is own all = tt
+  spans_right R p events (e ∷ es) span is own all =
+      let here : span_of (owner e) events ≡ span = ap (λ q. span_of q events) own.0 ∙ is in
+      let next : span_of p (events ++ e ∷ []) ≡ own_after span e = span_of-own p events (e ∷ []) (own.0, tt) ∙ ap (λ s. own_after s e) is in
+      (subst (R e) (sym here) all.0, spans_right R p (events ++ e ∷ []) es (own_after span e) next own.1 all.1)

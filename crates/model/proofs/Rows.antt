@@ -1,0 +1,99 @@
+-- What a turn that is not refused has passed.
+use Rattle.std.proofs.Common.{◌≡◌, ℕ, ◌^◌, ◌-◌, ◌<◌, Bool, true, false, cond, not, Option, Some, None, is_some, is_none, nat_le, refl, arith}
+use Rattle.std.proofs.lemmas.Bool.Decides.{nat_tests}
+use Rattle.model.specs.declared.call.Flight.{Flight}
+use Rattle.model.specs.declared.event.Start.{Start}
+use Rattle.model.specs.declared.party.Party.{Party}
+use Rattle.model.specs.declared.turn.Turn.TheVariants.{Begin, Next, Decide, Die}
+use Rattle.model.specs.declared.turn.Refusal.{Refusal}
+use Rattle.model.specs.declared.turn.Refusal.TheVariants.{AtEnd, NoParty, Idle, Undecided, WrongCall}
+use Rattle.model.specs.World.{World, flight_in, flight_of, doing_of}
+use Rattle.model.specs.Calls.{first_of}
+use Rattle.model.specs.Turns.{turn_of}
+use Rattle.model.specs.Refusals.{refusal_of, is_at_end, lacks_role, is_due}
+
+-- a row that did not apply
+pub row_passed : (b : Bool) (r : Refusal) (rest : Option Refusal) → cond b (Some r) rest ≡ None → (b ≡ false) × (rest ≡ None)
+row_passed true r rest e = absurd (cc)
+row_passed false r rest e = (refl, e)
+
+pub not_none : {A : Type 0} → (o : Option A) → is_none o ≡ false → (x : A) × (o ≡ Some x)
+not_none None e = absurd (cc)
+not_none (Some x) e = (x, refl)
+
+pub not_some : {A : Type 0} → (o : Option A) → is_some o ≡ false → o ≡ None
+not_some None e = refl
+not_some (Some x) e = absurd (cc)
+
+module _ {T : Type 0} where
+  pub some_party : (o : Option (Party T)) (f : Flight) → flight_of (doing_of o) ≡ Some f → (x : Party T) × (o ≡ Some x)
+  some_party None f e = absurd (cc)
+  some_party (Some x) f e = (x, refl)
+
+  pub record MayBegin (w : World T) (p : ℕ) (start : Start T) : Type 0 where
+    pub turns : w.turns < 2 ^ 64 - 2
+    pub party : p < w.parties
+    pub free : flight_in w p ≡ None
+    pub call : is_none (first_of w.kind w.capacity start) ≡ false
+    pub role : lacks_role w p start ≡ false
+
+  pub may_begin : (w : World T) (p : ℕ) (start : Start T) → refusal_of w (Begin p start) ≡ None → MayBegin w p start
+  may_begin w p start e =
+      let a = row_passed _ _ _ e in
+      let b = row_passed _ _ _ a.1 in
+      let c = row_passed _ _ _ b.1 in
+      let d = row_passed _ _ _ c.1 in
+      let r = row_passed _ _ _ d.1 in
+      let at : nat_le (2 ^ 64 - 2) w.turns ≡ false = a.0 in
+      let in_range : nat_le w.parties p ≡ false = b.0 in
+      record {
+        turns = grind (arith, nat_tests);
+        party = grind (arith, nat_tests);
+        free = not_some _ c.0;
+        call = d.0;
+        role = r.0;
+      }
+
+  pub record MayGoOn (w : World T) (p : ℕ) : Type 0 where
+    pub turns : w.turns < 2 ^ 64 - 2
+    pub party : p < w.parties
+    pub flight : Flight
+    pub is : flight_in w p ≡ Some flight
+
+  pub may_next : (w : World T) (p : ℕ) → refusal_of w (Next p) ≡ None → MayGoOn w p
+  may_next w p e =
+      let a = row_passed _ _ _ e in
+      let b = row_passed _ _ _ a.1 in
+      let c = row_passed _ _ _ b.1 in
+      let at : nat_le (2 ^ 64 - 2) w.turns ≡ false = a.0 in
+      let in_range : nat_le w.parties p ≡ false = b.0 in
+      let f = not_none _ c.0 in
+      record { turns = grind (arith, nat_tests); party = grind (arith, nat_tests); flight = f.0; is = f.1 }
+
+  pub may_decide : (w : World T) (p : ℕ) (said : Bool) → refusal_of w (Decide p said) ≡ None → MayGoOn w p
+  may_decide w p said e =
+      let a = row_passed _ _ _ e in
+      let b = row_passed _ _ _ a.1 in
+      let c = row_passed _ _ _ b.1 in
+      let at : nat_le (2 ^ 64 - 2) w.turns ≡ false = a.0 in
+      let in_range : nat_le w.parties p ≡ false = b.0 in
+      let f = not_none _ c.0 in
+      record { turns = grind (arith, nat_tests); party = grind (arith, nat_tests); flight = f.0; is = f.1 }
+
+  pub may_resume : (w : World T) (p : ℕ) (said : Option Bool) → refusal_of w (turn_of p said) ≡ None → MayGoOn w p
+  may_resume w p None e = may_next w p e
+  may_resume w p (Some said) e = may_decide w p said e
+
+  pub must_be_due : (w : World T) (p : ℕ) (said : Bool) → refusal_of w (Decide p said) ≡ None → not (is_due (flight_in w p)) ≡ false
+  must_be_due w p said e =
+      let a = row_passed (is_at_end w) AtEnd _ e in
+      let b = row_passed (nat_le w.parties p) NoParty _ a.1 in
+      let c = row_passed (is_none (flight_in w p)) Idle _ b.1 in
+      let d = row_passed (not (is_due (flight_in w p))) Undecided _ c.1 in
+      d.0
+
+  pub never_dies : (w : World T) (owner : ℕ) → refusal_of w (Die owner) ≡ None → ⊥
+  never_dies w owner e =
+      let a = row_passed (is_at_end w) AtEnd (Some WrongCall) e in
+      let r : Some WrongCall ≡ None = a.1 in
+      cc

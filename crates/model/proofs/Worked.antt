@@ -1,0 +1,308 @@
+-- The definitions at a worked run, and at histories that they refuse.
+use Rattle.std.proofs.Common.{◌≡◌, ℕ, true, false, Some, None, List, [], ◌∷◌, ◌++◌, length, refl, sym, subst}
+use Rattle.model.specs.declared.event.Item.TheVariants.{Index}
+use Rattle.model.specs.declared.event.Start.TheVariants.{AcquireProducer, AcquireConsumer, Push, Pop, Len}
+use Rattle.model.specs.declared.event.Answer.{Answer}
+use Rattle.model.specs.declared.event.Answer.TheVariants.{Truth, Popped, Number}
+use Rattle.model.specs.declared.event.Event.{Event}
+use Rattle.model.specs.declared.event.Event.TheVariants.{Begun, Published, HandedOut, Acted, Finished}
+use Rattle.model.specs.declared.turn.Kind.TheVariants.{IndexQueue, Overflow}
+use Rattle.model.specs.declared.turn.Turn.{Turn}
+use Rattle.model.specs.declared.turn.Turn.TheVariants.{Begin, Next}
+use Rattle.model.specs.World.{opening, progress_in}
+use Rattle.model.specs.Turns.{run}
+use Rattle.model.specs.Reading.{acts, waiting, moments, Open}
+use Rattle.model.specs.Moments.{BeginsNone}
+use Rattle.model.specs.Objects.{IsLegal, bounded_list, overflowing_list}
+use Rattle.model.specs.Promises.Spans.{Stands, Wrote}
+use Rattle.model.specs.Promises.Book.{AnswersRight}
+use Rattle.model.specs.Promises.Lengths.{TellsLength}
+
+-- a push stops before it publishes, a pop answers None, and then the push goes on
+abbrev turns : List (Turn ℕ)
+turns =
+    Begin 0 AcquireProducer
+    ∷ Next 0
+    ∷ Begin 1 AcquireConsumer
+    ∷ Next 1
+    ∷ Begin 0 (Push (Index 5))
+    ∷ Next 0
+    ∷ Next 0
+    ∷ Next 0
+    ∷ Begin 1 Pop
+    ∷ Next 1
+    ∷ Next 1
+    ∷ Next 1
+    ∷ Next 0
+    ∷ []
+
+abbrev told : List (Event ℕ)
+told =
+    Begun 0 AcquireProducer
+    ∷ Finished 0 AcquireProducer (Truth true)
+    ∷ Begun 1 AcquireConsumer
+    ∷ Finished 1 AcquireConsumer (Truth true)
+    ∷ Begun 0 (Push (Index 5))
+    ∷ Begun 1 Pop
+    ∷ Acted 1 Pop (Popped None)
+    ∷ Finished 1 Pop (Popped None)
+    ∷ Published 0 (Index 5)
+    ∷ Acted 0 (Push (Index 5)) (Truth true)
+    ∷ Finished 0 (Push (Index 5)) (Truth true)
+    ∷ []
+
+pub stopped_push : (run turns (opening IndexQueue 1 2)).events ≡ told
+stopped_push = refl
+
+pub stopped_push_words : (run turns (opening IndexQueue 1 2)).world.words ≡ 1 ∷ 0 ∷ 0 ∷ 0 ∷ 5 ∷ []
+stopped_push_words = refl
+
+pub one_waits : waiting told ≡ Index 5 ∷ []
+one_waits = refl
+
+pub pop_before_push : IsLegal (bounded_list 1) (moments told)
+pop_before_push = refl
+
+-- a length loads both positions, a push moves one, and the length begins again
+abbrev length_turns : List (Turn ℕ)
+length_turns =
+    Begin 0 AcquireProducer
+    ∷ Next 0
+    ∷ Begin 1 Len
+    ∷ Next 1
+    ∷ Next 1
+    ∷ Begin 0 (Push (Index 5))
+    ∷ Next 0
+    ∷ Next 0
+    ∷ Next 0
+    ∷ Next 0
+    ∷ Next 1
+    ∷ Next 1
+    ∷ Next 1
+    ∷ Next 1
+    ∷ Next 1
+    ∷ []
+
+abbrev length_told : List (Event ℕ)
+length_told =
+    Begun 0 AcquireProducer
+    ∷ Finished 0 AcquireProducer (Truth true)
+    ∷ Begun 1 Len
+    ∷ Begun 0 (Push (Index 5))
+    ∷ Published 0 (Index 5)
+    ∷ Acted 0 (Push (Index 5)) (Truth true)
+    ∷ Finished 0 (Push (Index 5)) (Truth true)
+    ∷ []
+
+pub length_again : (run length_turns (opening IndexQueue 1 2)).events ≡ length_told ++ Finished 1 Len (Number 1) ∷ []
+length_again = refl
+
+pub length_counts : progress_in (run length_turns (opening IndexQueue 1 2)).world 1 ≡ Some (record { steps = 7; backs = 1; others = 2; finished = true })
+length_counts = refl
+
+pub one_waited : TellsLength 1 length_told (Finished 1 Len (Number 1))
+one_waited = record { part = length_told; rest = []; is = refl; within = tt; held = refl }
+
+-- 0 would be right as well, since nothing waited as the call began
+pub none_waited : TellsLength 1 length_told (Finished 1 Len (Number 0))
+none_waited =
+    record {
+      part = Begun 0 AcquireProducer ∷ Finished 0 AcquireProducer (Truth true) ∷ Begun 1 Len ∷ [];
+      rest =
+          Begun 0 (Push (Index 5))
+          ∷ Published 0 (Index 5)
+          ∷ Acted 0 (Push (Index 5)) (Truth true)
+          ∷ Finished 0 (Push (Index 5)) (Truth true)
+          ∷ [];
+      is = refl;
+      within = ((λ e. cc), tt);
+      held = refl;
+    }
+
+-- ---- an overflowing queue
+
+-- roles as above, and 1 is pushed into a queue of capacity 1
+abbrev holding_one : List (Turn ℕ)
+holding_one =
+    Begin 0 AcquireProducer
+    ∷ Next 0
+    ∷ Begin 1 AcquireConsumer
+    ∷ Next 1
+    ∷ Begin 0 (Push (Index 1))
+    ∷ Next 0
+    ∷ Next 0
+    ∷ Next 0
+    ∷ Next 0
+    ∷ []
+
+abbrev holding_one_told : List (Event ℕ)
+holding_one_told =
+    Begun 0 AcquireProducer
+    ∷ Finished 0 AcquireProducer (Truth true)
+    ∷ Begun 1 AcquireConsumer
+    ∷ Finished 1 AcquireConsumer (Truth true)
+    ∷ Begun 0 (Push (Index 1))
+    ∷ Published 0 (Index 1)
+    ∷ Acted 0 (Push (Index 1)) (Popped None)
+    ∷ Finished 0 (Push (Index 1)) (Popped None)
+    ∷ []
+
+-- a push has published over the full queue, a length counts both values, and a pop makes the push act
+abbrev room_turns : List (Turn ℕ)
+room_turns =
+    Begin 0 (Push (Index 2))
+    ∷ Next 0
+    ∷ Next 0
+    ∷ Next 0
+    ∷ Next 0
+    ∷ Begin 2 Len
+    ∷ Next 2
+    ∷ Next 2
+    ∷ Next 2
+    ∷ Next 2
+    ∷ Begin 1 Pop
+    ∷ Next 1
+    ∷ Next 1
+    ∷ Next 1
+    ∷ Next 1
+    ∷ Next 0
+    ∷ []
+
+abbrev room_told : List (Event ℕ)
+room_told =
+    Begun 0 (Push (Index 2))
+    ∷ Published 0 (Index 2)
+    ∷ Begun 2 Len
+    ∷ Finished 2 Len (Number 2)
+    ∷ Begun 1 Pop
+    ∷ HandedOut 1 (Index 1)
+    ∷ Acted 1 Pop (Popped (Some (Index 1)))
+    ∷ Acted 0 (Push (Index 2)) (Popped None)
+    ∷ Finished 1 Pop (Popped (Some (Index 1)))
+    ∷ Finished 0 (Push (Index 2)) (Popped None)
+    ∷ []
+
+pub pop_makes_room : (run (holding_one ++ room_turns) (opening Overflow 1 3)).events ≡ holding_one_told ++ room_told
+pop_makes_room = refl
+
+pub room_is_legal : IsLegal (overflowing_list 1) (moments (holding_one_told ++ room_told))
+room_is_legal = refl
+
+-- a pop has loaded the cell, a push takes that value out, and the pop reads again
+abbrev again_turns : List (Turn ℕ)
+again_turns =
+    Begin 1 Pop
+    ∷ Next 1
+    ∷ Next 1
+    ∷ Next 1
+    ∷ Begin 0 (Push (Index 2))
+    ∷ Next 0
+    ∷ Next 0
+    ∷ Next 0
+    ∷ Next 0
+    ∷ Next 0
+    ∷ Next 0
+    ∷ Next 1
+    ∷ Next 1
+    ∷ Next 1
+    ∷ []
+
+abbrev again_told : List (Event ℕ)
+again_told =
+    Begun 1 Pop
+    ∷ Begun 0 (Push (Index 2))
+    ∷ Published 0 (Index 2)
+    ∷ HandedOut 0 (Index 1)
+    ∷ Acted 0 (Push (Index 2)) (Popped (Some (Index 1)))
+    ∷ Finished 0 (Push (Index 2)) (Popped (Some (Index 1)))
+    ∷ HandedOut 1 (Index 2)
+    ∷ Acted 1 Pop (Popped (Some (Index 2)))
+    ∷ Finished 1 Pop (Popped (Some (Index 2)))
+    ∷ []
+
+pub pop_reads_again : (run (holding_one ++ again_turns) (opening Overflow 1 3)).events ≡ holding_one_told ++ again_told
+pop_reads_again = refl
+
+pub pop_counts : progress_in (run (holding_one ++ again_turns) (opening Overflow 1 3)).world 1 ≡ Some (record { steps = 6; backs = 1; others = 3; finished = true })
+pop_counts = refl
+
+pub again_is_legal : IsLegal (overflowing_list 1) (moments (holding_one_told ++ again_told))
+again_is_legal = refl
+
+-- ---- what is refused
+
+-- a pop that answers the value that a push took out
+pub no_stale_pop : IsLegal {T = ℕ} (overflowing_list 1) ((Push (Index 1), Popped None) ∷ (Push (Index 2), Popped (Some (Index 1))) ∷ (Pop, Popped (Some (Index 1))) ∷ []) → ⊥
+no_stale_pop legal = cc
+
+-- a push that acts at its end, after a pop of the next value
+pub no_late_push : IsLegal {T = ℕ} (overflowing_list 1) ((Push (Index 1), Popped None) ∷ (Pop, Popped (Some (Index 2))) ∷ (Push (Index 2), Popped (Some (Index 1))) ∷ []) → ⊥
+no_late_push legal = cc
+
+-- a push that hands a value out of a bounded queue
+pub no_bounded_push_hands_out : Stands {T = ℕ} IndexQueue 1 (HandedOut 0 (Index 5)) (Open (Push (Index 5)) []) → ⊥
+no_bounded_push_hands_out stands = let h : Push (Index 5) ≡ Pop = stands.0 in cc
+
+-- a push that an overflowing queue loses, and one that it publishes without a place for it
+pub no_lost_overflow : Wrote {T = ℕ} Overflow 1 (Push (Index 5)) (Popped None) (Acted 0 (Push (Index 5)) (Popped None) ∷ []) → ⊥
+no_lost_overflow wrote = let p = wrote.published in cc
+
+pub no_place : Wrote {T = ℕ} Overflow 0 (Push (Index 5)) (Popped (Some (Index 5))) (Published 0 (Index 5) ∷ Acted 0 (Push (Index 5)) (Popped (Some (Index 5))) ∷ []) → ⊥
+no_place wrote = let p = wrote.published in cc
+
+-- a push that hands back the newest value
+pub no_newest : IsLegal {T = ℕ} (overflowing_list 1) ((Push (Index 1), Popped None) ∷ (Push (Index 2), Popped (Some (Index 2))) ∷ []) → ⊥
+no_newest legal = cc
+
+-- a pop of a value that nobody pushed
+pub no_invention : IsLegal {T = ℕ} (bounded_list 1) ((Pop, Popped (Some (Index 5))) ∷ []) → ⊥
+no_invention legal = cc
+
+-- a push that is refused by an empty list
+pub no_excuse : IsLegal {T = ℕ} (bounded_list 1) ((Push (Index 5), Truth false) ∷ []) → ⊥
+no_excuse legal = cc
+
+-- a call that acts a second time
+pub no_second_act : Stands {T = ℕ} IndexQueue 1 (Acted 0 Pop (Popped None)) (Open Pop (Acted 0 Pop (Popped None) ∷ [])) → ⊥
+no_second_act stands = let h : (acts {T = ℕ} (Acted 0 Pop (Popped None))) ++ [] ≡ [] = stands.1 in cc
+
+-- a call that ends without having acted
+pub no_silent_end : Stands {T = ℕ} IndexQueue 1 (Finished 0 Pop (Popped None)) (Open Pop []) → ⊥
+no_silent_end stands = let h = stands.1 in let m = h.moments in cc
+
+-- a push that answers true and publishes nothing
+pub no_lost_push : Wrote {T = ℕ} IndexQueue 1 (Push (Index 5)) (Truth true) (Acted 0 (Push (Index 5)) (Truth true) ∷ []) → ⊥
+no_lost_push wrote = let p = wrote.published in cc
+
+-- a pop that answers None while a value waits
+pub no_blind_pop : AnswersRight 1 told (Acted 1 Pop (Popped None)) → ⊥
+no_blind_pop right = cc
+
+-- a length of a moment before the call began
+abbrev earlier : List (Event ℕ)
+earlier = Published 0 (Index 5) ∷ HandedOut 0 (Index 5) ∷ Begun 1 Len ∷ []
+
+abbrev one : Answer ℕ
+one = Number 1
+
+abbrev IsOne : List (Event ℕ) → Type 0
+IsOne part = one ≡ Number (length (waiting part))
+
+not_one : (part rest : List (Event ℕ)) → earlier ≡ part ++ rest → BeginsNone 1 rest → IsOne part → ⊥
+not_one [] rest is within held = cc
+not_one (a ∷ []) rest is within held =
+    let after : HandedOut 0 (Index 5) ∷ Begun 1 Len ∷ [] ≡ rest = cc in
+    let none = subst (BeginsNone 1) (sym after) within in
+    none.0 refl
+not_one (a ∷ b ∷ []) rest is within held =
+    let same : Published 0 (Index 5) ∷ HandedOut 0 (Index 5) ∷ [] ≡ a ∷ b ∷ [] = cc in
+    let zero = subst IsOne (sym same) held in
+    cc
+not_one (a ∷ b ∷ d ∷ []) rest is within held =
+    let same : earlier ≡ a ∷ b ∷ d ∷ [] = cc in
+    let zero = subst IsOne (sym same) held in
+    cc
+not_one (a ∷ b ∷ d ∷ e ∷ part) rest is within held = cc
+
+pub no_length_from_before : TellsLength 1 earlier (Finished 1 Len (Number 1)) → ⊥
+no_length_from_before told = not_one told.part told.rest told.is told.within told.held

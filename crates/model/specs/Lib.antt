@@ -1,0 +1,10 @@
+pub mod Calls
+pub mod Effects
+pub mod Moments
+pub mod Objects
+pub mod Promises
+pub mod Reading
+pub mod Refusals
+pub mod Small
+pub mod Turns
+pub mod World

@@ -1,0 +1,19 @@
+-- What held at a moment of a call.
+use Rattle.std.specs.Prelude.{◌≡◌, ◌≢◌, ℕ, List, [], ◌∷◌, ◌++◌}
+use Rattle.model.specs.declared.event.Event.{Event}
+use Rattle.model.specs.declared.event.Event.TheVariants.{Begun}
+
+module _ {T : Type 0} where
+  -- the party begins no call in these events
+  abbrev pub BeginsNone : ℕ → List (Event T) → Type 0
+  BeginsNone p [] = Unit {0}
+  BeginsNone p (Begun q start ∷ es) = (q ≢ p) × BeginsNone p es
+  BeginsNone p (e ∷ es) = BeginsNone p es
+
+  -- P held at a moment of the party's latest call: of a beginning of the events that reaches into it
+  pub record HeldOnce (p : ℕ) (P : List (Event T) → Type 0) (events : List (Event T)) : Type 0 where
+    pub part : List (Event T)
+    pub rest : List (Event T)
+    pub is : events ≡ part ++ rest
+    pub within : BeginsNone p rest
+    pub held : P part

@@ -1,0 +1,86 @@
+-- How the events of a run are read.
+use Rattle.std.specs.Prelude.{◌≡◌, ℕ, ◌==◌, List, [], ◌∷◌, ◌++◌, length, drop, fold, if◌then◌else◌}
+use Rattle.std.specs.List.{flat_map}
+use Rattle.model.specs.declared.event.Item.{Item}
+use Rattle.model.specs.declared.event.Start.{Start}
+use Rattle.model.specs.declared.event.Answer.{Answer}
+use Rattle.model.specs.declared.event.Event.{Event}
+use Rattle.model.specs.declared.event.Event.TheVariants.{Begun, Published, HandedOut, Acted, Finished}
+
+module _ {T : Type 0} where
+  -- P holds of each event and of what stands before it
+  abbrev pub Each : (List (Event T) → Event T → Type 0) → List (Event T) → Type 0
+  Each P events = (before after : List (Event T)) (e : Event T) → events ≡ before ++ e ∷ after → P before e
+
+  -- ---- values
+
+  abbrev pub publishes : Event T → List (Item T)
+  publishes (Published p item) = item ∷ []
+  publishes e = []
+
+  abbrev pub hands_out : Event T → List (Item T)
+  hands_out (HandedOut p item) = item ∷ []
+  hands_out e = []
+
+  -- the values of the Published events, in order
+  abbrev pub published : List (Event T) → List (Item T)
+  published events = flat_map publishes events
+
+  abbrev pub handed_out : List (Event T) → List (Item T)
+  handed_out events = flat_map hands_out events
+
+  -- what was published and not yet handed out
+  abbrev pub waiting : List (Event T) → List (Item T)
+  waiting events = drop (length (handed_out events)) (published events)
+
+  -- ---- moments: a call and its answer
+
+  abbrev pub acts : Event T → List (Start T × Answer T)
+  acts (Acted p start answer) = (start, answer) ∷ []
+  acts e = []
+
+  -- the calls that acted and their answers, in the order in which they acted
+  abbrev pub moments : List (Event T) → List (Start T × Answer T)
+  moments events = flat_map acts events
+
+  -- ---- spans
+
+  -- whose event it is
+  abbrev pub owner : Event T → ℕ
+  owner (Begun p start) = p
+  owner (Published p item) = p
+  owner (HandedOut p item) = p
+  owner (Acted p start answer) = p
+  owner (Finished p start answer) = p
+
+-- a party's latest call: none yet, one under way, or one that is done, with what it has written since its Begun
+pub data Span (T : Type 0) : Type 0 where
+  Never : Span T
+  Open : (start : Start T) (wrote : List (Event T)) → Span T
+  Ended : (start : Start T) (answer : Answer T) (wrote : List (Event T)) → Span T
+
+module _ {T : Type 0} where
+  abbrev pub longer : Span T → Event T → Span T
+  longer Never e = Never
+  longer (Open start wrote) e = Open start (wrote ++ e ∷ [])
+  longer (Ended start answer wrote) e = Ended start answer (wrote ++ e ∷ [])
+
+  abbrev pub ended : Span T → Answer T → Span T
+  ended Never answer = Never
+  ended (Open start wrote) answer = Ended start answer wrote
+  ended (Ended start first wrote) answer = Ended start first wrote
+
+  -- what an event of its party makes of a span
+  abbrev pub own_after : Span T → Event T → Span T
+  own_after span (Begun p start) = Open start []
+  own_after span (Published p item) = longer span (Published p item)
+  own_after span (HandedOut p item) = longer span (HandedOut p item)
+  own_after span (Acted p start answer) = longer span (Acted p start answer)
+  own_after span (Finished p start answer) = ended span answer
+
+  abbrev pub span_after : ℕ → Span T → Event T → Span T
+  span_after p span e = if owner e == p then own_after span e else span
+
+  -- the span of the party's latest call
+  abbrev pub span_of : ℕ → List (Event T) → Span T
+  span_of p events = fold (span_after p) Never events

@@ -1,0 +1,22 @@
+-- The counts of a machine stay below the number of its turns, so that none of them wraps.
+use Rattle.std.specs.Prelude.{ℕ, ◌-◌, ◌≤◌, ◌^◌}
+use Rattle.std.specs.List.{AllByRecursion}
+use Rattle.model.specs.declared.party.Doing.{Doing}
+use Rattle.model.specs.declared.party.Doing.TheVariants.{Going, Over}
+use Rattle.model.specs.declared.party.Party.{Party}
+use Rattle.model.specs.World.{World}
+
+abbrev pub HasSmallCount : ℕ → Doing → Type 0
+HasSmallCount changes (Going flight since) = since ≤ changes
+HasSmallCount changes (Over others) = others ≤ changes
+
+module _ {T : Type 0} where
+  pub record HasSmallCounts (turns changes : ℕ) (x : Party T) : Type 0 where
+    pub steps : x.steps ≤ turns
+    pub backs : x.backs ≤ turns
+    pub doing : HasSmallCount changes x.doing
+
+  pub record IsSmall (w : World T) : Type 0 where
+    pub turns : w.turns ≤ 2 ^ 64 - 2
+    pub changes : w.changes ≤ w.turns
+    pub latest : AllByRecursion (HasSmallCounts w.turns w.changes) w.latest

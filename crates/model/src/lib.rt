@@ -1,0 +1,10 @@
+//! What a machine is: its calls, parties, turns and events, and what a turn makes of it. The definitions that a reader must
+//! believe stand in `specs/`.
+#![tactic(auto)]
+
+pub mod call;
+pub mod effects;
+pub mod event;
+pub mod party;
+pub mod turn;
+pub mod words;

@@ -1,0 +1,67 @@
+//! What a machine is made of, its turns, and why one is refused.
+ghost use Rattle.std.specs.Prelude.{◌≡◌};
+ghost use Rattle.model.specs.World.{capacity_error};
+
+use crate::event::Start;
+use steps::enums::{OwnerId, UniqueIndexCreationError, capacity_refusal};
+use thiserror::Error;
+
+/// The structure that a machine runs.
+#[derive(Debug, Clone, Copy, PartialEq, Eq)]
+pub enum Kind {
+    IndexQueue,
+    /// The overflowing queue of indices.
+    Overflow,
+}
+
+/// Why a machine of this kind is not made with this capacity, or None. A queue has from 0 to 2^32 - 1.
+pub fn capacity_error(kind: Kind, capacity: usize) -> Option<UniqueIndexCreationError>
+    ensures { result ≡ capacity_error kind capacity }
+{
+    match kind {
+        Kind::IndexQueue => capacity_refusal(capacity as u64, 0, u32::MAX as u64),
+        Kind::Overflow => capacity_refusal(capacity as u64, 0, u32::MAX as u64),
+    }
+}
+
+/// One turn of a run. The number is the party's.
+#[derive(Debug, Clone, Copy, PartialEq, Eq)]
+pub enum Turn<T> {
+    /// The party begins a call. No word is touched.
+    Begin(u32, Start<T>),
+    /// The party's call takes one step, or goes on without one where it asks for no word.
+    Next(u32),
+    /// The party's question is answered by yes or no. No word is touched.
+    Decide(u32, bool),
+    /// The owner dies.
+    Die(OwnerId),
+}
+
+/// Why a turn was refused. A refused turn changes nothing.
+#[derive(Debug, Clone, Copy, PartialEq, Eq, Error)]
+pub enum Refusal {
+    #[error("the party is not below the number of parties")]
+    NoParty = 1,
+    #[error("the party's call is under way")]
+    Busy = 2,
+    #[error("the party has no call under way")]
+    Idle = 3,
+    #[error("the kind has no such call")]
+    WrongCall = 4,
+    #[error("the party does not hold the role")]
+    NoRole = 5,
+    #[error("the party does not hold the index")]
+    NotHeld = 6,
+    #[error("the bit or index is past the capacity")]
+    BadIndex = 7,
+    #[error("the owner is dead")]
+    OwnerIsDead = 8,
+    #[error("the owner lives")]
+    OwnerLives = 9,
+    #[error("a decision is due, or none is")]
+    Undecided = 10,
+    #[error("there is no room for the events")]
+    NoMemory = 11,
+    #[error("as many turns were taken as a machine takes")]
+    AtEnd = 12,
+}

@@ -1,0 +1,60 @@
+-- The push of an overflowing queue that has published and not acted, as parties and positions move.
+use Rattle.std.proofs.Common.{◌≡◌, ◌≢◌, ℕ, ◌≤◌, ⊎_elim, Option, Some, None, option_map, List, length, refl, sym, ap, subst, ◌∙◌, arith}
+use Rattle.std.proofs.lemmas.Bool.{cases_eq}
+use Rattle.model.specs.declared.party.Party.{Party}
+use Rattle.model.specs.declared.turn.Kind.{Kind}
+use Rattle.model.specs.declared.turn.Kind as kinds
+use Rattle.model.specs.World.{party_of, put, doing_of, flight_of, cells_of}
+use Rattle.model.specs.Calls.{words_of_index}
+use Rattle.model.specs.Effects.{pending_at, pending}
+use Rattle.model.proofs.Parties.{party_put_same, party_put_other}
+use Rattle.queue_laws.proofs.Queues.Core.{Core, Good}
+use Rattle.queue_laws.proofs.Queues.Knows.{Hangs}
+
+module _ {T : Type 0} where
+  -- a party whose call is no such push, before and after it moved
+  pub pending_put :
+      (position : ℕ) (pr : Option ℕ) (p : ℕ) (y : Party T) (latest : List (Party T)) → y.number ≡ p → pending_at position (flight_of (Some y.doing)) ≡ None
+      → pending_at position (flight_of (doing_of (party_of p latest))) ≡ None → pending position pr (put y latest) ≡ pending position pr latest
+  pending_put position None p y latest number after before = refl
+  pending_put position (Some q) p y latest number after before = ⊎_elim mine theirs (cases_eq q y.number)
+    where
+      mine : q ≡ y.number → pending position (Some q) (put y latest) ≡ pending position (Some q) latest
+      mine e =
+          let here : party_of q (put y latest) ≡ Some y = ap (λ n. party_of n (put y latest)) e ∙ party_put_same y latest in
+          let none : pending_at position (flight_of (doing_of (party_of q (put y latest)))) ≡ None = ap (λ o. pending_at position (flight_of (doing_of o))) here ∙ after in
+          let was : pending_at position (flight_of (doing_of (party_of q latest))) ≡ None = ap (λ n. pending_at position (flight_of (doing_of (party_of n latest)))) (e ∙ number) ∙ before in
+          ap (option_map (λ (v : ℕ). (q, v))) (none ∙ sym was)
+
+      theirs : q ≢ y.number → pending position (Some q) (put y latest) ≡ pending position (Some q) latest
+      theirs ne = ap (λ o. option_map (λ (v : ℕ). (q, v)) (pending_at position (flight_of (doing_of o)))) (party_put_other q y latest ne)
+
+  -- the party that has moved holds the role
+  pub pending_here : (position : ℕ) (y : Party T) (latest : List (Party T)) → pending position (Some y.number) (put y latest) ≡ option_map (λ v. (y.number, v)) (pending_at position (flight_of (Some y.doing)))
+  pending_here position y latest = ap (λ o. option_map (λ (v : ℕ). (y.number, v)) (pending_at position (flight_of (doing_of o)))) (party_put_same y latest)
+
+pub hangs_same : (kd : Kind) (c : ℕ) (k k' : Core ℕ) (o o' : Option (ℕ × ℕ)) → k'.waiting ≡ k.waiting → o' ≡ o → Hangs kd c k o → Hangs kd c k' o'
+hangs_same kinds.TheVariants.IndexQueue c k k' o o' same e h = tt
+hangs_same kinds.TheVariants.Overflow c k k' o o' same e h = subst (Hangs kinds.TheVariants.Overflow c k') (sym e) (go o h)
+  where
+    go : (o : Option (ℕ × ℕ)) → Hangs kinds.TheVariants.Overflow c k o → Hangs kinds.TheVariants.Overflow c k' o
+    go None h = rw same h
+    go (Some push) h = (h.0, h.1, same ∙ h.2, h.3)
+
+-- where no push is pending
+pub few_wait : (kd : Kind) (c : ℕ) (k : Core ℕ) (o : Option (ℕ × ℕ)) → o ≡ None → Good 1 words_of_index (cells_of kd c) k → Hangs kd c k o → length k.waiting ≤ c
+few_wait kinds.TheVariants.IndexQueue c k o e g h = g.few
+few_wait kinds.TheVariants.Overflow c k o e g h = subst (Hangs kinds.TheVariants.Overflow c k) e h
+
+pub none_hangs : (kd : Kind) (c : ℕ) (k : Core ℕ) (o : Option (ℕ × ℕ)) → o ≡ None → length k.waiting ≤ c → Hangs kd c k o
+none_hangs kinds.TheVariants.IndexQueue c k o e few = tt
+none_hangs kinds.TheVariants.Overflow c k o e few = subst (Hangs kinds.TheVariants.Overflow c k) (sym e) few
+
+-- without capacity nothing waits
+pub nothing_waits : (kd : Kind) (c : ℕ) (k : Core ℕ) (o : Option (ℕ × ℕ)) → c ≡ 0 → Good 1 words_of_index (cells_of kd c) k → Hangs kd c k o → length k.waiting ≡ 0
+nothing_waits kinds.TheVariants.IndexQueue c k o e g h = let few = g.few in omega arith
+nothing_waits kinds.TheVariants.Overflow c k o e g h = go o h
+  where
+    go : (o : Option (ℕ × ℕ)) → Hangs kinds.TheVariants.Overflow c k o → length k.waiting ≡ 0
+    go None h = omega arith
+    go (Some push) h = let some = h.0 in absurd (omega arith)

@@ -1,0 +1,5 @@
+-- The calls of the queues, as tables.
+pub mod Lengths
+pub mod Overflow
+pub mod Ring
+pub mod Roles

@@ -1,0 +1,5 @@
+//! The calls of the queues, on the roles and on the number of values that wait.
+pub mod lengths;
+pub mod overflow;
+pub mod ring;
+pub mod roles;

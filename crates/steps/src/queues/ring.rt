@@ -1,0 +1,306 @@
+//! The calls of the bounded queue with one producer and one consumer, over values of any number of words.
+//!
+//! Its words are the write position, the read position, the producer's role, the consumer's role, and then the cells,
+//! `capacity` of them with `T::WORDS` words each. The position p stands in the cell p mod capacity.
+ghost use Rattle.std.specs.Prelude.{◌≡◌};
+ghost use Rattle.steps.specs.Copied.{value_in};
+ghost use Rattle.steps.specs.Queues.Ring.{cell_word, first_push, push_want, push_after, first_pop, pop_want, pop_after, pop_kept, pop_answer};
+
+use crate::ask::{After, Ask, Op, Want};
+use crate::copied::Room;
+use crate::routine::{Ends, Routine};
+use crate::words::Words;
+use std::alloc::AllocError;
+use std::marker::PhantomData;
+
+/// The word of the write position.
+pub const WRITE: usize = 0;
+/// The word of the read position.
+pub const READ: usize = 1;
+/// The word of the producer's role.
+pub const PRODUCER: usize = 2;
+/// The word of the consumer's role.
+pub const CONSUMER: usize = 3;
+/// The first word of the first cell.
+pub const FIRST_CELL: usize = 4;
+
+/// The first word of the position's cell, where a value has so many words. A queue of capacity 0 has no cell, and never
+/// asks for one.
+#[inline(always)]
+pub fn cell_word(capacity: u32, words: u8, position: u64) -> usize
+    ensures { result ≡ cell_word capacity words position }
+{
+    if capacity == 0 {
+        FIRST_CELL
+    } else {
+        FIRST_CELL + words as usize * (position % capacity as u64) as usize
+    }
+}
+
+/// Appends the value that it is given: true, or false where the queue is full. At most 3 + `T::WORDS` steps.
+///
+/// It loads the write position (u64::MAX: false, and nothing changes), loads the read position (`capacity` behind: false,
+/// and nothing changes), stores the value's words into its cell, and stores the next write position. One push at a time
+/// is the caller's concern. After `push` of the Rust crate's `IndexQueue` and `Queue`.
+#[derive(Debug, Clone, Copy)]
+pub struct Push<T> {
+    pub capacity: u32,
+    pub stage: PushStage,
+    pub of: PhantomData<T>,
+}
+
+/// What a push does next, the positions that it has loaded, and the first word of its cell.
+#[derive(Debug, Clone, Copy)]
+pub enum PushStage {
+    LoadsWrite,
+    LoadsRead { write: u64 },
+    StoresCell { write: u64, cell: usize, at: u8 },
+    StoresWrite { write: u64 },
+}
+
+/// Takes the oldest value, or None where the queue is empty, by way of a room R. At most 3 + `T::WORDS` steps.
+///
+/// It loads the read position, loads the write position (the same: None, and nothing changes), loads the cell's words,
+/// and stores the next read position. One pop at a time is the caller's concern. After `pop` of the Rust crate's
+/// `IndexQueue` and `Queue`.
+pub struct Pop<T, R> {
+    pub capacity: u32,
+    pub stage: PopStage,
+    pub of: PhantomData<(T, R)>,
+}
+
+/// What a pop does next, the position that it has loaded, and the first word of its cell.
+#[derive(Debug, Clone, Copy)]
+pub enum PopStage {
+    LoadsRead,
+    LoadsWrite { read: u64 },
+    LoadsCell { read: u64, cell: usize, at: u8 },
+    StoresRead { read: u64 },
+}
+
+impl<T, R> Clone for Pop<T, R> {
+    fn clone(&self) -> Result<Pop<T, R>, AllocError> {
+        Ok(*self)
+    }
+}
+
+impl<T, R> Copy for Pop<T, R> {}
+
+impl<T: Words> Push<T> {
+    /// A push that has taken no step.
+    #[inline(always)]
+    pub fn new(capacity: u32) -> Push<T>
+        ensures { result ≡ first_push capacity }
+    {
+        Push {
+            capacity,
+            stage: PushStage::LoadsWrite,
+            of: PhantomData,
+        }
+    }
+}
+
+impl<T: Words, R: Room<T>> Pop<T, R> {
+    /// A pop that has taken no step.
+    #[inline(always)]
+    pub fn new(capacity: u32) -> Pop<T, R>
+        ensures { result ≡ first_pop capacity }
+    {
+        Pop {
+            capacity,
+            stage: PopStage::LoadsRead,
+            of: PhantomData,
+        }
+    }
+}
+
+impl<T: Words> Routine for Push<T> {
+    ghost use Rattle.steps.specs.Laws.{push_tells};
+
+    type Given = T;
+
+    type Room = ();
+
+    type End = bool;
+
+    type Value = T;
+
+    type Answer = bool;
+
+    ghost want_of = { push_want T.words_of };
+
+    ghost after = { λ c given old. push_after T.WORDS c old };
+
+    ghost kept = { λ c room old. room };
+
+    ghost value_of = { λ given room. given };
+
+    ghost answer_of = { λ end given room. end };
+
+    ghost store_tells_nothing = { λ c given room m n t. push_tells T.words_of T.WORDS c c.stage given room m n t };
+
+    #[inline(always)]
+    fn ask(self, given: &T) -> Want<()> {
+        let (word, op) = match self.stage {
+            PushStage::LoadsWrite => (WRITE, Op::Load),
+            PushStage::LoadsRead { .. } => (READ, Op::Load),
+            PushStage::StoresCell { cell, at, .. } => {
+                let new = if (at as usize) < T::WORDS {
+                    given.word(at as usize)
+                } else {
+                    0
+                };
+                (cell.wrapping_add(at as usize), Op::Store(new))
+            }
+            PushStage::StoresWrite { write } => (WRITE, Op::Store(write.wrapping_add(1))),
+        };
+        Want::Ask(Ask { word, op })
+    }
+
+    #[inline(always)]
+    fn take(self, _given: &T, _room: &mut (), answer: u64) -> After<Push<T>, bool> {
+        let stage = match self.stage {
+            PushStage::LoadsWrite => {
+                if answer == u64::MAX {
+                    return After::Done(false);
+                }
+                PushStage::LoadsRead { write: answer }
+            }
+            PushStage::LoadsRead { write } => {
+                if self.capacity == 0 || write.wrapping_sub(answer) == self.capacity as u64 {
+                    return After::Done(false);
+                }
+                PushStage::StoresCell {
+                    write,
+                    cell: cell_word(self.capacity, T::WORDS as u8, write),
+                    at: 0,
+                }
+            }
+            PushStage::StoresCell { write, cell, at } => {
+                if (at as usize) + 1 < T::WORDS {
+                    PushStage::StoresCell {
+                        write,
+                        cell,
+                        at: at + 1,
+                    }
+                } else {
+                    PushStage::StoresWrite { write }
+                }
+            }
+            PushStage::StoresWrite { .. } => return After::Done(true),
+        };
+        After::GoOn(Push {
+            capacity: self.capacity,
+            stage,
+            of: PhantomData,
+        })
+    }
+
+    fn value(given: &T, _room: &()) -> T {
+        *given
+    }
+
+    #[inline(always)]
+    fn answer(end: bool, _given: &T, _room: &()) -> bool {
+        end
+    }
+}
+
+impl<T: Words> Ends for Push<T> {
+    ghost use Rattle.steps.specs.Queues.Ring.{push_left};
+    ghost use Rattle.steps.specs.Laws.{push_fewer};
+
+    ghost left = { λ c. push_left T.WORDS c.stage };
+
+    ghost fewer = { λ c d given n goes. push_fewer T.WORDS c d n goes };
+}
+
+impl<T: Words, R: Room<T> + Drop> Routine for Pop<T, R> {
+    ghost use Rattle.steps.specs.Laws.{pop_tells};
+
+    type Given = ();
+
+    type Room = R;
+
+    type End = bool;
+
+    type Value = T;
+
+    type Answer = Option<T>;
+
+    ghost want_of = { λ c given. pop_want c };
+
+    ghost after = { λ c given old. pop_after T.WORDS c old };
+
+    ghost kept = { pop_kept R.with_word };
+
+    ghost value_of = { λ given room. value_in T.value_of T.WORDS (R.words_in room) };
+
+    ghost answer_of = { λ end given room. pop_answer (value_in T.value_of T.WORDS (R.words_in room)) end };
+
+    ghost store_tells_nothing = { λ c given room m n t. pop_tells R.with_word T.WORDS c c.stage room m n t };
+
+    #[inline(always)]
+    fn ask(self, _given: &()) -> Want<()> {
+        let (word, op) = match self.stage {
+            PopStage::LoadsRead => (READ, Op::Load),
+            PopStage::LoadsWrite { .. } => (WRITE, Op::Load),
+            PopStage::LoadsCell { cell, at, .. } => (cell.wrapping_add(at as usize), Op::Load),
+            PopStage::StoresRead { read } => (READ, Op::Store(read.wrapping_add(1))),
+        };
+        Want::Ask(Ask { word, op })
+    }
+
+    #[inline(always)]
+    fn take(self, _given: &(), room: &mut R, answer: u64) -> After<Pop<T, R>, bool> {
+        let stage = match self.stage {
+            PopStage::LoadsRead => PopStage::LoadsWrite { read: answer },
+            PopStage::LoadsWrite { read } => {
+                if self.capacity == 0 || answer == read {
+                    return After::Done(false);
+                }
+                PopStage::LoadsCell {
+                    read,
+                    cell: cell_word(self.capacity, T::WORDS as u8, read),
+                    at: 0,
+                }
+            }
+            PopStage::LoadsCell { read, cell, at } => {
+                room.put(at as usize, answer);
+                if (at as usize) + 1 < T::WORDS {
+                    PopStage::LoadsCell {
+                        read,
+                        cell,
+                        at: at + 1,
+                    }
+                } else {
+                    PopStage::StoresRead { read }
+                }
+            }
+            PopStage::StoresRead { .. } => return After::Done(true),
+        };
+        After::GoOn(Pop {
+            capacity: self.capacity,
+            stage,
+            of: PhantomData,
+        })
+    }
+
+    fn value(_given: &(), room: &R) -> T {
+        room.value()
+    }
+
+    #[inline(always)]
+    fn answer(end: bool, _given: &(), room: &R) -> Option<T> {
+        if end { Some(room.value()) } else { None }
+    }
+}
+
+impl<T: Words, R: Room<T> + Drop> Ends for Pop<T, R> {
+    ghost use Rattle.steps.specs.Queues.Ring.{pop_left};
+    ghost use Rattle.steps.specs.Laws.{pop_fewer};
+
+    ghost left = { λ c. pop_left T.WORDS c.stage };
+
+    ghost fewer = { λ c d given n goes. pop_fewer T.WORDS c d n goes };
+}

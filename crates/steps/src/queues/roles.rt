@@ -1,0 +1,136 @@
+//! The two roles of a structure that has one producer and one consumer at a time.
+ghost use Rattle.steps.specs.Queues.Roles.{acquire_want, acquire_after, release_want, release_after};
+
+use crate::ask::{After, Ask, Op, Want};
+use crate::routine::{Ends, Routine};
+
+#[derive(Debug, Clone, Copy, PartialEq, Eq)]
+pub enum Role {
+    Producer,
+    Consumer,
+}
+
+/// Takes a role: true where it was free, else false and nothing changes. One step, an exchange of 1 to 0.
+/// After `acquire_producer` and `acquire_consumer` of the Rust crate's queues.
+#[derive(Debug, Clone, Copy)]
+pub struct AcquireRole {
+    /// The role's word, 1 while the role is free and 0 while it is taken.
+    pub word: usize,
+}
+
+/// Gives a role back. One step, a store of 1. After the drop of the Rust crate's `Producer` and `Consumer`.
+#[derive(Debug, Clone, Copy)]
+pub struct ReleaseRole {
+    /// The role's word.
+    pub word: usize,
+}
+
+impl Routine for AcquireRole {
+    ghost use Rattle.steps.specs.Laws.{acquire_tells};
+
+    type Given = ();
+
+    type Room = ();
+
+    type End = bool;
+
+    type Value = u64;
+
+    type Answer = bool;
+
+    ghost want_of = { λ c given. acquire_want c };
+
+    ghost after = { λ c given old. acquire_after c old };
+
+    ghost kept = { λ c room old. room };
+
+    ghost value_of = { λ given room. 0 };
+
+    ghost answer_of = { λ end given room. end };
+
+    ghost store_tells_nothing = { λ c given room m n t. acquire_tells c room m n t };
+
+    #[inline(always)]
+    fn ask(self, _given: &()) -> Want<()> {
+        Want::Ask(Ask {
+            word: self.word,
+            op: Op::Exchange(1, 0),
+        })
+    }
+
+    #[inline(always)]
+    fn take(self, _given: &(), _room: &mut (), answer: u64) -> After<AcquireRole, bool> {
+        After::Done(answer == 1)
+    }
+
+    fn value(_given: &(), _room: &()) -> u64 {
+        0
+    }
+
+    #[inline(always)]
+    fn answer(end: bool, _given: &(), _room: &()) -> bool {
+        end
+    }
+}
+
+impl Ends for AcquireRole {
+    ghost use Rattle.steps.specs.Laws.{acquire_fewer};
+
+    ghost left = { λ c. 0 };
+
+    ghost fewer = { λ c d given n goes. acquire_fewer c d n goes };
+}
+
+impl Routine for ReleaseRole {
+    ghost use Rattle.steps.specs.Laws.{release_tells};
+
+    type Given = ();
+
+    type Room = ();
+
+    type End = ();
+
+    type Value = u64;
+
+    type Answer = ();
+
+    ghost want_of = { λ c given. release_want c };
+
+    ghost after = { λ c given old. release_after c old };
+
+    ghost kept = { λ c room old. room };
+
+    ghost value_of = { λ given room. 0 };
+
+    ghost answer_of = { λ end given room. end };
+
+    ghost store_tells_nothing = { λ c given room m n t. release_tells c room m n t };
+
+    #[inline(always)]
+    fn ask(self, _given: &()) -> Want<()> {
+        Want::Ask(Ask {
+            word: self.word,
+            op: Op::Store(1),
+        })
+    }
+
+    #[inline(always)]
+    fn take(self, _given: &(), _room: &mut (), _answer: u64) -> After<ReleaseRole, ()> {
+        After::Done(())
+    }
+
+    fn value(_given: &(), _room: &()) -> u64 {
+        0
+    }
+
+    #[inline(always)]
+    fn answer(_end: (), _given: &(), _room: &()) {}
+}
+
+impl Ends for ReleaseRole {
+    ghost use Rattle.steps.specs.Laws.{release_fewer};
+
+    ghost left = { λ c. 0 };
+
+    ghost fewer = { λ c d given n goes. release_fewer c d n goes };
+}
