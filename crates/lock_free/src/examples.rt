@@ -1,5 +1,5 @@
 //! The worked pieces of CALLING.md.
 mod percent;
-mod reading;
+pub mod reading;
 mod roles;
 mod two_numbers;

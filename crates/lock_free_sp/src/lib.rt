@@ -3,13 +3,11 @@
 //! Each call drives a value of the crate `steps` on the words of a table of `atomic_table`; those of the queues of numbers
 //! are the ones that the machine runs.
 //! What a caller knows of a structure is the view of its pass; the rule of the table says how the views of all passes fit
-//! together.
+//! together. No contract here counts the steps of a call. The tests stand in the crate `lock_free`.
 #![tactic(auto)]
 
 pub mod driver;
 pub mod ring;
 pub mod spmc;
 pub mod spsc;
-#[cfg(test)]
-mod tests;
 pub mod value;

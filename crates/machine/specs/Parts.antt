@@ -1,4 +1,21 @@
--- The machine that a program's parts make.
+-- The machine that a program's parts make, and what a turn of one party makes of its parts.
+use Rattle.std.specs.Prelude.{◌≡◌, ◌⊎◌, ℕ, ◌+◌, Bool, not, Option, Some, None, is_none, List, [], ◌∷◌, ◌++◌}
+use Rattle.steps.specs.declared.ask.Ask.{Ask}
+use Rattle.model.specs.declared.event.Event.{Event}
+use Rattle.model.specs.declared.families.Beside.{Beside}
+use Rattle.model.specs.declared.families.Flight.{Flight}
+use Rattle.model.specs.declared.families.Kept.{Kept}
+use Rattle.model.specs.declared.party.Doing.{Doing}
+use Rattle.model.specs.declared.party.Doing.TheVariants.{Going, Over}
+use Rattle.model.specs.declared.party.Party.{Party}
+use Rattle.model.specs.declared.turn.Refusal.{Refusal}
+use Rattle.model.specs.declared.turn.Refusal.TheVariants.{Idle, Undecided, NoMemory}
+use Rattle.model.specs.Families.{want_of, ask_of, step_of}
+use Rattle.model.specs.Parties.{flight_of}
+use Rattle.model.specs.Refusals.{is_due}
+use Rattle.model.specs.Rows.{first_row}
+use Rattle.model.specs.Step.{Step}
+use Rattle.model.specs.Turns.{old_of, words_after, change_of, step_count, number_of, party_after, events_of_step}
 use Rattle.model.specs.World.{Trace}
 use Rattle.machine.specs.declared.parts.Parts.{Parts}
 
@@ -12,11 +29,58 @@ trace_of m =
             capacity = m.capacity;
             parties = m.parties;
             words = m.words.items;
-            producer = m.producer;
-            consumer = m.consumer;
-            latest = m.latest.items;
+            kept = m.kept;
+            latest = m.latest.entries;
             changes = m.changes;
             turns = m.turns;
           };
       events = m.events.items;
     }
+
+-- what is tested of the call that is to go on, with a decision or without
+abbrev pub going_rows : Option Flight → Option Bool → List (Bool × Refusal)
+going_rows flight None = (is_none flight, Idle) ∷ (is_due flight, Undecided) ∷ []
+going_rows flight (Some said) = (is_none flight, Idle) ∷ (not (is_due flight), Undecided) ∷ []
+
+abbrev pub going_refusal : Doing → Option Bool → Option Refusal
+going_refusal doing said = first_row (going_rows (flight_of (Some doing)) said)
+
+-- a refusal of it names the first row that applies; where none does, memory was refused
+abbrev pub IsGoingRefusal : Doing → Option Bool → Refusal → Type 0
+IsGoingRefusal doing said refusal = (going_refusal doing said ≡ Some refusal) ⊎ (going_refusal doing said ≡ None) × (refusal ≡ NoMemory)
+
+-- the operation that the call does: none with a decision
+abbrev pub ask_with : Option Bool → Flight → Option Ask
+ask_with None flight = ask_of (want_of flight)
+ask_with (Some said) flight = None
+
+-- what it is handed: the old value of its word, or the decision
+abbrev pub answer_with : Option Bool → List ℕ → Flight → ℕ
+answer_with None words flight = old_of words (ask_of (want_of flight))
+answer_with (Some said) words flight = number_of said
+
+-- what a party's turn works on
+pub record Around (T : Type 0) : Type 0 where
+  pub party : Party T
+  pub words : List ℕ
+  pub kept : Kept
+  pub changes : ℕ
+  pub events : List (Event T)
+
+module _ {T : Type 0} where
+  abbrev after_going : ℕ → Option Ask → Party T → ℕ → Around T → Step Flight Kept T → Around T
+  after_going p ask x since a s =
+      record {
+        party = party_after x since a.changes (step_count ask) (change_of a.words ask) s;
+        words = words_after a.words ask;
+        kept = s.kept;
+        changes = a.changes + change_of a.words ask;
+        events = a.events ++ events_of_step p x.start s;
+      }
+
+  -- what the turn makes of it; a call that is done stays
+  abbrev pub after_turn_of : ℕ → Option Bool → Beside → Doing → Around T → Around T
+  after_turn_of p said beside (Over others) a = a
+  after_turn_of p said beside (Going flight since) a =
+      after_going p (ask_with said flight) a.party since a
+      (step_of a.words beside p a.party.start flight (answer_with said a.words flight) a.kept)

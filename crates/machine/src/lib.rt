@@ -13,9 +13,8 @@ mod parts;
 #[cfg(test)]
 mod tests;
 
-pub use model::{event, party, turn};
-
 use event::Event;
+pub use model::{event, families, party, turn};
 use parts::Parts;
 use party::{Progress, flight_of, progress_of};
 use turn::{Kind, Refusal, Turn};
@@ -40,11 +39,11 @@ impl<T> Model for Machine<T> {
 }
 
 impl<T: Words> Machine<T> {
-    ghost use Rattle.model.specs.World.{opening, capacity_error, progress_in, progress_after, party_of};
+    ghost use Rattle.model.specs.World.{opening, capacity_error, progress_in};
     ghost use Rattle.model.specs.Refusals.{refusal_of, IsRefusal, is_going};
-    ghost use Rattle.model.specs.Turns.{turned, all_taken, AreAllowed};
+    ghost use Rattle.model.specs.Turns.{after_turn, after_turns, AreAllowed};
     ghost use Rattle.model.specs.Promises.{IsKept, AreTurns};
-    ghost use Rattle.model.specs.Promises.Steps.{WritesOneWord, GoesOn, CountsStep, CountsOthers, IsJustified};
+    ghost use Rattle.model.specs.Promises.Turns.{WritesOneWord, GoesOn, CountsTurn, CountsOthers, WritesDown};
 
     /// A structure that is empty, with both roles free, and this many parties, numbered from 0. Parties cost nothing
     /// until they begin a call.
@@ -77,14 +76,14 @@ impl<T: Words> Machine<T> {
         ensures err { OnErr result (self.new ≡ self.old) }
 
         // What the turn makes of the machine, and what it writes down.
-        ensures ok { OnOk result (self.new ≡ turned self.old turn) }
+        ensures ok { OnOk result (self.new ≡ after_turn self.old turn) }
 
         // The same, in its own words.
         ensures word { OnOk result (WritesOneWord self.old.world turn self.new.world) }
         ensures call { OnOk result (GoesOn self.old.world turn self.new.world) }
-        ensures steps { OnOk result (CountsStep self.old.world turn self.new.world) }
+        ensures counts { OnOk result (CountsTurn self.old.world turn self.new.world) }
         ensures others { OnOk result (CountsOthers self.old.world turn self.new.world) }
-        ensures justified { OnOk result (IsJustified self.old turn) }
+        ensures events { OnOk result (WritesDown self.old turn self.new) }
 
         // The promises of every run.
         ensures kept { IsKept self.new }
@@ -98,7 +97,7 @@ impl<T: Words> Machine<T> {
     pub fn run(&mut self, turns: &[Turn<T>]) -> usize
         ensures count { result ≤ length turns.now }
         ensures allowed { AreAllowed self.old (take result turns.now) }
-        ensures taken { self.new ≡ all_taken self.old (take result turns.now) }
+        ensures taken { self.new ≡ after_turns self.old (take result turns.now) }
         ensures each { AreTurns self.old (take result turns.now) }
         ensures kept { IsKept self.new }
     {

@@ -1,9 +1,12 @@
 //! The worked rows of both queues, each refusal that it can show, and answers that no clause rules out.
 use crate::Machine;
 use crate::event::{Answer, Event, Item, Start};
+use crate::families::queues::QueueStart;
 use crate::turn::{Kind, Refusal, Turn, capacity_error};
 use std::test::Fail;
 use steps::enums::{OwnerId, UniqueIndexCreationError};
+
+mod size;
 
 /// The party begins a call and takes this many turns of it.
 fn calls(
@@ -20,14 +23,24 @@ fn calls(
 }
 
 fn index(value: u64) -> Start<u128> {
-    Start::Push(Item::Index(value))
+    Start::Queues(QueueStart::PushIndex(value))
 }
 
 /// A queue of this capacity and three parties, party 0 with the producer's role and party 1 with the consumer's.
 fn queue(rt: &HostRuntime, kind: Kind, capacity: usize) -> Result<Machine<u128>, Fail> {
     let mut machine = Machine::new(rt.alloc(), kind, capacity, 3)?;
-    calls(&mut machine, 0, Start::AcquireProducer, 1)?;
-    calls(&mut machine, 1, Start::AcquireConsumer, 1)?;
+    calls(
+        &mut machine,
+        0,
+        Start::Queues(QueueStart::AcquireProducer),
+        1,
+    )?;
+    calls(
+        &mut machine,
+        1,
+        Start::Queues(QueueStart::AcquireConsumer),
+        1,
+    )?;
     Ok(machine)
 }
 
@@ -43,8 +56,8 @@ fn events_from(machine: &Machine<u128>, at: usize) -> &[Event<u128>] {
 /// The answer of a push or a pop.
 fn popped(value: Option<u64>) -> Answer<u128> {
     match value {
-        Some(index) => Answer::Popped(Some(Item::Index(index))),
-        None => Answer::Popped(None),
+        Some(index) => Answer::PoppedIndex(index),
+        None => Answer::PoppedNone,
     }
 }
 
@@ -67,13 +80,10 @@ fn push_and_pop_at_capacity_128(rt: HostRuntime) -> Result<(), Fail> {
     let mut machine = with_roles(&rt, 128)?;
     calls(&mut machine, 0, index(1234), 4)?;
     assert_eq!(rt; last_answer(&machine), Some(Answer::Truth(true)));
-    calls(&mut machine, 1, Start::Pop, 4)?;
-    assert_eq!(rt;
-        last_answer(&machine),
-        Some(Answer::Popped(Some(Item::Index(1234))))
-    );
-    calls(&mut machine, 1, Start::Pop, 2)?;
-    assert_eq!(rt; last_answer(&machine), Some(Answer::Popped(None)));
+    calls(&mut machine, 1, Start::Queues(QueueStart::Pop), 4)?;
+    assert_eq!(rt; last_answer(&machine), Some(Answer::PoppedIndex(1234)));
+    calls(&mut machine, 1, Start::Queues(QueueStart::Pop), 2)?;
+    assert_eq!(rt; last_answer(&machine), Some(Answer::PoppedNone));
     Ok(())
 }
 
@@ -82,14 +92,14 @@ fn a_queue_of_capacity_0_is_full_and_empty(rt: HostRuntime) -> Result<(), Fail> 
     let mut machine = with_roles(&rt, 0)?;
     calls(&mut machine, 0, index(1), 2)?;
     assert_eq!(rt; last_answer(&machine), Some(Answer::Truth(false)));
-    calls(&mut machine, 1, Start::Pop, 2)?;
-    assert_eq!(rt; last_answer(&machine), Some(Answer::Popped(None)));
+    calls(&mut machine, 1, Start::Queues(QueueStart::Pop), 2)?;
+    assert_eq!(rt; last_answer(&machine), Some(Answer::PoppedNone));
     assert_eq!(rt; machine.words(), [0, 0, 0, 0].as_slice());
-    calls(&mut machine, 0, Start::Len, 4)?;
+    calls(&mut machine, 0, Start::Queues(QueueStart::Len), 4)?;
     assert_eq!(rt; last_answer(&machine), Some(Answer::Number(0)));
-    calls(&mut machine, 0, Start::IsEmpty, 4)?;
+    calls(&mut machine, 0, Start::Queues(QueueStart::IsEmpty), 4)?;
     assert_eq!(rt; last_answer(&machine), Some(Answer::Truth(true)));
-    calls(&mut machine, 0, Start::IsFull, 4)?;
+    calls(&mut machine, 0, Start::Queues(QueueStart::IsFull), 4)?;
     assert_eq!(rt; last_answer(&machine), Some(Answer::Truth(true)));
     Ok(())
 }
@@ -100,11 +110,11 @@ fn lengths_need_no_role(rt: HostRuntime) -> Result<(), Fail> {
     // How many values wait, whether none does, and whether no more has room.
     let rows = [(0, true, false), (1, false, false), (2, false, true)];
     for (number, is_empty, is_full) in rows {
-        calls(&mut machine, 1, Start::Len, 4)?;
+        calls(&mut machine, 1, Start::Queues(QueueStart::Len), 4)?;
         assert_eq!(rt; last_answer(&machine), Some(Answer::Number(number)));
-        calls(&mut machine, 1, Start::IsEmpty, 4)?;
+        calls(&mut machine, 1, Start::Queues(QueueStart::IsEmpty), 4)?;
         assert_eq!(rt; last_answer(&machine), Some(Answer::Truth(is_empty)));
-        calls(&mut machine, 1, Start::IsFull, 4)?;
+        calls(&mut machine, 1, Start::Queues(QueueStart::IsFull), 4)?;
         assert_eq!(rt; last_answer(&machine), Some(Answer::Truth(is_full)));
         if !is_full {
             calls(&mut machine, 0, index(7), 4)?;
@@ -116,10 +126,20 @@ fn lengths_need_no_role(rt: HostRuntime) -> Result<(), Fail> {
 #[test]
 fn a_length_begins_again_where_a_position_moved(rt: HostRuntime) -> Result<(), Fail> {
     let mut machine: Machine<u128> = Machine::new(rt.alloc(), Kind::IndexQueue, 1, 3)?;
-    calls(&mut machine, 0, Start::AcquireProducer, 1)?;
-    calls(&mut machine, 1, Start::AcquireConsumer, 1)?;
+    calls(
+        &mut machine,
+        0,
+        Start::Queues(QueueStart::AcquireProducer),
+        1,
+    )?;
+    calls(
+        &mut machine,
+        1,
+        Start::Queues(QueueStart::AcquireConsumer),
+        1,
+    )?;
     // The third load finds another write position.
-    calls(&mut machine, 2, Start::Len, 2)?;
+    calls(&mut machine, 2, Start::Queues(QueueStart::Len), 2)?;
     calls(&mut machine, 0, index(5), 4)?;
     assert_eq!(rt; counts(&machine, 2)?, (2, 0, 2, false));
     machine.step(Turn::Next(2))?;
@@ -130,8 +150,8 @@ fn a_length_begins_again_where_a_position_moved(rt: HostRuntime) -> Result<(), F
     assert_eq!(rt; counts(&machine, 2)?, (7, 1, 2, true));
     assert_eq!(rt; last_answer(&machine), Some(Answer::Number(1)));
     // The fourth load finds another read position.
-    calls(&mut machine, 2, Start::IsFull, 3)?;
-    calls(&mut machine, 1, Start::Pop, 4)?;
+    calls(&mut machine, 2, Start::Queues(QueueStart::IsFull), 3)?;
+    calls(&mut machine, 1, Start::Queues(QueueStart::Pop), 4)?;
     machine.step(Turn::Next(2))?;
     assert_eq!(rt; counts(&machine, 2)?, (4, 1, 1, false));
     for _ in 0..4 {
@@ -147,15 +167,15 @@ fn a_push_stopped_before_it_publishes(rt: HostRuntime) -> Result<(), Fail> {
     let mut machine = with_roles(&rt, 1)?;
     let before = machine.events().len();
     calls(&mut machine, 0, index(5), 3)?;
-    calls(&mut machine, 1, Start::Pop, 2)?;
+    calls(&mut machine, 1, Start::Queues(QueueStart::Pop), 2)?;
     assert_eq!(rt; machine.words(), [0, 0, 0, 0, 5].as_slice());
     machine.step(Turn::Next(0))?;
     let push = index(5);
     let told = [
         Event::Begun(0, push),
-        Event::Begun(1, Start::Pop),
-        Event::Acted(1, Start::Pop, Answer::Popped(None)),
-        Event::Finished(1, Start::Pop, Answer::Popped(None)),
+        Event::Begun(1, Start::Queues(QueueStart::Pop)),
+        Event::Acted(1, Start::Queues(QueueStart::Pop), Answer::PoppedNone),
+        Event::Finished(1, Start::Queues(QueueStart::Pop), Answer::PoppedNone),
         Event::Published(0, Item::Index(5)),
         Event::Acted(0, push, Answer::Truth(true)),
         Event::Finished(0, push, Answer::Truth(true)),
@@ -171,7 +191,7 @@ fn a_push_stopped_before_it_publishes(rt: HostRuntime) -> Result<(), Fail> {
 fn run_takes_the_turns_up_to_a_refusal(rt: HostRuntime) -> Result<(), Fail> {
     let mut machine: Machine<u128> = Machine::new(rt.alloc(), Kind::IndexQueue, 1, 1)?;
     let turns = [
-        Turn::Begin(0, Start::AcquireProducer),
+        Turn::Begin(0, Start::Queues(QueueStart::AcquireProducer)),
         Turn::Next(0),
         Turn::Next(0),
         Turn::Begin(0, index(7)),
@@ -186,7 +206,7 @@ fn run_takes_the_turns_up_to_a_refusal(rt: HostRuntime) -> Result<(), Fail> {
 fn progress_counts_steps_and_the_changes_of_others(rt: HostRuntime) -> Result<(), Fail> {
     let mut machine = with_roles(&rt, 1)?;
     assert!(rt; machine.under_way(7).is_none());
-    calls(&mut machine, 1, Start::Pop, 1)?;
+    calls(&mut machine, 1, Start::Queues(QueueStart::Pop), 1)?;
     assert!(rt; machine.is_going(1));
     calls(&mut machine, 0, index(0), 4)?;
     assert!(rt; !machine.is_going(0));
@@ -203,25 +223,45 @@ fn progress_counts_steps_and_the_changes_of_others(rt: HostRuntime) -> Result<()
 fn a_refused_turn_changes_nothing(rt: HostRuntime) -> Result<(), Fail> {
     let alloc = rt.alloc();
     let mut machine: Machine<u128> = Machine::new(alloc, Kind::IndexQueue, 1, 2)?;
-    calls(&mut machine, 0, Start::AcquireProducer, 1)?;
+    calls(
+        &mut machine,
+        0,
+        Start::Queues(QueueStart::AcquireProducer),
+        1,
+    )?;
     calls(&mut machine, 0, index(3), 2)?;
     let owner = OwnerId::new(1)?;
     let rows = [
-        (Turn::Begin(0, Start::Pop), Refusal::Busy),
+        (
+            Turn::Begin(0, Start::Queues(QueueStart::Pop)),
+            Refusal::Busy,
+        ),
         (Turn::Next(1), Refusal::Idle),
         (Turn::Decide(1, true), Refusal::Idle),
         (Turn::Next(2), Refusal::NoParty),
-        (Turn::Begin(2, Start::Pop), Refusal::NoParty),
+        (
+            Turn::Begin(2, Start::Queues(QueueStart::Pop)),
+            Refusal::NoParty,
+        ),
         (Turn::Decide(2, false), Refusal::NoParty),
         (Turn::Die(owner), Refusal::WrongCall),
         (
-            Turn::Begin(1, Start::Push(Item::Value(1))),
+            Turn::Begin(1, Start::Queues(QueueStart::Push(1))),
             Refusal::WrongCall,
         ),
         (Turn::Begin(1, index(1)), Refusal::NoRole),
-        (Turn::Begin(1, Start::Pop), Refusal::NoRole),
-        (Turn::Begin(1, Start::ReleaseProducer), Refusal::NoRole),
-        (Turn::Begin(1, Start::ReleaseConsumer), Refusal::NoRole),
+        (
+            Turn::Begin(1, Start::Queues(QueueStart::Pop)),
+            Refusal::NoRole,
+        ),
+        (
+            Turn::Begin(1, Start::Queues(QueueStart::ReleaseProducer)),
+            Refusal::NoRole,
+        ),
+        (
+            Turn::Begin(1, Start::Queues(QueueStart::ReleaseConsumer)),
+            Refusal::NoRole,
+        ),
         (Turn::Decide(0, true), Refusal::Undecided),
     ];
     let words = machine.words().to_vec(alloc)?;
@@ -246,7 +286,7 @@ fn an_overflowing_queue(rt: HostRuntime) -> Result<(), Fail> {
     assert_eq!(rt; machine.words(), [3, 1, 0, 0, 1, 2, 3].as_slice());
     let pops = [(Some(2), 4), (Some(3), 4), (None, 2)];
     for (answer, steps) in pops {
-        calls(&mut machine, 1, Start::Pop, steps)?;
+        calls(&mut machine, 1, Start::Queues(QueueStart::Pop), steps)?;
         assert_eq!(rt; last_answer(&machine), Some(popped(answer)));
     }
     Ok(())
@@ -256,25 +296,25 @@ fn an_overflowing_queue(rt: HostRuntime) -> Result<(), Fail> {
 fn an_overflowing_queue_of_capacity_0_takes_no_step(rt: HostRuntime) -> Result<(), Fail> {
     let mut machine = queue(&rt, Kind::Overflow, 0)?;
     calls(&mut machine, 0, index(7), 1)?;
-    calls(&mut machine, 1, Start::Pop, 1)?;
+    calls(&mut machine, 1, Start::Queues(QueueStart::Pop), 1)?;
     let push = index(7);
     let told = [
         Event::Begun(0, push),
         Event::Acted(0, push, popped(Some(7))),
         Event::Finished(0, push, popped(Some(7))),
-        Event::Begun(1, Start::Pop),
-        Event::Acted(1, Start::Pop, popped(None)),
-        Event::Finished(1, Start::Pop, popped(None)),
+        Event::Begun(1, Start::Queues(QueueStart::Pop)),
+        Event::Acted(1, Start::Queues(QueueStart::Pop), popped(None)),
+        Event::Finished(1, Start::Queues(QueueStart::Pop), popped(None)),
     ];
     assert_eq!(rt; events_from(&machine, 4), told.as_slice());
     assert_eq!(rt; counts(&machine, 0)?, (0, 0, 0, true));
     assert_eq!(rt; counts(&machine, 1)?, (0, 0, 0, true));
     assert_eq!(rt; machine.words(), [0, 0, 0, 0, 0].as_slice());
-    calls(&mut machine, 2, Start::Len, 4)?;
+    calls(&mut machine, 2, Start::Queues(QueueStart::Len), 4)?;
     assert_eq!(rt; last_answer(&machine), Some(Answer::Number(0)));
-    calls(&mut machine, 2, Start::IsEmpty, 4)?;
+    calls(&mut machine, 2, Start::Queues(QueueStart::IsEmpty), 4)?;
     assert_eq!(rt; last_answer(&machine), Some(Answer::Truth(true)));
-    calls(&mut machine, 2, Start::IsFull, 4)?;
+    calls(&mut machine, 2, Start::Queues(QueueStart::IsFull), 4)?;
     assert_eq!(rt; last_answer(&machine), Some(Answer::Truth(true)));
     Ok(())
 }
@@ -285,20 +325,20 @@ fn a_pop_makes_room_for_a_push(rt: HostRuntime) -> Result<(), Fail> {
     calls(&mut machine, 0, index(1), 4)?;
     calls(&mut machine, 0, index(2), 4)?;
     // Two values wait, one more than the capacity.
-    calls(&mut machine, 2, Start::Len, 4)?;
+    calls(&mut machine, 2, Start::Queues(QueueStart::Len), 4)?;
     assert_eq!(rt; last_answer(&machine), Some(Answer::Number(2)));
-    calls(&mut machine, 2, Start::IsFull, 4)?;
+    calls(&mut machine, 2, Start::Queues(QueueStart::IsFull), 4)?;
     assert_eq!(rt; last_answer(&machine), Some(Answer::Truth(false)));
     let before = machine.events().len();
-    calls(&mut machine, 1, Start::Pop, 4)?;
+    calls(&mut machine, 1, Start::Queues(QueueStart::Pop), 4)?;
     machine.step(Turn::Next(0))?;
     let push = index(2);
     let told = [
-        Event::Begun(1, Start::Pop),
+        Event::Begun(1, Start::Queues(QueueStart::Pop)),
         Event::HandedOut(1, Item::Index(1)),
-        Event::Acted(1, Start::Pop, popped(Some(1))),
+        Event::Acted(1, Start::Queues(QueueStart::Pop), popped(Some(1))),
         Event::Acted(0, push, popped(None)),
-        Event::Finished(1, Start::Pop, popped(Some(1))),
+        Event::Finished(1, Start::Queues(QueueStart::Pop), popped(Some(1))),
         Event::Finished(0, push, popped(None)),
     ];
     assert_eq!(rt; events_from(&machine, before), told.as_slice());
@@ -311,7 +351,7 @@ fn a_push_meets_a_read_position_that_has_moved(rt: HostRuntime) -> Result<(), Fa
     let mut machine = queue(&rt, Kind::Overflow, 1)?;
     calls(&mut machine, 0, index(1), 4)?;
     calls(&mut machine, 0, index(2), 3)?;
-    calls(&mut machine, 1, Start::Pop, 4)?;
+    calls(&mut machine, 1, Start::Queues(QueueStart::Pop), 4)?;
     let before = machine.events().len();
     machine.step(Turn::Next(0))?;
     let push = index(2);
@@ -329,7 +369,7 @@ fn a_push_meets_a_read_position_that_has_moved(rt: HostRuntime) -> Result<(), Fa
 fn a_pop_reads_again_where_a_push_took_its_value(rt: HostRuntime) -> Result<(), Fail> {
     let mut machine = queue(&rt, Kind::Overflow, 1)?;
     calls(&mut machine, 0, index(1), 4)?;
-    calls(&mut machine, 1, Start::Pop, 3)?;
+    calls(&mut machine, 1, Start::Queues(QueueStart::Pop), 3)?;
     calls(&mut machine, 0, index(2), 6)?;
     assert_eq!(rt; last_answer(&machine), Some(popped(Some(1))));
     assert_eq!(rt; counts(&machine, 1)?, (3, 0, 3, false));

@@ -1,4 +1,5 @@
 pub mod Counts
+pub mod Frame
 pub mod Moments
 pub mod Parties
 pub mod Reached

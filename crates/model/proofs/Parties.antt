@@ -1,131 +1,104 @@
--- The list of the parties' latest calls.
-use Rattle.std.proofs.Common.{◌≡◌, ◌≢◌, ℕ, suc, ◌<◌, ◌≤◌, ◌==◌, Bool, true, false, Some, None, List, [], ◌∷◌, ◌++◌, length, get_or, set, refl, sym, ap, subst, ◌∙◌, arith}
+-- The parties' latest calls, by number.
+use Rattle.std.proofs.Common.{◌≡◌, ◌≢◌, ℕ, ◌<◌, ◌==◌, nat_lt, Bool, true, false, cond, Option, Some, None, List, [], ◌∷◌, refl, sym, ap, ◌∙◌, arith}
 use Rattle.std.proofs.lemmas.Bool.Decides.{nat_tests}
+use Rattle.std.specs.BTreeMap.{insert_entry, is_at}
 use Rattle.std.specs.List.{AllByRecursion}
+use Rattle.std.specs.List.Sorted.{IsStrictlySortedBy}
+use Rattle.std.specs.Map.{keys_of, lookup, set_value}
+use Rattle.std.proofs.lemmas.Map.Keys.{sorted_head, sorted_tail}
+use Rattle.std.specs.declared.cmp.Ordering.{Ordering}
+use Rattle.std.specs.declared.cmp.Ordering.TheVariants.{Less, Equal, Greater}
 use Rattle.model.specs.declared.party.Party.{Party}
-use Rattle.model.specs.World.{party_of, place_of, put}
+use Rattle.model.specs.Parties.{party_of, put}
+use Rattle.std.specs.Ordering.{is_eq, match_ordering, nat_cmp}
+
+equal_keys : (p q : ℕ) → nat_cmp p q ≡ Equal → p ≡ q
+equal_keys p q e = go (nat_lt p q) refl (p == q) refl e
+  where
+    go : (b : Bool) → nat_lt p q ≡ b → (d : Bool) → (p == q) ≡ d → cond b Less (cond d Equal Greater) ≡ Equal → p ≡ q
+    go true s d t e = absurd (cc)
+    go false s true t e = grind (arith, nat_tests)
+    go false s false t e = absurd (cc)
+
+apart : (p q : ℕ) → p ≢ q → is_eq (nat_cmp p q) ≡ false
+apart p q ne = go (nat_lt p q) refl
+  where
+    t : (p == q) ≡ false
+    t = grind (arith, nat_tests)
+
+    go : (b : Bool) → nat_lt p q ≡ b → is_eq (cond b Less (cond (p == q) Equal Greater)) ≡ false
+    go true s = refl
+    go false s = rw t refl
+
+itself : (p : ℕ) → is_eq (nat_cmp p p) ≡ true
+itself p =
+    let s : nat_lt p p ≡ false = grind (arith, nat_tests) in
+    let t : (p == p) ≡ true = grind (arith, nat_tests) in
+    rw (s, t) refl
+
+less_is : (p q : ℕ) → nat_cmp p q ≡ Less → p < q
+less_is p q e = go (nat_lt p q) refl (p == q) e
+  where
+    go : (b : Bool) → nat_lt p q ≡ b → (d : Bool) → cond b Less (cond d Equal Greater) ≡ Less → p < q
+    go true s d e = grind (arith, nat_tests)
+    go false s true e = absurd (cc)
+    go false s false e = absurd (cc)
+
+module _ {X : Type 0} where
+  abbrev find : ℕ → List (ℕ × X) → Option X
+  find p es = lookup (is_at (nat_cmp p)) es
+
+  pub found_put_same : (p : ℕ) (x : X) (es : List (ℕ × X)) → find p (insert_entry nat_cmp es p x) ≡ Some x
+  found_put_same p x [] = rw (itself p) refl
+  found_put_same p x (e ∷ es) = by (nat_cmp p e.0) refl (found_put_same p x es)
+    where
+      by : (r : Ordering) → nat_cmp p e.0 ≡ r → find p (insert_entry nat_cmp es p x) ≡ Some x
+          → find p (match_ordering r ((p, x) ∷ e ∷ es) ((e.0, x) ∷ es) (e ∷ insert_entry nat_cmp es p x)) ≡ Some x
+      by Less t more = rw (itself p) refl
+      by Equal t more = rw t refl
+      by Greater t more = rw t more
+
+  pub found_put_other : (q p : ℕ) (x : X) (es : List (ℕ × X)) → q ≢ p → find q (insert_entry nat_cmp es p x) ≡ find q es
+  found_put_other q p x [] ne = rw (apart q p ne) refl
+  found_put_other q p x (e ∷ es) ne = by (nat_cmp p e.0) refl (found_put_other q p x es ne)
+    where
+      by : (r : Ordering) → nat_cmp p e.0 ≡ r → find q (insert_entry nat_cmp es p x) ≡ find q es
+          → find q (match_ordering r ((p, x) ∷ e ∷ es) ((e.0, x) ∷ es) (e ∷ insert_entry nat_cmp es p x)) ≡ find q (e ∷ es)
+      by Less t more = rw (apart q p ne) refl
+      by Equal t more =
+          let same = equal_keys p e.0 t in
+          let other : q ≢ e.0 = λ h. ne (h ∙ sym same) in
+          rw (apart q e.0 other) refl
+      by Greater t more = ap (cond (is_eq (nat_cmp q e.0)) (Some e.1)) more
+
+  -- ---- a party written in its place
+
+  none_below : (p k : ℕ) (es : List (ℕ × X)) → p < k → AllByRecursion (λ q. nat_cmp k q ≡ Less) (keys_of es) → find p es ≡ None
+  none_below p k [] below all = refl
+  none_below p k (e ∷ es) below all =
+      let more = less_is k e.0 all.0 in
+      let other : p ≢ e.0 = λ h. absurd (omega arith) in
+      rw (apart p e.0 other) (none_below p k es below all.1)
+
+  pub set_is_put : (p : ℕ) (x y : X) (es : List (ℕ × X)) → IsStrictlySortedBy nat_cmp (keys_of es) → find p es ≡ Some y
+      → set_value (is_at (nat_cmp p)) es x ≡ insert_entry nat_cmp es p x
+  set_is_put p x y [] sorted found = absurd (cc)
+  set_is_put p x y (e ∷ es) sorted found = by (nat_cmp p e.0) refl (set_is_put p x y es (sorted_tail nat_cmp e.0 (keys_of es) sorted))
+    where
+      by : (r : Ordering) → nat_cmp p e.0 ≡ r → (find p es ≡ Some y → set_value (is_at (nat_cmp p)) es x ≡ insert_entry nat_cmp es p x)
+          → set_value (is_at (nat_cmp p)) (e ∷ es) x ≡ match_ordering r ((p, x) ∷ e ∷ es) ((e.0, x) ∷ es) (e ∷ insert_entry nat_cmp es p x)
+      by Less t more =
+          let behind : find p es ≡ Some y = rw t at found in
+          let none = none_below p e.0 es (less_is p e.0 t) (sorted_head nat_cmp e.0 (keys_of es) sorted) in
+          absurd (cc)
+      by Equal t more = rw t refl
+      by Greater t more =
+          let behind : find p es ≡ Some y = rw t at found in
+          rw t (ap (λ xs. e ∷ xs) (more behind))
 
 module _ {T : Type 0} where
-  -- ---- a party's place
+  pub party_put_same : (p : ℕ) (x : Party T) (latest : List (ℕ × Party T)) → party_of p (put p x latest) ≡ Some x
+  party_put_same p x latest = found_put_same p x latest
 
-  pub party_at : (p : ℕ) (xs : List (Party T)) (d : Party T) → place_of p xs < length xs → party_of p xs ≡ Some (get_or xs (place_of p xs) d)
-  party_at p [] d h = absurd (omega arith)
-  party_at p (x ∷ xs) d h = go (x.number == p) refl (party_at p xs d)
-    where
-      go : (b : Bool) → (x.number == p) ≡ b → (place_of p xs < length xs → party_of p xs ≡ Some (get_or xs (place_of p xs) d))
-          → party_of p (x ∷ xs) ≡ Some (get_or (x ∷ xs) (place_of p (x ∷ xs)) d)
-      go true e more = rw e refl
-      go false e more =
-          let short : place_of p (x ∷ xs) ≡ suc (place_of p xs) = rw e (omega arith) in
-          let below : place_of p xs < length xs = omega arith in
-          rw (short, e) (more below)
-
-  pub party_past : (p : ℕ) (xs : List (Party T)) → length xs ≤ place_of p xs → party_of p xs ≡ None
-  party_past p [] h = refl
-  party_past p (x ∷ xs) h = go (x.number == p) refl (party_past p xs)
-    where
-      go : (b : Bool) → (x.number == p) ≡ b → (length xs ≤ place_of p xs → party_of p xs ≡ None) → party_of p (x ∷ xs) ≡ None
-      go true e more =
-          let none : place_of p (x ∷ xs) ≡ 0 = rw e refl in
-          absurd (omega arith)
-      go false e more =
-          let short : place_of p (x ∷ xs) ≡ suc (place_of p xs) = rw e (omega arith) in
-          rw e (more (omega arith))
-
-  pub put_at : (x : Party T) (xs : List (Party T)) → place_of x.number xs < length xs → put x xs ≡ set xs (place_of x.number xs) x
-  put_at x [] h = absurd (omega arith)
-  put_at x (y ∷ ys) h = go (y.number == x.number) refl (put_at x ys)
-    where
-      go : (b : Bool) → (y.number == x.number) ≡ b → (place_of x.number ys < length ys → put x ys ≡ set ys (place_of x.number ys) x)
-          → put x (y ∷ ys) ≡ set (y ∷ ys) (place_of x.number (y ∷ ys)) x
-      go true e more = rw e refl
-      go false e more =
-          let short : place_of x.number (y ∷ ys) ≡ suc (place_of x.number ys) = rw e (omega arith) in
-          let below : place_of x.number ys < length ys = omega arith in
-          rw (short, e) (ap (λ zs. y ∷ zs) (more below))
-
-  pub put_past : (x : Party T) (xs : List (Party T)) → length xs ≤ place_of x.number xs → put x xs ≡ xs ++ x ∷ []
-  put_past x [] h = refl
-  put_past x (y ∷ ys) h = go (y.number == x.number) refl (put_past x ys)
-    where
-      go : (b : Bool) → (y.number == x.number) ≡ b → (length ys ≤ place_of x.number ys → put x ys ≡ ys ++ x ∷ []) → put x (y ∷ ys) ≡ y ∷ (ys ++ x ∷ [])
-      go true e more =
-          let none : place_of x.number (y ∷ ys) ≡ 0 = rw e refl in
-          absurd (omega arith)
-      go false e more =
-          let short : place_of x.number (y ∷ ys) ≡ suc (place_of x.number ys) = rw e (omega arith) in
-          rw e (ap (λ zs. y ∷ zs) (more (omega arith)))
-
-  -- ---- a party after a change
-
-  pub party_number : (p : ℕ) (xs : List (Party T)) (x : Party T) → party_of p xs ≡ Some x → x.number ≡ p
-  party_number p [] x e = absurd (cc)
-  party_number p (y ∷ ys) x e = go (y.number == p) refl (party_number p ys x)
-    where
-      go : (b : Bool) → (y.number == p) ≡ b → (party_of p ys ≡ Some x → x.number ≡ p) → x.number ≡ p
-      go true t more =
-          let same : y ≡ x = (let h : Some y ≡ Some x = (rw t at e) in cc) in
-          let at : y.number ≡ p = grind (arith, nat_tests) in
-          ap (λ (z : Party T). z.number) (sym same) ∙ at
-      go false t more = more (rw t at e)
-
-  pub party_put_same : (x : Party T) (xs : List (Party T)) → party_of x.number (put x xs) ≡ Some x
-  party_put_same x [] = let t : (x.number == x.number) ≡ true = grind (arith, nat_tests) in rw t refl
-  party_put_same x (y ∷ ys) = go (y.number == x.number) refl (party_put_same x ys)
-    where
-      go : (b : Bool) → (y.number == x.number) ≡ b → party_of x.number (put x ys) ≡ Some x → party_of x.number (put x (y ∷ ys)) ≡ Some x
-      go true e more = let t : (x.number == x.number) ≡ true = grind (arith, nat_tests) in rw (e, t) refl
-      go false e more = rw (e, e) more
-
-  pub party_put_other : (q : ℕ) (x : Party T) (xs : List (Party T)) → q ≢ x.number → party_of q (put x xs) ≡ party_of q xs
-  party_put_other q x [] ne = let t : (x.number == q) ≡ false = grind (arith, nat_tests) in rw t refl
-  party_put_other q x (y ∷ ys) ne = go (y.number == x.number) refl (party_put_other q x ys ne)
-    where
-      go : (b : Bool) → (y.number == x.number) ≡ b → party_of q (put x ys) ≡ party_of q ys → party_of q (put x (y ∷ ys)) ≡ party_of q (y ∷ ys)
-      go true e more =
-          let t : (x.number == q) ≡ false = grind (arith, nat_tests) in
-          let s : (y.number == q) ≡ false = grind (arith, nat_tests) in
-          rw (e, t, s) refl
-      go false e more = rw (e, more) refl
-
-  -- what holds of each party
-  pub all_at : (P : Party T → Type 0) (p : ℕ) (xs : List (Party T)) (x : Party T) → AllByRecursion P xs → party_of p xs ≡ Some x → P x
-  all_at P p [] x all e = absurd (cc)
-  all_at P p (y ∷ ys) x all e = go (y.number == p) refl (all_at P p ys x all.1)
-    where
-      go : (b : Bool) → (y.number == p) ≡ b → (party_of p ys ≡ Some x → P x) → P x
-      go true t more =
-          let same : y ≡ x = (let h : Some y ≡ Some x = (rw t at e) in cc) in
-          subst P same all.0
-      go false t more = more (rw t at e)
-
-  pub all_put : (P : Party T → Type 0) (x : Party T) (xs : List (Party T)) → P x → AllByRecursion P xs → AllByRecursion P (put x xs)
-  all_put P x [] here all = (here, tt)
-  all_put P x (y ∷ ys) here all = go (y.number == x.number) refl (all_put P x ys here all.1)
-    where
-      go : (b : Bool) → (y.number == x.number) ≡ b → AllByRecursion P (put x ys) → AllByRecursion P (put x (y ∷ ys))
-      go true e more = rw e (here, all.1)
-      go false e more = rw e (all.0, more)
-
-  pub all_weaker : (P Q : Party T → Type 0) (xs : List (Party T)) → ((x : Party T) → P x → Q x) → AllByRecursion P xs → AllByRecursion Q xs
-  all_weaker P Q [] f all = tt
-  all_weaker P Q (x ∷ xs) f all = (f x all.0, all_weaker P Q xs f all.1)
-
-  -- what a read of the list at a party's place gives
-  pub party_read : (p : ℕ) (xs : List (Party T)) (at : ℕ) (x : Party T) → at ≡ place_of p xs → at < length xs → x ≡ get_or xs at x → party_of p xs ≡ Some x
-  party_read p xs at x e h is =
-      let below : place_of p xs < length xs = omega arith in
-      party_at p xs x below ∙ ap Some (ap (λ n. get_or xs n x) (sym e) ∙ sym is)
-
-  -- the party that a read at its place gives
-  pub party_here : (p : ℕ) (xs : List (Party T)) (at : ℕ) (x y : Party T) → at ≡ place_of p xs → at < length xs → y ≡ get_or xs at y → party_of p xs ≡ Some x → y ≡ x
-  party_here p xs at x y e h is found =
-      let read : party_of p xs ≡ Some y = party_read p xs at y e h is in
-      cc
-
-  -- a party written in its place
-  pub put_here : (p : ℕ) (xs : List (Party T)) (at : ℕ) (x : Party T) → at ≡ place_of p xs → at < length xs → x.number ≡ p → set xs at x ≡ put x xs
-  put_here p xs at x e h n =
-      let here : place_of x.number xs ≡ at = ap (λ m. place_of m xs) n ∙ sym e in
-      let within : place_of x.number xs < length xs = omega arith in
-      ap (λ m. set xs m x) (sym here) ∙ sym (put_at x xs within)
+  pub party_put_other : (q p : ℕ) (x : Party T) (latest : List (ℕ × Party T)) → q ≢ p → party_of q (put p x latest) ≡ party_of q latest
+  party_put_other q p x latest ne = found_put_other q p x latest ne

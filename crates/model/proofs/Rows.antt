@@ -1,16 +1,17 @@
 -- What a turn that is not refused has passed.
 use Rattle.std.proofs.Common.{◌≡◌, ℕ, ◌^◌, ◌-◌, ◌<◌, Bool, true, false, cond, not, Option, Some, None, is_some, is_none, nat_le, refl, arith}
 use Rattle.std.proofs.lemmas.Bool.Decides.{nat_tests}
-use Rattle.model.specs.declared.call.Flight.{Flight}
+use Rattle.model.specs.declared.families.Flight.{Flight}
 use Rattle.model.specs.declared.event.Start.{Start}
 use Rattle.model.specs.declared.party.Party.{Party}
 use Rattle.model.specs.declared.turn.Turn.TheVariants.{Begin, Next, Decide, Die}
 use Rattle.model.specs.declared.turn.Refusal.{Refusal}
 use Rattle.model.specs.declared.turn.Refusal.TheVariants.{AtEnd, NoParty, Idle, Undecided, WrongCall}
-use Rattle.model.specs.World.{World, flight_in, flight_of, doing_of}
-use Rattle.model.specs.Calls.{first_of}
+use Rattle.model.specs.Parties.{flight_of, doing_of}
+use Rattle.model.specs.World.{World, flight_in}
+use Rattle.model.specs.Families.{first_of, call_refusal}
 use Rattle.model.specs.Turns.{turn_of}
-use Rattle.model.specs.Refusals.{refusal_of, is_at_end, lacks_role, is_due}
+use Rattle.model.specs.Refusals.{refusal_of, is_at_end, is_due}
 
 -- a row that did not apply
 pub row_passed : (b : Bool) (r : Refusal) (rest : Option Refusal) → cond b (Some r) rest ≡ None → (b ≡ false) × (rest ≡ None)
@@ -35,7 +36,7 @@ module _ {T : Type 0} where
     pub party : p < w.parties
     pub free : flight_in w p ≡ None
     pub call : is_none (first_of w.kind w.capacity start) ≡ false
-    pub role : lacks_role w p start ≡ false
+    pub rows : call_refusal w.kept p start ≡ None
 
   pub may_begin : (w : World T) (p : ℕ) (start : Start T) → refusal_of w (Begin p start) ≡ None → MayBegin w p start
   may_begin w p start e =
@@ -43,7 +44,6 @@ module _ {T : Type 0} where
       let b = row_passed _ _ _ a.1 in
       let c = row_passed _ _ _ b.1 in
       let d = row_passed _ _ _ c.1 in
-      let r = row_passed _ _ _ d.1 in
       let at : nat_le (2 ^ 64 - 2) w.turns ≡ false = a.0 in
       let in_range : nat_le w.parties p ≡ false = b.0 in
       record {
@@ -51,7 +51,7 @@ module _ {T : Type 0} where
         party = grind (arith, nat_tests);
         free = not_some _ c.0;
         call = d.0;
-        role = r.0;
+        rows = d.1;
       }
 
   pub record MayGoOn (w : World T) (p : ℕ) : Type 0 where

@@ -1,172 +1,278 @@
 -- What a turn does, in its own words.
-use Rattle.std.proofs.Common.{◌≡◌, ◌≢◌, ℕ, ◌+◌, ◌-◌, Bool, Option, Some, None, option_map, IfSome, List, refl, ap, subst, ◌∙◌, arith}
-use Rattle.std.specs.List.{AllByRecursion}
+use Rattle.std.proofs.Common.{◌≡◌, ◌≢◌, ℕ, ◌+◌, ◌-◌, ◌<◌, ◌≤◌, ◌==◌, ◌⊎◌, inl, inr, ⊎_elim, Bool, true, false, cond, Option, Some, None, is_some, is_none, IfSome, List, length, get_or, set, refl, sym, ap, subst, ◌∙◌, arith, get_or-set_same}
+use Rattle.std.proofs.lemmas.Bool.{cases_lt}
+use Rattle.std.proofs.lemmas.Bool.Decides.{nat_tests}
+use Rattle.std.proofs.lemmas.List.{set-get_or, set_past}
+use Rattle.steps.specs.Ask.{written}
 use Rattle.steps.specs.declared.ask.Ask.{Ask}
 use Rattle.steps.specs.declared.ask.After.{After}
 use Rattle.steps.specs.declared.ask.After.TheVariants.{GoOn, Done}
-use Rattle.model.specs.declared.call.Flight.{Flight}
-use Rattle.model.specs.declared.event.Start.{Start}
 use Rattle.model.specs.declared.event.Answer.{Answer}
+use Rattle.model.specs.declared.event.Start.{Start}
+use Rattle.model.specs.declared.event.Start as starts
+use Rattle.model.specs.declared.families.Beside.{Beside}
+use Rattle.model.specs.declared.families.Beside as besides
+use Rattle.model.specs.declared.families.Flight.{Flight}
+use Rattle.model.specs.declared.families.Flight as flights
+use Rattle.model.specs.declared.families.Kept.{Kept}
+use Rattle.model.specs.declared.families.Kept as kepts
 use Rattle.model.specs.declared.party.Doing.{Doing}
 use Rattle.model.specs.declared.party.Doing.TheVariants.{Going, Over}
 use Rattle.model.specs.declared.party.Party.{Party}
 use Rattle.model.specs.declared.turn.Turn.{Turn}
 use Rattle.model.specs.declared.turn.Turn.TheVariants.{Begin, Next, Decide, Die}
-use Rattle.model.specs.World.{World, party_of, put, doing_of, flight_of, progress_after, progress_in}
-use Rattle.model.specs.Calls.{first_of, want_of, ask_of, after_of, back_of}
-use Rattle.model.specs.Small.{HasSmallCount, HasSmallCounts, IsSmall}
-use Rattle.model.specs.Turns.{old_of, words_after, change_of, steps_of, ask_in, number_of, begun, begun_party, moved, moved_party, doing_after, resumed, next_of, decision_of, taken}
-use Rattle.model.specs.Promises.Steps.{asked_of, WritesOneWord, StandsAt, GoesOn, after_step, is_done, CountsStep, noticed, CountsOthers}
-use Rattle.model.proofs.Parties.{party_number, party_put_same, party_put_other, all_at}
+use Rattle.model.specs.Families.{first_of, want_of, ask_of, after_of, beside_of, step_of}
+use Rattle.model.specs.Parties.{party_of, doing_of, flight_of, progress_after}
+use Rattle.model.specs.Promises.Turns.{ask_of_flight, WritesOneWord, StandsAt, GoesOn, BothGoOn, CountsTurn, BothSee, CountsOthers}
+use Rattle.model.specs.Refusals.{refusal_of}
+use Rattle.model.specs.Small.{HasSmallCount, IsSmall}
+use Rattle.model.specs.Step.{Step}
+use Rattle.model.specs.Turns.{old_of, words_after, change_of, step_count, ask_of_doing, number_of, after_begin, party_at_begin, after_step, party_after, doing_after, step_in, after_answer, after_next, after_decision, world_after}
+use Rattle.model.specs.World.{World, flight_in, progress_in}
+use Rattle.model.proofs.Counts.{back_small}
+use Rattle.model.proofs.Parties.{party_put_same, party_put_other}
+use Rattle.model.proofs.Rows.{may_begin}
 
 later : (changes since change : ℕ) → (changes + change) - (since + change) ≡ changes - since
 later changes since change = omega arith
 
+-- ---- a change of a word
+
+abbrev counts_for : Bool → ℕ
+counts_for b = cond b 0 1
+
+change_is : (b : Bool) → (b ≡ true → counts_for b ≡ 0) × (b ≡ false → counts_for b ≡ 1)
+change_is true = ((λ e. refl), (λ e. absurd (cc)))
+change_is false = ((λ e. absurd (cc)), (λ e. refl))
+
+pub unchanged_words : (words : List ℕ) (ask : Option Ask) → words_after words ask ≡ words → change_of words ask ≡ 0
+unchanged_words words None e = refl
+unchanged_words words (Some ask) e =
+    let same : get_or (words_after words (Some ask)) ask.word 0 ≡ get_or words ask.word 0 = ap (λ ws. get_or ws ask.word 0) e in
+    (change_is (get_or (words_after words (Some ask)) ask.word 0 == get_or words ask.word 0)).0 (grind (arith, nat_tests))
+
+-- a word that keeps its value leaves all of them
+kept_words : (words : List ℕ) (at value : ℕ) → get_or (set words at value) at 0 ≡ get_or words at 0 → set words at value ≡ words
+kept_words words at value e = ⊎_elim within past (cases_lt at (length words))
+  where
+    within : at < length words → set words at value ≡ words
+    within h =
+        let now : value ≡ get_or words at 0 = sym (get_or-set_same words at value 0 h) ∙ e in
+        ap (set words at) now ∙ set-get_or words at 0
+
+    past : length words ≤ at → set words at value ≡ words
+    past h = set_past words at value h
+
+pub changed_words : (words : List ℕ) (ask : Option Ask) → words_after words ask ≢ words → change_of words ask ≡ 1
+changed_words words None ne = absurd (ne refl)
+changed_words words (Some ask) ne = go (get_or (words_after words (Some ask)) ask.word 0 == get_or words ask.word 0) refl
+  where
+    go : (b : Bool) → (get_or (words_after words (Some ask)) ask.word 0 == get_or words ask.word 0) ≡ b → counts_for b ≡ 1
+    go true t =
+        let same : get_or (words_after words (Some ask)) ask.word 0 ≡ get_or words ask.word 0 = grind (arith, nat_tests) in
+        absurd (ne (kept_words words ask.word (written ask.op (get_or words ask.word 0)) same))
+    go false t = refl
+
+one_more_if : (o : Option Ask) (n : ℕ) → n + step_count o ≡ cond (is_some o) (n + 1) n
+one_more_if None n = omega arith
+one_more_if (Some ask) n = refl
+
+one_or_more : (old back : ℕ) → back ≤ 1 → (old + back ≡ old) ⊎ (old + back ≡ old + 1)
+one_or_more old back h = ⊎_elim (λ e. inl (omega arith)) (λ e. inr (omega arith)) (cases_lt back 1)
+
 module _ {T : Type 0} where
+  -- how a call goes on is told by its table alone
+  pub step_after : (words : List ℕ) (beside : Beside) (p : ℕ) (start : Start T) (flight : Flight) (old : ℕ) (kept : Kept) → (step_of words beside p start flight old kept).after ≡ after_of flight old
+  step_after words (besides.TheVariants.Queues waits) p (starts.TheVariants.Queues start) (flights.TheVariants.Queues flight) old (kepts.TheVariants.Queues roles) = refl
+
   -- ---- one word
 
-  begun_word : (w : World T) (p : ℕ) (start : Start T) (flight : Option Flight) → (begun w p start flight).words ≡ w.words
-  begun_word w p start None = refl
-  begun_word w p start (Some flight) = refl
+  begin_word : (w : World T) (p : ℕ) (start : Start T) (flight : Option Flight) → (after_begin w p start flight).words ≡ w.words
+  begin_word w p start None = refl
+  begin_word w p start (Some flight) = refl
 
-  resumed_word : (w : World T) (x : Party T) (answer : ℕ) (doing : Doing) → (resumed w x (ask_in doing) answer doing).words ≡ words_after w.words (asked_of (flight_of (Some doing)))
-  resumed_word w x answer (Over others) = refl
-  resumed_word w x answer (Going flight since) = refl
+  answer_word : (w : World T) (p : ℕ) (x : Party T) (answer : ℕ) (doing : Doing) → (after_answer w p x (ask_of_doing doing) answer doing).words ≡ words_after w.words (ask_of_flight (flight_of (Some doing)))
+  answer_word w p x answer (Over others) = refl
+  answer_word w p x answer (Going flight since) = refl
 
-  next_word : (w : World T) (o : Option (Party T)) → (next_of w o).words ≡ words_after w.words (asked_of (flight_of (doing_of o)))
-  next_word w None = refl
-  next_word w (Some x) = resumed_word w x (old_of w.words (ask_in x.doing)) x.doing
+  next_word : (w : World T) (p : ℕ) (o : Option (Party T)) → (after_next w p o).words ≡ words_after w.words (ask_of_flight (flight_of (doing_of o)))
+  next_word w p None = refl
+  next_word w p (Some x) = answer_word w p x (old_of w.words (ask_of_doing x.doing)) x.doing
 
-  decided_word : (w : World T) (x : Party T) (answer : ℕ) (doing : Doing) → (resumed w x None answer doing).words ≡ w.words
-  decided_word w x answer (Over others) = refl
-  decided_word w x answer (Going flight since) = refl
+  decided_word : (w : World T) (p : ℕ) (x : Party T) (answer : ℕ) (doing : Doing) → (after_answer w p x None answer doing).words ≡ w.words
+  decided_word w p x answer (Over others) = refl
+  decided_word w p x answer (Going flight since) = refl
 
-  decision_word : (w : World T) (said : Bool) (o : Option (Party T)) → (decision_of w said o).words ≡ w.words
-  decision_word w said None = refl
-  decision_word w said (Some x) = decided_word w x (number_of said) x.doing
+  decision_word : (w : World T) (p : ℕ) (said : Bool) (o : Option (Party T)) → (after_decision w p said o).words ≡ w.words
+  decision_word w p said None = refl
+  decision_word w p said (Some x) = decided_word w p x (number_of said) x.doing
 
-  pub writes_one_word : (w : World T) (turn : Turn T) → WritesOneWord w turn (taken w turn)
-  writes_one_word w (Begin p start) = begun_word w p start (first_of w.kind w.capacity start)
-  writes_one_word w (Next p) = next_word w (party_of p w.latest)
-  writes_one_word w (Decide p said) = decision_word w said (party_of p w.latest)
+  pub writes_one_word : (w : World T) (turn : Turn T) → WritesOneWord w turn (world_after w turn)
+  writes_one_word w (Begin p start) = begin_word w p start (first_of w.kind w.capacity start)
+  writes_one_word w (Next p) = next_word w p (party_of p w.latest)
+  writes_one_word w (Decide p said) = decision_word w p said (party_of p w.latest)
   writes_one_word w (Die owner) = refl
 
   -- ---- the party's own call
 
   -- the party after its call went on
-  moved_here : (w : World T) (p : ℕ) (x : Party T) (since : ℕ) (ask : Option Ask) (back : ℕ) (after : After Flight (Answer T)) → party_of p w.latest ≡ Some x
-      → party_of p (moved w x since ask back after).latest ≡ Some (moved_party x since w.changes (steps_of ask) (change_of w.words ask) back after)
-  moved_here w p x since ask back after e =
-      let number : x.number ≡ p = party_number p w.latest x e in
-      let y = moved_party x since w.changes (steps_of ask) (change_of w.words ask) back after in
-      let here : party_of x.number (put y w.latest) ≡ Some y = party_put_same y w.latest in
-      subst (λ q. party_of q (put y w.latest) ≡ Some y) number here
+  step_here : (w : World T) (p : ℕ) (x : Party T) (since : ℕ) (ask : Option Ask) (s : Step Flight Kept T)
+      → party_of p (after_step w p x since ask s).latest ≡ Some (party_after x since w.changes (step_count ask) (change_of w.words ask) s)
+  step_here w p x since ask s = party_put_same p (party_after x since w.changes (step_count ask) (change_of w.words ask) s) w.latest
 
   stands : (changes since : ℕ) (after : After Flight (Answer T)) (w : World T) (p : ℕ) (x : Party T) → party_of p w.latest ≡ Some x → x.doing ≡ doing_after changes since after → StandsAt w p after
   stands changes since (GoOn flight) w p x e d = rw (e, d) refl
   stands changes since (Done answer) w p x e d = rw (e, d) refl
 
-  goes : (w : World T) (p : ℕ) (x : Party T) (doing : Doing) → party_of p w.latest ≡ Some x
-      → IfSome (flight_of (Some doing)) (λ flight. StandsAt (resumed w x (ask_in doing) (old_of w.words (ask_in doing)) doing) p (after_of flight (old_of w.words (ask_of (want_of flight)))))
-  goes w p x (Over others) e = tt
-  goes w p x (Going flight since) e =
-      let ask = ask_of (want_of flight) in
-      let after : After Flight (Answer T) = after_of flight (old_of w.words ask) in
-      let back = back_of flight (old_of w.words ask) in
-      stands (w.changes + change_of w.words ask) (since + change_of w.words ask) after (moved w x since ask back after) p (moved_party x since w.changes (steps_of ask) (change_of w.words ask) back after) (moved_here w p x since ask back after e) refl
+  goes : (w : World T) (p : ℕ) (x : Party T) (flight : Flight) (since : ℕ) (ask : Option Ask) (answer : ℕ) → StandsAt (after_step w p x since ask (step_in w p x flight answer)) p (after_of flight answer)
+  goes w p x flight since ask answer =
+      let s = step_in w p x flight answer in
+      let y = party_after x since w.changes (step_count ask) (change_of w.words ask) s in
+      let same = step_after w.words (beside_of w.words w.kept w.latest p) p x.start flight answer w.kept in
+      subst (StandsAt (after_step w p x since ask s) p) same
+      (stands (w.changes + change_of w.words ask) (since + change_of w.words ask) s.after (after_step w p x since ask s) p y (step_here w p x since ask s) refl)
 
-  next_goes : (w : World T) (p : ℕ) (o : Option (Party T)) → party_of p w.latest ≡ o
-      → IfSome (flight_of (doing_of o)) (λ flight. StandsAt (next_of w o) p (after_of flight (old_of w.words (ask_of (want_of flight)))))
-  next_goes w p None e = tt
-  next_goes w p (Some x) e = goes w p x x.doing e
+  next_goes : (w : World T) (p : ℕ) (o : Option (Party T)) → IfSome (flight_of (doing_of o)) (λ flight. StandsAt (after_next w p o) p (after_of flight (old_of w.words (ask_of (want_of flight)))))
+  next_goes w p None = tt
+  next_goes w p (Some x) = go x.doing
+    where
+      go : (doing : Doing) → IfSome (flight_of (Some doing)) (λ flight. StandsAt (after_answer w p x (ask_of_doing doing) (old_of w.words (ask_of_doing doing)) doing) p (after_of flight (old_of w.words (ask_of (want_of flight)))))
+      go (Over others) = tt
+      go (Going flight since) = goes w p x flight since (ask_of (want_of flight)) (old_of w.words (ask_of (want_of flight)))
 
-  pub goes_on : (w : World T) (turn : Turn T) → GoesOn w turn (taken w turn)
-  goes_on w (Begin p start) = tt
-  goes_on w (Next p) = next_goes w p (party_of p w.latest) refl
-  goes_on w (Decide p said) = tt
-  goes_on w (Die owner) = tt
+  decision_goes : (w : World T) (p : ℕ) (said : Bool) (o : Option (Party T)) → IfSome (flight_of (doing_of o)) (λ flight. StandsAt (after_decision w p said o) p (after_of flight (number_of said)))
+  decision_goes w p said None = tt
+  decision_goes w p said (Some x) = go x.doing
+    where
+      go : (doing : Doing) → IfSome (flight_of (Some doing)) (λ flight. StandsAt (after_answer w p x None (number_of said) doing) p (after_of flight (number_of said)))
+      go (Over others) = tt
+      go (Going flight since) = goes w p x flight since None (number_of said)
+
+  begin_goes : (w : World T) (p : ℕ) (start : Start T) (o : Option Flight) → is_none o ≡ false → flight_in (after_begin w p start o) p ≡ o
+  begin_goes w p start None e = absurd (cc)
+  begin_goes w p start (Some flight) e = ap (λ o. flight_of (doing_of o)) (party_put_same p (party_at_begin start flight w.changes) w.latest)
+
+  pub goes_on : (w : World T) (turn : Turn T) → refusal_of w turn ≡ None → GoesOn w turn (world_after w turn)
+  goes_on w (Begin p start) e = begin_goes w p start (first_of w.kind w.capacity start) (may_begin w p start e).call
+  goes_on w (Next p) e = next_goes w p (party_of p w.latest)
+  goes_on w (Decide p said) e = decision_goes w p said (party_of p w.latest)
+  goes_on w (Die owner) e = tt
 
   -- ---- its counts
 
-  counted : (changes since steps change back : ℕ) (after : After Flight (Answer T)) (flight : Flight) (x : Party T) → x.doing ≡ Going flight since
-      → progress_after (changes + change) (Some (moved_party x since changes steps change back after)) ≡ option_map (after_step steps back (is_done after)) (progress_after changes (Some x))
-  counted changes since steps change back (GoOn next) flight x e = rw (e, later changes since change) refl
-  counted changes since steps change back (Done answer) flight x e = rw (e, later changes since change) refl
+  going_on : (changes since steps change : ℕ) (asks : Bool) (s : Step Flight Kept T) (x : Party T) (flight : Flight) → x.doing ≡ Going flight since → s.back ≤ 1 → x.steps + steps ≡ cond asks (x.steps + 1) x.steps
+      → BothGoOn asks (is_none (flight_of (doing_of (Some (party_after x since changes steps change s))))) (progress_after changes (Some x)) (progress_after (changes + change) (Some (party_after x since changes steps change s)))
+  going_on changes since steps change asks s x flight e few count = go s.after
+    where
+      go : (after : After Flight (Answer T))
+          → BothGoOn asks (is_none (flight_of (Some (doing_after (changes + change) (since + change) after)))) (progress_after changes (Some x)) (progress_after (changes + change) (Some (record { start = x.start; steps = x.steps + steps; backs = x.backs + s.back; doing = doing_after (changes + change) (since + change) after })))
+      go (GoOn next) =
+          let same = later changes since change in
+          rw e (record { steps = count; backs = one_or_more x.backs s.back few; others = same; finished = refl })
+      go (Done answer) =
+          let same = later changes since change in
+          rw e (record { steps = count; backs = one_or_more x.backs s.back few; others = same; finished = refl })
 
-  counts : (w : World T) (p : ℕ) (x : Party T) (doing : Doing) → party_of p w.latest ≡ Some x → x.doing ≡ doing
-      → IfSome (flight_of (Some doing)) (λ flight. progress_in (resumed w x (ask_in doing) (old_of w.words (ask_in doing)) doing) p ≡ option_map (after_step (steps_of (ask_of (want_of flight))) (back_of flight (old_of w.words (ask_of (want_of flight)))) (is_done (after_of {T = T} flight (old_of w.words (ask_of (want_of flight)))))) (progress_after w.changes (Some x)))
-  counts w p x (Over others) e d = tt
-  counts w p x (Going flight since) e d =
-      let ask = ask_of (want_of flight) in
-      let after : After Flight (Answer T) = after_of flight (old_of w.words ask) in
-      let back = back_of flight (old_of w.words ask) in
-      ap (progress_after (w.changes + change_of w.words ask)) (moved_here w p x since ask back after e)
-      ∙ counted w.changes since (steps_of ask) (change_of w.words ask) back after flight x d
+  counted : (w : World T) (p : ℕ) (x : Party T) (flight : Flight) (since : ℕ) (ask : Option Ask) (answer : ℕ) → party_of p w.latest ≡ Some x → x.doing ≡ Going flight since
+      → BothGoOn (is_some ask) (is_none (flight_in (after_step w p x since ask (step_in w p x flight answer)) p)) (progress_in w p) (progress_in (after_step w p x since ask (step_in w p x flight answer)) p)
+  counted w p x flight since ask answer found e =
+      let s = step_in w p x flight answer in
+      let few = back_small w.words (beside_of w.words w.kept w.latest p) p x.start flight answer w.kept in
+      let y = party_after x since w.changes (step_count ask) (change_of w.words ask) s in
+      let here = step_here w p x since ask s in
+      let goal = going_on w.changes since (step_count ask) (change_of w.words ask) (is_some ask) s x flight e few (one_more_if ask x.steps) in
+      rw (here, found) goal
 
   next_counts : (w : World T) (p : ℕ) (o : Option (Party T)) → party_of p w.latest ≡ o
-      → IfSome (flight_of (doing_of o)) (λ flight. progress_in (next_of w o) p ≡ option_map (after_step (steps_of (ask_of (want_of flight))) (back_of flight (old_of w.words (ask_of (want_of flight)))) (is_done (after_of {T = T} flight (old_of w.words (ask_of (want_of flight)))))) (progress_after w.changes o))
-  next_counts w p None e = tt
-  next_counts w p (Some x) e = counts w p x x.doing e refl
+      → IfSome (flight_of (doing_of o)) (λ flight. BothGoOn (is_some (ask_of_flight (flight_of (doing_of o)))) (is_none (flight_in (after_next w p o) p)) (progress_in w p) (progress_in (after_next w p o) p))
+  next_counts w p None found = tt
+  next_counts w p (Some x) found = go x.doing refl
+    where
+      go : (doing : Doing) → x.doing ≡ doing
+          → IfSome (flight_of (Some doing)) (λ flight. BothGoOn (is_some (ask_of_flight (flight_of (Some doing)))) (is_none (flight_in (after_answer w p x (ask_of_doing doing) (old_of w.words (ask_of_doing doing)) doing) p)) (progress_in w p) (progress_in (after_answer w p x (ask_of_doing doing) (old_of w.words (ask_of_doing doing)) doing) p))
+      go (Over others) e = tt
+      go (Going flight since) e = counted w p x flight since (ask_of (want_of flight)) (old_of w.words (ask_of (want_of flight))) found e
 
-  pub counts_step : (w : World T) (turn : Turn T) → CountsStep w turn (taken w turn)
-  counts_step w (Begin p start) = tt
-  counts_step w (Next p) = next_counts w p (party_of p w.latest) refl
-  counts_step w (Decide p said) = tt
-  counts_step w (Die owner) = tt
+  decision_counts : (w : World T) (p : ℕ) (said : Bool) (o : Option (Party T)) → party_of p w.latest ≡ o
+      → IfSome (flight_of (doing_of o)) (λ flight. BothGoOn false (is_none (flight_in (after_decision w p said o) p)) (progress_in w p) (progress_in (after_decision w p said o) p))
+  decision_counts w p said None found = tt
+  decision_counts w p said (Some x) found = go x.doing refl
+    where
+      go : (doing : Doing) → x.doing ≡ doing
+          → IfSome (flight_of (Some doing)) (λ flight. BothGoOn false (is_none (flight_in (after_answer w p x None (number_of said) doing) p)) (progress_in w p) (progress_in (after_answer w p x None (number_of said) doing) p))
+      go (Over others) e = tt
+      go (Going flight since) e = counted w p x flight since None (number_of said) found e
 
-  -- ---- the others' counts
+  begin_counts : (w : World T) (p : ℕ) (start : Start T) (o : Option Flight) → is_none o ≡ false → progress_in (after_begin w p start o) p ≡ Some record { steps = 0; backs = 0; others = 0; finished = false }
+  begin_counts w p start None e = absurd (cc)
+  begin_counts w p start (Some flight) e =
+      let none : w.changes - w.changes ≡ 0 = omega arith in
+      rw (party_put_same p (party_at_begin start flight w.changes) w.latest, none) refl
 
-  -- a party whose latest call stays notices a change while that call is under way
-  notices : (changes change : ℕ) (x : Party T) (doing : Doing) → x.doing ≡ doing → HasSmallCount changes doing
-      → progress_after (changes + change) (Some x) ≡ option_map (noticed change) (progress_after changes (Some x))
-  notices changes change x (Going flight since) e h =
-      let more : (changes + change) - since ≡ (changes - since) + change = omega arith in
-      rw (e, more) refl
-  notices changes change x (Over others) e h = rw e refl
+  pub counts_turn : (w : World T) (turn : Turn T) → refusal_of w turn ≡ None → CountsTurn w turn (world_after w turn)
+  counts_turn w (Begin p start) e = begin_counts w p start (first_of w.kind w.capacity start) (may_begin w p start e).call
+  counts_turn w (Next p) e = next_counts w p (party_of p w.latest) refl
+  counts_turn w (Decide p said) e = decision_counts w p said (party_of p w.latest) refl
+  counts_turn w (Die owner) e = tt
 
-  notice : (turns changes change : ℕ) (q : ℕ) (xs : List (Party T)) (o : Option (Party T)) → party_of q xs ≡ o → AllByRecursion (HasSmallCounts turns changes) xs
-      → progress_after (changes + change) o ≡ option_map (noticed change) (progress_after changes o)
-  notice turns changes change q xs None e all = refl
-  notice turns changes change q xs (Some x) e all = notices changes change x x.doing refl (all_at (HasSmallCounts turns changes) q xs x all e).doing
+  -- ---- the counts of the others
 
-  -- where nothing is written, all counts stay
-  unchanged : (w : World T) (q : ℕ) → IsSmall w → progress_in w q ≡ option_map (noticed 0) (progress_in w q)
-  unchanged w q h =
-      let same : w.changes + 0 ≡ w.changes = omega arith in
-      rw same at (notice w.turns w.changes 0 q w.latest (party_of q w.latest) refl h.latest)
+  -- a change of the words is one more change, and no change is none
+  record Tells (old new : World T) : Type 0 where
+    pub same : new.words ≡ old.words → new.changes ≡ old.changes
+    pub changed : new.words ≢ old.words → new.changes ≡ old.changes + 1
 
-  begun_others : (w : World T) (p : ℕ) (start : Start T) (flight : Option Flight) (q : ℕ) → q ≢ p → IsSmall w → progress_in (begun w p start flight) q ≡ option_map (noticed 0) (progress_in w q)
-  begun_others w p start None q ne h = unchanged w q h
-  begun_others w p start (Some flight) q ne h =
-      ap (progress_after w.changes) (party_put_other q (begun_party p start flight w.changes) w.latest ne) ∙ unchanged w q h
+  sees : (old new : World T) (x : Party T) → Tells old new → HasSmallCount old.changes x.doing → BothSee old new (progress_after old.changes (Some x)) (progress_after new.changes (Some x))
+  sees old new x tells small = go x.doing refl small
+    where
+      go : (doing : Doing) → x.doing ≡ doing → HasSmallCount old.changes doing → BothSee old new (progress_after old.changes (Some x)) (progress_after new.changes (Some x))
+      go (Going flight since) e h =
+          rw e
+          (record {
+            steps = refl;
+            backs = refl;
+            finished = refl;
+            same = λ s. ap (λ n. n - since) (tells.same s);
+            changed = λ ne. let more = tells.changed ne in omega arith;
+          })
+      go (Over others) e h = rw e (record { steps = refl; backs = refl; finished = refl; same = λ s. refl; changed = λ ne. refl })
 
-  moved_others : (w : World T) (x : Party T) (since : ℕ) (ask : Option Ask) (back : ℕ) (after : After Flight (Answer T)) (q : ℕ) → q ≢ x.number → IsSmall w
-      → progress_in (moved w x since ask back after) q ≡ option_map (noticed (change_of w.words ask)) (progress_in w q)
-  moved_others w x since ask back after q ne h =
-      ap (progress_after (w.changes + change_of w.words ask)) (party_put_other q (moved_party x since w.changes (steps_of ask) (change_of w.words ask) back after) w.latest ne)
-      ∙ notice w.turns w.changes (change_of w.words ask) q w.latest (party_of q w.latest) refl h.latest
+  seen : (old new : World T) (q : ℕ) (o : Option (Party T)) → party_of q old.latest ≡ o → party_of q new.latest ≡ o → Tells old new → IsSmall old → BothSee old new (progress_in old q) (progress_in new q)
+  seen old new q None found same tells small = rw (found, same) tt
+  seen old new q (Some x) found same tells small = rw (found, same) (sees old new x tells (small.latest q x found).doing)
 
-  resumed_others : (w : World T) (x : Party T) (answer : ℕ) (doing : Doing) (q : ℕ) → q ≢ x.number → IsSmall w
-      → progress_in (resumed w x (ask_in doing) answer doing) q ≡ option_map (noticed (change_of w.words (asked_of (flight_of (Some doing))))) (progress_in w q)
-  resumed_others w x answer (Over others) q ne h = unchanged w q h
-  resumed_others w x answer (Going flight since) q ne h = moved_others w x since (ask_of (want_of flight)) (back_of flight answer) (after_of flight answer) q ne h
+  still_tells : (old new : World T) → new.words ≡ old.words → new.changes ≡ old.changes → Tells old new
+  still_tells old new words changes = record { same = λ s. changes; changed = λ ne. absurd (ne words) }
 
-  next_others : (w : World T) (p : ℕ) (o : Option (Party T)) (q : ℕ) → party_of p w.latest ≡ o → q ≢ p → IsSmall w
-      → progress_in (next_of w o) q ≡ option_map (noticed (change_of w.words (asked_of (flight_of (doing_of o))))) (progress_in w q)
-  next_others w p None q e ne h = unchanged w q h
-  next_others w p (Some x) q e ne h =
-      resumed_others w x (old_of w.words (ask_in x.doing)) x.doing q (λ s. ne (s ∙ party_number p w.latest x e)) h
+  step_tells : (w : World T) (p : ℕ) (x : Party T) (since : ℕ) (ask : Option Ask) (s : Step Flight Kept T) → Tells w (after_step w p x since ask s)
+  step_tells w p x since ask s =
+      record {
+        same = λ e. let none = unchanged_words w.words ask e in omega arith;
+        changed = λ ne. let one = changed_words w.words ask ne in omega arith;
+      }
 
-  decided_others : (w : World T) (x : Party T) (answer : ℕ) (doing : Doing) (q : ℕ) → q ≢ x.number → IsSmall w → progress_in (resumed w x None answer doing) q ≡ option_map (noticed 0) (progress_in w q)
-  decided_others w x answer (Over others) q ne h = unchanged w q h
-  decided_others w x answer (Going flight since) q ne h = moved_others w x since None (back_of flight answer) (after_of flight answer) q ne h
+  begin_others : (w : World T) (p : ℕ) (start : Start T) (o : Option Flight) (q : ℕ) → q ≢ p → IsSmall w → BothSee w (after_begin w p start o) (progress_in w q) (progress_in (after_begin w p start o) q)
+  begin_others w p start None q ne small = seen w w q (party_of q w.latest) refl refl (still_tells w w refl refl) small
+  begin_others w p start (Some flight) q ne small =
+      seen w (after_begin w p start (Some flight)) q (party_of q w.latest) refl (party_put_other q p (party_at_begin start flight w.changes) w.latest ne) (still_tells w (after_begin w p start (Some flight)) refl refl) small
 
-  decision_others : (w : World T) (p : ℕ) (said : Bool) (o : Option (Party T)) (q : ℕ) → party_of p w.latest ≡ o → q ≢ p → IsSmall w → progress_in (decision_of w said o) q ≡ option_map (noticed 0) (progress_in w q)
-  decision_others w p said None q e ne h = unchanged w q h
-  decision_others w p said (Some x) q e ne h = decided_others w x (number_of said) x.doing q (λ s. ne (s ∙ party_number p w.latest x e)) h
+  answer_others : (w : World T) (p : ℕ) (x : Party T) (ask : Option Ask) (answer : ℕ) (doing : Doing) (q : ℕ) → q ≢ p → IsSmall w → BothSee w (after_answer w p x ask answer doing) (progress_in w q) (progress_in (after_answer w p x ask answer doing) q)
+  answer_others w p x ask answer (Over others) q ne small = seen w w q (party_of q w.latest) refl refl (still_tells w w refl refl) small
+  answer_others w p x ask answer (Going flight since) q ne small =
+      let s = step_in w p x flight answer in
+      let y = party_after x since w.changes (step_count ask) (change_of w.words ask) s in
+      seen w (after_step w p x since ask s) q (party_of q w.latest) refl (party_put_other q p y w.latest ne) (step_tells w p x since ask s) small
 
-  pub counts_others : (w : World T) (turn : Turn T) → IsSmall w → CountsOthers w turn (taken w turn)
-  counts_others w (Begin p start) h q ne = begun_others w p start (first_of w.kind w.capacity start) q ne h
-  counts_others w (Next p) h q ne = next_others w p (party_of p w.latest) q refl ne h
-  counts_others w (Decide p said) h q ne = decision_others w p said (party_of p w.latest) q refl ne h
-  counts_others w (Die owner) h q ne = unchanged w q h
+  next_others : (w : World T) (p : ℕ) (o : Option (Party T)) (q : ℕ) → q ≢ p → IsSmall w → BothSee w (after_next w p o) (progress_in w q) (progress_in (after_next w p o) q)
+  next_others w p None q ne small = seen w w q (party_of q w.latest) refl refl (still_tells w w refl refl) small
+  next_others w p (Some x) q ne small = answer_others w p x (ask_of_doing x.doing) (old_of w.words (ask_of_doing x.doing)) x.doing q ne small
+
+  decision_others : (w : World T) (p : ℕ) (said : Bool) (o : Option (Party T)) (q : ℕ) → q ≢ p → IsSmall w → BothSee w (after_decision w p said o) (progress_in w q) (progress_in (after_decision w p said o) q)
+  decision_others w p said None q ne small = seen w w q (party_of q w.latest) refl refl (still_tells w w refl refl) small
+  decision_others w p said (Some x) q ne small = answer_others w p x None (number_of said) x.doing q ne small
+
+  pub counts_others : (w : World T) (turn : Turn T) → IsSmall w → CountsOthers w turn (world_after w turn)
+  counts_others w (Begin p start) small q ne = begin_others w p start (first_of w.kind w.capacity start) q ne small
+  counts_others w (Next p) small q ne = next_others w p (party_of p w.latest) q ne small
+  counts_others w (Decide p said) small q ne = decision_others w p said (party_of p w.latest) q ne small
+  counts_others w (Die owner) small q ne = seen w w q (party_of q w.latest) refl refl (still_tells w w refl refl) small

@@ -1,35 +1,39 @@
 -- The definitions at a worked run, and at histories that they refuse.
-use Rattle.std.proofs.Common.{◌≡◌, ℕ, true, false, Some, None, List, [], ◌∷◌, ◌++◌, length, refl, sym, subst}
+use Rattle.std.proofs.Common.{◌≡◌, ℕ, true, false, Some, List, [], ◌∷◌, ◌++◌, length, refl, sym, subst}
 use Rattle.model.specs.declared.event.Item.TheVariants.{Index}
-use Rattle.model.specs.declared.event.Start.TheVariants.{AcquireProducer, AcquireConsumer, Push, Pop, Len}
+use Rattle.model.specs.declared.event.Start.TheVariants.{Queues}
 use Rattle.model.specs.declared.event.Answer.{Answer}
-use Rattle.model.specs.declared.event.Answer.TheVariants.{Truth, Popped, Number}
+use Rattle.model.specs.declared.event.Answer.TheVariants.{Truth, Number, PoppedNone, PoppedIndex}
 use Rattle.model.specs.declared.event.Event.{Event}
 use Rattle.model.specs.declared.event.Event.TheVariants.{Begun, Published, HandedOut, Acted, Finished}
+use Rattle.model.specs.declared.families.queues.QueueStart.TheVariants.{AcquireProducer, AcquireConsumer, PushIndex, Pop, Len}
 use Rattle.model.specs.declared.turn.Kind.TheVariants.{IndexQueue, Overflow}
 use Rattle.model.specs.declared.turn.Turn.{Turn}
 use Rattle.model.specs.declared.turn.Turn.TheVariants.{Begin, Next}
-use Rattle.model.specs.World.{opening, progress_in}
-use Rattle.model.specs.Turns.{run}
-use Rattle.model.specs.Reading.{acts, waiting, moments, Open}
+use Rattle.model.specs.Families.Queues.Book.{AnswersRight}
+use Rattle.model.specs.Families.Queues.Lengths.{TellsLength}
+use Rattle.model.specs.Families.Queues.Objects.{bounded_list, overflowing_list}
+use Rattle.model.specs.Families.Queues.Reading.{waiting}
+use Rattle.model.specs.Families.Queues.Roles.{GrantsRight}
 use Rattle.model.specs.Moments.{BeginsNone}
-use Rattle.model.specs.Objects.{IsLegal, bounded_list, overflowing_list}
+use Rattle.model.specs.Objects.{IsLegal}
 use Rattle.model.specs.Promises.Spans.{Stands, Wrote}
-use Rattle.model.specs.Promises.Book.{AnswersRight}
-use Rattle.model.specs.Promises.Lengths.{TellsLength}
+use Rattle.model.specs.Reading.{acts, moments, Open}
+use Rattle.model.specs.Turns.{run}
+use Rattle.model.specs.World.{opening, progress_in}
 
 -- a push stops before it publishes, a pop answers None, and then the push goes on
 abbrev turns : List (Turn ℕ)
 turns =
-    Begin 0 AcquireProducer
+    Begin 0 (Queues AcquireProducer)
     ∷ Next 0
-    ∷ Begin 1 AcquireConsumer
+    ∷ Begin 1 (Queues AcquireConsumer)
     ∷ Next 1
-    ∷ Begin 0 (Push (Index 5))
+    ∷ Begin 0 (Queues (PushIndex 5))
     ∷ Next 0
     ∷ Next 0
     ∷ Next 0
-    ∷ Begin 1 Pop
+    ∷ Begin 1 (Queues Pop)
     ∷ Next 1
     ∷ Next 1
     ∷ Next 1
@@ -38,17 +42,17 @@ turns =
 
 abbrev told : List (Event ℕ)
 told =
-    Begun 0 AcquireProducer
-    ∷ Finished 0 AcquireProducer (Truth true)
-    ∷ Begun 1 AcquireConsumer
-    ∷ Finished 1 AcquireConsumer (Truth true)
-    ∷ Begun 0 (Push (Index 5))
-    ∷ Begun 1 Pop
-    ∷ Acted 1 Pop (Popped None)
-    ∷ Finished 1 Pop (Popped None)
+    Begun 0 (Queues AcquireProducer)
+    ∷ Finished 0 (Queues AcquireProducer) (Truth true)
+    ∷ Begun 1 (Queues AcquireConsumer)
+    ∷ Finished 1 (Queues AcquireConsumer) (Truth true)
+    ∷ Begun 0 (Queues (PushIndex 5))
+    ∷ Begun 1 (Queues Pop)
+    ∷ Acted 1 (Queues Pop) PoppedNone
+    ∷ Finished 1 (Queues Pop) PoppedNone
     ∷ Published 0 (Index 5)
-    ∷ Acted 0 (Push (Index 5)) (Truth true)
-    ∷ Finished 0 (Push (Index 5)) (Truth true)
+    ∷ Acted 0 (Queues (PushIndex 5)) (Truth true)
+    ∷ Finished 0 (Queues (PushIndex 5)) (Truth true)
     ∷ []
 
 pub stopped_push : (run turns (opening IndexQueue 1 2)).events ≡ told
@@ -66,12 +70,12 @@ pop_before_push = refl
 -- a length loads both positions, a push moves one, and the length begins again
 abbrev length_turns : List (Turn ℕ)
 length_turns =
-    Begin 0 AcquireProducer
+    Begin 0 (Queues AcquireProducer)
     ∷ Next 0
-    ∷ Begin 1 Len
+    ∷ Begin 1 (Queues Len)
     ∷ Next 1
     ∷ Next 1
-    ∷ Begin 0 (Push (Index 5))
+    ∷ Begin 0 (Queues (PushIndex 5))
     ∷ Next 0
     ∷ Next 0
     ∷ Next 0
@@ -85,34 +89,34 @@ length_turns =
 
 abbrev length_told : List (Event ℕ)
 length_told =
-    Begun 0 AcquireProducer
-    ∷ Finished 0 AcquireProducer (Truth true)
-    ∷ Begun 1 Len
-    ∷ Begun 0 (Push (Index 5))
+    Begun 0 (Queues AcquireProducer)
+    ∷ Finished 0 (Queues AcquireProducer) (Truth true)
+    ∷ Begun 1 (Queues Len)
+    ∷ Begun 0 (Queues (PushIndex 5))
     ∷ Published 0 (Index 5)
-    ∷ Acted 0 (Push (Index 5)) (Truth true)
-    ∷ Finished 0 (Push (Index 5)) (Truth true)
+    ∷ Acted 0 (Queues (PushIndex 5)) (Truth true)
+    ∷ Finished 0 (Queues (PushIndex 5)) (Truth true)
     ∷ []
 
-pub length_again : (run length_turns (opening IndexQueue 1 2)).events ≡ length_told ++ Finished 1 Len (Number 1) ∷ []
+pub length_again : (run length_turns (opening IndexQueue 1 2)).events ≡ length_told ++ Finished 1 (Queues Len) (Number 1) ∷ []
 length_again = refl
 
 pub length_counts : progress_in (run length_turns (opening IndexQueue 1 2)).world 1 ≡ Some (record { steps = 7; backs = 1; others = 2; finished = true })
 length_counts = refl
 
-pub one_waited : TellsLength 1 length_told (Finished 1 Len (Number 1))
+pub one_waited : TellsLength 1 length_told (Finished 1 (Queues Len) (Number 1))
 one_waited = record { part = length_told; rest = []; is = refl; within = tt; held = refl }
 
 -- 0 would be right as well, since nothing waited as the call began
-pub none_waited : TellsLength 1 length_told (Finished 1 Len (Number 0))
+pub none_waited : TellsLength 1 length_told (Finished 1 (Queues Len) (Number 0))
 none_waited =
     record {
-      part = Begun 0 AcquireProducer ∷ Finished 0 AcquireProducer (Truth true) ∷ Begun 1 Len ∷ [];
+      part = Begun 0 (Queues AcquireProducer) ∷ Finished 0 (Queues AcquireProducer) (Truth true) ∷ Begun 1 (Queues Len) ∷ [];
       rest =
-          Begun 0 (Push (Index 5))
+          Begun 0 (Queues (PushIndex 5))
           ∷ Published 0 (Index 5)
-          ∷ Acted 0 (Push (Index 5)) (Truth true)
-          ∷ Finished 0 (Push (Index 5)) (Truth true)
+          ∷ Acted 0 (Queues (PushIndex 5)) (Truth true)
+          ∷ Finished 0 (Queues (PushIndex 5)) (Truth true)
           ∷ [];
       is = refl;
       within = ((λ e. cc), tt);
@@ -124,11 +128,11 @@ none_waited =
 -- roles as above, and 1 is pushed into a queue of capacity 1
 abbrev holding_one : List (Turn ℕ)
 holding_one =
-    Begin 0 AcquireProducer
+    Begin 0 (Queues AcquireProducer)
     ∷ Next 0
-    ∷ Begin 1 AcquireConsumer
+    ∷ Begin 1 (Queues AcquireConsumer)
     ∷ Next 1
-    ∷ Begin 0 (Push (Index 1))
+    ∷ Begin 0 (Queues (PushIndex 1))
     ∷ Next 0
     ∷ Next 0
     ∷ Next 0
@@ -137,30 +141,30 @@ holding_one =
 
 abbrev holding_one_told : List (Event ℕ)
 holding_one_told =
-    Begun 0 AcquireProducer
-    ∷ Finished 0 AcquireProducer (Truth true)
-    ∷ Begun 1 AcquireConsumer
-    ∷ Finished 1 AcquireConsumer (Truth true)
-    ∷ Begun 0 (Push (Index 1))
+    Begun 0 (Queues AcquireProducer)
+    ∷ Finished 0 (Queues AcquireProducer) (Truth true)
+    ∷ Begun 1 (Queues AcquireConsumer)
+    ∷ Finished 1 (Queues AcquireConsumer) (Truth true)
+    ∷ Begun 0 (Queues (PushIndex 1))
     ∷ Published 0 (Index 1)
-    ∷ Acted 0 (Push (Index 1)) (Popped None)
-    ∷ Finished 0 (Push (Index 1)) (Popped None)
+    ∷ Acted 0 (Queues (PushIndex 1)) PoppedNone
+    ∷ Finished 0 (Queues (PushIndex 1)) PoppedNone
     ∷ []
 
 -- a push has published over the full queue, a length counts both values, and a pop makes the push act
 abbrev room_turns : List (Turn ℕ)
 room_turns =
-    Begin 0 (Push (Index 2))
+    Begin 0 (Queues (PushIndex 2))
     ∷ Next 0
     ∷ Next 0
     ∷ Next 0
     ∷ Next 0
-    ∷ Begin 2 Len
+    ∷ Begin 2 (Queues Len)
     ∷ Next 2
     ∷ Next 2
     ∷ Next 2
     ∷ Next 2
-    ∷ Begin 1 Pop
+    ∷ Begin 1 (Queues Pop)
     ∷ Next 1
     ∷ Next 1
     ∷ Next 1
@@ -170,16 +174,16 @@ room_turns =
 
 abbrev room_told : List (Event ℕ)
 room_told =
-    Begun 0 (Push (Index 2))
+    Begun 0 (Queues (PushIndex 2))
     ∷ Published 0 (Index 2)
-    ∷ Begun 2 Len
-    ∷ Finished 2 Len (Number 2)
-    ∷ Begun 1 Pop
+    ∷ Begun 2 (Queues Len)
+    ∷ Finished 2 (Queues Len) (Number 2)
+    ∷ Begun 1 (Queues Pop)
     ∷ HandedOut 1 (Index 1)
-    ∷ Acted 1 Pop (Popped (Some (Index 1)))
-    ∷ Acted 0 (Push (Index 2)) (Popped None)
-    ∷ Finished 1 Pop (Popped (Some (Index 1)))
-    ∷ Finished 0 (Push (Index 2)) (Popped None)
+    ∷ Acted 1 (Queues Pop) (PoppedIndex 1)
+    ∷ Acted 0 (Queues (PushIndex 2)) PoppedNone
+    ∷ Finished 1 (Queues Pop) (PoppedIndex 1)
+    ∷ Finished 0 (Queues (PushIndex 2)) PoppedNone
     ∷ []
 
 pub pop_makes_room : (run (holding_one ++ room_turns) (opening Overflow 1 3)).events ≡ holding_one_told ++ room_told
@@ -191,11 +195,11 @@ room_is_legal = refl
 -- a pop has loaded the cell, a push takes that value out, and the pop reads again
 abbrev again_turns : List (Turn ℕ)
 again_turns =
-    Begin 1 Pop
+    Begin 1 (Queues Pop)
     ∷ Next 1
     ∷ Next 1
     ∷ Next 1
-    ∷ Begin 0 (Push (Index 2))
+    ∷ Begin 0 (Queues (PushIndex 2))
     ∷ Next 0
     ∷ Next 0
     ∷ Next 0
@@ -209,15 +213,15 @@ again_turns =
 
 abbrev again_told : List (Event ℕ)
 again_told =
-    Begun 1 Pop
-    ∷ Begun 0 (Push (Index 2))
+    Begun 1 (Queues Pop)
+    ∷ Begun 0 (Queues (PushIndex 2))
     ∷ Published 0 (Index 2)
     ∷ HandedOut 0 (Index 1)
-    ∷ Acted 0 (Push (Index 2)) (Popped (Some (Index 1)))
-    ∷ Finished 0 (Push (Index 2)) (Popped (Some (Index 1)))
+    ∷ Acted 0 (Queues (PushIndex 2)) (PoppedIndex 1)
+    ∷ Finished 0 (Queues (PushIndex 2)) (PoppedIndex 1)
     ∷ HandedOut 1 (Index 2)
-    ∷ Acted 1 Pop (Popped (Some (Index 2)))
-    ∷ Finished 1 Pop (Popped (Some (Index 2)))
+    ∷ Acted 1 (Queues Pop) (PoppedIndex 2)
+    ∷ Finished 1 (Queues Pop) (PoppedIndex 2)
     ∷ []
 
 pub pop_reads_again : (run (holding_one ++ again_turns) (opening Overflow 1 3)).events ≡ holding_one_told ++ again_told
@@ -232,55 +236,55 @@ again_is_legal = refl
 -- ---- what is refused
 
 -- a pop that answers the value that a push took out
-pub no_stale_pop : IsLegal {T = ℕ} (overflowing_list 1) ((Push (Index 1), Popped None) ∷ (Push (Index 2), Popped (Some (Index 1))) ∷ (Pop, Popped (Some (Index 1))) ∷ []) → ⊥
+pub no_stale_pop : IsLegal {T = ℕ} (overflowing_list 1) ((Queues (PushIndex 1), PoppedNone) ∷ (Queues (PushIndex 2), PoppedIndex 1) ∷ (Queues Pop, PoppedIndex 1) ∷ []) → ⊥
 no_stale_pop legal = cc
 
 -- a push that acts at its end, after a pop of the next value
-pub no_late_push : IsLegal {T = ℕ} (overflowing_list 1) ((Push (Index 1), Popped None) ∷ (Pop, Popped (Some (Index 2))) ∷ (Push (Index 2), Popped (Some (Index 1))) ∷ []) → ⊥
+pub no_late_push : IsLegal {T = ℕ} (overflowing_list 1) ((Queues (PushIndex 1), PoppedNone) ∷ (Queues Pop, PoppedIndex 2) ∷ (Queues (PushIndex 2), PoppedIndex 1) ∷ []) → ⊥
 no_late_push legal = cc
 
 -- a push that hands a value out of a bounded queue
-pub no_bounded_push_hands_out : Stands {T = ℕ} IndexQueue 1 (HandedOut 0 (Index 5)) (Open (Push (Index 5)) []) → ⊥
-no_bounded_push_hands_out stands = let h : Push (Index 5) ≡ Pop = stands.0 in cc
+pub no_bounded_push_hands_out : Stands {T = ℕ} IndexQueue 1 (HandedOut 0 (Index 5)) (Open (Queues (PushIndex 5)) []) → ⊥
+no_bounded_push_hands_out stands = let h : Queues (PushIndex 5) ≡ Queues Pop = stands.0 in cc
 
 -- a push that an overflowing queue loses, and one that it publishes without a place for it
-pub no_lost_overflow : Wrote {T = ℕ} Overflow 1 (Push (Index 5)) (Popped None) (Acted 0 (Push (Index 5)) (Popped None) ∷ []) → ⊥
+pub no_lost_overflow : Wrote {T = ℕ} Overflow 1 (Queues (PushIndex 5)) PoppedNone (Acted 0 (Queues (PushIndex 5)) PoppedNone ∷ []) → ⊥
 no_lost_overflow wrote = let p = wrote.published in cc
 
-pub no_place : Wrote {T = ℕ} Overflow 0 (Push (Index 5)) (Popped (Some (Index 5))) (Published 0 (Index 5) ∷ Acted 0 (Push (Index 5)) (Popped (Some (Index 5))) ∷ []) → ⊥
+pub no_place : Wrote {T = ℕ} Overflow 0 (Queues (PushIndex 5)) (PoppedIndex 5) (Published 0 (Index 5) ∷ Acted 0 (Queues (PushIndex 5)) (PoppedIndex 5) ∷ []) → ⊥
 no_place wrote = let p = wrote.published in cc
 
 -- a push that hands back the newest value
-pub no_newest : IsLegal {T = ℕ} (overflowing_list 1) ((Push (Index 1), Popped None) ∷ (Push (Index 2), Popped (Some (Index 2))) ∷ []) → ⊥
+pub no_newest : IsLegal {T = ℕ} (overflowing_list 1) ((Queues (PushIndex 1), PoppedNone) ∷ (Queues (PushIndex 2), PoppedIndex 2) ∷ []) → ⊥
 no_newest legal = cc
 
 -- a pop of a value that nobody pushed
-pub no_invention : IsLegal {T = ℕ} (bounded_list 1) ((Pop, Popped (Some (Index 5))) ∷ []) → ⊥
+pub no_invention : IsLegal {T = ℕ} (bounded_list 1) ((Queues Pop, PoppedIndex 5) ∷ []) → ⊥
 no_invention legal = cc
 
 -- a push that is refused by an empty list
-pub no_excuse : IsLegal {T = ℕ} (bounded_list 1) ((Push (Index 5), Truth false) ∷ []) → ⊥
+pub no_excuse : IsLegal {T = ℕ} (bounded_list 1) ((Queues (PushIndex 5), Truth false) ∷ []) → ⊥
 no_excuse legal = cc
 
 -- a call that acts a second time
-pub no_second_act : Stands {T = ℕ} IndexQueue 1 (Acted 0 Pop (Popped None)) (Open Pop (Acted 0 Pop (Popped None) ∷ [])) → ⊥
-no_second_act stands = let h : (acts {T = ℕ} (Acted 0 Pop (Popped None))) ++ [] ≡ [] = stands.1 in cc
+pub no_second_act : Stands {T = ℕ} IndexQueue 1 (Acted 0 (Queues Pop) PoppedNone) (Open (Queues Pop) (Acted 0 (Queues Pop) PoppedNone ∷ [])) → ⊥
+no_second_act stands = let h : (acts {T = ℕ} (Acted 0 (Queues Pop) PoppedNone)) ++ [] ≡ [] = stands.1 in cc
 
 -- a call that ends without having acted
-pub no_silent_end : Stands {T = ℕ} IndexQueue 1 (Finished 0 Pop (Popped None)) (Open Pop []) → ⊥
+pub no_silent_end : Stands {T = ℕ} IndexQueue 1 (Finished 0 (Queues Pop) PoppedNone) (Open (Queues Pop) []) → ⊥
 no_silent_end stands = let h = stands.1 in let m = h.moments in cc
 
 -- a push that answers true and publishes nothing
-pub no_lost_push : Wrote {T = ℕ} IndexQueue 1 (Push (Index 5)) (Truth true) (Acted 0 (Push (Index 5)) (Truth true) ∷ []) → ⊥
+pub no_lost_push : Wrote {T = ℕ} IndexQueue 1 (Queues (PushIndex 5)) (Truth true) (Acted 0 (Queues (PushIndex 5)) (Truth true) ∷ []) → ⊥
 no_lost_push wrote = let p = wrote.published in cc
 
 -- a pop that answers None while a value waits
-pub no_blind_pop : AnswersRight 1 told (Acted 1 Pop (Popped None)) → ⊥
+pub no_blind_pop : AnswersRight 1 told (Acted 1 (Queues Pop) PoppedNone) → ⊥
 no_blind_pop right = cc
 
 -- a length of a moment before the call began
 abbrev earlier : List (Event ℕ)
-earlier = Published 0 (Index 5) ∷ HandedOut 0 (Index 5) ∷ Begun 1 Len ∷ []
+earlier = Published 0 (Index 5) ∷ HandedOut 0 (Index 5) ∷ Begun 1 (Queues Len) ∷ []
 
 abbrev one : Answer ℕ
 one = Number 1
@@ -291,7 +295,7 @@ IsOne part = one ≡ Number (length (waiting part))
 not_one : (part rest : List (Event ℕ)) → earlier ≡ part ++ rest → BeginsNone 1 rest → IsOne part → ⊥
 not_one [] rest is within held = cc
 not_one (a ∷ []) rest is within held =
-    let after : HandedOut 0 (Index 5) ∷ Begun 1 Len ∷ [] ≡ rest = cc in
+    let after : HandedOut 0 (Index 5) ∷ Begun 1 (Queues Len) ∷ [] ≡ rest = cc in
     let none = subst (BeginsNone 1) (sym after) within in
     none.0 refl
 not_one (a ∷ b ∷ []) rest is within held =
@@ -304,5 +308,13 @@ not_one (a ∷ b ∷ d ∷ []) rest is within held =
     cc
 not_one (a ∷ b ∷ d ∷ e ∷ part) rest is within held = cc
 
-pub no_length_from_before : TellsLength 1 earlier (Finished 1 Len (Number 1)) → ⊥
+pub no_length_from_before : TellsLength 1 earlier (Finished 1 (Queues Len) (Number 1)) → ⊥
 no_length_from_before told = not_one told.part told.rest told.is told.within told.held
+
+-- a role for two
+pub no_second_holder : GrantsRight {T = ℕ} (Finished 0 (Queues AcquireProducer) (Truth true) ∷ []) (Finished 1 (Queues AcquireProducer) (Truth true)) → ⊥
+no_second_holder right = cc
+
+-- a role for nobody
+pub no_lost_role : GrantsRight {T = ℕ} [] (Finished 0 (Queues AcquireProducer) (Truth false)) → ⊥
+no_lost_role right = cc

@@ -1,10 +1,13 @@
-pub mod Calls
-pub mod Effects
+pub mod Families
 pub mod Moments
 pub mod Objects
+pub mod Parties
 pub mod Promises
 pub mod Reading
 pub mod Refusals
+pub mod Rows
 pub mod Small
+pub mod Shape
+pub mod Step
 pub mod Turns
 pub mod World

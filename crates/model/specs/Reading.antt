@@ -1,7 +1,6 @@
 -- How the events of a run are read.
-use Rattle.std.specs.Prelude.{◌≡◌, ℕ, ◌==◌, List, [], ◌∷◌, ◌++◌, length, drop, fold, if◌then◌else◌}
+use Rattle.std.specs.Prelude.{◌≡◌, ℕ, ◌==◌, List, [], ◌∷◌, ◌++◌, fold, if◌then◌else◌}
 use Rattle.std.specs.List.{flat_map}
-use Rattle.model.specs.declared.event.Item.{Item}
 use Rattle.model.specs.declared.event.Start.{Start}
 use Rattle.model.specs.declared.event.Answer.{Answer}
 use Rattle.model.specs.declared.event.Event.{Event}
@@ -11,27 +10,6 @@ module _ {T : Type 0} where
   -- P holds of each event and of what stands before it
   abbrev pub Each : (List (Event T) → Event T → Type 0) → List (Event T) → Type 0
   Each P events = (before after : List (Event T)) (e : Event T) → events ≡ before ++ e ∷ after → P before e
-
-  -- ---- values
-
-  abbrev pub publishes : Event T → List (Item T)
-  publishes (Published p item) = item ∷ []
-  publishes e = []
-
-  abbrev pub hands_out : Event T → List (Item T)
-  hands_out (HandedOut p item) = item ∷ []
-  hands_out e = []
-
-  -- the values of the Published events, in order
-  abbrev pub published : List (Event T) → List (Item T)
-  published events = flat_map publishes events
-
-  abbrev pub handed_out : List (Event T) → List (Item T)
-  handed_out events = flat_map hands_out events
-
-  -- what was published and not yet handed out
-  abbrev pub waiting : List (Event T) → List (Item T)
-  waiting events = drop (length (handed_out events)) (published events)
 
   -- ---- moments: a call and its answer
 
@@ -73,10 +51,8 @@ module _ {T : Type 0} where
   -- what an event of its party makes of a span
   abbrev pub own_after : Span T → Event T → Span T
   own_after span (Begun p start) = Open start []
-  own_after span (Published p item) = longer span (Published p item)
-  own_after span (HandedOut p item) = longer span (HandedOut p item)
-  own_after span (Acted p start answer) = longer span (Acted p start answer)
   own_after span (Finished p start answer) = ended span answer
+  own_after span e = longer span e
 
   abbrev pub span_after : ℕ → Span T → Event T → Span T
   span_after p span e = if owner e == p then own_after span e else span

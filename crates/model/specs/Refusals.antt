@@ -1,18 +1,13 @@
 -- Which turns are refused.
-use Rattle.std.specs.Prelude.{◌≡◌, ◌⊎◌, ℕ, ◌-◌, ◌^◌, ◌==◌, Bool, true, false, not, Option, Some, None, is_some, is_none, List, [], ◌∷◌, if◌then◌else◌, nat_le}
-use Rattle.model.specs.declared.call.Flight.{Flight}
-use Rattle.model.specs.declared.event.Start.{Start}
-use Rattle.model.specs.declared.event.Start.TheVariants.{AcquireProducer, ReleaseProducer, AcquireConsumer, ReleaseConsumer, Push, Pop, Len, IsEmpty, IsFull}
+use Rattle.std.specs.Prelude.{◌≡◌, ◌⊎◌, ℕ, ◌-◌, ◌^◌, Bool, true, false, not, Option, Some, None, is_some, is_none, List, [], ◌∷◌, nat_le}
+use Rattle.model.specs.declared.families.Flight.{Flight}
 use Rattle.model.specs.declared.turn.Turn.{Turn}
 use Rattle.model.specs.declared.turn.Turn.TheVariants.{Begin, Next, Decide, Die}
 use Rattle.model.specs.declared.turn.Refusal.{Refusal}
-use Rattle.model.specs.declared.turn.Refusal.TheVariants.{NoParty, Busy, Idle, WrongCall, NoRole, Undecided, NoMemory, AtEnd}
+use Rattle.model.specs.declared.turn.Refusal.TheVariants.{NoParty, Busy, Idle, WrongCall, Undecided, NoMemory, AtEnd}
+use Rattle.model.specs.Families.{first_of, call_rows, want_of, is_question}
+use Rattle.model.specs.Rows.{first_row}
 use Rattle.model.specs.World.{World, flight_in}
-use Rattle.model.specs.Calls.{first_of, want_of, is_question}
-
-abbrev pub holds : Option ℕ → ℕ → Bool
-holds None p = false
-holds (Some q) p = q == p
 
 -- a decision is due
 abbrev pub is_due : Option Flight → Bool
@@ -24,39 +19,21 @@ abbrev pub goes : Option Flight → Bool
 goes None = false
 goes (Some flight) = not (is_question (want_of flight))
 
--- the refusal of the first row that applies
-abbrev pub first_row : List (Bool × Refusal) → Option Refusal
-first_row [] = None
-first_row (row ∷ rows) = if row.0 then Some row.1 else first_row rows
-
 module _ {T : Type 0} where
   abbrev pub is_going : World T → ℕ → Bool
   is_going w p = goes (flight_in w p)
 
-  -- the call asks for a role that the party does not hold
-  abbrev pub lacks_role : World T → ℕ → Start T → Bool
-  lacks_role w p AcquireProducer = false
-  lacks_role w p ReleaseProducer = not (holds w.producer p)
-  lacks_role w p AcquireConsumer = false
-  lacks_role w p ReleaseConsumer = not (holds w.consumer p)
-  lacks_role w p (Push item) = not (holds w.producer p)
-  lacks_role w p Pop = not (holds w.consumer p)
-  lacks_role w p Len = false
-  lacks_role w p IsEmpty = false
-  lacks_role w p IsFull = false
-
   abbrev pub is_at_end : World T → Bool
   is_at_end w = nat_le (2 ^ 64 - 2) w.turns
 
-  -- what is tested of a turn, in order
+  -- what is tested of a turn, in order; of a call that begins, the family's rows come last
   abbrev pub rows_of : World T → Turn T → List (Bool × Refusal)
   rows_of w (Begin p start) =
       (is_at_end w, AtEnd)
       ∷ (nat_le w.parties p, NoParty)
       ∷ (is_some (flight_in w p), Busy)
       ∷ (is_none (first_of w.kind w.capacity start), WrongCall)
-      ∷ (lacks_role w p start, NoRole)
-      ∷ []
+      ∷ call_rows w.kept p start
   rows_of w (Next p) =
       (is_at_end w, AtEnd)
       ∷ (nat_le w.parties p, NoParty)

@@ -1,9 +1,9 @@
 -- The counts of a machine stay below the number of its turns, so that none of them wraps.
-use Rattle.std.specs.Prelude.{ℕ, ◌-◌, ◌≤◌, ◌^◌}
-use Rattle.std.specs.List.{AllByRecursion}
+use Rattle.std.specs.Prelude.{◌≡◌, ℕ, ◌-◌, ◌≤◌, ◌^◌, Some}
 use Rattle.model.specs.declared.party.Doing.{Doing}
 use Rattle.model.specs.declared.party.Doing.TheVariants.{Going, Over}
 use Rattle.model.specs.declared.party.Party.{Party}
+use Rattle.model.specs.Parties.{party_of}
 use Rattle.model.specs.World.{World}
 
 abbrev pub HasSmallCount : ℕ → Doing → Type 0
@@ -19,4 +19,4 @@ module _ {T : Type 0} where
   pub record IsSmall (w : World T) : Type 0 where
     pub turns : w.turns ≤ 2 ^ 64 - 2
     pub changes : w.changes ≤ w.turns
-    pub latest : AllByRecursion (HasSmallCounts w.turns w.changes) w.latest
+    pub latest : (p : ℕ) (x : Party T) → party_of p w.latest ≡ Some x → HasSmallCounts w.turns w.changes x

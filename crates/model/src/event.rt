@@ -1,4 +1,5 @@
 //! Calls by their names and arguments, their answers, and what a run writes down.
+use crate::families::queues::QueueStart;
 
 /// A value of a queue.
 #[derive(Debug, Clone, Copy, PartialEq, Eq)]
@@ -9,18 +10,11 @@ pub enum Item<T> {
     Value(T),
 }
 
-/// A call and its arguments.
+/// A call and its arguments, by families.
 #[derive(Debug, Clone, Copy, PartialEq, Eq)]
 pub enum Start<T> {
-    AcquireProducer,
-    ReleaseProducer,
-    AcquireConsumer,
-    ReleaseConsumer,
-    Push(Item<T>),
-    Pop,
-    Len,
-    IsEmpty,
-    IsFull,
+    /// A call of a queue, or on one of its roles.
+    Queues(QueueStart<T>),
 }
 
 /// What a call answers.
@@ -30,10 +24,14 @@ pub enum Answer<T> {
     Done,
     /// Of a push of the bounded queue, of acquiring a role, and of asking whether a queue is empty or full.
     Truth(bool),
-    /// Of a pop, and of a push of the overflowing queue.
-    Popped(Option<Item<T>>),
     /// Of asking how many values wait.
     Number(u64),
+    /// Of a pop, or of a push of the overflowing queue, that has no value.
+    PoppedNone,
+    /// The number that a pop answers, or that a push of the overflowing queue hands back.
+    PoppedIndex(u64),
+    /// The same for a value of the machine's own type.
+    Popped(T),
 }
 
 /// What a run writes down. The number is the party's.

@@ -2,9 +2,8 @@
 //! believe stand in `specs/`.
 #![tactic(auto)]
 
-pub mod call;
-pub mod effects;
 pub mod event;
+pub mod families;
 pub mod party;
 pub mod turn;
 pub mod words;

@@ -1,6 +1,6 @@
 //! One operation on one word of a machine.
 ghost use Rattle.std.specs.Prelude.{◌≡◌, slice_index};
-ghost use Rattle.model.specs.Turns.{old_of, words_after, change_of, steps_of};
+ghost use Rattle.model.specs.Turns.{old_of, words_after, change_of, step_count};
 
 use steps::ask::Ask;
 
@@ -27,8 +27,11 @@ pub fn change(words: &Vec<u64>, ask: Option<Ask>) -> u64
 {
     match ask {
         Some(ask) => {
-            let old = old(words, Some(ask));
-            if ask.op.apply(old) == old { 0 } else { 1 }
+            if ask.word < words.len() && ask.op.apply(words[ask.word]) != words[ask.word] {
+                1
+            } else {
+                0
+            }
         }
         None => 0,
     }
@@ -48,7 +51,7 @@ pub fn write(words: &mut Vec<u64>, ask: Option<Ask>)
 
 /// The steps that it counts for: 1 for an operation.
 pub fn count(ask: Option<Ask>) -> u64
-    ensures { result ≡ steps_of ask }
+    ensures { result ≡ step_count ask }
 {
     match ask {
         Some(_) => 1,

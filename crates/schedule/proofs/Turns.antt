@@ -8,7 +8,7 @@ use Rattle.model.specs.declared.turn.Turn.{Turn}
 use Rattle.model.specs.declared.turn.Turn.TheVariants.{Next}
 use Rattle.model.specs.World.{World}
 use Rattle.model.specs.Refusals.{refusal_of, IsRefusal}
-use Rattle.model.specs.Turns.{taken, told}
+use Rattle.model.specs.Turns.{world_after, events_of}
 use Rattle.schedule.specs.declared.error.ScheduleError.{ScheduleError}
 use Rattle.schedule.specs.declared.error.ScheduleError.TheVariants.{WriteFailed}
 use Rattle.schedule.specs.Print.{events_text, refusal_text}
@@ -25,7 +25,7 @@ pub events_behind : {X : Type 0} (old new told : List X) → new ≡ old ++ told
 events_behind old new told e = take_rest new (length old) ∙ ap (drop (length old)) e ∙ drop_at old told (length old) refl
 
 abbrev taken_as : World ℕ → Turn ℕ → Outcome
-taken_as w turn = record { text = events_text (told w turn); is_taken = true; world = taken w turn }
+taken_as w turn = record { text = events_text (events_of w turn); is_taken = true; world = world_after w turn }
 
 abbrev refused_as : World ℕ → Refusal → Outcome
 refused_as w refusal = record { text = refusal_text refusal; is_taken = false; world = w }
@@ -39,12 +39,12 @@ unfolding outcome
 outcome_refused w turn refusal (inl e) = (false, ap (λ r. outcome_as w turn (refusal_where false r)) e)
 outcome_refused w turn refusal (inr (e, same)) = (true, ap (λ r. outcome_as w turn (refusal_where true r)) e ∙ ap (refused_as w) (sym same))
 
-pub taken_written : (w new : World ℕ) (turn : Turn ℕ) (b a : Option (List ℕ)) → refusal_of w turn ≡ None → new ≡ taken w turn
-    → Appends b a (events_text (told w turn)) → (short : Bool) × IsTurn (outcome short w turn) new b a (Ok true)
+pub taken_written : (w new : World ℕ) (turn : Turn ℕ) (b a : Option (List ℕ)) → refusal_of w turn ≡ None → new ≡ world_after w turn
+    → Appends b a (events_text (events_of w turn)) → (short : Bool) × IsTurn (outcome short w turn) new b a (Ok true)
 taken_written w new turn b a e same p = (false, subst (λ o. IsTurn o new b a (Ok true)) (sym (outcome_taken w turn e)) (refl, same, p))
 
 pub taken_failed : (w new : World ℕ) (turn : Turn ℕ) (b a : Option (List ℕ)) (error : ScheduleError) → refusal_of w turn ≡ None → error ≡ WriteFailed
-    → AppendsPart b a (events_text (told w turn)) → (short : Bool) × IsTurn (outcome short w turn) new b a (Err error)
+    → AppendsPart b a (events_text (events_of w turn)) → (short : Bool) × IsTurn (outcome short w turn) new b a (Err error)
 taken_failed w new turn b a error e same p = (false, subst (λ o. IsTurn o new b a (Err error)) (sym (outcome_taken w turn e)) (same, p))
 
 pub refused_written : (w new : World ℕ) (turn : Turn ℕ) (b a : Option (List ℕ)) (refusal : Refusal) → IsRefusal w turn refusal → new ≡ w

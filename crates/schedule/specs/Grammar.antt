@@ -1,44 +1,17 @@
 -- What a line says, read from left to right: a value, or the first cause that is met.
-use Rattle.std.specs.Prelude.{◌≡◌, ℕ, ◌-◌, ◌^◌, ◌==◌, Bool, true, false, List, [], ◌∷◌, Option, Some, None, Result, Ok, Err, if◌then◌else◌, bytes_eq, codes}
+use Rattle.std.specs.Prelude.{ℕ, ◌-◌, ◌^◌, ◌==◌, Bool, true, false, List, [], ◌∷◌, Result, Ok, Err, if◌then◌else◌, bytes_eq, codes}
 use Rattle.model.specs.declared.event.Start.{Start}
-use Rattle.model.specs.declared.event.Start.TheVariants.{AcquireProducer, ReleaseProducer, AcquireConsumer, ReleaseConsumer, Push, Pop, Len, IsEmpty, IsFull}
-use Rattle.model.specs.declared.event.Item.TheVariants.{Index}
 use Rattle.model.specs.declared.turn.Kind.{Kind}
 use Rattle.model.specs.declared.turn.Kind.TheVariants.{IndexQueue, Overflow}
 use Rattle.model.specs.declared.turn.Turn.TheVariants.{Begin, Next, Decide, Die}
 use Rattle.schedule.specs.declared.error.Cause.{Cause}
-use Rattle.schedule.specs.declared.error.Cause.TheVariants.{MissingValue, BadValue, UnknownKind, UnknownTurn, UnknownCall, ExtraWords}
+use Rattle.schedule.specs.declared.error.Cause.TheVariants.{BadValue, UnknownKind, UnknownTurn}
 use Rattle.schedule.specs.declared.grammar.Command.{Command}
 use Rattle.schedule.specs.declared.grammar.Command.TheVariants.{Once, Times}
 use Rattle.schedule.specs.declared.grammar.Setup.{Setup}
+use Rattle.schedule.specs.Queues as queues
+unfoldable pub use Rattle.schedule.specs.Reading.{Gives, ◌>>=◌, next_word, ended, number_at}
 use Rattle.schedule.specs.Text.{number_of}
-
-infixl 10 ◌>>=◌
-abbrev pub ◌>>=◌ : {A B : Type 0} → Result A Cause → (A → Result B Cause) → Result B Cause
-(Ok x) >>= f = f x
-(Err e) >>= f = Err e
-
--- what a function returned, seen by view, is what reading gives
-abbrev pub Gives : {X Y : Type 0} → (X → Y) → Result X Cause → Result Y Cause → Type 0
-Gives view (Ok x) read = read ≡ Ok (view x)
-Gives view (Err e) read = read ≡ Err e
-
--- ---- words
-
-abbrev pub next_word : List (List ℕ) → Result (List ℕ × List (List ℕ)) Cause
-next_word [] = Err MissingValue
-next_word (w ∷ ws) = Ok (w, ws)
-
-abbrev pub ended : List (List ℕ) → Result (Unit {0}) Cause
-ended [] = Ok tt
-ended (w ∷ ws) = Err ExtraWords
-
--- a number up to the greatest, and the words after it
-unfoldable pub number_at : ℕ → List (List ℕ) → Result (ℕ × List (List ℕ)) Cause
-number_at greatest ws = do
-  word ← next_word ws
-  n ← number_of greatest word.0
-  Ok (n, word.1)
 
 -- ---- the first line
 
@@ -60,40 +33,10 @@ setup_of ws = do
 
 -- ---- calls
 
-abbrev pub role_call : List ℕ → Option (Start ℕ)
-role_call name =
-    if bytes_eq name (codes "acquire_producer") then Some AcquireProducer
-    else if bytes_eq name (codes "release_producer") then Some ReleaseProducer
-    else if bytes_eq name (codes "acquire_consumer") then Some AcquireConsumer
-    else if bytes_eq name (codes "release_consumer") then Some ReleaseConsumer
-    else None
-
-abbrev pub length_call : List ℕ → Option (Start ℕ)
-length_call name =
-    if bytes_eq name (codes "len") then Some Len
-    else if bytes_eq name (codes "is_empty") then Some IsEmpty
-    else if bytes_eq name (codes "is_full") then Some IsFull
-    else None
-
-unfoldable pub push_index : List (List ℕ) → Result (Start ℕ × List (List ℕ)) Cause
-push_index ws = do
-  index ← number_at (2 ^ 64 - 1) ws
-  Ok (Push (Index index.0), index.1)
-
--- a call on the indices of a queue that is no call on a role
-unfoldable pub index_call : List ℕ → List (List ℕ) → Result (Start ℕ × List (List ℕ)) Cause
-index_call name ws =
-    if bytes_eq name (codes "push") then push_index ws
-    else if bytes_eq name (codes "pop") then Ok (Pop, ws)
-    else elim (length_call name) [ Some start ↦ Ok (start, ws) | None ↦ Err UnknownCall ]
-
-unfoldable pub index_queue_call : List ℕ → List (List ℕ) → Result (Start ℕ × List (List ℕ)) Cause
-index_queue_call name ws = elim (role_call name) [ Some start ↦ Ok (start, ws) | None ↦ index_call name ws ]
-
 -- the calls of each kind; both queues of indices have the same
 abbrev pub call_of : Kind → List ℕ → List (List ℕ) → Result (Start ℕ × List (List ℕ)) Cause
-call_of IndexQueue name ws = index_queue_call name ws
-call_of Overflow name ws = index_queue_call name ws
+call_of IndexQueue name ws = queues.index_queue_call name ws
+call_of Overflow name ws = queues.index_queue_call name ws
 
 -- ---- turns
 

@@ -1,6 +1,8 @@
-pub mod Text
 pub mod Grammar
-pub mod Print
-pub mod Written
 pub mod Output
+pub mod Print
+pub mod Queues
+pub mod Reading
 pub mod Run
+pub mod Text
+pub mod Written

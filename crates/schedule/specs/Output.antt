@@ -9,7 +9,7 @@ use Rattle.model.specs.declared.turn.Turn.{Turn}
 use Rattle.model.specs.declared.turn.Turn.TheVariants.{Next}
 use Rattle.model.specs.World.{World, opening, capacity_error}
 use Rattle.model.specs.Refusals.{refusal_of, is_going}
-use Rattle.model.specs.Turns.{taken, told}
+use Rattle.model.specs.Turns.{world_after, events_of}
 use Rattle.schedule.specs.declared.error.Cause.{Cause}
 use Rattle.schedule.specs.declared.error.Cause.TheVariants as causes
 use Rattle.schedule.specs.declared.grammar.Command.{Command}
@@ -34,7 +34,7 @@ refusal_where true None = Some NoMemory
 refusal_where false None = None
 
 abbrev pub outcome_as : World ℕ → Turn ℕ → Option Refusal → Outcome
-outcome_as w turn None = record { text = events_text (told w turn); is_taken = true; world = taken w turn }
+outcome_as w turn None = record { text = events_text (events_of w turn); is_taken = true; world = world_after w turn }
 outcome_as w turn (Some refusal) = record { text = refusal_text refusal; is_taken = false; world = w }
 
 -- of a turn to which memory is refused, or not

@@ -1,16 +1,17 @@
 -- What is printed of events, refusals and errors.
-use Rattle.std.specs.Prelude.{ℕ, Bool, true, false, List, [], ◌++◌, Option, Some, None, Result, Ok, Err, codes, decimal}
+use Rattle.std.specs.Prelude.{ℕ, Bool, true, false, List, [], ◌++◌, Result, Ok, Err, codes, decimal}
 use Rattle.std.specs.List.{flat_map}
 use Rattle.model.specs.declared.event.Answer.{Answer}
-use Rattle.model.specs.declared.event.Answer.TheVariants.{Done, Truth, Popped, Number}
+use Rattle.model.specs.declared.event.Answer.TheVariants.{Done, Truth, Number, PoppedNone, PoppedIndex, Popped}
 use Rattle.model.specs.declared.event.Event.{Event}
 use Rattle.model.specs.declared.event.Event.TheVariants.{Begun, Published, HandedOut, Acted, Finished}
 use Rattle.model.specs.declared.event.Item.{Item}
 use Rattle.model.specs.declared.event.Item.TheVariants.{Index, Value}
 use Rattle.model.specs.declared.event.Start.{Start}
-use Rattle.model.specs.declared.event.Start.TheVariants.{AcquireProducer, ReleaseProducer, AcquireConsumer, ReleaseConsumer, Push, Pop, Len, IsEmpty, IsFull}
+use Rattle.model.specs.declared.event.Start.TheVariants.{Queues}
 use Rattle.model.specs.declared.turn.Refusal.{Refusal}
 use Rattle.model.specs.declared.turn.Refusal.TheVariants as refusals
+use Rattle.schedule.specs.Queues.{queue_call_text}
 use Rattle.schedule.specs.declared.error.Cause.{Cause}
 use Rattle.schedule.specs.declared.error.Cause.TheVariants as causes
 use Rattle.schedule.specs.declared.error.ScheduleError.{ScheduleError}
@@ -24,28 +25,18 @@ item_text (Value n) = decimal n
 
 -- a call and its arguments
 abbrev pub call_text : Start ℕ → List ℕ
-call_text AcquireProducer = codes "acquire_producer"
-call_text ReleaseProducer = codes "release_producer"
-call_text AcquireConsumer = codes "acquire_consumer"
-call_text ReleaseConsumer = codes "release_consumer"
-call_text (Push item) = codes "push " ++ item_text item
-call_text Pop = codes "pop"
-call_text Len = codes "len"
-call_text IsEmpty = codes "is_empty"
-call_text IsFull = codes "is_full"
+call_text (Queues start) = queue_call_text start
 
 abbrev pub truth_text : Bool → List ℕ
 truth_text true = codes "true"
 truth_text false = codes "false"
 
-abbrev pub popped_text : Option (Item ℕ) → List ℕ
-popped_text None = codes "none"
-popped_text (Some item) = codes "some " ++ item_text item
-
 abbrev pub answer_text : Answer ℕ → List ℕ
 answer_text Done = codes "done"
 answer_text (Truth said) = truth_text said
-answer_text (Popped item) = popped_text item
+answer_text PoppedNone = codes "none"
+answer_text (PoppedIndex index) = codes "some " ++ decimal index
+answer_text (Popped value) = codes "some " ++ decimal value
 answer_text (Number n) = decimal n
 
 -- a call and its answer

@@ -35,13 +35,13 @@ Prints f old new before after (Err e) =
 -- ---- a run
 
 -- The run ended as the output does, and its text was written. After a failed write it was a beginning of the text, and where there
--- was no memory or nothing could be read, nothing. The list says to which turns memory was refused.
+-- was no memory for the machine, nothing. All was read before. The list says to which turns memory was refused.
 abbrev pub IsOutput : (List Bool → Output) → Option (List ℕ) → Option (List ℕ) → Result (Unit {0}) ScheduleError → Type 0
 IsOutput output before after (Ok u) = (memory : List Bool) × ((output memory).end ≡ Ok u) × Appends before after (output memory).text
 IsOutput output before after (Err (errors.Malformed line cause)) =
     (memory : List Bool) × ((output memory).end ≡ Err (line, cause)) × Appends before after (output memory).text
 IsOutput output before after (Err errors.WriteFailed) = (memory : List Bool) × AppendsPart before after (output memory).text
-IsOutput output before after (Err errors.ReadFailed) = Keeps before after
+IsOutput output before after (Err errors.ReadFailed) = ⊥
 IsOutput output before after (Err errors.NoMemory) = Keeps before after
 
 -- the same of a reader of which all that it had left was read

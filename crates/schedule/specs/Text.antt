@@ -5,7 +5,7 @@ use Rattle.std.specs.Str.{all_ascii_digits}
 use Rattle.std.specs.Str.Parse.{digits_value}
 use Rattle.schedule.specs.declared.error.Cause.{Cause}
 use Rattle.schedule.specs.declared.error.Cause.TheVariants.{BadValue}
-use Rattle.schedule.specs.declared.text.Parts.{Parts}
+use Rattle.schedule.specs.declared.text.Rest.{Rest}
 
 -- what stands round each byte that is the separator
 abbrev pub parts : ℕ → List ℕ → List (List ℕ)
@@ -28,5 +28,5 @@ number_of greatest word =
     else Err BadValue
 
 -- the parts that are not read yet
-abbrev pub parts_left : Parts → List (List ℕ)
-parts_left p = elim p.rest [ None ↦ [] | Some text ↦ parts p.separator text.now ]
+abbrev pub words_left : Rest → List (List ℕ)
+words_left p = elim p.rest [ None ↦ [] | Some text ↦ parts p.separator text.now ]

@@ -19,7 +19,7 @@ pub enum Cause {
     /// The word names no call of the kind.
     #[error("unknown call")]
     UnknownCall,
-    /// Words stand behind the last one that is read.
+    /// Rest stand behind the last one that is read.
     #[error("extra words")]
     ExtraWords,
     /// The first line is sound, and its capacity is refused.

@@ -1,11 +1,12 @@
 //! What a line says, read word by word.
 ghost use Rattle.std.specs.Prelude.{◌≡◌, ◌≤◌, ◌-◌, ◌==◌, IfOk};
-ghost use Rattle.schedule.specs.Text.{parts_left, words};
-ghost use Rattle.schedule.specs.Grammar.{Gives, next_word, ended, number_at, kind_of, setup_of, role_call, length_call, push_index, index_call, index_queue_call, call_of, begin_of, count_of, next_of, decision_of, turn_of, death_of, command_of};
+ghost use Rattle.schedule.specs.Text.{words_left, words};
+ghost use Rattle.schedule.specs.Grammar.{Gives, next_word, ended, number_at, kind_of, setup_of, call_of, begin_of, count_of, next_of, decision_of, turn_of, death_of, command_of};
 
 use crate::error::Cause;
-use crate::text::{Parts, number_of, words};
-use machine::event::{Item, Start};
+use crate::queues;
+use crate::text::{Rest, number_of, words};
+use machine::event::Start;
 use machine::turn::{Kind, Turn};
 use steps::enums::OwnerId;
 
@@ -31,8 +32,9 @@ pub enum Command {
 
 // ---- words
 
-fn next_word(words: Parts<'_>) -> Result<(&[u8], Parts<'_>), Cause>
-    ensures { Gives (λ x. (x.0.now, parts_left x.1)) result (next_word (parts_left words.entry)) }
+/// The next word, and those behind it.
+pub fn next_word(words: Rest<'_>) -> Result<(&[u8], Rest<'_>), Cause>
+    ensures { Gives (λ x. (x.0.now, words_left x.1)) result (next_word (words_left words.entry)) }
 {
     match words.first() {
         None => Err(Cause::MissingValue),
@@ -40,8 +42,8 @@ fn next_word(words: Parts<'_>) -> Result<(&[u8], Parts<'_>), Cause>
     }
 }
 
-fn ended(words: Parts<'_>) -> Result<(), Cause>
-    ensures { Gives (λ x. x) result (ended (parts_left words.entry)) }
+fn ended(words: Rest<'_>) -> Result<(), Cause>
+    ensures { Gives (λ x. x) result (ended (words_left words.entry)) }
 {
     match words.first() {
         None => Ok(()),
@@ -49,9 +51,10 @@ fn ended(words: Parts<'_>) -> Result<(), Cause>
     }
 }
 
+/// A number up to the greatest, and the words behind it.
 #[tactic(auto, unfolding(crate::specs::Grammar::number_at))]
-fn number_at(greatest: u128, words: Parts<'_>) -> Result<(u128, Parts<'_>), Cause>
-    ensures value { Gives (λ x. (x.0, parts_left x.1)) result (number_at greatest (parts_left words.entry)) }
+pub fn number_at(greatest: u128, words: Rest<'_>) -> Result<(u128, Rest<'_>), Cause>
+    ensures value { Gives (λ x. (x.0, words_left x.1)) result (number_at greatest (words_left words.entry)) }
     ensures bound { IfOk result (λ x. x.0 ≤ greatest) }
 {
     let (word, rest) = next_word(words)?;
@@ -92,84 +95,20 @@ pub fn setup_of(line: &[u8]) -> Result<Setup, Cause>
 
 // ---- calls
 
-fn role_call(name: &[u8]) -> Option<Start<u128>>
-    ensures { result ≡ role_call name.now }
-{
-    if name == b"acquire_producer".as_slice() {
-        Some(Start::AcquireProducer)
-    } else if name == b"release_producer".as_slice() {
-        Some(Start::ReleaseProducer)
-    } else if name == b"acquire_consumer".as_slice() {
-        Some(Start::AcquireConsumer)
-    } else if name == b"release_consumer".as_slice() {
-        Some(Start::ReleaseConsumer)
-    } else {
-        None
-    }
-}
-
-fn length_call(name: &[u8]) -> Option<Start<u128>>
-    ensures { result ≡ length_call name.now }
-{
-    if name == b"len".as_slice() {
-        Some(Start::Len)
-    } else if name == b"is_empty".as_slice() {
-        Some(Start::IsEmpty)
-    } else if name == b"is_full".as_slice() {
-        Some(Start::IsFull)
-    } else {
-        None
-    }
-}
-
-#[tactic(auto, unfolding(crate::specs::Grammar::push_index))]
-fn push_index(words: Parts<'_>) -> Result<(Start<u128>, Parts<'_>), Cause>
-    ensures { Gives (λ x. (x.0, parts_left x.1)) result (push_index (parts_left words.entry)) }
-{
-    let (index, rest) = number_at(u128::from(u64::MAX), words)?;
-    Ok((Start::Push(Item::Index(index as u64)), rest))
-}
-
-#[tactic(auto, unfolding(crate::specs::Grammar::index_call))]
-fn index_call<'a>(name: &[u8], words: Parts<'a>) -> Result<(Start<u128>, Parts<'a>), Cause>
-    ensures { Gives (λ x. (x.0, parts_left x.1)) result (index_call name.now (parts_left words.entry)) }
-{
-    if name == b"push".as_slice() {
-        push_index(words)
-    } else if name == b"pop".as_slice() {
-        Ok((Start::Pop, words))
-    } else {
-        match length_call(name) {
-            Some(start) => Ok((start, words)),
-            None => Err(Cause::UnknownCall),
-        }
-    }
-}
-
-#[tactic(auto, unfolding(crate::specs::Grammar::index_queue_call))]
-fn index_queue_call<'a>(name: &[u8], words: Parts<'a>) -> Result<(Start<u128>, Parts<'a>), Cause>
-    ensures { Gives (λ x. (x.0, parts_left x.1)) result (index_queue_call name.now (parts_left words.entry)) }
-{
-    match role_call(name) {
-        Some(start) => Ok((start, words)),
-        None => index_call(name, words),
-    }
-}
-
-fn call_of<'a>(kind: Kind, name: &[u8], words: Parts<'a>) -> Result<(Start<u128>, Parts<'a>), Cause>
-    ensures { Gives (λ x. (x.0, parts_left x.1)) result (call_of kind name.now (parts_left words.entry)) }
+fn call_of<'a>(kind: Kind, name: &[u8], words: Rest<'a>) -> Result<(Start<u128>, Rest<'a>), Cause>
+    ensures { Gives (λ x. (x.0, words_left x.1)) result (call_of kind name.now (words_left words.entry)) }
 {
     match kind {
-        Kind::IndexQueue => index_queue_call(name, words),
-        Kind::Overflow => index_queue_call(name, words),
+        Kind::IndexQueue => queues::index_queue_call(name, words),
+        Kind::Overflow => queues::index_queue_call(name, words),
     }
 }
 
 // ---- turns
 
 #[tactic(auto, unfolding(crate::specs::Grammar::begin_of))]
-fn begin_of(kind: Kind, party: u32, words: Parts<'_>) -> Result<Command, Cause>
-    ensures { Gives (λ command. command) result (begin_of kind party (parts_left words.entry)) }
+fn begin_of(kind: Kind, party: u32, words: Rest<'_>) -> Result<Command, Cause>
+    ensures { Gives (λ command. command) result (begin_of kind party (words_left words.entry)) }
 {
     let (name, rest) = next_word(words)?;
     let (start, rest) = call_of(kind, name, rest)?;
@@ -188,8 +127,8 @@ fn count_of(word: &[u8]) -> Result<u64, Cause>
 }
 
 #[tactic(auto, unfolding(crate::specs::Grammar::next_of))]
-fn next_of(party: u32, words: Parts<'_>) -> Result<Command, Cause>
-    ensures { Gives (λ command. command) result (next_of party (parts_left words.entry)) }
+fn next_of(party: u32, words: Rest<'_>) -> Result<Command, Cause>
+    ensures { Gives (λ command. command) result (next_of party (words_left words.entry)) }
 {
     match words.first() {
         None => Ok(Command::Once(Turn::Next(party))),
@@ -202,16 +141,16 @@ fn next_of(party: u32, words: Parts<'_>) -> Result<Command, Cause>
 }
 
 #[tactic(auto, unfolding(crate::specs::Grammar::decision_of))]
-fn decision_of(party: u32, said: bool, words: Parts<'_>) -> Result<Command, Cause>
-    ensures { Gives (λ command. command) result (decision_of party said (parts_left words.entry)) }
+fn decision_of(party: u32, said: bool, words: Rest<'_>) -> Result<Command, Cause>
+    ensures { Gives (λ command. command) result (decision_of party said (words_left words.entry)) }
 {
     ended(words)?;
     Ok(Command::Once(Turn::Decide(party, said)))
 }
 
 #[tactic(auto, unfolding(crate::specs::Grammar::turn_of))]
-fn turn_of(kind: Kind, party: u32, words: Parts<'_>) -> Result<Command, Cause>
-    ensures { Gives (λ command. command) result (turn_of kind party (parts_left words.entry)) }
+fn turn_of(kind: Kind, party: u32, words: Rest<'_>) -> Result<Command, Cause>
+    ensures { Gives (λ command. command) result (turn_of kind party (words_left words.entry)) }
 {
     let (name, rest) = next_word(words)?;
     if name == b"begin".as_slice() {
@@ -228,8 +167,8 @@ fn turn_of(kind: Kind, party: u32, words: Parts<'_>) -> Result<Command, Cause>
 }
 
 #[tactic(auto, unfolding(crate::specs::Grammar::death_of))]
-fn death_of(words: Parts<'_>) -> Result<Command, Cause>
-    ensures { Gives (λ command. command) result (death_of (parts_left words.entry)) }
+fn death_of(words: Rest<'_>) -> Result<Command, Cause>
+    ensures { Gives (λ command. command) result (death_of (words_left words.entry)) }
 {
     let (number, rest) = number_at(GREATEST_OWNER, words)?;
     ended(rest)?;

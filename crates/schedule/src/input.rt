@@ -4,11 +4,14 @@ ghost use Rattle.std.specs.Io.KnownBytes.{Consumes, IsAtEnd};
 ghost use Rattle.schedule.specs.Written.{IsUnread};
 
 use crate::error::ScheduleError;
-use std::alloc::Global;
+use std::alloc::Allocator;
 use std::io::{ErrorKind, Read};
 
 // Appends some of what is left, and answers false where nothing was.
-fn read_piece<R: Read>(reader: &mut R, input: &mut Vec<u8>) -> Result<bool, ScheduleError>
+fn read_piece<A: Allocator, R: Read>(
+    reader: &mut R,
+    input: &mut Vec<u8, A>,
+) -> Result<bool, ScheduleError>
     ensures bytes { IfOk result (λ more. (bytes : List ℕ) × (input.new.items ≡ input.old.items ++ bytes)
         × Consumes (R.remaining reader.old) (R.remaining reader.new) bytes × (more ≡ false → IsAtEnd (R.remaining reader.new))) }
     ensures failed { IfErr result IsUnread }
@@ -33,7 +36,10 @@ fn read_piece<R: Read>(reader: &mut R, input: &mut Vec<u8>) -> Result<bool, Sche
 
 /// All that the reader has left. A read that was interrupted is tried again; any other failure is `ReadFailed`, and
 /// refused memory `NoMemory`.
-pub fn whole_input<R: Read>(alloc: Global, reader: &mut R) -> Result<Vec<u8>, ScheduleError>
+pub fn whole_input<A: Allocator, R: Read>(
+    alloc: A,
+    reader: &mut R,
+) -> Result<Vec<u8, A>, ScheduleError>
     ensures bytes { IfOk result (λ input. IfSome (R.remaining reader.old) (λ known. known ≡ input.items)) }
     ensures failed { IfErr result IsUnread }
 {

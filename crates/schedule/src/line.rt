@@ -57,14 +57,14 @@ impl Line {
         self.len = end;
     }
 
-    fn push(&mut self, text: &str)
+    pub fn push(&mut self, text: &str)
         requires { length self.old + length text.now ≤ ROOM }
         ensures { self.new ≡ self.old ++ text.now }
     {
         self.push_bytes(text.as_bytes());
     }
 
-    fn push_number(&mut self, number: u128)
+    pub fn push_number(&mut self, number: u128)
         requires { length self.old + 39 ≤ ROOM }
         ensures text { self.new ≡ self.old ++ decimal number }
         ensures short { length self.new ≤ length self.old + 39 }
@@ -99,18 +99,7 @@ impl Line {
         ensures short { length self.new ≤ length self.old + 80 }
     {
         match start {
-            Start::AcquireProducer => self.push("acquire_producer"),
-            Start::ReleaseProducer => self.push("release_producer"),
-            Start::AcquireConsumer => self.push("acquire_consumer"),
-            Start::ReleaseConsumer => self.push("release_consumer"),
-            Start::Push(item) => {
-                self.push("push ");
-                self.push_item(item);
-            }
-            Start::Pop => self.push("pop"),
-            Start::Len => self.push("len"),
-            Start::IsEmpty => self.push("is_empty"),
-            Start::IsFull => self.push("is_full"),
+            Start::Queues(start) => self.push_queue_call(start),
         }
     }
 
@@ -123,10 +112,14 @@ impl Line {
             Answer::Done => self.push("done"),
             Answer::Truth(true) => self.push("true"),
             Answer::Truth(false) => self.push("false"),
-            Answer::Popped(None) => self.push("none"),
-            Answer::Popped(Some(item)) => {
+            Answer::PoppedNone => self.push("none"),
+            Answer::PoppedIndex(index) => {
                 self.push("some ");
-                self.push_item(item);
+                self.push_number(u128::from(index));
+            }
+            Answer::Popped(value) => {
+                self.push("some ");
+                self.push_number(value);
             }
             Answer::Number(number) => self.push_number(u128::from(number)),
         }

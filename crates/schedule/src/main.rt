@@ -6,23 +6,24 @@ mod grammar;
 mod input;
 mod line;
 mod output;
+mod queues;
 mod run;
 mod status;
 mod text;
 
-use error::ScheduleError;
-use run::run;
 use status::status;
-use std::io::BufWriter;
 use std::process::ExitCode;
 
 #[cfg(test)]
 mod tests;
 
 fn main(rt: HostRuntime) -> ExitCode {
-    let ran = match BufWriter::new(rt.alloc(), rt.stdout()) {
-        Ok(mut writer) => run(rt.alloc(), &mut rt.stdin(), &mut writer),
-        Err(_) => Err(ScheduleError::NoMemory),
-    };
-    ExitCode::from(status(&ran, &mut rt.stderr()))
+    let exit = status(
+        rt.alloc(),
+        rt.alloc(),
+        &mut rt.stdin(),
+        &mut rt.stdout(),
+        &mut rt.stderr(),
+    );
+    ExitCode::from(exit)
 }

@@ -3,17 +3,17 @@ ghost use Rattle.std.specs.Prelude.{◌^◌, ◌<◌, Bool, length};
 ghost use Rattle.schedule.specs.Grammar.{Gives};
 ghost use Rattle.schedule.specs.Output.{outcome, nexts, commanded, lines_from, machine_of, output};
 ghost use Rattle.schedule.specs.Run.{IsTurn, IsStep, Prints, IsOutput, IsRun};
-ghost use Rattle.schedule.specs.Text.{words, parts_left};
+ghost use Rattle.schedule.specs.Text.{words, words_left};
 ghost use Rattle.model.specs.declared.turn.Turn.TheVariants.{Next};
 
 use crate::error::{Cause, ScheduleError};
 use crate::grammar::{Command, Setup, command_of, setup_of};
 use crate::input::whole_input;
 use crate::output::{flush, put_events, put_refusal};
-use crate::text::{Parts, lines};
+use crate::text::{Rest, lines};
 use machine::Machine;
 use machine::turn::{Kind, Turn, capacity_error};
-use std::alloc::Global;
+use std::alloc::{Allocator, Global};
 use std::io::{Read, Write};
 use steps::enums::UniqueIndexCreationError;
 
@@ -91,12 +91,12 @@ fn do_command<W: Write>(
 // The lines after the first.
 fn do_lines<W: Write>(
     kind: Kind,
-    lines: Parts<'_>,
+    lines: Rest<'_>,
     machine: &mut Machine<u128>,
     writer: &mut W,
 ) -> Result<(), ScheduleError>
-    requires { length (parts_left lines) < 2 ^ 63 }
-    ensures { IsOutput (λ memory. lines_from kind 2 (parts_left lines.entry) (record { world = machine.old.world; memory = memory })) (W.contents writer.old) (W.contents writer.new) result }
+    requires { length (words_left lines) < 2 ^ 63 }
+    ensures { IsOutput (λ memory. lines_from kind 2 (words_left lines.entry) (record { world = machine.old.world; memory = memory })) (W.contents writer.old) (W.contents writer.new) result }
 {
     let mut left = lines;
     let mut number = 2u64;
@@ -157,14 +157,17 @@ fn do_text<W: Write>(alloc: Global, input: &[u8], writer: &mut W) -> Result<(), 
 /// then been written. A failed read is `ReadFailed`. Where there is no memory for the input or the machine it is
 /// `NoMemory`. A failed write, also of what a writer kept back, is `WriteFailed`. A turn to which memory is refused is
 /// printed as refused, and the run goes on.
-pub fn run<R: Read, W: Write>(
+///
+/// The input is kept in the memory of `buffers`, and the machine in that of `alloc`.
+pub fn run<A: Allocator, R: Read, W: Write>(
+    buffers: A,
     alloc: Global,
     reader: &mut R,
     writer: &mut W,
 ) -> Result<(), ScheduleError>
     ensures { IsRun (R.remaining reader.old) (W.contents writer.old) (W.contents writer.new) result }
 {
-    let input = match whole_input(alloc, reader) {
+    let input = match whole_input(buffers, reader) {
         Ok(input) => input,
         Err(e) => return Err(e),
     };

@@ -1,94 +1,18 @@
-//! Whole runs: worked schedules, broken texts, and reads and writes that fail.
-use crate::error::{Cause, ScheduleError};
-use crate::run::run;
+//! Whole runs: worked schedules and broken texts.
 use crate::status::status;
 use std::alloc::Global;
-use std::io;
-use std::io::{ErrorKind, Read, Write};
 use std::process::Abort;
 use std::test::Fail;
+
+mod failures;
+mod memory;
+mod size;
 
 const STOPPED_PUSH: &[u8] =
     b"index_queue 1 2\n0 begin acquire_producer\n0 next\n1 begin acquire_consumer\n1 next\n0 begin push 5\n0 next 3\n1 begin pop\n1 next 4\n0 next\n";
 
 const STOPPED_PUSH_OUTPUT: &[u8] =
     b"0 begun acquire_producer\n0 finished acquire_producer -> true\n1 begun acquire_consumer\n1 finished acquire_consumer -> true\n0 begun push 5\n1 begun pop\n1 acted pop -> none\n1 finished pop -> none\n0 published 5\n0 acted push 5 -> true\n0 finished push 5 -> true\n";
-
-/// A reader or a writer that does a few bytes at a call, and fails from some call on.
-#[derive(Drop)]
-struct Faulty {
-    bytes: Vec<u8>,
-    place: usize,
-    at_most: usize,
-    calls_left: usize,
-    kind: ErrorKind,
-}
-
-impl Faulty {
-    fn new(bytes: Vec<u8>, at_most: usize, calls_left: usize, kind: ErrorKind) -> Faulty {
-        Faulty {
-            bytes,
-            place: 0,
-            at_most,
-            calls_left,
-            kind,
-        }
-    }
-
-    /// Whether the call may go on. An interruption comes once, and any other failure again and again.
-    fn is_sound(&mut self) -> bool {
-        if self.calls_left == 0 {
-            if self.kind == ErrorKind::Interrupted {
-                self.calls_left = usize::MAX;
-            }
-            return false;
-        }
-        self.calls_left -= 1;
-        true
-    }
-}
-
-impl Read for Faulty {
-    fn read(&mut self, buf: &mut [u8]) -> io::Result<usize> {
-        if !self.is_sound() {
-            return Err(io::Error::from(self.kind));
-        }
-        let rest = self.bytes.get(self.place..).unwrap_or(&[]);
-        let count = rest.len().min(self.at_most).min(buf.len());
-        buf[..count].copy_from_slice(&rest[..count]);
-        self.place = self.place.saturating_add(count);
-        Ok(count)
-    }
-}
-
-impl Write for Faulty {
-    fn write(&mut self, buf: &[u8]) -> io::Result<usize> {
-        if !self.is_sound() {
-            return Err(io::Error::from(self.kind));
-        }
-        let count = buf.len().min(self.at_most);
-        self.bytes.extend_from_slice(&buf[..count])?;
-        Ok(count)
-    }
-
-    fn flush(&mut self) -> io::Result<()> {
-        Ok(())
-    }
-}
-
-/// A writer that keeps back what it is given, and cannot let go of it.
-#[derive(Drop)]
-struct Stuck;
-
-impl Write for Stuck {
-    fn write(&mut self, buf: &[u8]) -> io::Result<usize> {
-        Ok(buf.len())
-    }
-
-    fn flush(&mut self) -> io::Result<()> {
-        Err(io::Error::from(ErrorKind::Other))
-    }
-}
 
 /// Runs a schedule, and compares the output, what is told and the exit status.
 fn expect_run(
@@ -101,9 +25,8 @@ fn expect_run(
 ) -> Result<(), Fail> {
     let mut reader = input;
     let mut written = Vec::new(alloc);
-    let ran = run(alloc, &mut reader, &mut written);
     let mut errors = Vec::new(alloc);
-    let ended = status(&ran, &mut errors);
+    let ended = status(alloc, alloc, &mut reader, &mut written, &mut errors);
     assert_eq!(rt; written.as_slice(), output);
     assert_eq!(rt; errors.as_slice(), told);
     assert_eq!(rt; ended, exit);
@@ -332,114 +255,4 @@ fn a_pop_reads_again(rt: HostRuntime) -> Result<(), Fail> {
         b"",
         0,
     )
-}
-
-#[test]
-fn failing_reads(rt: HostRuntime) -> Result<(), Fail> {
-    let alloc = rt.alloc();
-    for calls in 0..40 {
-        let input = Vec::from_slice(alloc, STOPPED_PUSH)?;
-        let mut reader = Faulty::new(input, 7, calls, ErrorKind::Other);
-        let mut written: Vec<u8> = Vec::new(alloc);
-        let ran = run(alloc, &mut reader, &mut written);
-        // 132 bytes by 7 are 19 reads, and one more finds the end.
-        if calls < 20 {
-            assert_eq!(rt; ran, Err(ScheduleError::ReadFailed));
-            assert!(rt; written.is_empty());
-        } else {
-            assert_eq!(rt; ran, Ok(()));
-            assert_eq!(rt; written.as_slice(), STOPPED_PUSH_OUTPUT);
-        }
-    }
-    for calls in 0..20 {
-        let input = Vec::from_slice(alloc, STOPPED_PUSH)?;
-        let mut reader = Faulty::new(input, 7, calls, ErrorKind::Interrupted);
-        let mut written: Vec<u8> = Vec::new(alloc);
-        assert_eq!(rt; run(alloc, &mut reader, &mut written), Ok(()));
-        assert_eq!(rt; written.as_slice(), STOPPED_PUSH_OUTPUT);
-    }
-    Ok(())
-}
-
-#[test]
-fn failing_writes(rt: HostRuntime) -> Result<(), Fail> {
-    let alloc = rt.alloc();
-    let mut failures = 0u32;
-    for calls in 0..90 {
-        let mut reader = STOPPED_PUSH;
-        let mut writer = Faulty::new(Vec::new(alloc), 5, calls, ErrorKind::Other);
-        let ran = run(alloc, &mut reader, &mut writer);
-        let written = writer.bytes.as_slice();
-        assert!(rt; STOPPED_PUSH_OUTPUT.starts_with(written));
-        if ran == Ok(()) {
-            assert_eq!(rt; written, STOPPED_PUSH_OUTPUT);
-        } else {
-            assert_eq!(rt; ran, Err(ScheduleError::WriteFailed));
-            assert!(rt; written.len() < STOPPED_PUSH_OUTPUT.len());
-            failures = failures.wrapping_add(1);
-        }
-        // Each call before the failure has written.
-        assert!(rt; calls == 0 || !written.is_empty());
-    }
-    assert!(rt; failures > 11 && failures < 90);
-    for calls in 0..60 {
-        let mut reader = STOPPED_PUSH;
-        let mut writer = Faulty::new(Vec::new(alloc), 5, calls, ErrorKind::Interrupted);
-        assert_eq!(rt; run(alloc, &mut reader, &mut writer), Ok(()));
-        assert_eq!(rt; writer.bytes.as_slice(), STOPPED_PUSH_OUTPUT);
-    }
-    // A writer that takes nothing.
-    let mut reader = STOPPED_PUSH;
-    let mut writer = Faulty::new(Vec::new(alloc), 0, 90, ErrorKind::Other);
-    assert_eq!(rt;
-        run(alloc, &mut reader, &mut writer),
-        Err(ScheduleError::WriteFailed)
-    );
-    Ok(())
-}
-
-#[test]
-fn failing_flushes(rt: HostRuntime) -> Result<(), Fail> {
-    let alloc = rt.alloc();
-    let mut reader = STOPPED_PUSH;
-    assert_eq!(rt;
-        run(alloc, &mut reader, &mut Stuck),
-        Err(ScheduleError::WriteFailed)
-    );
-    let mut malformed: &[u8] = b"index_queue 1 1\n0 jump";
-    assert_eq!(rt;
-        run(alloc, &mut malformed, &mut Stuck),
-        Err(ScheduleError::WriteFailed)
-    );
-    Ok(())
-}
-
-#[test]
-fn what_is_told(rt: HostRuntime) -> Result<(), Fail> {
-    let table: [(Result<(), ScheduleError>, &[u8], u8); 6] = [
-        (Ok(()), b"", 0),
-        (
-            Err(ScheduleError::Malformed(u64::MAX, Cause::ProvidedCapacityIsZero)),
-            b"line 18446744073709551615: ProvidedCapacityIsZero\n",
-            2,
-        ),
-        (
-            Err(ScheduleError::Malformed(10, Cause::BadValue)),
-            b"line 10: bad value\n",
-            2,
-        ),
-        (Err(ScheduleError::ReadFailed), b"read failed\n", 1),
-        (Err(ScheduleError::WriteFailed), b"write failed\n", 1),
-        (Err(ScheduleError::NoMemory), b"no memory\n", 1),
-    ];
-    for (ran, told, exit) in table {
-        let mut errors = Vec::new(rt.alloc());
-        assert_eq!(rt; status(&ran, &mut errors), exit);
-        assert_eq!(rt; errors.as_slice(), told);
-        // What is told may fail, and the answer stays.
-        let mut broken = Faulty::new(Vec::new(rt.alloc()), 5, 1, ErrorKind::Other);
-        assert_eq!(rt; status(&ran, &mut broken), exit);
-        assert!(rt; told.starts_with(broken.bytes.as_slice()));
-    }
-    Ok(())
 }

@@ -1,7 +1,7 @@
 //! The lines of a text, the words of a line, and numbers in decimal.
 ghost use Rattle.std.specs.Prelude.{◌≡◌, [], ◌∷◌, ◌==◌, ◌≤◌, IfOk, MatchOption, length};
 ghost use Rattle.std.specs.List.{position_or_len};
-ghost use Rattle.schedule.specs.Text.{parts, lines, words, number_of, parts_left};
+ghost use Rattle.schedule.specs.Text.{parts, lines, words, number_of, words_left};
 ghost use Rattle.schedule.specs.Grammar.{Gives};
 
 use crate::error::Cause;
@@ -12,31 +12,31 @@ const SPACE: u8 = b' ';
 
 /// The parts of a text that are not read yet.
 #[derive(Clone, Copy)]
-pub struct Parts<'a> {
+pub struct Rest<'a> {
     rest: Option<&'a [u8]>,
     separator: u8,
 }
 
 /// The lines of a text. Behind its last line feed stands one more, which is empty where nothing follows.
-pub fn lines(text: &[u8]) -> Parts<'_>
-    ensures { parts_left result ≡ lines text.now }
+pub fn lines(text: &[u8]) -> Rest<'_>
+    ensures { words_left result ≡ lines text.now }
 {
-    Parts {
+    Rest {
         rest: Some(text),
         separator: LINE_FEED,
     }
 }
 
 /// The words of a line, which exactly one space parts: two spaces have an empty word between them. An empty line has none.
-pub fn words(line: &[u8]) -> Parts<'_>
-    ensures { parts_left result ≡ words line.now }
+pub fn words(line: &[u8]) -> Rest<'_>
+    ensures { words_left result ≡ words line.now }
 {
     match line {
-        [] => Parts {
+        [] => Rest {
             rest: None,
             separator: SPACE,
         },
-        [_, ..] => Parts {
+        [_, ..] => Rest {
             rest: Some(line),
             separator: SPACE,
         },
@@ -55,10 +55,10 @@ fn place_of(byte: u8, text: &[u8]) -> usize
     text.len()
 }
 
-impl<'a> Parts<'a> {
+impl<'a> Rest<'a> {
     /// The first part, and the parts after it. None where no part is left.
-    pub fn first(self) -> Option<(&'a [u8], Parts<'a>)>
-        ensures { MatchOption result (parts_left self.entry ≡ []) (λ x. parts_left self.entry ≡ x.0.now ∷ parts_left x.1) }
+    pub fn first(self) -> Option<(&'a [u8], Rest<'a>)>
+        ensures { MatchOption result (words_left self.entry ≡ []) (λ x. words_left self.entry ≡ x.0.now ∷ words_left x.1) }
     {
         match self.rest {
             None => None,
@@ -67,7 +67,7 @@ impl<'a> Parts<'a> {
                 if at < text.len() {
                     Some((
                         &text[..at],
-                        Parts {
+                        Rest {
                             rest: Some(&text[at + 1..]),
                             separator: self.separator,
                         },
@@ -75,7 +75,7 @@ impl<'a> Parts<'a> {
                 } else {
                     Some((
                         text,
-                        Parts {
+                        Rest {
                             rest: None,
                             separator: self.separator,
                         },

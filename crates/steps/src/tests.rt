@@ -4,12 +4,12 @@ mod small;
 mod values;
 
 use crate::ask::{After, Ask, Call, Want};
+use crate::atomic::{Load, Store};
 use crate::copied::{Copied, OneWord};
 use crate::queues::lengths::Len;
 use crate::queues::overflow;
 use crate::queues::ring::{Pop, Push};
 use crate::routine::{Routine, Running};
-use crate::atomic::{Load, Store};
 use crate::words::Words;
 use std::fmt::Debug;
 use std::process::Abort;

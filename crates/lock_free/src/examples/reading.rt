@@ -1,14 +1,12 @@
-//! A value of three words through a queue.
-use crate::spsc::queue::Queue;
+//! A value of three words, for a queue or for an atomic value.
 use crate::words::Words;
-use std::test::Fail;
 
 /// What a sensor measured.
 #[derive(Clone, Copy, Debug, PartialEq, Eq)]
-struct Reading {
-    sensor: u64,
-    time: u64,
-    level: u64,
+pub struct Reading {
+    pub sensor: u64,
+    pub time: u64,
+    pub level: u64,
 }
 
 impl Words for Reading {
@@ -46,21 +44,4 @@ impl Words for Reading {
             level: words[2],
         }
     }
-}
-
-#[test]
-fn a_reading_through_a_queue(rt: HostRuntime) -> Result<(), Fail> {
-    let (queue, pass) = Queue::<Reading, 2>::new(rt.alloc())?;
-    let mut producer = queue.acquire_producer(pass).map_err(|_| "taken")?;
-    let reading = Reading {
-        sensor: 4,
-        time: u64::MAX,
-        level: 0,
-    };
-    assert!(rt; producer.push(&reading));
-    let mut consumer = queue
-        .acquire_consumer(producer.release())
-        .map_err(|_| "taken")?;
-    assert_eq!(rt; consumer.pop(), Some(reading));
-    Ok(())
 }

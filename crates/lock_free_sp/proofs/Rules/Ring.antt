@@ -5,6 +5,7 @@ pub mod Pushes
 pub mod Pops
 pub mod Lengths
 pub mod Overflows
+pub mod Publishes
 pub mod Comings
 pub mod RoleRuns
 pub mod LenRuns

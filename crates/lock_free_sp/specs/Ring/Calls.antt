@@ -51,7 +51,7 @@ module _ {T : Type 0} where
     pub same : w ≡ v
     pub empty : (q : ℕ) → v.last_pop ≡ Some q → All (λ (x : ℕ × T). x.0 ≤ q) v.published
 
-  -- a length: both positions stood together at one moment, no further apart than there are cells, and above what is known
+  -- a length: the distance between two positions that are above what is known, and no further apart than there are cells
   pub record Stood (spare : ℕ) (v : View T) (waiting : ℕ) : Type 0 where
     pub write : ℕ
     pub read : ℕ
@@ -75,10 +75,11 @@ module _ {T : Type 0} where
     pub next : (q : ℕ) → v.last_push ≡ Some q → position ≡ q + 1
     pub sound : Sound w
 
-  -- a push that took x and handed back y, which it took at a position above all that were taken
+  -- a push that took x where the queue was full, and handed back y, which it took at a position above all that were taken
   pub record HasReplaced (x y : T) (v w : View T) : Type 0 where
     pub position : ℕ
     pub oldest : ℕ
+    pub full : position ≡ oldest + v.capacity
     pub adds : w ≡ handed_back oldest y (pushed position x v)
     pub above : Below position v
     pub next : (q : ℕ) → v.last_push ≡ Some q → position ≡ q + 1

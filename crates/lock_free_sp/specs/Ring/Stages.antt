@@ -3,20 +3,20 @@ use Rattle.std.specs.Prelude.{◌≡◌, ℕ, ◌+◌, ◌-◌, ◌*◌, ◌^◌
 use Rattle.std.specs.List.{All}
 use Rattle.steps.specs.Copied.{value_in}
 use Rattle.steps.specs.declared.copied.OneWord.{OneWord}
-use Rattle.steps.specs.declared.roles.AcquireRole.{AcquireRole}
-use Rattle.steps.specs.declared.roles.ReleaseRole.{ReleaseRole}
-use Rattle.steps.specs.declared.lengths.Len.{Len}
-use Rattle.steps.specs.declared.lengths.LenStage as lens
-use Rattle.steps.specs.declared.ring.Push.{Push}
-use Rattle.steps.specs.declared.ring.PushStage as pushes
-use Rattle.steps.specs.declared.ring.Pop.{Pop}
-use Rattle.steps.specs.declared.ring.PopStage as pops
-use Rattle.steps.specs.declared.overflow.Push as over
-use Rattle.steps.specs.declared.overflow.PushStage as over_pushes
-use Rattle.steps.specs.declared.overflow.PushEnd.{PushEnd}
-use Rattle.steps.specs.declared.overflow.PushEnd.TheVariants.{Added, Own, Oldest}
-use Rattle.steps.specs.declared.overflow.Pop as over_pop
-use Rattle.steps.specs.declared.overflow.PopStage as over_pops
+use Rattle.steps.specs.declared.queues.roles.AcquireRole.{AcquireRole}
+use Rattle.steps.specs.declared.queues.roles.ReleaseRole.{ReleaseRole}
+use Rattle.steps.specs.declared.queues.lengths.Len.{Len}
+use Rattle.steps.specs.declared.queues.lengths.LenStage as lens
+use Rattle.steps.specs.declared.queues.ring.Push.{Push}
+use Rattle.steps.specs.declared.queues.ring.PushStage as pushes
+use Rattle.steps.specs.declared.queues.ring.Pop.{Pop}
+use Rattle.steps.specs.declared.queues.ring.PopStage as pops
+use Rattle.steps.specs.declared.queues.overflow.Push as over
+use Rattle.steps.specs.declared.queues.overflow.PushStage as over_pushes
+use Rattle.steps.specs.declared.queues.overflow.PushEnd.{PushEnd}
+use Rattle.steps.specs.declared.queues.overflow.PushEnd.TheVariants.{Added, Own, Oldest}
+use Rattle.steps.specs.declared.queues.overflow.Pop as over_pop
+use Rattle.steps.specs.declared.queues.overflow.PopStage as over_pops
 use Rattle.lock_free_sp.specs.declared.ring.view.View.{View}
 use Rattle.lock_free_sp.specs.declared.ring.view.PushStage.TheVariants as pushing
 use Rattle.lock_free_sp.specs.declared.ring.view.PopStage.TheVariants as popping
@@ -139,9 +139,10 @@ PushOverStands base v capacity x room (over_pushes.TheVariants.StoresWrite p r) 
     (v ≡ with_push (pushing.Storing p r (x ∷ [])) base) × (0 < capacity) × (p < 2 ^ 64 - 1) × (r ≤ p) × (p ≤ r + capacity)
 PushOverStands base v capacity x room (over_pushes.TheVariants.MovesRead r) =
     (p : ℕ) × (v ≡ with_push (pushing.Full r) (pushed p x base)) × (0 < capacity) × (r < 2 ^ 64 - 1) × Follows base p × Sound (pushed p x base)
+    × (p ≡ r + base.capacity)
 PushOverStands base v capacity x room (over_pushes.TheVariants.LoadsCell r) =
     (p y : ℕ) × (v ≡ with_push (pushing.HandsBack r (y ∷ [])) (handed_back r y (pushed p x base))) × (0 < capacity) × (r < 2 ^ 64 - 1)
-    × Follows base p × All (λ (z : ℕ × ℕ). z.0 < r) base.taken × Sound (handed_back r y (pushed p x base))
+    × Follows base p × All (λ (z : ℕ × ℕ). z.0 < r) base.taken × Sound (handed_back r y (pushed p x base)) × (p ≡ r + base.capacity)
 
 abbrev pub PushOverAt : ℕ → View ℕ → View ℕ → over.Push → OneWord → Type 0
 PushOverAt x base v c room =

@@ -1,12 +1,12 @@
 -- What the view of a seat is while a call is at a stage, and how the call ends: of the view with which it began, and the view now.
 use Rattle.std.specs.Prelude.{◌≡◌, ℕ, ◌+◌, ◌<◌, ◌≤◌, Bool, true, false, List, length, take}
 use Rattle.steps.specs.Copied.{value_in}
-use Rattle.steps.specs.declared.roles.AcquireRole.{AcquireRole}
-use Rattle.steps.specs.declared.roles.ReleaseRole.{ReleaseRole}
-use Rattle.steps.specs.declared.value.Store.{Store}
-use Rattle.steps.specs.declared.value.StoreStage as stores
-use Rattle.steps.specs.declared.value.Load.{Load}
-use Rattle.steps.specs.declared.value.LoadStage as loads
+use Rattle.steps.specs.declared.queues.roles.AcquireRole.{AcquireRole}
+use Rattle.steps.specs.declared.queues.roles.ReleaseRole.{ReleaseRole}
+use Rattle.steps.specs.declared.atomic.Store.{Store}
+use Rattle.steps.specs.declared.atomic.StoreStage as stores
+use Rattle.steps.specs.declared.atomic.Load.{Load}
+use Rattle.steps.specs.declared.atomic.LoadStage as loads
 use Rattle.lock_free_sp.specs.declared.value.view.View.{View}
 use Rattle.lock_free_sp.specs.declared.value.view.StoreStage.TheVariants as storing
 use Rattle.lock_free_sp.specs.declared.value.view.LoadStage.TheVariants as loading

@@ -82,7 +82,7 @@ impl<V, K, Q: Rule<V, K>> Seated<V, K, Q> {
         call.take(given, room, old)
     }
 
-    /// Drives a call that ends by itself to its end. It takes exactly the steps of the call.
+    /// Drives a call that ends by itself to its end.
     #[inline(always)]
     pub fn drive<C: Ends, D: Drives<V, C>>(
         &mut self,
@@ -119,7 +119,7 @@ impl<V, K, Q: Rule<V, K>> Seated<V, K, Q> {
         }
     }
 
-    /// Drives a call that may go back for as long as others step. It takes exactly the steps of the call.
+    /// Drives a call that may go back for as long as others step.
     #[inline(always)]
     pub fn drive_on<C: Routine, D: Drives<V, C>>(
         &mut self,

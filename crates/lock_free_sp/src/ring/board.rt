@@ -11,7 +11,7 @@ use atomic_table::Table;
 use std::alloc::{AllocError, Global};
 use std::marker::PhantomData;
 use std::sync::Arc;
-use steps::ring::{CONSUMER, FIRST_CELL, PRODUCER, READ, WRITE};
+use steps::queues::ring::{CONSUMER, FIRST_CELL, PRODUCER, READ, WRITE};
 use steps::words::Words;
 
 /// An empty ring with both positions here and both roles free (no clause says so, tests do), and a token that knows

@@ -8,13 +8,12 @@ use super::drives::{Pops, Pushes};
 use super::rule::{Exact, RingRule};
 use super::token::Held;
 use steps::copied::Room;
-use steps::ring::{Pop, Push};
+use steps::queues::ring::{Pop, Push};
 use steps::routine::Routine;
 use steps::words::Words;
 
 impl<E: Exact, T: Words> Held<E, T, RingRule<E, T>> {
-    /// Appends a value: true, or false where the queue is full or its write position at its end. At most
-    /// 3 + `T::WORDS` steps.
+    /// Appends a value: true, or false where the queue is full or its write position at its end.
     #[inline(always)]
     pub fn push(&mut self, value: &T) -> bool
         requires { (seen self.old).push ≡ pushing.Ready }
@@ -27,7 +26,7 @@ impl<E: Exact, T: Words> Held<E, T, RingRule<E, T>> {
         Push::<T>::answer(end, value, &())
     }
 
-    /// Takes the oldest value, or None where the queue is empty, by way of this room. At most 3 + `T::WORDS` steps.
+    /// Takes the oldest value, or None where the queue is empty, by way of this room.
     #[inline(always)]
     pub fn pop<R: Room<T> + Drop>(&mut self, room: R) -> Option<T>
         requires ready { (seen self.old).pop ≡ popping.Ready }

@@ -10,14 +10,14 @@ use super::drives::{LeavesConsumer, LeavesProducer, Measures, TakesConsumer, Tak
 use super::rule::{RingRule, Spare};
 use super::token::Held;
 use std::sync::Wait;
-use steps::lengths::Len;
-use steps::ring::{CONSUMER, PRODUCER};
-use steps::roles::{AcquireRole, ReleaseRole};
+use steps::queues::lengths::Len;
+use steps::queues::ring::{CONSUMER, PRODUCER};
+use steps::queues::roles::{AcquireRole, ReleaseRole};
 use steps::routine::Routine;
 use steps::words::Words;
 
 impl<E: Spare, T: Words> Held<E, T, RingRule<E, T>> {
-    /// Takes the producer's role: true where it was free. One step.
+    /// Takes the producer's role: true where it was free.
     pub fn take_producer(&mut self) -> bool
         ensures same { IsSame self.old self.new }
         ensures taken { IsTrue result → seen self.new ≡ with_producer (seen self.old) }
@@ -30,7 +30,7 @@ impl<E: Spare, T: Words> Held<E, T, RingRule<E, T>> {
         AcquireRole::answer(end, &(), &())
     }
 
-    /// Gives the producer's role back. One step.
+    /// Gives the producer's role back.
     pub fn leave_producer(&mut self)
         requires { (seen self.old).push ≡ pushing.Ready }
         ensures same { IsSame self.old self.new }
@@ -41,7 +41,7 @@ impl<E: Spare, T: Words> Held<E, T, RingRule<E, T>> {
             .drive::<ReleaseRole, LeavesProducer>(call, &(), &mut ());
     }
 
-    /// Takes the consumer's role: true where it was free. One step.
+    /// Takes the consumer's role: true where it was free.
     pub fn take_consumer(&mut self) -> bool
         ensures same { IsSame self.old self.new }
         ensures taken { IsTrue result → seen self.new ≡ with_consumer (seen self.old) }
@@ -54,7 +54,7 @@ impl<E: Spare, T: Words> Held<E, T, RingRule<E, T>> {
         AcquireRole::answer(end, &(), &())
     }
 
-    /// Gives the consumer's role back. One step.
+    /// Gives the consumer's role back.
     pub fn leave_consumer(&mut self)
         requires { (seen self.old).pop ≡ popping.Ready }
         ensures same { IsSame self.old self.new }
@@ -65,8 +65,7 @@ impl<E: Spare, T: Words> Held<E, T, RingRule<E, T>> {
             .drive::<ReleaseRole, LeavesConsumer>(call, &(), &mut ());
     }
 
-    /// How many values wait; the contract bounds the number. Four steps, and at most four more for each time that a
-    /// position has moved between its two loads.
+    /// A number of values that wait, which the contract bounds.
     pub fn len(&mut self, rt: &impl Wait) -> u64
         requires { (seen self.old).len ≡ lengths.Idle }
         ensures same { IsSame self.old self.new }

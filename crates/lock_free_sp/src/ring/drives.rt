@@ -6,10 +6,10 @@ use super::view::View;
 use crate::driver::rule::Drives;
 use std::marker::PhantomData;
 use steps::copied::Room;
-use steps::lengths::Len;
-use steps::overflow;
-use steps::ring::{Pop, Push};
-use steps::roles::{AcquireRole, ReleaseRole};
+use steps::queues::lengths::Len;
+use steps::queues::overflow;
+use steps::queues::ring::{Pop, Push};
+use steps::queues::roles::{AcquireRole, ReleaseRole};
 use steps::words::Words;
 
 /// To take the producer's role.

@@ -9,12 +9,12 @@ use super::rule::{Overflowing, RingRule};
 use super::token::Held;
 use std::sync::Wait;
 use steps::copied::OneWord;
-use steps::overflow::{Pop, Push};
+use steps::queues::overflow::{Pop, Push};
 use steps::routine::Routine;
 
 impl Held<Overflowing, u64, RingRule<Overflowing, u64>> {
     /// Appends a number: None, or Some of the oldest number where the queue is full, or of the number itself where the
-    /// queue takes none. At most six steps.
+    /// queue takes none.
     #[inline(always)]
     pub fn push(&mut self, value: u64) -> Option<u64>
         requires { (seen self.old).push ≡ pushing.Ready }
@@ -31,8 +31,7 @@ impl Held<Overflowing, u64, RingRule<Overflowing, u64>> {
         Push::answer(end, &value, &room)
     }
 
-    /// Takes the oldest number, or None where the queue is empty. At most four steps, and two more for each time that a
-    /// push takes the number first.
+    /// Takes the oldest number, or None where the queue is empty.
     #[inline(always)]
     pub fn pop(&mut self, rt: &impl Wait) -> Option<u64>
         requires { (seen self.old).pop ≡ popping.Ready }

@@ -10,12 +10,12 @@ use super::token::{Held, Token};
 use crate::driver::seated::Seated;
 use std::marker::PhantomData;
 use std::sync::Arc;
-use steps::ring::WRITE;
+use steps::queues::ring::WRITE;
 use steps::words::Words;
 
 impl<E: Spare, T: Words> Held<E, T, RingRule<E, T>> {
-    /// A token that knows nothing, at the same table. None where no further reference can be counted. One load of the
-    /// write position.
+    /// A token that knows nothing, at the same table. None where no further reference can be counted (no clause says
+    /// when).
     pub fn split(&mut self) -> Option<Token<E, T>>
         ensures same { IsSame self.old self.new }
         ensures left { seen self.new ≡ seen self.old }
@@ -34,7 +34,7 @@ impl<E: Spare, T: Words> Held<E, T, RingRule<E, T>> {
         })
     }
 
-    /// Takes in what the other token knows. Two loads of the write position.
+    /// Takes in what the other token knows.
     pub fn join(&mut self, other: Token<E, T>)
         requires table { table_of other ≡ table_of self.old }
         ensures same { IsSame self.old self.new }

@@ -1,6 +1,6 @@
 //! The rule of a ring's table.
 //!
-//! The words are those of `steps::ring`: write position, read position, the two roles, and the cells.
+//! The words are those of `steps::queues::ring`: write position, read position, the two roles, and the cells.
 ghost use Rattle.std.specs.Prelude.{◌≡◌, ℕ, ◌≤◌};
 
 use super::view::View;

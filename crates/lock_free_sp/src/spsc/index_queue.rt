@@ -84,7 +84,7 @@ impl<const CAPACITY: usize> FixedSizeIndexQueue<CAPACITY> {
 
 impl<'a> Producer<'a> {
     /// Appends a number: true, or false where the queue is full or its write position at u64::MAX, and then nothing
-    /// changes. At most four steps. After `Producer::push` of the Rust crate.
+    /// changes. After `Producer::push` of the Rust crate.
     pub fn push(&mut self, value: u64) -> bool
         ensures queue { producer_queue self.new ≡ producer_queue self.old }
         ensures pushed { IsTrue result → HasPushed value (producer_view self.old) (producer_view self.new) }
@@ -95,8 +95,8 @@ impl<'a> Producer<'a> {
 }
 
 impl<'a> Consumer<'a> {
-    /// Takes the oldest number, or None where the queue is empty, and then nothing changes. At most four steps.
-    /// After `Consumer::pop` of the Rust crate.
+    /// Takes the oldest number, or None where the queue is empty, and then nothing changes. After `Consumer::pop` of
+    /// the Rust crate.
     pub fn pop(&mut self) -> Option<u64>
         ensures queue { consumer_queue self.new ≡ consumer_queue self.old }
         ensures popped { IfSome result (λ x. HasPopped x (consumer_view self.old) (consumer_view self.new)) }

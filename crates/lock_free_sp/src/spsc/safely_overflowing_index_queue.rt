@@ -86,8 +86,8 @@ impl<const CAPACITY: usize> FixedSizeSafelyOverflowingIndexQueue<CAPACITY> {
 
 impl<'a> Producer<'a> {
     /// Appends a number: None, or the oldest number where the queue is full, so that at most the capacity waits. The
-    /// number itself comes back, and nothing changes, without capacity or where the write position is u64::MAX. At most
-    /// six steps, and none without capacity. After `Producer::push` of the Rust crate.
+    /// number itself comes back, and nothing changes, without capacity or where the write position is u64::MAX. After
+    /// `Producer::push` of the Rust crate.
     pub fn push(&mut self, value: u64) -> Option<u64>
         ensures queue { producer_queue self.new ≡ producer_queue self.old }
         ensures added { IfNone result (HasAdded value (producer_view self.old) (producer_view self.new)) }
@@ -99,9 +99,8 @@ impl<'a> Producer<'a> {
 }
 
 impl<'a> Consumer<'a> {
-    /// Takes the oldest number, or None where the queue is empty, and then nothing changes. At most four steps, and two
-    /// more for each time that a push takes the number first; no step without capacity. After `Consumer::pop` of the Rust
-    /// crate.
+    /// Takes the oldest number, or None where the queue is empty, and then nothing changes. After `Consumer::pop` of
+    /// the Rust crate.
     pub fn pop(&mut self, rt: &impl Wait) -> Option<u64>
         ensures queue { consumer_queue self.new ≡ consumer_queue self.old }
         ensures popped { IfSome result (λ x. HasTaken x (consumer_view self.old) (consumer_view self.new)) }

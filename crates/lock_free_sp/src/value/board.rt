@@ -10,7 +10,7 @@ use crate::driver::seated::Seated;
 use atomic_table::Table;
 use std::alloc::{AllocError, Global};
 use std::sync::Arc;
-use steps::value::{FIRST_CELL, PRODUCER, VERSION};
+use steps::atomic::{FIRST_CELL, PRODUCER, VERSION};
 use steps::words::Words;
 
 /// A value at this version with its role free (tests say so, no clause does), and a token that knows value and version.

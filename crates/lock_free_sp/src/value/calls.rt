@@ -9,14 +9,14 @@ use super::drives::{LeavesProducer, Loads, Stores, TakesProducer};
 use super::rule::ValueRule;
 use super::token::Held;
 use std::sync::Wait;
+use steps::atomic::{Load, PRODUCER, Store};
 use steps::copied::{Kept, Room};
-use steps::roles::{AcquireRole, ReleaseRole};
+use steps::queues::roles::{AcquireRole, ReleaseRole};
 use steps::routine::Routine;
-use steps::value::{Load, PRODUCER, Store};
 use steps::words::Words;
 
 impl<T: Words> Held<T, ValueRule<T>> {
-    /// Takes the producer's role: true where it was free. One step.
+    /// Takes the producer's role: true where it was free.
     pub fn take_producer(&mut self) -> bool
         ensures same { IsSame self.old self.new }
         ensures taken { IsTrue result → seen self.new ≡ with_producer (seen self.old) }
@@ -29,7 +29,7 @@ impl<T: Words> Held<T, ValueRule<T>> {
         AcquireRole::answer(taken, &(), &())
     }
 
-    /// Gives the producer's role back. One step.
+    /// Gives the producer's role back.
     pub fn leave_producer(&mut self)
         requires { (seen self.old).store ≡ storing.Ready }
         ensures same { IsSame self.old self.new }
@@ -40,7 +40,7 @@ impl<T: Words> Held<T, ValueRule<T>> {
             .drive::<ReleaseRole, LeavesProducer>(role, &(), &mut ());
     }
 
-    /// Stores a value: true, or false where the version is at its end. At most 2 + `T::WORDS` steps.
+    /// Stores a value: true, or false where the version is at its end.
     pub fn store(&mut self, value: &T) -> bool
         requires { (seen self.old).store ≡ storing.Ready }
         ensures same { IsSame self.old self.new }
@@ -53,8 +53,7 @@ impl<T: Words> Held<T, ValueRule<T>> {
         Store::<T>::answer(stored, value, &())
     }
 
-    /// The value that is newest at the last step, by way of this room. 2 + `T::WORDS` steps, and at most
-    /// 1 + `T::WORDS` more for each time that a store has moved the version.
+    /// The value at a version that is not below any that the seat knows, by way of this room.
     #[inline(always)]
     pub fn load_by<R: Room<T> + Drop>(&mut self, rt: &impl Wait, room: R) -> T
         requires idle { (seen self.old).load ≡ loading.Idle }
@@ -68,8 +67,7 @@ impl<T: Words> Held<T, ValueRule<T>> {
         Load::<T, R>::answer((), &(), &room)
     }
 
-    /// The value that is newest at the last step. 2 + `T::WORDS` steps, and at most 1 + `T::WORDS` more for each time
-    /// that a store has moved the version.
+    /// The value at a version that is not below any that the seat knows.
     pub fn load(&mut self, rt: &impl Wait) -> T
         requires { (seen self.old).load ≡ loading.Idle }
         ensures same { IsSame self.old self.new }

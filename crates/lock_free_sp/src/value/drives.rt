@@ -3,9 +3,9 @@
 use super::view::View;
 use crate::driver::rule::Drives;
 use std::marker::PhantomData;
+use steps::atomic::{Load, Store};
 use steps::copied::Room;
-use steps::roles::{AcquireRole, ReleaseRole};
-use steps::value::{Load, Store};
+use steps::queues::roles::{AcquireRole, ReleaseRole};
 use steps::words::Words;
 
 /// Taking the producer's role.

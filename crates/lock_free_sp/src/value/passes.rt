@@ -9,12 +9,12 @@ use super::rule::ValueRule;
 use super::token::{Held, Token};
 use crate::driver::seated::Seated;
 use std::sync::Arc;
-use steps::value::VERSION;
+use steps::atomic::VERSION;
 use steps::words::Words;
 
 impl<T: Words> Held<T, ValueRule<T>> {
-    /// A token that knows nothing, at the same table. None where no further reference can be counted. One load of the
-    /// version.
+    /// A token that knows nothing, at the same table. None where no further reference can be counted (no clause says
+    /// when).
     pub fn split(&mut self) -> Option<Token<T>>
         ensures same { IsSame self.old self.new }
         ensures left { seen self.new ≡ seen self.old }
@@ -31,7 +31,7 @@ impl<T: Words> Held<T, ValueRule<T>> {
         })
     }
 
-    /// Takes in what the other token knows. Two loads of the version.
+    /// Takes in what the other token knows.
     pub fn join(&mut self, other: Token<T>)
         requires table { table_of other ≡ table_of self.old }
         ensures same { IsSame self.old self.new }

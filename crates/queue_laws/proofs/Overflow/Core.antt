@@ -6,9 +6,9 @@ use Rattle.std.proofs.Math.Seq.{take-append_seam}
 use Rattle.model.specs.declared.event.Item.{Item}
 use Rattle.model.specs.declared.event.Item.TheVariants.{Index}
 use Rattle.model.specs.declared.turn.Kind.TheVariants.{Overflow}
-use Rattle.model.specs.Objects.{cut, cut_off}
-use Rattle.model.specs.Promises.Spans.{passed}
-use Rattle.model.specs.Calls.{words_of_index}
+use Rattle.model.specs.Families.Queues.Objects.{cut, cut_off}
+use Rattle.model.specs.Families.Queues.Calls.{words_of_index}
+use Rattle.model.specs.Families.Queues.Spans.{through_cells}
 use Rattle.queue_laws.proofs.Queues.Core.{Core, Good, take_all, front}
 use Rattle.queue_laws.proofs.Queues.Stages.{first_of_some}
 
@@ -26,11 +26,11 @@ list_is : (c : ℕ) (xs others : List ℕ) (v : ℕ) → xs ≡ others ++ v ∷ 
 list_is c xs others v is full = ap (take c) is ∙ (ap (λ n. take n (others ++ v ∷ [])) (sym full) ∙ take-append_seam others (v ∷ []))
 
 module _ {T : Type 0} where
-  pub none_passes : (c : ℕ) (item : Item T) → c ≡ 0 → passed Overflow c item ≡ []
+  pub none_passes : (c : ℕ) (item : Item T) → c ≡ 0 → through_cells Overflow c item ≡ []
   none_passes zero item e = refl
   none_passes (suc less) item e = absurd (omega arith)
 
-  pub one_passes : (c : ℕ) (item : Item T) → 0 < c → passed Overflow c item ≡ item ∷ []
+  pub one_passes : (c : ℕ) (item : Item T) → 0 < c → through_cells Overflow c item ≡ item ∷ []
   one_passes zero item h = absurd (omega arith)
   one_passes (suc less) item h = refl
 

@@ -4,7 +4,7 @@ use Rattle.std.proofs.lemmas.Bool.Decides.{nat_tests}
 use Rattle.steps.specs.declared.copied.OneWord.{OneWord}
 use Rattle.steps.specs.declared.queues.overflow.PushStage as overflow_pushes
 use Rattle.steps.specs.declared.queues.overflow.PopStage as overflow_pops
-use Rattle.model.specs.Calls.{words_of_index}
+use Rattle.model.specs.Families.Queues.Calls.{words_of_index}
 use Rattle.queue_laws.proofs.Queues.Core as core
 use Rattle.queue_laws.proofs.Queues.Core.{Core, Holds, Good, filled, taken, fills, one_filled, publishes, takes, word_at, set_at}
 use Rattle.queue_laws.proofs.Overflow.Knows.{KnowsOverflowPush, KnowsOverflowPop, overflow_wrote}

@@ -1,16 +1,18 @@
 -- What a push and a pop of the overflowing queue know where they stand.
-use Rattle.std.proofs.Common.{◌≡◌, ℕ, ◌+◌, ◌%◌, ◌<◌, ◌≤◌, ◌==◌, Option, Some, None, List, [], ◌∷◌, ◌++◌, if◌then◌else◌, get_or, arith}
+use Rattle.std.proofs.Common.{◌≡◌, ℕ, ◌+◌, ◌%◌, ◌<◌, ◌≤◌, ◌==◌, Some, List, [], ◌∷◌, ◌++◌, if◌then◌else◌, get_or, arith}
 use Rattle.steps.specs.declared.copied.OneWord.{OneWord}
 use Rattle.steps.specs.declared.queues.overflow.PushStage as overflow_pushes
 use Rattle.steps.specs.declared.queues.overflow.PopStage as overflow_pops
-use Rattle.model.specs.declared.call.OverflowCall as overflows
+use Rattle.model.specs.declared.families.queues.calls.OverflowCall as overflows
 use Rattle.model.specs.declared.event.Item.TheVariants.{Index}
-use Rattle.model.specs.declared.event.Start.{Start}
-use Rattle.model.specs.declared.event.Start.TheVariants.{Push, Pop}
-use Rattle.model.specs.declared.event.Answer.TheVariants.{Popped}
+use Rattle.model.specs.declared.families.queues.QueueStart.{QueueStart}
+use Rattle.model.specs.declared.families.queues.QueueStart.TheVariants.{PushIndex, Pop}
+use Rattle.model.specs.declared.event.Answer.TheVariants.{PoppedNone, PoppedIndex}
 use Rattle.model.specs.declared.event.Event.{Event}
+use Rattle.model.specs.declared.event.Start.TheVariants.{Queues}
 use Rattle.model.specs.declared.event.Event.TheVariants.{Published, HandedOut, Acted}
-use Rattle.model.specs.Calls.{words_of_index}
+use Rattle.model.specs.declared.families.queues.Roles.{Roles}
+use Rattle.model.specs.Families.Queues.Calls.{words_of_index}
 use Rattle.queue_laws.proofs.Queues.Core.{Core, Holds}
 use Rattle.queue_laws.proofs.Queues.Core.{GoesUp}
 
@@ -121,16 +123,16 @@ module _ {T : Type 0} where
   overflow_wrote c k p v (overflow_pushes.TheVariants.StoresCell write read) = []
   overflow_wrote c k p v (overflow_pushes.TheVariants.StoresWrite write read) = []
   overflow_wrote c k p v (overflow_pushes.TheVariants.MovesRead read) =
-      Published p (Index v) ∷ (if read == k.read then [] else Acted p (Push (Index v)) (Popped None) ∷ [])
+      Published p (Index v) ∷ (if read == k.read then [] else Acted p (Queues (PushIndex v)) PoppedNone ∷ [])
   overflow_wrote c k p v (overflow_pushes.TheVariants.LoadsCell read) =
       Published p (Index v)
       ∷ HandedOut p (Index (get_or k.cells (read % (c + 1)) 0))
-      ∷ Acted p (Push (Index v)) (Popped (Some (Index (get_or k.cells (read % (c + 1)) 0))))
+      ∷ Acted p (Queues (PushIndex v)) (PoppedIndex (get_or k.cells (read % (c + 1)) 0))
       ∷ []
 
-  abbrev pub OverflowAt : ℕ → Option ℕ → Option ℕ → Core ℕ → ℕ → Start T → overflows.OverflowCall → Type 0
-  OverflowAt c pr co k p (Push (Index v)) (overflows.TheVariants.Push run) =
-      (pr ≡ Some p) × (run.call.capacity ≡ c) × (run.given ≡ v) × KnowsOverflowPush c k v run.call.stage
-  OverflowAt c pr co k p Pop (overflows.TheVariants.Pop run) =
-      (co ≡ Some p) × (run.call.capacity ≡ c) × KnowsOverflowPop c k run.room run.call.stage
-  OverflowAt c pr co k p start call = ⊥
+  abbrev pub OverflowAt : ℕ → Roles → Core ℕ → ℕ → QueueStart T → overflows.OverflowCall → Type 0
+  OverflowAt c ro k p (PushIndex v) (overflows.TheVariants.Push run) =
+      (ro.producer ≡ Some p) × (run.call.capacity ≡ c) × (run.given ≡ v) × KnowsOverflowPush c k v run.call.stage
+  OverflowAt c ro k p Pop (overflows.TheVariants.Pop run) =
+      (ro.consumer ≡ Some p) × (run.call.capacity ≡ c) × KnowsOverflowPop c k run.room run.call.stage
+  OverflowAt c ro k p start call = ⊥

@@ -10,24 +10,30 @@ use Rattle.steps.specs.declared.copied.OneWord.{OneWord}
 use Rattle.steps.specs.declared.queues.overflow.PushStage as overflow_pushes
 use Rattle.steps.specs.Queues.Ring.{distance, after_position}
 use Rattle.steps.specs.Queues.Overflow.{cell_word}
-use Rattle.model.specs.declared.call.Flight.{Flight}
-use Rattle.model.specs.declared.call.Flight.TheVariants.{Overflow}
-use Rattle.model.specs.declared.effects.Effect.{Effect}
-use Rattle.model.specs.declared.effects.Effect.TheVariants.{Quiet, Acts, Publishes, PublishesAndActs, TakesOut}
+use Rattle.model.specs.declared.families.queues.calls.QueueFlight.{QueueFlight}
+use Rattle.model.specs.declared.families.queues.calls.QueueFlight.TheVariants.{Overflow}
+use Rattle.model.specs.declared.families.queues.effects.Effect.{Effect}
+use Rattle.model.specs.declared.families.queues.effects.Effect.TheVariants.{Quiet, Acts, Publishes, PublishesAndActs, TakesOut}
 use Rattle.model.specs.declared.event.Item.{Item}
 use Rattle.model.specs.declared.event.Item.TheVariants.{Index}
-use Rattle.model.specs.declared.event.Start.TheVariants.{Push}
+use Rattle.model.specs.declared.families.queues.QueueStart.TheVariants.{PushIndex}
 use Rattle.model.specs.declared.event.Answer.{Answer}
-use Rattle.model.specs.declared.event.Answer.TheVariants.{Popped}
+use Rattle.model.specs.declared.event.Answer.TheVariants.{PoppedNone, PoppedIndex}
 use Rattle.model.specs.declared.event.Event.{Event}
+use Rattle.model.specs.declared.event.Start.TheVariants.{Queues}
 use Rattle.model.specs.declared.event.Event.TheVariants.{Published, HandedOut, Acted}
+use Rattle.model.specs.declared.families.Flight as flights
 use Rattle.model.specs.declared.party.Party.{Party}
 use Rattle.model.specs.declared.turn.Kind as kinds
-use Rattle.model.specs.World.{party_of, put, doing_of, flight_of}
-use Rattle.model.specs.Calls.{after_of, words_of_index}
-use Rattle.model.specs.Effects.{pending_at, pending, effect_of}
-use Rattle.model.specs.Turns.{words_after, change_of}
+use Rattle.model.specs.Families.Queues.Objects.{answer_of_item}
+use Rattle.model.specs.Families.Queues.Calls.{after, words_of_index}
+use Rattle.model.specs.Families.Queues.Steps.{pending_at, pending, effect_of}
+use Rattle.model.specs.Parties.{party_of, put, doing_of, flight_of}
 use Rattle.model.specs.Reading.{Open, span_of}
+use Rattle.model.specs.Turns.{words_after, change_of}
+use Rattle.queue_laws.proofs.Queues.Invariant.{Scene, Inv}
+use Rattle.model.specs.declared.families.queues.Roles.{Roles}
+use Rattle.model.specs.Families.Queues.Promises.{load_of_write, load_of_read}
 use Rattle.queue_laws.proofs.Overflow.Core.{none_passes, one_passes, oldest, push_room, push_waits, push_over}
 use Rattle.queue_laws.proofs.Queues.Core as core
 use Rattle.queue_laws.proofs.Queues.Core.{Core, Holds, Good, filled, taken, fills, one_filled, publishes, takes, word_at, set_at}
@@ -36,86 +42,117 @@ use Rattle.queue_laws.proofs.Queues.Knows.{free, layout, Hangs, has_written}
 use Rattle.queue_laws.proofs.Queues.Invariant.{Inv}
 use Rattle.queue_laws.proofs.Queues.Keeping.{clash, kept}
 use Rattle.queue_laws.proofs.Queues.Pending.{pending_here, few_wait, none_hangs}
-use Rattle.queue_laws.proofs.Queues.Stages.{party_after, Step, Moves, MovesOf, still_hangs, quiet, alone}
+use Rattle.queue_laws.proofs.Queues.Stages.{party_then, DoesStep, Moves, MovesOf, still_hangs, quiet, alone}
 use Rattle.queue_laws.proofs.Overflow.Keeping.{fill_keeps_pop, publish_keeps_pop, take_keeps_pop}
 
-module _ {T : Type 0} (c : ℕ) (pr co : Option ℕ) (k : Core ℕ) (p steps backs since changes : ℕ) (latest : List (Party T)) (events : List (Event T)) (turns : ℕ) (inv : Inv kinds.TheVariants.Overflow c pr co k latest events changes turns) (small : turns < 2 ^ 64 - 2) (v : ℕ) (room : OneWord) (holds : pr ≡ Some p) (b : backs ≡ 0) where
-  abbrev at : overflow_pushes.PushStage → Flight
+module _ {T : Type 0} (scene : Scene T) (inv : Inv kinds.TheVariants.Overflow scene) (small : scene.turns < 2 ^ 64 - 2) (v : ℕ) (room : OneWord) (holds : scene.roles.producer ≡ Some scene.party) (b : scene.backs ≡ 0) where
+  abbrev c : ℕ
+  c = scene.capacity
+
+  abbrev ro : Roles
+  ro = scene.roles
+
+  abbrev k : Core ℕ
+  k = scene.core
+
+  abbrev p : ℕ
+  p = scene.party
+
+  abbrev steps : ℕ
+  steps = scene.steps
+
+  abbrev since : ℕ
+  since = scene.since
+
+  abbrev latest : List (ℕ × Party T)
+  latest = scene.latest
+
+  abbrev events : List (Event T)
+  events = scene.events
+
+  reached : k.write ≤ scene.turns
+  reached = inv.queue.reached
+
+  abbrev at : overflow_pushes.PushStage → QueueFlight
   at stage = Overflow (overflow_push_at c v room stage)
 
-  abbrev Does : List (Event T) → Option Ask → After Flight (Answer T) → Effect T → Type 0
-  Does wrote ask after effect = Step kinds.TheVariants.Overflow c pr co k p steps backs since changes latest events turns wrote (Push (Index v)) ask 0 after effect
+  abbrev Does : List (Event T) → Option Ask → After QueueFlight (Answer T) → Effect T → Type 0
+  Does wrote ask after effect = DoesStep kinds.TheVariants.Overflow scene wrote (PushIndex v) ask 0 after effect
 
   abbrev Moved : overflow_pushes.PushStage → Type 0
-  Moved stage = MovesOf kinds.TheVariants.Overflow c pr co k p steps backs since changes latest events turns (Push (Index v)) (at stage)
+  Moved stage = MovesOf kinds.TheVariants.Overflow scene (PushIndex v) (at stage)
 
-  abbrev MovesBy : Option Ask → After Flight (Answer T) → Effect T → Type 0
-  MovesBy ask after effect = Moves kinds.TheVariants.Overflow c pr co k p steps backs since changes latest events turns (Push (Index v)) ask 0 after effect
+  abbrev MovesBy : Option Ask → After QueueFlight (Answer T) → Effect T → Type 0
+  MovesBy ask after effect = Moves kinds.TheVariants.Overflow scene (PushIndex v) ask 0 after effect
 
   abbrev IsCalm : Type 0
   IsCalm = pending_at k.read (flight_of (doing_of (party_of p latest))) ≡ None
 
   -- the party after a step of this operation
-  abbrev after_it : Option Ask → After Flight (Answer T) → Party T
-  after_it ask after = party_after kinds.TheVariants.Overflow c pr co k p steps backs since changes latest events turns (Push (Index v)) ask 0 after
+  abbrev after_it : Option Ask → After QueueFlight (Answer T) → Party T
+  after_it ask after = party_then kinds.TheVariants.Overflow scene (PushIndex v) ask 0 after
 
-  calm_none : (position : ℕ) → pending_at position (flight_of (doing_of (party_of p latest))) ≡ None → pending position pr latest ≡ None
+  calm_none : (position : ℕ) → pending_at position (flight_of (doing_of (party_of p latest))) ≡ None → pending position ro.producer latest ≡ None
   calm_none position calm = subst (λ o. pending position o latest ≡ None) (sym holds) (ap (option_map (λ (n : ℕ). (p, n))) calm)
 
   few : IsCalm → length k.waiting ≤ c
-  few calm = few_wait kinds.TheVariants.Overflow c k (pending k.read pr latest) (calm_none k.read calm) inv.good inv.hangs
+  few calm = few_wait kinds.TheVariants.Overflow c k (pending k.read ro.producer latest) (calm_none k.read calm) inv.queue.good inv.queue.hangs
 
   -- which push is pending once this party has moved
-  pending_after : (position : ℕ) (y : Party T) → y.number ≡ p → pending position pr (put y latest) ≡ option_map (λ (n : ℕ). (p, n)) (pending_at position (flight_of (Some y.doing)))
-  pending_after position y same =
-      subst (λ o. pending position o (put y latest) ≡ option_map (λ (n : ℕ). (p, n)) (pending_at position (flight_of (Some y.doing)))) (sym holds)
-      (subst (λ q. pending position (Some q) (put y latest) ≡ option_map (λ (n : ℕ). (q, n)) (pending_at position (flight_of (Some y.doing)))) same (pending_here position y latest))
+  pending_after : (position : ℕ) (y : Party T) → pending position ro.producer (put p y latest) ≡ option_map (λ (n : ℕ). (p, n)) (pending_at position (flight_of (Some y.doing)))
+  pending_after position y =
+      subst (λ o. pending position o (put p y latest) ≡ option_map (λ (n : ℕ). (p, n)) (pending_at position (flight_of (Some y.doing)))) (sym holds)
+      (pending_here position p y latest)
 
-  hands_back : c ≡ 0 → steps ≤ 0 → IsCalm → Does [] None (Done (Popped (Some (Index v)))) Acts
+  hands_back : c ≡ 0 → steps ≤ 0 → IsCalm → Does [] None (Done (PoppedIndex v)) Acts
   hands_back none s calm = (
     k,
     refl,
     record {
       own = (refl, (refl, tt));
       stands = ((refl, refl), ((refl, record { moments = refl; published = sym (none_passes c (Index v) none); handed_out = sym (none_passes c (Index v) none) }), tt));
+      grants = (tt, (tt, tt));
+      producers = refl;
+      consumers = refl;
       right = (tt, (tt, tt));
       lengths = (tt, (tt, tt));
-      good = inv.good;
-      hangs = still_hangs kinds.TheVariants.Overflow c pr co k p steps backs since changes latest events turns inv.good inv.hangs inv.book inv.turned small k (after_it None (Done (Popped (Some (Index v))))) refl refl refl refl calm;
+      good = inv.queue.good;
+      hangs = still_hangs kinds.TheVariants.Overflow scene inv small k (after_it None (Done (PoppedIndex v))) refl refl refl calm;
+      out = omega arith;
       book = append-nil (map Index k.waiting);
       goes = rw none refl;
       answers = rw none refl;
       here =
           record {
-            answer = Popped (Some (Index v));
-            wrote = Acted p (Push (Index v)) (Popped (Some (Index v))) ∷ [];
+            answer = PoppedIndex v;
+            wrote = Acted p (Queues (PushIndex v)) (PoppedIndex v) ∷ [];
             span = refl;
             steps = omega arith;
           };
       knows = omega arith;
       up = record { write = omega arith; read = omega arith; paid = omega arith };
       others = λ q ne st f h. (h, refl);
-      turned = (let low = inv.turned in omega arith);
+      reached = (let low = inv.queue.reached in omega arith);
     },
   )
 
-  loads_write : 0 < c → steps ≤ 0 → IsCalm → Does [] (Some (record { word = 0; op = Load })) (after_of (at overflow_pushes.TheVariants.LoadsWrite) k.write) Quiet
+  loads_write : 0 < c → steps ≤ 0 → IsCalm → Does [] (Some load_of_write) (after (at overflow_pushes.TheVariants.LoadsWrite) k.write) Quiet
   loads_write some s calm =
-      let low = inv.turned in
+      let low = inv.queue.reached in
       let t : (k.write == 2 ^ 64 - 1) ≡ false = grind (arith, nat_tests) in
-      let goes : after_of {T = T} (at overflow_pushes.TheVariants.LoadsWrite) k.write ≡ GoOn (at (overflow_pushes.TheVariants.LoadsRead k.write)) = rw t refl in
-      subst (λ a. Does [] (Some (record { word = 0; op = Load })) a Quiet) (sym goes)
-      (quiet kinds.TheVariants.Overflow c pr co k p steps backs since changes latest events turns inv.good inv.hangs inv.book inv.turned small calm 0 (Push (Index v)) (Some (record { word = 0; op = Load })) (at (overflow_pushes.TheVariants.LoadsRead k.write)) k refl refl refl refl inv.good refl
+      let goes : after {T = T} (at overflow_pushes.TheVariants.LoadsWrite) k.write ≡ GoOn (at (overflow_pushes.TheVariants.LoadsRead k.write)) = rw t refl in
+      subst (λ a. Does [] (Some load_of_write) a Quiet) (sym goes)
+      (quiet kinds.TheVariants.Overflow scene inv small calm 0 (PushIndex v) (Some load_of_write) (at (overflow_pushes.TheVariants.LoadsRead k.write)) k refl refl refl refl inv.queue.good refl
       (record { span = refl; steps = omega arith; at = (holds, refl, refl, (some, refl)) })
       (omega arith)
       (λ q ne st f h. (h, refl)))
 
-  loads_read : 0 < c → steps ≤ 1 → IsCalm → Does [] (Some (record { word = 1; op = Load })) (GoOn (at (overflow_pushes.TheVariants.StoresCell k.write k.read))) Quiet
+  loads_read : 0 < c → steps ≤ 1 → IsCalm → Does [] (Some load_of_read) (GoOn (at (overflow_pushes.TheVariants.StoresCell k.write k.read))) Quiet
   loads_read some s calm =
       let below = few calm in
-      let g = inv.good in
+      let g = inv.queue.good in
       let write = g.write in
-      quiet kinds.TheVariants.Overflow c pr co k p steps backs since changes latest events turns inv.good inv.hangs inv.book inv.turned small calm 0 (Push (Index v)) (Some (record { word = 1; op = Load })) (at (overflow_pushes.TheVariants.StoresCell k.write k.read)) k refl refl refl refl inv.good refl
+      quiet kinds.TheVariants.Overflow scene inv small calm 0 (PushIndex v) (Some load_of_read) (at (overflow_pushes.TheVariants.StoresCell k.write k.read)) k refl refl refl refl inv.queue.good refl
       (record { span = refl; steps = omega arith; at = (holds, refl, refl, (some, refl, omega arith, omega arith)) })
       (omega arith)
       (λ q ne st f h. (h, refl))
@@ -123,16 +160,16 @@ module _ {T : Type 0} (c : ℕ) (pr co : Option ℕ) (k : Core ℕ) (p steps bac
   stores_cell : (read : ℕ) → 0 < c → read ≤ k.read → k.write ≤ read + c → steps ≤ 2 → IsCalm
       → Does [] (Some (record { word = cell_word c k.write; op = Store v })) (GoOn (at (overflow_pushes.TheVariants.StoresWrite k.write read))) Quiet
   stores_cell read some low far s calm =
-      let g = inv.good in
+      let g = inv.queue.good in
       let write = g.write in
       let none : Holds 1 words_of_index (c + 1) k.cells k.write v 0 = λ i h. absurd (omega arith) in
       let good = fills 1 words_of_index (c + 1) k 0 v (omega arith) (omega arith) g in
       let place : cell_word c k.write ≡ 4 + (1 * (k.write % (c + 1)) + 0) = omega arith in
-      quiet kinds.TheVariants.Overflow c pr co k p steps backs since changes latest events turns inv.good inv.hangs inv.book inv.turned small calm 0 (Push (Index v)) (Some (record { word = cell_word c k.write; op = Store v })) (at (overflow_pushes.TheVariants.StoresWrite k.write read)) (filled 1 words_of_index (c + 1) k 0 v) refl refl refl refl good
-      (set_at k.write k.read (free pr) (free co) k.cells (cell_word c k.write) (1 * (k.write % (c + 1)) + 0) v place)
+      quiet kinds.TheVariants.Overflow scene inv small calm 0 (PushIndex v) (Some (record { word = cell_word c k.write; op = Store v })) (at (overflow_pushes.TheVariants.StoresWrite k.write read)) (filled 1 words_of_index (c + 1) k 0 v) refl refl refl refl good
+      (set_at k.write k.read (free ro.producer) (free ro.consumer) k.cells (cell_word c k.write) (1 * (k.write % (c + 1)) + 0) v place)
       (record { span = refl; steps = omega arith; at = (holds, refl, refl, (some, refl, low, far, one_filled 1 words_of_index (c + 1) k v 0 (omega arith) (omega arith) g none)) })
       (omega arith)
-      (λ q ne. kept c pr co pr co k (filled 1 words_of_index (c + 1) k 0 v) q (λ h. h) (λ h. h) kinds.TheVariants.Overflow (record { push = λ mine w stage h. absurd (clash pr p q ne holds mine); pop = λ mine other stage h. fill_keeps_pop c k 0 v other stage h }))
+      (λ q ne. kept c ro ro k (filled 1 words_of_index (c + 1) k 0 v) q (λ h. h) (λ h. h) kinds.TheVariants.Overflow (record { push = λ mine w stage h. absurd (clash ro.producer p q ne holds mine); pop = λ mine other stage h. fill_keeps_pop c k 0 v other stage h }))
 
   -- ---- the store of the next write position
 
@@ -144,17 +181,17 @@ module _ {T : Type 0} (c : ℕ) (pr co : Option ℕ) (k : Core ℕ) (p steps bac
     after_publish = core.published 1 words_of_index (c + 1) k v
 
     good_publish : Good 1 words_of_index (c + 1) after_publish
-    good_publish = let g = inv.good in let write = g.write in publishes 1 words_of_index (c + 1) k v (omega arith) g whole
+    good_publish = let g = inv.queue.good in let write = g.write in publishes 1 words_of_index (c + 1) k v (omega arith) g whole
 
     next_is : after_position k.write ≡ k.write + 1
-    next_is = let reached = inv.turned in omega arith
+    next_is = let reached = inv.queue.reached in omega arith
 
-    words_publish : words_after (layout pr co k) next_write ≡ layout pr co after_publish
-    words_publish = ap (λ n. n ∷ k.read ∷ free pr ∷ free co ∷ k.cells) next_is
+    words_publish : words_after (layout ro k) next_write ≡ layout ro after_publish
+    words_publish = ap (λ n. n ∷ k.read ∷ free ro.producer ∷ free ro.consumer ∷ k.cells) next_is
 
-    one : change_of (layout pr co k) next_write ≡ 1
+    one : change_of (layout ro k) next_write ≡ 1
     one =
-        let reached = inv.turned in
+        let reached = inv.queue.reached in
         let moved : (after_position k.write == k.write) ≡ false = grind (arith, nat_tests) in
         rw moved refl
 
@@ -162,48 +199,52 @@ module _ {T : Type 0} (c : ℕ) (pr co : Option ℕ) (k : Core ℕ) (p steps bac
     joined = sym (map-append Index k.waiting (v ∷ []))
 
     -- there is room now, as when the read position was loaded or since
-    publishes_done : length k.waiting < c → Does [] next_write (Done (Popped None)) (Publishes (Index v))
+    publishes_done : length k.waiting < c → Does [] next_write (Done PoppedNone) (Publishes (Index v))
     publishes_done below =
         let list = push_room {T = T} c k.waiting v below in
         let longer = length-append k.waiting (v ∷ []) in
         let change = one in
-        let reached = inv.turned in (
+        let reached = inv.queue.reached in (
           after_publish,
           words_publish,
           record {
             own = (refl, (refl, (refl, tt)));
             stands = ((refl, refl), ((refl, refl), ((refl, record { moments = refl; published = sym (one_passes c (Index v) some); handed_out = refl }), tt)));
+            grants = (tt, (tt, (tt, tt)));
+            producers = refl;
+            consumers = refl;
             right = (tt, (tt, (tt, tt)));
             lengths = (tt, (tt, (tt, tt)));
             good = good_publish;
-            hangs = none_hangs kinds.TheVariants.Overflow c after_publish (pending k.read pr (put (after_it next_write (Done (Popped None))) latest)) (pending_after k.read (after_it next_write (Done (Popped None))) refl) (omega arith);
+            hangs = none_hangs kinds.TheVariants.Overflow c after_publish (pending k.read ro.producer (put p (after_it next_write (Done PoppedNone)) latest)) (pending_after k.read (after_it next_write (Done PoppedNone))) (omega arith);
+            out = omega arith;
             book = joined;
             goes = list.0;
-            answers = ap (λ (o : Option (Item T)). Popped o ∷ []) list.1;
+            answers = ap (λ (o : Option (Item T)). answer_of_item o ∷ []) list.1;
             here =
                 record {
-                  answer = Popped None;
-                  wrote = Published p (Index v) ∷ Acted p (Push (Index v)) (Popped None) ∷ [];
+                  answer = PoppedNone;
+                  wrote = Published p (Index v) ∷ Acted p (Queues (PushIndex v)) PoppedNone ∷ [];
                   span = refl;
                   steps = omega arith;
                 };
             knows = omega arith;
             up = record { write = omega arith; read = omega arith; paid = omega arith };
-            others = λ q ne. kept c pr co pr co k after_publish q (λ h. h) (λ h. h) kinds.TheVariants.Overflow (record { push = λ mine w stage h. absurd (clash pr p q ne holds mine); pop = λ mine other stage h. publish_keeps_pop c k v other stage h });
-            turned = omega arith;
+            others = λ q ne. kept c ro ro k after_publish q (λ h. h) (λ h. h) kinds.TheVariants.Overflow (record { push = λ mine w stage h. absurd (clash ro.producer p q ne holds mine); pop = λ mine other stage h. publish_keeps_pop c k v other stage h });
+            reached = omega arith;
           },
         )
 
     -- the queue is full, and the value waits as one more than the capacity
     publishes_over : read ≡ k.read → k.write ≡ read + c → Does [] next_write (GoOn (at (overflow_pushes.TheVariants.MovesRead read))) (Publishes (Index v))
     publishes_over here full =
-        let g = inv.good in
+        let g = inv.queue.good in
         let write = g.write in
         let change = one in
-        let reached = inv.turned in
+        let reached = inv.queue.reached in
         let t : (read == k.read) ≡ true = grind (arith, nat_tests) in
-        let hung : pending k.read pr (put (after_it next_write (GoOn (at (overflow_pushes.TheVariants.MovesRead read)))) latest) ≡ Some (p, v) =
-        pending_after k.read (after_it next_write (GoOn (at (overflow_pushes.TheVariants.MovesRead read)))) refl ∙ (rw t refl)
+        let hung : pending k.read ro.producer (put p (after_it next_write (GoOn (at (overflow_pushes.TheVariants.MovesRead read)))) latest) ≡ Some (p, v) =
+        pending_after k.read (after_it next_write (GoOn (at (overflow_pushes.TheVariants.MovesRead read)))) ∙ (rw t refl)
         in
         let many : length k.waiting ≡ c = omega arith in (
           after_publish,
@@ -211,75 +252,83 @@ module _ {T : Type 0} (c : ℕ) (pr co : Option ℕ) (k : Core ℕ) (p steps bac
           record {
             own = (refl, tt);
             stands = ((refl, refl), tt);
+            grants = (tt, tt);
+            producers = refl;
+            consumers = refl;
             right = (tt, tt);
             lengths = (tt, tt);
             good = good_publish;
             hangs = subst (Hangs kinds.TheVariants.Overflow c after_publish) (sym hung) (some, k.waiting, refl, many);
+            out = omega arith;
             book = joined;
             goes = push_waits c k.waiting v many;
             answers = refl;
             here = record { span = rw t refl; steps = omega arith; at = (holds, refl, refl, (some, omega arith, omega arith, λ same. (k.waiting, refl))) };
             knows = omega arith;
             up = record { write = omega arith; read = omega arith; paid = omega arith };
-            others = λ q ne. kept c pr co pr co k after_publish q (λ h. h) (λ h. h) kinds.TheVariants.Overflow (record { push = λ mine w stage h. absurd (clash pr p q ne holds mine); pop = λ mine other stage h. publish_keeps_pop c k v other stage h });
-            turned = omega arith;
+            others = λ q ne. kept c ro ro k after_publish q (λ h. h) (λ h. h) kinds.TheVariants.Overflow (record { push = λ mine w stage h. absurd (clash ro.producer p q ne holds mine); pop = λ mine other stage h. publish_keeps_pop c k v other stage h });
+            reached = omega arith;
           },
         )
 
     -- the queue was full, and a pop has made room since
     publishes_late : read < k.read → k.write ≡ read + c → Does [] next_write (GoOn (at (overflow_pushes.TheVariants.MovesRead read))) (PublishesAndActs (Index v))
     publishes_late moved full =
-        let g = inv.good in
+        let g = inv.queue.good in
         let write = g.write in
         let change = one in
-        let reached = inv.turned in
+        let reached = inv.queue.reached in
         let below : length k.waiting < c = omega arith in
         let list = push_room {T = T} c k.waiting v below in
         let longer = length-append k.waiting (v ∷ []) in
         let t : (read == k.read) ≡ false = grind (arith, nat_tests) in
-        let calm : pending k.read pr (put (after_it next_write (GoOn (at (overflow_pushes.TheVariants.MovesRead read)))) latest) ≡ None =
-        pending_after k.read (after_it next_write (GoOn (at (overflow_pushes.TheVariants.MovesRead read)))) refl ∙ (rw t refl)
+        let calm : pending k.read ro.producer (put p (after_it next_write (GoOn (at (overflow_pushes.TheVariants.MovesRead read)))) latest) ≡ None =
+        pending_after k.read (after_it next_write (GoOn (at (overflow_pushes.TheVariants.MovesRead read)))) ∙ (rw t refl)
         in (
           after_publish,
           words_publish,
           record {
             own = (refl, (refl, tt));
             stands = ((refl, refl), ((refl, refl), tt));
+            grants = (tt, (tt, tt));
+            producers = refl;
+            consumers = refl;
             right = (tt, (tt, tt));
             lengths = (tt, (tt, tt));
             good = good_publish;
-            hangs = none_hangs kinds.TheVariants.Overflow c after_publish (pending k.read pr (put (after_it next_write (GoOn (at (overflow_pushes.TheVariants.MovesRead read)))) latest)) calm (omega arith);
+            hangs = none_hangs kinds.TheVariants.Overflow c after_publish (pending k.read ro.producer (put p (after_it next_write (GoOn (at (overflow_pushes.TheVariants.MovesRead read)))) latest)) calm (omega arith);
+            out = omega arith;
             book = joined;
             goes = list.0;
-            answers = ap (λ (o : Option (Item T)). Popped o ∷ []) list.1;
+            answers = ap (λ (o : Option (Item T)). answer_of_item o ∷ []) list.1;
             here = record { span = rw t refl; steps = omega arith; at = (holds, refl, refl, (some, omega arith, omega arith, λ same. absurd (omega arith))) };
             knows = omega arith;
             up = record { write = omega arith; read = omega arith; paid = omega arith };
-            others = λ q ne. kept c pr co pr co k after_publish q (λ h. h) (λ h. h) kinds.TheVariants.Overflow (record { push = λ mine w stage h. absurd (clash pr p q ne holds mine); pop = λ mine other stage h. publish_keeps_pop c k v other stage h });
-            turned = omega arith;
+            others = λ q ne. kept c ro ro k after_publish q (λ h. h) (λ h. h) kinds.TheVariants.Overflow (record { push = λ mine w stage h. absurd (clash ro.producer p q ne holds mine); pop = λ mine other stage h. publish_keeps_pop c k v other stage h });
+            reached = omega arith;
           },
         )
 
-    stores_write : Does [] next_write (after_of (at (overflow_pushes.TheVariants.StoresWrite k.write read)) k.write) (effect_of (layout pr co k) (pending k.read pr latest) (at (overflow_pushes.TheVariants.StoresWrite k.write read)) k.write)
+    stores_write : Does [] next_write (after (at (overflow_pushes.TheVariants.StoresWrite k.write read)) k.write) (effect_of (layout ro k) (pending k.read ro.producer latest) (at (overflow_pushes.TheVariants.StoresWrite k.write read)) k.write)
     stores_write = go (distance k.write read == c) (k.read == read) refl refl
       where
         go : (full here : Bool) → (distance k.write read == c) ≡ full → (k.read == read) ≡ here
-            → Does [] next_write (after_of (at (overflow_pushes.TheVariants.StoresWrite k.write read)) k.write) (effect_of (layout pr co k) (pending k.read pr latest) (at (overflow_pushes.TheVariants.StoresWrite k.write read)) k.write)
+            → Does [] next_write (after (at (overflow_pushes.TheVariants.StoresWrite k.write read)) k.write) (effect_of (layout ro k) (pending k.read ro.producer latest) (at (overflow_pushes.TheVariants.StoresWrite k.write read)) k.write)
         go false here t e =
-            let g = inv.good in
+            let g = inv.queue.good in
             let write = g.write in
-            let reached = inv.turned in
+            let reached = inv.queue.reached in
             let apart : distance k.write read ≢ c = grind (arith, nat_tests) in
             let behind : distance k.write read ≡ k.write - read = omega arith in
             let below : length k.waiting < c = (let other : k.write - read ≢ c = λ h. apart (behind ∙ h) in omega arith) in
             rw t (publishes_done below)
         go true true t e =
-            let reached = inv.turned in
+            let reached = inv.queue.reached in
             let full : distance k.write read ≡ c = grind (arith, nat_tests) in
             let same : k.read ≡ read = grind (arith, nat_tests) in
             rw (t, e) (publishes_over (sym same) (omega arith))
         go true false t e =
-            let reached = inv.turned in
+            let reached = inv.queue.reached in
             let full : distance k.write read ≡ c = grind (arith, nat_tests) in
             let other : k.read ≢ read = grind (arith, nat_tests) in
             rw (t, e) (publishes_late (omega arith) (omega arith))
@@ -288,11 +337,11 @@ module _ {T : Type 0} (c : ℕ) (pr co : Option ℕ) (k : Core ℕ) (p steps bac
 
   -- the push takes the oldest value out
   takes_out : 0 < c → k.write ≡ k.read + c + 1 → (others : List ℕ) → k.waiting ≡ others ++ v ∷ [] → steps ≤ 4
-      → Does (Published p (Index v) ∷ []) (Some (record { word = 1; op = Exchange k.read (after_position k.read) })) (GoOn (at (overflow_pushes.TheVariants.LoadsCell k.read))) (TakesOut (Index (get_or k.cells (k.read % (c + 1)) 0)))
+      → Does (Published p (Index v) ∷ []) (Some (record { word = 1; op = Exchange k.read (after_position k.read) })) (GoOn (at (overflow_pushes.TheVariants.LoadsCell k.read))) (TakesOut (get_or k.cells (k.read % (c + 1)) 0))
   takes_out some far others is s =
-      let g = inv.good in
+      let g = inv.queue.good in
       let write = g.write in
-      let reached = inv.turned in
+      let reached = inv.queue.reached in
       let old = oldest c k g (omega arith) in
       let rest = old.0 in
       let first = old.1 in
@@ -304,34 +353,38 @@ module _ {T : Type 0} (c : ℕ) (pr co : Option ℕ) (k : Core ℕ) (p steps bac
       let next : after_position k.read ≡ k.read + 1 = omega arith in
       let moved : (after_position k.read == k.read) ≡ false = grind (arith, nat_tests) in
       let ask : Option Ask = Some (record { word = 1; op = Exchange k.read (after_position k.read) }) in
-      let after : After Flight (Answer T) = GoOn (at (overflow_pushes.TheVariants.LoadsCell k.read)) in
-      let words : words_after (layout pr co k) (Some (record { word = 1; op = Exchange k.read (after_position k.read) })) ≡ layout pr co (taken 1 words_of_index (c + 1) k rest) = rw t (ap (λ n. k.write ∷ n ∷ free pr ∷ free co ∷ k.cells) next) in
-      let one : change_of (layout pr co k) (Some (record { word = 1; op = Exchange k.read (after_position k.read) })) ≡ 1 = rw (t, moved) refl in (
+      let after : After QueueFlight (Answer T) = GoOn (at (overflow_pushes.TheVariants.LoadsCell k.read)) in
+      let words : words_after (layout ro k) (Some (record { word = 1; op = Exchange k.read (after_position k.read) })) ≡ layout ro (taken 1 words_of_index (c + 1) k rest) = rw t (ap (λ n. k.write ∷ n ∷ free ro.producer ∷ free ro.consumer ∷ k.cells) next) in
+      let one : change_of (layout ro k) (Some (record { word = 1; op = Exchange k.read (after_position k.read) })) ≡ 1 = rw (t, moved) refl in (
         taken 1 words_of_index (c + 1) k rest,
         words,
         record {
           own = (refl, (refl, tt));
           stands = ((inr (Index v, refl), refl), ((refl, refl), tt));
+          grants = (tt, (tt, tt));
+          producers = refl;
+          consumers = refl;
           right = (tt, (tt, tt));
           lengths = (tt, (tt, tt));
           good = takes 1 words_of_index (c + 1) k (get_or k.cells (k.read % (c + 1)) 0) rest first g;
-          hangs = none_hangs kinds.TheVariants.Overflow c (taken 1 words_of_index (c + 1) k rest) (pending (k.read + 1) pr (put (after_it ask after) latest)) (pending_after (k.read + 1) (after_it ask after) refl) (omega arith);
+          hangs = none_hangs kinds.TheVariants.Overflow c (taken 1 words_of_index (c + 1) k rest) (pending (k.read + 1) ro.producer (put p (after_it ask after) latest)) (pending_after (k.read + 1) (after_it ask after)) (omega arith);
+          out = omega arith;
           book = append-nil (map Index k.waiting) ∙ ap (map Index) first;
           goes = list.0;
-          answers = ap (λ (o : Option (Item T)). Popped o ∷ []) list.1;
+          answers = ap (λ (o : Option (Item T)). answer_of_item o ∷ []) list.1;
           here = record { span = refl; steps = omega arith; at = (holds, refl, refl, (some, omega arith, far)) };
           knows = omega arith;
           up = record { write = omega arith; read = omega arith; paid = omega arith };
-          others = λ q ne. kept c pr co pr co k (taken 1 words_of_index (c + 1) k rest) q (λ h. h) (λ h. h) kinds.TheVariants.Overflow (record { push = λ mine w stage h. absurd (clash pr p q ne holds mine); pop = λ mine other stage h. take_keeps_pop c k rest far other stage h });
-          turned = omega arith;
+          others = λ q ne. kept c ro ro k (taken 1 words_of_index (c + 1) k rest) q (λ h. h) (λ h. h) kinds.TheVariants.Overflow (record { push = λ mine w stage h. absurd (clash ro.producer p q ne holds mine); pop = λ mine other stage h. take_keeps_pop c k rest far other stage h });
+          reached = omega arith;
         },
       )
 
   -- a pop has moved it, and the push has acted with None
   gives_up : (read : ℕ) → 0 < c → read < k.read → steps ≤ 4 → IsCalm
-      → Does (Published p (Index v) ∷ Acted p (Push (Index v)) (Popped None) ∷ []) (Some (record { word = 1; op = Exchange read (after_position read) })) (Done (Popped None)) Quiet
+      → Does (Published p (Index v) ∷ Acted p (Queues (PushIndex v)) PoppedNone ∷ []) (Some (record { word = 1; op = Exchange read (after_position read) })) (Done PoppedNone) Quiet
   gives_up read some moved s calm =
-      let reached = inv.turned in
+      let reached = inv.queue.reached in
       let t : (k.read == read) ≡ false = grind (arith, nat_tests) in
       let ask : Option Ask = Some (record { word = 1; op = Exchange read (after_position read) }) in (
         k,
@@ -339,78 +392,86 @@ module _ {T : Type 0} (c : ℕ) (pr co : Option ℕ) (k : Core ℕ) (p steps bac
         record {
           own = (refl, tt);
           stands = ((refl, record { moments = refl; published = sym (one_passes c (Index v) some); handed_out = refl }), tt);
+          grants = (tt, tt);
+          producers = refl;
+          consumers = refl;
           right = (tt, tt);
           lengths = (tt, tt);
-          good = inv.good;
-          hangs = still_hangs kinds.TheVariants.Overflow c pr co k p steps backs since changes latest events turns inv.good inv.hangs inv.book inv.turned small k (after_it ask (Done (Popped None))) refl refl refl refl calm;
+          good = inv.queue.good;
+          hangs = still_hangs kinds.TheVariants.Overflow scene inv small k (after_it ask (Done PoppedNone)) refl refl refl calm;
+          out = omega arith;
           book = append-nil (map Index k.waiting);
           goes = refl;
           answers = refl;
           here =
               record {
-                answer = Popped None;
-                wrote = Published p (Index v) ∷ Acted p (Push (Index v)) (Popped None) ∷ [];
+                answer = PoppedNone;
+                wrote = Published p (Index v) ∷ Acted p (Queues (PushIndex v)) PoppedNone ∷ [];
                 span = refl;
                 steps = omega arith;
               };
           knows = omega arith;
           up = record { write = omega arith; read = omega arith; paid = omega arith };
           others = λ q ne st f h. (h, refl);
-          turned = omega arith;
+          reached = omega arith;
         },
       )
 
   -- ---- the load of the cell that it took
 
-  abbrev taken_out : ℕ → Item T
-  taken_out read = Index (get_or k.cells (read % (c + 1)) 0)
+  abbrev oldest_at : ℕ → ℕ
+  oldest_at read = get_or k.cells (read % (c + 1)) 0
 
   loads_cell : (read : ℕ) → 0 < c → steps ≤ 5 → IsCalm
-      → Does (Published p (Index v) ∷ HandedOut p (taken_out read) ∷ Acted p (Push (Index v)) (Popped (Some (taken_out read))) ∷ []) (Some (record { word = cell_word c read; op = Load })) (Done (Popped (Some (taken_out read)))) Quiet
+      → Does (Published p (Index v) ∷ HandedOut p (Index (oldest_at read)) ∷ Acted p (Queues (PushIndex v)) (PoppedIndex (oldest_at read)) ∷ []) (Some (record { word = cell_word c read; op = Load })) (Done (PoppedIndex (oldest_at read))) Quiet
   loads_cell read some s calm =
-      let reached = inv.turned in
+      let reached = inv.queue.reached in
       let ask : Option Ask = Some (record { word = cell_word c read; op = Load }) in (
         k,
-        set-get_or (layout pr co k) (cell_word c read) 0,
+        set-get_or (layout ro k) (cell_word c read) 0,
         record {
           own = (refl, tt);
-          stands = ((refl, record { moments = refl; published = sym (one_passes c (Index v) some); handed_out = sym (one_passes c (taken_out read) some) }), tt);
+          stands = ((refl, record { moments = refl; published = sym (one_passes c (Index v) some); handed_out = sym (one_passes c (Index (oldest_at read)) some) }), tt);
+          grants = (tt, tt);
+          producers = refl;
+          consumers = refl;
           right = (tt, tt);
           lengths = (tt, tt);
-          good = inv.good;
-          hangs = still_hangs kinds.TheVariants.Overflow c pr co k p steps backs since changes latest events turns inv.good inv.hangs inv.book inv.turned small k (after_it ask (Done (Popped (Some (taken_out read))))) refl refl refl refl calm;
+          good = inv.queue.good;
+          hangs = still_hangs kinds.TheVariants.Overflow scene inv small k (after_it ask (Done (PoppedIndex (oldest_at read)))) refl refl refl calm;
+          out = omega arith;
           book = append-nil (map Index k.waiting);
           goes = refl;
           answers = refl;
           here =
               record {
-                answer = Popped (Some (taken_out read));
-                wrote = Published p (Index v) ∷ HandedOut p (taken_out read) ∷ Acted p (Push (Index v)) (Popped (Some (taken_out read))) ∷ [];
+                answer = PoppedIndex (oldest_at read);
+                wrote = Published p (Index v) ∷ HandedOut p (Index (oldest_at read)) ∷ Acted p (Queues (PushIndex v)) (PoppedIndex (oldest_at read)) ∷ [];
                 span = refl;
                 steps = omega arith;
               };
           knows = omega arith;
           up = record { write = omega arith; read = omega arith; paid = omega arith };
           others = λ q ne st f h. (h, refl);
-          turned = omega arith;
+          reached = omega arith;
         },
       )
 
   -- ---- every step
 
   -- a step that writes events of its party alone
-  by_itself : (wrote : List (Event T)) (ask : Option Ask) (after : After Flight (Answer T)) (effect : Effect T) → span_of p events ≡ Open (Push (Index v)) wrote → Does wrote ask after effect
+  by_itself : (wrote : List (Event T)) (ask : Option Ask) (after : After QueueFlight (Answer T)) (effect : Effect T) → span_of p events ≡ Open (Queues (PushIndex v)) wrote → Does wrote ask after effect
       → MovesBy ask after effect
-  by_itself wrote ask after effect seen step = alone kinds.TheVariants.Overflow c pr co k p steps backs since changes latest events turns inv wrote (Push (Index v)) ask 0 after effect seen step
+  by_itself wrote ask after effect seen step = alone kinds.TheVariants.Overflow scene inv wrote (PushIndex v) ask 0 after effect seen step
 
-  calm_at : (stage : overflow_pushes.PushStage) → flight_of (doing_of (party_of p latest)) ≡ Some (at stage) → pending_at k.read (Some (at stage)) ≡ None → IsCalm
+  calm_at : (stage : overflow_pushes.PushStage) → flight_of (doing_of (party_of p latest)) ≡ Some (flights.TheVariants.Queues (at stage)) → pending_at k.read (Some (flights.TheVariants.Queues (at stage))) ≡ None → IsCalm
   calm_at stage found none = ap (pending_at k.read) found ∙ none
 
   abbrev asks_move : ℕ → Option Ask
   asks_move read = Some (record { word = 1; op = Exchange read (after_position read) })
 
-  moves_read : (read : ℕ) → KnowsOverflowPush c k v (overflow_pushes.TheVariants.MovesRead read) → steps ≤ 4 → flight_of (doing_of (party_of p latest)) ≡ Some (at (overflow_pushes.TheVariants.MovesRead read))
-      → span_of p events ≡ Open (Push (Index v)) (has_written c k p (at (overflow_pushes.TheVariants.MovesRead read))) → Moved (overflow_pushes.TheVariants.MovesRead read)
+  moves_read : (read : ℕ) → KnowsOverflowPush c k v (overflow_pushes.TheVariants.MovesRead read) → steps ≤ 4 → flight_of (doing_of (party_of p latest)) ≡ Some (flights.TheVariants.Queues (at (overflow_pushes.TheVariants.MovesRead read)))
+      → span_of p events ≡ Open (Queues (PushIndex v)) (has_written c k p (at (overflow_pushes.TheVariants.MovesRead read))) → Moved (overflow_pushes.TheVariants.MovesRead read)
   moves_read read knows s found seen = go (k.read == read) refl
     where
       go : (here : Bool) → (k.read == read) ≡ here → Moved (overflow_pushes.TheVariants.MovesRead read)
@@ -419,46 +480,46 @@ module _ {T : Type 0} (c : ℕ) (pr co : Option ℕ) (k : Core ℕ) (p steps bac
           let t : (k.read == k.read) ≡ true = grind (arith, nat_tests) in
           let last = knows.3 same in
           let far = knows.2 in
-          let place : get_or (layout pr co k) (cell_word c k.read) 0 ≡ get_or k.cells (k.read % (c + 1)) 0 = word_at k.write k.read (free pr) (free co) k.cells (cell_word c k.read) (k.read % (c + 1)) refl in
+          let place : get_or (layout ro k) (cell_word c k.read) 0 ≡ get_or k.cells (k.read % (c + 1)) 0 = word_at k.write k.read (free ro.producer) (free ro.consumer) k.cells (cell_word c k.read) (k.read % (c + 1)) refl in
           let wrote : has_written {T = T} c k p (at (overflow_pushes.TheVariants.MovesRead k.read)) ≡ Published p (Index v) ∷ [] = rw t refl in
-          let goes : after_of {T = T} (at (overflow_pushes.TheVariants.MovesRead k.read)) k.read ≡ GoOn (at (overflow_pushes.TheVariants.LoadsCell k.read)) = rw t refl in
-          let told : effect_of {T = T} (layout pr co k) (pending k.read pr latest) (at (overflow_pushes.TheVariants.MovesRead k.read)) k.read ≡ TakesOut (Index (get_or k.cells (k.read % (c + 1)) 0)) = rw (t, place) refl in
-          let as_seen : span_of p events ≡ Open (Push (Index v)) (has_written c k p (at (overflow_pushes.TheVariants.MovesRead k.read))) = subst (λ r. span_of p events ≡ Open (Push (Index v)) (has_written c k p (at (overflow_pushes.TheVariants.MovesRead r)))) same seen in
+          let goes : after {T = T} (at (overflow_pushes.TheVariants.MovesRead k.read)) k.read ≡ GoOn (at (overflow_pushes.TheVariants.LoadsCell k.read)) = rw t refl in
+          let told : effect_of {T = T} (layout ro k) (pending k.read ro.producer latest) (at (overflow_pushes.TheVariants.MovesRead k.read)) k.read ≡ TakesOut (get_or k.cells (k.read % (c + 1)) 0) = rw (t, place) refl in
+          let as_seen : span_of p events ≡ Open (Queues (PushIndex v)) (has_written c k p (at (overflow_pushes.TheVariants.MovesRead k.read))) = subst (λ r. span_of p events ≡ Open (Queues (PushIndex v)) (has_written c k p (at (overflow_pushes.TheVariants.MovesRead r)))) same seen in
           let step = takes_out knows.0 (omega arith) last.0 last.1 s in
-          let all = by_itself (Published p (Index v) ∷ []) (asks_move k.read) (GoOn (at (overflow_pushes.TheVariants.LoadsCell k.read))) (TakesOut (Index (get_or k.cells (k.read % (c + 1)) 0))) (as_seen ∙ ap (λ es. Open (Push (Index v)) es) wrote) step in
+          let all = by_itself (Published p (Index v) ∷ []) (asks_move k.read) (GoOn (at (overflow_pushes.TheVariants.LoadsCell k.read))) (TakesOut (get_or k.cells (k.read % (c + 1)) 0)) (as_seen ∙ ap (λ es. Open (Queues (PushIndex v)) es) wrote) step in
           subst (λ r. Moved (overflow_pushes.TheVariants.MovesRead r)) (sym same)
-          (subst (λ a. MovesBy (asks_move k.read) a (effect_of (layout pr co k) (pending k.read pr latest) (at (overflow_pushes.TheVariants.MovesRead k.read)) k.read)) (sym goes)
+          (subst (λ a. MovesBy (asks_move k.read) a (effect_of (layout ro k) (pending k.read ro.producer latest) (at (overflow_pushes.TheVariants.MovesRead k.read)) k.read)) (sym goes)
           (subst (λ e. MovesBy (asks_move k.read) (GoOn (at (overflow_pushes.TheVariants.LoadsCell k.read))) e) (sym told) all))
       go false e =
           let other : k.read ≢ read = grind (arith, nat_tests) in
           let low = knows.1 in
           let moved : read < k.read = omega arith in
           let t : (read == k.read) ≡ false = grind (arith, nat_tests) in
-          let wrote : has_written {T = T} c k p (at (overflow_pushes.TheVariants.MovesRead read)) ≡ Published p (Index v) ∷ Acted p (Push (Index v)) (Popped None) ∷ [] = rw t refl in
-          let goes : after_of {T = T} (at (overflow_pushes.TheVariants.MovesRead read)) k.read ≡ Done (Popped None) = rw e refl in
-          let told : effect_of {T = T} (layout pr co k) (pending k.read pr latest) (at (overflow_pushes.TheVariants.MovesRead read)) k.read ≡ Quiet = rw e refl in
+          let wrote : has_written {T = T} c k p (at (overflow_pushes.TheVariants.MovesRead read)) ≡ Published p (Index v) ∷ Acted p (Queues (PushIndex v)) PoppedNone ∷ [] = rw t refl in
+          let goes : after {T = T} (at (overflow_pushes.TheVariants.MovesRead read)) k.read ≡ Done PoppedNone = rw e refl in
+          let told : effect_of {T = T} (layout ro k) (pending k.read ro.producer latest) (at (overflow_pushes.TheVariants.MovesRead read)) k.read ≡ Quiet = rw e refl in
           let calm = calm_at (overflow_pushes.TheVariants.MovesRead read) found (rw t refl) in
-          let all = by_itself (Published p (Index v) ∷ Acted p (Push (Index v)) (Popped None) ∷ []) (asks_move read) (Done (Popped None)) Quiet (seen ∙ ap (λ es. Open (Push (Index v)) es) wrote) (gives_up read knows.0 moved s calm) in
-          subst (λ a. MovesBy (asks_move read) a (effect_of (layout pr co k) (pending k.read pr latest) (at (overflow_pushes.TheVariants.MovesRead read)) k.read)) (sym goes)
-          (subst (λ e. MovesBy (asks_move read) (Done (Popped None)) e) (sym told) all)
+          let all = by_itself (Published p (Index v) ∷ Acted p (Queues (PushIndex v)) PoppedNone ∷ []) (asks_move read) (Done PoppedNone) Quiet (seen ∙ ap (λ es. Open (Queues (PushIndex v)) es) wrote) (gives_up read knows.0 moved s calm) in
+          subst (λ a. MovesBy (asks_move read) a (effect_of (layout ro k) (pending k.read ro.producer latest) (at (overflow_pushes.TheVariants.MovesRead read)) k.read)) (sym goes)
+          (subst (λ e. MovesBy (asks_move read) (Done PoppedNone) e) (sym told) all)
 
   pub overflow_push_step :
-      (stage : overflow_pushes.PushStage) → KnowsOverflowPush c k v stage → steps ≤ overflow_push_number stage → flight_of (doing_of (party_of p latest)) ≡ Some (at stage)
-      → span_of p events ≡ Open (Push (Index v)) (has_written c k p (at stage)) → Moved stage
-  overflow_push_step overflow_pushes.TheVariants.HandsBack knows s found seen = by_itself [] None (Done (Popped (Some (Index v)))) Acts seen (hands_back knows s (calm_at overflow_pushes.TheVariants.HandsBack found refl))
+      (stage : overflow_pushes.PushStage) → KnowsOverflowPush c k v stage → steps ≤ overflow_push_number stage → flight_of (doing_of (party_of p latest)) ≡ Some (flights.TheVariants.Queues (at stage))
+      → span_of p events ≡ Open (Queues (PushIndex v)) (has_written c k p (at stage)) → Moved stage
+  overflow_push_step overflow_pushes.TheVariants.HandsBack knows s found seen = by_itself [] None (Done (PoppedIndex v)) Acts seen (hands_back knows s (calm_at overflow_pushes.TheVariants.HandsBack found refl))
   overflow_push_step overflow_pushes.TheVariants.LoadsWrite knows s found seen =
-      by_itself [] (Some (record { word = 0; op = Load })) (after_of (at overflow_pushes.TheVariants.LoadsWrite) k.write) Quiet seen (loads_write knows s (calm_at overflow_pushes.TheVariants.LoadsWrite found refl))
+      by_itself [] (Some load_of_write) (after (at overflow_pushes.TheVariants.LoadsWrite) k.write) Quiet seen (loads_write knows s (calm_at overflow_pushes.TheVariants.LoadsWrite found refl))
   overflow_push_step (overflow_pushes.TheVariants.LoadsRead write) knows s found seen =
       subst (λ w. Moved (overflow_pushes.TheVariants.LoadsRead w)) (sym knows.1)
-      (by_itself [] (Some (record { word = 1; op = Load })) (GoOn (at (overflow_pushes.TheVariants.StoresCell k.write k.read))) Quiet seen (loads_read knows.0 s (calm_at (overflow_pushes.TheVariants.LoadsRead write) found refl)))
+      (by_itself [] (Some load_of_read) (GoOn (at (overflow_pushes.TheVariants.StoresCell k.write k.read))) Quiet seen (loads_read knows.0 s (calm_at (overflow_pushes.TheVariants.LoadsRead write) found refl)))
   overflow_push_step (overflow_pushes.TheVariants.StoresCell write read) knows s found seen =
       subst (λ w. Moved (overflow_pushes.TheVariants.StoresCell w read)) (sym knows.1)
       (by_itself [] (Some (record { word = cell_word c k.write; op = Store v })) (GoOn (at (overflow_pushes.TheVariants.StoresWrite k.write read))) Quiet seen (stores_cell read knows.0 knows.2 knows.3 s (calm_at (overflow_pushes.TheVariants.StoresCell write read) found refl)))
   overflow_push_step (overflow_pushes.TheVariants.StoresWrite write read) knows s found seen =
       subst (λ w. Moved (overflow_pushes.TheVariants.StoresWrite w read)) (sym knows.1)
-      (by_itself [] (Some (record { word = 0; op = Store (after_position k.write) })) (after_of (at (overflow_pushes.TheVariants.StoresWrite k.write read)) k.write) (effect_of (layout pr co k) (pending k.read pr latest) (at (overflow_pushes.TheVariants.StoresWrite k.write read)) k.write) seen (stores_write read knows.0 knows.2 knows.3 knows.4 s))
+      (by_itself [] (Some (record { word = 0; op = Store (after_position k.write) })) (after (at (overflow_pushes.TheVariants.StoresWrite k.write read)) k.write) (effect_of (layout ro k) (pending k.read ro.producer latest) (at (overflow_pushes.TheVariants.StoresWrite k.write read)) k.write) seen (stores_write read knows.0 knows.2 knows.3 knows.4 s))
   overflow_push_step (overflow_pushes.TheVariants.MovesRead read) knows s found seen = moves_read read knows s found seen
   overflow_push_step (overflow_pushes.TheVariants.LoadsCell read) knows s found seen =
-      let old : get_or (layout pr co k) (cell_word c read) 0 ≡ get_or k.cells (read % (c + 1)) 0 = word_at k.write k.read (free pr) (free co) k.cells (cell_word c read) (read % (c + 1)) refl in
-      subst (λ n. MovesBy (Some (record { word = cell_word c read; op = Load })) (Done (Popped (Some (Index n)))) Quiet) (sym old)
-      (by_itself (Published p (Index v) ∷ HandedOut p (taken_out read) ∷ Acted p (Push (Index v)) (Popped (Some (taken_out read))) ∷ []) (Some (record { word = cell_word c read; op = Load })) (Done (Popped (Some (taken_out read)))) Quiet seen (loads_cell read knows.0 s (calm_at (overflow_pushes.TheVariants.LoadsCell read) found refl)))
+      let old : get_or (layout ro k) (cell_word c read) 0 ≡ get_or k.cells (read % (c + 1)) 0 = word_at k.write k.read (free ro.producer) (free ro.consumer) k.cells (cell_word c read) (read % (c + 1)) refl in
+      subst (λ n. MovesBy (Some (record { word = cell_word c read; op = Load })) (Done (PoppedIndex n)) Quiet) (sym old)
+      (by_itself (Published p (Index v) ∷ HandedOut p (Index (oldest_at read)) ∷ Acted p (Queues (PushIndex v)) (PoppedIndex (oldest_at read)) ∷ []) (Some (record { word = cell_word c read; op = Load })) (Done (PoppedIndex (oldest_at read))) Quiet seen (loads_cell read knows.0 s (calm_at (overflow_pushes.TheVariants.LoadsCell read) found refl)))

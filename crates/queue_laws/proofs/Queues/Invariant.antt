@@ -1,74 +1,118 @@
--- What holds of a queue's machine between any two turns, and what a turn must show to keep it. An overflowing queue
--- with a capacity is, as far as its words go, a queue with one cell more.
-use Rattle.std.proofs.Common.{◌≡◌, ◌≢◌, ℕ, ◌+◌, ◌^◌, ◌<◌, ◌≤◌, ⊎_elim, Option, Some, None, List, ◌++◌, length, drop, map, fold, refl, sym, ap, subst, ◌∙◌, append_assoc}
-use Rattle.std.proofs.lemmas.Bool.{cases_eq}
+-- What holds of a queue's machine between any two turns beside what the frame says of every machine, and what a turn
+-- must show to keep it. An overflowing queue with a capacity is, as far as its words go, a queue with one cell more.
+use Rattle.std.proofs.Common.{◌≡◌, ◌≢◌, ℕ, ◌+◌, ◌^◌, ◌<◌, ◌≤◌, Some, None, List, ◌++◌, length, drop, map, fold, refl, sym, ap, subst, ◌∙◌, append_assoc, length-append, arith}
 use Rattle.std.proofs.lemmas.List.{drop_at}
 use Rattle.std.proofs.lemmas.List.Concat.{flat_map-append}
-use Rattle.model.specs.declared.call.Flight.{Flight}
+use Rattle.std.proofs.lemmas.List.Sums.{fold-append}
+use Rattle.model.specs.declared.event.Event.{Event}
 use Rattle.model.specs.declared.event.Item.{Item}
 use Rattle.model.specs.declared.event.Item.TheVariants.{Index}
 use Rattle.model.specs.declared.event.Start.{Start}
-use Rattle.model.specs.declared.event.Answer.{Answer}
-use Rattle.model.specs.declared.event.Event.{Event}
-use Rattle.model.specs.declared.party.Doing.{Doing}
-use Rattle.model.specs.declared.party.Doing.TheVariants.{Going, Over}
+use Rattle.model.specs.declared.event.Start as starts
+use Rattle.model.specs.declared.families.Flight.{Flight}
+use Rattle.model.specs.declared.families.Flight as flights
+use Rattle.model.specs.declared.families.Kept.{Kept}
+use Rattle.model.specs.declared.families.Kept as kepts
+use Rattle.model.specs.declared.families.queues.QueueStart.{QueueStart}
+use Rattle.model.specs.declared.families.queues.Roles.{Roles}
+use Rattle.model.specs.declared.families.queues.calls.QueueFlight.{QueueFlight}
 use Rattle.model.specs.declared.party.Party.{Party}
 use Rattle.model.specs.declared.turn.Kind.{Kind}
-use Rattle.model.specs.World.{party_of, put, cells_of}
-use Rattle.model.specs.Effects.{pending}
-use Rattle.model.specs.Calls.{words_of_index}
-use Rattle.model.specs.Reading.{Each, publishes, hands_out, published, handed_out, waiting, acts, moments, Span, Never, Open, Ended, own_after, span_of}
+use Rattle.model.specs.Families.Queues.Book.{AnswersRight}
+use Rattle.model.specs.Families.Queues.Calls.{words_of_index}
+use Rattle.model.specs.Families.Queues.Lengths.{TellsLength}
+use Rattle.model.specs.Families.Queues.Objects.{list_of}
+use Rattle.model.specs.Families.Queues.Opening.{cells_of}
+use Rattle.model.specs.Families.Queues.Reading.{publishes, hands_out, published, handed_out, waiting, producer_after, consumer_after, producer_of, consumer_of}
+use Rattle.model.specs.Families.Queues.Roles.{GrantsRight}
+use Rattle.model.specs.Families.Queues.Steps.{pending}
 use Rattle.model.specs.Moments.{BeginsNone}
-use Rattle.model.specs.Objects.{IsLegal, standing, answers_from, list_of}
-use Rattle.model.specs.Promises.Spans.{Stands, StandsRight}
-use Rattle.model.specs.Promises.Book.{AnswersRight}
-use Rattle.model.specs.Promises.Lengths.{TellsLength}
-use Rattle.model.specs.Promises.Bounds.{most_steps}
+use Rattle.model.specs.Objects.{IsLegal, standing, answers_from}
+use Rattle.model.specs.Parties.{put}
+use Rattle.model.specs.Promises.Spans.{Stands}
+use Rattle.model.specs.Reading.{Each, acts, moments, Span, own_after, span_of}
+use Rattle.model.proofs.Frame as frame
+use Rattle.model.proofs.Frame.{Family}
 use Rattle.model.proofs.Moments.{others_begin_none}
-use Rattle.model.proofs.Parties.{party_put_same, party_put_other}
-use Rattle.model.proofs.Readings.{AreRight, Each-append, AreOwn, AllFollow, span_of-own, span_of-other, spans_right}
+use Rattle.model.proofs.Readings.{AreRight, Each-append, AreOwn, AllFollow}
 use Rattle.model.proofs.Replays.{calls_of, answers_of, standing_more, legal_more}
-use Rattle.queue_laws.proofs.Queues.Core.{Core, Good}
-use Rattle.queue_laws.proofs.Queues.Core.{GoesUp}
-use Rattle.queue_laws.proofs.Queues.Knows.{number_of, Hangs, listed, has_written, KnowsDoing, Knows, knows_keeps, At}
+use Rattle.queue_laws.proofs.Queues.Core.{Core, Good, GoesUp}
+use Rattle.queue_laws.proofs.Queues.Knows.{layout, number_of, Hangs, listed, has_written, KnowsFlight, flight_keeps, At}
+
+-- what the words and the roles of a queue hold
+pub record Queue : Type 0 where
+  pub roles : Roles
+  pub core : Core ℕ
+
+abbrev pub Fit : Kept → List ℕ → Queue → Type 0
+Fit (kepts.TheVariants.Queues ro) words s = (words ≡ layout s.roles s.core) × (ro ≡ s.roles)
+
+abbrev number : Flight → ℕ → ℕ
+number (flights.TheVariants.Queues flight) backs = number_of flight backs
+
+-- ---- where a party's call stands, with the machine around it
+
+pub record Scene (T : Type 0) : Type 0 where
+  pub capacity : ℕ
+  pub roles : Roles
+  pub core : Core ℕ
+  pub party : ℕ
+  pub steps : ℕ
+  pub backs : ℕ
+  pub since : ℕ
+  pub changes : ℕ
+  pub latest : List (ℕ × Party T)
+  pub events : List (Event T)
+  pub turns : ℕ
 
 module _ {T : Type 0} where
-  -- ---- a party's latest call beside its span
-
-  pub record IsUnderWay (kd : Kind) (c : ℕ) (pr co : Option ℕ) (k : Core ℕ) (p : ℕ) (x : Party T) (flight : Flight) (seen : Span T) : Type 0 where
-    pub span : seen ≡ Open x.start (has_written c k p flight)
-    pub steps : x.steps ≤ number_of flight x.backs
-    pub at : At kd c pr co k p x.start flight
-
-  pub record HasEnded (kd : Kind) (x : Party T) (seen : Span T) : Type 0 where
-    pub answer : Answer T
-    pub wrote : List (Event T)
-    pub span : seen ≡ Ended x.start answer wrote
-    pub steps : x.steps ≤ most_steps kd x.start x.backs
-
-  abbrev pub FitsDoing : Kind → ℕ → Option ℕ → Option ℕ → Core ℕ → ℕ → Party T → Doing → Span T → Type 0
-  FitsDoing kd c pr co k p x (Going flight since) span = IsUnderWay kd c pr co k p x flight span
-  FitsDoing kd c pr co k p x (Over others) span = HasEnded kd x span
-
-  abbrev pub Fits : Kind → ℕ → Option ℕ → Option ℕ → Core ℕ → ℕ → Option (Party T) → Span T → Type 0
-  Fits kd c pr co k p None span = span ≡ Never
-  Fits kd c pr co k p (Some x) span = FitsDoing kd c pr co k p x x.doing span
-
-  -- ---- the invariant
-
-  pub record Inv (kd : Kind) (c : ℕ) (pr co : Option ℕ) (k : Core ℕ) (latest : List (Party T)) (events : List (Event T)) (changes turns : ℕ) : Type 0 where
+  -- what is so of the queue and of the events
+  pub record Holds (kd : Kind) (c : ℕ) (ro : Roles) (k : Core ℕ) (latest : List (ℕ × Party T)) (events : List (Event T)) (turns : ℕ) : Type 0 where
     pub fits : c < 2 ^ 32
     pub good : Good 1 words_of_index (cells_of kd c) k
-    pub hangs : Hangs kd c k (pending k.read pr latest)
+    pub hangs : Hangs kd c k (pending k.read ro.producer latest)
     pub book : published events ≡ handed_out events ++ map Index k.waiting
+    pub out : k.read ≡ length (handed_out events)
+    pub producers : producer_of events ≡ ro.producer
+    pub consumers : consumer_of events ≡ ro.consumer
     pub stand : standing (list_of kd c) (moments events) ≡ listed kd c k.waiting
     pub legal : IsLegal (list_of kd c) (moments events)
-    pub spans : Each (StandsRight kd c) events
     pub answers : Each (AnswersRight c) events
     pub lengths : Each (TellsLength c) events
-    pub calls : (p : ℕ) → Fits kd c pr co k p (party_of p latest) (span_of p events)
-    pub knows : (p : ℕ) → Knows c k p events changes (party_of p latest)
-    pub turned : k.write ≤ turns
+    pub grants : Each GrantsRight events
+    pub reached : k.write ≤ turns
+
+  -- ---- the family of the queues
+
+  abbrev written : ℕ → Core ℕ → ℕ → Flight → List (Event T)
+  written c k p (flights.TheVariants.Queues flight) = has_written c k p flight
+
+  abbrev FlightAt : Kind → ℕ → Roles → Core ℕ → ℕ → Start T → Flight → Type 0
+  FlightAt kd c ro k p (starts.TheVariants.Queues start) (flights.TheVariants.Queues flight) = At kd c ro k p start flight
+
+  abbrev Knowing : ℕ → Core ℕ → ℕ → List (Event T) → ℕ → ℕ → ℕ → Flight → Type 0
+  Knowing c k p events since changes backs (flights.TheVariants.Queues flight) = KnowsFlight c k p events since changes backs flight
+
+  abbrev pub family : Kind → ℕ → Family T
+  family kd c =
+      record {
+        kind = kd;
+        capacity = c;
+        State = Queue;
+        Fit = Fit;
+        Holds = λ s latest events turns. Holds kd c s.roles s.core latest events turns;
+        written = λ s p flight. written c s.core p flight;
+        number = number;
+        At = λ s p start flight. FlightAt kd c s.roles s.core p start flight;
+        Knows = λ s p events since changes backs flight. Knowing c s.core p events since changes backs flight;
+      }
+
+  abbrev pub queue_in : Scene T → Queue
+  queue_in scene = record { roles = scene.roles; core = scene.core }
+
+  pub record Inv (kd : Kind) (scene : Scene T) : Type 0 where
+    pub queue : Holds kd scene.capacity scene.roles scene.core scene.latest scene.events scene.turns
+    pub frame : frame.Inv (family kd scene.capacity) (queue_in scene) scene.latest scene.events scene.changes
 
   -- what was published and not handed out is what waits
   pub waiting_is : (events : List (Event T)) (items : List (Item T)) → published events ≡ handed_out events ++ items → waiting events ≡ items
@@ -85,115 +129,107 @@ module _ {T : Type 0} where
       ∙ (sym (append_assoc (handed_out events) (handed_out es) new)
       ∙ ap (λ xs. xs ++ new) (sym (flat_map-append hands_out events es))))))
 
-  -- what a turn of the party y owes, which can write events of other parties too, where the queue becomes k'
-  pub record Owes (kd : Kind) (c : ℕ) (pr co pr' co' : Option ℕ) (k k' : Core ℕ) (y : Party T) (latest : List (Party T)) (events es : List (Event T)) (changes changes' turns : ℕ) : Type 0 where
-    pub stands : AreRight (StandsRight kd c) events es
-    pub right : AreRight (AnswersRight c) events es
-    pub lengths : AreRight (TellsLength c) events es
-    pub good : Good 1 words_of_index (cells_of kd c) k'
-    pub hangs : Hangs kd c k' (pending k'.read pr' (put y latest))
-    pub book : map Index k.waiting ++ published es ≡ handed_out es ++ map Index k'.waiting
-    pub goes : fold (list_of kd c).after (listed kd c k.waiting) (calls_of (moments es)) ≡ listed kd c k'.waiting
-    pub answers : answers_from (list_of kd c) (listed kd c k.waiting) (calls_of (moments es)) ≡ answers_of (moments es)
-    pub here : Fits kd c pr' co' k' y.number (Some y) (span_of y.number (events ++ es))
-    pub knows : KnowsDoing c k' y.number (events ++ es) changes' y.backs y.doing
-    pub up : GoesUp k k' changes changes'
-    pub begin_none : (q : ℕ) → q ≢ y.number → BeginsNone q es
-    pub others : (q : ℕ) → q ≢ y.number → Fits kd c pr' co' k' q (party_of q latest) (span_of q (events ++ es))
-    pub turned : k'.write ≤ turns + 1
+  out_more : (events es : List (Event T)) (old new : ℕ) → old ≡ length (handed_out events) → new ≡ old + length (handed_out es) → new ≡ length (handed_out (events ++ es))
+  out_more events es old new is more =
+      let both : handed_out (events ++ es) ≡ handed_out events ++ handed_out es = flat_map-append hands_out events es in
+      let long = length-append (handed_out events) (handed_out es) in
+      rw both (omega arith)
 
-  module _ (kd : Kind) (c : ℕ) (pr co pr' co' : Option ℕ) (k k' : Core ℕ) (y : Party T) (latest : List (Party T)) (events es : List (Event T)) (changes changes' turns : ℕ) where
-    pub advance : Inv kd c pr co k latest events changes turns → Owes kd c pr co pr' co' k k' y latest events es changes changes' turns → Inv kd c pr' co' k' (put y latest) (events ++ es) changes' (turns + 1)
-    advance inv s =
-        let more = flat_map-append acts events es in
+  -- what a turn shows of the queue itself, where it becomes k'
+  pub record ShowsQueue (kd : Kind) (scene : Scene T) (ro' : Roles) (k' : Core ℕ) (y : Party T) (es : List (Event T)) (changes' : ℕ) : Type 0 where
+    pub right : AreRight (AnswersRight scene.capacity) scene.events es
+    pub lengths : AreRight (TellsLength scene.capacity) scene.events es
+    pub grants : AreRight GrantsRight scene.events es
+    pub good : Good 1 words_of_index (cells_of kd scene.capacity) k'
+    pub hangs : Hangs kd scene.capacity k' (pending k'.read ro'.producer (put scene.party y scene.latest))
+    pub book : map Index scene.core.waiting ++ published es ≡ handed_out es ++ map Index k'.waiting
+    pub out : k'.read ≡ scene.core.read + length (handed_out es)
+    pub producers : fold producer_after scene.roles.producer es ≡ ro'.producer
+    pub consumers : fold consumer_after scene.roles.consumer es ≡ ro'.consumer
+    pub goes : fold (list_of kd scene.capacity).after (listed kd scene.capacity scene.core.waiting) (calls_of (moments es)) ≡ listed kd scene.capacity k'.waiting
+    pub answers : answers_from (list_of kd scene.capacity) (listed kd scene.capacity scene.core.waiting) (calls_of (moments es)) ≡ answers_of (moments es)
+    pub up : GoesUp scene.core k' scene.changes changes'
+    pub reached : k'.write ≤ scene.turns + 1
+
+  module _ (kd : Kind) (scene : Scene T) (ro' : Roles) (k' : Core ℕ) (y : Party T) (es : List (Event T)) (changes' : ℕ) where
+    pub holds_more : Holds kd scene.capacity scene.roles scene.core scene.latest scene.events scene.turns → ShowsQueue kd scene ro' k' y es changes'
+        → Holds kd scene.capacity ro' k' (put scene.party y scene.latest) (scene.events ++ es) (scene.turns + 1)
+    holds_more inv s =
+        let c = scene.capacity in
+        let more = flat_map-append acts scene.events es in
         record {
           fits = inv.fits;
           good = s.good;
           hangs = s.hangs;
-          book = book_more events es (map Index k.waiting) (map Index k'.waiting) inv.book s.book;
+          book = book_more scene.events es (map Index scene.core.waiting) (map Index k'.waiting) inv.book s.book;
+          out = out_more scene.events es scene.core.read k'.read inv.out s.out;
+          producers = fold-append producer_after None scene.events es ∙ (ap (λ o. fold producer_after o es) inv.producers ∙ s.producers);
+          consumers = fold-append consumer_after None scene.events es ∙ (ap (λ o. fold consumer_after o es) inv.consumers ∙ s.consumers);
           stand =
               ap (standing (list_of kd c)) more
-              ∙ standing_more (list_of kd c) (moments events) (moments es) (listed kd c k.waiting) (listed kd c k'.waiting) inv.stand s.goes;
+              ∙ standing_more (list_of kd c) (moments scene.events) (moments es) (listed kd c scene.core.waiting) (listed kd c k'.waiting) inv.stand s.goes;
           legal =
               subst (IsLegal (list_of kd c)) (sym more)
-              (legal_more (list_of kd c) (moments events) (moments es) (listed kd c k.waiting) inv.legal inv.stand s.answers);
-          spans = Each-append (StandsRight kd c) events es inv.spans s.stands;
-          answers = Each-append (AnswersRight c) events es inv.answers s.right;
-          lengths = Each-append (TellsLength c) events es inv.lengths s.lengths;
-          calls = λ q. ⊎_elim (mine q) (theirs q) (cases_eq q y.number);
-          knows = λ q. ⊎_elim (mine_knows q) (theirs_know q) (cases_eq q y.number);
-          turned = s.turned;
+              (legal_more (list_of kd c) (moments scene.events) (moments es) (listed kd c scene.core.waiting) inv.legal inv.stand s.answers);
+          answers = Each-append (AnswersRight c) scene.events es inv.answers s.right;
+          lengths = Each-append (TellsLength c) scene.events es inv.lengths s.lengths;
+          grants = Each-append GrantsRight scene.events es inv.grants s.grants;
+          reached = s.reached;
         }
-      where
-        mine : (q : ℕ) → q ≡ y.number → Fits kd c pr' co' k' q (party_of q (put y latest)) (span_of q (events ++ es))
-        mine q e =
-            subst (λ n. Fits kd c pr' co' k' n (party_of n (put y latest)) (span_of n (events ++ es))) (sym e)
-            (subst (λ o. Fits kd c pr' co' k' y.number o (span_of y.number (events ++ es))) (sym (party_put_same y latest)) s.here)
 
-        theirs : (q : ℕ) → q ≢ y.number → Fits kd c pr' co' k' q (party_of q (put y latest)) (span_of q (events ++ es))
-        theirs q ne =
-            subst (λ o. Fits kd c pr' co' k' q o (span_of q (events ++ es))) (sym (party_put_other q y latest ne)) (s.others q ne)
+  -- what a turn shows that writes events of its own party alone, where its span was this
+  pub record Shows (kd : Kind) (scene : Scene T) (ro' : Roles) (k' : Core ℕ) (from : Span T) (y : Party T) (es : List (Event T)) (changes' : ℕ) : Type 0 where
+    pub right : AreRight (AnswersRight scene.capacity) scene.events es
+    pub lengths : AreRight (TellsLength scene.capacity) scene.events es
+    pub grants : AreRight GrantsRight scene.events es
+    pub good : Good 1 words_of_index (cells_of kd scene.capacity) k'
+    pub hangs : Hangs kd scene.capacity k' (pending k'.read ro'.producer (put scene.party y scene.latest))
+    pub book : map Index scene.core.waiting ++ published es ≡ handed_out es ++ map Index k'.waiting
+    pub out : k'.read ≡ scene.core.read + length (handed_out es)
+    pub producers : fold producer_after scene.roles.producer es ≡ ro'.producer
+    pub consumers : fold consumer_after scene.roles.consumer es ≡ ro'.consumer
+    pub goes : fold (list_of kd scene.capacity).after (listed kd scene.capacity scene.core.waiting) (calls_of (moments es)) ≡ listed kd scene.capacity k'.waiting
+    pub answers : answers_from (list_of kd scene.capacity) (listed kd scene.capacity scene.core.waiting) (calls_of (moments es)) ≡ answers_of (moments es)
+    pub up : GoesUp scene.core k' scene.changes changes'
+    pub reached : k'.write ≤ scene.turns + 1
+    pub own : AreOwn scene.party es
+    pub stands : AllFollow (Stands kd scene.capacity) from es
+    pub here : frame.Fits (family kd scene.capacity) (record { roles = ro'; core = k' }) scene.party (Some y) (fold own_after from es)
+    pub knows : frame.KnowsDoing (family kd scene.capacity) (record { roles = ro'; core = k' }) scene.party (scene.events ++ es) changes' y.backs y.doing
+    pub others : (q : ℕ) → q ≢ scene.party → (start : QueueStart T) (flight : QueueFlight) → At kd scene.capacity scene.roles scene.core q start flight
+        → At kd scene.capacity ro' k' q start flight × (has_written {T = T} scene.capacity k' q flight ≡ has_written {T = T} scene.capacity scene.core q flight)
 
-        mine_knows : (q : ℕ) → q ≡ y.number → Knows c k' q (events ++ es) changes' (party_of q (put y latest))
-        mine_knows q e =
-            subst (λ n. Knows c k' n (events ++ es) changes' (party_of n (put y latest))) (sym e)
-            (subst (Knows c k' y.number (events ++ es) changes') (sym (party_put_same y latest)) s.knows)
+  -- what stays of a queue's call, as of one of any family
+  pub any_stays : (kd : Kind) (c : ℕ) (ro ro' : Roles) (k k' : Core ℕ) (q : ℕ)
+      → ((start : QueueStart T) (flight : QueueFlight) → At kd c ro k q start flight → At kd c ro' k' q start flight × (has_written {T = T} c k' q flight ≡ has_written {T = T} c k q flight))
+      → (start : Start T) (flight : Flight) → FlightAt kd c ro k q start flight → FlightAt kd c ro' k' q start flight × (written c k' q flight ≡ written c k q flight)
+  any_stays kd c ro ro' k k' q stays (starts.TheVariants.Queues start) (flights.TheVariants.Queues flight) h = stays start flight h
 
-        theirs_know : (q : ℕ) → q ≢ y.number → Knows c k' q (events ++ es) changes' (party_of q (put y latest))
-        theirs_know q ne =
-            subst (Knows c k' q (events ++ es) changes') (sym (party_put_other q y latest ne))
-            (knows_keeps c k k' q events es changes changes' s.up (s.begin_none q ne) (party_of q latest) (inv.knows q))
+  pub any_knows : (c : ℕ) (k k' : Core ℕ) (q : ℕ) (events es : List (Event T)) (changes changes' : ℕ) → GoesUp k k' changes changes' → BeginsNone q es
+      → (since backs : ℕ) (flight : Flight) → Knowing c k q events since changes backs flight → Knowing c k' q (events ++ es) since changes' backs flight
+  any_knows c k k' q events es changes changes' up none since backs (flights.TheVariants.Queues flight) h =
+      flight_keeps c k k' q events es changes changes' up none since backs flight h
 
-  -- ---- turns that write events of their party alone
+  module _ (kd : Kind) (scene : Scene T) (ro' : Roles) (k' : Core ℕ) (from : Span T) (y : Party T) (es : List (Event T)) (changes' : ℕ) (s : Shows kd scene ro' k' from y es changes') where
+    pub owes : span_of scene.party scene.events ≡ from → Inv kd scene → frame.Owes (family kd scene.capacity) (record { roles = ro'; core = k' }) scene.party y scene.latest scene.events es changes'
+    owes is inv =
+        frame.owes (family kd scene.capacity) (queue_in scene) (record { roles = ro'; core = k' }) from scene.party y scene.latest scene.events es scene.changes changes' is inv.frame
+        (record { own = s.own; stands = s.stands; here = s.here; knows = s.knows; others = λ q ne. any_stays kd scene.capacity scene.roles ro' scene.core k' q (s.others q ne); others_know = λ q ne. any_knows scene.capacity scene.core k' q scene.events es scene.changes changes' s.up (others_begin_none q scene.party es ne s.own) })
 
-  -- what a turn of the party y shows that was in the span `from`
-  pub record Shows (kd : Kind) (c : ℕ) (pr co pr' co' : Option ℕ) (k k' : Core ℕ) (from : Span T) (y : Party T) (latest : List (Party T)) (events es : List (Event T)) (changes changes' turns : ℕ) : Type 0 where
-    pub own : AreOwn y.number es
-    pub stands : AllFollow (Stands kd c) from es
-    pub right : AreRight (AnswersRight c) events es
-    pub lengths : AreRight (TellsLength c) events es
-    pub good : Good 1 words_of_index (cells_of kd c) k'
-    pub hangs : Hangs kd c k' (pending k'.read pr' (put y latest))
-    pub book : map Index k.waiting ++ published es ≡ handed_out es ++ map Index k'.waiting
-    pub goes : fold (list_of kd c).after (listed kd c k.waiting) (calls_of (moments es)) ≡ listed kd c k'.waiting
-    pub answers : answers_from (list_of kd c) (listed kd c k.waiting) (calls_of (moments es)) ≡ answers_of (moments es)
-    pub here : Fits kd c pr' co' k' y.number (Some y) (fold own_after from es)
-    pub knows : KnowsDoing c k' y.number (events ++ es) changes' y.backs y.doing
-    pub up : GoesUp k k' changes changes'
-    pub others : (q : ℕ) → q ≢ y.number → (start : Start T) (flight : Flight) → At kd c pr co k q start flight → At kd c pr' co' k' q start flight × (has_written {T = T} c k' q flight ≡ has_written {T = T} c k q flight)
-    pub turned : k'.write ≤ turns + 1
-
-  -- what the call of another party goes on to know, where its span stays
-  module _ (kd : Kind) (c : ℕ) (pr co pr' co' : Option ℕ) (k k' : Core ℕ) (q : ℕ) (others : (start : Start T) (flight : Flight) → At kd c pr co k q start flight → At kd c pr' co' k' q start flight × (has_written {T = T} c k' q flight ≡ has_written {T = T} c k q flight)) where
-    doing_fits : (x : Party T) (doing : Doing) (span : Span T) → FitsDoing kd c pr co k q x doing span → FitsDoing kd c pr' co' k' q x doing span
-    doing_fits x (Going flight since) span h =
-        let both = others x.start flight h.at in
-        record { span = h.span ∙ ap (λ es. Open x.start es) (sym both.1); steps = h.steps; at = both.0 }
-    doing_fits x (Over others) span h = h
-
-    pub still_fits : (o : Option (Party T)) (span : Span T) → Fits kd c pr co k q o span → Fits kd c pr' co' k' q o span
-    still_fits None span h = h
-    still_fits (Some x) span h = doing_fits x x.doing span h
-
-  module _ (kd : Kind) (c : ℕ) (pr co pr' co' : Option ℕ) (k k' : Core ℕ) (from : Span T) (y : Party T) (latest : List (Party T)) (events es : List (Event T)) (changes changes' turns : ℕ) where
-    pub owes : span_of y.number events ≡ from → Inv kd c pr co k latest events changes turns → Shows kd c pr co pr' co' k k' from y latest events es changes changes' turns → Owes kd c pr co pr' co' k k' y latest events es changes changes' turns
-    owes is inv s =
-        let span : span_of y.number (events ++ es) ≡ fold own_after from es = span_of-own y.number events es s.own ∙ ap (λ a. fold own_after a es) is in
+    pub queue_part : ShowsQueue kd scene ro' k' y es changes'
+    queue_part =
         record {
-          stands = spans_right (Stands kd c) y.number events es from is s.own s.stands;
           right = s.right;
           lengths = s.lengths;
+          grants = s.grants;
           good = s.good;
           hangs = s.hangs;
           book = s.book;
+          out = s.out;
+          producers = s.producers;
+          consumers = s.consumers;
           goes = s.goes;
           answers = s.answers;
-          here = subst (λ a. Fits kd c pr' co' k' y.number (Some y) a) (sym span) s.here;
-          knows = s.knows;
           up = s.up;
-          begin_none = λ q ne. others_begin_none q y.number es ne s.own;
-          others = λ q ne.
-              subst (λ a. Fits kd c pr' co' k' q (party_of q latest) a) (sym (span_of-other y.number q events es ne s.own))
-              (still_fits kd c pr co pr' co' k k' q (s.others q ne) (party_of q latest) (span_of q events) (inv.calls q));
-          turned = s.turned;
+          reached = s.reached;
         }

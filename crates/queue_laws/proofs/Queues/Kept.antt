@@ -1,5 +1,5 @@
 -- What the invariant says of the events, in the promises' words.
-use Rattle.std.proofs.Common.{◌≡◌, ℕ, suc, ◌+◌, ◌-◌, ◌%◌, ◌*◌, ◌^◌, ◌<◌, ◌≤◌, Option, Some, None, List, [], ◌∷◌, length, get_or, map, slice_get, take, refl, sym, ap, subst, ◌∙◌, arith}
+use Rattle.std.proofs.Common.{◌≡◌, ℕ, suc, ◌+◌, ◌-◌, ◌%◌, ◌*◌, ◌≤◌, Some, List, [], ◌∷◌, length, get_or, map, slice_get, take, refl, sym, ap, ◌∙◌, arith, length-append}
 use Rattle.std.proofs.lemmas.List.{length-map, take-map}
 use Rattle.steps.specs.declared.copied.OneWord.{OneWord}
 use Rattle.steps.specs.declared.queues.ring.PushStage as pushes
@@ -11,39 +11,48 @@ use Rattle.steps.specs.declared.queues.lengths.LenStage.{LenStage}
 use Rattle.steps.specs.declared.queues.lengths.LenStage as lens
 use Rattle.steps.specs.declared.routine.Running.{Running}
 use Rattle.steps.specs.Queues.Ring.{cell_word}
-use Rattle.model.specs.declared.call.RoleCall.{RoleCall}
-use Rattle.model.specs.declared.call.RingCall as rings
-use Rattle.model.specs.declared.call.LengthOf.{LengthOf}
-use Rattle.model.specs.declared.call.LengthOf as measures
-use Rattle.model.specs.declared.call.OverflowCall as overflows
-use Rattle.model.specs.declared.call.Flight.{Flight}
-use Rattle.model.specs.declared.call.Flight.TheVariants.{Role, Indices, Overflow, Length}
+use Rattle.model.specs.declared.families.queues.calls.RoleCall.{RoleCall}
+use Rattle.model.specs.declared.families.queues.calls.RingCall as rings
+use Rattle.model.specs.declared.families.queues.calls.LengthOf.{LengthOf}
+use Rattle.model.specs.declared.families.queues.calls.LengthOf as measures
+use Rattle.model.specs.declared.families.queues.calls.OverflowCall as overflows
+use Rattle.model.specs.declared.families.queues.calls.QueueFlight.{QueueFlight}
+use Rattle.model.specs.declared.families.queues.calls.QueueFlight.TheVariants.{Role, Indices, Overflow, Length}
 use Rattle.model.specs.declared.event.Item.{Item}
 use Rattle.model.specs.declared.event.Item.TheVariants.{Index}
-use Rattle.model.specs.declared.event.Start.{Start}
-use Rattle.model.specs.declared.event.Start.TheVariants.{Push, Pop, IsEmpty, IsFull}
-use Rattle.model.specs.declared.event.Start as starts
+use Rattle.model.specs.declared.families.queues.QueueStart.{QueueStart}
+use Rattle.model.specs.declared.families.queues.QueueStart.TheVariants.{PushIndex, Pop, IsEmpty, IsFull}
+use Rattle.model.specs.declared.families.queues.QueueStart as starts
 use Rattle.model.specs.declared.event.Event.{Event}
-use Rattle.model.specs.declared.party.Doing.{Doing}
-use Rattle.model.specs.declared.party.Doing.TheVariants.{Going, Over}
-use Rattle.model.specs.declared.party.Party.{Party}
+use Rattle.model.specs.declared.event.Start.{Start}
+use Rattle.model.specs.declared.event.Start.TheVariants.{Queues}
+use Rattle.model.specs.declared.families.Flight.{Flight}
+use Rattle.model.specs.declared.families.Flight as flights
+use Rattle.model.specs.declared.families.queues.Roles.{Roles}
 use Rattle.model.specs.declared.turn.Kind.{Kind}
 use Rattle.model.specs.declared.turn.Kind.TheVariants.{IndexQueue}
 use Rattle.model.specs.declared.turn.Kind as kinds
-use Rattle.model.specs.World.{Trace, cells_of, party_of, progress_after}
-use Rattle.model.specs.Calls.{words_of_index}
+use Rattle.model.specs.Families.Queues.Book.{stored, waiting_in}
+use Rattle.model.specs.Families.Queues.Bounds.{most_steps}
+use Rattle.model.specs.Families.Queues.Calls.{words_of_index}
+use Rattle.model.specs.Families.Queues.Opening.{cells_of}
+use Rattle.model.specs.Parties.{party_of}
+use Rattle.model.specs.Families.Queues.Promises.{IsQueue}
+use Rattle.model.specs.Families.Queues.Reading.{published, handed_out}
+use Rattle.model.specs.Promises.{IsKept, Promised}
+use Rattle.model.specs.Promises.Bounds as any_bounds
+use Rattle.model.specs.Promises.Bounds.{Progresses}
+use Rattle.model.specs.Reading.{span_of}
 use Rattle.model.specs.Turns.{IsReached}
-use Rattle.model.specs.Reading.{Span, span_of}
-use Rattle.model.specs.Promises.{IsKept}
-use Rattle.model.specs.Promises.Book.{stored, waiting_in}
-use Rattle.model.specs.Promises.Bounds.{most_steps, Progresses}
+use Rattle.model.specs.World.{Trace}
 use Rattle.queue_laws.proofs.Queues.Core.{Core, Good, take_all, at_below, word_at}
 use Rattle.queue_laws.proofs.Ring.Knows.{KnowsPush, KnowsPop, push_number, pop_number, RingAt}
 use Rattle.queue_laws.proofs.Overflow.Knows.{overflow_push_number, overflow_pop_number, KnowsBacks, OverflowAt}
-use Rattle.queue_laws.proofs.Queues.Knows.{free, layout, listed, len_number, number_of, IsPaid, KnowsLen, KnowsFlight, KnowsDoing, Knows, RoleAt, LengthAt, At}
-use Rattle.queue_laws.proofs.Queues.Invariant.{FitsDoing, Fits, waiting_is}
+use Rattle.queue_laws.proofs.Queues.Knows.{free, layout, listed, len_number, number_of, IsPaid, KnowsLen, KnowsFlight, RoleAt, LengthAt, At}
+use Rattle.model.proofs.Frame as frame
+use Rattle.queue_laws.proofs.Queues.Invariant.{Queue, family, waiting_is}
 use Rattle.queue_laws.proofs.Queues.Stages.{cell_place}
-use Rattle.queue_laws.proofs.Queues.Sound.{Sound, reached_sound}
+use Rattle.queue_laws.proofs.Queues.Sound.{kept_is, reached_sound}
 
 -- ---- how many steps a call has taken
 
@@ -98,32 +107,32 @@ pop_paid k since changes backs (overflow_pops.TheVariants.LoadsCell read) h = le
 pop_paid k since changes backs (overflow_pops.TheVariants.MovesRead read) h = let low = h.0 in let paid = h.1 in omega arith
 
 module _ {T : Type 0} where
-  role_most : (kd : Kind) (pr co : Option ℕ) (p backs : ℕ) (start : Start T) (call : RoleCall) → RoleAt pr co p start call → 0 ≤ most_steps kd start backs
-  role_most kd pr co p backs start call h = omega arith
+  role_most : (kd : Kind) (ro : Roles) (p backs : ℕ) (start : QueueStart T) (call : RoleCall) → RoleAt ro p start call → 0 ≤ most_steps kd start backs
+  role_most kd ro p backs start call h = omega arith
 
-  ring_most : (c : ℕ) (pr co : Option ℕ) (k : Core ℕ) (p backs : ℕ) (start : Start T) (call : rings.RingCall ℕ OneWord) → RingAt c pr co k p start call → number_of (Indices call) backs ≤ most_steps IndexQueue start backs
-  ring_most c pr co k p backs (Push (Index v)) (rings.TheVariants.Push run) h = push_most c k v run.call.stage h.3
-  ring_most c pr co k p backs Pop (rings.TheVariants.Pop run) h = pop_most c k run.room run.call.stage h.2
-  ring_most c pr co k p backs start call h = absurd h
+  ring_most : (c : ℕ) (ro : Roles) (k : Core ℕ) (p backs : ℕ) (start : QueueStart T) (call : rings.RingCall ℕ OneWord) → RingAt c ro k p start call → number_of (Indices call) backs ≤ most_steps IndexQueue start backs
+  ring_most c ro k p backs (PushIndex v) (rings.TheVariants.Push run) h = push_most c k v run.call.stage h.3
+  ring_most c ro k p backs Pop (rings.TheVariants.Pop run) h = pop_most c k run.room run.call.stage h.2
+  ring_most c ro k p backs start call h = absurd h
 
-  overflow_most : (c : ℕ) (pr co : Option ℕ) (k : Core ℕ) (p backs : ℕ) (start : Start T) (call : overflows.OverflowCall) → OverflowAt c pr co k p start call → number_of (Overflow call) backs ≤ most_steps kinds.TheVariants.Overflow start backs
-  overflow_most c pr co k p backs (Push (Index v)) (overflows.TheVariants.Push run) h = overflow_push_most run.call.stage
-  overflow_most c pr co k p backs Pop (overflows.TheVariants.Pop run) h = overflow_pop_most backs run.call.stage
-  overflow_most c pr co k p backs start call h = absurd h
+  overflow_most : (c : ℕ) (ro : Roles) (k : Core ℕ) (p backs : ℕ) (start : QueueStart T) (call : overflows.OverflowCall) → OverflowAt c ro k p start call → number_of (Overflow call) backs ≤ most_steps kinds.TheVariants.Overflow start backs
+  overflow_most c ro k p backs (PushIndex v) (overflows.TheVariants.Push run) h = overflow_push_most run.call.stage
+  overflow_most c ro k p backs Pop (overflows.TheVariants.Pop run) h = overflow_pop_most backs run.call.stage
+  overflow_most c ro k p backs start call h = absurd h
 
-  length_most : (kd : Kind) (c backs : ℕ) (start : Start T) (which : LengthOf) (run : Running Len (Unit {0}) (Unit {0})) → LengthAt c start which run.call.capacity → number_of (Length which run) backs ≤ most_steps kd start backs
+  length_most : (kd : Kind) (c backs : ℕ) (start : QueueStart T) (which : LengthOf) (run : Running Len (Unit {0}) (Unit {0})) → LengthAt c start which run.call.capacity → number_of (Length which run) backs ≤ most_steps kd start backs
   length_most kd c backs starts.TheVariants.Len measures.TheVariants.Len run h = len_most backs run.call.stage
   length_most kd c backs IsEmpty measures.TheVariants.IsEmpty run h = len_most backs run.call.stage
   length_most kd c backs IsFull measures.TheVariants.IsFull run h = len_most backs run.call.stage
   length_most kd c backs start which call h = absurd h
 
-  steps_most : (kd : Kind) (c : ℕ) (pr co : Option ℕ) (k : Core ℕ) (p backs : ℕ) (start : Start T) (flight : Flight) → At kd c pr co k p start flight → number_of flight backs ≤ most_steps kd start backs
-  steps_most kd c pr co k p backs start (Role call) h = role_most kd pr co p backs start call h
-  steps_most IndexQueue c pr co k p backs start (Indices call) h = ring_most c pr co k p backs start call h
-  steps_most kinds.TheVariants.Overflow c pr co k p backs start (Indices call) h = absurd h
-  steps_most IndexQueue c pr co k p backs start (Overflow call) h = absurd h
-  steps_most kinds.TheVariants.Overflow c pr co k p backs start (Overflow call) h = overflow_most c pr co k p backs start call h
-  steps_most kd c pr co k p backs start (Length which call) h = length_most kd c backs start which call h
+  steps_most : (kd : Kind) (c : ℕ) (ro : Roles) (k : Core ℕ) (p backs : ℕ) (start : QueueStart T) (flight : QueueFlight) → At kd c ro k p start flight → number_of flight backs ≤ most_steps kd start backs
+  steps_most kd c ro k p backs start (Role call) h = role_most kd ro p backs start call h
+  steps_most IndexQueue c ro k p backs start (Indices call) h = ring_most c ro k p backs start call h
+  steps_most kinds.TheVariants.Overflow c ro k p backs start (Indices call) h = absurd h
+  steps_most IndexQueue c ro k p backs start (Overflow call) h = absurd h
+  steps_most kinds.TheVariants.Overflow c ro k p backs start (Overflow call) h = overflow_most c ro k p backs start call h
+  steps_most kd c ro k p backs start (Length which call) h = length_most kd c backs start which call h
 
   -- ---- progress
 
@@ -133,24 +142,21 @@ module _ {T : Type 0} where
   len_paid c k p events since changes backs (lens.TheVariants.LoadsWriteAgain write read) h = paid_backs k since changes backs write read h.0
   len_paid c k p events since changes backs (lens.TheVariants.LoadsReadAgain write read) h = paid_backs k since changes backs write read h.0
 
-  backs_paid : (c : ℕ) (k : Core ℕ) (p : ℕ) (events : List (Event T)) (since changes backs : ℕ) (flight : Flight) → KnowsFlight c k p events since changes backs flight → backs ≤ changes - since
+  backs_paid : (c : ℕ) (k : Core ℕ) (p : ℕ) (events : List (Event T)) (since changes backs : ℕ) (flight : QueueFlight) → KnowsFlight c k p events since changes backs flight → backs ≤ changes - since
   backs_paid c k p events since changes backs (Role call) h = omega arith
   backs_paid c k p events since changes backs (Indices call) h = omega arith
   backs_paid c k p events since changes backs (Overflow (overflows.TheVariants.Push call)) h = omega arith
   backs_paid c k p events since changes backs (Overflow (overflows.TheVariants.Pop run)) h = pop_paid k since changes backs run.call.stage h
   backs_paid c k p events since changes backs (Length which run) h = len_paid c k p events since changes backs run.call.stage h
 
-  progresses : (kd : Kind) (c : ℕ) (pr co : Option ℕ) (k : Core ℕ) (p : ℕ) (events : List (Event T)) (changes : ℕ) (o : Option (Party T)) (seen : Span T) → Fits kd c pr co k p o seen → Knows c k p events changes o
-      → Progresses kd seen (progress_after changes o)
-  progresses kd c pr co k p events changes None seen h knows = subst (λ s. Progresses {T = T} kd s None) (sym h) tt
-  progresses kd c pr co k p events changes (Some x) seen h knows = go x.doing refl h knows
+  pub bounds : (kd : Kind) (c : ℕ) → frame.Bounds (family {T = T} kd c)
+  bounds kd c = record { most = most; paid = paid }
     where
-      go : (doing : Doing) → x.doing ≡ doing → FitsDoing kd c pr co k p x doing seen → KnowsDoing c k p events changes x.backs doing → Progresses kd seen (progress_after changes (Some x))
-      go (Going flight since) e h knows =
-          let most = steps_most kd c pr co k p x.backs x.start flight h.at in
-          let steps = h.steps in
-          rw (h.span, e) (record { steps = omega arith; backs = backs_paid c k p events since changes x.backs flight knows }, refl)
-      go (Over others) e h knows = rw (h.span, e) (record { steps = h.steps; backs = knows }, refl)
+      most : (s : Queue) (p backs : ℕ) (start : Start T) (flight : Flight) → (family kd c).At s p start flight → (family {T = T} kd c).number flight backs ≤ any_bounds.most_steps kd start backs
+      most s p backs (Queues start) (flights.TheVariants.Queues flight) h = steps_most kd c s.roles s.core p backs start flight h
+
+      paid : (s : Queue) (p : ℕ) (events : List (Event T)) (since changes backs : ℕ) (flight : Flight) → (family kd c).Knows s p events since changes backs flight → backs ≤ changes - since
+      paid s p events since changes backs (flights.TheVariants.Queues flight) h = backs_paid c s.core p events since changes backs flight h
 
   -- ---- the values that wait in the words
 
@@ -166,19 +172,19 @@ module _ {T : Type 0} where
       rw (first, rest) refl
 
   -- of a queue with so many cells
-  stored_waiting : (n : ℕ) (pr co : Option ℕ) (k : Core ℕ) → Good 1 words_of_index n k → waiting_in {T = T} n (layout pr co k) ≡ map Index k.waiting
-  stored_waiting n pr co k g =
+  stored_waiting : (n : ℕ) (ro : Roles) (k : Core ℕ) → Good 1 words_of_index n k → waiting_in {T = T} n (layout ro k) ≡ map Index k.waiting
+  stored_waiting n ro k g =
       let write = g.write in
       let many : k.write - k.read ≡ length k.waiting = omega arith in
       rw many
-      (stored_is n (layout pr co k) k.read k.waiting held)
+      (stored_is n (layout ro k) k.read k.waiting held)
     where
-      held : (i v : ℕ) → slice_get k.waiting i ≡ Some v → get_or (layout pr co k) (cell_word n 1 (k.read + i)) 0 ≡ v
+      held : (i v : ℕ) → slice_get k.waiting i ≡ Some v → get_or (layout ro k) (cell_word n 1 (k.read + i)) 0 ≡ v
       held i v e =
           let below = at_below 1 words_of_index n k.waiting i v e in
           let few = g.few in
           let place = cell_place n (k.read + i) (omega arith) in
-          word_at k.write k.read (free pr) (free co) k.cells (cell_word n 1 (k.read + i)) (1 * ((k.read + i) % n) + 0) place
+          word_at k.write k.read (free ro.producer) (free ro.consumer) k.cells (cell_word n 1 (k.read + i)) (1 * ((k.read + i) % n) + 0) place
           ∙ g.held i v e 0 (omega arith)
 
   listed_is : (kd : Kind) (c : ℕ) (k : Core ℕ) → Good 1 words_of_index (cells_of kd c) k → listed {T = T} kd c k.waiting ≡ take c (map Index k.waiting)
@@ -188,24 +194,48 @@ module _ {T : Type 0} where
       sym (take_all c (map {B = Item T} Index k.waiting) (omega arith))
   listed_is kinds.TheVariants.Overflow c k g = sym (take-map Index c k.waiting)
 
-  kept : (t : Trace T) → Sound t → IsKept t
-  kept t s =
+  -- ---- what is promised
+
+  queue_kept : (kd : Kind) (c : ℕ) (t : Trace T) → t.world.kind ≡ kd → t.world.capacity ≡ c → (s : frame.Sound (family kd c) t) → IsQueue t
+  queue_kept kd c t same_kind same_capacity s =
       let w = t.world in
-      let k = s.0 in
-      let inv = s.2 in
+      let k = s.state.core in
+      let is = kept_is w.kept w.words s.state s.fit in
+      let good : Good 1 words_of_index (cells_of w.kind w.capacity) k = rw (same_kind, same_capacity) s.holds.good in
       let cells = cells_of w.kind w.capacity in
-      let rest : waiting_in {T = T} cells w.words ≡ map Index k.waiting = ap (waiting_in cells) s.1 ∙ stored_waiting cells w.producer w.consumer k inv.good in
+      let rest : waiting_in {T = T} cells w.words ≡ map Index k.waiting = ap (waiting_in cells) is.1 ∙ stored_waiting cells s.state.roles k good in
       let long : length (map {B = Item T} Index k.waiting) ≡ length k.waiting = length-map k.waiting Index in
-      let few = inv.good.few in
+      let few = good.few in
+      let read : get_or w.words 1 0 ≡ k.read = ap (λ ws. get_or ws 1 0) is.1 in
+      let write : get_or w.words 0 0 ≡ k.write = ap (λ ws. get_or ws 0 0) is.1 in
+      let ahead = good.write in
+      let joined : length (published t.events) ≡ length (handed_out t.events) + length k.waiting =
+      ap length s.holds.book ∙ (length-append (handed_out t.events) (map Index k.waiting) ∙ ap (λ n. length (handed_out t.events) + n) long)
+      in
+      let out = s.holds.out in
       record {
-        spans = inv.spans;
-        moments = inv.legal;
-        list = inv.stand ∙ (listed_is w.kind w.capacity k inv.good ∙ ap (take w.capacity) (sym (waiting_is t.events (map Index k.waiting) inv.book)));
-        book = record { rest = rw rest inv.book; few = rw rest (omega arith) };
-        answers = inv.answers;
-        lengths = inv.lengths;
-        progress = λ p. progresses w.kind w.capacity w.producer w.consumer k p t.events w.changes (party_of p w.latest) (span_of p t.events) (inv.calls p) (inv.knows p);
+        list =
+            rw (same_kind, same_capacity)
+            (s.holds.stand ∙ (listed_is kd c k s.holds.good ∙ ap (take c) (sym (waiting_is t.events (map Index k.waiting) s.holds.book))));
+        moments = rw (same_kind, same_capacity) s.holds.legal;
+        book = record { read = read ∙ out; write = write ∙ (omega arith); rest = rw rest s.holds.book; few = rw rest (omega arith) };
+        answers = rw same_capacity s.holds.answers;
+        lengths = rw same_capacity s.holds.lengths;
+        roles = s.holds.grants;
       }
 
-  pub reached_kept : (t : Trace T) → t.world.capacity < 2 ^ 32 → IsReached t → IsKept t
-  reached_kept t fits r = kept t (reached_sound t fits r)
+  promised : (kind : Kind) (t : Trace T) → IsQueue t → Promised kind t
+  promised IndexQueue t h = h
+  promised kinds.TheVariants.Overflow t h = h
+
+  pub kept : (t : Trace T) → frame.Sound (family t.world.kind t.world.capacity) t → IsKept t
+  kept t s =
+      let w = t.world in
+      record {
+        spans = s.inv.spans;
+        progress = λ p. frame.progresses (family w.kind w.capacity) (bounds w.kind w.capacity) s.state p t.events w.changes (party_of p w.latest) (span_of p t.events) (s.inv.calls p) (s.inv.knows p);
+        promised = promised w.kind t (queue_kept w.kind w.capacity t refl refl s);
+      }
+
+  pub reached_kept : (t : Trace T) → IsReached t → IsKept t
+  reached_kept t r = kept t (reached_sound t r)

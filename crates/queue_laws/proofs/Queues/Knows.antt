@@ -5,26 +5,24 @@ use Rattle.steps.specs.declared.queues.lengths.LenStage.{LenStage}
 use Rattle.steps.specs.declared.queues.lengths.LenStage as lens
 use Rattle.steps.specs.declared.routine.Running.{Running}
 use Rattle.steps.specs.Queues.Lengths.{number_waiting}
-use Rattle.model.specs.declared.call.RoleCall.{RoleCall}
-use Rattle.model.specs.declared.call.RoleCall.TheVariants.{Acquire, Release}
-use Rattle.model.specs.declared.call.RingCall as rings
-use Rattle.model.specs.declared.call.OverflowCall as overflows
-use Rattle.model.specs.declared.call.LengthOf.{LengthOf}
-use Rattle.model.specs.declared.call.LengthOf as measures
-use Rattle.model.specs.declared.call.Flight.{Flight}
-use Rattle.model.specs.declared.call.Flight.TheVariants.{Role, Indices, Overflow, Length}
+use Rattle.model.specs.declared.families.queues.calls.RoleCall.{RoleCall}
+use Rattle.model.specs.declared.families.queues.calls.RoleCall.TheVariants.{Acquire, Release}
+use Rattle.model.specs.declared.families.queues.calls.RingCall as rings
+use Rattle.model.specs.declared.families.queues.calls.OverflowCall as overflows
+use Rattle.model.specs.declared.families.queues.calls.LengthOf.{LengthOf}
+use Rattle.model.specs.declared.families.queues.calls.LengthOf as measures
+use Rattle.model.specs.declared.families.queues.calls.QueueFlight.{QueueFlight}
+use Rattle.model.specs.declared.families.queues.calls.QueueFlight.TheVariants.{Role, Indices, Overflow, Length}
 use Rattle.model.specs.declared.event.Item.{Item}
 use Rattle.model.specs.declared.event.Item.TheVariants.{Index}
-use Rattle.model.specs.declared.event.Start.{Start}
-use Rattle.model.specs.declared.event.Start as starts
-use Rattle.model.specs.declared.event.Start.TheVariants.{AcquireProducer, ReleaseProducer, AcquireConsumer, ReleaseConsumer, IsEmpty, IsFull}
+use Rattle.model.specs.declared.families.queues.QueueStart.{QueueStart}
+use Rattle.model.specs.declared.families.queues.QueueStart as starts
+use Rattle.model.specs.declared.families.queues.QueueStart.TheVariants.{AcquireProducer, ReleaseProducer, AcquireConsumer, ReleaseConsumer, IsEmpty, IsFull}
 use Rattle.model.specs.declared.event.Event.{Event}
-use Rattle.model.specs.declared.party.Doing.{Doing}
-use Rattle.model.specs.declared.party.Doing.TheVariants.{Going, Over}
-use Rattle.model.specs.declared.party.Party.{Party}
+use Rattle.model.specs.declared.families.queues.Roles.{Roles}
 use Rattle.model.specs.declared.turn.Kind.{Kind}
 use Rattle.model.specs.declared.turn.Kind as kinds
-use Rattle.model.specs.Reading.{waiting}
+use Rattle.model.specs.Families.Queues.Reading.{waiting}
 use Rattle.model.specs.Moments.{BeginsNone, HeldOnce}
 use Rattle.model.proofs.Moments.{held_later}
 use Rattle.queue_laws.proofs.Queues.Core.{Core}
@@ -38,21 +36,21 @@ abbrev pub free : Option ℕ → ℕ
 free None = 1
 free (Some p) = 0
 
-abbrev pub layout : Option ℕ → Option ℕ → Core ℕ → List ℕ
-layout producer consumer k = k.write ∷ k.read ∷ free producer ∷ free consumer ∷ k.cells
+abbrev pub layout : Roles → Core ℕ → List ℕ
+layout ro k = k.write ∷ k.read ∷ free ro.producer ∷ free ro.consumer ∷ k.cells
 
 -- a length call by its stage
 abbrev pub len_at : ℕ → LenStage → Running Len (Unit {0}) (Unit {0})
 len_at c stage = record { call = record { capacity = c; stage = stage }; given = tt; room = tt }
 
--- How many steps the call has taken at most, having turned back so often. Which of a length call's loads turned it back is not kept.
+-- How many steps the call has taken at most, having turned back so often. Which of a length call's loads after_turn it back is not kept.
 abbrev pub len_number : LenStage → ℕ
 len_number lens.TheVariants.LoadsWrite = 0
 len_number (lens.TheVariants.LoadsRead write) = 1
 len_number (lens.TheVariants.LoadsWriteAgain write read) = 2
 len_number (lens.TheVariants.LoadsReadAgain write read) = 3
 
-abbrev pub number_of : Flight → ℕ → ℕ
+abbrev pub number_of : QueueFlight → ℕ → ℕ
 number_of (Role call) backs = 0
 number_of (Indices (rings.TheVariants.Push run)) backs = push_number run.call.stage
 number_of (Indices (rings.TheVariants.Pop run)) backs = pop_number run.call.stage
@@ -84,7 +82,7 @@ module _ {T : Type 0} where
 
   -- ---- what a call under way has written since its begin
 
-  abbrev pub has_written : ℕ → Core ℕ → ℕ → Flight → List (Event T)
+  abbrev pub has_written : ℕ → Core ℕ → ℕ → QueueFlight → List (Event T)
   has_written c k p (Role call) = []
   has_written c k p (Indices call) = []
   has_written c k p (Overflow (overflows.TheVariants.Push run)) = overflow_wrote c k p run.given run.call.stage
@@ -108,7 +106,7 @@ module _ {T : Type 0} where
       IsPaid k since changes backs write read × Waited c p events write read
 
   -- what a call under way knows of the events and the counts: one without a loop has not turned back
-  abbrev pub KnowsFlight : ℕ → Core ℕ → ℕ → List (Event T) → ℕ → ℕ → ℕ → Flight → Type 0
+  abbrev pub KnowsFlight : ℕ → Core ℕ → ℕ → List (Event T) → ℕ → ℕ → ℕ → QueueFlight → Type 0
   KnowsFlight c k p events since changes backs (Role call) = backs ≡ 0
   KnowsFlight c k p events since changes backs (Indices call) = backs ≡ 0
   KnowsFlight c k p events since changes backs (Overflow (overflows.TheVariants.Push call)) = backs ≡ 0
@@ -116,14 +114,6 @@ module _ {T : Type 0} where
       KnowsBacks k since changes backs run.call.stage
   KnowsFlight c k p events since changes backs (Length which run) =
       KnowsLen c k p events since changes backs run.call.stage
-
-  abbrev pub KnowsDoing : ℕ → Core ℕ → ℕ → List (Event T) → ℕ → ℕ → Doing → Type 0
-  KnowsDoing c k p events changes backs (Going flight since) = KnowsFlight c k p events since changes backs flight
-  KnowsDoing c k p events changes backs (Over others) = backs ≤ others
-
-  abbrev pub Knows : ℕ → Core ℕ → ℕ → List (Event T) → ℕ → Option (Party T) → Type 0
-  Knows c k p events changes None = Unit {0}
-  Knows c k p events changes (Some x) = KnowsDoing c k p events changes x.backs x.doing
 
   -- a turn of another party keeps it
   module _ (c : ℕ) (k k' : Core ℕ) (p : ℕ) (events es : List (Event T)) (changes changes' : ℕ) (up : GoesUp k k' changes changes') (none : BeginsNone p es) where
@@ -161,38 +151,30 @@ module _ {T : Type 0} where
     len_keeps since backs (lens.TheVariants.LoadsReadAgain write read) h =
         (paid_keeps since backs write read h.0, held_later p (λ part. length (waiting part) ≡ number_waiting c write read) events es none h.1)
 
-    flight_keeps : (since backs : ℕ) (flight : Flight) → KnowsFlight c k p events since changes backs flight → KnowsFlight c k' p (events ++ es) since changes' backs flight
+    pub flight_keeps : (since backs : ℕ) (flight : QueueFlight) → KnowsFlight c k p events since changes backs flight → KnowsFlight c k' p (events ++ es) since changes' backs flight
     flight_keeps since backs (Role call) h = h
     flight_keeps since backs (Indices call) h = h
     flight_keeps since backs (Overflow (overflows.TheVariants.Push call)) h = h
     flight_keeps since backs (Overflow (overflows.TheVariants.Pop run)) h = backs_keep k k' changes changes' up since backs run.call.stage h
     flight_keeps since backs (Length which run) h = len_keeps since backs run.call.stage h
 
-    doing_keeps : (backs : ℕ) (doing : Doing) → KnowsDoing c k p events changes backs doing → KnowsDoing c k' p (events ++ es) changes' backs doing
-    doing_keeps backs (Going flight since) h = flight_keeps since backs flight h
-    doing_keeps backs (Over others) h = h
-
-    pub knows_keeps : (o : Option (Party T)) → Knows c k p events changes o → Knows c k' p (events ++ es) changes' o
-    knows_keeps None h = tt
-    knows_keeps (Some x) h = doing_keeps x.backs x.doing h
-
   -- ---- where a call under way stands
 
-  abbrev pub RoleAt : Option ℕ → Option ℕ → ℕ → Start T → RoleCall → Type 0
-  RoleAt pr co p AcquireProducer (Acquire run) = run.call.word ≡ 2
-  RoleAt pr co p ReleaseProducer (Release run) = (run.call.word ≡ 2) × (pr ≡ Some p)
-  RoleAt pr co p AcquireConsumer (Acquire run) = run.call.word ≡ 3
-  RoleAt pr co p ReleaseConsumer (Release run) = (run.call.word ≡ 3) × (co ≡ Some p)
-  RoleAt pr co p start call = ⊥
+  abbrev pub RoleAt : Roles → ℕ → QueueStart T → RoleCall → Type 0
+  RoleAt ro p AcquireProducer (Acquire run) = run.call.word ≡ 2
+  RoleAt ro p ReleaseProducer (Release run) = (run.call.word ≡ 2) × (ro.producer ≡ Some p)
+  RoleAt ro p AcquireConsumer (Acquire run) = run.call.word ≡ 3
+  RoleAt ro p ReleaseConsumer (Release run) = (run.call.word ≡ 3) × (ro.consumer ≡ Some p)
+  RoleAt ro p start call = ⊥
 
-  abbrev pub LengthAt : ℕ → Start T → LengthOf → ℕ → Type 0
+  abbrev pub LengthAt : ℕ → QueueStart T → LengthOf → ℕ → Type 0
   LengthAt c starts.TheVariants.Len measures.TheVariants.Len capacity = capacity ≡ c
   LengthAt c IsEmpty measures.TheVariants.IsEmpty capacity = capacity ≡ c
   LengthAt c IsFull measures.TheVariants.IsFull capacity = capacity ≡ c
   LengthAt c start which capacity = ⊥
 
-  abbrev pub At : Kind → ℕ → Option ℕ → Option ℕ → Core ℕ → ℕ → Start T → Flight → Type 0
-  At kd c pr co k p start (Role call) = RoleAt pr co p start call
-  At kd c pr co k p start (Indices call) = If kd (RingAt c pr co k p start call) ⊥
-  At kd c pr co k p start (Overflow call) = If kd ⊥ (OverflowAt c pr co k p start call)
-  At kd c pr co k p start (Length which run) = LengthAt c start which run.call.capacity
+  abbrev pub At : Kind → ℕ → Roles → Core ℕ → ℕ → QueueStart T → QueueFlight → Type 0
+  At kd c ro k p start (Role call) = RoleAt ro p start call
+  At kd c ro k p start (Indices call) = If kd (RingAt c ro k p start call) ⊥
+  At kd c ro k p start (Overflow call) = If kd ⊥ (OverflowAt c ro k p start call)
+  At kd c ro k p start (Length which run) = LengthAt c start which run.call.capacity

@@ -4,9 +4,10 @@ use Rattle.std.proofs.lemmas.Bool.{cases_eq}
 use Rattle.model.specs.declared.party.Party.{Party}
 use Rattle.model.specs.declared.turn.Kind.{Kind}
 use Rattle.model.specs.declared.turn.Kind as kinds
-use Rattle.model.specs.World.{party_of, put, doing_of, flight_of, cells_of}
-use Rattle.model.specs.Calls.{words_of_index}
-use Rattle.model.specs.Effects.{pending_at, pending}
+use Rattle.model.specs.Families.Queues.Calls.{words_of_index}
+use Rattle.model.specs.Families.Queues.Opening.{cells_of}
+use Rattle.model.specs.Families.Queues.Steps.{pending_at, pending}
+use Rattle.model.specs.Parties.{party_of, put, doing_of, flight_of}
 use Rattle.model.proofs.Parties.{party_put_same, party_put_other}
 use Rattle.queue_laws.proofs.Queues.Core.{Core, Good}
 use Rattle.queue_laws.proofs.Queues.Knows.{Hangs}
@@ -14,24 +15,24 @@ use Rattle.queue_laws.proofs.Queues.Knows.{Hangs}
 module _ {T : Type 0} where
   -- a party whose call is no such push, before and after it moved
   pub pending_put :
-      (position : ℕ) (pr : Option ℕ) (p : ℕ) (y : Party T) (latest : List (Party T)) → y.number ≡ p → pending_at position (flight_of (Some y.doing)) ≡ None
-      → pending_at position (flight_of (doing_of (party_of p latest))) ≡ None → pending position pr (put y latest) ≡ pending position pr latest
-  pending_put position None p y latest number after before = refl
-  pending_put position (Some q) p y latest number after before = ⊎_elim mine theirs (cases_eq q y.number)
+      (position : ℕ) (pr : Option ℕ) (p : ℕ) (y : Party T) (latest : List (ℕ × Party T)) → pending_at position (flight_of (Some y.doing)) ≡ None
+      → pending_at position (flight_of (doing_of (party_of p latest))) ≡ None → pending position pr (put p y latest) ≡ pending position pr latest
+  pending_put position None p y latest after before = refl
+  pending_put position (Some q) p y latest after before = ⊎_elim mine theirs (cases_eq q p)
     where
-      mine : q ≡ y.number → pending position (Some q) (put y latest) ≡ pending position (Some q) latest
+      mine : q ≡ p → pending position (Some q) (put p y latest) ≡ pending position (Some q) latest
       mine e =
-          let here : party_of q (put y latest) ≡ Some y = ap (λ n. party_of n (put y latest)) e ∙ party_put_same y latest in
-          let none : pending_at position (flight_of (doing_of (party_of q (put y latest)))) ≡ None = ap (λ o. pending_at position (flight_of (doing_of o))) here ∙ after in
-          let was : pending_at position (flight_of (doing_of (party_of q latest))) ≡ None = ap (λ n. pending_at position (flight_of (doing_of (party_of n latest)))) (e ∙ number) ∙ before in
+          let here : party_of q (put p y latest) ≡ Some y = ap (λ n. party_of n (put p y latest)) e ∙ party_put_same p y latest in
+          let none : pending_at position (flight_of (doing_of (party_of q (put p y latest)))) ≡ None = ap (λ o. pending_at position (flight_of (doing_of o))) here ∙ after in
+          let was : pending_at position (flight_of (doing_of (party_of q latest))) ≡ None = ap (λ n. pending_at position (flight_of (doing_of (party_of n latest)))) e ∙ before in
           ap (option_map (λ (v : ℕ). (q, v))) (none ∙ sym was)
 
-      theirs : q ≢ y.number → pending position (Some q) (put y latest) ≡ pending position (Some q) latest
-      theirs ne = ap (λ o. option_map (λ (v : ℕ). (q, v)) (pending_at position (flight_of (doing_of o)))) (party_put_other q y latest ne)
+      theirs : q ≢ p → pending position (Some q) (put p y latest) ≡ pending position (Some q) latest
+      theirs ne = ap (λ o. option_map (λ (v : ℕ). (q, v)) (pending_at position (flight_of (doing_of o)))) (party_put_other q p y latest ne)
 
   -- the party that has moved holds the role
-  pub pending_here : (position : ℕ) (y : Party T) (latest : List (Party T)) → pending position (Some y.number) (put y latest) ≡ option_map (λ v. (y.number, v)) (pending_at position (flight_of (Some y.doing)))
-  pending_here position y latest = ap (λ o. option_map (λ (v : ℕ). (y.number, v)) (pending_at position (flight_of (doing_of o)))) (party_put_same y latest)
+  pub pending_here : (position p : ℕ) (y : Party T) (latest : List (ℕ × Party T)) → pending position (Some p) (put p y latest) ≡ option_map (λ v. (p, v)) (pending_at position (flight_of (Some y.doing)))
+  pending_here position p y latest = ap (λ o. option_map (λ (v : ℕ). (p, v)) (pending_at position (flight_of (doing_of o)))) (party_put_same p y latest)
 
 pub hangs_same : (kd : Kind) (c : ℕ) (k k' : Core ℕ) (o o' : Option (ℕ × ℕ)) → k'.waiting ≡ k.waiting → o' ≡ o → Hangs kd c k o → Hangs kd c k' o'
 hangs_same kinds.TheVariants.IndexQueue c k k' o o' same e h = tt

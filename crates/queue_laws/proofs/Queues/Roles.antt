@@ -1,95 +1,136 @@
 -- What the steps of the calls on roles show. A role's word is 1 while the role is free.
-use Rattle.std.proofs.Common.{◌≡◌, ℕ, ◌-◌, ◌^◌, ◌<◌, ◌≤◌, ◌++◌, true, false, Option, Some, None, option_map, List, map, refl, ap, arith}
+use Rattle.std.proofs.Common.{◌≡◌, ℕ, ◌-◌, ◌^◌, ◌<◌, ◌≤◌, true, false, Option, Some, None, option_map, refl, ap, subst, sym, ◌∙◌, arith}
+use Rattle.steps.specs.declared.ask.Ask.{Ask}
 use Rattle.steps.specs.declared.ask.Op.TheVariants.{Store, Exchange}
-use Rattle.model.specs.declared.event.Item.TheVariants.{Index}
-use Rattle.model.specs.declared.event.Start.TheVariants.{AcquireProducer, ReleaseProducer, AcquireConsumer, ReleaseConsumer}
+use Rattle.steps.specs.declared.ask.After.TheVariants.{Done}
 use Rattle.model.specs.declared.event.Answer.{Answer}
 use Rattle.model.specs.declared.event.Answer as answers
-use Rattle.model.specs.declared.event.Event.{Event}
-use Rattle.steps.specs.declared.ask.After.TheVariants.{Done}
-use Rattle.model.specs.declared.party.Party.{Party}
+use Rattle.model.specs.declared.families.queues.QueueStart.TheVariants.{AcquireProducer, ReleaseProducer, AcquireConsumer, ReleaseConsumer}
 use Rattle.model.specs.declared.turn.Kind.{Kind}
-use Rattle.model.specs.World.{party_of, put, doing_of, flight_of, cells_of}
-use Rattle.model.specs.Effects.{pending_at, pending}
-use Rattle.model.specs.Calls.{acquire_of, release_of, words_of_index}
-use Rattle.model.specs.Reading.{published, handed_out}
-use Rattle.queue_laws.proofs.Queues.Core.{Core, Good}
+use Rattle.model.specs.Families.Queues.Calls.{acquire_of, release_of, producer_word, consumer_word}
+use Rattle.model.specs.Families.Queues.Steps.{pending}
+use Rattle.model.specs.Parties.{put}
+use Rattle.queue_laws.proofs.Queues.Core.{Core}
+use Rattle.queue_laws.proofs.Queues.Invariant.{Scene, Inv}
 use Rattle.queue_laws.proofs.Queues.Keeping.{clash, kept, keeps_same}
-use Rattle.queue_laws.proofs.Queues.Stages.{party_after, StepOf, still_hangs, ends}
-use Rattle.queue_laws.proofs.Queues.Knows.{Hangs}
 use Rattle.queue_laws.proofs.Queues.Pending.{pending_here, few_wait, none_hangs}
+use Rattle.queue_laws.proofs.Queues.Stages.{IsCalm, party_then, StepOf, still_hangs, ends}
 
-module _ {T : Type 0} (kd : Kind) (c : ℕ) (k : Core ℕ) (p steps backs since changes : ℕ) (latest : List (Party T)) (events : List (Event T)) (turns : ℕ) (g : Good 1 words_of_index (cells_of kd c) k) (before : pending_at k.read (flight_of (doing_of (party_of p latest))) ≡ None) (book : published events ≡ handed_out events ++ map Index k.waiting) (reached : k.write ≤ turns) (small : turns < 2 ^ 64 - 2) (s : steps ≤ 0) (b : backs ≡ 0) where
-  pub acquire_producer : (pr co : Option ℕ) → Hangs kd c k (pending k.read pr latest) → StepOf kd c pr co k p steps backs since changes latest events turns AcquireProducer (acquire_of 2)
-  acquire_producer None co hangs = (
+abbrev takes : ℕ → Option Ask
+takes word = Some (record { word = word; op = Exchange 1 0 })
+
+abbrev gives : ℕ → Option Ask
+gives word = Some (record { word = word; op = Store 1 })
+
+-- the scene with other holders of the roles
+abbrev with_roles : {T : Type 0} → Scene T → Option ℕ → Option ℕ → Scene T
+with_roles scene pr co = record scene { roles = record { producer = pr; consumer = co } }
+
+module _ {T : Type 0} (kd : Kind) (scene : Scene T) (small : scene.turns < 2 ^ 64 - 2) (s : scene.steps ≤ 0) (b : scene.backs ≡ 0) where
+  abbrev c : ℕ
+  c = scene.capacity
+
+  abbrev k : Core ℕ
+  k = scene.core
+
+  abbrev IsQuiet : Option ℕ → Option ℕ → Type 0
+  IsQuiet pr co = IsCalm kd (with_roles scene pr co) k.read
+
+  acquire_producer : (pr co : Option ℕ) → Inv kd (with_roles scene pr co) → IsQuiet pr co → StepOf kd (with_roles scene pr co) AcquireProducer (acquire_of producer_word)
+  acquire_producer None co inv before = (
     k,
     refl,
-    ends kd c None co k p steps backs since changes latest events turns g hangs book reached small (Some p) co 0 AcquireProducer (answers.TheVariants.Truth true) (Some (record { word = 2; op = Exchange 1 0 }))
+    ends kd (with_roles scene None co) inv small (record { producer = Some scene.party; consumer = co }) 0 AcquireProducer (answers.TheVariants.Truth true) (takes producer_word)
         (record { moments = refl; published = refl; handed_out = refl })
         tt
+        inv.queue.producers
+        (refl, refl)
         (omega arith)
         (omega arith)
-        (none_hangs kd c k (pending k.read (Some p) (put (party_after kd c None co k p steps backs since changes latest events turns AcquireProducer (Some (record { word = 2; op = Exchange 1 0 })) 0 (Done (answers.TheVariants.Truth true))) latest)) (pending_here k.read (party_after kd c None co k p steps backs since changes latest events turns AcquireProducer (Some (record { word = 2; op = Exchange 1 0 })) 0 (Done (answers.TheVariants.Truth true))) latest) (few_wait kd c k (pending k.read None latest) refl g hangs))
-        (λ q ne. kept c None co (Some p) co k k q (λ h. cc) (λ h. h) kd (keeps_same T kd c None co k q)),
+        (none_hangs kd c k (pending k.read (Some scene.party) (put scene.party (party_then kd (with_roles scene None co) AcquireProducer (takes producer_word) 0 (Done (answers.TheVariants.Truth true))) scene.latest)) (pending_here k.read scene.party (party_then kd (with_roles scene None co) AcquireProducer (takes producer_word) 0 (Done (answers.TheVariants.Truth true))) scene.latest) (few_wait kd c k (pending k.read None scene.latest) refl inv.queue.good inv.queue.hangs))
+        (λ q ne. kept c (record { producer = None; consumer = co }) (record { producer = Some scene.party; consumer = co }) k k q (λ h. cc) (λ h. h) kd (keeps_same T kd c (record { producer = None; consumer = co }) k q)),
   )
-  acquire_producer (Some r) co hangs = (
+  acquire_producer (Some r) co inv before = (
     k,
     refl,
-    ends kd c (Some r) co k p steps backs since changes latest events turns g hangs book reached small (Some r) co 0 AcquireProducer (answers.TheVariants.Truth false) (Some (record { word = 2; op = Exchange 1 0 }))
+    ends kd (with_roles scene (Some r) co) inv small (record { producer = Some r; consumer = co }) 0 AcquireProducer (answers.TheVariants.Truth false) (takes producer_word)
         (record { moments = refl; published = refl; handed_out = refl })
         tt
+        (rw inv.queue.producers refl)
+        (refl, refl)
         (omega arith)
         (omega arith)
-        (still_hangs kd c (Some r) co k p steps backs since changes latest events turns g hangs book reached small k (party_after kd c (Some r) co k p steps backs since changes latest events turns AcquireProducer (Some (record { word = 2; op = Exchange 1 0 })) 0 (Done (answers.TheVariants.Truth false))) refl refl refl refl before)
+        (still_hangs kd (with_roles scene (Some r) co) inv small k (party_then kd (with_roles scene (Some r) co) AcquireProducer (takes producer_word) 0 (Done (answers.TheVariants.Truth false))) refl refl refl before)
         (λ q ne st f h. (h, refl)),
   )
 
-  pub acquire_consumer : (pr co : Option ℕ) → Hangs kd c k (pending k.read pr latest) → StepOf kd c pr co k p steps backs since changes latest events turns AcquireConsumer (acquire_of 3)
-  acquire_consumer pr None hangs = (
+  acquire_consumer : (pr co : Option ℕ) → Inv kd (with_roles scene pr co) → IsQuiet pr co → StepOf kd (with_roles scene pr co) AcquireConsumer (acquire_of consumer_word)
+  acquire_consumer pr None inv before = (
     k,
     refl,
-    ends kd c pr None k p steps backs since changes latest events turns g hangs book reached small pr (Some p) 0 AcquireConsumer (answers.TheVariants.Truth true) (Some (record { word = 3; op = Exchange 1 0 }))
+    ends kd (with_roles scene pr None) inv small (record { producer = pr; consumer = Some scene.party }) 0 AcquireConsumer (answers.TheVariants.Truth true) (takes consumer_word)
         (record { moments = refl; published = refl; handed_out = refl })
         tt
+        inv.queue.consumers
+        (refl, refl)
         (omega arith)
         (omega arith)
-        (still_hangs kd c pr None k p steps backs since changes latest events turns g hangs book reached small k (party_after kd c pr None k p steps backs since changes latest events turns AcquireConsumer (Some (record { word = 3; op = Exchange 1 0 })) 0 (Done (answers.TheVariants.Truth true))) refl refl refl refl before)
-        (λ q ne. kept c pr None pr (Some p) k k q (λ h. h) (λ h. cc) kd (keeps_same T kd c pr None k q)),
+        (still_hangs kd (with_roles scene pr None) inv small k (party_then kd (with_roles scene pr None) AcquireConsumer (takes consumer_word) 0 (Done (answers.TheVariants.Truth true))) refl refl refl before)
+        (λ q ne. kept c (record { producer = pr; consumer = None }) (record { producer = pr; consumer = Some scene.party }) k k q (λ h. h) (λ h. cc) kd (keeps_same T kd c (record { producer = pr; consumer = None }) k q)),
   )
-  acquire_consumer pr (Some r) hangs = (
+  acquire_consumer pr (Some r) inv before = (
     k,
     refl,
-    ends kd c pr (Some r) k p steps backs since changes latest events turns g hangs book reached small pr (Some r) 0 AcquireConsumer (answers.TheVariants.Truth false) (Some (record { word = 3; op = Exchange 1 0 }))
+    ends kd (with_roles scene pr (Some r)) inv small (record { producer = pr; consumer = Some r }) 0 AcquireConsumer (answers.TheVariants.Truth false) (takes consumer_word)
         (record { moments = refl; published = refl; handed_out = refl })
         tt
+        (rw inv.queue.consumers refl)
+        (refl, refl)
         (omega arith)
         (omega arith)
-        (still_hangs kd c pr (Some r) k p steps backs since changes latest events turns g hangs book reached small k (party_after kd c pr (Some r) k p steps backs since changes latest events turns AcquireConsumer (Some (record { word = 3; op = Exchange 1 0 })) 0 (Done (answers.TheVariants.Truth false))) refl refl refl refl before)
+        (still_hangs kd (with_roles scene pr (Some r)) inv small k (party_then kd (with_roles scene pr (Some r)) AcquireConsumer (takes consumer_word) 0 (Done (answers.TheVariants.Truth false))) refl refl refl before)
         (λ q ne st f h. (h, refl)),
   )
 
-  pub release_producer : (co : Option ℕ) → Hangs kd c k (pending k.read (Some p) latest) → StepOf kd c (Some p) co k p steps backs since changes latest events turns ReleaseProducer (release_of 2)
-  release_producer co hangs = (
+  release_producer : (pr co : Option ℕ) → pr ≡ Some scene.party → Inv kd (with_roles scene pr co) → IsQuiet pr co → StepOf kd (with_roles scene pr co) ReleaseProducer (release_of producer_word)
+  release_producer pr co holds inv before = (
     k,
     refl,
-    ends kd c (Some p) co k p steps backs since changes latest events turns g hangs book reached small None co 0 ReleaseProducer answers.TheVariants.Done (Some (record { word = 2; op = Store 1 }))
+    ends kd (with_roles scene pr co) inv small (record { producer = None; consumer = co }) 0 ReleaseProducer answers.TheVariants.Done (gives producer_word)
         (record { moments = refl; published = refl; handed_out = refl })
         tt
+        (inv.queue.producers ∙ holds)
+        (refl, refl)
         (omega arith)
         (omega arith)
-        (none_hangs kd c k None refl (few_wait kd c k (pending k.read (Some p) latest) (ap (option_map (λ (v : ℕ). (p, v))) before) g hangs))
-        (λ q ne. kept c (Some p) co None co k k q (λ h. absurd (clash (Some p) p q ne refl h)) (λ h. h) kd (keeps_same T kd c (Some p) co k q)),
+        (none_hangs kd c k None refl (few_wait kd c k (pending k.read pr scene.latest) (subst (λ o. pending k.read o scene.latest ≡ None) (sym holds) (ap (option_map (λ (v : ℕ). (scene.party, v))) before)) inv.queue.good inv.queue.hangs))
+        (λ q ne. kept c (record { producer = pr; consumer = co }) (record { producer = None; consumer = co }) k k q (λ h. absurd (clash pr scene.party q ne holds h)) (λ h. h) kd (keeps_same T kd c (record { producer = pr; consumer = co }) k q)),
   )
 
-  pub release_consumer : (pr : Option ℕ) → Hangs kd c k (pending k.read pr latest) → StepOf kd c pr (Some p) k p steps backs since changes latest events turns ReleaseConsumer (release_of 3)
-  release_consumer pr hangs = (
+  release_consumer : (pr co : Option ℕ) → co ≡ Some scene.party → Inv kd (with_roles scene pr co) → IsQuiet pr co → StepOf kd (with_roles scene pr co) ReleaseConsumer (release_of consumer_word)
+  release_consumer pr co holds inv before = (
     k,
     refl,
-    ends kd c pr (Some p) k p steps backs since changes latest events turns g hangs book reached small pr None 0 ReleaseConsumer answers.TheVariants.Done (Some (record { word = 3; op = Store 1 }))
+    ends kd (with_roles scene pr co) inv small (record { producer = pr; consumer = None }) 0 ReleaseConsumer answers.TheVariants.Done (gives consumer_word)
         (record { moments = refl; published = refl; handed_out = refl })
         tt
+        (inv.queue.consumers ∙ holds)
+        (refl, refl)
         (omega arith)
         (omega arith)
-        (still_hangs kd c pr (Some p) k p steps backs since changes latest events turns g hangs book reached small k (party_after kd c pr (Some p) k p steps backs since changes latest events turns ReleaseConsumer (Some (record { word = 3; op = Store 1 })) 0 (Done answers.TheVariants.Done)) refl refl refl refl before)
-        (λ q ne. kept c pr (Some p) pr None k k q (λ h. h) (λ h. absurd (clash (Some p) p q ne refl h)) kd (keeps_same T kd c pr (Some p) k q)),
+        (still_hangs kd (with_roles scene pr co) inv small k (party_then kd (with_roles scene pr co) ReleaseConsumer (gives consumer_word) 0 (Done answers.TheVariants.Done)) refl refl refl before)
+        (λ q ne. kept c (record { producer = pr; consumer = co }) (record { producer = pr; consumer = None }) k k q (λ h. h) (λ h. absurd (clash co scene.party q ne holds h)) kd (keeps_same T kd c (record { producer = pr; consumer = co }) k q)),
   )
+
+  -- with the holders as they are
+  pub acquires_producer : Inv kd scene → IsCalm kd scene k.read → StepOf kd scene AcquireProducer (acquire_of producer_word)
+  acquires_producer inv before = acquire_producer scene.roles.producer scene.roles.consumer inv before
+
+  pub acquires_consumer : Inv kd scene → IsCalm kd scene k.read → StepOf kd scene AcquireConsumer (acquire_of consumer_word)
+  acquires_consumer inv before = acquire_consumer scene.roles.producer scene.roles.consumer inv before
+
+  pub releases_producer : scene.roles.producer ≡ Some scene.party → Inv kd scene → IsCalm kd scene k.read → StepOf kd scene ReleaseProducer (release_of producer_word)
+  releases_producer holds inv before = release_producer scene.roles.producer scene.roles.consumer holds inv before
+
+  pub releases_consumer : scene.roles.consumer ≡ Some scene.party → Inv kd scene → IsCalm kd scene k.read → StepOf kd scene ReleaseConsumer (release_of consumer_word)
+  releases_consumer holds inv before = release_consumer scene.roles.producer scene.roles.consumer holds inv before

@@ -1,61 +1,69 @@
--- Every turn that is taken keeps the invariant of a queue's machine.
-use Rattle.std.proofs.Common.{◌≡◌, ℕ, ◌+◌, ◌-◌, ◌^◌, ◌<◌, ◌≤◌, ◌==◌, Bool, true, false, not, cond, Option, Some, None, List, [], ◌∷◌, ◌++◌, get_or, map, replicate, refl, sym, ap, subst, ◌∙◌, append-nil, arith}
+-- Every turn keeps what holds of a queue's machine: the laws of the family.
+use Rattle.std.proofs.Common.{◌≡◌, ℕ, ◌+◌, ◌-◌, ◌^◌, ◌<◌, ◌≤◌, ◌==◌, nat_lt, Bool, true, false, not, cond, Option, Some, None, option_map, List, [], ◌∷◌, ◌++◌, map, replicate, refl, sym, ap, subst, ◌∙◌, append-nil, arith}
 use Rattle.std.proofs.lemmas.Bool.Decides.{nat_tests}
 use Rattle.std.proofs.lemmas.List.{length-replicate}
 use Rattle.std.proofs.Math.Seq.{take-nil}
+use Rattle.steps.specs.declared.ask.Ask.{Ask}
 use Rattle.steps.specs.declared.copied.OneWord.{OneWord}
 use Rattle.steps.specs.declared.queues.overflow.PushStage as overflow_pushes
 use Rattle.steps.specs.declared.queues.overflow.PopStage as overflow_pops
 use Rattle.steps.specs.declared.queues.lengths.Len.{Len}
 use Rattle.steps.specs.declared.routine.Running.{Running}
-use Rattle.model.specs.declared.call.RoleCall.{RoleCall}
-use Rattle.model.specs.declared.call.RoleCall.TheVariants.{Acquire, Release}
-use Rattle.model.specs.declared.call.RingCall as rings
-use Rattle.model.specs.declared.call.OverflowCall as overflows
-use Rattle.model.specs.declared.call.LengthOf.{LengthOf}
-use Rattle.model.specs.declared.call.LengthOf as measures
-use Rattle.model.specs.declared.call.Flight.{Flight}
-use Rattle.model.specs.declared.call.Flight.TheVariants.{Role, Indices, Overflow, Length}
-use Rattle.model.specs.declared.event.Item.TheVariants.{Index, Value}
-use Rattle.model.specs.declared.event.Start.{Start}
-use Rattle.model.specs.declared.event.Start.TheVariants.{AcquireProducer, ReleaseProducer, AcquireConsumer, ReleaseConsumer, Push, Pop, IsEmpty, IsFull}
-use Rattle.model.specs.declared.event.Start as starts
 use Rattle.model.specs.declared.event.Event.{Event}
 use Rattle.model.specs.declared.event.Event.TheVariants.{Begun}
-use Rattle.model.specs.declared.party.Doing.{Doing}
-use Rattle.model.specs.declared.party.Doing.TheVariants.{Going, Over}
+use Rattle.model.specs.declared.event.Item.TheVariants.{Index}
+use Rattle.model.specs.declared.event.Start.{Start}
+use Rattle.model.specs.declared.event.Start.TheVariants.{Queues}
+use Rattle.model.specs.declared.families.Flight.{Flight}
+use Rattle.model.specs.declared.families.Flight as flights
+use Rattle.model.specs.declared.families.Kept.{Kept}
+use Rattle.model.specs.declared.families.Kept as kepts
+use Rattle.model.specs.declared.families.queues.QueueStart.{QueueStart}
+use Rattle.model.specs.declared.families.queues.QueueStart as starts
+use Rattle.model.specs.declared.families.queues.QueueStart.TheVariants.{AcquireProducer, ReleaseProducer, AcquireConsumer, ReleaseConsumer, PushIndex, Push, Pop, IsEmpty, IsFull}
+use Rattle.model.specs.declared.families.queues.Roles.{Roles}
+use Rattle.model.specs.declared.families.queues.calls.RoleCall.{RoleCall}
+use Rattle.model.specs.declared.families.queues.calls.RoleCall.TheVariants.{Acquire, Release}
+use Rattle.model.specs.declared.families.queues.calls.RingCall as rings
+use Rattle.model.specs.declared.families.queues.calls.OverflowCall as overflows
+use Rattle.model.specs.declared.families.queues.calls.LengthOf.{LengthOf}
+use Rattle.model.specs.declared.families.queues.calls.LengthOf as measures
+use Rattle.model.specs.declared.families.queues.calls.QueueFlight.{QueueFlight}
+use Rattle.model.specs.declared.families.queues.calls.QueueFlight.TheVariants.{Role, Indices, Overflow, Length}
+use Rattle.model.specs.declared.party.Doing.TheVariants.{Going}
 use Rattle.model.specs.declared.party.Party.{Party}
 use Rattle.model.specs.declared.turn.Kind.{Kind}
 use Rattle.model.specs.declared.turn.Kind.TheVariants.{IndexQueue}
 use Rattle.model.specs.declared.turn.Kind as kinds
-use Rattle.model.specs.declared.turn.Turn.{Turn}
-use Rattle.model.specs.declared.turn.Turn.TheVariants.{Begin, Next, Decide, Die}
-use Rattle.model.specs.World.{World, Trace, cells_of, opening, party_of, put, doing_of, flight_of, flight_in}
-use Rattle.model.specs.Calls.{acquire_of, release_of, fresh, push_of, pop_of, length_of, first_of, want_of, ask_of, after_of, back_of, answer_in}
-use Rattle.model.specs.Effects.{pending_at, pending, effect_of, told_after}
-use Rattle.model.specs.Refusals.{refusal_of, holds, is_due, lacks_role}
-use Rattle.model.specs.Turns.{old_of, change_of, steps_of, ask_in, begun, begun_party, moved, moved_party, producer_after, consumer_after, resumed, resumed_told, next_of, next_told, turned, IsReached}
-use Rattle.model.specs.Objects.{list_of}
-use Rattle.model.specs.Reading.{Span, Open, span_of}
-use Rattle.model.specs.Promises.Spans.{IsShut}
-use Rattle.model.proofs.Parties.{party_number}
+use Rattle.model.specs.declared.turn.Refusal.TheVariants.{NoRole}
+use Rattle.model.specs.Families.{first_of, call_refusal, want_of, ask_of, is_question, beside_of, step_of, opening_words, opening_kept}
+use Rattle.model.specs.Families.Queues.Calls.{acquire_of, release_of, fresh, push_of, pop_of, length_of, first}
+use Rattle.model.specs.Families.Queues.Objects.{list_of}
+use Rattle.model.specs.Families.Queues.Opening.{cells_of, holds, lacks_role}
+use Rattle.model.specs.Families.Queues.Steps.{pending_at, pending}
+use Rattle.model.specs.Parties.{party_of, put, doing_of, flight_of}
+use Rattle.model.specs.Reading.{Open, span_of}
+use Rattle.model.specs.Turns.{old_of, words_after, change_of, step_count, doing_after, party_at_begin, events_of_step, IsReached}
+use Rattle.steps.specs.declared.enums.UniqueIndexCreationError.{UniqueIndexCreationError}
+use Rattle.steps.specs.declared.enums.UniqueIndexCreationError.TheVariants.{ProvidedCapacityGreaterThanMaxCapacity}
+use Rattle.model.specs.World.{Trace, opening, capacity_error}
+use Rattle.model.proofs.Frame as frame
 use Rattle.model.proofs.Readings.{Each-nil}
-use Rattle.model.proofs.Reached.{kept_by_runs}
-use Rattle.model.proofs.Rows.{must_be_due, never_dies, may_begin, may_next, MayBegin, MayGoOn}
-use Rattle.queue_laws.proofs.Queues.Core.{Core}
-use Rattle.queue_laws.proofs.Ring.Knows.{push_at, pop_at, RingAt}
+use Rattle.model.proofs.Rows.{row_passed, MayBegin}
 use Rattle.queue_laws.proofs.Overflow.Knows.{overflow_push_at, overflow_pop_at, OverflowAt}
-use Rattle.queue_laws.proofs.Queues.Knows.{layout, len_at, listed, has_written, Hangs, KnowsLen, KnowsFlight, KnowsDoing, Knows, number_of, RoleAt, LengthAt, At}
-use Rattle.queue_laws.proofs.Queues.Invariant.{IsUnderWay, FitsDoing, Fits, Inv, Shows, owes, advance}
-use Rattle.queue_laws.proofs.Queues.Pending.{pending_put, hangs_same, none_hangs}
-use Rattle.queue_laws.proofs.Queues.Stages.{StepOf, MovesOf, of_step}
-use Rattle.queue_laws.proofs.Ring.Pushes.{push_step}
-use Rattle.queue_laws.proofs.Ring.Pops.{pop_step}
-use Rattle.queue_laws.proofs.Overflow.Pushes.{overflow_push_step}
 use Rattle.queue_laws.proofs.Overflow.Pops.{overflow_pop_step}
+use Rattle.queue_laws.proofs.Overflow.Pushes.{overflow_push_step}
+use Rattle.queue_laws.proofs.Queues.Asks.{never_asks}
+use Rattle.queue_laws.proofs.Queues.Core.{Core}
+use Rattle.queue_laws.proofs.Queues.Invariant.{Queue, Fit, Scene, Inv, Shows, family, holds_more, owes, queue_part}
+use Rattle.queue_laws.proofs.Queues.Knows.{layout, len_at, listed, has_written, KnowsLen, KnowsFlight, number_of, RoleAt, LengthAt, At}
 use Rattle.queue_laws.proofs.Queues.Lengths.{len_step, is_empty_step, is_full_step}
-use Rattle.queue_laws.proofs.Queues.Roles.{acquire_producer, acquire_consumer, release_producer, release_consumer}
-use Rattle.queue_laws.proofs.Queues.Asks.{never_due}
+use Rattle.queue_laws.proofs.Queues.Pending.{pending_put, hangs_same, none_hangs}
+use Rattle.queue_laws.proofs.Queues.Roles.{acquires_producer, acquires_consumer, releases_producer, releases_consumer}
+use Rattle.queue_laws.proofs.Queues.Stages.{IsCalm, StepOf, MovesOf, of_step}
+use Rattle.queue_laws.proofs.Ring.Knows.{push_at, pop_at, RingAt}
+use Rattle.queue_laws.proofs.Ring.Pops.{pop_step}
+use Rattle.queue_laws.proofs.Ring.Pushes.{push_step}
 
 holds_is : (o : Option ℕ) (p : ℕ) → not (holds o p) ≡ false → o ≡ Some p
 holds_is None p e = absurd (cc)
@@ -65,331 +73,326 @@ holds_is (Some q) p e = go (q == p) refl e
     go true t e = let same : q ≡ p = grind (arith, nat_tests) in ap Some same
     go false t e = absurd (cc)
 
-module _ {T : Type 0} where
-  -- the words hold a queue, and everything else fits it
-  abbrev pub Sound : Trace T → Type 0
-  Sound t =
-      (k : Core ℕ) × (t.world.words ≡ layout t.world.producer t.world.consumer k)
-      × Inv t.world.kind t.world.capacity t.world.producer t.world.consumer k t.world.latest t.events t.world.changes t.world.turns
+pub kept_is : (kept : Kept) (words : List ℕ) (s : Queue) → Fit kept words s → (kept ≡ kepts.TheVariants.Queues s.roles) × (words ≡ layout s.roles s.core)
+kept_is (kepts.TheVariants.Queues ro) words s fit = (ap (λ r. kepts.TheVariants.Queues r) fit.1, fit.0)
 
-  -- ---- one step of a call
+-- ---- one step of a call
 
-  abbrev MovesFrom : ℕ → Option ℕ → Option ℕ → Core ℕ → ℕ → ℕ → ℕ → ℕ → ℕ → List (Party T) → List (Event T) → ℕ → Start T → overflows.OverflowCall → Type 0
-  MovesFrom c pr co k p steps backs since changes latest events turns start call =
-      flight_of (doing_of (party_of p latest)) ≡ Some (Overflow call) → span_of p events ≡ Open start (has_written c k p (Overflow call)) → MovesOf kinds.TheVariants.Overflow c pr co k p steps backs since changes latest events turns start (Overflow call)
+module _ {T : Type 0} (scene : Scene T) (small : scene.turns < 2 ^ 64 - 2) where
+  -- where the party's call stands
+  abbrev IsCall : QueueStart T → QueueFlight → Type 0
+  IsCall start flight =
+      (flight_of (doing_of (party_of scene.party scene.latest)) ≡ Some (flights.TheVariants.Queues flight))
+      × (span_of scene.party scene.events ≡ Open (Queues start) (has_written scene.capacity scene.core scene.party flight))
 
-  module _ (c : ℕ) (k : Core ℕ) (p steps backs since changes : ℕ) (latest : List (Party T)) (events : List (Event T)) (turns : ℕ) (small : turns < 2 ^ 64 - 2) where
-    role_step :
-        (kd : Kind) (pr co : Option ℕ) → Inv kd c pr co k latest events changes turns → (start : Start T) (call : RoleCall) → RoleAt pr co p start call → steps ≤ 0 → backs ≡ 0
-        → pending_at k.read (flight_of (doing_of (party_of p latest))) ≡ None → StepOf kd c pr co k p steps backs since changes latest events turns start (Role call)
-    role_step kd pr co inv AcquireProducer (Acquire run) at s b before =
-        subst (λ w. StepOf kd c pr co k p steps backs since changes latest events turns AcquireProducer (acquire_of w)) (sym at)
-        (acquire_producer kd c k p steps backs since changes latest events turns inv.good before inv.book inv.turned small s b pr co inv.hangs)
-    role_step kd pr co inv ReleaseProducer (Release run) at s b before =
-        subst (λ o. Hangs kd c k (pending k.read o latest) → StepOf kd c o co k p steps backs since changes latest events turns ReleaseProducer (Role (Release run))) (sym at.1)
-        (λ hangs. subst (λ w. StepOf kd c (Some p) co k p steps backs since changes latest events turns ReleaseProducer (release_of w)) (sym at.0)
-        (release_producer kd c k p steps backs since changes latest events turns inv.good before inv.book inv.turned small s b co hangs))
-        inv.hangs
-    role_step kd pr co inv AcquireConsumer (Acquire run) at s b before =
-        subst (λ w. StepOf kd c pr co k p steps backs since changes latest events turns AcquireConsumer (acquire_of w)) (sym at)
-        (acquire_consumer kd c k p steps backs since changes latest events turns inv.good before inv.book inv.turned small s b pr co inv.hangs)
-    role_step kd pr co inv ReleaseConsumer (Release run) at s b before =
-        subst (λ o. StepOf kd c pr o k p steps backs since changes latest events turns ReleaseConsumer (Role (Release run))) (sym at.1)
-        (subst (λ w. StepOf kd c pr (Some p) k p steps backs since changes latest events turns ReleaseConsumer (release_of w)) (sym at.0)
-        (release_consumer kd c k p steps backs since changes latest events turns inv.good before inv.book inv.turned small s b pr inv.hangs))
-    role_step kd pr co inv start call at s b before = absurd at
+  module _ (kd : Kind) (inv : Inv kd scene) where
+    role_step : (start : QueueStart T) (call : RoleCall) → RoleAt scene.roles scene.party start call → scene.steps ≤ 0 → scene.backs ≡ 0 → IsCalm kd scene scene.core.read → StepOf kd scene start (Role call)
+    role_step AcquireProducer (Acquire run) at s b before =
+        subst (λ w. StepOf kd scene AcquireProducer (acquire_of w)) (sym at) (acquires_producer kd scene small s b inv before)
+    role_step ReleaseProducer (Release run) at s b before =
+        subst (λ w. StepOf kd scene ReleaseProducer (release_of w)) (sym at.0) (releases_producer kd scene small s b at.1 inv before)
+    role_step AcquireConsumer (Acquire run) at s b before =
+        subst (λ w. StepOf kd scene AcquireConsumer (acquire_of w)) (sym at) (acquires_consumer kd scene small s b inv before)
+    role_step ReleaseConsumer (Release run) at s b before =
+        subst (λ w. StepOf kd scene ReleaseConsumer (release_of w)) (sym at.0) (releases_consumer kd scene small s b at.1 inv before)
+    role_step start call at s b before = absurd at
 
-    ring_step :
-        (pr co : Option ℕ) → Inv IndexQueue c pr co k latest events changes turns → (start : Start T) (call : rings.RingCall ℕ OneWord) → RingAt c pr co k p start call → steps ≤ number_of (Indices call) backs → backs ≡ 0
-        → pending_at k.read (flight_of (doing_of (party_of p latest))) ≡ None → StepOf IndexQueue c pr co k p steps backs since changes latest events turns start (Indices call)
-    ring_step pr co inv (Push (Index v)) (rings.TheVariants.Push run) at s b before =
-        subst (λ n. StepOf IndexQueue c pr co k p steps backs since changes latest events turns (Push (Index v)) (Indices (push_at n run.given run.call.stage))) (sym at.1)
-        (subst (λ n. StepOf IndexQueue c pr co k p steps backs since changes latest events turns (Push (Index v)) (Indices (push_at c n run.call.stage))) (sym at.2)
-        (push_step c pr co k p steps backs since changes latest events turns inv.fits inv.good before inv.book inv.turned small v run.call.stage at.3 at.0 s b))
-    ring_step pr co inv Pop (rings.TheVariants.Pop run) at s b before =
-        subst (λ n. StepOf IndexQueue c pr co k p steps backs since changes latest events turns Pop (Indices (pop_at n run.room run.call.stage))) (sym at.1)
-        (pop_step c pr co k p steps backs since changes latest events turns run.room inv.fits inv.good before inv.book inv.turned small run.call.stage at.2 at.0 s b)
-    ring_step pr co inv start call at s b before = absurd at
+    length_step : (start : QueueStart T) (which : LengthOf) (run : Running Len (Unit {0}) (Unit {0})) → LengthAt scene.capacity start which run.call.capacity → scene.steps ≤ number_of (Length which run) scene.backs
+        → KnowsLen scene.capacity scene.core scene.party scene.events scene.since scene.changes scene.backs run.call.stage → IsCalm kd scene scene.core.read → StepOf kd scene start (Length which run)
+    length_step starts.TheVariants.Len measures.TheVariants.Len run at s b before =
+        subst (λ n. StepOf kd scene starts.TheVariants.Len (Length measures.TheVariants.Len (len_at n run.call.stage))) (sym at) (len_step kd scene inv small before run.call.stage s b)
+    length_step IsEmpty measures.TheVariants.IsEmpty run at s b before =
+        subst (λ n. StepOf kd scene IsEmpty (Length measures.TheVariants.IsEmpty (len_at n run.call.stage))) (sym at) (is_empty_step kd scene inv small before run.call.stage s b)
+    length_step IsFull measures.TheVariants.IsFull run at s b before =
+        subst (λ n. StepOf kd scene IsFull (Length measures.TheVariants.IsFull (len_at n run.call.stage))) (sym at) (is_full_step kd scene inv small before run.call.stage s b)
+    length_step start which call at s b before = absurd at
 
-    length_step :
-        (kd : Kind) (pr co : Option ℕ) → Inv kd c pr co k latest events changes turns → (start : Start T) (which : LengthOf) (run : Running Len (Unit {0}) (Unit {0})) → LengthAt c start which run.call.capacity → steps ≤ number_of (Length which run) backs
-        → KnowsLen c k p events since changes backs run.call.stage → pending_at k.read (flight_of (doing_of (party_of p latest))) ≡ None → StepOf kd c pr co k p steps backs since changes latest events turns start (Length which run)
-    length_step kd pr co inv starts.TheVariants.Len measures.TheVariants.Len run at s b before =
-        subst (λ n. StepOf kd c pr co k p steps backs since changes latest events turns starts.TheVariants.Len (Length measures.TheVariants.Len (len_at n run.call.stage))) (sym at)
-        (len_step kd c pr co k p steps backs since changes latest events turns inv.good inv.hangs before inv.book inv.turned small run.call.stage s b)
-    length_step kd pr co inv IsEmpty measures.TheVariants.IsEmpty run at s b before =
-        subst (λ n. StepOf kd c pr co k p steps backs since changes latest events turns IsEmpty (Length measures.TheVariants.IsEmpty (len_at n run.call.stage))) (sym at)
-        (is_empty_step kd c pr co k p steps backs since changes latest events turns inv.good inv.hangs before inv.book inv.turned small run.call.stage s b)
-    length_step kd pr co inv IsFull measures.TheVariants.IsFull run at s b before =
-        subst (λ n. StepOf kd c pr co k p steps backs since changes latest events turns IsFull (Length measures.TheVariants.IsFull (len_at n run.call.stage))) (sym at)
-        (is_full_step kd c pr co k p steps backs since changes latest events turns inv.good inv.hangs before inv.book inv.turned small run.call.stage s b)
-    length_step kd pr co inv start which call at s b before = absurd at
+  ring_step : Inv IndexQueue scene → (start : QueueStart T) (call : rings.RingCall ℕ OneWord) → RingAt scene.capacity scene.roles scene.core scene.party start call → scene.steps ≤ number_of (Indices call) scene.backs → scene.backs ≡ 0
+      → IsCalm IndexQueue scene scene.core.read → StepOf IndexQueue scene start (Indices call)
+  ring_step inv (PushIndex v) (rings.TheVariants.Push run) at s b before =
+      subst (λ n. StepOf IndexQueue scene (PushIndex v) (Indices (push_at n run.given run.call.stage))) (sym at.1)
+      (subst (λ n. StepOf IndexQueue scene (PushIndex v) (Indices (push_at scene.capacity n run.call.stage))) (sym at.2) (push_step scene inv small before v run.call.stage at.3 at.0 s b))
+  ring_step inv Pop (rings.TheVariants.Pop run) at s b before =
+      subst (λ n. StepOf IndexQueue scene Pop (Indices (pop_at n run.room run.call.stage))) (sym at.1) (pop_step scene inv small before run.room run.call.stage at.2 at.0 s b)
+  ring_step inv start call at s b before = absurd at
 
-    overflow_step :
-        (pr co : Option ℕ) → Inv kinds.TheVariants.Overflow c pr co k latest events changes turns → (start : Start T) (call : overflows.OverflowCall) → OverflowAt c pr co k p start call → steps ≤ number_of (Overflow call) backs
-        → KnowsFlight c k p events since changes backs (Overflow call) → flight_of (doing_of (party_of p latest)) ≡ Some (Overflow call) → span_of p events ≡ Open start (has_written c k p (Overflow call))
-        → MovesOf kinds.TheVariants.Overflow c pr co k p steps backs since changes latest events turns start (Overflow call)
-    overflow_step pr co inv (Push (Index v)) (overflows.TheVariants.Push run) at s b found seen =
-        subst (λ n. MovesFrom c pr co k p steps backs since changes latest events turns (Push (Index v)) (overflow_push_at n run.given run.room run.call.stage)) (sym at.1)
-        (subst (λ n. MovesFrom c pr co k p steps backs since changes latest events turns (Push (Index v)) (overflow_push_at c n run.room run.call.stage)) (sym at.2)
-        (λ found seen. overflow_push_step c pr co k p steps backs since changes latest events turns inv small v run.room at.0 b run.call.stage at.3 s found seen))
-        found
-        seen
-    overflow_step pr co inv Pop (overflows.TheVariants.Pop run) at s b found seen =
-        subst (λ n. MovesFrom c pr co k p steps backs since changes latest events turns Pop (overflow_pop_at n run.room run.call.stage)) (sym at.1)
-        (λ found seen. overflow_pop_step c pr co k p steps backs since changes latest events turns inv small at.0 run.room run.call.stage at.2 s b found seen)
-        found
-        seen
-    overflow_step pr co inv start call at s b found seen = absurd at
+  abbrev MovesFrom : QueueStart T → overflows.OverflowCall → Type 0
+  MovesFrom start call = IsCall start (Overflow call) → MovesOf kinds.TheVariants.Overflow scene start (Overflow call)
 
-    pub step_of :
-        (kd : Kind) (pr co : Option ℕ) → Inv kd c pr co k latest events changes turns → (start : Start T) (flight : Flight) → At kd c pr co k p start flight → steps ≤ number_of flight backs
-        → KnowsFlight c k p events since changes backs flight → flight_of (doing_of (party_of p latest)) ≡ Some flight → span_of p events ≡ Open start (has_written c k p flight)
-        → MovesOf kd c pr co k p steps backs since changes latest events turns start flight
-    step_of kd pr co inv start (Role call) at s b found seen =
-        of_step kd c pr co k p steps backs since changes latest events turns inv start (Role call) seen
-        (role_step kd pr co inv start call at s b (ap (pending_at k.read) found))
-    step_of IndexQueue pr co inv start (Indices call) at s b found seen =
-        of_step IndexQueue c pr co k p steps backs since changes latest events turns inv start (Indices call) seen
-        (ring_step pr co inv start call at s b (ap (pending_at k.read) found))
-    step_of kinds.TheVariants.Overflow pr co inv start (Indices call) at s b found seen = absurd at
-    step_of IndexQueue pr co inv start (Overflow call) at s b found seen = absurd at
-    step_of kinds.TheVariants.Overflow pr co inv start (Overflow call) at s b found seen = overflow_step pr co inv start call at s b found seen
-    step_of kd pr co inv start (Length which call) at s b found seen =
-        of_step kd c pr co k p steps backs since changes latest events turns inv start (Length which call) seen
-        (length_step kd pr co inv start which call at s b (ap (pending_at k.read) found))
+  overflow_step : Inv kinds.TheVariants.Overflow scene → (start : QueueStart T) (call : overflows.OverflowCall) → OverflowAt scene.capacity scene.roles scene.core scene.party start call → scene.steps ≤ number_of (Overflow call) scene.backs
+      → KnowsFlight scene.capacity scene.core scene.party scene.events scene.since scene.changes scene.backs (Overflow call) → MovesFrom start call
+  overflow_step inv (PushIndex v) (overflows.TheVariants.Push run) at s b is =
+      subst (λ n. MovesFrom (PushIndex v) (overflow_push_at n run.given run.room run.call.stage)) (sym at.1)
+      (subst (λ n. MovesFrom (PushIndex v) (overflow_push_at scene.capacity n run.room run.call.stage)) (sym at.2)
+      (λ is. overflow_push_step scene inv small v run.room at.0 b run.call.stage at.3 s is.0 is.1))
+      is
+  overflow_step inv Pop (overflows.TheVariants.Pop run) at s b is =
+      subst (λ n. MovesFrom Pop (overflow_pop_at n run.room run.call.stage)) (sym at.1) (λ is. overflow_pop_step scene inv small run.room at.0 run.call.stage at.2 s b is.0 is.1) is
+  overflow_step inv start call at s b is = absurd at
 
-  -- ---- a call goes on
+  pub step_moves : (kd : Kind) → Inv kd scene → (start : QueueStart T) (flight : QueueFlight) → At kd scene.capacity scene.roles scene.core scene.party start flight → scene.steps ≤ number_of flight scene.backs
+      → KnowsFlight scene.capacity scene.core scene.party scene.events scene.since scene.changes scene.backs flight → IsCall start flight → MovesOf kd scene start flight
+  step_moves kd inv start (Role call) at s b is =
+      of_step kd scene inv start (Role call) is.1 (role_step kd inv start call at s b (ap (pending_at scene.core.read) is.0))
+  step_moves IndexQueue inv start (Indices call) at s b is =
+      of_step IndexQueue scene inv start (Indices call) is.1 (ring_step inv start call at s b (ap (pending_at scene.core.read) is.0))
+  step_moves kinds.TheVariants.Overflow inv start (Indices call) at s b is = absurd at
+  step_moves IndexQueue inv start (Overflow call) at s b is = absurd at
+  step_moves kinds.TheVariants.Overflow inv start (Overflow call) at s b is = overflow_step inv start call at s b is
+  step_moves kd inv start (Length which call) at s b is =
+      of_step kd scene inv start (Length which call) is.1 (length_step kd inv start which call at s b (ap (pending_at scene.core.read) is.0))
 
-  pub under_way :
-      (kd : Kind) (c : ℕ) (pr co : Option ℕ) (k : Core ℕ) (p : ℕ) (x : Party T) (doing : Doing) (flight : Flight) (since : ℕ) (seen : Span T)
-      → doing ≡ Going flight since → FitsDoing kd c pr co k p x doing seen → IsUnderWay kd c pr co k p x flight seen
-  under_way kd c pr co k p x doing flight since seen e h = subst (λ d. FitsDoing kd c pr co k p x d seen) e h
+-- ---- what the first stage of a call knows; it has written nothing
 
-  pub knows_now : (c : ℕ) (k : Core ℕ) (p : ℕ) (events : List (Event T)) (changes : ℕ) (o : Option (Party T)) (x : Party T) (flight : Flight) (since : ℕ)
-      → o ≡ Some x → x.doing ≡ Going flight since → Knows c k p events changes o → KnowsFlight c k p events since changes x.backs flight
-  knows_now c k p events changes o x flight since found doing h =
-      subst (KnowsDoing c k p events changes x.backs) doing (subst (Knows c k p events changes) found h)
+record IsFirst {T : Type 0} (kd : Kind) (c : ℕ) (ro : Roles) (k : Core ℕ) (p : ℕ) (events : List (Event T)) (changes : ℕ) (start : QueueStart T) (flight : QueueFlight) : Type 0 where
+  pub at : At kd c ro k p start flight
+  pub knows : KnowsFlight c k p events changes changes 0 flight
+  pub calm : pending_at k.read (Some (flights.TheVariants.Queues flight)) ≡ None
+  pub wrote : has_written {T = T} c k p flight ≡ []
 
-  -- what the step of a party's call owes, in a machine that is sound
-  pub step_in : (t : Trace T) (x : Party T) (flight : Flight) (since : ℕ) → party_of x.number t.world.latest ≡ Some x → x.doing ≡ Going flight since → t.world.turns < 2 ^ 64 - 2 → (s : Sound t)
-      → MovesOf t.world.kind t.world.capacity t.world.producer t.world.consumer s.0 x.number x.steps x.backs since t.world.changes t.world.latest t.events t.world.turns x.start flight
-  step_in t x flight since found doing small s =
-      let w = t.world in
-      let k = s.0 in
-      let inv = s.2 in
-      let fits = subst (λ o. Fits w.kind w.capacity w.producer w.consumer k x.number o (span_of x.number t.events)) found (inv.calls x.number) in
-      let here = under_way w.kind w.capacity w.producer w.consumer k x.number x x.doing flight since (span_of x.number t.events) doing fits in
-      let knows = knows_now w.capacity k x.number t.events w.changes (party_of x.number w.latest) x flight since found doing (inv.knows x.number) in
-      let goes : flight_of (doing_of (party_of x.number w.latest)) ≡ Some flight = ap (λ o. flight_of (doing_of o)) found ∙ ap (λ d. flight_of (Some d)) doing in
-      step_of w.capacity k x.number x.steps x.backs since w.changes w.latest t.events w.turns small w.kind w.producer w.consumer inv x.start flight here.at here.steps knows goes here.span
+module _ {T : Type 0} (c : ℕ) (ro : Roles) (k : Core ℕ) (p : ℕ) (events : List (Event T)) (changes : ℕ) where
+  first_push_is : (kd : Kind) (v : ℕ) → ro.producer ≡ Some p → IsFirst kd c ro k p events changes (PushIndex v) (push_of kd c v)
+  first_push_is IndexQueue v holds = record { at = (holds, refl, refl, tt); knows = refl; calm = refl; wrote = refl }
+  first_push_is kinds.TheVariants.Overflow v holds = go (c == 0) refl
+    where
+      first_call : Bool → QueueFlight
+      first_call b = Overflow (overflow_push_at c v fresh (cond b overflow_pushes.TheVariants.HandsBack overflow_pushes.TheVariants.LoadsWrite))
 
-  -- what the machine is after a call went on, where it had these words
-  abbrev AfterMove : Trace T → Party T → Flight → ℕ → List ℕ → Type 0
-  AfterMove t x flight since words =
-      Sound
+      go : (b : Bool) → (c == 0) ≡ b → IsFirst kinds.TheVariants.Overflow c ro k p events changes (PushIndex v) (first_call b)
+      go true e = let none : c ≡ 0 = grind (arith, nat_tests) in record { at = (holds, refl, refl, none); knows = refl; calm = refl; wrote = refl }
+      go false e = let some : 0 < c = grind (arith, nat_tests) in record { at = (holds, refl, refl, some); knows = refl; calm = refl; wrote = refl }
+
+  first_pop_is : (kd : Kind) → ro.consumer ≡ Some p → IsFirst kd c ro k p events changes Pop (pop_of kd c)
+  first_pop_is IndexQueue holds = record { at = (holds, refl, tt); knows = refl; calm = refl; wrote = refl }
+  first_pop_is kinds.TheVariants.Overflow holds = go (c == 0) refl
+    where
+      first_call : Bool → QueueFlight
+      first_call b = Overflow (overflow_pop_at c fresh (cond b overflow_pops.TheVariants.FindsNone overflow_pops.TheVariants.LoadsRead))
+
+      go : (b : Bool) → (c == 0) ≡ b → IsFirst kinds.TheVariants.Overflow c ro k p events changes Pop (first_call b)
+      go true e = let none : c ≡ 0 = grind (arith, nat_tests) in record { at = (holds, refl, none); knows = omega arith; calm = refl; wrote = refl }
+      go false e = let some : 0 < c = grind (arith, nat_tests) in record { at = (holds, refl, some); knows = omega arith; calm = refl; wrote = refl }
+
+  abbrev First : Kind → QueueStart T → QueueFlight → Type 0
+  First kd start flight = IsFirst kd c ro k p events changes start flight
+
+  first_is : (kd : Kind) (start : QueueStart T) (flight : QueueFlight) → first kd c start ≡ Some flight → lacks_role ro p start ≡ false → First kd start flight
+  first_is kd AcquireProducer flight e r =
+      let same : acquire_of 2 ≡ flight = cc in
+      subst (λ f. First kd AcquireProducer f) same (record { at = refl; knows = refl; calm = refl; wrote = refl })
+  first_is kd ReleaseProducer flight e r =
+      let same : release_of 2 ≡ flight = cc in
+      subst (λ f. First kd ReleaseProducer f) same (record { at = (refl, holds_is ro.producer p r); knows = refl; calm = refl; wrote = refl })
+  first_is kd AcquireConsumer flight e r =
+      let same : acquire_of 3 ≡ flight = cc in
+      subst (λ f. First kd AcquireConsumer f) same (record { at = refl; knows = refl; calm = refl; wrote = refl })
+  first_is kd ReleaseConsumer flight e r =
+      let same : release_of 3 ≡ flight = cc in
+      subst (λ f. First kd ReleaseConsumer f) same (record { at = (refl, holds_is ro.consumer p r); knows = refl; calm = refl; wrote = refl })
+  first_is kd (PushIndex v) flight e r =
+      let same : push_of kd c v ≡ flight = cc in
+      subst (λ f. First kd (PushIndex v) f) same (first_push_is kd v (holds_is ro.producer p r))
+  first_is kd (Push v) flight e r = absurd (cc)
+  first_is kd Pop flight e r =
+      let same : pop_of kd c ≡ flight = cc in
+      subst (λ f. First kd Pop f) same (first_pop_is kd (holds_is ro.consumer p r))
+  first_is kd starts.TheVariants.Len flight e r =
+      let same : length_of measures.TheVariants.Len c ≡ flight = cc in
+      subst (λ f. First kd starts.TheVariants.Len f) same (record { at = refl; knows = (omega arith); calm = refl; wrote = refl })
+  first_is kd IsEmpty flight e r =
+      let same : length_of measures.TheVariants.IsEmpty c ≡ flight = cc in
+      subst (λ f. First kd IsEmpty f) same (record { at = refl; knows = (omega arith); calm = refl; wrote = refl })
+  first_is kd IsFull flight e r =
+      let same : length_of measures.TheVariants.IsFull c ≡ flight = cc in
+      subst (λ f. First kd IsFull f) same (record { at = refl; knows = (omega arith); calm = refl; wrote = refl })
+
+-- ---- the laws of the family
+
+some_mapped : (o : Option QueueFlight) (flight : QueueFlight) → option_map flights.TheVariants.Queues o ≡ Some (flights.TheVariants.Queues flight) → o ≡ Some flight
+some_mapped None flight e = absurd (cc)
+some_mapped (Some f) flight e =
+    let both : flights.TheVariants.Queues f ≡ flights.TheVariants.Queues flight = cc in
+    let same : f ≡ flight = cc in
+    ap Some same
+
+module _ {T : Type 0} (kd : Kind) (c : ℕ) (t : Trace T) (s : frame.Sound (family kd c) t) (small : t.world.turns < 2 ^ 64 - 2) (p : ℕ) where
+  abbrev pub scene_of : Party T → ℕ → Scene T
+  scene_of x since =
       record {
-        world =
-            moved
-            record {
-              kind = t.world.kind;
-              capacity = t.world.capacity;
-              parties = t.world.parties;
-              words = words;
-              producer = t.world.producer;
-              consumer = t.world.consumer;
-              latest = t.world.latest;
-              changes = t.world.changes;
-              turns = t.world.turns;
-            }
-            x since (ask_of (want_of flight)) (back_of flight (old_of words (ask_of (want_of flight)))) (after_of flight (old_of words (ask_of (want_of flight))));
-        events = t.events ++ told_after x.number x.start (effect_of words (pending (get_or words 1 0) t.world.producer t.world.latest) flight (old_of words (ask_of (want_of flight)))) (answer_in (after_of flight (old_of words (ask_of (want_of flight)))));
+        capacity = c;
+        roles = s.state.roles;
+        core = s.state.core;
+        party = p;
+        steps = x.steps;
+        backs = x.backs;
+        since = since;
+        changes = t.world.changes;
+        latest = t.world.latest;
+        events = t.events;
+        turns = t.world.turns;
       }
 
-  moved_sound : (t : Trace T) (x : Party T) (flight : Flight) (since : ℕ) → party_of x.number t.world.latest ≡ Some x → x.doing ≡ Going flight since → t.world.turns < 2 ^ 64 - 2 → Sound t → AfterMove t x flight since t.world.words
-  moved_sound t x flight since found doing small s =
-      let w = t.world in
-      let k = s.0 in
-      let inv = s.2 in
-      let step = step_in t x flight since found doing small s in
-      let old = old_of (layout w.producer w.consumer k) (ask_of (want_of flight)) in
-      let after = after_of {T = T} flight old in
-      let change = change_of (layout w.producer w.consumer k) (ask_of (want_of flight)) in
-      let y = moved_party x since w.changes (steps_of (ask_of (want_of flight))) change (back_of flight old) after in
-      let next =
-      advance w.kind w.capacity w.producer w.consumer (producer_after x.number x.start (answer_in after) w.producer) (consumer_after x.number x.start (answer_in after) w.consumer) k step.0 y w.latest t.events (told_after x.number x.start (effect_of (layout w.producer w.consumer k) (pending k.read w.producer w.latest) flight old) (answer_in after)) w.changes (w.changes + change) w.turns
-      inv
-      step.2
-      in
-      subst (AfterMove t x flight since) (sym s.1) (step.0, step.1, next)
+  pub inv_of : (x : Party T) (since : ℕ) → Inv kd (scene_of x since)
+  inv_of x since = record { queue = s.holds; frame = s.inv }
 
-  next_sound : (t : Trace T) (p : ℕ) → MayGoOn t.world p → Sound t → (o : Option (Party T)) → party_of p t.world.latest ≡ o → Sound record { world = next_of t.world o; events = t.events ++ next_told t.world o }
-  next_sound t p may s None e = subst (λ es. Sound record { world = t.world; events = es }) (sym (append-nil t.events)) s
-  next_sound t p may s (Some x) e = go x.doing refl
-    where
-      found : party_of x.number t.world.latest ≡ Some x
-      found = subst (λ n. party_of n t.world.latest ≡ Some x) (sym (party_number p t.world.latest x e)) e
+  module _ (x : Party T) (since : ℕ) where
+    abbrev asks : Flight → Option Ask
+    asks flight = ask_of (want_of flight)
 
-      go : (doing : Doing) → x.doing ≡ doing → Sound record { world = resumed t.world x (ask_in doing) (old_of t.world.words (ask_in doing)) doing; events = t.events ++ resumed_told t.world x (old_of t.world.words (ask_in doing)) doing }
-      go (Over others) d = subst (λ es. Sound record { world = t.world; events = es }) (sym (append-nil t.events)) s
-      go (Going flight since) d = moved_sound t x flight since found d may.turns s
+    -- what its step comes to where the words, what is kept, and the call's name are these
+    abbrev ComesTo : List ℕ → Kept → Start T → Flight → Type 0
+    ComesTo words kept start flight =
+        frame.Comes (family kd c) t p (step_of words (beside_of words kept t.world.latest p) p start flight (old_of words (asks flight)) kept).kept (words_after words (asks flight))
+        (record {
+          start = start;
+          steps = x.steps + step_count (asks flight);
+          backs = x.backs + (step_of words (beside_of words kept t.world.latest p) p start flight (old_of words (asks flight)) kept).back;
+          doing = doing_after (t.world.changes + change_of words (asks flight)) (since + change_of words (asks flight)) (step_of words (beside_of words kept t.world.latest p) p start flight (old_of words (asks flight)) kept).after;
+        })
+        (events_of_step p start (step_of words (beside_of words kept t.world.latest p) p start flight (old_of words (asks flight)) kept))
+        (t.world.changes + change_of words (asks flight))
+
+    comes : (start : Start T) (flight : Flight) → (family kd c).At s.state p start flight → x.steps ≤ (family {T = T} kd c).number flight x.backs → (family kd c).Knows s.state p t.events since t.world.changes x.backs flight
+        → flight_of (doing_of (party_of p t.world.latest)) ≡ Some flight → span_of p t.events ≡ Open start ((family kd c).written s.state p flight) → ComesTo (layout s.state.roles s.state.core) (kepts.TheVariants.Queues s.state.roles) start flight
+    comes (Queues start) (flights.TheVariants.Queues flight) at steps knows found seen =
+        let moves = step_moves (scene_of x since) small kd (inv_of x since) start flight at steps knows (found, seen) in
+        record {
+          state = record { roles = _; core = moves.0 };
+          fit = (moves.1, refl);
+          holds = holds_more kd (scene_of x since) _ moves.0 _ _ _ s.holds moves.2;
+          owes = moves.3;
+        }
+
+    pub step_comes : (flight : Flight) → party_of p t.world.latest ≡ Some x → x.doing ≡ Going flight since → frame.ComesByStep (family kd c) t p x flight since (asks flight) (old_of t.world.words (asks flight))
+    step_comes flight found doing =
+        let fits = subst (λ o. frame.Fits (family kd c) s.state p o (span_of p t.events)) found (s.inv.calls p) in
+        let here = frame.under_way (family kd c) s.state p x x.doing flight since (span_of p t.events) doing fits in
+        let knows = frame.knows_now (family kd c) s.state p t.events t.world.changes (party_of p t.world.latest) x flight since found doing (s.inv.knows p) in
+        let goes : flight_of (doing_of (party_of p t.world.latest)) ≡ Some flight = ap (λ o. flight_of (doing_of o)) found ∙ ap (λ d. flight_of (Some d)) doing in
+        let is = kept_is t.world.kept t.world.words s.state s.fit in
+        subst (λ ws. ComesTo ws t.world.kept x.start flight) (sym is.1)
+        (subst (λ kept. ComesTo (layout s.state.roles s.state.core) kept x.start flight) (sym is.0) (comes x.start flight here.at here.steps knows goes here.span))
 
   -- ---- a call begins
 
-  -- what the first stage of a call knows; it has written nothing
-  record IsFirst (kd : Kind) (c : ℕ) (pr co : Option ℕ) (k : Core ℕ) (p : ℕ) (events : List (Event T)) (changes : ℕ) (start : Start T) (flight : Flight) : Type 0 where
-    pub at : At kd c pr co k p start flight
-    pub knows : KnowsFlight c k p events changes changes 0 flight
-    pub calm : pending_at k.read (Some flight) ≡ None
-    pub wrote : has_written {T = T} c k p flight ≡ []
-
-  module _ (c : ℕ) (pr co : Option ℕ) (k : Core ℕ) (p : ℕ) (events : List (Event T)) (changes : ℕ) where
-    first_push_is : (kd : Kind) (v : ℕ) → pr ≡ Some p → IsFirst kd c pr co k p events changes (Push (Index v)) (push_of kd c v)
-    first_push_is IndexQueue v holds = record { at = (holds, refl, refl, tt); knows = refl; calm = refl; wrote = refl }
-    first_push_is kinds.TheVariants.Overflow v holds = go (c == 0) refl
-      where
-        first : Bool → Flight
-        first b = Overflow (overflow_push_at c v fresh (cond b overflow_pushes.TheVariants.HandsBack overflow_pushes.TheVariants.LoadsWrite))
-
-        go : (b : Bool) → (c == 0) ≡ b → IsFirst kinds.TheVariants.Overflow c pr co k p events changes (Push (Index v)) (first b)
-        go true e = let none : c ≡ 0 = grind (arith, nat_tests) in record { at = (holds, refl, refl, none); knows = refl; calm = refl; wrote = refl }
-        go false e = let some : 0 < c = grind (arith, nat_tests) in record { at = (holds, refl, refl, some); knows = refl; calm = refl; wrote = refl }
-
-    first_pop_is : (kd : Kind) → co ≡ Some p → IsFirst kd c pr co k p events changes Pop (pop_of kd c)
-    first_pop_is IndexQueue holds = record { at = (holds, refl, tt); knows = refl; calm = refl; wrote = refl }
-    first_pop_is kinds.TheVariants.Overflow holds = go (c == 0) refl
-      where
-        first : Bool → Flight
-        first b = Overflow (overflow_pop_at c fresh (cond b overflow_pops.TheVariants.FindsNone overflow_pops.TheVariants.LoadsRead))
-
-        go : (b : Bool) → (c == 0) ≡ b → IsFirst kinds.TheVariants.Overflow c pr co k p events changes Pop (first b)
-        go true e = let none : c ≡ 0 = grind (arith, nat_tests) in record { at = (holds, refl, none); knows = omega arith; calm = refl; wrote = refl }
-        go false e = let some : 0 < c = grind (arith, nat_tests) in record { at = (holds, refl, some); knows = omega arith; calm = refl; wrote = refl }
-
-  -- what the first stage of a call knows
-  first_is :
-      (w : World T) (k : Core ℕ) (p : ℕ) (events : List (Event T)) (start : Start T) (flight : Flight) → first_of w.kind w.capacity start ≡ Some flight → lacks_role w p start ≡ false
-      → IsFirst w.kind w.capacity w.producer w.consumer k p events w.changes start flight
-  first_is w k p events AcquireProducer flight e r =
-      let same : acquire_of 2 ≡ flight = cc in
-      subst (λ f. IsFirst w.kind w.capacity w.producer w.consumer k p events w.changes AcquireProducer f) same (record { at = refl; knows = refl; calm = refl; wrote = refl })
-  first_is w k p events ReleaseProducer flight e r =
-      let same : release_of 2 ≡ flight = cc in
-      subst (λ f. IsFirst w.kind w.capacity w.producer w.consumer k p events w.changes ReleaseProducer f) same (record { at = (refl, holds_is w.producer p r); knows = refl; calm = refl; wrote = refl })
-  first_is w k p events AcquireConsumer flight e r =
-      let same : acquire_of 3 ≡ flight = cc in
-      subst (λ f. IsFirst w.kind w.capacity w.producer w.consumer k p events w.changes AcquireConsumer f) same (record { at = refl; knows = refl; calm = refl; wrote = refl })
-  first_is w k p events ReleaseConsumer flight e r =
-      let same : release_of 3 ≡ flight = cc in
-      subst (λ f. IsFirst w.kind w.capacity w.producer w.consumer k p events w.changes ReleaseConsumer f) same (record { at = (refl, holds_is w.consumer p r); knows = refl; calm = refl; wrote = refl })
-  first_is w k p events (Push (Index v)) flight e r =
-      let same : push_of w.kind w.capacity v ≡ flight = cc in
-      subst (λ f. IsFirst w.kind w.capacity w.producer w.consumer k p events w.changes (Push (Index v)) f) same
-      (first_push_is w.capacity w.producer w.consumer k p events w.changes w.kind v (holds_is w.producer p r))
-  first_is w k p events (Push (Value v)) flight e r = absurd (cc)
-  first_is w k p events Pop flight e r =
-      let same : pop_of w.kind w.capacity ≡ flight = cc in
-      subst (λ f. IsFirst w.kind w.capacity w.producer w.consumer k p events w.changes Pop f) same
-      (first_pop_is w.capacity w.producer w.consumer k p events w.changes w.kind (holds_is w.consumer p r))
-  first_is w k p events starts.TheVariants.Len flight e r =
-      let same : length_of measures.TheVariants.Len w.capacity ≡ flight = cc in
-      subst (λ f. IsFirst w.kind w.capacity w.producer w.consumer k p events w.changes starts.TheVariants.Len f) same (record { at = refl; knows = (omega arith); calm = refl; wrote = refl })
-  first_is w k p events IsEmpty flight e r =
-      let same : length_of measures.TheVariants.IsEmpty w.capacity ≡ flight = cc in
-      subst (λ f. IsFirst w.kind w.capacity w.producer w.consumer k p events w.changes IsEmpty f) same (record { at = refl; knows = (omega arith); calm = refl; wrote = refl })
-  first_is w k p events IsFull flight e r =
-      let same : length_of measures.TheVariants.IsFull w.capacity ≡ flight = cc in
-      subst (λ f. IsFirst w.kind w.capacity w.producer w.consumer k p events w.changes IsFull f) same (record { at = refl; knows = (omega arith); calm = refl; wrote = refl })
-
-  -- a party without a call under way has a span that is shut
-  shut : (kd : Kind) (c : ℕ) (pr co : Option ℕ) (k : Core ℕ) (p : ℕ) (o : Option (Party T)) (seen : Span T) → flight_of (doing_of o) ≡ None → Fits kd c pr co k p o seen → IsShut seen
-  shut kd c pr co k p None seen e h = subst IsShut (sym h) tt
-  shut kd c pr co k p (Some x) seen e h = go x.doing e h
-    where
-      go : (doing : Doing) → flight_of (Some doing) ≡ None → FitsDoing kd c pr co k p x doing seen → IsShut seen
-      go (Going flight since) e h = absurd (cc)
-      go (Over others) e h = subst IsShut (sym h.span) tt
-
-  begin_sound : (t : Trace T) (p : ℕ) (start : Start T) → MayBegin t.world p start → Sound t → (o : Option Flight) → first_of t.world.kind t.world.capacity start ≡ o → Sound record { world = begun t.world p start o; events = t.events ++ Begun p start ∷ [] }
-  begin_sound t p start may s None e =
-      let call = rw e at may.call in
-      absurd (cc)
-  begin_sound t p start may s (Some flight) e =
-      let w = t.world in
-      let k = s.0 in
-      let inv = s.2 in
-      let first = first_is w k p (t.events ++ Begun p start ∷ []) start flight e may.role in
-      let y = begun_party p start flight w.changes in
-      let before : pending_at k.read (flight_of (doing_of (party_of p w.latest))) ≡ None = ap (pending_at k.read) may.free in
-      let low = inv.turned in
-      let shows : Shows w.kind w.capacity w.producer w.consumer w.producer w.consumer k k (span_of p t.events) y w.latest t.events (Begun p start ∷ []) w.changes w.changes w.turns =
+  begins : (start : QueueStart T) (flight : QueueFlight) → IsFirst kd c s.state.roles s.state.core p (t.events ++ Begun p (Queues start) ∷ []) t.world.changes start flight → flight_of (doing_of (party_of p t.world.latest)) ≡ None
+      → frame.Comes (family kd c) t p t.world.kept t.world.words (party_at_begin (Queues start) (flights.TheVariants.Queues flight) t.world.changes) (Begun p (Queues start) ∷ []) t.world.changes
+  begins start flight first free =
+      let y : Party T = party_at_begin (Queues start) (flights.TheVariants.Queues flight) t.world.changes in
+      let scene = scene_of y t.world.changes in
+      let k = s.state.core in
+      let pr = s.state.roles.producer in
+      let before : pending_at k.read (flight_of (doing_of (party_of p t.world.latest))) ≡ None = ap (pending_at k.read) free in
+      let low = s.holds.reached in
+      let shows : Shows kd scene s.state.roles k (span_of p t.events) y (Begun p (Queues start) ∷ []) t.world.changes =
       record {
-        own = (refl, tt);
-        stands = (shut w.kind w.capacity w.producer w.consumer k p (party_of p w.latest) (span_of p t.events) may.free (inv.calls p), tt);
         right = (tt, tt);
         lengths = (tt, tt);
-        good = inv.good;
-        hangs = hangs_same w.kind w.capacity k k (pending k.read w.producer w.latest) (pending k.read w.producer (put y w.latest)) refl (pending_put k.read w.producer p y w.latest refl first.calm before) inv.hangs;
+        grants = (tt, tt);
+        good = s.holds.good;
+        hangs = hangs_same kd c k k (pending k.read pr t.world.latest) (pending k.read pr (put p y t.world.latest)) refl (pending_put k.read pr p y t.world.latest first.calm before) s.holds.hangs;
         book = append-nil (map Index k.waiting);
+        out = omega arith;
+        producers = refl;
+        consumers = refl;
         goes = refl;
         answers = refl;
-        here = record { span = ap (λ es. Open start es) (sym first.wrote); steps = omega arith; at = first.at };
-        knows = first.knows;
         up = record { write = omega arith; read = omega arith; paid = omega arith };
+        reached = omega arith;
+        own = (refl, tt);
+        stands = (frame.shut (family kd c) s.state p (party_of p t.world.latest) (span_of p t.events) free (s.inv.calls p), tt);
+        here = record { span = ap (λ es. Open (Queues start) es) (sym first.wrote); steps = omega arith; at = first.at };
+        knows = first.knows;
         others = λ q ne st f h. (h, refl);
-        turned = omega arith;
       }
-      in (
-        k,
-        s.1,
-        advance w.kind w.capacity w.producer w.consumer w.producer w.consumer k k y w.latest t.events (Begun p start ∷ []) w.changes w.changes w.turns
-            inv
-            (owes w.kind w.capacity w.producer w.consumer w.producer w.consumer k k (span_of p t.events) y w.latest t.events (Begun p start ∷ []) w.changes w.changes w.turns refl inv shows),
-      )
+      in
+      record {
+        state = s.state;
+        fit = s.fit;
+        holds = holds_more kd scene s.state.roles k y (Begun p (Queues start) ∷ []) t.world.changes s.holds (queue_part kd scene s.state.roles k (span_of p t.events) y (Begun p (Queues start) ∷ []) t.world.changes shows);
+        owes = owes kd scene s.state.roles k (span_of p t.events) y (Begun p (Queues start) ∷ []) t.world.changes shows refl (inv_of y t.world.changes);
+      }
 
-  -- ---- every turn
+  pub begin_comes : (start : Start T) (flight : Flight) → MayBegin t.world p start → first_of t.world.kind t.world.capacity start ≡ Some flight
+      → frame.Comes (family kd c) t p t.world.kept t.world.words (party_at_begin start flight t.world.changes) (Begun p start ∷ []) t.world.changes
+  begin_comes (Queues start) (flights.TheVariants.Queues flight) may e =
+      let is = kept_is t.world.kept t.world.words s.state s.fit in
+      let rows : call_refusal (kepts.TheVariants.Queues s.state.roles) p (Queues start) ≡ None = subst (λ kept. call_refusal kept p (Queues start) ≡ None) is.0 may.rows in
+      let role = (row_passed (lacks_role s.state.roles p start) NoRole None rows).0 in
+      let named : first_of kd c (Queues start) ≡ Some (flights.TheVariants.Queues flight) = rw (s.kind, s.capacity) at e in
+      begins start flight (first_is c s.state.roles s.state.core p (t.events ++ Begun p (Queues start) ∷ []) t.world.changes kd start flight (some_mapped (first kd c start) flight named) role) may.free
 
-  pub turned_sound : (t : Trace T) (turn : Turn T) → refusal_of t.world turn ≡ None → Sound t → Sound (turned t turn)
-  turned_sound t (Begin p start) e s = begin_sound t p start (may_begin t.world p start e) s (first_of t.world.kind t.world.capacity start) refl
-  turned_sound t (Next p) e s = next_sound t p (may_next t.world p e) s (party_of p t.world.latest) refl
-  turned_sound t (Decide p said) e s =
-      let due : not (is_due (flight_in t.world p)) ≡ false = must_be_due t.world p said e in
-      let none : not (is_due (flight_in t.world p)) ≡ true = never_due (flight_in t.world p) in
-      absurd (cc)
-  turned_sound t (Die owner) e s = absurd (never_dies t.world owner e)
+asks_nothing : {A : Type 0} → (flight : Flight) → is_question (want_of flight) ≡ true → A
+asks_nothing (flights.TheVariants.Queues flight) e = let none = never_asks flight in absurd (cc)
+
+abbrev empty_queue : Kind → ℕ → Queue
+empty_queue kd c =
+    record {
+      roles = record { producer = None; consumer = None };
+      core = record { write = 0; read = 0; waiting = []; cells = replicate (cells_of kd c) 0 };
+    }
+
+opening_fits : (kd : Kind) (c : ℕ) → Fit (opening_kept kd) (opening_words kd c) (empty_queue kd c)
+opening_fits IndexQueue c = (refl, refl)
+opening_fits kinds.TheVariants.Overflow c = (refl, refl)
+
+-- an admitted capacity is a number of 32 bits
+small_enough : (c : ℕ) (b : Bool) → nat_lt (2 ^ 32 - 1) c ≡ b → (rest : Option UniqueIndexCreationError) → cond b (Some ProvidedCapacityGreaterThanMaxCapacity) rest ≡ None → c < 2 ^ 32
+small_enough c true t rest e = absurd (cc)
+small_enough c false t rest e = grind (arith, nat_tests)
+
+admitted_fits : (kd : Kind) (c : ℕ) → capacity_error kd c ≡ None → c < 2 ^ 32
+admitted_fits IndexQueue c e = small_enough c (nat_lt (2 ^ 32 - 1) c) refl _ e
+admitted_fits kinds.TheVariants.Overflow c e = small_enough c (nat_lt (2 ^ 32 - 1) c) refl _ e
+
+module _ {T : Type 0} where
+  pub laws : (kd : Kind) (c : ℕ) → frame.Laws (family {T = T} kd c)
+  laws kd c =
+      record {
+        step = λ t p x flight since s small found doing. step_comes kd c t s small p x since flight found doing;
+        decision = λ t p x flight since said s small found doing asks. asks_nothing flight asks;
+        begin = λ t p start flight s may e. begin_comes kd c t s may.turns p start flight may e;
+      }
 
   empty : (kd : Kind) (c : ℕ) → (list_of {T = T} kd c).opening ≡ listed kd c []
   empty IndexQueue c = refl
   empty kinds.TheVariants.Overflow c = sym (ap (map Index) (take-nil {A = ℕ} c))
 
-  opening_sound : (kd : Kind) (capacity parties : ℕ) → capacity < 2 ^ 32 → Sound (opening {T = T} kd capacity parties)
-  opening_sound kd capacity parties fits =
-      let k : Core ℕ = record { write = 0; read = 0; waiting = []; cells = replicate (cells_of kd capacity) 0 } in (
-        k,
-        refl,
-        record {
-          fits = fits;
-          good =
-              record {
-                write = refl;
-                few = omega arith;
-                cells = length-replicate (cells_of kd capacity) 0 ∙ (omega arith);
-                held = λ i v e. absurd (cc);
-              };
-          hangs = none_hangs kd capacity k None refl (omega arith);
-          book = refl;
-          stand = empty kd capacity;
-          legal = refl;
-          spans = Each-nil _;
-          answers = Each-nil _;
-          lengths = Each-nil _;
-          calls = λ p. refl;
-          knows = λ p. tt;
-          turned = omega arith;
-        },
-      )
+  opening_sound : (kd : Kind) (c parties : ℕ) → c < 2 ^ 32 → frame.Sound (family kd c) (opening {T = T} kd c parties)
+  opening_sound kd c parties fits =
+      let k : Core ℕ = record { write = 0; read = 0; waiting = []; cells = replicate (cells_of kd c) 0 } in
+      record {
+        kind = refl;
+        capacity = refl;
+        state = empty_queue kd c;
+        fit = opening_fits kd c;
+        holds =
+            record {
+              fits = fits;
+              good =
+                  record {
+                    write = refl;
+                    few = omega arith;
+                    cells = length-replicate (cells_of kd c) 0 ∙ (omega arith);
+                    held = λ i v e. absurd (cc);
+                  };
+              hangs = none_hangs kd c k None refl (omega arith);
+              book = refl;
+              out = refl;
+              producers = refl;
+              consumers = refl;
+              stand = empty kd c;
+              legal = refl;
+              answers = Each-nil _;
+              lengths = Each-nil _;
+              grants = Each-nil _;
+              reached = omega arith;
+            };
+        inv = record { spans = Each-nil _; calls = λ p. refl; knows = λ p. tt };
+      }
 
-  -- a capacity is a number of 32 bits
-  pub reached_sound : (t : Trace T) → t.world.capacity < 2 ^ 32 → IsReached t → Sound t
-  reached_sound t fits r =
-      kept_by_runs Sound (λ u turn e h. turned_sound u turn e h) t (opening_sound t.world.kind t.world.capacity t.world.parties fits) r
+  pub reached_sound : (t : Trace T) → IsReached t → frame.Sound (family t.world.kind t.world.capacity) t
+  reached_sound t r =
+      frame.reached_sound (family t.world.kind t.world.capacity) (laws t.world.kind t.world.capacity) t
+      (opening_sound t.world.kind t.world.capacity t.world.parties (admitted_fits t.world.kind t.world.capacity r.admitted))
+      r

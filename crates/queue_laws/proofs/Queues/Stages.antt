@@ -1,32 +1,44 @@
 -- What a step of a queue's call has to show.
-use Rattle.std.proofs.Common.{◌≡◌, ◌≢◌, ℕ, ◌+◌, ◌-◌, ◌*◌, ◌%◌, ◌^◌, ◌<◌, ◌≤◌, ◌==◌, Bool, true, false, ◌||◌, ◌⊎◌, inl, inr, Option, Some, None, List, [], ◌∷◌, ◌++◌, length, map, refl, sym, ap, subst, ◌∙◌, append-nil, arith}
+use Rattle.std.proofs.Common.{◌≡◌, ◌≢◌, ℕ, ◌+◌, ◌-◌, ◌*◌, ◌%◌, ◌^◌, ◌<◌, ◌≤◌, ◌==◌, Bool, true, false, ◌||◌, ◌⊎◌, inl, inr, Option, Some, None, List, [], ◌∷◌, ◌++◌, fold, length, map, refl, sym, ap, subst, ◌∙◌, append-nil, arith}
 use Rattle.std.proofs.lemmas.Bool.Decides.{nat_tests}
 use Rattle.steps.specs.declared.ask.Ask.{Ask}
 use Rattle.steps.specs.declared.ask.After.{After}
 use Rattle.steps.specs.declared.ask.After.TheVariants.{GoOn, Done}
 use Rattle.steps.specs.Queues.Ring.{cell_word, word_at}
-use Rattle.model.specs.declared.call.Flight.{Flight}
-use Rattle.model.specs.declared.effects.Effect.{Effect}
-use Rattle.model.specs.declared.effects.Effect.TheVariants.{Quiet}
-use Rattle.model.specs.declared.event.Item.TheVariants.{Index}
-use Rattle.model.specs.declared.event.Start.{Start}
 use Rattle.model.specs.declared.event.Answer.{Answer}
 use Rattle.model.specs.declared.event.Event.{Event}
 use Rattle.model.specs.declared.event.Event.TheVariants.{Finished}
+use Rattle.model.specs.declared.event.Item.TheVariants.{Index}
+use Rattle.model.specs.declared.event.Start.TheVariants.{Queues}
+use Rattle.model.specs.declared.families.Flight.{Flight}
+use Rattle.model.specs.declared.families.Flight as flights
+use Rattle.model.specs.declared.families.Kept.{Kept}
+use Rattle.model.specs.declared.families.Kept as kepts
+use Rattle.model.specs.declared.families.queues.QueueStart.{QueueStart}
+use Rattle.model.specs.declared.families.queues.Roles.{Roles}
+use Rattle.model.specs.declared.families.queues.calls.QueueFlight.{QueueFlight}
+use Rattle.model.specs.declared.families.queues.effects.Effect.{Effect}
+use Rattle.model.specs.declared.families.queues.effects.Effect.TheVariants.{Quiet}
 use Rattle.model.specs.declared.party.Doing.TheVariants.{Over}
 use Rattle.model.specs.declared.party.Party.{Party}
-use Rattle.model.specs.Calls.{want_of, ask_of, after_of, back_of, answer_in, words_of_index}
 use Rattle.model.specs.declared.turn.Kind.{Kind}
-use Rattle.model.specs.World.{party_of, put, doing_of, flight_of, cells_of}
-use Rattle.model.specs.Effects.{pending_at, pending, effect_of, told_after}
-use Rattle.model.specs.Turns.{old_of, words_after, change_of, steps_of, moved_party, producer_after, consumer_after}
-use Rattle.model.specs.Reading.{published, handed_out, Open, span_of}
-use Rattle.model.specs.Promises.Spans.{Wrote}
-use Rattle.model.specs.Promises.Lengths.{TellsLength}
-use Rattle.model.specs.Promises.Bounds.{most_steps}
+use Rattle.model.specs.Families.{ask_of}
+use Rattle.model.specs.Families.Queues.Bounds.{most_steps}
+use Rattle.model.specs.Families.Queues.Calls.{words_of_index, want, after, back}
+use Rattle.model.specs.Families.Queues.Lengths.{TellsLength}
+use Rattle.model.specs.Families.Queues.Opening.{cells_of}
+use Rattle.model.specs.Families.Queues.Reading.{producer_after, consumer_after}
+use Rattle.model.specs.Families.Queues.Roles.{GrantsRight}
+use Rattle.model.specs.Families.Queues.Spans.{Wrote}
+use Rattle.model.specs.Families.Queues.Steps.{pending_at, pending, beside, effect_of, effects_of, roles_after}
+use Rattle.model.specs.Parties.{party_of, put, doing_of, flight_of}
+use Rattle.model.specs.Reading.{Open, span_of}
+use Rattle.model.specs.Step.{as_call, answer_in}
+use Rattle.model.specs.Turns.{old_of, words_after, change_of, step_count, party_after, ending_of}
+use Rattle.model.proofs.Frame as frame
 use Rattle.queue_laws.proofs.Queues.Core.{Core, Good}
+use Rattle.queue_laws.proofs.Queues.Invariant.{Scene, Inv, ShowsQueue, Shows, family, owes, queue_part}
 use Rattle.queue_laws.proofs.Queues.Knows.{layout, listed, has_written, Hangs, KnowsFlight, At}
-use Rattle.queue_laws.proofs.Queues.Invariant.{IsUnderWay, Inv, Owes, Shows, owes}
 use Rattle.queue_laws.proofs.Queues.Pending.{pending_put, hangs_same}
 
 pub or_true : (a b : Bool) → (a || b) ≡ true → (a ≡ true) ⊎ (b ≡ true)
@@ -57,115 +69,167 @@ asked_place c position some fits =
     let low : position % c < c = omega arith in
     omega arith
 
-module _ {T : Type 0} (kd : Kind) (c : ℕ) (pr co : Option ℕ) (k : Core ℕ) (p steps backs since changes : ℕ) (latest : List (Party T)) (events : List (Event T)) (turns : ℕ) where
+module _ {T : Type 0} where
+  -- a queue's call as one of any family
+  abbrev pub any_call : After QueueFlight (Answer T) → After Flight (Answer T)
+  any_call after = as_call flights.TheVariants.Queues (λ answer. answer) after
+
+  -- the events of a step, the end of the call last
+  abbrev pub told_after : ℕ → QueueStart T → Effect T → After QueueFlight (Answer T) → List (Event T)
+  told_after p start effect after = effects_of p start effect (answer_in after) ++ ending_of p (Queues start) (answer_in (any_call after))
+
+module _ {T : Type 0} (kd : Kind) (scene : Scene T) where
+  abbrev c : ℕ
+  c = scene.capacity
+
+  abbrev ro : Roles
+  ro = scene.roles
+
+  abbrev k : Core ℕ
+  k = scene.core
+
+  abbrev p : ℕ
+  p = scene.party
+
+  abbrev words : List ℕ
+  words = layout scene.roles scene.core
+
   -- the party as it stands before the step
-  abbrev pub party : Start T → Party T
-  party start = record { number = p; start = start; steps = steps; backs = backs; doing = Over 0 }
+  abbrev pub party : QueueStart T → Party T
+  party start = record { start = Queues start; steps = scene.steps; backs = scene.backs; doing = Over 0 }
 
   -- and after a step that does this operation
-  abbrev pub party_after : Start T → Option Ask → ℕ → After Flight (Answer T) → Party T
-  party_after start ask back after =
-      moved_party (party start) since changes (steps_of ask) (change_of (layout pr co k) ask) back after
+  abbrev pub party_then : QueueStart T → Option Ask → ℕ → After QueueFlight (Answer T) → Party T
+  party_then start ask back after =
+      party_after (party start) scene.since scene.changes (step_count ask) (change_of words ask)
+      (record { after = any_call after; back = back; wrote = []; kept = kepts.TheVariants.Queues ro })
+
+  -- how often words have changed then
+  abbrev pub changes_then : Option Ask → ℕ
+  changes_then ask = scene.changes + change_of words ask
 
   -- a step after which the call is this, and which leaves the roles with these holders
-  abbrev pub Leaves : Option ℕ → Option ℕ → List (Event T) → Start T → Option Ask → ℕ → After Flight (Answer T) → Effect T → Type 0
-  Leaves pr' co' wrote start ask back after effect =
-      (k' : Core ℕ) × (words_after (layout pr co k) ask ≡ layout pr' co' k')
-      × Shows kd c pr co pr' co' k k' (Open start wrote) (party_after start ask back after) latest events (told_after p start effect (answer_in after)) changes (changes + change_of (layout pr co k) ask) turns
+  abbrev pub Leaves : Roles → List (Event T) → QueueStart T → Option Ask → ℕ → After QueueFlight (Answer T) → Effect T → Type 0
+  Leaves ro' wrote start ask back after effect =
+      (k' : Core ℕ) × (words_after words ask ≡ layout ro' k')
+      × Shows kd scene ro' k' (Open (Queues start) wrote) (party_then start ask back after) (told_after p start effect after) (changes_then ask)
 
-  abbrev pub Step : List (Event T) → Start T → Option Ask → ℕ → After Flight (Answer T) → Effect T → Type 0
-  Step wrote start ask back after effect = Leaves (producer_after p start (answer_in after) pr) (consumer_after p start (answer_in after) co) wrote start ask back after effect
+  abbrev pub DoesStep : List (Event T) → QueueStart T → Option Ask → ℕ → After QueueFlight (Answer T) → Effect T → Type 0
+  DoesStep wrote start ask back after effect = Leaves (roles_after p start (answer_in after) ro) wrote start ask back after effect
 
-  abbrev pub StepOf : Start T → Flight → Type 0
+  -- the old value of the word that a call asks for
+  abbrev pub old_for : QueueFlight → ℕ
+  old_for flight = old_of words (ask_of (want flight))
+
+  abbrev pub effect_for : QueueFlight → Effect T
+  effect_for flight = effect_of words (beside ro words scene.latest p) flight (old_for flight)
+
+  abbrev pub StepOf : QueueStart T → QueueFlight → Type 0
   StepOf start flight =
-      Step (has_written c k p flight) start (ask_of (want_of flight)) (back_of flight (old_of (layout pr co k) (ask_of (want_of flight)))) (after_of flight (old_of (layout pr co k) (ask_of (want_of flight)))) (effect_of (layout pr co k) (pending k.read pr latest) flight (old_of (layout pr co k) (ask_of (want_of flight))))
+      DoesStep (has_written c k p flight) start (ask_of (want flight)) (back flight (old_for flight)) (after flight (old_for flight)) (effect_for flight)
 
-  abbrev pub Stays : Start T → Option Ask → ℕ → After Flight (Answer T) → Effect T → Type 0
-  Stays start ask back after effect = Leaves pr co [] start ask back after effect
+  abbrev pub Stays : QueueStart T → Option Ask → ℕ → After QueueFlight (Answer T) → Effect T → Type 0
+  Stays start ask back after effect = Leaves ro [] start ask back after effect
 
-  module _ (g : Good 1 words_of_index (cells_of kd c) k) (hangs : Hangs kd c k (pending k.read pr latest)) (book : published events ≡ handed_out events ++ map Index k.waiting) (reached : k.write ≤ turns) (small : turns < 2 ^ 64 - 2) where
-    -- no push of this party is pending before or after, and the queue stays
-    pub still_hangs : (k' : Core ℕ) (y : Party T) → k'.waiting ≡ k.waiting → k'.read ≡ k.read → y.number ≡ p → pending_at k.read (flight_of (Some y.doing)) ≡ None
-        → pending_at k.read (flight_of (doing_of (party_of p latest))) ≡ None → Hangs kd c k' (pending k'.read pr (put y latest))
-    still_hangs k' y same read number after before =
-        hangs_same kd c k k' (pending k.read pr latest) (pending k'.read pr (put y latest)) same
-        (ap (λ n. pending n pr (put y latest)) read ∙ pending_put k.read pr p y latest number after before)
-        hangs
+  -- no push of this party is pending
+  abbrev pub IsCalm : ℕ → Type 0
+  IsCalm position = pending_at position (flight_of (doing_of (party_of p scene.latest))) ≡ None
+
+  module _ (inv : Inv kd scene) (small : scene.turns < 2 ^ 64 - 2) where
+    -- none is pending before or after, and the queue stays
+    pub still_hangs : (k' : Core ℕ) (y : Party T) → k'.waiting ≡ k.waiting → k'.read ≡ k.read → pending_at k.read (flight_of (Some y.doing)) ≡ None → IsCalm k.read
+        → Hangs kd c k' (pending k'.read ro.producer (put p y scene.latest))
+    still_hangs k' y same read after before =
+        hangs_same kd c k k' (pending k.read ro.producer scene.latest) (pending k'.read ro.producer (put p y scene.latest)) same
+        (ap (λ n. pending n ro.producer (put p y scene.latest)) read ∙ pending_put k.read ro.producer p y scene.latest after before)
+        inv.queue.hangs
 
     -- the call goes on, and the positions and what waits stay
     pub quiet :
-        pending_at k.read (flight_of (doing_of (party_of p latest))) ≡ None → (back : ℕ) (start : Start T) (ask : Option Ask) (flight : Flight) (k' : Core ℕ) → pending_at k.read (Some flight) ≡ None → k'.waiting ≡ k.waiting → k'.write ≡ k.write → k'.read ≡ k.read → Good 1 words_of_index (cells_of kd c) k'
-        → words_after (layout pr co k) ask ≡ layout pr co k'
-        → IsUnderWay kd c pr co k' p (party_after start ask back (GoOn flight)) flight (Open start [])
-        → KnowsFlight c k' p events (since + change_of (layout pr co k) ask) (changes + change_of (layout pr co k) ask) (backs + back) flight
-        → ((q : ℕ) → q ≢ p → (s : Start T) (f : Flight) → At kd c pr co k q s f → At kd c pr co k' q s f × (has_written {T = T} c k' q f ≡ has_written c k q f))
+        IsCalm k.read → (back : ℕ) (start : QueueStart T) (ask : Option Ask) (flight : QueueFlight) (k' : Core ℕ) → pending_at k.read (Some (flights.TheVariants.Queues flight)) ≡ None → k'.waiting ≡ k.waiting → k'.write ≡ k.write → k'.read ≡ k.read
+        → Good 1 words_of_index (cells_of kd c) k' → words_after words ask ≡ layout ro k'
+        → frame.IsUnderWay (family kd c) (record { roles = ro; core = k' }) p (party_then start ask back (GoOn flight)) (flights.TheVariants.Queues flight) (Open (Queues start) [])
+        → KnowsFlight c k' p scene.events (scene.since + change_of words ask) (changes_then ask) (scene.backs + back) flight
+        → ((q : ℕ) → q ≢ p → (s : QueueStart T) (f : QueueFlight) → At kd c ro k q s f → At kd c ro k' q s f × (has_written {T = T} c k' q f ≡ has_written c k q f))
         → Stays start ask back (GoOn flight) Quiet
-    quiet before back start ask flight k' calm same write read good words here knows others = (
-      k',
-      words,
-      record {
-        own = tt;
-        stands = tt;
-        right = tt;
-        lengths = tt;
-        good = good;
-        hangs = still_hangs k' (party_after start ask back (GoOn flight)) same read refl calm before;
-        book = append-nil (map Index k.waiting) ∙ ap (map Index) (sym same);
-        goes = ap (listed kd c) (sym same);
-        answers = refl;
-        here = here;
-        knows = subst (λ es. KnowsFlight c k' p es (since + change_of (layout pr co k) ask) (changes + change_of (layout pr co k) ask) (backs + back) flight) (sym (append-nil events)) knows;
-        up = record { write = omega arith; read = omega arith; paid = omega arith };
-        others = others;
-        turned = omega arith;
-      },
-    )
+    quiet before back start ask flight k' calm same write read good is_words here knows others =
+        let reached = inv.queue.reached in (
+          k',
+          is_words,
+          record {
+            right = tt;
+            lengths = tt;
+            grants = tt;
+            good = good;
+            hangs = still_hangs k' (party_then start ask back (GoOn flight)) same read calm before;
+            book = append-nil (map Index k.waiting) ∙ ap (map Index) (sym same);
+            out = omega arith;
+            producers = refl;
+            consumers = refl;
+            goes = ap (listed kd c) (sym same);
+            answers = refl;
+            up = record { write = omega arith; read = omega arith; paid = omega arith };
+            reached = omega arith;
+            own = tt;
+            stands = tt;
+            here = here;
+            knows = subst (λ es. KnowsFlight c k' p es (scene.since + change_of words ask) (changes_then ask) (scene.backs + back) flight) (sym (append-nil scene.events)) knows;
+            others = others;
+          },
+        )
 
     -- the call is done, and nothing is published, handed out or acted
     pub ends :
-        (pr' co' : Option ℕ) (back : ℕ) (start : Start T) (answer : Answer T) (ask : Option Ask) → Wrote kd c start answer [] → TellsLength c events (Finished p start answer) → steps + steps_of ask ≤ most_steps kd start (backs + back)
-        → backs + back ≤ (changes + change_of (layout pr co k) ask) - (since + change_of (layout pr co k) ask)
-        → Hangs kd c k (pending k.read pr' (put (party_after start ask back (Done answer)) latest))
-        → ((q : ℕ) → q ≢ p → (s : Start T) (f : Flight) → At kd c pr co k q s f → At kd c pr' co' k q s f × (has_written {T = T} c k q f ≡ has_written c k q f))
-        → Shows kd c pr co pr' co' k k (Open start []) (party_after start ask back (Done answer)) latest events (Finished p start answer ∷ []) changes (changes + change_of (layout pr co k) ask) turns
-    ends pr' co' back start answer ask wrote tells most paid hung others =
+        (ro' : Roles) (back : ℕ) (start : QueueStart T) (answer : Answer T) (ask : Option Ask) → Wrote kd c start answer [] → TellsLength c scene.events (Finished p (Queues start) answer) → GrantsRight scene.events (Finished p (Queues start) answer)
+        → (fold producer_after ro.producer (Finished p (Queues start) answer ∷ []) ≡ ro'.producer) × (fold consumer_after ro.consumer (Finished p (Queues start) answer ∷ []) ≡ ro'.consumer)
+        → scene.steps + step_count ask ≤ most_steps kd start (scene.backs + back) → scene.backs + back ≤ changes_then ask - (scene.since + change_of words ask)
+        → Hangs kd c k (pending k.read ro'.producer (put p (party_then start ask back (Done answer)) scene.latest))
+        → ((q : ℕ) → q ≢ p → (s : QueueStart T) (f : QueueFlight) → At kd c ro k q s f → At kd c ro' k q s f × (has_written {T = T} c k q f ≡ has_written c k q f))
+        → Shows kd scene ro' k (Open (Queues start) []) (party_then start ask back (Done answer)) (Finished p (Queues start) answer ∷ []) (changes_then ask)
+    ends ro' back start answer ask wrote tells grants holders most paid hung others =
+        let reached = inv.queue.reached in
         record {
-          own = (refl, tt);
-          stands = ((refl, wrote), tt);
           right = (tt, tt);
           lengths = (tells, tt);
-          good = g;
+          grants = (grants, tt);
+          good = inv.queue.good;
           hangs = hung;
           book = append-nil (map Index k.waiting);
+          out = omega arith;
+          producers = holders.0;
+          consumers = holders.1;
           goes = refl;
           answers = refl;
+          up = record { write = omega arith; read = omega arith; paid = omega arith };
+          reached = omega arith;
+          own = (refl, tt);
+          stands = ((refl, wrote), tt);
           here = record { answer = answer; wrote = []; span = refl; steps = most };
           knows = paid;
-          up = record { write = omega arith; read = omega arith; paid = omega arith };
           others = others;
-          turned = omega arith;
         }
 
   -- ---- what a step owes, also where it writes events of two parties
 
-  abbrev pub Moves : Start T → Option Ask → ℕ → After Flight (Answer T) → Effect T → Type 0
+  abbrev pub Moves : QueueStart T → Option Ask → ℕ → After QueueFlight (Answer T) → Effect T → Type 0
   Moves start ask back after effect =
-      (k' : Core ℕ) × (words_after (layout pr co k) ask ≡ layout (producer_after p start (answer_in after) pr) (consumer_after p start (answer_in after) co) k')
-      × Owes kd c pr co (producer_after p start (answer_in after) pr) (consumer_after p start (answer_in after) co) k k' (party_after start ask back after) latest events (told_after p start effect (answer_in after)) changes (changes + change_of (layout pr co k) ask) turns
+      (k' : Core ℕ) × (words_after words ask ≡ layout (roles_after p start (answer_in after) ro) k')
+      × ShowsQueue kd scene (roles_after p start (answer_in after) ro) k' (party_then start ask back after) (told_after p start effect after) (changes_then ask)
+      × frame.Owes (family kd c) (record { roles = roles_after p start (answer_in after) ro; core = k' }) p (party_then start ask back after) scene.latest scene.events (told_after p start effect after) (changes_then ask)
 
-  abbrev pub MovesOf : Start T → Flight → Type 0
-  MovesOf start flight =
-      Moves start (ask_of (want_of flight)) (back_of flight (old_of (layout pr co k) (ask_of (want_of flight)))) (after_of flight (old_of (layout pr co k) (ask_of (want_of flight)))) (effect_of (layout pr co k) (pending k.read pr latest) flight (old_of (layout pr co k) (ask_of (want_of flight))))
+  abbrev pub MovesOf : QueueStart T → QueueFlight → Type 0
+  MovesOf start flight = Moves start (ask_of (want flight)) (back flight (old_for flight)) (after flight (old_for flight)) (effect_for flight)
 
   pub alone :
-      Inv kd c pr co k latest events changes turns → (wrote : List (Event T)) (start : Start T) (ask : Option Ask) (back : ℕ) (after : After Flight (Answer T)) (effect : Effect T) → span_of p events ≡ Open start wrote
-      → Step wrote start ask back after effect → Moves start ask back after effect
+      Inv kd scene → (wrote : List (Event T)) (start : QueueStart T) (ask : Option Ask) (back : ℕ) (after : After QueueFlight (Answer T)) (effect : Effect T) → span_of p scene.events ≡ Open (Queues start) wrote
+      → DoesStep wrote start ask back after effect → Moves start ask back after effect
   alone inv wrote start ask back after effect seen step = (
     step.0,
     step.1,
-    owes kd c pr co (producer_after p start (answer_in after) pr) (consumer_after p start (answer_in after) co) k step.0 (Open start wrote) (party_after start ask back after) latest events (told_after p start effect (answer_in after)) changes (changes + change_of (layout pr co k) ask) turns seen inv step.2,
+    queue_part kd scene (roles_after p start (answer_in after) ro) step.0 (Open (Queues start) wrote) (party_then start ask back after) (told_after p start effect after) (changes_then ask) step.2,
+    owes kd scene (roles_after p start (answer_in after) ro) step.0 (Open (Queues start) wrote) (party_then start ask back after) (told_after p start effect after) (changes_then ask) step.2 seen inv,
   )
 
-  pub of_step : Inv kd c pr co k latest events changes turns → (start : Start T) (flight : Flight) → span_of p events ≡ Open start (has_written c k p flight) → StepOf start flight → MovesOf start flight
+  pub of_step : Inv kd scene → (start : QueueStart T) (flight : QueueFlight) → span_of p scene.events ≡ Open (Queues start) (has_written c k p flight) → StepOf start flight → MovesOf start flight
   of_step inv start flight seen step =
-      alone inv (has_written c k p flight) start (ask_of (want_of flight)) (back_of flight (old_of (layout pr co k) (ask_of (want_of flight)))) (after_of flight (old_of (layout pr co k) (ask_of (want_of flight)))) (effect_of (layout pr co k) (pending k.read pr latest) flight (old_of (layout pr co k) (ask_of (want_of flight)))) seen step
+      alone inv (has_written c k p flight) start (ask_of (want flight)) (back flight (old_for flight)) (after flight (old_for flight)) (effect_for flight) seen step

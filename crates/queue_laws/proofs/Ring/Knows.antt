@@ -1,14 +1,14 @@
 -- What a push and a pop of the bounded queue know where they stand.
-use Rattle.std.proofs.Common.{◌≡◌, ℕ, ◌+◌, ◌<◌, Option, Some, List, ◌∷◌, length}
+use Rattle.std.proofs.Common.{◌≡◌, ℕ, ◌+◌, ◌<◌, Some, List, ◌∷◌, length}
 use Rattle.steps.specs.declared.copied.OneWord.{OneWord}
 use Rattle.steps.specs.declared.queues.ring.PushStage as pushes
 use Rattle.steps.specs.declared.queues.ring.PopStage as pops
 use Rattle.steps.specs.Queues.Ring.{cell_word}
-use Rattle.model.specs.declared.call.RingCall as rings
-use Rattle.model.specs.declared.event.Item.TheVariants.{Index}
-use Rattle.model.specs.declared.event.Start.{Start}
-use Rattle.model.specs.declared.event.Start.TheVariants.{Push, Pop}
-use Rattle.model.specs.Calls.{words_of_index}
+use Rattle.model.specs.declared.families.queues.calls.RingCall as rings
+use Rattle.model.specs.declared.families.queues.QueueStart.{QueueStart}
+use Rattle.model.specs.declared.families.queues.QueueStart.TheVariants.{PushIndex, Pop}
+use Rattle.model.specs.declared.families.queues.Roles.{Roles}
+use Rattle.model.specs.Families.Queues.Calls.{words_of_index}
 use Rattle.queue_laws.proofs.Queues.Core.{Core, Holds}
 
 -- ---- the calls by their stages
@@ -54,9 +54,9 @@ pop_number (pops.TheVariants.LoadsCell read cell at) = 2 + at
 pop_number (pops.TheVariants.StoresRead read) = 3
 
 module _ {T : Type 0} where
-  abbrev pub RingAt : ℕ → Option ℕ → Option ℕ → Core ℕ → ℕ → Start T → rings.RingCall ℕ OneWord → Type 0
-  RingAt c pr co k p (Push (Index v)) (rings.TheVariants.Push run) =
-      (pr ≡ Some p) × (run.call.capacity ≡ c) × (run.given ≡ v) × KnowsPush c k v run.call.stage
-  RingAt c pr co k p Pop (rings.TheVariants.Pop run) =
-      (co ≡ Some p) × (run.call.capacity ≡ c) × KnowsPop c k run.room run.call.stage
-  RingAt c pr co k p start call = ⊥
+  abbrev pub RingAt : ℕ → Roles → Core ℕ → ℕ → QueueStart T → rings.RingCall ℕ OneWord → Type 0
+  RingAt c ro k p (PushIndex v) (rings.TheVariants.Push run) =
+      (ro.producer ≡ Some p) × (run.call.capacity ≡ c) × (run.given ≡ v) × KnowsPush c k v run.call.stage
+  RingAt c ro k p Pop (rings.TheVariants.Pop run) =
+      (ro.consumer ≡ Some p) × (run.call.capacity ≡ c) × KnowsPop c k run.room run.call.stage
+  RingAt c ro k p start call = ⊥

@@ -1,10 +1,10 @@
 //! Roles, operations and the small items.
 use super::{bare, whole};
 use crate::ask::Op;
+use crate::atomic::{Load, Store};
 use crate::enums::{OwnerId, OwnerIdNewError, UniqueIndexCreationError, capacity_refusal};
 use crate::queues::ring::{CONSUMER, PRODUCER};
 use crate::queues::roles::{AcquireRole, ReleaseRole};
-use crate::atomic::{Load, Store};
 use crate::words::Words;
 use std::test::Fail;
 

@@ -2,13 +2,13 @@
 use Rattle.std.proofs.Common.{◌≡◌, ℕ, ◌+◌, ◌-◌, ◌*◌, ◌<◌, ◌≤◌, ◌==◌, if◌then◌else◌, List, [], sym, ap, subst, ◌∙◌, arith}
 use Rattle.std.specs.List.{All}
 use Rattle.steps.specs.Picks.{by_eq}
-use Rattle.steps.specs.Ring.{distance}
-use Rattle.steps.specs.Lengths.{number_waiting, first_len, at_len, len_want, len_after}
+use Rattle.steps.specs.Queues.Ring.{distance}
+use Rattle.steps.specs.Queues.Lengths.{number_waiting, first_len, at_len, len_want, len_after}
 use Rattle.steps.specs.declared.ask.Op.TheVariants.{Load}
 use Rattle.steps.specs.declared.ask.After.{After}
 use Rattle.steps.specs.declared.ask.After.TheVariants.{GoOn, Done}
-use Rattle.steps.specs.declared.lengths.Len.{Len}
-use Rattle.steps.specs.declared.lengths.LenStage as lens
+use Rattle.steps.specs.declared.queues.lengths.Len.{Len}
+use Rattle.steps.specs.declared.queues.lengths.LenStage as lens
 use Rattle.lock_free_sp.specs.declared.ring.view.LenStage.TheVariants as lengths
 use Rattle.lock_free_sp.specs.declared.ring.view.View.{View}
 use Rattle.lock_free_sp.specs.Driver.{Told, Next, KeepsRule, Owes}

@@ -9,7 +9,7 @@ use mathlib.Core.Logic.{dite}
 use native.Mathlib.Decide.{ℕ_discrete}
 use Rattle.std.proofs.Math.Nat.{mul-le-mul_left}
 use Rattle.atomic_table.proofs.Lists.{one_turn}
-use Rattle.steps.specs.Ring.{cell_word}
+use Rattle.steps.specs.Queues.Ring.{cell_word}
 use Rattle.lock_free_sp.specs.Ring.Tells.{place}
 
 module _ {X : Type 0} where

@@ -3,14 +3,14 @@ use Rattle.std.proofs.Common.{◌≡◌, ℕ, ◌+◌, ◌*◌, ◌%◌, ◌<◌
 use Rattle.std.specs.List.{All}
 use Rattle.atomic_table.specs.Table.{Allows, step}
 use Rattle.steps.specs.Picks.{by_eq}
-use Rattle.steps.specs.Ring.{after_position}
-use Rattle.steps.specs.Overflow.{cell_word, at_pop, pop_want, pop_after, pop_kept}
+use Rattle.steps.specs.Queues.Ring.{after_position}
+use Rattle.steps.specs.Queues.Overflow.{cell_word, at_pop, pop_want, pop_after, pop_kept}
 use Rattle.steps.specs.declared.ask.Op.TheVariants.{Load, Exchange}
 use Rattle.steps.specs.declared.ask.After.{After}
 use Rattle.steps.specs.declared.ask.After.TheVariants.{GoOn, Done}
 use Rattle.steps.specs.declared.copied.OneWord.{OneWord}
-use Rattle.steps.specs.declared.overflow.Pop.{Pop}
-use Rattle.steps.specs.declared.overflow.PopStage as pops
+use Rattle.steps.specs.declared.queues.overflow.Pop.{Pop}
+use Rattle.steps.specs.declared.queues.overflow.PopStage as pops
 use Rattle.lock_free_sp.specs.declared.ring.view.View.{View}
 use Rattle.lock_free_sp.specs.declared.ring.view.PopStage.TheVariants as popping
 use Rattle.lock_free_sp.specs.Driver.{Told, Next, KeepsRule, Owes}

@@ -3,16 +3,16 @@ use Rattle.std.proofs.Common.{◌≡◌, ◌≢◌, ℕ, ◌+◌, ◌-◌, ◌*�
 use Rattle.std.specs.List.{All}
 use Rattle.atomic_table.specs.Table.{Allows, step}
 use Rattle.steps.specs.Picks.{by_eq}
-use Rattle.steps.specs.Ring.{distance, after_position}
-use Rattle.steps.specs.Overflow.{cell_word, at_push, push_want, push_after, push_kept}
+use Rattle.steps.specs.Queues.Ring.{distance, after_position}
+use Rattle.steps.specs.Queues.Overflow.{cell_word, at_push, push_want, push_after, push_kept}
 use Rattle.steps.specs.declared.ask.Op.TheVariants.{Load, Store, Exchange}
 use Rattle.steps.specs.declared.ask.After.{After}
 use Rattle.steps.specs.declared.ask.After.TheVariants.{GoOn, Done}
 use Rattle.steps.specs.declared.copied.OneWord.{OneWord}
-use Rattle.steps.specs.declared.overflow.Push.{Push}
-use Rattle.steps.specs.declared.overflow.PushStage as pushes
-use Rattle.steps.specs.declared.overflow.PushEnd.{PushEnd}
-use Rattle.steps.specs.declared.overflow.PushEnd.TheVariants.{Added, Own}
+use Rattle.steps.specs.declared.queues.overflow.Push.{Push}
+use Rattle.steps.specs.declared.queues.overflow.PushStage as pushes
+use Rattle.steps.specs.declared.queues.overflow.PushEnd.{PushEnd}
+use Rattle.steps.specs.declared.queues.overflow.PushEnd.TheVariants.{Added, Own}
 use Rattle.lock_free_sp.specs.declared.ring.view.View.{View}
 use Rattle.lock_free_sp.specs.declared.ring.view.PushStage.TheVariants as pushing
 use Rattle.lock_free_sp.specs.Driver.{Told, Next, KeepsRule, Owes}
@@ -24,7 +24,8 @@ use Rattle.lock_free_sp.specs.Ring.Stages.{PushOverAt, PushOverEnds, Follows}
 use Rattle.lock_free_sp.proofs.Driving.{weaker}
 use Rattle.lock_free_sp.proofs.Rules.Ring.Lists.{place_within}
 use Rattle.lock_free_sp.proofs.Rules.Ring.Pushes.{sees_write, stores_word}
-use Rattle.lock_free_sp.proofs.Rules.Ring.Overflows.{sees_front, publishes_over, takes_back, loads_back}
+use Rattle.lock_free_sp.proofs.Rules.Ring.Overflows.{sees_front, takes_back, loads_back}
+use Rattle.lock_free_sp.proofs.Rules.Ring.Publishes.{publishes_over}
 use mathlib.Core.Logic.{dite}
 use mathlib.Core.Option.{none}
 use native.Mathlib.Decide.{ℕ_discrete}
@@ -122,7 +123,7 @@ module _ (v : View ℕ) (c : Push) (x : ℕ) (room : OneWord) (key words slots i
             let full : p ≡ r + v.capacity = omega arith in
             let now : w ≡ with_push (pushing.Full r) (pushed p x base) = h.over full ∙ ap (λ z. with_push (pushing.Full r) (pushed p x z)) at.2.0 in
             let so : Sound (with_push (pushing.Full r) (pushed p x base)) = subst Sound now h.sound in
-            (at.0, at.1, (p, now, at.2.1, omega arith, (below, above, follows), record { published = so.published; taken = so.taken; values = so.values; last_push = so.last_push })))
+            (at.0, at.1, (p, now, at.2.1, omega arith, (below, above, follows), record { published = so.published; taken = so.taken; values = so.values; last_push = so.last_push }, full ∙ ap (λ z. r + z) same)))
             (λ ne.
             let roomy : p ≢ r + v.capacity = λ e. ne (omega arith) in
             let some : 0 < base.capacity = let some' = at.2.1 in omega arith in
@@ -152,7 +153,7 @@ module _ (v : View ℕ) (c : Push) (x : ℕ) (room : OneWord) (key words slots i
             let y : ℕ = t.0 in
             let now : w ≡ with_push (pushing.HandsBack r (y ∷ [])) (handed_back r y (pushed p x base)) = t.1 ∙ ap (λ z. with_push (pushing.HandsBack r (y ∷ [])) (handed_back r y z)) view in
             let so : Sound (with_push (pushing.HandsBack r (y ∷ [])) (handed_back r y (pushed p x base))) = subst Sound now t.3 in
-            (at.0, at.1, (p, y, now, at.2.2, at.2.3, follows, subst (λ (z : View ℕ). All (λ (z' : ℕ × ℕ). z'.0 < r) z.taken) view t.2, record { published = so.published; taken = so.taken; values = so.values; last_push = so.last_push })))
+            (at.0, at.1, (p, y, now, at.2.2, at.2.3, follows, subst (λ (z : View ℕ). All (λ (z' : ℕ × ℕ). z'.0 < r) z.taken) view t.2, record { published = so.published; taken = so.taken; values = so.values; last_push = so.last_push }, at.2.6)))
             (λ ne.
             let now : w ≡ pushed p x base = h.moved ne ∙ ap (with_push pushing.Ready) view in
             let room' : 0 < base.capacity = let own' = at.1 in let some' = at.2.2 in omega arith in
@@ -184,7 +185,7 @@ module _ (v : View ℕ) (c : Push) (x : ℕ) (room : OneWord) (key words slots i
             let room' : 0 < base.capacity = let own' = at.1 in let some' = at.2.3 in omega arith in
             let so : Sound (handed_back r k (pushed p x base)) = subst (λ z. Sound (handed_back r z (pushed p x base))) (sym found) at.2.7 in
             let below = follows.0 in
-            (record { position = p; oldest = r; adds = now; above = follows.1; next = follows.2; taken = at.2.6; sound = subst Sound (sym now) so }, (room', λ q last. let f = follows.2 q last in omega arith)),
+            (record { position = p; oldest = r; full = at.2.8; adds = now; above = follows.1; next = follows.2; taken = at.2.6; sound = subst Sound (sym now) so }, (room', λ q last. let f = follows.2 q last in omega arith)),
       ))
       (subst (λ z. word < z) (sym size) (subst (λ z. z < 1 * (key + 1) + 4) (sym there) inside), loads_back words_of 1 1 key slots id (v, []) refl r word (y₀ ∷ []) is (omega arith) there)
 

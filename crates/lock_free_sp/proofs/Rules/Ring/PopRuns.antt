@@ -6,12 +6,12 @@ use Rattle.std.proofs.lemmas.List.Elements.{All-weaker}
 use Rattle.atomic_table.specs.Table.{Allows, step}
 use Rattle.steps.specs.Copied.{value_in}
 use Rattle.steps.specs.Picks.{by_test, by_either}
-use Rattle.steps.specs.Ring.{cell_word, after_position, word_at, at_pop, pop_want, pop_after, pop_kept}
+use Rattle.steps.specs.Queues.Ring.{cell_word, after_position, word_at, at_pop, pop_want, pop_after, pop_kept}
 use Rattle.steps.specs.declared.ask.Op.TheVariants.{Load, Store}
 use Rattle.steps.specs.declared.ask.After.{After}
 use Rattle.steps.specs.declared.ask.After.TheVariants.{GoOn, Done}
-use Rattle.steps.specs.declared.ring.Pop.{Pop}
-use Rattle.steps.specs.declared.ring.PopStage as pops
+use Rattle.steps.specs.declared.queues.ring.Pop.{Pop}
+use Rattle.steps.specs.declared.queues.ring.PopStage as pops
 use Rattle.lock_free_sp.specs.declared.ring.view.View.{View}
 use Rattle.lock_free_sp.specs.declared.ring.view.PopStage.TheVariants as popping
 use Rattle.lock_free_sp.specs.Driver.{Told, Next, KeepsRule, Owes}

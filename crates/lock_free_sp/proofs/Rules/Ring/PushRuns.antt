@@ -6,12 +6,12 @@ use Rattle.std.proofs.lemmas.List.{take_more, take_all, length-take-le}
 use Rattle.std.proofs.lemmas.List.Elements.{All-weaker}
 use Rattle.atomic_table.specs.Table.{Allows, step}
 use Rattle.steps.specs.Picks.{by_test, by_eq, by_either}
-use Rattle.steps.specs.Ring.{cell_word, distance, after_position, word_at, at_push, push_want, push_after}
+use Rattle.steps.specs.Queues.Ring.{cell_word, distance, after_position, word_at, at_push, push_want, push_after}
 use Rattle.steps.specs.declared.ask.Op.TheVariants.{Load, Store}
 use Rattle.steps.specs.declared.ask.After.{After}
 use Rattle.steps.specs.declared.ask.After.TheVariants.{GoOn, Done}
-use Rattle.steps.specs.declared.ring.Push.{Push}
-use Rattle.steps.specs.declared.ring.PushStage as pushes
+use Rattle.steps.specs.declared.queues.ring.Push.{Push}
+use Rattle.steps.specs.declared.queues.ring.PushStage as pushes
 use Rattle.lock_free_sp.specs.declared.ring.view.View.{View}
 use Rattle.lock_free_sp.specs.declared.ring.view.PushStage.TheVariants as pushing
 use Rattle.lock_free_sp.specs.Driver.{Told, Next, KeepsRule, Owes}

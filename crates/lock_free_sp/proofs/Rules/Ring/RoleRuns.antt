@@ -1,7 +1,7 @@
 -- The calls on roles, as values, keep the rule.
 use Rattle.std.proofs.Common.{◌≡◌, ℕ, ◌+◌, ◌*◌, List, [], sym, ap, subst, ◌∙◌, arith}
 use Rattle.steps.specs.Picks.{by_equal}
-use Rattle.steps.specs.Roles.{acquire_want, acquire_after, release_want, release_after}
+use Rattle.steps.specs.Queues.Roles.{acquire_want, acquire_after, release_want, release_after}
 use Rattle.steps.specs.declared.ask.Op.TheVariants.{Store, Exchange}
 use Rattle.lock_free_sp.specs.declared.ring.view.PushStage.TheVariants as pushing
 use Rattle.lock_free_sp.specs.declared.ring.view.PopStage.TheVariants as popping

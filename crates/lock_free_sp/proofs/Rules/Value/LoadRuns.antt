@@ -5,10 +5,10 @@ use Rattle.std.proofs.lemmas.List.{take_more_set, length-take-le}
 use Rattle.steps.specs.declared.ask.Op.TheVariants.{Load, Exchange}
 use Rattle.steps.specs.declared.ask.After.{After}
 use Rattle.steps.specs.declared.ask.After.TheVariants.{GoOn, Done}
-use Rattle.steps.specs.declared.value.Load as calls
-use Rattle.steps.specs.declared.value.LoadStage as loads
+use Rattle.steps.specs.declared.atomic.Load as calls
+use Rattle.steps.specs.declared.atomic.LoadStage as loads
 use Rattle.steps.specs.Picks.{by_test, by_eq}
-use Rattle.steps.specs.Value.{cell_word, before_version, load_begins, at_load, load_want, load_after, load_kept}
+use Rattle.steps.specs.Atomic.{cell_word, before_version, load_begins, at_load, load_want, load_after, load_kept}
 use Rattle.lock_free_sp.specs.declared.value.rule.Opening.{Opening}
 use Rattle.lock_free_sp.specs.declared.value.view.View.{View}
 use Rattle.lock_free_sp.specs.declared.value.view.LoadStage.TheVariants as loading

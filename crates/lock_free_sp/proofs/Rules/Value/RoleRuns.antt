@@ -1,7 +1,7 @@
 -- The calls on the role of a value keep the rule at their one step.
 use Rattle.std.proofs.Common.{◌≡◌, ℕ, ◌+◌, ◌*◌, List, [], sym, refl, ap, subst, ◌∙◌, arith}
 use Rattle.steps.specs.declared.ask.Op.TheVariants.{Store, Exchange}
-use Rattle.steps.specs.Roles.{acquire_want, acquire_after, release_want, release_after}
+use Rattle.steps.specs.Queues.Roles.{acquire_want, acquire_after, release_want, release_after}
 use Rattle.lock_free_sp.specs.declared.value.rule.Opening.{Opening}
 use Rattle.lock_free_sp.specs.declared.value.view.View.{View}
 use Rattle.lock_free_sp.specs.declared.value.view.StoreStage.TheVariants as storing

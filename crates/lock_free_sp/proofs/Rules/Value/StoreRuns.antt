@@ -5,10 +5,10 @@ use Rattle.std.proofs.lemmas.List.{take_more, take_all, length-take-le}
 use Rattle.steps.specs.declared.ask.Op.TheVariants.{Load, Store, Add}
 use Rattle.steps.specs.declared.ask.After.{After}
 use Rattle.steps.specs.declared.ask.After.TheVariants.{GoOn, Done}
-use Rattle.steps.specs.declared.value.Store as calls
-use Rattle.steps.specs.declared.value.StoreStage as stores
+use Rattle.steps.specs.declared.atomic.Store as calls
+use Rattle.steps.specs.declared.atomic.StoreStage as stores
 use Rattle.steps.specs.Picks.{by_test, by_eq}
-use Rattle.steps.specs.Value.{cell_word, at_store, store_want, store_after}
+use Rattle.steps.specs.Atomic.{cell_word, at_store, store_want, store_after}
 use Rattle.lock_free_sp.specs.declared.value.rule.Opening.{Opening}
 use Rattle.lock_free_sp.specs.declared.value.view.View.{View}
 use Rattle.lock_free_sp.specs.declared.value.view.StoreStage.TheVariants as storing

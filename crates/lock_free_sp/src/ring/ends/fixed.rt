@@ -21,7 +21,7 @@ impl<E: Spare, T: Words, const CAPACITY: usize> Deref
 }
 
 impl<E: Spare, T: Words, const CAPACITY: usize> FixedSize<E, T, RingRule<E, T>, CAPACITY> {
-    /// CAPACITY. No step.
+    /// CAPACITY.
     pub fn capacity(&self) -> usize
         ensures { result ≡ CAPACITY }
     {

@@ -9,9 +9,9 @@ use std::sync::Wait;
 use steps::words::Words;
 
 impl<E: Spare, T: Words> Ring<E, T, RingRule<E, T>> {
-    /// How many values wait: at most the capacity, in the overflowing queue one more. The contract promises this bound; that
-    /// it is the number at one moment of the call is proved of the machine. Four steps, and at most four more for each time
-    /// that a position has moved between its two loads. After `len` of the Rust crate.
+    /// A number of values that wait: the distance between a read position above all that the pass knows to be taken and
+    /// a write position above all that it knows to be published; at most the capacity, in the overflowing queue one
+    /// more. That it is the number of those that wait is tested. After `len` of the Rust crate.
     pub fn len(&self, rt: &impl Wait, pass: &mut Pass<E, T>) -> usize
         requires { IsPassOf self.now pass.old }
         ensures queue { queue_of pass.new ≡ queue_of pass.old }
@@ -22,7 +22,7 @@ impl<E: Spare, T: Words> Ring<E, T, RingRule<E, T>> {
         pass.token.len(rt) as usize
     }
 
-    /// Whether no value waits, by the number that `len` answers. After `is_empty` of the Rust crate.
+    /// Whether a number as `len` answers is 0. After `is_empty` of the Rust crate.
     pub fn is_empty(&self, rt: &impl Wait, pass: &mut Pass<E, T>) -> bool
         requires { IsPassOf self.now pass.old }
         ensures queue { queue_of pass.new ≡ queue_of pass.old }
@@ -32,7 +32,7 @@ impl<E: Spare, T: Words> Ring<E, T, RingRule<E, T>> {
         pass.token.len(rt) == 0
     }
 
-    /// Whether as many values as the capacity wait, and no more, by the number that `len` answers. After `is_full` of the Rust crate.
+    /// Whether a number as `len` answers is the capacity, and no more. After `is_full` of the Rust crate.
     pub fn is_full(&self, rt: &impl Wait, pass: &mut Pass<E, T>) -> bool
         requires { IsPassOf self.now pass.old }
         ensures queue { queue_of pass.new ≡ queue_of pass.old }
@@ -42,7 +42,7 @@ impl<E: Spare, T: Words> Ring<E, T, RingRule<E, T>> {
         pass.token.len(rt) == self.capacity as u64
     }
 
-    /// The capacity that it was made with. No step. After `capacity` of the Rust crate.
+    /// The capacity that it was made with. After `capacity` of the Rust crate.
     pub fn capacity(&self) -> usize
         ensures { result ≡ capacity_of self.now }
     {

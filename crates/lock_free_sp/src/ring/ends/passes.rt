@@ -10,7 +10,7 @@ use steps::words::Words;
 
 impl<E: Spare, T: Words> Pass<E, T> {
     /// A new pass of the same queue that knows nothing; this one keeps all that it knows. None, and nothing changes,
-    /// where no further pass can be counted. One load of the write position. This project's own.
+    /// where no further pass can be counted (no clause says when). This project's own.
     pub fn split(&mut self) -> Option<Pass<E, T>>
         ensures queue { queue_of self.new ≡ queue_of self.old }
         ensures view { view self.new ≡ view self.old }
@@ -20,7 +20,7 @@ impl<E: Spare, T: Words> Pass<E, T> {
         Some(Pass { token })
     }
 
-    /// Takes in what the other pass of the queue knows. Two loads of the write position. This project's own.
+    /// Takes in what the other pass of the queue knows. This project's own.
     pub fn join(&mut self, other: Pass<E, T>)
         requires { queue_of other ≡ queue_of self.old }
         ensures queue { queue_of self.new ≡ queue_of self.old }

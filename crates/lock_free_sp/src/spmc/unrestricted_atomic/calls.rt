@@ -43,8 +43,8 @@ impl<T: Words> UnrestrictedAtomic<T> {
         }
     }
 
-    /// Takes the producer's role, or hands the pass back as it was where another has it. One step.
-    /// After `acquire_producer` of the Rust crate.
+    /// Takes the producer's role, or hands the pass back as it was where another has it. After `acquire_producer` of
+    /// the Rust crate.
     pub fn acquire_producer(&self, pass: Pass<T>) -> Result<Producer<'_, T>, Pass<T>>
         requires { IsPassOf self.now pass }
         ensures acquired { IfOk result (λ p. (value_of_producer p ≡ value_of_pass pass) × (producer_view p ≡ with_producer (view pass))) }
@@ -58,8 +58,7 @@ impl<T: Words> UnrestrictedAtomic<T> {
         }
     }
 
-    /// The value that was newest at the last step. 2 + `T::WORDS` steps, and at most 1 + `T::WORDS` more for each time
-    /// that a store has moved the version. After `load` of the Rust crate.
+    /// The value at a version that is not below any that the pass knows. After `load` of the Rust crate.
     pub fn load(&self, rt: &impl Wait, pass: &mut Pass<T>) -> T
         requires { IsPassOf self.now pass.old }
         ensures value { value_of_pass pass.new ≡ value_of_pass pass.old }
@@ -71,7 +70,7 @@ impl<T: Words> UnrestrictedAtomic<T> {
 
 impl<T: Words> Pass<T> {
     /// A new pass of the same value that knows nothing; this one keeps all that it knows. None, and nothing changes,
-    /// where no further pass can be counted. One load of the version. This project's own.
+    /// where no further pass can be counted (no clause says when). This project's own.
     pub fn split(&mut self) -> Option<Pass<T>>
         ensures value { value_of_pass self.new ≡ value_of_pass self.old }
         ensures view { view self.new ≡ view self.old }
@@ -81,7 +80,7 @@ impl<T: Words> Pass<T> {
         Some(Pass { token })
     }
 
-    /// Takes in what the other pass of the value knows. Two loads of the version. This project's own.
+    /// Takes in what the other pass of the value knows. This project's own.
     pub fn join(&mut self, other: Pass<T>)
         requires { value_of_pass other ≡ value_of_pass self.old }
         ensures value { value_of_pass self.new ≡ value_of_pass self.old }
@@ -95,8 +94,8 @@ impl<T: Words> Pass<T> {
 }
 
 impl<'a, T: Words> Producer<'a, T> {
-    /// Stores a value: true, or false where the version is u64::MAX, and then nothing changes. At most 2 + `T::WORDS`
-    /// steps. After `Producer::store` of the Rust crate.
+    /// Stores a value: true, or false where the version is u64::MAX, and then nothing changes. After `Producer::store`
+    /// of the Rust crate.
     pub fn store(&mut self, value: T) -> bool
         ensures value { value_of_producer self.new ≡ value_of_producer self.old }
         ensures stored { IsTrue result → HasStored value (producer_view self.old) (producer_view self.new) }
@@ -105,7 +104,7 @@ impl<'a, T: Words> Producer<'a, T> {
         self.token.store(&value)
     }
 
-    /// Takes in what a pass of the value knows. Two loads of the version. This project's own.
+    /// Takes in what a pass of the value knows. This project's own.
     pub fn join(&mut self, other: Pass<T>)
         requires { value_of_pass other ≡ value_of_producer self.old }
         ensures value { value_of_producer self.new ≡ value_of_producer self.old }
@@ -117,7 +116,7 @@ impl<'a, T: Words> Producer<'a, T> {
         self.token.join(token);
     }
 
-    /// Gives the role back and hands the pass out. One step. This project's own, beside the drop.
+    /// Gives the role back and hands the pass out. This project's own, beside the drop.
     pub fn release(self) -> Pass<T>
         ensures value { value_of_pass result ≡ value_of_producer self.entry }
         ensures view { view result ≡ without_producer (producer_view self.entry) }

@@ -6,7 +6,7 @@ use Rattle.queue_laws.proofs.Queues.Kept.{reached_kept}
 use Rattle.machine.proofs.Machine.run.Goals as goal
 
 pub loop-at-init : goal.loop-at-init
-loop-at-init g c = record { allowed = tt; taken = refl; kept = reached_kept c.args.self.now (rw (← c.self.view_is) (omega arith)) (subst IsReached c.self.view_is c.self.invariant) }
+loop-at-init g c = record { allowed = tt; taken = refl; kept = reached_kept c.args.self.now (subst IsReached c.self.view_is c.self.invariant) }
 
 pub loop-at-preserved : goal.loop-at-preserved
 loop-at-preserved g c =
@@ -22,10 +22,10 @@ loop-at-preserved g c =
 
 pub returns-in_default-clause-each : goal.returns-in_default-clause-each
 returns-in_default-clause-each g c =
-    reached_turns c.args.self.now (take c.loop-at.at c.args.turns.now) (rw (← c.self.view_is) (omega arith)) (subst IsReached c.self.view_is c.self.invariant) c.loop-at.invariant.allowed
+    reached_turns c.args.self.now (take c.loop-at.at c.args.turns.now) (subst IsReached c.self.view_is c.self.invariant) c.loop-at.invariant.allowed
 
 pub returns-clause-each : goal.returns-clause-each
 returns-clause-each g c =
     let all : c.loop-at.at ≡ length c.args.turns.now = omega arith in
     let allowed = rw all at c.loop-at.invariant.allowed in
-    reached_turns c.args.self.now (take (length c.args.turns.now) c.args.turns.now) (rw (← c.self.view_is) (omega arith)) (subst IsReached c.self.view_is c.self.invariant) allowed
+    reached_turns c.args.self.now (take (length c.args.turns.now) c.args.turns.now) (subst IsReached c.self.view_is c.self.invariant) allowed

@@ -2,12 +2,13 @@ use Rattle.std.proofs.Common.{ℕ, ◌∙◌, ◌++◌, arith}
 use Rattle.std.proofs.KnownBytes.{Appends-trans}
 use Rattle.model.specs.declared.event.Event.{Event}
 use Rattle.model.specs.declared.event.Event.TheVariants.{Begun}
-use Rattle.model.specs.declared.event.Start.TheVariants.{AcquireProducer}
+use Rattle.model.specs.declared.event.Start.TheVariants.{Queues}
+use Rattle.model.specs.declared.families.queues.QueueStart.TheVariants.{AcquireProducer}
 use Rattle.schedule.proofs.Writing.{part_within, events_more}
 use Rattle.schedule.proofs.output.put_events.Goals as goal
 
 none : Event ℕ
-none = Begun 0 AcquireProducer
+none = Begun 0 (Queues AcquireProducer)
 
 pub returns-in-Err : goal.returns-in-Err
 unfolding none

@@ -1,25 +1,44 @@
-use Rattle.std.proofs.Common.{◌≡◌, ◌<◌, ◌≤◌, None, length, refl, arith}
-use Rattle.model.specs.World.{party_of, place_of}
+use Rattle.std.proofs.Common.{◌≡◌, ◌<◌, Some, refl, sym, ap, ◌∙◌, arith}
+use Rattle.std.proofs.lemmas.Map.Steps.{set_value_same}
+use Rattle.std.specs.BTreeMap.{is_at}
+use Rattle.std.specs.Ordering.{nat_cmp}
+use Rattle.model.specs.Parties.{party_of, put}
+use Rattle.model.proofs.Parties.{set_is_put}
 use Rattle.machine.specs.Parts.{trace_of}
-use Rattle.model.proofs.Parties.{party_read, party_past}
-use Rattle.model.proofs.Rows.{may_resume}
+use Rattle.machine.proofs.Going.{refusal_is, is_refusal, going_is}
 use Rattle.machine.proofs.parts.Parts.resume.Goals as goal
 
-pub unreachable-requires : goal.unreachable-requires
-unreachable-requires g c =
-    let may = may_resume (trace_of c.args.self.now).world c.args.number c.args.said c.requires.allowed in
-    let past : length c.args.self.now.latest.items ≤ place_of c.args.number c.args.self.now.latest.items =
-    omega (arith, c.args.self.now.latest.ok.0)
-    in
-    let none : party_of c.args.number c.args.self.now.latest.items ≡ None = party_past c.args.number c.args.self.now.latest.items past in
-    let clash = rw none at may.is in
-    cc
+pub go_on-gone-requires-clause-small : goal.go_on-gone-requires-clause-small
+go_on-gone-requires-clause-small g c = c.requires.small.latest c.args.number c.in-Some.party.now (sym c.in-Some.ensures.value)
 
-pub returns-in-None-clause-ok : goal.returns-in-None-clause-ok
-returns-in-None-clause-ok g c =
-    let items = c.args.self.now.latest.items in
-    let x = c.index.result.now in
-    let within : c.place_of-at.result < length items = omega (arith, c.args.self.now.latest.ok.0) in
-    let found = party_read c.args.number items c.place_of-at.result x c.place_of-at.ensures within c.index.ensures in
-    let done = c.go_on-in-None.ensures x found in
-    rw (c.in-None.is, done, found, c.old-answer.ensures, c.ask_in-ask.ensures, c.reserve.ensures.items) refl
+pub returns-in-Ok-clause-allowed : goal.returns-in-Ok-clause-allowed
+returns-in-Ok-clause-allowed g c =
+    let within : c.args.number < c.args.self.now.parties = omega arith in
+    refusal_is (trace_of c.args.self.now).world c.args.number c.args.said c.in-Some.party.now c.requires.turns within (sym c.in-Some.ensures.value) ∙ c.in-Ok.ensures.allowed
+
+pub returns-in-Ok-clause-ok : goal.returns-in-Ok-clause-ok
+returns-in-Ok-clause-ok g c =
+    let w = (trace_of c.args.self.now).world in
+    let x = c.in-Some.party.now in
+    let y = c.go_on-gone.new.party in
+    let found : party_of c.args.number w.latest ≡ Some x = sym c.in-Some.ensures.value in
+    let written : (c.get_mut.follows.lender y).entries ≡ put c.args.number y w.latest =
+    (c.get_mut.follows.holds y).0 ∙ set_is_put c.args.number y x w.latest c.in-Some.ensures.ordered found
+    in
+    let is = rw c.look_beside-beside.ensures at c.in-Ok.ensures.ok in
+    going_is w c.args.number c.args.said c.args.self.now.events.items x _ (c.get_mut.follows.lender y).entries found c.in-Ok.ensures.allowed is written
+
+pub returns-in-Err-clause-refused : goal.returns-in-Err-clause-refused
+returns-in-Err-clause-refused g c =
+    let within : c.args.number < c.args.self.now.parties = omega arith in
+    is_refusal (trace_of c.args.self.now).world c.args.number c.args.said c.in-Some.party.now c.in-Err.refusal c.requires.turns within (sym c.in-Some.ensures.value) c.in-Err.ensures.refused
+
+pub returns-in-Err-clause-err : goal.returns-in-Err-clause-err
+returns-in-Err-clause-err g c =
+    let w = (trace_of c.args.self.now).world in
+    let x = c.in-Some.party.now in
+    let same : (c.get_mut.follows.lender c.go_on-gone.new.party).entries ≡ w.latest =
+    ap (λ y. (c.get_mut.follows.lender y).entries) c.in-Err.ensures.party
+    ∙ ((c.get_mut.follows.holds x).0 ∙ set_value_same (is_at (nat_cmp c.args.number)) w.latest x (sym c.in-Some.ensures.value))
+    in
+    rw (same, c.in-Err.ensures.words, c.in-Err.ensures.kept, c.in-Err.ensures.changes, c.in-Err.ensures.events) refl

@@ -1,0 +1,59 @@
+-- What a turn of one party's call is to the whole machine.
+use Rattle.std.proofs.Common.{◌≡◌, ℕ, ◌+◌, ◌-◌, ◌^◌, ◌<◌, inl, inr, ⊎_elim, Bool, false, Option, Some, None, nat_le, List, refl, ap, ◌∙◌, arith}
+use Rattle.std.proofs.lemmas.Bool.Decides.{nat_tests}
+use Rattle.model.specs.declared.event.Event.{Event}
+use Rattle.model.specs.declared.party.Doing.{Doing}
+use Rattle.model.specs.declared.party.Doing.TheVariants.{Going, Over}
+use Rattle.model.specs.declared.party.Party.{Party}
+use Rattle.model.specs.declared.turn.Refusal.{Refusal}
+use Rattle.model.specs.Families.{beside_of}
+use Rattle.model.specs.Parties.{party_of, put, doing_of, flight_of}
+use Rattle.model.specs.Refusals.{refusal_of, IsRefusal}
+use Rattle.model.specs.Rows.{first_row}
+use Rattle.model.specs.Turns.{turn_of, after_turn}
+use Rattle.model.specs.World.{World}
+use Rattle.machine.specs.Parts.{going_rows, going_refusal, IsGoingRefusal, Around, after_turn_of}
+
+module _ {T : Type 0} (w : World T) (p : ℕ) (said : Option Bool) where
+  -- what is tested of the turn, once its party is there
+  rows_left : w.turns < 2 ^ 64 - 2 → p < w.parties → refusal_of w (turn_of p said) ≡ first_row (going_rows (flight_of (doing_of (party_of p w.latest))) said)
+  rows_left small within = go said
+    where
+      early : nat_le (2 ^ 64 - 2) w.turns ≡ false
+      early = grind (arith, nat_tests)
+
+      there : nat_le w.parties p ≡ false
+      there = grind (arith, nat_tests)
+
+      go : (said : Option Bool) → refusal_of w (turn_of p said) ≡ first_row (going_rows (flight_of (doing_of (party_of p w.latest))) said)
+      go None = rw (early, there) refl
+      go (Some b) = rw (early, there) refl
+
+  pub refusal_is : (x : Party T) → w.turns < 2 ^ 64 - 2 → p < w.parties → party_of p w.latest ≡ Some x → refusal_of w (turn_of p said) ≡ going_refusal x.doing said
+  refusal_is x small within found = rows_left small within ∙ ap (λ o. first_row (going_rows (flight_of (doing_of o)) said)) found
+
+  pub is_refusal : (x : Party T) (r : Refusal) → w.turns < 2 ^ 64 - 2 → p < w.parties → party_of p w.latest ≡ Some x → IsGoingRefusal x.doing said r → IsRefusal w (turn_of p said) r
+  is_refusal x r small within found h =
+      let same = refusal_is x small within found in
+      ⊎_elim (λ row. inl (same ∙ row)) (λ memory. inr (same ∙ memory.0, memory.1)) h
+
+  pub going_is :
+      (events : List (Event T)) (x : Party T) (a : Around T) (latest : List (ℕ × Party T)) → party_of p w.latest ≡ Some x → going_refusal x.doing said ≡ None
+      → a ≡ after_turn_of p said (beside_of w.words w.kept w.latest p) x.doing (record { party = x; words = w.words; kept = w.kept; changes = w.changes; events = events })
+      → latest ≡ put p a.party w.latest
+      → record { world = record w { words = a.words; kept = a.kept; latest = latest; changes = a.changes; turns = w.turns + 1 }; events = a.events } ≡ after_turn (record { world = w; events = events }) (turn_of p said)
+  going_is events x a latest found allowed is written = rw written (go x.doing refl said refl)
+    where
+      begun : Around T
+      begun = record { party = x; words = w.words; kept = w.kept; changes = w.changes; events = events }
+
+      go : (doing : Doing) → x.doing ≡ doing → (b : Option Bool) → said ≡ b
+          → record { world = record w { words = a.words; kept = a.kept; latest = put p a.party w.latest; changes = a.changes; turns = w.turns + 1 }; events = a.events } ≡ after_turn (record { world = w; events = events }) (turn_of p said)
+      go (Over others) d None e =
+          let clash = rw (d, e) at allowed in
+          absurd (cc)
+      go (Over others) d (Some b) e =
+          let clash = rw (d, e) at allowed in
+          absurd (cc)
+      go (Going flight since) d None e = rw is (rw (d, e) (rw (found, d) refl))
+      go (Going flight since) d (Some b) e = rw is (rw (d, e) (rw (found, d) refl))

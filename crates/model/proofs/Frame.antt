@@ -1,0 +1,293 @@
+-- What holds of a machine of any family between two turns, how a turn keeps it, and so that every run has it.
+use Rattle.std.proofs.Common.{◌≡◌, ◌≢◌, ℕ, ◌+◌, ◌-◌, ◌^◌, ◌<◌, ◌≤◌, ⊎_elim, Bool, true, false, not, Option, Some, None, List, [], ◌∷◌, ◌++◌, fold, refl, sym, ap, subst, ◌∙◌, append-nil, arith}
+use Rattle.std.proofs.lemmas.Bool.{cases_eq}
+use Rattle.steps.specs.declared.ask.Ask.{Ask}
+use Rattle.model.specs.declared.event.Answer.{Answer}
+use Rattle.model.specs.declared.event.Event.{Event}
+use Rattle.model.specs.declared.event.Event.TheVariants.{Begun}
+use Rattle.model.specs.declared.event.Start.{Start}
+use Rattle.model.specs.declared.families.Flight.{Flight}
+use Rattle.model.specs.declared.families.Kept.{Kept}
+use Rattle.model.specs.declared.party.Doing.{Doing}
+use Rattle.model.specs.declared.party.Doing.TheVariants.{Going, Over}
+use Rattle.model.specs.declared.party.Party.{Party}
+use Rattle.model.specs.declared.turn.Kind.{Kind}
+use Rattle.model.specs.declared.turn.Turn.{Turn}
+use Rattle.model.specs.declared.turn.Turn.TheVariants.{Begin, Next, Decide, Die}
+use Rattle.model.specs.Families.{first_of, want_of, ask_of, is_question}
+use Rattle.model.specs.Parties.{party_of, put, doing_of, flight_of, progress_after}
+use Rattle.model.specs.Promises.Bounds.{most_steps, Progresses}
+use Rattle.model.specs.Promises.Spans.{Stands, StandsRight}
+use Rattle.model.specs.Reading.{Each, Span, Never, Open, Ended, own_after, span_of}
+use Rattle.model.specs.Refusals.{refusal_of, is_due}
+use Rattle.model.specs.Shape.{IsShut}
+use Rattle.model.specs.Turns.{old_of, words_after, change_of, step_count, number_of, ask_of_doing, party_at_begin, after_begin, party_after, after_step, step_in, after_answer, after_next, after_decision, after_turn, events_of_step, events_of_answer, events_of_next, events_of_decision, IsReached}
+use Rattle.model.specs.World.{Trace, opening, flight_in}
+use Rattle.model.proofs.Parties.{party_put_same, party_put_other}
+use Rattle.model.proofs.Reached.{kept_by_runs}
+use Rattle.model.proofs.Readings.{AreRight, Each-append, AreOwn, AllFollow, span_of-own, span_of-other, spans_right}
+use Rattle.model.proofs.Rows.{may_begin, may_next, may_decide, must_be_due, never_dies, MayBegin, MayGoOn}
+
+-- what a family gives
+pub record Family (T : Type 0) : Type 1 where
+  pub kind : Kind
+  pub capacity : ℕ
+  pub State : Type 0  -- what the words and what is kept beside them hold
+  pub Fit : Kept → List ℕ → State → Type 0  -- they hold it
+  pub Holds : State → List (ℕ × Party T) → List (Event T) → ℕ → Type 0  -- what is so of it and of the events, after so many turns
+  pub written : State → ℕ → Flight → List (Event T)  -- what a party's call under way has written since its begin
+  pub number : Flight → ℕ → ℕ  -- how many steps it has taken at most, having turned back so often
+  pub At : State → ℕ → Start T → Flight → Type 0  -- where it stands
+  pub Knows : State → ℕ → List (Event T) → ℕ → ℕ → ℕ → Flight → Type 0  -- what it knows of the events and of the counts
+
+module _ {T : Type 0} (F : Family T) where
+  -- ---- a party's latest call beside its span
+
+  pub record IsUnderWay (s : F.State) (p : ℕ) (x : Party T) (flight : Flight) (seen : Span T) : Type 0 where
+    pub span : seen ≡ Open x.start (F.written s p flight)
+    pub steps : x.steps ≤ F.number flight x.backs
+    pub at : F.At s p x.start flight
+
+  pub record HasEnded (x : Party T) (seen : Span T) : Type 0 where
+    pub answer : Answer T
+    pub wrote : List (Event T)
+    pub span : seen ≡ Ended x.start answer wrote
+    pub steps : x.steps ≤ most_steps F.kind x.start x.backs
+
+  abbrev pub FitsDoing : F.State → ℕ → Party T → Doing → Span T → Type 0
+  FitsDoing s p x (Going flight since) span = IsUnderWay s p x flight span
+  FitsDoing s p x (Over others) span = HasEnded x span
+
+  abbrev pub Fits : F.State → ℕ → Option (Party T) → Span T → Type 0
+  Fits s p None span = span ≡ Never
+  Fits s p (Some x) span = FitsDoing s p x x.doing span
+
+  abbrev pub KnowsDoing : F.State → ℕ → List (Event T) → ℕ → ℕ → Doing → Type 0
+  KnowsDoing s p events changes backs (Going flight since) = F.Knows s p events since changes backs flight
+  KnowsDoing s p events changes backs (Over others) = backs ≤ others
+
+  abbrev pub KnowsParty : F.State → ℕ → List (Event T) → ℕ → Option (Party T) → Type 0
+  KnowsParty s p events changes None = Unit {0}
+  KnowsParty s p events changes (Some x) = KnowsDoing s p events changes x.backs x.doing
+
+  -- ---- the invariant
+
+  pub record Inv (s : F.State) (latest : List (ℕ × Party T)) (events : List (Event T)) (changes : ℕ) : Type 0 where
+    pub spans : Each (StandsRight F.kind F.capacity) events
+    pub calls : (p : ℕ) → Fits s p (party_of p latest) (span_of p events)
+    pub knows : (p : ℕ) → KnowsParty s p events changes (party_of p latest)
+
+  -- what a turn of the party p owes, which can write events of other parties too
+  pub record Owes (s : F.State) (p : ℕ) (y : Party T) (latest : List (ℕ × Party T)) (events es : List (Event T)) (changes : ℕ) : Type 0 where
+    pub stands : AreRight (StandsRight F.kind F.capacity) events es
+    pub here : Fits s p (Some y) (span_of p (events ++ es))
+    pub knows : KnowsDoing s p (events ++ es) changes y.backs y.doing
+    pub others : (q : ℕ) → q ≢ p → Fits s q (party_of q latest) (span_of q (events ++ es))
+    pub others_know : (q : ℕ) → q ≢ p → KnowsParty s q (events ++ es) changes (party_of q latest)
+
+  pub advance : (s s' : F.State) (p : ℕ) (y : Party T) (latest : List (ℕ × Party T)) (events es : List (Event T)) (changes changes' : ℕ) → Inv s latest events changes → Owes s' p y latest events es changes'
+      → Inv s' (put p y latest) (events ++ es) changes'
+  advance s s' p y latest events es changes changes' inv owes =
+      record {
+        spans = Each-append (StandsRight F.kind F.capacity) events es inv.spans owes.stands;
+        calls = λ q. ⊎_elim (mine q) (theirs q) (cases_eq q p);
+        knows = λ q. ⊎_elim (mine_knows q) (theirs_know q) (cases_eq q p);
+      }
+    where
+      mine : (q : ℕ) → q ≡ p → Fits s' q (party_of q (put p y latest)) (span_of q (events ++ es))
+      mine q e =
+          subst (λ n. Fits s' n (party_of n (put p y latest)) (span_of n (events ++ es))) (sym e)
+          (subst (λ o. Fits s' p o (span_of p (events ++ es))) (sym (party_put_same p y latest)) owes.here)
+
+      theirs : (q : ℕ) → q ≢ p → Fits s' q (party_of q (put p y latest)) (span_of q (events ++ es))
+      theirs q ne = subst (λ o. Fits s' q o (span_of q (events ++ es))) (sym (party_put_other q p y latest ne)) (owes.others q ne)
+
+      mine_knows : (q : ℕ) → q ≡ p → KnowsParty s' q (events ++ es) changes' (party_of q (put p y latest))
+      mine_knows q e =
+          subst (λ n. KnowsParty s' n (events ++ es) changes' (party_of n (put p y latest))) (sym e)
+          (subst (KnowsParty s' p (events ++ es) changes') (sym (party_put_same p y latest)) owes.knows)
+
+      theirs_know : (q : ℕ) → q ≢ p → KnowsParty s' q (events ++ es) changes' (party_of q (put p y latest))
+      theirs_know q ne = subst (KnowsParty s' q (events ++ es) changes') (sym (party_put_other q p y latest ne)) (owes.others_know q ne)
+
+  -- ---- a turn that writes events of its own party alone
+
+  -- what it shows, where its span was this
+  pub record Shows (s s' : F.State) (from : Span T) (p : ℕ) (y : Party T) (events es : List (Event T)) (changes changes' : ℕ) : Type 0 where
+    pub own : AreOwn p es
+    pub stands : AllFollow (Stands F.kind F.capacity) from es
+    pub here : Fits s' p (Some y) (fold own_after from es)
+    pub knows : KnowsDoing s' p (events ++ es) changes' y.backs y.doing
+    pub others : (q : ℕ) → q ≢ p → (start : Start T) (flight : Flight) → F.At s q start flight → F.At s' q start flight × (F.written s' q flight ≡ F.written s q flight)
+    pub others_know : (q : ℕ) → q ≢ p → (since backs : ℕ) (flight : Flight) → F.Knows s q events since changes backs flight → F.Knows s' q (events ++ es) since changes' backs flight
+
+  -- a call of another party stays where its span does
+  module _ (s s' : F.State) (q : ℕ) (others : (start : Start T) (flight : Flight) → F.At s q start flight → F.At s' q start flight × (F.written s' q flight ≡ F.written s q flight)) where
+    doing_fits : (x : Party T) (doing : Doing) (span : Span T) → FitsDoing s q x doing span → FitsDoing s' q x doing span
+    doing_fits x (Going flight since) span h =
+        let both = others x.start flight h.at in
+        record { span = h.span ∙ ap (λ es. Open x.start es) (sym both.1); steps = h.steps; at = both.0 }
+    doing_fits x (Over others) span h = record { answer = h.answer; wrote = h.wrote; span = h.span; steps = h.steps }
+
+    pub still_fits : (o : Option (Party T)) (span : Span T) → Fits s q o span → Fits s' q o span
+    still_fits None span h = h
+    still_fits (Some x) span h = doing_fits x x.doing span h
+
+  module _ (s s' : F.State) (q : ℕ) (events es : List (Event T)) (changes changes' : ℕ) (others : (since backs : ℕ) (flight : Flight) → F.Knows s q events since changes backs flight → F.Knows s' q (events ++ es) since changes' backs flight) where
+    doing_knows : (backs : ℕ) (doing : Doing) → KnowsDoing s q events changes backs doing → KnowsDoing s' q (events ++ es) changes' backs doing
+    doing_knows backs (Going flight since) h = others since backs flight h
+    doing_knows backs (Over others) h = h
+
+    pub still_knows : (o : Option (Party T)) → KnowsParty s q events changes o → KnowsParty s' q (events ++ es) changes' o
+    still_knows None h = tt
+    still_knows (Some x) h = doing_knows x.backs x.doing h
+
+  pub owes : (s s' : F.State) (from : Span T) (p : ℕ) (y : Party T) (latest : List (ℕ × Party T)) (events es : List (Event T)) (changes changes' : ℕ) → span_of p events ≡ from → Inv s latest events changes
+      → Shows s s' from p y events es changes changes' → Owes s' p y latest events es changes'
+  owes s s' from p y latest events es changes changes' is inv shows =
+      let span : span_of p (events ++ es) ≡ fold own_after from es = span_of-own p events es shows.own ∙ ap (λ a. fold own_after a es) is in
+      record {
+        stands = spans_right (Stands F.kind F.capacity) p events es from is shows.own shows.stands;
+        here = subst (λ a. Fits s' p (Some y) a) (sym span) shows.here;
+        knows = shows.knows;
+        others = λ q ne.
+            subst (λ a. Fits s' q (party_of q latest) a) (sym (span_of-other p q events es ne shows.own))
+            (still_fits s s' q (shows.others q ne) (party_of q latest) (span_of q events) (inv.calls q));
+        others_know = λ q ne. still_knows s s' q events es changes changes' (shows.others_know q ne) (party_of q latest) (inv.knows q);
+      }
+
+  -- a party without a call under way has a span that is shut
+  pub shut : (s : F.State) (p : ℕ) (o : Option (Party T)) (seen : Span T) → flight_of (doing_of o) ≡ None → Fits s p o seen → IsShut seen
+  shut s p None seen e h = subst IsShut (sym h) tt
+  shut s p (Some x) seen e h = go x.doing e h
+    where
+      go : (doing : Doing) → flight_of (Some doing) ≡ None → FitsDoing s p x doing seen → IsShut seen
+      go (Going flight since) e h = absurd (cc)
+      go (Over others) e h = subst IsShut (sym h.span) tt
+
+  pub under_way : (s : F.State) (p : ℕ) (x : Party T) (doing : Doing) (flight : Flight) (since : ℕ) (seen : Span T) → doing ≡ Going flight since → FitsDoing s p x doing seen → IsUnderWay s p x flight seen
+  under_way s p x doing flight since seen e h = subst (λ d. FitsDoing s p x d seen) e h
+
+  pub knows_now : (s : F.State) (p : ℕ) (events : List (Event T)) (changes : ℕ) (o : Option (Party T)) (x : Party T) (flight : Flight) (since : ℕ) → o ≡ Some x → x.doing ≡ Going flight since → KnowsParty s p events changes o
+      → F.Knows s p events since changes x.backs flight
+  knows_now s p events changes o x flight since found doing h =
+      subst (KnowsDoing s p events changes x.backs) doing (subst (KnowsParty s p events changes) found h)
+
+  -- ---- every turn
+
+  pub record Sound (t : Trace T) : Type 0 where
+    pub kind : t.world.kind ≡ F.kind
+    pub capacity : t.world.capacity ≡ F.capacity
+    pub state : F.State
+    pub fit : F.Fit t.world.kept t.world.words state
+    pub holds : F.Holds state t.world.latest t.events t.world.turns
+    pub inv : Inv state t.world.latest t.events t.world.changes
+
+  -- what a turn comes to that leaves these words, this beside them, and the party so
+  pub record Comes (t : Trace T) (p : ℕ) (kept : Kept) (words : List ℕ) (y : Party T) (es : List (Event T)) (changes : ℕ) : Type 0 where
+    pub state : F.State
+    pub fit : F.Fit kept words state
+    pub holds : F.Holds state (put p y t.world.latest) (t.events ++ es) (t.world.turns + 1)
+    pub owes : Owes state p y t.world.latest t.events es changes
+
+  -- the step of a party's call from this answer, with this operation
+  abbrev pub ComesByStep : Trace T → ℕ → Party T → Flight → ℕ → Option Ask → ℕ → Type 0
+  ComesByStep t p x flight since ask answer =
+      Comes t p (step_in t.world p x flight answer).kept (words_after t.world.words ask) (party_after x since t.world.changes (step_count ask) (change_of t.world.words ask) (step_in t.world p x flight answer)) (events_of_step p x.start (step_in t.world p x flight answer)) (t.world.changes + change_of t.world.words ask)
+
+  -- what a family owes
+  pub record Laws : Type 0 where
+    pub step : (t : Trace T) (p : ℕ) (x : Party T) (flight : Flight) (since : ℕ) → Sound t → t.world.turns < 2 ^ 64 - 2 → party_of p t.world.latest ≡ Some x → x.doing ≡ Going flight since
+        → ComesByStep t p x flight since (ask_of (want_of flight)) (old_of t.world.words (ask_of (want_of flight)))
+    pub decision : (t : Trace T) (p : ℕ) (x : Party T) (flight : Flight) (since : ℕ) (said : Bool) → Sound t → t.world.turns < 2 ^ 64 - 2 → party_of p t.world.latest ≡ Some x → x.doing ≡ Going flight since → is_question (want_of flight) ≡ true
+        → ComesByStep t p x flight since None (number_of said)
+    pub begin : (t : Trace T) (p : ℕ) (start : Start T) (flight : Flight) → Sound t → MayBegin t.world p start → first_of t.world.kind t.world.capacity start ≡ Some flight
+        → Comes t p t.world.kept t.world.words (party_at_begin start flight t.world.changes) (Begun p start ∷ []) t.world.changes
+
+  module _ (laws : Laws) where
+    step_sound : (t : Trace T) (p : ℕ) (x : Party T) (flight : Flight) (since : ℕ) (ask : Option Ask) (answer : ℕ) → Sound t → ComesByStep t p x flight since ask answer
+        → Sound record { world = after_step t.world p x since ask (step_in t.world p x flight answer); events = t.events ++ events_of_step p x.start (step_in t.world p x flight answer) }
+    step_sound t p x flight since ask answer s comes =
+        let w = t.world in
+        let y = party_after x since w.changes (step_count ask) (change_of w.words ask) (step_in w p x flight answer) in
+        record {
+          kind = s.kind;
+          capacity = s.capacity;
+          state = comes.state;
+          fit = comes.fit;
+          holds = comes.holds;
+          inv = advance s.state comes.state p y w.latest t.events (events_of_step p x.start (step_in w p x flight answer)) w.changes (w.changes + change_of w.words ask) s.inv comes.owes;
+        }
+
+    same : (t : Trace T) → Sound t → Sound record { world = t.world; events = t.events ++ [] }
+    same t s = subst (λ es. Sound record { world = t.world; events = es }) (sym (append-nil t.events)) s
+
+    next_sound : (t : Trace T) (p : ℕ) → MayGoOn t.world p → Sound t → (o : Option (Party T)) → party_of p t.world.latest ≡ o → Sound record { world = after_next t.world p o; events = t.events ++ events_of_next t.world p o }
+    next_sound t p may s None e = same t s
+    next_sound t p may s (Some x) e = go x.doing refl
+      where
+        go : (doing : Doing) → x.doing ≡ doing → Sound record { world = after_answer t.world p x (ask_of_doing doing) (old_of t.world.words (ask_of_doing doing)) doing; events = t.events ++ events_of_answer t.world p x (old_of t.world.words (ask_of_doing doing)) doing }
+        go (Over others) d = same t s
+        go (Going flight since) d =
+            step_sound t p x flight since (ask_of (want_of flight)) (old_of t.world.words (ask_of (want_of flight))) s
+            (laws.step t p x flight since s may.turns e d)
+
+    decision_sound : (t : Trace T) (p : ℕ) (said : Bool) → MayGoOn t.world p → is_due (flight_in t.world p) ≡ true → Sound t → (o : Option (Party T)) → party_of p t.world.latest ≡ o
+        → Sound record { world = after_decision t.world p said o; events = t.events ++ events_of_decision t.world p said o }
+    decision_sound t p said may due s None e = same t s
+    decision_sound t p said may due s (Some x) e = go x.doing refl
+      where
+        go : (doing : Doing) → x.doing ≡ doing → Sound record { world = after_answer t.world p x None (number_of said) doing; events = t.events ++ events_of_answer t.world p x (number_of said) doing }
+        go (Over others) d = same t s
+        go (Going flight since) d =
+            let here : flight_in t.world p ≡ Some flight = ap (λ o. flight_of (doing_of o)) e ∙ ap (λ d. flight_of (Some d)) d in
+            let asks : is_question (want_of flight) ≡ true = rw here at due in
+            step_sound t p x flight since None (number_of said) s (laws.decision t p x flight since said s may.turns e d asks)
+
+    begin_sound : (t : Trace T) (p : ℕ) (start : Start T) → MayBegin t.world p start → Sound t → (o : Option Flight) → first_of t.world.kind t.world.capacity start ≡ o → Sound record { world = after_begin t.world p start o; events = t.events ++ Begun p start ∷ [] }
+    begin_sound t p start may s None e =
+        let call = rw e at may.call in
+        absurd (cc)
+    begin_sound t p start may s (Some flight) e =
+        let w = t.world in
+        let comes = laws.begin t p start flight s may e in
+        record {
+          kind = s.kind;
+          capacity = s.capacity;
+          state = comes.state;
+          fit = comes.fit;
+          holds = comes.holds;
+          inv = advance s.state comes.state p (party_at_begin start flight w.changes) w.latest t.events (Begun p start ∷ []) w.changes w.changes s.inv comes.owes;
+        }
+
+    is_true : (b : Bool) → not b ≡ false → b ≡ true
+    is_true true e = refl
+    is_true false e = absurd (cc)
+
+    pub turn_sound : (t : Trace T) (turn : Turn T) → refusal_of t.world turn ≡ None → Sound t → Sound (after_turn t turn)
+    turn_sound t (Begin p start) e s = begin_sound t p start (may_begin t.world p start e) s (first_of t.world.kind t.world.capacity start) refl
+    turn_sound t (Next p) e s = next_sound t p (may_next t.world p e) s (party_of p t.world.latest) refl
+    turn_sound t (Decide p said) e s =
+        decision_sound t p said (may_decide t.world p said e) (is_true (is_due (flight_in t.world p)) (must_be_due t.world p said e)) s (party_of p t.world.latest) refl
+    turn_sound t (Die owner) e s = absurd (never_dies t.world owner e)
+
+    pub reached_sound : (t : Trace T) → Sound (opening t.world.kind t.world.capacity t.world.parties) → IsReached t → Sound t
+    reached_sound t first r = kept_by_runs Sound (λ u turn e h. turn_sound u turn e h) t first r
+
+  -- ---- progress
+
+  -- what a family says of the counts of a call under way
+  pub record Bounds : Type 0 where
+    pub most : (s : F.State) (p backs : ℕ) (start : Start T) (flight : Flight) → F.At s p start flight → F.number flight backs ≤ most_steps F.kind start backs
+    pub paid : (s : F.State) (p : ℕ) (events : List (Event T)) (since changes backs : ℕ) (flight : Flight) → F.Knows s p events since changes backs flight → backs ≤ changes - since
+
+  pub progresses : Bounds → (s : F.State) (p : ℕ) (events : List (Event T)) (changes : ℕ) (o : Option (Party T)) (seen : Span T) → Fits s p o seen → KnowsParty s p events changes o → Progresses F.kind seen (progress_after changes o)
+  progresses bounds s p events changes None seen h knows = subst (λ a. Progresses {T = T} F.kind a None) (sym h) tt
+  progresses bounds s p events changes (Some x) seen h knows = go x.doing refl h knows
+    where
+      go : (doing : Doing) → x.doing ≡ doing → FitsDoing s p x doing seen → KnowsDoing s p events changes x.backs doing → Progresses F.kind seen (progress_after changes (Some x))
+      go (Going flight since) e h knows =
+          let most = bounds.most s p x.backs x.start flight h.at in
+          let steps = h.steps in
+          rw (h.span, e) (record { steps = omega arith; backs = bounds.paid s p events since changes x.backs flight knows }, refl)
+      go (Over others) e h knows = rw (h.span, e) (record { steps = h.steps; backs = knows }, refl)

@@ -1,0 +1,20 @@
+-- How many values wait, as a call tells it.
+use Rattle.std.specs.Prelude.{◌≡◌, ℕ, ◌==◌, List, length}
+use Rattle.model.specs.declared.event.Start.TheVariants.{Queues}
+use Rattle.model.specs.declared.event.Answer.TheVariants.{Truth, Number}
+use Rattle.model.specs.declared.event.Event.{Event}
+use Rattle.model.specs.declared.event.Event.TheVariants.{Finished}
+use Rattle.model.specs.declared.families.queues.QueueStart.TheVariants.{Len, IsEmpty, IsFull}
+use Rattle.model.specs.Families.Queues.Reading.{waiting}
+use Rattle.model.specs.Moments.{HeldOnce}
+
+module _ {T : Type 0} where
+  -- the answer tells how many values waited at one moment of the call
+  abbrev pub TellsLength : ℕ → List (Event T) → Event T → Type 0
+  TellsLength capacity before (Finished p (Queues Len) answer) =
+      HeldOnce p (λ part. answer ≡ Number (length (waiting part))) before
+  TellsLength capacity before (Finished p (Queues IsEmpty) answer) =
+      HeldOnce p (λ part. answer ≡ Truth (length (waiting part) == 0)) before
+  TellsLength capacity before (Finished p (Queues IsFull) answer) =
+      HeldOnce p (λ part. answer ≡ Truth (length (waiting part) == capacity)) before
+  TellsLength capacity before e = Unit {0}

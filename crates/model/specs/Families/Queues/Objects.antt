@@ -1,0 +1,74 @@
+-- The lists that the calls of a queue answer as.
+use Rattle.std.specs.Prelude.{ℕ, Option, Some, None, List, [], ◌∷◌, ◌++◌, length, drop, nat_lt, slice_get, if◌then◌else◌}
+use Rattle.model.specs.declared.event.Item.{Item}
+use Rattle.model.specs.declared.event.Item.TheVariants.{Index, Value}
+use Rattle.model.specs.declared.event.Start.{Start}
+use Rattle.model.specs.declared.event.Start.TheVariants.{Queues}
+use Rattle.model.specs.declared.event.Answer.{Answer}
+use Rattle.model.specs.declared.event.Answer as answers
+use Rattle.model.specs.declared.families.queues.QueueStart.TheVariants.{PushIndex, Push, Pop}
+use Rattle.model.specs.declared.turn.Kind.{Kind}
+use Rattle.model.specs.declared.turn.Kind.TheVariants.{IndexQueue, Overflow}
+use Rattle.model.specs.Objects.{Object}
+
+module _ {T : Type 0} where
+  -- the answer of a pop, and of a push that hands back
+  abbrev pub answer_of_item : Option (Item T) → Answer T
+  answer_of_item None = answers.TheVariants.PoppedNone
+  answer_of_item (Some (Index index)) = answers.TheVariants.PoppedIndex index
+  answer_of_item (Some (Value value)) = answers.TheVariants.Popped value
+
+  -- ---- the bounded list
+
+  abbrev pub appended : ℕ → List (Item T) → Item T → List (Item T)
+  appended capacity items item = if nat_lt (length items) capacity then items ++ item ∷ [] else items
+
+  abbrev pub list_after : ℕ → List (Item T) → Start T → List (Item T)
+  list_after capacity items (Queues (PushIndex index)) = appended capacity items (Index index)
+  list_after capacity items (Queues (Push value)) = appended capacity items (Value value)
+  list_after capacity items (Queues Pop) = drop 1 items
+  list_after capacity items other = items
+
+  abbrev pub list_answer : ℕ → List (Item T) → Start T → Answer T
+  list_answer capacity items (Queues (PushIndex index)) = answers.TheVariants.Truth (nat_lt (length items) capacity)
+  list_answer capacity items (Queues (Push value)) = answers.TheVariants.Truth (nat_lt (length items) capacity)
+  list_answer capacity items (Queues Pop) = answer_of_item (slice_get items 0)
+  list_answer capacity items other = answers.TheVariants.Done
+
+  -- Push appends and answers true where the length is below the capacity, else it answers false and changes nothing.
+  -- Pop takes the front, or answers None.
+  abbrev pub bounded_list : ℕ → Object T (List (Item T))
+  bounded_list capacity = record { opening = []; after = list_after capacity; answer = list_answer capacity }
+
+  -- ---- the overflowing list
+
+  -- the front leaves where the list is too long
+  abbrev pub cut : ℕ → List (Item T) → List (Item T)
+  cut capacity items = if nat_lt capacity (length items) then drop 1 items else items
+
+  -- it is answered
+  abbrev pub cut_off : ℕ → List (Item T) → Option (Item T)
+  cut_off capacity items = if nat_lt capacity (length items) then slice_get items 0 else None
+
+  abbrev pub overflow_after : ℕ → List (Item T) → Start T → List (Item T)
+  overflow_after capacity items (Queues (PushIndex index)) = cut capacity (items ++ Index index ∷ [])
+  overflow_after capacity items (Queues (Push value)) = cut capacity (items ++ Value value ∷ [])
+  overflow_after capacity items (Queues Pop) = drop 1 items
+  overflow_after capacity items other = items
+
+  abbrev pub overflow_answer : ℕ → List (Item T) → Start T → Answer T
+  overflow_answer capacity items (Queues (PushIndex index)) = answer_of_item (cut_off capacity (items ++ Index index ∷ []))
+  overflow_answer capacity items (Queues (Push value)) = answer_of_item (cut_off capacity (items ++ Value value ∷ []))
+  overflow_answer capacity items (Queues Pop) = answer_of_item (slice_get items 0)
+  overflow_answer capacity items other = answers.TheVariants.Done
+
+  -- Push appends, and where the length then passes the capacity the front leaves and is answered, else None.
+  -- Pop takes the front, or answers None.
+  abbrev pub overflowing_list : ℕ → Object T (List (Item T))
+  overflowing_list capacity =
+      record { opening = []; after = overflow_after capacity; answer = overflow_answer capacity }
+
+  -- the list that the calls of a kind answer as
+  abbrev pub list_of : Kind → ℕ → Object T (List (Item T))
+  list_of IndexQueue capacity = bounded_list capacity
+  list_of Overflow capacity = overflowing_list capacity

@@ -1,0 +1,28 @@
+-- What a step of a call comes to: in a family by its own calls and what it keeps, in a machine by those of any family.
+use Rattle.std.specs.Prelude.{ℕ, Option, Some, None, List}
+use Rattle.steps.specs.declared.ask.After.{After}
+use Rattle.steps.specs.declared.ask.After.TheVariants.{GoOn, Done}
+use Rattle.model.specs.declared.event.Answer.{Answer}
+use Rattle.model.specs.declared.event.Event.{Event}
+
+pub record Step (F K T : Type 0) : Type 0 where
+  pub after : After F (Answer T)  -- the call goes on, or it is done
+  pub back : ℕ  -- 1 where it begins a turn of its loop again
+  pub wrote : List (Event T)  -- what it did to the structure, and who acts there, in order
+  pub kept : K  -- what the family keeps beside its words
+
+-- the answer of a call that is done
+abbrev pub answer_in : {C A : Type 0} → After C A → Option A
+answer_in (GoOn call) = None
+answer_in (Done answer) = Some answer
+
+module _ {R F A B : Type 0} where
+  -- a call of one kind as a call of another
+  abbrev pub as_call : (R → F) → (A → B) → After R A → After F B
+  as_call flight answer (GoOn run) = GoOn (flight run)
+  as_call flight answer (Done result) = Done (answer result)
+
+module _ {R F K L T : Type 0} where
+  abbrev pub as_step : (R → F) → (K → L) → Step R K T → Step F L T
+  as_step flight kept s =
+      record { after = as_call flight (λ answer. answer) s.after; back = s.back; wrote = s.wrote; kept = kept s.kept }

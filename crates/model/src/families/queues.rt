@@ -1,0 +1,28 @@
+//! The queues: their calls by name, who holds their roles, and what stands in the files beside this one.
+pub mod calls;
+pub mod effects;
+pub mod opening;
+
+/// A call of a queue by its name and arguments. Which of the pushes a kind has depends on its values.
+#[derive(Debug, Clone, Copy, PartialEq, Eq)]
+pub enum QueueStart<T> {
+    AcquireProducer,
+    ReleaseProducer,
+    AcquireConsumer,
+    ReleaseConsumer,
+    /// Of a number, in the queues of indices.
+    PushIndex(u64),
+    /// Of a value of the machine's own type.
+    Push(T),
+    Pop,
+    Len,
+    IsEmpty,
+    IsFull,
+}
+
+/// The parties that hold the roles: from the end of an acquire that answers true to the end of the giving back.
+#[derive(Clone, Copy)]
+pub struct Roles {
+    pub producer: Option<u32>,
+    pub consumer: Option<u32>,
+}

@@ -1,0 +1,32 @@
+-- How words are read from left to right: a value and the rest, or the first cause that is met.
+use Rattle.std.specs.Prelude.{◌≡◌, ℕ, List, [], ◌∷◌, Result, Ok, Err}
+use Rattle.schedule.specs.declared.error.Cause.{Cause}
+use Rattle.schedule.specs.declared.error.Cause.TheVariants.{MissingValue, ExtraWords}
+use Rattle.schedule.specs.Text.{number_of}
+
+infixl 10 ◌>>=◌
+abbrev pub ◌>>=◌ : {A B : Type 0} → Result A Cause → (A → Result B Cause) → Result B Cause
+(Ok x) >>= f = f x
+(Err e) >>= f = Err e
+
+-- what a function returned, seen by view, is what reading gives
+abbrev pub Gives : {X Y : Type 0} → (X → Y) → Result X Cause → Result Y Cause → Type 0
+Gives view (Ok x) read = read ≡ Ok (view x)
+Gives view (Err e) read = read ≡ Err e
+
+-- ---- words
+
+abbrev pub next_word : List (List ℕ) → Result (List ℕ × List (List ℕ)) Cause
+next_word [] = Err MissingValue
+next_word (w ∷ ws) = Ok (w, ws)
+
+abbrev pub ended : List (List ℕ) → Result (Unit {0}) Cause
+ended [] = Ok tt
+ended (w ∷ ws) = Err ExtraWords
+
+-- a number up to the greatest, and the words after it
+unfoldable pub number_at : ℕ → List (List ℕ) → Result (ℕ × List (List ℕ)) Cause
+number_at greatest ws = do
+  word ← next_word ws
+  n ← number_of greatest word.0
+  Ok (n, word.1)
