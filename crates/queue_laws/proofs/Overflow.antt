@@ -2,5 +2,7 @@ pub mod Core
 pub mod Keeping
 pub mod Knows
 pub mod Pops
+pub mod Publishes
 pub mod Pushes
+pub mod Takes
 pub mod Waiting

@@ -1,19 +1,19 @@
 -- The steps of an overflowing queue's push.
 use Rattle.std.proofs.Common.{◌≡◌, ◌≢◌, ℕ, suc, ◌+◌, ◌-◌, ◌*◌, ◌%◌, ◌^◌, ◌<◌, ◌≤◌, ◌==◌, Bool, true, false, inr, Option, Some, None, option_map, List, [], ◌∷◌, ◌++◌, length, get_or, map, refl, sym, ap, subst, ◌∙◌, append-nil, arith, length-append}
 use Rattle.std.proofs.lemmas.Bool.Decides.{nat_tests}
-use Rattle.std.proofs.lemmas.List.{map-append, set-get_or}
+use Rattle.std.proofs.lemmas.List.{set-get_or}
 use Rattle.steps.specs.declared.ask.Ask.{Ask}
 use Rattle.steps.specs.declared.ask.Op.TheVariants.{Load, Store, Exchange}
 use Rattle.steps.specs.declared.ask.After.{After}
 use Rattle.steps.specs.declared.ask.After.TheVariants.{GoOn, Done}
 use Rattle.steps.specs.declared.copied.OneWord.{OneWord}
 use Rattle.steps.specs.declared.queues.overflow.PushStage as overflow_pushes
-use Rattle.steps.specs.Queues.Ring.{distance, after_position}
+use Rattle.steps.specs.Queues.Ring.{after_position}
 use Rattle.steps.specs.Queues.Overflow.{cell_word}
 use Rattle.model.specs.declared.families.queues.calls.QueueFlight.{QueueFlight}
 use Rattle.model.specs.declared.families.queues.calls.QueueFlight.TheVariants.{Overflow}
 use Rattle.model.specs.declared.families.queues.effects.Effect.{Effect}
-use Rattle.model.specs.declared.families.queues.effects.Effect.TheVariants.{Quiet, Acts, Publishes, PublishesAndActs, TakesOut}
+use Rattle.model.specs.declared.families.queues.effects.Effect.TheVariants.{Quiet, Acts, TakesOut}
 use Rattle.model.specs.declared.event.Item.{Item}
 use Rattle.model.specs.declared.event.Item.TheVariants.{Index}
 use Rattle.model.specs.declared.families.queues.QueueStart.TheVariants.{PushIndex}
@@ -26,52 +26,26 @@ use Rattle.model.specs.declared.families.Flight as flights
 use Rattle.model.specs.declared.party.Party.{Party}
 use Rattle.model.specs.declared.turn.Kind as kinds
 use Rattle.model.specs.Families.Queues.Objects.{answer_of_item}
-use Rattle.model.specs.Families.Queues.Calls.{after, words_of_index}
+use Rattle.model.specs.Families.Queues.Calls.{write_word, read_word, after, words_of_index}
 use Rattle.model.specs.Families.Queues.Steps.{pending_at, pending, effect_of}
 use Rattle.model.specs.Parties.{party_of, put, doing_of, flight_of}
 use Rattle.model.specs.Reading.{Open, span_of}
 use Rattle.model.specs.Turns.{words_after, change_of}
 use Rattle.queue_laws.proofs.Queues.Invariant.{Scene, Inv}
-use Rattle.model.specs.declared.families.queues.Roles.{Roles}
 use Rattle.model.specs.Families.Queues.Promises.{load_of_write, load_of_read}
-use Rattle.queue_laws.proofs.Overflow.Core.{none_passes, one_passes, oldest, push_room, push_waits, push_over}
-use Rattle.queue_laws.proofs.Queues.Core as core
-use Rattle.queue_laws.proofs.Queues.Core.{Core, Holds, Good, filled, taken, fills, one_filled, publishes, takes, word_at, set_at}
+use Rattle.queue_laws.proofs.Overflow.Core.{none_passes, one_passes, oldest, push_over}
+use Rattle.queue_laws.proofs.Queues.Core.{Holds, filled, taken, fills, one_filled, takes, word_at, set_at}
 use Rattle.queue_laws.proofs.Overflow.Knows.{overflow_push_at, KnowsOverflowPush, overflow_push_number}
-use Rattle.queue_laws.proofs.Queues.Knows.{free, layout, Hangs, has_written}
+use Rattle.queue_laws.proofs.Queues.Knows.{free, layout, has_written}
 use Rattle.queue_laws.proofs.Queues.Invariant.{Inv}
 use Rattle.queue_laws.proofs.Queues.Keeping.{clash, kept}
 use Rattle.queue_laws.proofs.Queues.Pending.{pending_here, few_wait, none_hangs}
 use Rattle.queue_laws.proofs.Queues.Stages.{party_then, DoesStep, Moves, MovesOf, still_hangs, quiet, alone}
-use Rattle.queue_laws.proofs.Overflow.Keeping.{fill_keeps_pop, publish_keeps_pop, take_keeps_pop}
+use Rattle.queue_laws.proofs.Overflow.Publishes.{stores_write}
+use Rattle.queue_laws.proofs.Overflow.Keeping.{fill_keeps_pop, take_keeps_pop}
 
 module _ {T : Type 0} (scene : Scene T) (inv : Inv kinds.TheVariants.Overflow scene) (small : scene.turns < 2 ^ 64 - 2) (v : ℕ) (room : OneWord) (holds : scene.roles.producer ≡ Some scene.party) (b : scene.backs ≡ 0) where
-  abbrev c : ℕ
-  c = scene.capacity
-
-  abbrev ro : Roles
-  ro = scene.roles
-
-  abbrev k : Core ℕ
-  k = scene.core
-
-  abbrev p : ℕ
-  p = scene.party
-
-  abbrev steps : ℕ
-  steps = scene.steps
-
-  abbrev since : ℕ
-  since = scene.since
-
-  abbrev latest : List (ℕ × Party T)
-  latest = scene.latest
-
-  abbrev events : List (Event T)
-  events = scene.events
-
-  reached : k.write ≤ scene.turns
-  reached = inv.queue.reached
+  open scene use {capacity as c, roles as ro, core as k, party as p, steps, since, latest, events}
 
   abbrev at : overflow_pushes.PushStage → QueueFlight
   at stage = Overflow (overflow_push_at c v room stage)
@@ -171,173 +145,11 @@ module _ {T : Type 0} (scene : Scene T) (inv : Inv kinds.TheVariants.Overflow sc
       (omega arith)
       (λ q ne. kept c ro ro k (filled 1 words_of_index (c + 1) k 0 v) q (λ h. h) (λ h. h) kinds.TheVariants.Overflow (record { push = λ mine w stage h. absurd (clash ro.producer p q ne holds mine); pop = λ mine other stage h. fill_keeps_pop c k 0 v other stage h }))
 
-  -- ---- the store of the next write position
-
-  module _ (read : ℕ) (some : 0 < c) (low : read ≤ k.read) (far : k.write ≤ read + c) (whole : Holds 1 words_of_index (c + 1) k.cells k.write v 1) (s : steps ≤ 3) where
-    abbrev next_write : Option Ask
-    next_write = Some (record { word = 0; op = Store (after_position k.write) })
-
-    abbrev after_publish : Core ℕ
-    after_publish = core.published 1 words_of_index (c + 1) k v
-
-    good_publish : Good 1 words_of_index (c + 1) after_publish
-    good_publish = let g = inv.queue.good in let write = g.write in publishes 1 words_of_index (c + 1) k v (omega arith) g whole
-
-    next_is : after_position k.write ≡ k.write + 1
-    next_is = let reached = inv.queue.reached in omega arith
-
-    words_publish : words_after (layout ro k) next_write ≡ layout ro after_publish
-    words_publish = ap (λ n. n ∷ k.read ∷ free ro.producer ∷ free ro.consumer ∷ k.cells) next_is
-
-    one : change_of (layout ro k) next_write ≡ 1
-    one =
-        let reached = inv.queue.reached in
-        let moved : (after_position k.write == k.write) ≡ false = grind (arith, nat_tests) in
-        rw moved refl
-
-    joined : map {B = Item T} Index k.waiting ++ Index v ∷ [] ≡ map Index (k.waiting ++ v ∷ [])
-    joined = sym (map-append Index k.waiting (v ∷ []))
-
-    -- there is room now, as when the read position was loaded or since
-    publishes_done : length k.waiting < c → Does [] next_write (Done PoppedNone) (Publishes (Index v))
-    publishes_done below =
-        let list = push_room {T = T} c k.waiting v below in
-        let longer = length-append k.waiting (v ∷ []) in
-        let change = one in
-        let reached = inv.queue.reached in (
-          after_publish,
-          words_publish,
-          record {
-            own = (refl, (refl, (refl, tt)));
-            stands = ((refl, refl), ((refl, refl), ((refl, record { moments = refl; published = sym (one_passes c (Index v) some); handed_out = refl }), tt)));
-            grants = (tt, (tt, (tt, tt)));
-            producers = refl;
-            consumers = refl;
-            right = (tt, (tt, (tt, tt)));
-            lengths = (tt, (tt, (tt, tt)));
-            good = good_publish;
-            hangs = none_hangs kinds.TheVariants.Overflow c after_publish (pending k.read ro.producer (put p (after_it next_write (Done PoppedNone)) latest)) (pending_after k.read (after_it next_write (Done PoppedNone))) (omega arith);
-            out = omega arith;
-            book = joined;
-            goes = list.0;
-            answers = ap (λ (o : Option (Item T)). answer_of_item o ∷ []) list.1;
-            here =
-                record {
-                  answer = PoppedNone;
-                  wrote = Published p (Index v) ∷ Acted p (Queues (PushIndex v)) PoppedNone ∷ [];
-                  span = refl;
-                  steps = omega arith;
-                };
-            knows = omega arith;
-            up = record { write = omega arith; read = omega arith; paid = omega arith };
-            others = λ q ne. kept c ro ro k after_publish q (λ h. h) (λ h. h) kinds.TheVariants.Overflow (record { push = λ mine w stage h. absurd (clash ro.producer p q ne holds mine); pop = λ mine other stage h. publish_keeps_pop c k v other stage h });
-            reached = omega arith;
-          },
-        )
-
-    -- the queue is full, and the value waits as one more than the capacity
-    publishes_over : read ≡ k.read → k.write ≡ read + c → Does [] next_write (GoOn (at (overflow_pushes.TheVariants.MovesRead read))) (Publishes (Index v))
-    publishes_over here full =
-        let g = inv.queue.good in
-        let write = g.write in
-        let change = one in
-        let reached = inv.queue.reached in
-        let t : (read == k.read) ≡ true = grind (arith, nat_tests) in
-        let hung : pending k.read ro.producer (put p (after_it next_write (GoOn (at (overflow_pushes.TheVariants.MovesRead read)))) latest) ≡ Some (p, v) =
-        pending_after k.read (after_it next_write (GoOn (at (overflow_pushes.TheVariants.MovesRead read)))) ∙ (rw t refl)
-        in
-        let many : length k.waiting ≡ c = omega arith in (
-          after_publish,
-          words_publish,
-          record {
-            own = (refl, tt);
-            stands = ((refl, refl), tt);
-            grants = (tt, tt);
-            producers = refl;
-            consumers = refl;
-            right = (tt, tt);
-            lengths = (tt, tt);
-            good = good_publish;
-            hangs = subst (Hangs kinds.TheVariants.Overflow c after_publish) (sym hung) (some, k.waiting, refl, many);
-            out = omega arith;
-            book = joined;
-            goes = push_waits c k.waiting v many;
-            answers = refl;
-            here = record { span = rw t refl; steps = omega arith; at = (holds, refl, refl, (some, omega arith, omega arith, λ same. (k.waiting, refl))) };
-            knows = omega arith;
-            up = record { write = omega arith; read = omega arith; paid = omega arith };
-            others = λ q ne. kept c ro ro k after_publish q (λ h. h) (λ h. h) kinds.TheVariants.Overflow (record { push = λ mine w stage h. absurd (clash ro.producer p q ne holds mine); pop = λ mine other stage h. publish_keeps_pop c k v other stage h });
-            reached = omega arith;
-          },
-        )
-
-    -- the queue was full, and a pop has made room since
-    publishes_late : read < k.read → k.write ≡ read + c → Does [] next_write (GoOn (at (overflow_pushes.TheVariants.MovesRead read))) (PublishesAndActs (Index v))
-    publishes_late moved full =
-        let g = inv.queue.good in
-        let write = g.write in
-        let change = one in
-        let reached = inv.queue.reached in
-        let below : length k.waiting < c = omega arith in
-        let list = push_room {T = T} c k.waiting v below in
-        let longer = length-append k.waiting (v ∷ []) in
-        let t : (read == k.read) ≡ false = grind (arith, nat_tests) in
-        let calm : pending k.read ro.producer (put p (after_it next_write (GoOn (at (overflow_pushes.TheVariants.MovesRead read)))) latest) ≡ None =
-        pending_after k.read (after_it next_write (GoOn (at (overflow_pushes.TheVariants.MovesRead read)))) ∙ (rw t refl)
-        in (
-          after_publish,
-          words_publish,
-          record {
-            own = (refl, (refl, tt));
-            stands = ((refl, refl), ((refl, refl), tt));
-            grants = (tt, (tt, tt));
-            producers = refl;
-            consumers = refl;
-            right = (tt, (tt, tt));
-            lengths = (tt, (tt, tt));
-            good = good_publish;
-            hangs = none_hangs kinds.TheVariants.Overflow c after_publish (pending k.read ro.producer (put p (after_it next_write (GoOn (at (overflow_pushes.TheVariants.MovesRead read)))) latest)) calm (omega arith);
-            out = omega arith;
-            book = joined;
-            goes = list.0;
-            answers = ap (λ (o : Option (Item T)). answer_of_item o ∷ []) list.1;
-            here = record { span = rw t refl; steps = omega arith; at = (holds, refl, refl, (some, omega arith, omega arith, λ same. absurd (omega arith))) };
-            knows = omega arith;
-            up = record { write = omega arith; read = omega arith; paid = omega arith };
-            others = λ q ne. kept c ro ro k after_publish q (λ h. h) (λ h. h) kinds.TheVariants.Overflow (record { push = λ mine w stage h. absurd (clash ro.producer p q ne holds mine); pop = λ mine other stage h. publish_keeps_pop c k v other stage h });
-            reached = omega arith;
-          },
-        )
-
-    stores_write : Does [] next_write (after (at (overflow_pushes.TheVariants.StoresWrite k.write read)) k.write) (effect_of (layout ro k) (pending k.read ro.producer latest) (at (overflow_pushes.TheVariants.StoresWrite k.write read)) k.write)
-    stores_write = go (distance k.write read == c) (k.read == read) refl refl
-      where
-        go : (full here : Bool) → (distance k.write read == c) ≡ full → (k.read == read) ≡ here
-            → Does [] next_write (after (at (overflow_pushes.TheVariants.StoresWrite k.write read)) k.write) (effect_of (layout ro k) (pending k.read ro.producer latest) (at (overflow_pushes.TheVariants.StoresWrite k.write read)) k.write)
-        go false here t e =
-            let g = inv.queue.good in
-            let write = g.write in
-            let reached = inv.queue.reached in
-            let apart : distance k.write read ≢ c = grind (arith, nat_tests) in
-            let behind : distance k.write read ≡ k.write - read = omega arith in
-            let below : length k.waiting < c = (let other : k.write - read ≢ c = λ h. apart (behind ∙ h) in omega arith) in
-            rw t (publishes_done below)
-        go true true t e =
-            let reached = inv.queue.reached in
-            let full : distance k.write read ≡ c = grind (arith, nat_tests) in
-            let same : k.read ≡ read = grind (arith, nat_tests) in
-            rw (t, e) (publishes_over (sym same) (omega arith))
-        go true false t e =
-            let reached = inv.queue.reached in
-            let full : distance k.write read ≡ c = grind (arith, nat_tests) in
-            let other : k.read ≢ read = grind (arith, nat_tests) in
-            rw (t, e) (publishes_late (omega arith) (omega arith))
-
   -- ---- the move of the read position
 
   -- the push takes the oldest value out
   takes_out : 0 < c → k.write ≡ k.read + c + 1 → (others : List ℕ) → k.waiting ≡ others ++ v ∷ [] → steps ≤ 4
-      → Does (Published p (Index v) ∷ []) (Some (record { word = 1; op = Exchange k.read (after_position k.read) })) (GoOn (at (overflow_pushes.TheVariants.LoadsCell k.read))) (TakesOut (get_or k.cells (k.read % (c + 1)) 0))
+      → Does (Published p (Index v) ∷ []) (Some (record { word = read_word; op = Exchange k.read (after_position k.read) })) (GoOn (at (overflow_pushes.TheVariants.LoadsCell k.read))) (TakesOut (get_or k.cells (k.read % (c + 1)) 0))
   takes_out some far others is s =
       let g = inv.queue.good in
       let write = g.write in
@@ -352,10 +164,10 @@ module _ {T : Type 0} (scene : Scene T) (inv : Inv kinds.TheVariants.Overflow sc
       let t : (k.read == k.read) ≡ true = grind (arith, nat_tests) in
       let next : after_position k.read ≡ k.read + 1 = omega arith in
       let moved : (after_position k.read == k.read) ≡ false = grind (arith, nat_tests) in
-      let ask : Option Ask = Some (record { word = 1; op = Exchange k.read (after_position k.read) }) in
+      let ask : Option Ask = Some (record { word = read_word; op = Exchange k.read (after_position k.read) }) in
       let after : After QueueFlight (Answer T) = GoOn (at (overflow_pushes.TheVariants.LoadsCell k.read)) in
-      let words : words_after (layout ro k) (Some (record { word = 1; op = Exchange k.read (after_position k.read) })) ≡ layout ro (taken 1 words_of_index (c + 1) k rest) = rw t (ap (λ n. k.write ∷ n ∷ free ro.producer ∷ free ro.consumer ∷ k.cells) next) in
-      let one : change_of (layout ro k) (Some (record { word = 1; op = Exchange k.read (after_position k.read) })) ≡ 1 = rw (t, moved) refl in (
+      let words : words_after (layout ro k) (Some (record { word = read_word; op = Exchange k.read (after_position k.read) })) ≡ layout ro (taken 1 words_of_index (c + 1) k rest) = rw t (ap (λ n. k.write ∷ n ∷ free ro.producer ∷ free ro.consumer ∷ k.cells) next) in
+      let one : change_of (layout ro k) (Some (record { word = read_word; op = Exchange k.read (after_position k.read) })) ≡ 1 = rw (t, moved) refl in (
         taken 1 words_of_index (c + 1) k rest,
         words,
         record {
@@ -382,11 +194,11 @@ module _ {T : Type 0} (scene : Scene T) (inv : Inv kinds.TheVariants.Overflow sc
 
   -- a pop has moved it, and the push has acted with None
   gives_up : (read : ℕ) → 0 < c → read < k.read → steps ≤ 4 → IsCalm
-      → Does (Published p (Index v) ∷ Acted p (Queues (PushIndex v)) PoppedNone ∷ []) (Some (record { word = 1; op = Exchange read (after_position read) })) (Done PoppedNone) Quiet
+      → Does (Published p (Index v) ∷ Acted p (Queues (PushIndex v)) PoppedNone ∷ []) (Some (record { word = read_word; op = Exchange read (after_position read) })) (Done PoppedNone) Quiet
   gives_up read some moved s calm =
       let reached = inv.queue.reached in
       let t : (k.read == read) ≡ false = grind (arith, nat_tests) in
-      let ask : Option Ask = Some (record { word = 1; op = Exchange read (after_position read) }) in (
+      let ask : Option Ask = Some (record { word = read_word; op = Exchange read (after_position read) }) in (
         k,
         rw t refl,
         record {
@@ -468,7 +280,7 @@ module _ {T : Type 0} (scene : Scene T) (inv : Inv kinds.TheVariants.Overflow sc
   calm_at stage found none = ap (pending_at k.read) found ∙ none
 
   abbrev asks_move : ℕ → Option Ask
-  asks_move read = Some (record { word = 1; op = Exchange read (after_position read) })
+  asks_move read = Some (record { word = read_word; op = Exchange read (after_position read) })
 
   moves_read : (read : ℕ) → KnowsOverflowPush c k v (overflow_pushes.TheVariants.MovesRead read) → steps ≤ 4 → flight_of (doing_of (party_of p latest)) ≡ Some (flights.TheVariants.Queues (at (overflow_pushes.TheVariants.MovesRead read)))
       → span_of p events ≡ Open (Queues (PushIndex v)) (has_written c k p (at (overflow_pushes.TheVariants.MovesRead read))) → Moved (overflow_pushes.TheVariants.MovesRead read)
@@ -517,7 +329,7 @@ module _ {T : Type 0} (scene : Scene T) (inv : Inv kinds.TheVariants.Overflow sc
       (by_itself [] (Some (record { word = cell_word c k.write; op = Store v })) (GoOn (at (overflow_pushes.TheVariants.StoresWrite k.write read))) Quiet seen (stores_cell read knows.0 knows.2 knows.3 s (calm_at (overflow_pushes.TheVariants.StoresCell write read) found refl)))
   overflow_push_step (overflow_pushes.TheVariants.StoresWrite write read) knows s found seen =
       subst (λ w. Moved (overflow_pushes.TheVariants.StoresWrite w read)) (sym knows.1)
-      (by_itself [] (Some (record { word = 0; op = Store (after_position k.write) })) (after (at (overflow_pushes.TheVariants.StoresWrite k.write read)) k.write) (effect_of (layout ro k) (pending k.read ro.producer latest) (at (overflow_pushes.TheVariants.StoresWrite k.write read)) k.write) seen (stores_write read knows.0 knows.2 knows.3 knows.4 s))
+      (by_itself [] (Some (record { word = write_word; op = Store (after_position k.write) })) (after (at (overflow_pushes.TheVariants.StoresWrite k.write read)) k.write) (effect_of (layout ro k) (pending k.read ro.producer latest) (at (overflow_pushes.TheVariants.StoresWrite k.write read)) k.write) seen (stores_write scene inv small v room holds b read knows.0 knows.2 knows.3 knows.4 s))
   overflow_push_step (overflow_pushes.TheVariants.MovesRead read) knows s found seen = moves_read read knows s found seen
   overflow_push_step (overflow_pushes.TheVariants.LoadsCell read) knows s found seen =
       let old : get_or (layout ro k) (cell_word c read) 0 ≡ get_or k.cells (read % (c + 1)) 0 = word_at k.write k.read (free ro.producer) (free ro.consumer) k.cells (cell_word c read) (read % (c + 1)) refl in

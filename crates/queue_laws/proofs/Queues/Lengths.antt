@@ -1,5 +1,5 @@
 -- The steps of a call that tells how many values wait.
-use Rattle.std.proofs.Common.{◌≡◌, ◌≢◌, ℕ, ◌+◌, ◌-◌, ◌*◌, ◌^◌, ◌<◌, ◌≤◌, ◌==◌, Bool, true, false, not, cond, Some, List, [], ◌∷◌, ◌++◌, fold, length, map, refl, sym, ap, ◌∙◌, arith}
+use Rattle.std.proofs.Common.{◌≡◌, ◌≢◌, ℕ, ◌+◌, ◌-◌, ◌*◌, ◌^◌, ◌<◌, ◌≤◌, ◌==◌, Bool, true, false, not, cond, Some, [], ◌∷◌, ◌++◌, fold, length, map, refl, sym, ap, ◌∙◌, arith}
 use Rattle.std.proofs.lemmas.Bool.Decides.{nat_tests}
 use Rattle.std.proofs.lemmas.List.{length-map}
 use Rattle.steps.specs.declared.ask.After.{After}
@@ -21,10 +21,8 @@ use Rattle.model.specs.declared.families.queues.QueueStart.{QueueStart}
 use Rattle.model.specs.declared.families.queues.QueueStart as starts
 use Rattle.model.specs.declared.event.Answer.{Answer}
 use Rattle.model.specs.declared.event.Answer as answers
-use Rattle.model.specs.declared.event.Event.{Event}
 use Rattle.model.specs.declared.event.Start.TheVariants.{Queues}
 use Rattle.model.specs.declared.event.Event.TheVariants.{Finished}
-use Rattle.model.specs.declared.party.Party.{Party}
 use Rattle.model.specs.declared.turn.Kind.{Kind}
 use Rattle.model.specs.Families.{ask_of}
 use Rattle.model.specs.Families.Queues.Bounds.{most_steps}
@@ -39,7 +37,6 @@ use Rattle.model.specs.Step.{as_call}
 use Rattle.model.specs.Turns.{old_of}
 use Rattle.model.proofs.Moments.{held_now, held_so}
 use Rattle.queue_laws.proofs.Queues.Invariant.{Scene, Inv}
-use Rattle.model.specs.declared.families.queues.Roles.{Roles}
 use Rattle.model.specs.Families.Queues.Promises.{load_of_write, load_of_read}
 use Rattle.queue_laws.proofs.Queues.Core.{Core, Good}
 use Rattle.queue_laws.proofs.Queues.Knows.{layout, len_at, Hangs, Waited, KnowsLen, len_number, At}
@@ -61,35 +58,7 @@ number_is kd c k g nothing small = go (c == 0) refl
     go false e = let write = g.write in omega arith
 
 module _ {T : Type 0} (kd : Kind) (scene : Scene T) (inv : Inv kd scene) (small : scene.turns < 2 ^ 64 - 2) (before : IsCalm kd scene scene.core.read) where
-  abbrev c : ℕ
-  c = scene.capacity
-
-  abbrev ro : Roles
-  ro = scene.roles
-
-  abbrev k : Core ℕ
-  k = scene.core
-
-  abbrev p : ℕ
-  p = scene.party
-
-  abbrev steps : ℕ
-  steps = scene.steps
-
-  abbrev backs : ℕ
-  backs = scene.backs
-
-  abbrev since : ℕ
-  since = scene.since
-
-  abbrev changes : ℕ
-  changes = scene.changes
-
-  abbrev latest : List (ℕ × Party T)
-  latest = scene.latest
-
-  abbrev events : List (Event T)
-  events = scene.events
+  open scene use {capacity as c, roles as ro, core as k, party as p, steps, backs, since, changes, latest, events}
 
   g : Good 1 words_of_index (cells_of kd c) k
   g = inv.queue.good
@@ -99,9 +68,6 @@ module _ {T : Type 0} (kd : Kind) (scene : Scene T) (inv : Inv kd scene) (small 
 
   hangs : Hangs kd c k (pending k.read ro.producer latest)
   hangs = inv.queue.hangs
-
-  reached : k.write ≤ scene.turns
-  reached = inv.queue.reached
 
   -- so many values wait now
   waits_now : Waited c p events k.write k.read

@@ -10,7 +10,6 @@ use Rattle.model.specs.declared.turn.Kind.{Kind}
 use Rattle.model.specs.Families.Queues.Calls.{acquire_of, release_of, producer_word, consumer_word}
 use Rattle.model.specs.Families.Queues.Steps.{pending}
 use Rattle.model.specs.Parties.{put}
-use Rattle.queue_laws.proofs.Queues.Core.{Core}
 use Rattle.queue_laws.proofs.Queues.Invariant.{Scene, Inv}
 use Rattle.queue_laws.proofs.Queues.Keeping.{clash, kept, keeps_same}
 use Rattle.queue_laws.proofs.Queues.Pending.{pending_here, few_wait, none_hangs}
@@ -27,11 +26,7 @@ abbrev with_roles : {T : Type 0} → Scene T → Option ℕ → Option ℕ → S
 with_roles scene pr co = record scene { roles = record { producer = pr; consumer = co } }
 
 module _ {T : Type 0} (kd : Kind) (scene : Scene T) (small : scene.turns < 2 ^ 64 - 2) (s : scene.steps ≤ 0) (b : scene.backs ≡ 0) where
-  abbrev c : ℕ
-  c = scene.capacity
-
-  abbrev k : Core ℕ
-  k = scene.core
+  open scene use {capacity as c, core as k}
 
   abbrev IsQuiet : Option ℕ → Option ℕ → Type 0
   IsQuiet pr co = IsCalm kd (with_roles scene pr co) k.read

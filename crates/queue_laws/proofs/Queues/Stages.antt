@@ -79,17 +79,7 @@ module _ {T : Type 0} where
   told_after p start effect after = effects_of p start effect (answer_in after) ++ ending_of p (Queues start) (answer_in (any_call after))
 
 module _ {T : Type 0} (kd : Kind) (scene : Scene T) where
-  abbrev c : ℕ
-  c = scene.capacity
-
-  abbrev ro : Roles
-  ro = scene.roles
-
-  abbrev k : Core ℕ
-  k = scene.core
-
-  abbrev p : ℕ
-  p = scene.party
+  open scene use {capacity as c, roles as ro, core as k, party as p}
 
   abbrev words : List ℕ
   words = layout scene.roles scene.core

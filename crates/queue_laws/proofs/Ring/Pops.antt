@@ -20,15 +20,13 @@ use Rattle.model.specs.declared.families.queues.QueueStart.{QueueStart}
 use Rattle.model.specs.declared.families.queues.QueueStart.TheVariants.{Pop}
 use Rattle.model.specs.declared.event.Answer.{Answer}
 use Rattle.model.specs.declared.event.Answer as answers
-use Rattle.model.specs.declared.event.Event.{Event}
 use Rattle.model.specs.declared.event.Start.TheVariants.{Queues}
 use Rattle.model.specs.declared.event.Event.TheVariants.{HandedOut, Acted}
 use Rattle.model.specs.declared.turn.Kind as kinds
-use Rattle.model.specs.Families.Queues.Calls.{after, words_of_index}
+use Rattle.model.specs.Families.Queues.Calls.{read_word, after, words_of_index}
 use Rattle.model.specs.Families.Queues.Reading.{published, handed_out}
 use Rattle.model.specs.Turns.{words_after, change_of}
 use Rattle.queue_laws.proofs.Queues.Invariant.{Scene, Inv}
-use Rattle.model.specs.declared.families.queues.Roles.{Roles}
 use Rattle.model.specs.Families.Queues.Promises.{load_of_write, load_of_read}
 use Rattle.queue_laws.proofs.Queues.Core.{Core, Good, taken, takes, front, word_at}
 use Rattle.queue_laws.proofs.Ring.Knows.{pop_at, KnowsPush, KnowsPop, pop_number}
@@ -51,26 +49,7 @@ take_keeps c k v rest is w (pushes.TheVariants.StoresWrite write) h =
     (h.0, omega arith, h.2)
 
 module _ {T : Type 0} (scene : Scene T) (inv : Inv kinds.TheVariants.IndexQueue scene) (small : scene.turns < 2 ^ 64 - 2) (before : IsCalm kinds.TheVariants.IndexQueue scene scene.core.read) (room : OneWord) where
-  abbrev c : ℕ
-  c = scene.capacity
-
-  abbrev ro : Roles
-  ro = scene.roles
-
-  abbrev k : Core ℕ
-  k = scene.core
-
-  abbrev p : ℕ
-  p = scene.party
-
-  abbrev steps : ℕ
-  steps = scene.steps
-
-  abbrev backs : ℕ
-  backs = scene.backs
-
-  abbrev events : List (Event T)
-  events = scene.events
+  open scene use {capacity as c, roles as ro, core as k, party as p, steps, backs, events}
 
   g : Good 1 words_of_index c k
   g = inv.queue.good
@@ -80,9 +59,6 @@ module _ {T : Type 0} (scene : Scene T) (inv : Inv kinds.TheVariants.IndexQueue 
 
   book : published events ≡ handed_out events ++ map Index k.waiting
   book = inv.queue.book
-
-  reached : k.write ≤ scene.turns
-  reached = inv.queue.reached
 
   abbrev Does : QueueStart T → Option Ask → After QueueFlight (Answer T) → Effect T → Type 0
   Does start ask after effect = DoesStep kinds.TheVariants.IndexQueue scene [] start ask 0 after effect
@@ -200,7 +176,7 @@ module _ {T : Type 0} (scene : Scene T) (inv : Inv kinds.TheVariants.IndexQueue 
       let write = g.write in
       let next : after_position k.read ≡ k.read + 1 = omega arith in
       let moved : (after_position k.read == k.read) ≡ false = grind (arith, nat_tests) in
-      let one : change_of (layout ro k) (Some (record { word = 1; op = Store (after_position k.read) })) ≡ 1 = rw moved refl in
+      let one : change_of (layout ro k) (Some (record { word = read_word; op = Store (after_position k.read) })) ≡ 1 = rw moved refl in
       let first : map {B = Item T} Index k.waiting ≡ Index room.0 ∷ map Index rest = ap (map Index) is in (
         taken 1 words_of_index c k rest,
         ap (λ n. k.write ∷ n ∷ free ro.producer ∷ free ro.consumer ∷ k.cells) next,

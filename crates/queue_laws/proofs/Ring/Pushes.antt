@@ -1,5 +1,5 @@
 -- The steps of a push.
-use Rattle.std.proofs.Common.{◌≡◌, ◌≢◌, ℕ, ◌+◌, ◌-◌, ◌*◌, ◌%◌, ◌^◌, ◌<◌, ◌≤◌, ◌==◌, nat_lt, Bool, true, false, ◌||◌, ⊎_elim, Option, Some, List, [], ◌∷◌, ◌++◌, length, map, refl, sym, ap, subst, ◌∙◌, append-nil, arith}
+use Rattle.std.proofs.Common.{◌≡◌, ◌≢◌, ℕ, ◌+◌, ◌-◌, ◌*◌, ◌%◌, ◌^◌, ◌<◌, ◌≤◌, ◌==◌, nat_lt, Bool, true, false, ◌||◌, ⊎_elim, Option, Some, [], ◌∷◌, ◌++◌, length, map, refl, sym, ap, subst, ◌∙◌, append-nil, arith}
 use Rattle.std.proofs.lemmas.Bool.Decides.{nat_tests}
 use Rattle.std.proofs.lemmas.List.{map-append, length-map}
 use Rattle.steps.specs.declared.ask.Ask.{Ask}
@@ -20,15 +20,13 @@ use Rattle.model.specs.declared.families.queues.QueueStart.{QueueStart}
 use Rattle.model.specs.declared.families.queues.QueueStart.TheVariants.{PushIndex}
 use Rattle.model.specs.declared.event.Answer.{Answer}
 use Rattle.model.specs.declared.event.Answer as answers
-use Rattle.model.specs.declared.event.Event.{Event}
 use Rattle.model.specs.declared.event.Start.TheVariants.{Queues}
 use Rattle.model.specs.declared.event.Event.TheVariants.{Published, Acted}
 use Rattle.model.specs.declared.turn.Kind as kinds
-use Rattle.model.specs.Families.Queues.Calls.{after, words_of_index}
+use Rattle.model.specs.Families.Queues.Calls.{write_word, after, words_of_index}
 use Rattle.model.specs.Families.Queues.Reading.{published, handed_out}
 use Rattle.model.specs.Turns.{change_of}
 use Rattle.queue_laws.proofs.Queues.Invariant.{Scene, Inv}
-use Rattle.model.specs.declared.families.queues.Roles.{Roles}
 use Rattle.model.specs.Families.Queues.Promises.{load_of_write, load_of_read}
 use Rattle.queue_laws.proofs.Queues.Core as core
 use Rattle.queue_laws.proofs.Queues.Core.{Core, Holds, Good, filled, taken, fills, one_filled, publishes, takes, front, cell_within, word_at, set_at}
@@ -53,26 +51,7 @@ publish_keeps c k w room (pops.TheVariants.LoadsCell read cell place) h = (h.0, 
 publish_keeps c k w room (pops.TheVariants.StoresRead read) h = (h.0 ++ w ∷ [], h.1, ap (λ xs. xs ++ w ∷ []) h.2)
 
 module _ {T : Type 0} (scene : Scene T) (inv : Inv kinds.TheVariants.IndexQueue scene) (small : scene.turns < 2 ^ 64 - 2) (before : IsCalm kinds.TheVariants.IndexQueue scene scene.core.read) where
-  abbrev c : ℕ
-  c = scene.capacity
-
-  abbrev ro : Roles
-  ro = scene.roles
-
-  abbrev k : Core ℕ
-  k = scene.core
-
-  abbrev p : ℕ
-  p = scene.party
-
-  abbrev steps : ℕ
-  steps = scene.steps
-
-  abbrev backs : ℕ
-  backs = scene.backs
-
-  abbrev events : List (Event T)
-  events = scene.events
+  open scene use {capacity as c, roles as ro, core as k, party as p, steps, backs, events}
 
   g : Good 1 words_of_index c k
   g = inv.queue.good
@@ -82,9 +61,6 @@ module _ {T : Type 0} (scene : Scene T) (inv : Inv kinds.TheVariants.IndexQueue 
 
   book : published events ≡ handed_out events ++ map Index k.waiting
   book = inv.queue.book
-
-  reached : k.write ≤ scene.turns
-  reached = inv.queue.reached
 
   abbrev Does : QueueStart T → Option Ask → After QueueFlight (Answer T) → Effect T → Type 0
   Does start ask after effect = DoesStep kinds.TheVariants.IndexQueue scene [] start ask 0 after effect
@@ -204,7 +180,7 @@ module _ {T : Type 0} (scene : Scene T) (inv : Inv kinds.TheVariants.IndexQueue 
       let t : nat_lt (length (map {B = Item T} Index k.waiting)) c ≡ true = grind (arith, nat_tests) in
       let next : after_position k.write ≡ k.write + 1 = omega arith in
       let moved : (after_position k.write == k.write) ≡ false = grind (arith, nat_tests) in
-      let one : change_of (layout ro k) (Some (record { word = 0; op = Store (after_position k.write) })) ≡ 1 = rw moved refl in
+      let one : change_of (layout ro k) (Some (record { word = write_word; op = Store (after_position k.write) })) ≡ 1 = rw moved refl in
       let joined : map {B = Item T} Index k.waiting ++ Index v ∷ [] ≡ map Index (k.waiting ++ v ∷ []) = sym (map-append Index k.waiting (v ∷ [])) in (
         core.published 1 words_of_index c k v,
         ap (λ n. n ∷ k.read ∷ free ro.producer ∷ free ro.consumer ∷ k.cells) next,
