@@ -12,16 +12,21 @@ mod threads;
 mod users;
 mod value;
 
-/// The code of README.md as it stands there, but for its imports.
+/// The first piece of README.md as it stands there, but for its imports.
 #[test]
-fn readme(rt: HostRuntime) -> Result<(), Fail> {
+fn readme_queue(rt: HostRuntime) -> Result<(), Fail> {
     let (queue, mut pass) = FixedSizeIndexQueue::<128>::new(rt.alloc())?;
     let other = pass.split().ok_or("no further pass")?;
     let mut producer = queue.acquire_producer(pass).map_err(|_| "taken")?; // a pass comes back where the role is taken
     let mut consumer = queue.acquire_consumer(other).map_err(|_| "taken")?;
     assert!(rt; producer.push(1234)); // false where the queue is full
     assert_eq!(rt; consumer.pop(), Some(1234)); // None where it is empty
+    Ok(())
+}
 
+/// The second piece of README.md, likewise.
+#[test]
+fn readme_value(rt: HostRuntime) -> Result<(), Fail> {
     let (value, mut pass) = UnrestrictedAtomic::new(rt.alloc(), 7u64)?;
     let other = pass.split().ok_or("no further pass")?;
     let mut producer = value.acquire_producer(other).map_err(|_| "taken")?;

@@ -1,140 +1,126 @@
 //! The overflowing queue: real calls, alone and between threads.
-ghost use Rattle.lock_free.specs.Ends.{IsPassOf};
-
-use super::users::{Call, Users, both_ends, play};
+use super::rounds::{both_ends, fills_and_empties};
+use super::users::{Call, play};
+use crate::mpmc::unique_index_set_enums::UniqueIndexCreationError;
 use crate::spsc::safely_overflowing_index_queue::{
-    Consumer, FixedSizeSafelyOverflowingIndexQueue, Pass, Producer, SafelyOverflowingIndexQueue,
+    Consumer, FixedSizeSafelyOverflowingIndexQueue, Producer, SafelyOverflowingIndexQueue,
 };
-use std::alloc::AllocError;
+use std::alloc::{AllocError, Global};
+use std::process::Abort;
 use std::sync::Wait;
 use std::test::Fail;
 use std::thread;
+use std::thread::Threads;
+
+/// A full queue of capacity 2 hands its oldest number back.
+const OLDEST_BACK: [Call<u64>; 12] = [
+    Call::AskProducer(true),
+    Call::AskConsumer(true),
+    Call::Len(0),
+    Call::Push(1, None),
+    Call::Push(2, None),
+    Call::Len(2),
+    Call::Push(3, Some(1)),
+    Call::Len(2),
+    Call::Pop(Some(2)),
+    Call::Pop(Some(3)),
+    Call::Pop(None),
+    Call::Len(0),
+];
+
+/// At capacity 0 a queue hands each number back.
+const EACH_BACK: [Call<u64>; 6] = [
+    Call::AskProducer(true),
+    Call::Push(7, Some(7)),
+    Call::ReleaseProducer,
+    Call::AskConsumer(true),
+    Call::Pop(None),
+    Call::Len(0),
+];
+
+/// From the position below the last one: the last write position takes nothing.
+const LAST_POSITION: [Call<u64>; 7] = [
+    Call::AskProducer(true),
+    Call::Push(1, None),
+    Call::Push(2, Some(2)),
+    Call::ReleaseProducer,
+    Call::AskConsumer(true),
+    Call::Pop(Some(1)),
+    Call::Pop(None),
+];
+
+/// A role is taken once, and a guard that is released or dropped gives it back.
+const ROLES: [Call<u64>; 12] = [
+    Call::AskProducer(true),
+    Call::AskProducer(false),
+    Call::AskConsumer(true),
+    Call::AskConsumer(false),
+    Call::ReleaseProducer,
+    Call::AskProducer(true),
+    Call::Push(7, None),
+    Call::Pop(Some(7)),
+    Call::DropConsumer,
+    Call::ReleaseProducer,
+    Call::AskConsumer(true),
+    Call::Pop(None),
+];
+
+/// At capacity 1: guards that are dropped give their roles back.
+const DROPPED_GUARDS: [Call<u64>; 11] = [
+    Call::AskProducer(true),
+    Call::Push(1, None),
+    Call::DropProducer,
+    Call::AskProducer(true),
+    Call::Push(2, Some(1)),
+    Call::AskConsumer(true),
+    Call::Pop(Some(2)),
+    Call::DropConsumer,
+    Call::Push(3, None),
+    Call::AskConsumer(true),
+    Call::Pop(Some(3)),
+];
 
 #[test]
-fn a_full_queue_hands_its_oldest_back(rt: HostRuntime) -> Result<(), Fail> {
-    let (queue, pass) = FixedSizeSafelyOverflowingIndexQueue::<2>::new(rt.alloc())?;
-    let calls = [
-        Call::AskProducer(true),
-        Call::AskConsumer(true),
-        Call::Len(0),
-        Call::Push(1, None),
-        Call::Push(2, None),
-        Call::Len(2),
-        Call::Push(3, Some(1)),
-        Call::Len(2),
-        Call::Pop(Some(2)),
-        Call::Pop(Some(3)),
-        Call::Pop(None),
-        Call::Len(0),
+fn calls_in_turn(rt: HostRuntime) -> Result<(), Fail> {
+    let scripts: [(&str, usize, &[Call<u64>]); 2] = [
+        ("EACH_BACK", 0, &EACH_BACK),
+        ("ROLES", 2, &ROLES),
     ];
-    play(&rt, &queue, pass, &calls);
+    for (name, capacity, calls) in scripts {
+        let (queue, pass) = SafelyOverflowingIndexQueue::new(rt.alloc(), capacity)?;
+        play(&rt, &queue, pass, name, calls);
+    }
+    let (queue, pass) = SafelyOverflowingIndexQueue::new_at(rt.alloc(), 1, u64::MAX - 1)?;
+    play(&rt, &queue, pass, "LAST_POSITION", &LAST_POSITION);
+    Ok(())
+}
+
+/// Makes these calls on a queue of this type.
+fn plays<const CAPACITY: usize>(
+    rt: &(impl Abort + Wait),
+    alloc: Global,
+    name: &str,
+    calls: &[Call<u64>],
+) -> Result<(), UniqueIndexCreationError> {
+    let (queue, pass) = FixedSizeSafelyOverflowingIndexQueue::<CAPACITY>::new(alloc)?;
+    play(rt, &queue, pass, name, calls);
+    Ok(())
+}
+
+#[test]
+fn calls_in_turn_by_type(rt: HostRuntime) -> Result<(), Fail> {
+    plays::<2>(&rt, rt.alloc(), "OLDEST_BACK", &OLDEST_BACK)?;
+    plays::<1>(&rt, rt.alloc(), "DROPPED_GUARDS", &DROPPED_GUARDS)?;
+    let (queue, _) = FixedSizeSafelyOverflowingIndexQueue::<2>::new(rt.alloc())?;
     assert_eq!(rt; queue.capacity(), 2);
     Ok(())
 }
 
 #[test]
-fn an_overflowing_queue_of_capacity_0(rt: HostRuntime) -> Result<(), Fail> {
-    let (queue, pass) = SafelyOverflowingIndexQueue::new(rt.alloc(), 0)?;
-    let calls = [
-        Call::AskProducer(true),
-        Call::Push(7, Some(7)),
-        Call::ReleaseProducer,
-        Call::AskConsumer(true),
-        Call::Pop(None),
-        Call::Len(0),
-    ];
-    play(&rt, &queue, pass, &calls);
-    Ok(())
-}
-
-#[test]
-fn the_last_write_position_of_an_overflowing_queue(rt: HostRuntime) -> Result<(), Fail> {
-    let (queue, pass) = SafelyOverflowingIndexQueue::new_at(rt.alloc(), 1, u64::MAX - 1)?;
-    let calls = [
-        Call::AskProducer(true),
-        Call::Push(1, None),
-        Call::Push(2, Some(2)),
-        Call::ReleaseProducer,
-        Call::AskConsumer(true),
-        Call::Pop(Some(1)),
-        Call::Pop(None),
-    ];
-    play(&rt, &queue, pass, &calls);
-    Ok(())
-}
-
-#[test]
-fn an_overflowing_role_is_taken_once(rt: HostRuntime) -> Result<(), Fail> {
-    let (queue, pass) = SafelyOverflowingIndexQueue::new(rt.alloc(), 2)?;
-    let calls = [
-        Call::AskProducer(true),
-        Call::AskProducer(false),
-        Call::AskConsumer(true),
-        Call::AskConsumer(false),
-        // A guard that is released or dropped gives its role back.
-        Call::ReleaseProducer,
-        Call::AskProducer(true),
-        Call::Push(7, None),
-        Call::Pop(Some(7)),
-        Call::DropConsumer,
-        Call::ReleaseProducer,
-        Call::AskConsumer(true),
-        Call::Pop(None),
-    ];
-    play(&rt, &queue, pass, &calls);
-    Ok(())
-}
-
-#[test]
-fn dropped_guards_give_their_roles_back(rt: HostRuntime) -> Result<(), Fail> {
-    let (queue, pass) = FixedSizeSafelyOverflowingIndexQueue::<1>::new(rt.alloc())?;
-    let calls = [
-        Call::AskProducer(true),
-        Call::Push(1, None),
-        Call::DropProducer,
-        Call::AskProducer(true),
-        Call::Push(2, Some(1)),
-        Call::AskConsumer(true),
-        Call::Pop(Some(2)),
-        Call::DropConsumer,
-        Call::Push(3, None),
-        Call::AskConsumer(true),
-        Call::Pop(Some(3)),
-    ];
-    play(&rt, &queue, pass, &calls);
-    Ok(())
-}
-
-/// Whether a queue can be filled twice over and emptied, with its length before each call.
-fn fills_twice_over(rt: &impl Wait, queue: &SafelyOverflowingIndexQueue, pass: Pass) -> bool
-    requires { IsPassOf queue.now pass }
-{
-    let capacity = queue.capacity();
-    let mut users = Users::new(queue, pass);
-    let mut right = users.does(rt, Call::AskProducer(true));
-    right &= users.does(rt, Call::AskConsumer(true));
-    for value in 0..capacity {
-        right &= users.does(rt, Call::Len(value));
-        right &= users.does(rt, Call::Push(value as u64, None));
-    }
-    for value in 0..capacity {
-        right &= users.does(rt, Call::Len(capacity));
-        let over = !(value as u64);
-        right &= users.does(rt, Call::Push(over, Some(value as u64)));
-    }
-    for value in 0..capacity {
-        right &= users.does(rt, Call::Len(capacity - value));
-        right &= users.does(rt, Call::Pop(Some(!(value as u64))));
-    }
-    right &= users.does(rt, Call::Len(0));
-    right & users.does(rt, Call::Pop(None))
-}
-
-#[test]
-fn queues_of_3_and_of_1000_filled_twice_over(rt: HostRuntime) -> Result<(), Fail> {
+fn queues_of_3_and_of_1000(rt: HostRuntime) -> Result<(), Fail> {
     for capacity in [3, 1000] {
         let (queue, pass) = SafelyOverflowingIndexQueue::new(rt.alloc(), capacity)?;
-        assert!(rt; fills_twice_over(&rt, &queue, pass));
+        assert!(rt; fills_and_empties(&rt, &queue, pass, true));
     }
     Ok(())
 }
@@ -184,20 +170,30 @@ fn is_split_in_order(back: &[u64], came: &[u64]) -> bool {
     (taken, popped) == (back.len(), came.len())
 }
 
+/// The numbers that two threads hand back and take.
+fn in_two_threads<R: Wait + Threads + Sync>(
+    rt: &R,
+    back: Vec<u64>,
+    came: Vec<u64>,
+    producer: Producer<'_>,
+    consumer: Consumer<'_>,
+) -> Result<(Vec<u64>, Vec<u64>), AllocError> {
+    let (back, came) = thread::join(
+        rt,
+        move || overflow_all(back, producer),
+        move || drain_all(rt, came, consumer),
+    );
+    Ok((back?, came?))
+}
+
 #[test]
 fn numbers_come_or_are_handed_back(rt: HostRuntime) -> Result<(), Fail> {
-    let alloc = rt.alloc();
-    let (queue, pass) = FixedSizeSafelyOverflowingIndexQueue::<2>::new(alloc)?;
-    let (producer, consumer) = both_ends(&queue, pass).ok_or("no ends")?;
     // The room is had before the threads start: a thread that had none would leave the other waiting.
-    let back = Vec::with_capacity(alloc, 10_000)?;
-    let came = Vec::with_capacity(alloc, 10_000)?;
-    let (back, came) = thread::join(
-        &rt,
-        move || overflow_all(back, producer),
-        move || drain_all(&rt, came, consumer),
-    );
-    let (back, came) = (back?, came?);
+    let back = Vec::with_capacity(rt.alloc(), 10_000)?;
+    let came = Vec::with_capacity(rt.alloc(), 10_000)?;
+    let (queue, pass) = FixedSizeSafelyOverflowingIndexQueue::<2>::new(rt.alloc())?;
+    let (producer, consumer) = both_ends(&rt, &queue, pass).ok_or("no ends")?;
+    let (back, came) = in_two_threads(&rt, back, came, producer, consumer)?;
     assert!(rt; is_split_in_order(back.as_slice(), came.as_slice()));
     Ok(())
 }

@@ -1,7 +1,7 @@
-//! A bounded queue over many rounds: alone, and between two threads.
+//! A queue over many rounds: alone, and between two threads.
 ghost use Rattle.lock_free.specs.Ends.{IsPassOf};
 
-use super::users::{Call, Kind, Users, both_ends};
+use super::users::{Call, Kind, Users};
 use lock_free_sp::ring::ends::{Consumer, Pass, Producer, Ring};
 use lock_free_sp::ring::rule::RingRule;
 use std::sync::Wait;
@@ -9,14 +9,14 @@ use std::thread;
 use std::thread::Threads;
 use steps::words::Words;
 
-/// Values that can be told from one another.
-pub trait Numbered {
+/// Values that can be told from one another, by a round and a place in it.
+pub trait Numbered: Sized {
     fn numbered(round: u64, at: u64) -> Self;
 }
 
 impl Numbered for u64 {
     fn numbered(round: u64, at: u64) -> u64 {
-        (round << 32) | at
+        (!round << 32) | at
     }
 }
 
@@ -26,11 +26,13 @@ impl Numbered for (u64, u64) {
     }
 }
 
-/// Whether a queue can be filled and emptied three times, with its length before each call.
+/// Whether a queue can be filled, pushed to as often again and emptied, three times, with its length before each call.
+/// A queue that replaces hands its oldest values back where it is full, and another one the values that are pushed.
 pub fn fills_and_empties<E: Kind<T>, T: Words + Numbered + PartialEq + Drop>(
     rt: &impl Wait,
     queue: &Ring<E, T, RingRule<E, T>>,
     pass: Pass<E, T>,
+    replaces: bool,
 ) -> bool
     requires { IsPassOf queue.now pass }
 {
@@ -39,18 +41,25 @@ pub fn fills_and_empties<E: Kind<T>, T: Words + Numbered + PartialEq + Drop>(
     let mut right = users.does(rt, Call::AskProducer(true));
     right &= users.does(rt, Call::AskConsumer(true));
     for round in 0..3 {
-        for waiting in 0..capacity {
-            right &= users.does(rt, Call::Len(waiting));
-            right &= users.does(rt, Call::Push(T::numbered(round, waiting as u64), None));
+        let (first, other) = if replaces {
+            (round + 3, round)
+        } else {
+            (round, round + 3)
+        };
+        for at in 0..capacity {
+            let value = T::numbered(round, at as u64);
+            right &= users.has_and_does(rt, at, Call::Push(value, None));
         }
-        let over = T::numbered(7, 7);
-        right &= users.does(rt, Call::Push(over, Some(over)));
-        for taken in 0..capacity {
-            right &= users.does(rt, Call::Len(capacity - taken));
-            right &= users.does(rt, Call::Pop(Some(T::numbered(round, taken as u64))));
+        for at in 0..capacity {
+            let value = T::numbered(round + 3, at as u64);
+            let back = T::numbered(other, at as u64);
+            right &= users.has_and_does(rt, capacity, Call::Push(value, Some(back)));
         }
-        right &= users.does(rt, Call::Len(0));
-        right &= users.does(rt, Call::Pop(None));
+        for at in 0..capacity {
+            let value = T::numbered(first, at as u64);
+            right &= users.has_and_does(rt, capacity - at, Call::Pop(Some(value)));
+        }
+        right &= users.has_and_does(rt, 0, Call::Pop(None));
     }
     right
 }
@@ -96,11 +105,25 @@ pub fn hands_over<
 >(rt: &R, queue: &Ring<E, T, RingRule<E, T>>, pass: Pass<E, T>) -> Option<bool>
     requires { IsPassOf queue.now pass }
 {
-    let (producer, consumer) = both_ends(queue, pass)?;
+    let (producer, consumer) = both_ends(rt, queue, pass)?;
     let (_, ordered) = thread::join(
         rt,
         move || push_all(rt, producer),
         move || pop_all(rt, consumer),
     );
     Some(ordered)
+}
+
+/// Both guards of a queue.
+pub fn both_ends<'a, E: Kind<T>, T: Words + PartialEq + Drop>(
+    rt: &impl Wait,
+    queue: &'a Ring<E, T, RingRule<E, T>>,
+    pass: Pass<E, T>,
+) -> Option<(Producer<'a, E, T>, Consumer<'a, E, T>)>
+    requires { IsPassOf queue.now pass }
+{
+    let mut users = Users::new(queue, pass);
+    users.does(rt, Call::AskProducer(true));
+    users.does(rt, Call::AskConsumer(true));
+    users.ends()
 }

@@ -1,7 +1,7 @@
 //! Calls on a queue, one after another, each with what it must answer.
 ghost use Rattle.std.specs.Prelude.{◌≡◌};
 ghost use Rattle.std.specs.Option.{ForSome};
-ghost use Rattle.lock_free.specs.Ends.{queue_of, IsPassOf, producer_queue, consumer_queue};
+ghost use Rattle.lock_free.specs.Ends.{queue_id, queue_of, IsPassOf, producer_queue, consumer_queue};
 
 use lock_free_sp::ring::ends::{Consumer, Pass, Producer, Ring};
 use lock_free_sp::ring::rule::{Numbers, Overflowing, RingRule, Spare, Values};
@@ -86,8 +86,8 @@ pub struct Users<'a, E: Spare, T: Words> {
     producer: Option<Producer<'a, E, T>>,
     consumer: Option<Consumer<'a, E, T>>,
     ghost of: { IsPassOf queue.now pass },
-    ghost producing: { ForSome producer (λ p. producer_queue p ≡ queue_of pass) },
-    ghost consuming: { ForSome consumer (λ c. consumer_queue c ≡ queue_of pass) },
+    ghost producing: { ForSome producer (λ p. producer_queue p ≡ queue_id queue.now) },
+    ghost consuming: { ForSome consumer (λ c. consumer_queue c ≡ queue_id queue.now) },
 }
 
 impl<'a, E: Kind<T>, T: Words + PartialEq + Drop> Users<'a, E, T> {
@@ -113,7 +113,7 @@ impl<'a, E: Kind<T>, T: Words + PartialEq + Drop> Users<'a, E, T> {
                 Some(consumer) => E::pop(rt, consumer) == value,
                 None => false,
             },
-            Call::Len(waiting) => self.has(rt, waiting),
+            Call::Len(waiting) => has(rt, self.queue, &mut self.pass, waiting),
             Call::AskProducer(is_free) => self.ask_producer() == is_free,
             Call::AskConsumer(is_free) => self.ask_consumer() == is_free,
             Call::ReleaseProducer => match self.producer.take() {
@@ -149,13 +149,9 @@ impl<'a, E: Kind<T>, T: Words + PartialEq + Drop> Users<'a, E, T> {
         }
     }
 
-    /// Whether as many values wait.
-    fn has(&mut self, rt: &impl Wait, waiting: usize) -> bool {
-        let len = self.queue.len(rt, &mut self.pass);
-        let is_empty = self.queue.is_empty(rt, &mut self.pass);
-        let is_full = self.queue.is_full(rt, &mut self.pass);
-        let capacity = self.queue.capacity();
-        len == waiting && is_empty == (waiting == 0) && is_full == (waiting == capacity)
+    /// Whether as many values wait, and a call then answers so.
+    pub fn has_and_does(&mut self, rt: &impl Wait, waiting: usize, call: Call<T>) -> bool {
+        self.does(rt, Call::Len(waiting)) & self.does(rt, call)
     }
 
     /// Whether a new pass gets the producer's role.
@@ -191,6 +187,65 @@ impl<'a, E: Kind<T>, T: Words + PartialEq + Drop> Users<'a, E, T> {
             }
         }
     }
+
+    /// The guards of both roles, where both are taken.
+    pub fn ends(self) -> Option<(Producer<'a, E, T>, Consumer<'a, E, T>)> {
+        Some((self.producer?, self.consumer?))
+    }
+}
+
+/// Whether as many values wait.
+fn has<E: Spare, T: Words>(
+    rt: &impl Wait,
+    queue: &Ring<E, T, RingRule<E, T>>,
+    pass: &mut Pass<E, T>,
+    waiting: usize,
+) -> bool
+    requires { IsPassOf queue.now pass.old }
+    ensures { queue_of pass.new ≡ queue_of pass.old }
+{
+    let by_len = has_by_len(rt, queue, pass, waiting);
+    let by_ends = is_empty_right(rt, queue, pass, waiting)
+        & is_full_right(rt, queue, pass, waiting);
+    by_len & by_ends
+}
+
+fn has_by_len<E: Spare, T: Words>(
+    rt: &impl Wait,
+    queue: &Ring<E, T, RingRule<E, T>>,
+    pass: &mut Pass<E, T>,
+    waiting: usize,
+) -> bool
+    requires { IsPassOf queue.now pass.old }
+    ensures { queue_of pass.new ≡ queue_of pass.old }
+{
+    queue.len(rt, pass) == waiting
+}
+
+/// Whether a queue with as many values is empty just where it says so.
+fn is_empty_right<E: Spare, T: Words>(
+    rt: &impl Wait,
+    queue: &Ring<E, T, RingRule<E, T>>,
+    pass: &mut Pass<E, T>,
+    waiting: usize,
+) -> bool
+    requires { IsPassOf queue.now pass.old }
+    ensures { queue_of pass.new ≡ queue_of pass.old }
+{
+    queue.is_empty(rt, pass) == (waiting == 0)
+}
+
+/// Whether a queue with as many values is full just where it says so.
+fn is_full_right<E: Spare, T: Words>(
+    rt: &impl Wait,
+    queue: &Ring<E, T, RingRule<E, T>>,
+    pass: &mut Pass<E, T>,
+    waiting: usize,
+) -> bool
+    requires { IsPassOf queue.now pass.old }
+    ensures { queue_of pass.new ≡ queue_of pass.old }
+{
+    queue.is_full(rt, pass) == (waiting == queue.capacity())
 }
 
 /// Makes these calls, each of which has to answer so.
@@ -198,26 +253,13 @@ pub fn play<E: Kind<T>, T: Words + PartialEq + Drop>(
     rt: &(impl Abort + Wait),
     queue: &Ring<E, T, RingRule<E, T>>,
     pass: Pass<E, T>,
+    name: &str,
     calls: &[Call<T>],
 )
     requires { IsPassOf queue.now pass }
 {
     let mut users = Users::new(queue, pass);
     for (at, call) in calls.iter().enumerate() {
-        assert!(rt; users.does(rt, *call), "call {at}");
+        assert!(rt; users.does(rt, *call), "{name}: call {at}");
     }
-}
-
-/// Both guards of a queue, with this pass and a new one.
-pub fn both_ends<'a, E: Spare, T: Words>(
-    queue: &'a Ring<E, T, RingRule<E, T>>,
-    pass: Pass<E, T>,
-) -> Option<(Producer<'a, E, T>, Consumer<'a, E, T>)>
-    requires { IsPassOf queue.now pass }
-{
-    let mut pass = pass;
-    let other = pass.split()?;
-    let producer = queue.acquire_producer(pass).ok()?;
-    let consumer = queue.acquire_consumer(other).ok()?;
-    Some((producer, consumer))
 }

@@ -1,18 +1,20 @@
 //! An unrestricted atomic value: real calls, alone and between threads.
 ghost use Rattle.std.specs.Prelude.{◌≡◌};
 ghost use Rattle.std.specs.Option.{ForSome};
-ghost use Rattle.lock_free.specs.UnrestrictedAtomic.{value_of_pass, IsPassOf, value_of_producer};
+ghost use Rattle.lock_free.specs.UnrestrictedAtomic.{value_id, value_of_pass, IsPassOf, value_of_producer};
 
 use super::long_values::{Greatest, Sixteen};
+use crate::mpmc::unique_index_set_enums::UniqueIndexCreationError;
 use crate::spmc::unrestricted_atomic::{Pass, Producer, UnrestrictedAtomic};
 use crate::words::Words;
+use std::alloc::Global;
 use std::process::Abort;
 use std::sync::Wait;
 use std::test::Fail;
+use std::thread::Threads;
 use std::{mem, thread};
 
 /// A call on a value, with what it must answer.
-#[derive(Clone, Copy)]
 enum Call<T> {
     /// A store of this, and whether it is taken.
     Store(T, bool),
@@ -26,6 +28,28 @@ enum Call<T> {
     Join,
 }
 
+/// One who loads a value.
+#[derive(Drop)]
+struct Reader<'a, T: Words> {
+    value: &'a UnrestrictedAtomic<T>,
+    pass: Pass<T>,
+    ghost of: { IsPassOf value.now pass },
+}
+
+impl<'a, T: Words> Reader<'a, T> {
+    fn load(&mut self, rt: &impl Wait) -> T {
+        load(rt, self.value, &mut self.pass)
+    }
+}
+
+/// Loads a value: the same as its own `load`, of which callers need no more than what its pass is for.
+fn load<T: Words>(rt: &impl Wait, value: &UnrestrictedAtomic<T>, pass: &mut Pass<T>) -> T
+    requires { IsPassOf value.now pass.old }
+    ensures { value_of_pass pass.new ≡ value_of_pass pass.old }
+{
+    value.load(rt, pass)
+}
+
 /// Those who use a value: a pass, and the producer where the role is taken.
 #[derive(Drop)]
 struct Users<'a, T: Words> {
@@ -33,23 +57,23 @@ struct Users<'a, T: Words> {
     pass: Pass<T>,
     producer: Option<Producer<'a, T>>,
     ghost of: { IsPassOf value.now pass },
-    ghost producing: { ForSome producer (λ p. value_of_producer p ≡ value_of_pass pass) },
+    ghost producing: { ForSome producer (λ p. value_of_producer p ≡ value_id value.now) },
 }
 
 impl<'a, T: Words + PartialEq + Drop> Users<'a, T> {
     /// Whether a call answers so.
-    fn does(&mut self, rt: &impl Wait, call: Call<T>) -> bool {
-        match call {
+    fn does(&mut self, rt: &impl Wait, call: &Call<T>) -> bool {
+        match *call {
             Call::Store(value, is_taken) => match &mut self.producer {
                 Some(producer) => producer.store(value) == is_taken,
                 None => false,
             },
-            Call::Load(value) => self.load(rt) == value,
+            Call::Load(value) => load(rt, self.value, &mut self.pass) == value,
             Call::Ask(is_free) => self.ask() == is_free,
             Call::Release(value) => match self.producer.take() {
                 Some(producer) => {
                     let mut pass = producer.release();
-                    let loaded = self.value.load(rt, &mut pass);
+                    let loaded = load(rt, self.value, &mut pass);
                     self.pass.join(pass);
                     loaded == value
                 }
@@ -64,20 +88,6 @@ impl<'a, T: Words + PartialEq + Drop> Users<'a, T> {
                 _ => false,
             },
         }
-    }
-
-    fn load(&mut self, rt: &impl Wait) -> T {
-        self.value.load(rt, &mut self.pass)
-    }
-
-    /// Another who uses the value, by a new pass.
-    fn beside(&mut self) -> Option<Users<'a, T>> {
-        let pass = self.pass.split()?;
-        Some(Users {
-            value: self.value,
-            pass,
-            producer: None,
-        })
     }
 
     /// Whether a new pass gets the producer's role.
@@ -103,6 +113,7 @@ fn play<T: Words + PartialEq + Drop>(
     rt: &(impl Abort + Wait),
     value: &UnrestrictedAtomic<T>,
     pass: Pass<T>,
+    name: &str,
     calls: &[Call<T>],
 )
     requires { IsPassOf value.now pass }
@@ -113,121 +124,126 @@ fn play<T: Words + PartialEq + Drop>(
         producer: None,
     };
     for (at, call) in calls.iter().enumerate() {
-        assert!(rt; users.does(rt, *call), "call {at}");
+        assert!(rt; users.does(rt, call), "{name}: call {at}");
     }
 }
 
+/// From 7: a value is stored and loaded, and its role is taken once.
+const STORED_AND_LOADED: [Call<u64>; 7] = [
+    Call::Load(7),
+    Call::Ask(true),
+    Call::Ask(false),
+    Call::Store(8, true),
+    Call::Load(8),
+    Call::Release(8),
+    Call::Load(8),
+];
+
+/// From 7: a guard that is dropped gives the role to another pass.
+const DROPPED_GUARDS: [Call<u64>; 9] = [
+    Call::Ask(true),
+    Call::Ask(false),
+    Call::Drop,
+    Call::Ask(true),
+    Call::Store(8, true),
+    Call::Drop,
+    Call::Ask(true),
+    Call::Release(8),
+    Call::Load(8),
+];
+
+/// From 7 at the greatest version, which takes no store.
+const GREATEST_VERSION: [Call<u64>; 4] = [
+    Call::Load(7),
+    Call::Ask(true),
+    Call::Store(8, false),
+    Call::Release(7),
+];
+
+/// From 1: a role that is dropped or released is given back.
+const ROLE_GIVEN_BACK: [Call<u128>; 12] = [
+    Call::Ask(true),
+    Call::Store(2, true),
+    Call::Drop,
+    Call::Ask(true),
+    Call::Load(2),
+    Call::Store(1 << 64, true),
+    Call::Join,
+    Call::Store(3, true),
+    Call::Release(3),
+    Call::Load(3),
+    Call::Ask(true),
+    Call::Store(4, true),
+];
+
+/// From 5 at the version below the greatest one.
+const LAST_VERSION: [Call<u32>; 5] = [
+    Call::Ask(true),
+    Call::Store(6, true),
+    Call::Store(7, false),
+    Call::Store(8, false),
+    Call::Release(6),
+];
+
+/// One pass stores two values and loads each, and both passes load the last.
+const SIXTEEN_WORDS: [Call<Sixteen>; 7] = [
+    Call::Load(Sixteen(1, 2, 3, 4)),
+    Call::Ask(true),
+    Call::Store(Sixteen(5, 6, 7, 8), true),
+    Call::Load(Sixteen(5, 6, 7, 8)),
+    Call::Store(Sixteen(9, 10, 11, u64::MAX), true),
+    Call::Load(Sixteen(9, 10, 11, u64::MAX)),
+    Call::Release(Sixteen(9, 10, 11, u64::MAX)),
+];
+
+/// One pass stores two values and loads each, and both passes load the last.
+const MOST_WORDS: [Call<Greatest>; 7] = [
+    Call::Load(Greatest(1, 2, 3)),
+    Call::Ask(true),
+    Call::Store(Greatest(4, 5, 6), true),
+    Call::Load(Greatest(4, 5, 6)),
+    Call::Store(Greatest(0, u64::MAX, 7), true),
+    Call::Load(Greatest(0, u64::MAX, 7)),
+    Call::Release(Greatest(0, u64::MAX, 7)),
+];
+
+/// Makes these calls on a new value.
+fn plays<T: Words + PartialEq + Drop>(
+    rt: &(impl Abort + Wait),
+    alloc: Global,
+    opening: T,
+    name: &str,
+    calls: &[Call<T>],
+) -> Result<(), UniqueIndexCreationError> {
+    let (value, pass) = UnrestrictedAtomic::new(alloc, opening)?;
+    play(rt, &value, pass, name, calls);
+    Ok(())
+}
+
 #[test]
-fn a_value_is_stored_and_loaded(rt: HostRuntime) -> Result<(), Fail> {
-    let (value, pass) = UnrestrictedAtomic::<u64>::new(rt.alloc(), 7)?;
-    let calls = [
-        Call::Load(7),
-        Call::Ask(true),
-        Call::Ask(false),
-        Call::Store(8, true),
-        Call::Load(8),
-        Call::Release(8),
-        Call::Load(8),
-    ];
+fn calls_in_turn(rt: HostRuntime) -> Result<(), Fail> {
+    let alloc = rt.alloc();
     assert_eq!(rt; <u64 as Words>::WORDS, 1);
-    play(&rt, &value, pass, &calls);
+    plays(&rt, alloc, 7, "STORED_AND_LOADED", &STORED_AND_LOADED)?;
+    plays(&rt, alloc, 7, "DROPPED_GUARDS", &DROPPED_GUARDS)?;
+    plays(&rt, alloc, 1, "ROLE_GIVEN_BACK", &ROLE_GIVEN_BACK)?;
+    plays(
+        &rt,
+        alloc,
+        Sixteen(1, 2, 3, 4),
+        "SIXTEEN_WORDS",
+        &SIXTEEN_WORDS,
+    )?;
+    plays(&rt, alloc, Greatest(1, 2, 3), "MOST_WORDS", &MOST_WORDS)?;
     Ok(())
 }
 
 #[test]
-fn a_role_of_a_value_is_given_back(rt: HostRuntime) -> Result<(), Fail> {
-    let (value, pass) = UnrestrictedAtomic::<u128>::new(rt.alloc(), 1)?;
-    let calls = [
-        Call::Ask(true),
-        Call::Store(2, true),
-        Call::Drop,
-        Call::Ask(true),
-        Call::Load(2),
-        Call::Store(1 << 64, true),
-        Call::Join,
-        Call::Store(3, true),
-        Call::Release(3),
-        Call::Load(3),
-        Call::Ask(true),
-        Call::Store(4, true),
-    ];
-    play(&rt, &value, pass, &calls);
-    Ok(())
-}
-
-#[test]
-fn the_last_version_takes_nothing(rt: HostRuntime) -> Result<(), Fail> {
+fn the_last_versions(rt: HostRuntime) -> Result<(), Fail> {
     let (value, pass) = UnrestrictedAtomic::<u32>::new_at(rt.alloc(), 5, u64::MAX - 1)?;
-    let calls = [
-        Call::Ask(true),
-        Call::Store(6, true),
-        Call::Store(7, false),
-        Call::Store(8, false),
-        Call::Release(6),
-    ];
-    play(&rt, &value, pass, &calls);
-    Ok(())
-}
-
-#[test]
-fn a_guard_that_is_dropped_gives_the_role_to_another_pass(rt: HostRuntime) -> Result<(), Fail> {
-    let (value, pass) = UnrestrictedAtomic::<u64>::new(rt.alloc(), 7)?;
-    let calls = [
-        Call::Ask(true),
-        Call::Ask(false),
-        Call::Drop,
-        Call::Ask(true),
-        Call::Store(8, true),
-        Call::Drop,
-        Call::Ask(true),
-        Call::Release(8),
-        Call::Load(8),
-    ];
-    play(&rt, &value, pass, &calls);
-    Ok(())
-}
-
-#[test]
-fn the_greatest_version_takes_no_store(rt: HostRuntime) -> Result<(), Fail> {
+    play(&rt, &value, pass, "LAST_VERSION", &LAST_VERSION);
     let (value, pass) = UnrestrictedAtomic::<u64>::new_at(rt.alloc(), 7, u64::MAX)?;
-    let calls = [
-        Call::Load(7),
-        Call::Ask(true),
-        Call::Store(8, false),
-        Call::Release(7),
-    ];
-    play(&rt, &value, pass, &calls);
-    Ok(())
-}
-
-/// The calls by which one pass stores these two values, and another loads each, and both load the last.
-fn by_two_passes<T: Words>(opening: T, one: T, other: T) -> [Call<T>; 7] {
-    [
-        Call::Load(opening),
-        Call::Ask(true),
-        Call::Store(one, true),
-        Call::Load(one),
-        Call::Store(other, true),
-        Call::Load(other),
-        Call::Release(other),
-    ]
-}
-
-#[test]
-fn a_value_of_16_words(rt: HostRuntime) -> Result<(), Fail> {
-    let opening = Sixteen(1, 2, 3, 4);
-    let calls = by_two_passes(opening, Sixteen(5, 6, 7, 8), Sixteen(9, 10, 11, u64::MAX));
-    let (value, pass) = UnrestrictedAtomic::new(rt.alloc(), opening)?;
-    play(&rt, &value, pass, &calls);
-    Ok(())
-}
-
-#[test]
-fn a_value_of_128_words(rt: HostRuntime) -> Result<(), Fail> {
-    let opening = Greatest(1, 2, 3);
-    let calls = by_two_passes(opening, Greatest(4, 5, 6), Greatest(0, u64::MAX, 7));
-    let (value, pass) = UnrestrictedAtomic::new(rt.alloc(), opening)?;
-    play(&rt, &value, pass, &calls);
+    play(&rt, &value, pass, "GREATEST_VERSION", &GREATEST_VERSION);
     Ok(())
 }
 
@@ -241,7 +257,7 @@ fn store_all(mut producer: Producer<'_, (u64, u64)>) -> bool {
 }
 
 /// Loads until it sees (10000, 10000): whether both halves of each pair were equal, and none below the one before.
-fn load_all(rt: &impl Wait, mut reader: Users<'_, (u64, u64)>) -> bool {
+fn load_all(rt: &impl Wait, mut reader: Reader<'_, (u64, u64)>) -> bool {
     let mut last = 0;
     let mut whole = true;
     for _ in rt.forever() {
@@ -256,28 +272,52 @@ fn load_all(rt: &impl Wait, mut reader: Users<'_, (u64, u64)>) -> bool {
     whole
 }
 
+/// Whether two readers, each in a thread, see what they must.
+fn load_in_two<R: Wait + Threads + Sync>(
+    rt: &R,
+    one: Reader<'_, (u64, u64)>,
+    other: Reader<'_, (u64, u64)>,
+) -> bool {
+    let (one, other) = thread::join(rt, move || load_all(rt, one), move || load_all(rt, other));
+    one & other
+}
+
+/// Whether a producer and two readers, each in a thread, see what they must.
+fn store_and_load<R: Wait + Threads + Sync>(
+    rt: &R,
+    producer: Producer<'_, (u64, u64)>,
+    one: Reader<'_, (u64, u64)>,
+    other: Reader<'_, (u64, u64)>,
+) -> bool {
+    let (stored, loaded) = thread::join(
+        rt,
+        move || store_all(producer),
+        move || load_in_two(rt, one, other),
+    );
+    stored & loaded
+}
+
+/// The same of a value with this pass. None where there are no further passes, or where the role is taken.
+fn stores_and_loads<R: Wait + Threads + Sync>(
+    rt: &R,
+    value: &UnrestrictedAtomic<(u64, u64)>,
+    mut pass: Pass<(u64, u64)>,
+) -> Option<bool>
+    requires { IsPassOf value.now pass }
+{
+    let one = pass.split()?;
+    let other = pass.split()?;
+    let Ok(producer) = value.acquire_producer(pass) else {
+        return None;
+    };
+    let one = Reader { value, pass: one };
+    let other = Reader { value, pass: other };
+    Some(store_and_load(rt, producer, one, other))
+}
+
 #[test]
 fn pairs_from_one_writer_to_two_readers(rt: HostRuntime) -> Result<(), Fail> {
     let (value, pass) = UnrestrictedAtomic::new(rt.alloc(), (0, 0))?;
-    let mut one = Users {
-        value: &value,
-        pass,
-        producer: None,
-    };
-    let other = one.beside().ok_or("no pass")?;
-    one.ask();
-    let producer = one.producer.take().ok_or("taken")?;
-    let (stored, (one, other)) = thread::join(
-        &rt,
-        move || store_all(producer),
-        move || {
-            thread::join(
-                &rt,
-                move || load_all(&rt, one),
-                move || load_all(&rt, other),
-            )
-        },
-    );
-    assert!(rt; stored & one & other);
+    assert_eq!(rt; stores_and_loads(&rt, &value, pass), Some(true));
     Ok(())
 }
