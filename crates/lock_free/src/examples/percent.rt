@@ -60,7 +60,7 @@ fn pop_percent(consumer: &mut queue::Consumer<'_, Percent>) -> Option<u8>
     Some(percent.value)
 }
 
-/// Loads the newest number, which is at most 100 whoever stored it.
+/// Loads a number, of a version not below any that the pass knows. It is at most 100, whoever stored it.
 fn load_percent(
     rt: &impl Wait,
     value: &UnrestrictedAtomic<Percent>,

@@ -32,7 +32,6 @@ use Rattle.model.specs.Families.Queues.Steps.{pending_at, pending, beside, takes
 use Rattle.model.specs.Parties.{party_of, doing_of, flight_of}
 use Rattle.model.specs.Reading.{Open, span_of}
 use Rattle.model.specs.Turns.{words_after, step_count}
--- LOST Rattle.model.specs.Objects cut_off
 use Rattle.queue_laws.proofs.Queues.Invariant.{Scene, Inv, waiting_is}
 use Rattle.model.specs.Families.Queues.Promises.{load_of_write, load_of_read}
 use Rattle.queue_laws.proofs.Overflow.Core.{oldest}

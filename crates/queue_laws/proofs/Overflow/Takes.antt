@@ -36,7 +36,6 @@ use Rattle.model.specs.Parties.{party_of, put, doing_of, flight_of}
 use Rattle.model.specs.Promises.Spans.{Stands}
 use Rattle.model.specs.Reading.{Open, Ended, own_after, span_of}
 use Rattle.model.specs.Turns.{words_after, change_of}
--- LOST Rattle.model.specs.Objects cut_off
 use Rattle.model.proofs.Readings.{span_of-own, span_of-other}
 use Rattle.model.proofs.Frame as frame
 use Rattle.queue_laws.proofs.Queues.Invariant.{Queue, Scene, Inv, family, queue_in, any_stays, any_knows}

@@ -1,5 +1,6 @@
 -- What a turn writes down: what its step did to the queue, then the acts, then the end. A push that answers false, and a
--- pop that answers None, did so in its own turn, as it loaded the other position.
+-- pop that answers None, did so in its own turn, as it loaded the other position; without capacity, an overflowing queue's
+-- pop loads none.
 use Rattle.std.proofs.Common.{◌≡◌, ℕ, zero, suc, ◌-◌, ◌^◌, ◌<◌, ◌==◌, Bool, true, false, cond, Option, Some, None, List, [], ◌∷◌, ◌++◌, get_or, refl, sym, ap, subst, ◌∙◌, append-nil, ◌≤◌, arith}
 use Rattle.std.specs.List.{AllByRecursion}
 use Rattle.steps.specs.declared.ask.Ask.{Ask}
