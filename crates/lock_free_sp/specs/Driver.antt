@@ -9,7 +9,8 @@ use Rattle.steps.specs.declared.ask.Want.TheVariants as wants
 use Rattle.steps.specs.declared.ask.After.{After}
 use Rattle.steps.specs.declared.ask.After.TheVariants.{GoOn, Done}
 
--- what a call is handed: a word's old value; at a store the new one, since the table tells nothing and no call hears it
+-- what a call is handed: a word's old value; at a store the new one, since
+-- the table tells nothing and no call hears it
 abbrev pub answered : Op → ℕ → ℕ
 answered ops.Load found = found
 answered (ops.Store new) found = new
@@ -29,14 +30,16 @@ module _ {V : Type 0} where
 module _ {V : Type 0} (holds : State (Unit {0}) V → Type 0) (words slots id : ℕ) where
   abbrev pub OwesAsk : (V → ℕ → V → Type 0) → ℕ → Op → Me (Unit {0}) V → Type 0
   OwesAsk told word op me =
-      (word < words) × Allows holds slots id me word (written op) (λ found new. moves told me (answered op found) new)
+      (word < words) × Allows holds slots id me word (written op)
+      (λ found new. moves told me (answered op found) new)
 
   abbrev pub Owes : (V → ℕ → V → Type 0) → Want (Unit {0}) → Me (Unit {0}) V → Type 0
   Owes told (wants.Ask a) me = OwesAsk told a.word a.op me
   Owes told (wants.Question q) me = told me.0 0 me.0
   Owes told wants.Nothing me = told me.0 0 me.0
 
-module _ {V C M E : Type 0} (capacity_seen : V → ℕ) (at : V → V → C → M → Type 0) (ends : V → E → M → V → Type 0) where
+module _ {V C M E : Type 0} (capacity_seen : V → ℕ) (at : V → V → C → M → Type 0)
+    (ends : V → E → M → V → Type 0) where
   -- what is known once the call has gone on: of the view with which it began, and the view now
   abbrev pub Next : V → After C E → M → V → Type 0
   Next base (GoOn c) m w = at base w c m
@@ -44,10 +47,14 @@ module _ {V C M E : Type 0} (capacity_seen : V → ℕ) (at : V → V → C → 
 
   -- what one step tells
   abbrev pub Told : (C → ℕ → After C E) → (C → M → ℕ → M) → C → M → V → ℕ → V → Type 0
-  Told after kept c m v n w = (capacity_seen w ≡ capacity_seen v) × ((base : V) → at base v c m → Next base (after c n) (kept c m n) w)
+  Told after kept c m v n w =
+      (capacity_seen w ≡ capacity_seen v)
+      × ((base : V) → at base v c m → Next base (after c n) (kept c m n) w)
 
   -- each step of the call keeps the rule, and tells what is known at its next stage
-  abbrev pub KeepsRule : {K : Type 0} → (K → ℕ) → (K → ℕ) → (K → State (Unit {0}) V → Type 0) → (C → Want (Unit {0})) → (C → ℕ → After C E) → (C → M → ℕ → M) → Type 0
+  abbrev pub KeepsRule : {K : Type 0} → (K → ℕ) → (K → ℕ) → (K → State (Unit {0}) V → Type 0)
+      → (C → Want (Unit {0})) → (C → ℕ → After C E) → (C → M → ℕ → M) → Type 0
   KeepsRule {K} size capacity holds want after kept =
-      (base v : V) (c : C) (m : M) (key : K) (words slots id : ℕ) → words ≡ size key → capacity_seen v ≡ capacity key → at base v c m
+      (base v : V) (c : C) (m : M) (key : K) (words slots id : ℕ) → words ≡ size key
+      → capacity_seen v ≡ capacity key → at base v c m
       → Owes (holds key) words slots id (Told after kept c m) (want c) (v, [])

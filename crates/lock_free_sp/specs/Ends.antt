@@ -1,4 +1,5 @@
--- The words of the contracts of a queue: what names it, which pass is for it, and what a pass or a guard knows.
+-- The words of the contracts of a queue: what names it, which pass
+-- is for it, and what a pass or a guard knows.
 use Rattle.std.specs.Prelude.{◌≡◌, ℕ}
 use Rattle.std.specs.Arc.{arc_value}
 use Rattle.atomic_table.specs.Seated.{TableId}
@@ -45,5 +46,6 @@ module _ {E T : Type 0} {spare : spares.Ghosts E} {words : Ghosts T} where
 
   -- the queue of one whose capacity is part of its type
   module _ {CAPACITY : ℕ} where
-    abbrev pub ring_of : FixedSize E T (RingRule E T) CAPACITY spare words → Ring E T (RingRule E T) spare words
+    abbrev pub ring_of : FixedSize E T (RingRule E T) CAPACITY spare words
+        → Ring E T (RingRule E T) spare words
     ring_of q = q.ring

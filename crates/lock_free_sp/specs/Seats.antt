@@ -19,7 +19,8 @@ module _ {V K Q : Type 0} where
 
   -- the same seat, at the same table
   abbrev pub IsSame : Seated V K Q → Seated V K Q → Type 0
-  IsSame old new = (table_of new ≡ table_of old) × (new.seat.id ≡ old.seat.id) × (new.table ≡ old.table)
+  IsSame old new =
+      (table_of new ≡ table_of old) × (new.seat.id ≡ old.seat.id) × (new.table ≡ old.table)
 
   -- the table has the size of its key, and what the seat knows is of a table with this capacity
   abbrev pub IsAt : (K → ℕ) → (K → ℕ) → (V → ℕ) → Seated V K Q → Type 0

@@ -1,5 +1,5 @@
-//! The queues, shared between threads: their rule, what is known at the steps of their calls, and their ends. The bounded
-//! ones hold any values with words, the overflowing one numbers.
+//! The queues, shared between threads: their rule, what is known at the steps of their calls, and
+//! their ends. The bounded ones hold any values with words, the overflowing one numbers.
 mod board;
 mod bounded;
 mod calls;

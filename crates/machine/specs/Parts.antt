@@ -47,7 +47,9 @@ going_refusal doing said = first_row (going_rows (flight_of (Some doing)) said)
 
 -- a refusal of it names the first row that applies; where none does, memory was refused
 abbrev pub IsGoingRefusal : Doing → Option Bool → Refusal → Type 0
-IsGoingRefusal doing said refusal = (going_refusal doing said ≡ Some refusal) ⊎ (going_refusal doing said ≡ None) × (refusal ≡ NoMemory)
+IsGoingRefusal doing said refusal =
+    (going_refusal doing said ≡ Some refusal)
+    ⊎ (going_refusal doing said ≡ None) × (refusal ≡ NoMemory)
 
 -- the operation that the call does: none with a decision
 abbrev pub ask_with : Option Bool → Flight → Option Ask
@@ -68,6 +70,16 @@ pub record Around (T : Type 0) : Type 0 where
   pub events : List (Event T)
 
 module _ {T : Type 0} where
+  abbrev pub around : Party T → List ℕ → Kept → ℕ → List (Event T) → Around T
+  around party words kept changes events =
+      record {
+        party = party;
+        words = words;
+        kept = kept;
+        changes = changes;
+        events = events;
+      }
+
   abbrev after_going : ℕ → Option Ask → Party T → ℕ → Around T → Step Flight Kept T → Around T
   after_going p ask x since a s =
       record {

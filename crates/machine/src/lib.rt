@@ -2,7 +2,7 @@
 //! happened.
 #![tactic(auto)]
 
-ghost use Rattle.std.specs.Prelude.{◌≡◌, ◌≤◌, ◌<◌, None, Some, OnOk, OnErr, IfOk, IfErr, ◌⊎◌, length, take};
+ghost use Rattle.std.specs.Prelude.{◌≡◌, ◌≤◌, ◌<◌, None, OnOk, OnErr, IfOk, IfErr, length, take};
 
 use std::alloc::Global;
 use std::marker::Model;
@@ -39,14 +39,14 @@ impl<T> Model for Machine<T> {
 }
 
 impl<T: Words> Machine<T> {
-    ghost use Rattle.model.specs.World.{opening, capacity_error, progress_in};
+    ghost use Rattle.model.specs.World.{opening, capacity_error, IsCreationError, progress_in};
     ghost use Rattle.model.specs.Refusals.{refusal_of, IsRefusal, is_going};
     ghost use Rattle.model.specs.Turns.{after_turn, after_turns, AreAllowed};
     ghost use Rattle.model.specs.Promises.{IsKept, AreTurns};
     ghost use Rattle.model.specs.Promises.Turns.{WritesOneWord, GoesOn, CountsTurn, CountsOthers, WritesDown};
 
-    /// A structure that is empty, with both roles free, and this many parties, numbered from 0. Parties cost nothing
-    /// until they begin a call.
+    /// A structure that is empty, with both roles free, and this many parties, numbered from 0. Room for a party
+    /// is made as it first begins a call.
     ///
     /// Refused are, in this order, a capacity above the greatest of the kind, one below the least, and memory.
     pub fn new(
@@ -57,7 +57,7 @@ impl<T: Words> Machine<T> {
     ) -> Result<Machine<T>, UniqueIndexCreationError>
         ensures ok { IfOk result (λ m. m ≡ opening kind capacity parties) }
         ensures admitted { OnOk result (capacity_error kind capacity ≡ None) }
-        ensures refused { IfErr result (λ e. (capacity_error kind capacity ≡ Some e) ⊎ (capacity_error kind capacity ≡ None) × (e ≡ UniqueIndexCreationError.NoMemory)) }
+        ensures refused { IfErr result (IsCreationError kind capacity) }
     {
         Ok(Machine {
             parts: Parts::new(alloc, kind, capacity, parties)?,
@@ -118,7 +118,8 @@ impl<T: Words> Machine<T> {
     }
 
     /// The shared words as they are now. Of a queue: the write position, the read position, the producer's role, the
-    /// consumer's role (1 while it is free), and the cells, of which an overflowing queue has one more than its capacity.
+    /// consumer's role (1 while it is free), and the cells, of which an overflowing
+    /// queue has one more than its capacity.
     pub fn words(&self) -> &[u64]
         ensures { result.now ≡ self.now.world.words }
     {

@@ -1,10 +1,10 @@
 //! The parts of a machine, and what each turn does to them.
-ghost use Rattle.std.specs.Prelude.{◌≡◌, ◌-◌, ◌^◌, ◌≤◌, ◌<◌, ◌⊎◌, None, Some, OnOk, OnErr, IfOk, IfErr};
-ghost use Rattle.model.specs.World.{opening, capacity_error};
+ghost use Rattle.std.specs.Prelude.{◌≡◌, ◌-◌, ◌^◌, ◌≤◌, ◌<◌, None, OnOk, OnErr, IfOk, IfErr};
+ghost use Rattle.model.specs.World.{opening, capacity_error, IsCreationError};
 ghost use Rattle.model.specs.Refusals.{refusal_of, IsRefusal};
 ghost use Rattle.model.specs.Small.{IsSmall, HasSmallCounts};
 ghost use Rattle.model.specs.Turns.{turn_of, number_of, after_turn};
-ghost use Rattle.machine.specs.Parts.{trace_of, going_refusal, IsGoingRefusal, after_turn_of};
+ghost use Rattle.machine.specs.Parts.{trace_of, going_refusal, IsGoingRefusal, around, after_turn_of};
 
 use model::event::{Event, Start};
 use model::families::{self, Beside, Kept, MOST_EFFECTS};
@@ -56,7 +56,9 @@ fn go_on<T: Copy>(
     requires small { HasSmallCounts turns changes.old party.old }
     ensures allowed { OnOk result (going_refusal party.old.doing said ≡ None) }
     ensures refused { IfErr result (IsGoingRefusal party.old.doing said) }
-    ensures ok { OnOk result (record { party = party.new; words = words.new.items; kept = kept.new; changes = changes.new; events = events.new.items } ≡ after_turn_of number said beside party.old.doing (record { party = party.old; words = words.old.items; kept = kept.old; changes = changes.old; events = events.old.items })) }
+    ensures ok { OnOk result (around party.new words.new.items kept.new changes.new events.new.items
+        ≡ after_turn_of number said beside party.old.doing
+        (around party.old words.old.items kept.old changes.old events.old.items)) }
     ensures party { OnErr result (party.new ≡ party.old) }
     ensures words { OnErr result (words.new.items ≡ words.old.items) }
     ensures kept { OnErr result (kept.new ≡ kept.old) }
@@ -99,7 +101,7 @@ impl<T: Copy> Parts<T> {
     ) -> Result<Parts<T>, UniqueIndexCreationError>
         ensures ok { IfOk result (λ m. trace_of m ≡ opening kind capacity parties) }
         ensures admitted { OnOk result (capacity_error kind capacity ≡ None) }
-        ensures refused { IfErr result (λ e. (capacity_error kind capacity ≡ Some e) ⊎ (capacity_error kind capacity ≡ None) × (e ≡ UniqueIndexCreationError.NoMemory)) }
+        ensures refused { IfErr result (IsCreationError kind capacity) }
     {
         if let Some(error) = capacity_error(kind, capacity) {
             return Err(error);
@@ -124,9 +126,12 @@ impl<T: Copy> Parts<T> {
     /// The party begins this call, unless that is refused.
     fn begin(&mut self, number: u32, start: Start<T>) -> Result<(), Refusal>
         requires { self.old.turns < 2 ^ 64 - 2 }
-        ensures allowed { OnOk result (refusal_of (trace_of self.old).world (Turn.Begin number start) ≡ None) }
-        ensures refused { IfErr result (IsRefusal (trace_of self.old).world (Turn.Begin number start)) }
-        ensures ok { OnOk result (trace_of self.new ≡ after_turn (trace_of self.old) (Turn.Begin number start)) }
+        ensures allowed { OnOk result
+            (refusal_of (trace_of self.old).world (Turn.Begin number start) ≡ None) }
+        ensures refused { IfErr result
+            (IsRefusal (trace_of self.old).world (Turn.Begin number start)) }
+        ensures ok { OnOk result
+            (trace_of self.new ≡ after_turn (trace_of self.old) (Turn.Begin number start)) }
         ensures err { OnErr result (trace_of self.new ≡ trace_of self.old) }
     {
         if number >= self.parties {
@@ -162,9 +167,11 @@ impl<T: Copy> Parts<T> {
     fn resume(&mut self, number: u32, said: Option<bool>) -> Result<(), Refusal>
         requires turns { self.old.turns < 2 ^ 64 - 2 }
         requires small { IsSmall (trace_of self.old).world }
-        ensures allowed { OnOk result (refusal_of (trace_of self.old).world (turn_of number said) ≡ None) }
+        ensures allowed { OnOk result
+            (refusal_of (trace_of self.old).world (turn_of number said) ≡ None) }
         ensures refused { IfErr result (IsRefusal (trace_of self.old).world (turn_of number said)) }
-        ensures ok { OnOk result (trace_of self.new ≡ after_turn (trace_of self.old) (turn_of number said)) }
+        ensures ok { OnOk result
+            (trace_of self.new ≡ after_turn (trace_of self.old) (turn_of number said)) }
         ensures err { OnErr result (trace_of self.new ≡ trace_of self.old) }
     {
         if number >= self.parties {

@@ -80,5 +80,7 @@ module _ {T : Type 0} where
 
   -- what the step of a call comes to, in these words and from this old value of its word
   abbrev pub step_of : List ℕ → Beside → ℕ → Start T → Flight → ℕ → Kept → Step Flight Kept T
-  step_of words (besides.TheVariants.Queues waits) p (starts.TheVariants.Queues start) (flights.TheVariants.Queues flight) old (kepts.TheVariants.Queues roles) =
-      as_step flights.TheVariants.Queues kepts.TheVariants.Queues (queue_steps.step words waits p start flight old roles)
+  step_of words (besides.TheVariants.Queues waits) p (starts.TheVariants.Queues start)
+      (flights.TheVariants.Queues flight) old (kepts.TheVariants.Queues roles) =
+      as_step flights.TheVariants.Queues kepts.TheVariants.Queues
+      (queue_steps.step words waits p start flight old roles)

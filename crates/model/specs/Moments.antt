@@ -10,7 +10,8 @@ module _ {T : Type 0} where
   BeginsNone p (Begun q start ∷ es) = (q ≢ p) × BeginsNone p es
   BeginsNone p (e ∷ es) = BeginsNone p es
 
-  -- P held at a moment of the party's latest call: of a beginning of the events that reaches into it
+  -- P held at a moment of the party's latest call: of a
+  -- beginning of the events that reaches into it
   pub record HeldOnce (p : ℕ) (P : List (Event T) → Type 0) (events : List (Event T)) : Type 0 where
     pub part : List (Event T)
     pub rest : List (Event T)

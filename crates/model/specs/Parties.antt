@@ -42,4 +42,9 @@ module _ {T : Type 0} where
   abbrev pub progress_after : ℕ → Option (Party T) → Option Progress
   progress_after changes None = None
   progress_after changes (Some x) =
-      Some record { steps = x.steps; backs = x.backs; others = others_of changes x.doing; finished = is_over x.doing }
+      Some record {
+        steps = x.steps;
+        backs = x.backs;
+        others = others_of changes x.doing;
+        finished = is_over x.doing;
+      }

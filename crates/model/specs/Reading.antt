@@ -9,7 +9,8 @@ use Rattle.model.specs.declared.event.Event.TheVariants.{Begun, Published, Hande
 module _ {T : Type 0} where
   -- P holds of each event and of what stands before it
   abbrev pub Each : (List (Event T) → Event T → Type 0) → List (Event T) → Type 0
-  Each P events = (before after : List (Event T)) (e : Event T) → events ≡ before ++ e ∷ after → P before e
+  Each P events =
+      (before after : List (Event T)) (e : Event T) → events ≡ before ++ e ∷ after → P before e
 
   -- ---- moments: a call and its answer
 
@@ -31,7 +32,8 @@ module _ {T : Type 0} where
   owner (Acted p start answer) = p
   owner (Finished p start answer) = p
 
--- a party's latest call: none yet, one under way, or one that is done, with what it has written since its Begun
+-- a party's latest call: none yet, one under way, or one that is
+-- done, with what it has written since its Begun
 pub data Span (T : Type 0) : Type 0 where
   Never : Span T
   Open : (start : Start T) (wrote : List (Event T)) → Span T

@@ -53,4 +53,5 @@ module _ {T : Type 0} where
 
   -- a refusal names the first row that applies; where none does, memory was refused
   abbrev pub IsRefusal : World T → Turn T → Refusal → Type 0
-  IsRefusal w turn refusal = (refusal_of w turn ≡ Some refusal) ⊎ (refusal_of w turn ≡ None) × (refusal ≡ NoMemory)
+  IsRefusal w turn refusal =
+      (refusal_of w turn ≡ Some refusal) ⊎ (refusal_of w turn ≡ None) × (refusal ≡ NoMemory)

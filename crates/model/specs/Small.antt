@@ -19,4 +19,5 @@ module _ {T : Type 0} where
   pub record IsSmall (w : World T) : Type 0 where
     pub turns : w.turns ≤ 2 ^ 64 - 2
     pub changes : w.changes ≤ w.turns
-    pub latest : (p : ℕ) (x : Party T) → party_of p w.latest ≡ Some x → HasSmallCounts w.turns w.changes x
+    pub latest : (p : ℕ) (x : Party T) → party_of p w.latest ≡ Some x
+        → HasSmallCounts w.turns w.changes x

@@ -1,4 +1,5 @@
--- What a step of a call comes to: in a family by its own calls and what it keeps, in a machine by those of any family.
+-- What a step of a call comes to: in a family by its own calls and what it
+-- keeps, in a machine by those of any family.
 use Rattle.std.specs.Prelude.{ℕ, Option, Some, None, List}
 use Rattle.steps.specs.declared.ask.After.{After}
 use Rattle.steps.specs.declared.ask.After.TheVariants.{GoOn, Done}
@@ -25,4 +26,9 @@ module _ {R F A B : Type 0} where
 module _ {R F K L T : Type 0} where
   abbrev pub as_step : (R → F) → (K → L) → Step R K T → Step F L T
   as_step flight kept s =
-      record { after = as_call flight (λ answer. answer) s.after; back = s.back; wrote = s.wrote; kept = kept s.kept }
+      record {
+        after = as_call flight (λ answer. answer) s.after;
+        back = s.back;
+        wrote = s.wrote;
+        kept = kept s.kept;
+      }

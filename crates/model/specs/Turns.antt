@@ -31,13 +31,16 @@ old_of words (Some ask) = slice_index words ask.word
 
 abbrev pub words_after : List ℕ → Option Ask → List ℕ
 words_after words None = words
-words_after words (Some ask) = slice_set words ask.word (written ask.op (slice_index words ask.word))
+words_after words (Some ask) =
+    slice_set words ask.word (written ask.op (slice_index words ask.word))
 
 -- 1 for an operation that changes its word's value
 abbrev pub change_of : List ℕ → Option Ask → ℕ
 change_of words None = 0
 change_of words (Some ask) =
-    if slice_index (words_after words (Some ask)) ask.word == slice_index words ask.word then 0 else 1
+    if slice_index (words_after words (Some ask)) ask.word == slice_index words ask.word
+    then 0
+    else 1
 
 -- the answer that stands for a decision
 abbrev pub number_of : Bool → ℕ
@@ -63,12 +66,16 @@ module _ {T : Type 0} where
   -- ---- a call begins
 
   abbrev pub party_at_begin : Start T → Flight → ℕ → Party T
-  party_at_begin start flight changes = record { start = start; steps = 0; backs = 0; doing = Going flight changes }
+  party_at_begin start flight changes =
+      record { start = start; steps = 0; backs = 0; doing = Going flight changes }
 
   abbrev pub after_begin : World T → ℕ → Start T → Option Flight → World T
   after_begin w p start None = w
   after_begin w p start (Some flight) =
-      record w { latest = put p (party_at_begin start flight w.changes) w.latest; turns = w.turns + 1 }
+      record w {
+        latest = put p (party_at_begin start flight w.changes) w.latest;
+        turns = w.turns + 1;
+      }
 
   -- ---- a call goes on
 
@@ -93,7 +100,8 @@ module _ {T : Type 0} where
       record w {
         words = words_after w.words ask;
         kept = s.kept;
-        latest = put p (party_after x since w.changes (step_count ask) (change_of w.words ask) s) w.latest;
+        latest = put p
+            (party_after x since w.changes (step_count ask) (change_of w.words ask) s) w.latest;
         changes = w.changes + change_of w.words ask;
         turns = w.turns + 1;
       }
@@ -106,7 +114,8 @@ module _ {T : Type 0} where
   -- the call goes on from this answer; one that is done stays
   abbrev pub after_answer : World T → ℕ → Party T → Option Ask → ℕ → Doing → World T
   after_answer w p x ask answer (Over others) = w
-  after_answer w p x ask answer (Going flight since) = after_step w p x since ask (step_in w p x flight answer)
+  after_answer w p x ask answer (Going flight since) =
+      after_step w p x since ask (step_in w p x flight answer)
 
   abbrev pub ending_of : ℕ → Start T → Option (Answer T) → List (Event T)
   ending_of p start None = []
@@ -118,7 +127,8 @@ module _ {T : Type 0} where
 
   abbrev pub events_of_answer : World T → ℕ → Party T → ℕ → Doing → List (Event T)
   events_of_answer w p x answer (Over others) = []
-  events_of_answer w p x answer (Going flight since) = events_of_step p x.start (step_in w p x flight answer)
+  events_of_answer w p x answer (Going flight since) =
+      events_of_step p x.start (step_in w p x flight answer)
 
   -- ---- a turn that is not refused
 
@@ -130,7 +140,8 @@ module _ {T : Type 0} where
   -- what the call asks for is done, and it is handed the old value of the word
   abbrev pub after_next : World T → ℕ → Option (Party T) → World T
   after_next w p None = w
-  after_next w p (Some x) = after_answer w p x (ask_of_doing x.doing) (old_of w.words (ask_of_doing x.doing)) x.doing
+  after_next w p (Some x) =
+      after_answer w p x (ask_of_doing x.doing) (old_of w.words (ask_of_doing x.doing)) x.doing
 
   -- the call is handed yes or no
   abbrev pub after_decision : World T → ℕ → Bool → Option (Party T) → World T
@@ -147,7 +158,8 @@ module _ {T : Type 0} where
 
   abbrev pub events_of_next : World T → ℕ → Option (Party T) → List (Event T)
   events_of_next w p None = []
-  events_of_next w p (Some x) = events_of_answer w p x (old_of w.words (ask_of_doing x.doing)) x.doing
+  events_of_next w p (Some x) =
+      events_of_answer w p x (old_of w.words (ask_of_doing x.doing)) x.doing
 
   abbrev pub events_of_decision : World T → ℕ → Bool → Option (Party T) → List (Event T)
   events_of_decision w p said None = []
@@ -162,7 +174,8 @@ module _ {T : Type 0} where
   -- ---- lists of turns
 
   abbrev pub after_turn : Trace T → Turn T → Trace T
-  after_turn t turn = record { world = world_after t.world turn; events = t.events ++ events_of t.world turn }
+  after_turn t turn =
+      record { world = world_after t.world turn; events = t.events ++ events_of t.world turn }
 
   -- these turns, one after another
   abbrev pub after_turns : Trace T → List (Turn T) → Trace T
@@ -172,7 +185,8 @@ module _ {T : Type 0} where
   -- none of them is refused
   abbrev pub AreAllowed : Trace T → List (Turn T) → Type 0
   AreAllowed t [] = Unit {0}
-  AreAllowed t (turn ∷ turns) = (refusal_of t.world turn ≡ None) × AreAllowed (after_turn t turn) turns
+  AreAllowed t (turn ∷ turns) =
+      (refusal_of t.world turn ≡ None) × AreAllowed (after_turn t turn) turns
 
   abbrev pub unless_refused : Trace T → Trace T → Option Refusal → Trace T
   unless_refused old new None = new

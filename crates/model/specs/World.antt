@@ -1,6 +1,7 @@
 -- The machine as plain data.
-use Rattle.std.specs.Prelude.{ℕ, ◌-◌, ◌^◌, Option, List, []}
+use Rattle.std.specs.Prelude.{◌≡◌, ◌⊎◌, ℕ, ◌-◌, ◌^◌, Option, Some, None, List, []}
 use Rattle.steps.specs.declared.enums.UniqueIndexCreationError.{UniqueIndexCreationError}
+use Rattle.steps.specs.declared.enums.UniqueIndexCreationError.TheVariants.{NoMemory}
 use Rattle.steps.specs.Enums.{capacity_refusal}
 use Rattle.model.specs.declared.event.Event.{Event}
 use Rattle.model.specs.declared.families.Flight.{Flight}
@@ -38,7 +39,13 @@ greatest_capacity Overflow = 2 ^ 32 - 1
 
 -- the refusal of a capacity that is not admitted
 abbrev pub capacity_error : Kind → ℕ → Option UniqueIndexCreationError
-capacity_error kind capacity = capacity_refusal (least_capacity kind) (greatest_capacity kind) capacity
+capacity_error kind capacity =
+    capacity_refusal (least_capacity kind) (greatest_capacity kind) capacity
+
+-- why no machine is made: its capacity, or where that is admitted, memory
+abbrev pub IsCreationError : Kind → ℕ → UniqueIndexCreationError → Type 0
+IsCreationError kind capacity e =
+    (capacity_error kind capacity ≡ Some e) ⊎ (capacity_error kind capacity ≡ None) × (e ≡ NoMemory)
 
 module _ {T : Type 0} where
   abbrev pub opening : Kind → ℕ → ℕ → Trace T

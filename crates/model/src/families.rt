@@ -1,6 +1,6 @@
 //! The families of calls. Each has a room of its own, and here one line where a machine passes on to it.
-ghost use Rattle.std.specs.Prelude.{◌≡◌, ◌+◌, ◌≤◌, ◌++◌, MatchOption, IfOk, vec_len, vec_capacity};
-ghost use Rattle.steps.specs.declared.ask.After.TheVariants.{GoOn, Done};
+ghost use Rattle.std.specs.Prelude.{◌≡◌, ◌+◌, ◌≤◌, ◌++◌, IfOk, vec_len, vec_capacity};
+ghost use Rattle.steps.specs.Ask.{CameTo};
 ghost use Rattle.model.specs.Families.{first_of, want_of, is_question, opening_words, opening_kept, beside_of, step_of, call_refusal};
 
 use crate::event::{Answer, Event, Start};
@@ -35,7 +35,8 @@ pub enum Beside {
     Queues(Option<(u32, u64)>),
 }
 
-/// What became of a call that went on: 1 where it begins a turn of its loop again, else 0, and its answer where it is done.
+/// What became of a call that went on: 1 where it begins a turn of its loop
+/// again, else 0, and its answer where it is done.
 #[derive(Drop)]
 pub struct Went<T> {
     pub back: u64,
@@ -129,10 +130,14 @@ impl Flight {
         events: &mut Vec<Event<T>>,
     ) -> Went<T>
         requires { vec_len events.old + MOST_EFFECTS ≤ vec_capacity events.old }
-        ensures after { MatchOption result.done ((step_of words.now.items beside number start.now self.old answer kept.old).after ≡ GoOn self.new) (λ a. (step_of words.now.items beside number start.now self.old answer kept.old).after ≡ Done a) }
-        ensures back { result.back ≡ (step_of words.now.items beside number start.now self.old answer kept.old).back }
-        ensures kept { kept.new ≡ (step_of words.now.items beside number start.now self.old answer kept.old).kept }
-        ensures wrote { events.new.items ≡ events.old.items ++ (step_of words.now.items beside number start.now self.old answer kept.old).wrote }
+        ensures after { CameTo result.done self.new
+            (step_of words.now.items beside number start.now self.old answer kept.old).after }
+        ensures back { result.back
+            ≡ (step_of words.now.items beside number start.now self.old answer kept.old).back }
+        ensures kept { kept.new
+            ≡ (step_of words.now.items beside number start.now self.old answer kept.old).kept }
+        ensures wrote { events.new.items ≡ events.old.items
+            ++ (step_of words.now.items beside number start.now self.old answer kept.old).wrote }
         ensures few { vec_len events.new ≤ vec_len events.old + MOST_EFFECTS }
         ensures room { vec_capacity events.new ≡ vec_capacity events.old }
     {

@@ -1,5 +1,5 @@
-//! What a machine is: its calls, parties, turns and events, and what a turn makes of it. The definitions that a reader must
-//! believe stand in `specs/`.
+//! What a machine is: its calls, parties, turns and events, and what a turn makes of it. The
+//! definitions that a reader must believe stand in `specs/`.
 #![tactic(auto)]
 
 pub mod event;

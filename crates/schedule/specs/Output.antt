@@ -34,8 +34,10 @@ refusal_where true None = Some NoMemory
 refusal_where false None = None
 
 abbrev pub outcome_as : World ℕ → Turn ℕ → Option Refusal → Outcome
-outcome_as w turn None = record { text = events_text (events_of w turn); is_taken = true; world = world_after w turn }
-outcome_as w turn (Some refusal) = record { text = refusal_text refusal; is_taken = false; world = w }
+outcome_as w turn None =
+    record { text = events_text (events_of w turn); is_taken = true; world = world_after w turn }
+outcome_as w turn (Some refusal) =
+    record { text = refusal_text refusal; is_taken = false; world = w }
 
 -- of a turn to which memory is refused, or not
 unfoldable pub outcome : Bool → World ℕ → Turn ℕ → Outcome
@@ -43,7 +45,8 @@ outcome short w turn = outcome_as w turn (refusal_where short (refusal_of w turn
 
 -- ---- several turns
 
--- For each turn to come the list says whether memory is refused to it. Past the list's end it is not.
+-- For each turn to come the list says whether memory is
+-- refused to it. Past the list's end it is not.
 pub record State : Type 0 where
   pub world : World ℕ
   pub memory : List Bool
@@ -107,12 +110,15 @@ lines_from kind number ([] ∷ lines) s = lines_from kind (number + 1) lines s
 lines_from kind number ((b ∷ bs) ∷ lines) s =
     elim (command_of kind (words (b ∷ bs))) [
       | Err cause ↦ stopped number cause
-      | Ok command ↦ before (commanded command s).text (lines_from kind (number + 1) lines (commanded command s).state)
+      | Ok command ↦
+          before (commanded command s).text
+          (lines_from kind (number + 1) lines (commanded command s).state)
     ]
 
 -- why a machine is refused; refused memory is no cause
 abbrev pub capacity_cause : Option UniqueIndexCreationError → Option Cause
-capacity_cause (Some creation.ProvidedCapacityGreaterThanMaxCapacity) = Some causes.ProvidedCapacityGreaterThanMaxCapacity
+capacity_cause (Some creation.ProvidedCapacityGreaterThanMaxCapacity) =
+    Some causes.ProvidedCapacityGreaterThanMaxCapacity
 capacity_cause (Some creation.ProvidedCapacityIsZero) = Some causes.ProvidedCapacityIsZero
 capacity_cause (Some creation.NoMemory) = None
 capacity_cause None = None
@@ -128,7 +134,8 @@ machine_of ws = do
   admitted setup (capacity_cause (capacity_error setup.kind setup.capacity))
 
 abbrev pub opened : Setup → List Bool → State
-opened setup memory = record { world = (opening setup.kind setup.capacity setup.parties).world; memory = memory }
+opened setup memory =
+    record { world = (opening setup.kind setup.capacity setup.parties).world; memory = memory }
 
 unfoldable pub output_of_lines : List Bool → List (List ℕ) → Output
 output_of_lines memory [] = stopped 1 causes.MissingValue
@@ -138,6 +145,7 @@ output_of_lines memory (first ∷ lines) =
       | Ok setup ↦ lines_from setup.kind 2 lines (opened setup memory)
     ]
 
--- The output for these bytes, where memory is refused to the turns that the list says. With the empty list it is to none.
+-- The output for these bytes, where memory is refused to the turns that the
+-- list says. With the empty list it is to none.
 abbrev pub output : List Bool → List ℕ → Output
 output memory input = output_of_lines memory (lines input)

@@ -46,8 +46,10 @@ answered_text start answer = call_text start ++ codes " -> " ++ answer_text answ
 -- the line of an event
 unfoldable pub event_text : Event ℕ → List ℕ
 event_text (Begun party start) = decimal party ++ codes " begun " ++ call_text start ++ codes "\n"
-event_text (Published party item) = decimal party ++ codes " published " ++ item_text item ++ codes "\n"
-event_text (HandedOut party item) = decimal party ++ codes " handed_out " ++ item_text item ++ codes "\n"
+event_text (Published party item) =
+    decimal party ++ codes " published " ++ item_text item ++ codes "\n"
+event_text (HandedOut party item) =
+    decimal party ++ codes " handed_out " ++ item_text item ++ codes "\n"
 event_text (Acted party start answer) =
     decimal party ++ codes " acted " ++ answered_text start answer ++ codes "\n"
 event_text (Finished party start answer) =
@@ -86,11 +88,13 @@ cause_text causes.UnknownKind = codes "unknown kind"
 cause_text causes.UnknownTurn = codes "unknown turn"
 cause_text causes.UnknownCall = codes "unknown call"
 cause_text causes.ExtraWords = codes "extra words"
-cause_text causes.ProvidedCapacityGreaterThanMaxCapacity = codes "ProvidedCapacityGreaterThanMaxCapacity"
+cause_text causes.ProvidedCapacityGreaterThanMaxCapacity =
+    codes "ProvidedCapacityGreaterThanMaxCapacity"
 cause_text causes.ProvidedCapacityIsZero = codes "ProvidedCapacityIsZero"
 
 abbrev pub error_text : ScheduleError → List ℕ
-error_text (errors.Malformed line cause) = codes "line " ++ decimal line ++ codes ": " ++ cause_text cause ++ codes "\n"
+error_text (errors.Malformed line cause) =
+    codes "line " ++ decimal line ++ codes ": " ++ cause_text cause ++ codes "\n"
 error_text errors.ReadFailed = codes "read failed\n"
 error_text errors.WriteFailed = codes "write failed\n"
 error_text errors.NoMemory = codes "no memory\n"

@@ -38,7 +38,8 @@ index_call name ws =
     else elim (length_call name) [ Some start ↦ Ok (start, ws) | None ↦ Err UnknownCall ]
 
 unfoldable pub any_index_call : List ℕ → List (List ℕ) → Result (QueueStart ℕ × List (List ℕ)) Cause
-any_index_call name ws = elim (role_call name) [ Some start ↦ Ok (start, ws) | None ↦ index_call name ws ]
+any_index_call name ws =
+    elim (role_call name) [ Some start ↦ Ok (start, ws) | None ↦ index_call name ws ]
 
 -- the calls of a queue of indices
 unfoldable pub index_queue_call : List ℕ → List (List ℕ) → Result (Start ℕ × List (List ℕ)) Cause

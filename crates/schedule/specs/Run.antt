@@ -9,14 +9,19 @@ use Rattle.schedule.specs.Written.{AppendsPart}
 
 -- ---- a turn
 
--- a turn was taken or not, as it should be, and its text was written, or a beginning of it where a write failed
-abbrev pub IsTurn : Outcome → World ℕ → Option (List ℕ) → Option (List ℕ) → Result Bool ScheduleError → Type 0
-IsTurn o new before after (Ok is_taken) = (is_taken ≡ o.is_taken) × (new ≡ o.world) × Appends before after o.text
+-- a turn was taken or not, as it should be, and its text was
+-- written, or a beginning of it where a write failed
+abbrev pub IsTurn : Outcome → World ℕ → Option (List ℕ) → Option (List ℕ)
+    → Result Bool ScheduleError → Type 0
+IsTurn o new before after (Ok is_taken) =
+    (is_taken ≡ o.is_taken) × (new ≡ o.world) × Appends before after o.text
 IsTurn o new before after (Err e) = (e ≡ errors.WriteFailed) × AppendsPart before after o.text
 
 -- the same, where the answer is whether the party's call goes on
-abbrev pub IsStep : ℕ → Outcome → World ℕ → Option (List ℕ) → Option (List ℕ) → Result Bool ScheduleError → Type 0
-IsStep party o new before after (Ok goes) = (goes ≡ goes_on party o) × (new ≡ o.world) × Appends before after o.text
+abbrev pub IsStep : ℕ → Outcome → World ℕ → Option (List ℕ) → Option (List ℕ)
+    → Result Bool ScheduleError → Type 0
+IsStep party o new before after (Ok goes) =
+    (goes ≡ goes_on party o) × (new ≡ o.world) × Appends before after o.text
 IsStep party o new before after (Err e) = (e ≡ errors.WriteFailed) × AppendsPart before after o.text
 
 -- ---- several turns
@@ -24,29 +29,41 @@ IsStep party o new before after (Err e) = (e ≡ errors.WriteFailed) × AppendsP
 -- where memory was refused as the list says, f prints this text, and leads to this world
 abbrev pub Leads : (State → Printed) → World ℕ → World ℕ → List Bool → List ℕ → Type 0
 Leads f old new memory text =
-    (more : List Bool) → f (record { world = old; memory = memory ++ more }) ≡ record { text = text; state = record { world = new; memory = more } }
+    (more : List Bool)
+    → f (record { world = old; memory = memory ++ more })
+    ≡ record { text = text; state = record { world = new; memory = more } }
 
 -- for some list all of f's text was written, or a beginning of it where a write failed
-abbrev pub Prints : (State → Printed) → World ℕ → World ℕ → Option (List ℕ) → Option (List ℕ) → Result (Unit {0}) ScheduleError → Type 0
-Prints f old new before after (Ok u) = (memory : List Bool) × (text : List ℕ) × Leads f old new memory text × Appends before after text
+abbrev pub Prints : (State → Printed) → World ℕ → World ℕ → Option (List ℕ) → Option (List ℕ)
+    → Result (Unit {0}) ScheduleError → Type 0
+Prints f old new before after (Ok u) =
+    (memory : List Bool) × (text : List ℕ) × Leads f old new memory text × Appends before after text
 Prints f old new before after (Err e) =
-    (e ≡ errors.WriteFailed) × (memory : List Bool) × AppendsPart before after (f (record { world = old; memory = memory })).text
+    (e ≡ errors.WriteFailed) × (memory : List Bool)
+    × AppendsPart before after (f (record { world = old; memory = memory })).text
 
 -- ---- a run
 
--- The run ended as the output does, and its text was written. After a failed write it was a beginning of the text, and where there
--- was no memory for the machine, nothing. All was read before. The list says to which turns memory was refused.
-abbrev pub IsOutput : (List Bool → Output) → Option (List ℕ) → Option (List ℕ) → Result (Unit {0}) ScheduleError → Type 0
-IsOutput output before after (Ok u) = (memory : List Bool) × ((output memory).end ≡ Ok u) × Appends before after (output memory).text
+-- The run ended as the output does, and its text was written. After a failed write it was a
+-- beginning of the text, and where there was no memory for the machine, nothing. All was read
+-- before. The list says to which turns memory was refused.
+abbrev pub IsOutput : (List Bool → Output) → Option (List ℕ) → Option (List ℕ)
+    → Result (Unit {0}) ScheduleError → Type 0
+IsOutput output before after (Ok u) =
+    (memory : List Bool) × ((output memory).end ≡ Ok u) × Appends before after (output memory).text
 IsOutput output before after (Err (errors.Malformed line cause)) =
-    (memory : List Bool) × ((output memory).end ≡ Err (line, cause)) × Appends before after (output memory).text
-IsOutput output before after (Err errors.WriteFailed) = (memory : List Bool) × AppendsPart before after (output memory).text
+    (memory : List Bool) × ((output memory).end ≡ Err (line, cause))
+    × Appends before after (output memory).text
+IsOutput output before after (Err errors.WriteFailed) =
+    (memory : List Bool) × AppendsPart before after (output memory).text
 IsOutput output before after (Err errors.ReadFailed) = ⊥
 IsOutput output before after (Err errors.NoMemory) = Keeps before after
 
 -- the same of a reader of which all that it had left was read
-abbrev pub IsRun : Option (List ℕ) → Option (List ℕ) → Option (List ℕ) → Result (Unit {0}) ScheduleError → Type 0
+abbrev pub IsRun : Option (List ℕ) → Option (List ℕ) → Option (List ℕ)
+    → Result (Unit {0}) ScheduleError → Type 0
 IsRun known before after (Err errors.ReadFailed) = Keeps before after
 IsRun known before after (Err errors.NoMemory) = Keeps before after
 IsRun known before after r =
-    (input : List ℕ) × IfSome known (λ bytes. bytes ≡ input) × IsOutput (λ memory. output memory input) before after r
+    (input : List ℕ) × IfSome known (λ bytes. bytes ≡ input)
+    × IsOutput (λ memory. output memory input) before after r

@@ -6,10 +6,12 @@ use Rattle.schedule.specs.declared.error.ScheduleError.TheVariants as errors
 
 -- known bytes grow by a beginning of the text, which can be all of it
 abbrev pub AppendsPart : Option (List ℕ) → Option (List ℕ) → List ℕ → Type 0
-AppendsPart old new text = (part : List ℕ) × (rest : List ℕ) × (part ++ rest ≡ text) × Appends old new part
+AppendsPart old new text =
+    (part : List ℕ) × (rest : List ℕ) × (part ++ rest ≡ text) × Appends old new part
 
 -- all of the text was written, or a write failed after a beginning of it
-abbrev pub Writes : Option (List ℕ) → Option (List ℕ) → Result (Unit {0}) ScheduleError → List ℕ → Type 0
+abbrev pub Writes : Option (List ℕ) → Option (List ℕ) → Result (Unit {0}) ScheduleError
+    → List ℕ → Type 0
 Writes old new (Ok u) text = Appends old new text
 Writes old new (Err e) text = (e ≡ errors.WriteFailed) × AppendsPart old new text
 

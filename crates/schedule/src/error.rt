@@ -19,7 +19,7 @@ pub enum Cause {
     /// The word names no call of the kind.
     #[error("unknown call")]
     UnknownCall,
-    /// Rest stand behind the last one that is read.
+    /// Words stand behind the last one that is read.
     #[error("extra words")]
     ExtraWords,
     /// The first line is sound, and its capacity is refused.
@@ -39,7 +39,7 @@ pub enum ScheduleError {
     /// A read failed. Nothing was written.
     #[error("read failed")]
     ReadFailed,
-    /// A write failed. A beginning of the output was written.
+    /// A write failed. Of a writer that tells what it holds, a beginning of the output was written.
     #[error("write failed")]
     WriteFailed,
     /// There is no memory for the input or the machine. Nothing was written.

@@ -54,7 +54,8 @@ fn ended(words: Rest<'_>) -> Result<(), Cause>
 /// A number up to the greatest, and the words behind it.
 #[tactic(auto, unfolding(crate::specs::Grammar::number_at))]
 pub fn number_at(greatest: u128, words: Rest<'_>) -> Result<(u128, Rest<'_>), Cause>
-    ensures value { Gives (λ x. (x.0, words_left x.1)) result (number_at greatest (words_left words.entry)) }
+    ensures value { Gives (λ x. (x.0, words_left x.1)) result
+        (number_at greatest (words_left words.entry)) }
     ensures bound { IfOk result (λ x. x.0 ≤ greatest) }
 {
     let (word, rest) = next_word(words)?;
@@ -96,7 +97,8 @@ pub fn setup_of(line: &[u8]) -> Result<Setup, Cause>
 // ---- calls
 
 fn call_of<'a>(kind: Kind, name: &[u8], words: Rest<'a>) -> Result<(Start<u128>, Rest<'a>), Cause>
-    ensures { Gives (λ x. (x.0, words_left x.1)) result (call_of kind name.now (words_left words.entry)) }
+    ensures { Gives (λ x. (x.0, words_left x.1)) result
+        (call_of kind name.now (words_left words.entry)) }
 {
     match kind {
         Kind::IndexQueue => queues::index_queue_call(name, words),

@@ -12,8 +12,10 @@ fn read_piece<A: Allocator, R: Read>(
     reader: &mut R,
     input: &mut Vec<u8, A>,
 ) -> Result<bool, ScheduleError>
-    ensures bytes { IfOk result (λ more. (bytes : List ℕ) × (input.new.items ≡ input.old.items ++ bytes)
-        × Consumes (R.remaining reader.old) (R.remaining reader.new) bytes × (more ≡ false → IsAtEnd (R.remaining reader.new))) }
+    ensures bytes { IfOk result
+        (λ more. (bytes : List ℕ) × (input.new.items ≡ input.old.items ++ bytes)
+        × Consumes (R.remaining reader.old) (R.remaining reader.new) bytes
+        × (more ≡ false → IsAtEnd (R.remaining reader.new))) }
     ensures failed { IfErr result IsUnread }
 {
     let mut piece = [0u8; 4096];
@@ -40,7 +42,8 @@ pub fn whole_input<A: Allocator, R: Read>(
     alloc: A,
     reader: &mut R,
 ) -> Result<Vec<u8, A>, ScheduleError>
-    ensures bytes { IfOk result (λ input. IfSome (R.remaining reader.old) (λ known. known ≡ input.items)) }
+    ensures bytes { IfOk result
+        (λ input. IfSome (R.remaining reader.old) (λ known. known ≡ input.items)) }
     ensures failed { IfErr result IsUnread }
 {
     let mut input = Vec::new(alloc);

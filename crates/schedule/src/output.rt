@@ -35,7 +35,8 @@ pub fn put<W: Write>(writer: &mut W, bytes: &[u8]) -> Result<(), ScheduleError>
 
 /// Writes the lines of the events, or a beginning of them where a write fails.
 pub fn put_events<W: Write>(writer: &mut W, events: &[Event<u128>]) -> Result<(), ScheduleError>
-    ensures { Writes (W.contents writer.old) (W.contents writer.new) result (events_text events.now) }
+    ensures { Writes (W.contents writer.old) (W.contents writer.new) result
+        (events_text events.now) }
 {
     for event in events {
         match put(writer, Line::of_event(*event).as_bytes()) {

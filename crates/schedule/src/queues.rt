@@ -51,7 +51,8 @@ fn push_index(words: Rest<'_>) -> Result<(QueueStart<u128>, Rest<'_>), Cause>
 
 #[tactic(auto, unfolding(crate::specs::Queues::index_call))]
 fn index_call<'a>(name: &[u8], words: Rest<'a>) -> Result<(QueueStart<u128>, Rest<'a>), Cause>
-    ensures { Gives (λ x. (x.0, words_left x.1)) result (index_call name.now (words_left words.entry)) }
+    ensures { Gives (λ x. (x.0, words_left x.1)) result
+        (index_call name.now (words_left words.entry)) }
 {
     if name == b"push".as_slice() {
         push_index(words)
@@ -67,7 +68,8 @@ fn index_call<'a>(name: &[u8], words: Rest<'a>) -> Result<(QueueStart<u128>, Res
 
 #[tactic(auto, unfolding(crate::specs::Queues::any_index_call))]
 fn any_index_call<'a>(name: &[u8], words: Rest<'a>) -> Result<(QueueStart<u128>, Rest<'a>), Cause>
-    ensures { Gives (λ x. (x.0, words_left x.1)) result (any_index_call name.now (words_left words.entry)) }
+    ensures { Gives (λ x. (x.0, words_left x.1)) result
+        (any_index_call name.now (words_left words.entry)) }
 {
     match role_call(name) {
         Some(start) => Ok((start, words)),
@@ -78,7 +80,8 @@ fn any_index_call<'a>(name: &[u8], words: Rest<'a>) -> Result<(QueueStart<u128>,
 /// A call of a queue of indices.
 #[tactic(auto, unfolding(crate::specs::Queues::index_queue_call))]
 pub fn index_queue_call<'a>(name: &[u8], words: Rest<'a>) -> Result<(Start<u128>, Rest<'a>), Cause>
-    ensures { Gives (λ x. (x.0, words_left x.1)) result (index_queue_call name.now (words_left words.entry)) }
+    ensures { Gives (λ x. (x.0, words_left x.1)) result
+        (index_queue_call name.now (words_left words.entry)) }
 {
     let (start, rest) = any_index_call(name, words)?;
     Ok((Start::Queues(start), rest))

@@ -23,7 +23,8 @@ fn take_turn<W: Write>(
     turn: Turn<u128>,
     writer: &mut W,
 ) -> Result<bool, ScheduleError>
-    ensures { (short : Bool) × IsTurn (outcome short machine.old.world turn) machine.new.world (W.contents writer.old) (W.contents writer.new) result }
+    ensures { (short : Bool) × IsTurn (outcome short machine.old.world turn)
+        machine.new.world (W.contents writer.old) (W.contents writer.new) result }
 {
     let before = machine.events().len();
     match machine.step(turn) {
@@ -44,7 +45,8 @@ fn take_next<W: Write>(
     party: u32,
     writer: &mut W,
 ) -> Result<bool, ScheduleError>
-    ensures { (short : Bool) × IsStep party (outcome short machine.old.world (Next party)) machine.new.world (W.contents writer.old) (W.contents writer.new) result }
+    ensures { (short : Bool) × IsStep party (outcome short machine.old.world (Next party))
+        machine.new.world (W.contents writer.old) (W.contents writer.new) result }
 {
     match take_turn(machine, Turn::Next(party), writer) {
         Ok(taken) => Ok(taken && machine.is_going(party)),
@@ -59,7 +61,8 @@ fn take_nexts<W: Write>(
     most: u64,
     writer: &mut W,
 ) -> Result<(), ScheduleError>
-    ensures { Prints (nexts most party) machine.old.world machine.new.world (W.contents writer.old) (W.contents writer.new) result }
+    ensures { Prints (nexts most party) machine.old.world machine.new.world
+        (W.contents writer.old) (W.contents writer.new) result }
 {
     for _ in 0..most {
         match take_next(machine, party, writer) {
@@ -77,7 +80,8 @@ fn do_command<W: Write>(
     command: Command,
     writer: &mut W,
 ) -> Result<(), ScheduleError>
-    ensures { Prints (commanded command) machine.old.world machine.new.world (W.contents writer.old) (W.contents writer.new) result }
+    ensures { Prints (commanded command) machine.old.world machine.new.world
+        (W.contents writer.old) (W.contents writer.new) result }
 {
     match command {
         Command::Once(turn) => match take_turn(machine, turn, writer) {
@@ -96,7 +100,10 @@ fn do_lines<W: Write>(
     writer: &mut W,
 ) -> Result<(), ScheduleError>
     requires { length (words_left lines) < 2 ^ 63 }
-    ensures { IsOutput (λ memory. lines_from kind 2 (words_left lines.entry) (record { world = machine.old.world; memory = memory })) (W.contents writer.old) (W.contents writer.new) result }
+    ensures { IsOutput
+        (λ memory. lines_from kind 2 (words_left lines.entry)
+        (record { world = machine.old.world; memory = memory }))
+        (W.contents writer.old) (W.contents writer.new) result }
 {
     let mut left = lines;
     let mut number = 2u64;
@@ -136,7 +143,8 @@ fn machine_of(line: &[u8]) -> Result<Setup, Cause>
 // The whole text.
 fn do_text<W: Write>(alloc: Global, input: &[u8], writer: &mut W) -> Result<(), ScheduleError>
     requires { length input.now < 2 ^ 63 }
-    ensures { IsOutput (λ memory. output memory input.now) (W.contents writer.old) (W.contents writer.new) result }
+    ensures { IsOutput (λ memory. output memory input.now)
+        (W.contents writer.old) (W.contents writer.new) result }
 {
     let Some((first, rest)) = lines(input).first() else {
         return Err(ScheduleError::Malformed(1, Cause::MissingValue));
@@ -165,7 +173,8 @@ pub fn run<A: Allocator, R: Read, W: Write>(
     reader: &mut R,
     writer: &mut W,
 ) -> Result<(), ScheduleError>
-    ensures { IsRun (R.remaining reader.old) (W.contents writer.old) (W.contents writer.new) result }
+    ensures { IsRun (R.remaining reader.old)
+        (W.contents writer.old) (W.contents writer.new) result }
 {
     let input = match whole_input(buffers, reader) {
         Ok(input) => input,

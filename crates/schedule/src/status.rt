@@ -30,7 +30,8 @@ fn put_message<W: Write>(
 /// here changes nothing of the answer.
 pub fn tell<W: Write>(ran: &Result<(), ScheduleError>, errors: &mut W) -> u8
     ensures exit { result ≡ exit_of ran.now }
-    ensures told { AppendsPart (W.contents errors.old) (W.contents errors.new) (message_text ran.now) }
+    ensures told { AppendsPart (W.contents errors.old) (W.contents errors.new)
+        (message_text ran.now) }
 {
     let _told = put_message(ran, errors);
     match ran {
@@ -51,7 +52,10 @@ pub fn status<A: Allocator + Copy, R: Read, W: Write, E: Write>(
     output: &mut W,
     errors: &mut E,
 ) -> u8
-    ensures { (ran : Result (Unit {0}) ScheduleError) × (before : Option (List ℕ)) × (after : Option (List ℕ)) × IsRun (R.remaining reader.old) before after ran × (result ≡ exit_of ran) × AppendsPart (E.contents errors.old) (E.contents errors.new) (message_text ran) }
+    ensures { (ran : Result (Unit {0}) ScheduleError)
+        × (before : Option (List ℕ)) × (after : Option (List ℕ))
+        × IsRun (R.remaining reader.old) before after ran × (result ≡ exit_of ran)
+        × AppendsPart (E.contents errors.old) (E.contents errors.new) (message_text ran) }
 {
     let ran = match BufWriter::new(buffers, output) {
         Ok(mut writer) => run(buffers, alloc, reader, &mut writer),

@@ -27,7 +27,8 @@ pub fn lines(text: &[u8]) -> Rest<'_>
     }
 }
 
-/// The words of a line, which exactly one space parts: two spaces have an empty word between them. An empty line has none.
+/// The words of a line, which exactly one space parts: two spaces have an empty
+/// word between them. An empty line has none.
 pub fn words(line: &[u8]) -> Rest<'_>
     ensures { words_left result ≡ words line.now }
 {
@@ -58,7 +59,8 @@ fn place_of(byte: u8, text: &[u8]) -> usize
 impl<'a> Rest<'a> {
     /// The first part, and the parts after it. None where no part is left.
     pub fn first(self) -> Option<(&'a [u8], Rest<'a>)>
-        ensures { MatchOption result (words_left self.entry ≡ []) (λ x. words_left self.entry ≡ x.0.now ∷ words_left x.1) }
+        ensures { MatchOption result (words_left self.entry ≡ [])
+            (λ x. words_left self.entry ≡ x.0.now ∷ words_left x.1) }
     {
         match self.rest {
             None => None,

@@ -1,7 +1,9 @@
--- What an operation makes of a word.
-use Rattle.std.specs.Prelude.{ℕ, ◌+◌, ◌-◌, ◌%◌, ◌^◌, ◌==◌, Bool, true, false, if◌then◌else◌, bit_and, bit_or}
+-- What an operation makes of a word, and what becomes of a call.
+use Rattle.std.specs.Prelude.{◌≡◌, ℕ, ◌+◌, ◌-◌, ◌%◌, ◌^◌, ◌==◌, Bool, true, false, Option, MatchOption, if◌then◌else◌, bit_and, bit_or}
 use Rattle.steps.specs.declared.ask.Want.{Want}
 use Rattle.steps.specs.declared.ask.Want as wants
+use Rattle.steps.specs.declared.ask.After.{After}
+use Rattle.steps.specs.declared.ask.After.TheVariants.{GoOn, Done}
 use Rattle.steps.specs.declared.ask.Op.{Op}
 use Rattle.steps.specs.declared.ask.Op.TheVariants.{Load, Store, Swap, Add, Sub, And, Or, Exchange}
 
@@ -31,3 +33,8 @@ abbrev pub is_store : {V : Type 0} → Want V → Bool
 is_store (wants.TheVariants.Ask ask) = is_store_op ask.op
 is_store (wants.TheVariants.Question question) = false
 is_store wants.TheVariants.Nothing = false
+
+module _ {C A : Type 0} where
+  -- a call went on and stands here now, or it was done with this answer
+  abbrev pub CameTo : Option A → C → After C A → Type 0
+  CameTo done call after = MatchOption done (after ≡ GoOn call) (λ answer. after ≡ Done answer)

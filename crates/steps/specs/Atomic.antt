@@ -34,7 +34,8 @@ module _ {V : Type 0} where
   store_asks words_of stores.TheVariants.LoadsVersion value = load 0
   store_asks words_of (stores.TheVariants.StoresCell cell at) value =
       store (word_at cell at) (slice_index (words_of value) at)
-  store_asks words_of stores.TheVariants.AddsVersion value = wants.TheVariants.Ask (record { word = 0; op = Add 1 })
+  store_asks words_of stores.TheVariants.AddsVersion value =
+      wants.TheVariants.Ask (record { word = 0; op = Add 1 })
 
   abbrev pub store_want : (V → List ℕ) → Store V → V → Want (Unit {0})
   store_want words_of call value = store_asks words_of call.stage value
@@ -62,7 +63,8 @@ store_left size stores.TheVariants.AddsVersion = 0
 
 -- ---- load
 
--- load the version; load the cell of the version before it, word by word; exchange the version for itself
+-- load the version; load the cell of the version before it,
+-- word by word; exchange the version for itself
 abbrev pub load_asks : loads.LoadStage → Want (Unit {0})
 load_asks loads.TheVariants.LoadsVersion = load 0
 load_asks (loads.TheVariants.LoadsCell version cell at) = load (word_at cell at)
@@ -71,13 +73,15 @@ load_asks (loads.TheVariants.ChecksVersion version) =
 
 -- the loads of a version's cell begin
 abbrev pub load_begins : ℕ → ℕ → loads.LoadStage
-load_begins size version = loads.TheVariants.LoadsCell version (cell_word size (before_version version)) 0
+load_begins size version =
+    loads.TheVariants.LoadsCell version (cell_word size (before_version version)) 0
 
 module _ {R : Type 0} where
   -- each word of the cell goes to its place in the room
   abbrev pub load_keeps : (R → ℕ → ℕ → R) → R → loads.LoadStage → ℕ → R
   load_keeps with_word room loads.TheVariants.LoadsVersion old = room
-  load_keeps with_word room (loads.TheVariants.LoadsCell version cell at) old = with_word room at old
+  load_keeps with_word room (loads.TheVariants.LoadsCell version cell at) old =
+      with_word room at old
   load_keeps with_word room (loads.TheVariants.ChecksVersion version) old = room
 
 module _ {V R : Type 0} where
@@ -92,7 +96,8 @@ module _ {V R : Type 0} where
 
   -- where the version has moved, the cell is loaded again, at the version found
   abbrev pub load_takes : ℕ → Load V R → loads.LoadStage → ℕ → After (Load V R) (Unit {0})
-  load_takes size call loads.TheVariants.LoadsVersion old = GoOn (at_load call (load_begins size old))
+  load_takes size call loads.TheVariants.LoadsVersion old =
+      GoOn (at_load call (load_begins size old))
   load_takes size call (loads.TheVariants.LoadsCell version cell at) old =
       if nat_lt (at + 1) size
       then GoOn (at_load call (loads.TheVariants.LoadsCell version cell (at + 1)))

@@ -5,13 +5,16 @@ use Rattle.steps.specs.declared.copied.OneWord.{OneWord}
 -- the value that the first of these words make; where they are too few, that of zeros
 abbrev pub value_in : {V : Type 0} → (List ℕ → V) → ℕ → List ℕ → V
 value_in value_of size words =
-    if nat_lt (length words) size then value_of (take size (replicate 128 0)) else value_of (take size words)
+    if nat_lt (length words) size
+    then value_of (take size (replicate 128 0))
+    else value_of (take size words)
 
 -- a room of one word has one place
 abbrev pub kept_in_one : OneWord → ℕ → ℕ → OneWord
 kept_in_one x zero word = record { 0 = word }
 kept_in_one x (suc at) word = x
 
-pub one_put_in : (x : OneWord) (at word : ℕ) → (kept_in_one x at word).0 ∷ [] ≡ slice_set (x.0 ∷ []) at word
+pub one_put_in : (x : OneWord) (at word : ℕ) → (kept_in_one x at word).0 ∷ []
+    ≡ slice_set (x.0 ∷ []) at word
 one_put_in x zero word = refl
 one_put_in x (suc at) word = refl

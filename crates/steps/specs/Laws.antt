@@ -1,4 +1,5 @@
--- What every call keeps to: a store tells it nothing, and one that ends by itself comes nearer to its end at each step.
+-- What every call keeps to: a store tells it nothing, and one that ends by
+-- itself comes nearer to its end at each step.
 use Rattle.std.specs.Prelude.{◌≡◌, ℕ, ◌+◌, ◌-◌, ◌^◌, ◌<◌, ◌≤◌, Bool, false, IsTrue, List, nat_lt, refl}
 use Rattle.std.proofs.Common.{arith, ap, sym, true≢false}
 use Rattle.std.proofs.lemmas.Bool.Decides.{nat_tests}
@@ -36,10 +37,12 @@ no_store t = absurd (true≢false (sym t))
 
 -- ---- roles
 
-pub acquire_tells : (c : AcquireRole) (room : Unit {0}) (m n : ℕ) → IsTrue (is_store (acquire_want c)) → (acquire_after c m ≡ acquire_after c n) × (room ≡ room)
+pub acquire_tells : (c : AcquireRole) (room : Unit {0}) (m n : ℕ)
+    → IsTrue (is_store (acquire_want c)) → (acquire_after c m ≡ acquire_after c n) × (room ≡ room)
 acquire_tells c room m n t = no_store t
 
-pub release_tells : (c : ReleaseRole) (room : Unit {0}) (m n : ℕ) → IsTrue (is_store (release_want c)) → (release_after c m ≡ release_after c n) × (room ≡ room)
+pub release_tells : (c : ReleaseRole) (room : Unit {0}) (m n : ℕ)
+    → IsTrue (is_store (release_want c)) → (release_after c m ≡ release_after c n) × (room ≡ room)
 release_tells c room m n t = (refl, refl)
 
 pub acquire_fewer : (c d : AcquireRole) (n : ℕ) → acquire_after c n ≡ GoOn d → 0 < 0
@@ -50,7 +53,9 @@ release_fewer c d n goes = cc
 
 -- ---- lengths
 
-pub len_tells : (c : Len) (stage : lens.LenStage) (room : Unit {0}) (m n : ℕ) → IsTrue (is_store (len_asks stage)) → (len_takes c stage m ≡ len_takes c stage n) × (room ≡ room)
+pub len_tells : (c : Len) (stage : lens.LenStage) (room : Unit {0}) (m n : ℕ)
+    → IsTrue (is_store (len_asks stage))
+    → (len_takes c stage m ≡ len_takes c stage n) × (room ≡ room)
 len_tells c lens.TheVariants.LoadsWrite room m n t = no_store t
 len_tells c (lens.TheVariants.LoadsRead write) room m n t = no_store t
 len_tells c (lens.TheVariants.LoadsWriteAgain write read) room m n t = no_store t
@@ -59,7 +64,9 @@ len_tells c (lens.TheVariants.LoadsReadAgain write read) room m n t = no_store t
 -- ---- the bounded queue
 
 module _ {V : Type 0} (words_of : V → List ℕ) (size : ℕ) where
-  pub push_tells : (c : Push V) (stage : pushes.PushStage) (x : V) (room : Unit {0}) (m n : ℕ) → IsTrue (is_store (push_asks words_of stage x)) → (push_takes size c stage m ≡ push_takes size c stage n) × (room ≡ room)
+  pub push_tells : (c : Push V) (stage : pushes.PushStage) (x : V) (room : Unit {0}) (m n : ℕ)
+      → IsTrue (is_store (push_asks words_of stage x))
+      → (push_takes size c stage m ≡ push_takes size c stage n) × (room ≡ room)
   push_tells c pushes.TheVariants.LoadsWrite x room m n t = no_store t
   push_tells c (pushes.TheVariants.LoadsRead write) x room m n t = no_store t
   push_tells c (pushes.TheVariants.StoresCell write cell at) x room m n t = (refl, refl)
@@ -71,22 +78,32 @@ module _ {V : Type 0} (size : ℕ) where
   push_then (GoOn d) = push_left size d.stage + 1
   push_then (Done e) = 0
 
-  push_stage_fewer : (c : Push V) (stage : pushes.PushStage) (k : ℕ) → push_then (push_takes size c stage k) ≤ push_left size stage
+  push_stage_fewer : (c : Push V) (stage : pushes.PushStage) (k : ℕ)
+      → push_then (push_takes size c stage k) ≤ push_left size stage
   push_stage_fewer c pushes.TheVariants.LoadsWrite k =
-      by_eq (λ a. push_then a ≤ size + 3) k (2 ^ 64 - 1) (Done false) (GoOn (at_push c (pushes.TheVariants.LoadsRead k))) (λ e. omega arith) (λ e. omega arith)
+      by_eq (λ a. push_then a ≤ size + 3) k (2 ^ 64 - 1) (Done false)
+      (GoOn (at_push c (pushes.TheVariants.LoadsRead k))) (λ e. omega arith) (λ e. omega arith)
   push_stage_fewer c (pushes.TheVariants.LoadsRead p) k =
-      by_either (λ a. push_then a ≤ size + 2) c.capacity 0 (distance p k) c.capacity (Done false) (GoOn (at_push c (pushes.TheVariants.StoresCell p (cell_word c.capacity size p) 0))) (λ e. omega arith) (λ e. omega arith) (λ e f. omega arith)
+      by_either (λ a. push_then a ≤ size + 2) c.capacity 0 (distance p k) c.capacity (Done false)
+      (GoOn (at_push c (pushes.TheVariants.StoresCell p (cell_word c.capacity size p) 0)))
+      (λ e. omega arith) (λ e. omega arith) (λ e f. omega arith)
   push_stage_fewer c (pushes.TheVariants.StoresCell p cell at) k =
-      by_test (λ a. push_then a ≤ size - at + 1) (nat_lt (at + 1) size) (GoOn (at_push c (pushes.TheVariants.StoresCell p cell (at + 1)))) (GoOn (at_push c (pushes.TheVariants.StoresWrite p)))
+      by_test (λ a. push_then a ≤ size - at + 1) (nat_lt (at + 1) size)
+      (GoOn (at_push c (pushes.TheVariants.StoresCell p cell (at + 1))))
+      (GoOn (at_push c (pushes.TheVariants.StoresWrite p)))
       (λ t. let further : at + 1 < size = grind (arith, nat_tests) in omega arith)
       (λ t. omega arith)
   push_stage_fewer c (pushes.TheVariants.StoresWrite p) k = omega arith
 
-  pub push_fewer : (c d : Push V) (k : ℕ) → push_after size c k ≡ GoOn d → push_left size d.stage < push_left size c.stage
-  push_fewer c d k goes = let e = ap push_then goes in let f = push_stage_fewer c c.stage k in omega arith
+  pub push_fewer : (c d : Push V) (k : ℕ) → push_after size c k ≡ GoOn d
+      → push_left size d.stage < push_left size c.stage
+  push_fewer c d k goes =
+      let e = ap push_then goes in let f = push_stage_fewer c c.stage k in omega arith
 
 module _ {V R : Type 0} (with_word : R → ℕ → ℕ → R) (size : ℕ) where
-  pub pop_tells : (c : Pop V R) (stage : pops.PopStage) (room : R) (m n : ℕ) → IsTrue (is_store (pop_asks stage)) → (pop_takes size c stage m ≡ pop_takes size c stage n) × (pop_keeps with_word room stage m ≡ pop_keeps with_word room stage n)
+  pub pop_tells : (c : Pop V R) (stage : pops.PopStage) (room : R) (m n : ℕ)
+      → IsTrue (is_store (pop_asks stage)) → (pop_takes size c stage m ≡ pop_takes size c stage n)
+      × (pop_keeps with_word room stage m ≡ pop_keeps with_word room stage n)
   pop_tells c pops.TheVariants.LoadsRead room m n t = no_store t
   pop_tells c (pops.TheVariants.LoadsWrite read) room m n t = no_store t
   pop_tells c (pops.TheVariants.LoadsCell read cell at) room m n t = no_store t
@@ -97,22 +114,32 @@ module _ {V R : Type 0} (size : ℕ) where
   pop_then (GoOn d) = pop_left size d.stage + 1
   pop_then (Done e) = 0
 
-  pop_stage_fewer : (c : Pop V R) (stage : pops.PopStage) (k : ℕ) → pop_then (pop_takes size c stage k) ≤ pop_left size stage
+  pop_stage_fewer : (c : Pop V R) (stage : pops.PopStage) (k : ℕ)
+      → pop_then (pop_takes size c stage k) ≤ pop_left size stage
   pop_stage_fewer c pops.TheVariants.LoadsRead k = omega arith
   pop_stage_fewer c (pops.TheVariants.LoadsWrite p) k =
-      by_either (λ a. pop_then a ≤ size + 2) c.capacity 0 k p (Done false) (GoOn (at_pop c (pops.TheVariants.LoadsCell p (cell_word c.capacity size p) 0))) (λ e. omega arith) (λ e. omega arith) (λ e f. omega arith)
+      by_either (λ a. pop_then a ≤ size + 2) c.capacity 0 k p (Done false)
+      (GoOn (at_pop c (pops.TheVariants.LoadsCell p (cell_word c.capacity size p) 0)))
+      (λ e. omega arith) (λ e. omega arith) (λ e f. omega arith)
   pop_stage_fewer c (pops.TheVariants.LoadsCell p cell at) k =
-      by_test (λ a. pop_then a ≤ size - at + 1) (nat_lt (at + 1) size) (GoOn (at_pop c (pops.TheVariants.LoadsCell p cell (at + 1)))) (GoOn (at_pop c (pops.TheVariants.StoresRead p)))
+      by_test (λ a. pop_then a ≤ size - at + 1) (nat_lt (at + 1) size)
+      (GoOn (at_pop c (pops.TheVariants.LoadsCell p cell (at + 1))))
+      (GoOn (at_pop c (pops.TheVariants.StoresRead p)))
       (λ t. let further : at + 1 < size = grind (arith, nat_tests) in omega arith)
       (λ t. omega arith)
   pop_stage_fewer c (pops.TheVariants.StoresRead p) k = omega arith
 
-  pub pop_fewer : (c d : Pop V R) (k : ℕ) → pop_after size c k ≡ GoOn d → pop_left size d.stage < pop_left size c.stage
-  pop_fewer c d k goes = let e = ap pop_then goes in let f = pop_stage_fewer c c.stage k in omega arith
+  pub pop_fewer : (c d : Pop V R) (k : ℕ) → pop_after size c k ≡ GoOn d
+      → pop_left size d.stage < pop_left size c.stage
+  pop_fewer c d k goes =
+      let e = ap pop_then goes in let f = pop_stage_fewer c c.stage k in omega arith
 
 -- ---- the overflowing queue
 
-pub overflow_push_tells : (c : over.Push) (stage : over_pushes.PushStage) (x : ℕ) (room : OneWord) (m n : ℕ) → IsTrue (is_store (overflow.push_asks c.capacity stage x)) → (overflow.push_takes c stage m ≡ overflow.push_takes c stage n) × (overflow.push_keeps room stage m ≡ overflow.push_keeps room stage n)
+pub overflow_push_tells : (c : over.Push) (stage : over_pushes.PushStage)
+    (x : ℕ) (room : OneWord) (m n : ℕ) → IsTrue (is_store (overflow.push_asks c.capacity stage x))
+    → (overflow.push_takes c stage m ≡ overflow.push_takes c stage n)
+    × (overflow.push_keeps room stage m ≡ overflow.push_keeps room stage n)
 overflow_push_tells c over_pushes.TheVariants.HandsBack x room m n t = no_store t
 overflow_push_tells c over_pushes.TheVariants.LoadsWrite x room m n t = no_store t
 overflow_push_tells c (over_pushes.TheVariants.LoadsRead write) x room m n t = no_store t
@@ -125,22 +152,34 @@ abbrev overflow_then : After over.Push PushEnd → ℕ
 overflow_then (GoOn d) = overflow.push_left d.stage + 1
 overflow_then (Done e) = 0
 
-overflow_stage_fewer : (c : over.Push) (stage : over_pushes.PushStage) (k : ℕ) → overflow_then (overflow.push_takes c stage k) ≤ overflow.push_left stage
+overflow_stage_fewer : (c : over.Push) (stage : over_pushes.PushStage) (k : ℕ)
+    → overflow_then (overflow.push_takes c stage k) ≤ overflow.push_left stage
 overflow_stage_fewer c over_pushes.TheVariants.HandsBack k = omega arith
 overflow_stage_fewer c over_pushes.TheVariants.LoadsWrite k =
-    by_eq (λ a. overflow_then a ≤ 5) k (2 ^ 64 - 1) _ (GoOn (overflow.at_push c (over_pushes.TheVariants.LoadsRead k))) (λ e. omega arith) (λ e. omega arith)
+    by_eq (λ a. overflow_then a ≤ 5) k (2 ^ 64 - 1) _
+    (GoOn (overflow.at_push c (over_pushes.TheVariants.LoadsRead k)))
+    (λ e. omega arith) (λ e. omega arith)
 overflow_stage_fewer c (over_pushes.TheVariants.LoadsRead write) k = omega arith
 overflow_stage_fewer c (over_pushes.TheVariants.StoresCell write read) k = omega arith
 overflow_stage_fewer c (over_pushes.TheVariants.StoresWrite write read) k =
-    by_eq (λ a. overflow_then a ≤ 2) (distance write read) c.capacity (GoOn (overflow.at_push c (over_pushes.TheVariants.MovesRead read))) (Done Added) (λ e. omega arith) (λ e. omega arith)
+    by_eq (λ a. overflow_then a ≤ 2) (distance write read) c.capacity
+    (GoOn (overflow.at_push c (over_pushes.TheVariants.MovesRead read))) (Done Added)
+    (λ e. omega arith) (λ e. omega arith)
 overflow_stage_fewer c (over_pushes.TheVariants.MovesRead read) k =
-    by_eq (λ a. overflow_then a ≤ 1) k read (GoOn (overflow.at_push c (over_pushes.TheVariants.LoadsCell read))) (Done Added) (λ e. omega arith) (λ e. omega arith)
+    by_eq (λ a. overflow_then a ≤ 1) k read
+    (GoOn (overflow.at_push c (over_pushes.TheVariants.LoadsCell read))) (Done Added)
+    (λ e. omega arith) (λ e. omega arith)
 overflow_stage_fewer c (over_pushes.TheVariants.LoadsCell read) k = omega arith
 
-pub overflow_push_fewer : (c d : over.Push) (k : ℕ) → overflow.push_after c k ≡ GoOn d → overflow.push_left d.stage < overflow.push_left c.stage
-overflow_push_fewer c d k goes = let e = ap overflow_then goes in let f = overflow_stage_fewer c c.stage k in omega arith
+pub overflow_push_fewer : (c d : over.Push) (k : ℕ) → overflow.push_after c k ≡ GoOn d
+    → overflow.push_left d.stage < overflow.push_left c.stage
+overflow_push_fewer c d k goes =
+    let e = ap overflow_then goes in let f = overflow_stage_fewer c c.stage k in omega arith
 
-pub overflow_pop_tells : (c : over_pop.Pop) (stage : over_pops.PopStage) (room : OneWord) (m n : ℕ) → IsTrue (is_store (overflow.pop_asks c.capacity stage)) → (overflow.pop_takes c stage m ≡ overflow.pop_takes c stage n) × (overflow.pop_keeps room stage m ≡ overflow.pop_keeps room stage n)
+pub overflow_pop_tells : (c : over_pop.Pop) (stage : over_pops.PopStage) (room : OneWord) (m n : ℕ)
+    → IsTrue (is_store (overflow.pop_asks c.capacity stage))
+    → (overflow.pop_takes c stage m ≡ overflow.pop_takes c stage n)
+    × (overflow.pop_keeps room stage m ≡ overflow.pop_keeps room stage n)
 overflow_pop_tells c over_pops.TheVariants.FindsNone room m n t = no_store t
 overflow_pop_tells c over_pops.TheVariants.LoadsRead room m n t = no_store t
 overflow_pop_tells c (over_pops.TheVariants.LoadsWrite read) room m n t = no_store t
@@ -150,7 +189,9 @@ overflow_pop_tells c (over_pops.TheVariants.MovesRead read) room m n t = no_stor
 -- ---- the single value
 
 module _ {V : Type 0} (words_of : V → List ℕ) (size : ℕ) where
-  pub store_tells : (c : Store V) (stage : stores.StoreStage) (x : V) (room : Unit {0}) (m n : ℕ) → IsTrue (is_store (value.store_asks words_of stage x)) → (value.store_takes size c stage m ≡ value.store_takes size c stage n) × (room ≡ room)
+  pub store_tells : (c : Store V) (stage : stores.StoreStage) (x : V) (room : Unit {0}) (m n : ℕ)
+      → IsTrue (is_store (value.store_asks words_of stage x))
+      → (value.store_takes size c stage m ≡ value.store_takes size c stage n) × (room ≡ room)
   store_tells c stores.TheVariants.LoadsVersion x room m n t = no_store t
   store_tells c (stores.TheVariants.StoresCell cell at) x room m n t = (refl, refl)
   store_tells c stores.TheVariants.AddsVersion x room m n t = no_store t
@@ -160,20 +201,30 @@ module _ {V : Type 0} (size : ℕ) where
   store_then (GoOn d) = value.store_left size d.stage + 1
   store_then (Done e) = 0
 
-  store_stage_fewer : (c : Store V) (stage : stores.StoreStage) (k : ℕ) → store_then (value.store_takes size c stage k) ≤ value.store_left size stage
+  store_stage_fewer : (c : Store V) (stage : stores.StoreStage) (k : ℕ)
+      → store_then (value.store_takes size c stage k) ≤ value.store_left size stage
   store_stage_fewer c stores.TheVariants.LoadsVersion k =
-      by_eq (λ a. store_then a ≤ size + 2) k (2 ^ 64 - 1) (Done false) (GoOn (value.at_store c (stores.TheVariants.StoresCell (value.cell_word size k) 0))) (λ e. omega arith) (λ e. omega arith)
+      by_eq (λ a. store_then a ≤ size + 2) k (2 ^ 64 - 1) (Done false)
+      (GoOn (value.at_store c (stores.TheVariants.StoresCell (value.cell_word size k) 0)))
+      (λ e. omega arith) (λ e. omega arith)
   store_stage_fewer c (stores.TheVariants.StoresCell cell at) k =
-      by_test (λ a. store_then a ≤ size - at + 1) (nat_lt (at + 1) size) (GoOn (value.at_store c (stores.TheVariants.StoresCell cell (at + 1)))) (GoOn (value.at_store c stores.TheVariants.AddsVersion))
+      by_test (λ a. store_then a ≤ size - at + 1) (nat_lt (at + 1) size)
+      (GoOn (value.at_store c (stores.TheVariants.StoresCell cell (at + 1))))
+      (GoOn (value.at_store c stores.TheVariants.AddsVersion))
       (λ t. let further : at + 1 < size = grind (arith, nat_tests) in omega arith)
       (λ t. omega arith)
   store_stage_fewer c stores.TheVariants.AddsVersion k = omega arith
 
-  pub store_fewer : (c d : Store V) (k : ℕ) → value.store_after size c k ≡ GoOn d → value.store_left size d.stage < value.store_left size c.stage
-  store_fewer c d k goes = let e = ap store_then goes in let f = store_stage_fewer c c.stage k in omega arith
+  pub store_fewer : (c d : Store V) (k : ℕ) → value.store_after size c k ≡ GoOn d
+      → value.store_left size d.stage < value.store_left size c.stage
+  store_fewer c d k goes =
+      let e = ap store_then goes in let f = store_stage_fewer c c.stage k in omega arith
 
 module _ {V R : Type 0} (with_word : R → ℕ → ℕ → R) (size : ℕ) where
-  pub load_tells : (c : Load V R) (stage : loads.LoadStage) (room : R) (m n : ℕ) → IsTrue (is_store (value.load_asks stage)) → (value.load_takes size c stage m ≡ value.load_takes size c stage n) × (value.load_keeps with_word room stage m ≡ value.load_keeps with_word room stage n)
+  pub load_tells : (c : Load V R) (stage : loads.LoadStage) (room : R) (m n : ℕ)
+      → IsTrue (is_store (value.load_asks stage))
+      → (value.load_takes size c stage m ≡ value.load_takes size c stage n)
+      × (value.load_keeps with_word room stage m ≡ value.load_keeps with_word room stage n)
   load_tells c loads.TheVariants.LoadsVersion room m n t = no_store t
   load_tells c (loads.TheVariants.LoadsCell version cell at) room m n t = no_store t
   load_tells c (loads.TheVariants.ChecksVersion version) room m n t = no_store t

@@ -3,7 +3,8 @@ use Rattle.std.specs.Prelude.{ℕ, ◌≡◌, ◌+◌, ◌-◌, ◌*◌, ◌/◌
 use Rattle.std.proofs.Common.{arith}
 use Rattle.std.proofs.lemmas.Bool.Decides.{nat_tests}
 
--- A number of 32 bits lies in one word. A number that is no u32 is given a number that is no word, so that the law needs no premise.
+-- A number of 32 bits lies in one word. A number that is no u32 is given a number that is
+-- no word, so that the law needs no premise.
 abbrev pub words_of_u32 : ℕ → List ℕ
 words_of_u32 x = (if nat_lt x (2 ^ 32) then x else x + 2 ^ 64) ∷ []
 

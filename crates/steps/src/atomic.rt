@@ -50,7 +50,7 @@ pub enum StoreStage {
     AddsVersion,
 }
 
-/// The value, as it stands at the last step, by way of a room R. At most 2 + `T::WORDS` steps, and 1 + `T::WORDS` more
+/// The value, by way of a room R, which counts where the version is found unchanged at the last step. At most 2 + `T::WORDS` steps, and 1 + `T::WORDS` more
 /// for each turn back.
 ///
 /// It loads the version, loads the words of that version's cell, in their order, and exchanges the version for itself:
@@ -138,7 +138,8 @@ impl<T: Words> Routine for Store<T> {
 
     ghost answer_of = { λ end given room. end };
 
-    ghost store_tells_nothing = { λ c given room m n t. store_tells T.words_of T.WORDS c c.stage given room m n t };
+    ghost store_tells_nothing = { λ c given room m n t.
+        store_tells T.words_of T.WORDS c c.stage given room m n t };
 
     #[inline(always)]
     fn ask(self, given: &T) -> Want<()> {
@@ -226,7 +227,8 @@ impl<T: Words, R: Room<T> + Drop> Routine for Load<T, R> {
 
     ghost answer_of = { λ end given room. value_in T.value_of T.WORDS (R.words_in room) };
 
-    ghost store_tells_nothing = { λ c given room m n t. load_tells R.with_word T.WORDS c c.stage room m n t };
+    ghost store_tells_nothing = { λ c given room m n t.
+        load_tells R.with_word T.WORDS c c.stage room m n t };
 
     #[inline(always)]
     fn ask(self, _given: &()) -> Want<()> {

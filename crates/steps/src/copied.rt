@@ -18,7 +18,8 @@ pub trait Room<T: Words> {
     fn value(&self) -> T
         ensures { result ≡ value_in T.value_of T.WORDS (words_in self.now) };
 
-    ghost put_in: { (x : Self) (at word : ℕ) → words_in (with_word x at word) ≡ slice_set (words_in x) at word };
+    ghost put_in: { (x : Self) (at word : ℕ) → words_in (with_word x at word)
+        ≡ slice_set (words_in x) at word };
 }
 
 /// Room for a number of one word.

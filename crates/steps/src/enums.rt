@@ -62,7 +62,8 @@ impl Model for OwnerId {
 impl OwnerId {
     /// The owner of this number, or `InvalidOwnerValue` for `u64::MAX`.
     pub fn new(value: u64) -> Result<OwnerId, OwnerIdNewError>
-        ensures { MatchResult result (λ owner. (owner ≡ value) × (value < 2 ^ 64 - 1)) (λ _. value ≡ 2 ^ 64 - 1) }
+        ensures { MatchResult result (λ owner. (owner ≡ value) × (value < 2 ^ 64 - 1))
+            (λ _. value ≡ 2 ^ 64 - 1) }
     {
         if value < u64::MAX {
             Ok(OwnerId { number: value })

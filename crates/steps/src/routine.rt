@@ -1,19 +1,20 @@
-//! A call in the form that drivers run: a small value that changes with each step, and beside it what the call was given
-//! and the room for the words that it reads.
-ghost use Rattle.std.specs.Prelude.{◌≡◌, ℕ, ◌<◌, IsTrue, MatchOption};
-ghost use Rattle.steps.specs.Ask.{is_store};
+//! A call in the form that drivers run: a small value that changes with each step, and beside it
+//! what the call was given and the room for the words that it reads.
+ghost use Rattle.std.specs.Prelude.{◌≡◌, ℕ, ◌<◌, IsTrue};
+ghost use Rattle.steps.specs.Ask.{is_store, CameTo};
 ghost use Rattle.steps.specs.Routine.{question_with, want_with, went_on};
 ghost use Rattle.steps.specs.declared.ask.Want.{Want};
 ghost use Rattle.steps.specs.declared.ask.After.{After};
-ghost use Rattle.steps.specs.declared.ask.After.TheVariants.{GoOn, Done};
+ghost use Rattle.steps.specs.declared.ask.After.TheVariants.{GoOn};
 
 use crate::ask::{After, Call, Question, Want};
 use crate::words::Words;
 
 /// A call, one step after another, as its drivers run it. Any answer is accepted at any time.
 ///
-/// The value itself holds counters, positions and an index: never a value of the structure, nor a list of words. What the
-/// call was given lies beside it and stays as it is; the words that it reads go into a room beside both.
+/// The value itself holds counters, positions and an index: never a value of the structure,
+/// nor a list of words. What the call was given lies beside it and stays as it is; the words
+/// that it reads go into a room beside both.
 pub trait Routine: Copy {
     /// What the call was given: the value that it stores, an owner, an index.
     type Given: Drop;
@@ -36,12 +37,13 @@ pub trait Routine: Copy {
 
     ghost answer_of: { Self.End → Self.Given → Self.Room → Self.Answer };
 
-    /// What the call wants next. It takes no step. A question about a value names its index alone; the value is `value`.
+    /// What the call wants next. It takes no step. A question about a value names
+    /// its index alone; the value is `value`.
     fn ask(self, given: &Self::Given) -> Want<()>
         ensures { result ≡ want_of self given.now };
 
-    /// How the call goes on from an answer: the word's old value, or 1 or 0 for yes or no, or 0 after `Nothing`. After a
-    /// `Store` it may be handed any number.
+    /// How the call goes on from an answer: the word's old value, or 1 or 0 for yes or no, or 0
+    /// after `Nothing`. After a `Store` it may be handed any number.
     fn take(self, given: &Self::Given, room: &mut Self::Room, answer: u64) -> After<Self, Self::End>
         ensures goes { result ≡ after self given.now answer }
         ensures keeps { room.new ≡ kept self room.old answer };
@@ -54,7 +56,9 @@ pub trait Routine: Copy {
     fn answer(end: Self::End, given: &Self::Given, room: &Self::Room) -> Self::Answer
         ensures { result ≡ answer_of end given.now room.now };
 
-    ghost store_tells_nothing: { (c : Self) (given : Self.Given) (room : Self.Room) (m n : ℕ) → IsTrue (is_store (want_of c given)) → (after c given m ≡ after c given n) × (kept c room m ≡ kept c room n) };
+    ghost store_tells_nothing: { (c : Self) (given : Self.Given) (room : Self.Room) (m n : ℕ)
+        → IsTrue (is_store (want_of c given))
+        → (after c given m ≡ after c given n) × (kept c room m ≡ kept c room n) };
 }
 
 /// A call that ends by itself, whatever it is handed.
@@ -62,7 +66,8 @@ pub trait Ends: Routine {
     /// It goes down at each step.
     ghost left: { Self → ℕ };
 
-    ghost fewer: { (c d : Self) (given : Self.Given) (n : ℕ) → Self.after c given n ≡ GoOn d → left d < left c };
+    ghost fewer: { (c d : Self) (given : Self.Given) (n : ℕ) → Self.after c given n ≡ GoOn d
+        → left d < left c };
 }
 
 /// A call with what it was given and its room: one value, which is a `Call`.
@@ -96,11 +101,13 @@ impl<C: Routine> Running<C, C::Given, C::Room> {
         self.call.ask(&self.given)
     }
 
-    /// Lets the call go on from an answer, where it lies. Where it is done it gives its answer, and nothing more is said
-    /// of it.
+    /// Lets the call go on from an answer, where it lies. Where it is done it gives its
+    /// answer, and nothing more is said of it.
     #[inline(always)]
     pub fn go_on(&mut self, answer: u64) -> Option<C::Answer>
-        ensures { MatchOption result (went_on C.answer_of self.old.given (C.kept self.old.call self.old.room answer) (C.after self.old.call self.old.given answer) ≡ GoOn self.new) (λ a. went_on C.answer_of self.old.given (C.kept self.old.call self.old.room answer) (C.after self.old.call self.old.given answer) ≡ Done a) }
+        ensures { CameTo result self.new (went_on C.answer_of self.old.given
+            (C.kept self.old.call self.old.room answer)
+            (C.after self.old.call self.old.given answer)) }
     {
         match self.call.take(&self.given, &mut self.room, answer) {
             After::GoOn(call) => {
@@ -119,7 +126,8 @@ impl<C: Routine> Call for Running<C, C::Given, C::Room> {
 
     ghost want_of = { λ r. want_with (C.value_of r.given r.room) (C.want_of r.call r.given) };
 
-    ghost after = { λ r old. went_on C.answer_of r.given (C.kept r.call r.room old) (C.after r.call r.given old) };
+    ghost after = { λ r old.
+        went_on C.answer_of r.given (C.kept r.call r.room old) (C.after r.call r.given old) };
 
     fn ask(&self) -> Want<C::Value> {
         match self.call.ask(&self.given) {

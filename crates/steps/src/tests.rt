@@ -28,7 +28,11 @@ impl Words for Three {
 
     ghost words_of = { λ x. x.0 ∷ x.1 ∷ x.2 ∷ [] };
 
-    ghost value_of = { λ words. record { 0 = slice_index words 0; 1 = slice_index words 1; 2 = slice_index words 2 } };
+    ghost value_of = { λ words. record {
+      0 = slice_index words 0;
+      1 = slice_index words 1;
+      2 = slice_index words 2;
+    } };
 
     ghost some = { Prim.search rules };
 

@@ -30,7 +30,8 @@ module _ {T : Type 0} where
     pub taken_published : Agree v.taken w.published
     pub last_push : (p : ℕ) → v.last_push ≡ Some p → Below (p + 1) w
 
-  -- where nobody else takes: no position above the guard's last pop is taken, and none is published more than the capacity above it
+  -- where nobody else takes: no position above the guard's last pop is taken, and none is
+  -- published more than the capacity above it
   abbrev pub InOrder : View T → View T → Type 0
   InOrder v w =
       (p : ℕ) → v.last_pop ≡ Some p

@@ -19,11 +19,15 @@ module _ {E T : Type 0} {spare : spares.Ghosts E} {words : Ghosts T} where
   table_of t = t.seated.seat.table_id
 
   -- the same seat, at the same table
-  abbrev pub IsSame : Held E T (RingRule E T) spare words → Held E T (RingRule E T) spare words → Type 0
-  IsSame old new = (table_of new ≡ table_of old) × (new.seated.seat.id ≡ old.seated.seat.id) × (new.seated.table ≡ old.seated.table) × (new.capacity ≡ old.capacity)
+  abbrev pub IsSame : Held E T (RingRule E T) spare words
+      → Held E T (RingRule E T) spare words → Type 0
+  IsSame old new =
+      (table_of new ≡ table_of old) × (new.seated.seat.id ≡ old.seated.seat.id)
+      × (new.seated.table ≡ old.seated.table) × (new.capacity ≡ old.capacity)
 
 module _ {T : Type 0} where
-  -- a push that took x: at a position above all that was known, and right after the guard's last push
+  -- a push that took x: at a position above all that was
+  -- known, and right after the guard's last push
   pub record HasPushed (x : T) (v w : View T) : Type 0 where
     pub position : ℕ
     pub adds : w ≡ pushed position x v
@@ -32,12 +36,15 @@ module _ {T : Type 0} where
     pub sound : Sound w
     pub order : InOrder w w
 
-  -- a push that was refused: no position above the guard's last push less the capacity is known to be taken
+  -- a push that was refused: no position above the guard's last
+  -- push less the capacity is known to be taken
   pub record WasFull (v w : View T) : Type 0 where
     pub same : w ≡ v
-    pub full : (q : ℕ) → v.last_push ≡ Some q → q < 2 ^ 64 - 2 → All (λ (x : ℕ × T). x.0 + v.capacity ≤ q) v.taken
+    pub full : (q : ℕ) → v.last_push ≡ Some q → q < 2 ^ 64 - 2
+        → All (λ (x : ℕ × T). x.0 + v.capacity ≤ q) v.taken
 
-  -- a pop that took x: at a position above all that were taken, and right after the guard's last pop
+  -- a pop that took x: at a position above all that were
+  -- taken, and right after the guard's last pop
   pub record HasPopped (x : T) (v w : View T) : Type 0 where
     pub position : ℕ
     pub adds : w ≡ popped position x v
@@ -51,7 +58,8 @@ module _ {T : Type 0} where
     pub same : w ≡ v
     pub empty : (q : ℕ) → v.last_pop ≡ Some q → All (λ (x : ℕ × T). x.0 ≤ q) v.published
 
-  -- a length: the distance between two positions that are above what is known, and no further apart than there are cells
+  -- a length: the distance between two positions that are above what is known,
+  -- and no further apart than there are cells
   pub record Stood (spare : ℕ) (v : View T) (waiting : ℕ) : Type 0 where
     pub write : ℕ
     pub read : ℕ
@@ -63,11 +71,12 @@ module _ {T : Type 0} where
 
   -- ---- the overflowing queue
 
-  -- a queue without capacity, or a guard whose last push has the last position but one: no push takes a value
+  -- a queue without capacity, or a guard whose last push has the
+  -- last position but one: no push takes a value
   abbrev pub TakesNone : View T → Type 0
   TakesNone v = (v.capacity ≡ 0) ⊎ (v.last_push ≡ Some (2 ^ 64 - 2))
 
-  -- a push that took its value where there was room, or where a pop made room first
+  -- a push that took its value, and handed none back
   pub record HasAdded (x : T) (v w : View T) : Type 0 where
     pub position : ℕ
     pub adds : w ≡ pushed position x v
@@ -75,7 +84,8 @@ module _ {T : Type 0} where
     pub next : (q : ℕ) → v.last_push ≡ Some q → position ≡ q + 1
     pub sound : Sound w
 
-  -- a push that took x where the queue was full, and handed back y, which it took at a position above all that were taken
+  -- a push that took x where the queue was full, and handed back y, which it
+  -- took at a position above all that were taken
   pub record HasReplaced (x y : T) (v w : View T) : Type 0 where
     pub position : ℕ
     pub oldest : ℕ
@@ -86,7 +96,8 @@ module _ {T : Type 0} where
     pub taken : All (λ (z : ℕ × T). z.0 < oldest) v.taken
     pub sound : Sound w
 
-  -- a push that handed its own value back: without capacity, or at the position's end
+  -- a push that handed its own value back; where the guard has pushed before, that is so
+  -- without capacity, or at the position's end
   pub record WasHandedBack (x y : T) (v w : View T) : Type 0 where
     pub own : y ≡ x
     pub same : w ≡ v

@@ -20,7 +20,8 @@ pub record Face : Type 0 where
   pub consumer : ℕ
   pub cell : ℕ → ℕ → ℕ  -- of a position, at a place
 
--- what has happened: the value at each position, who published it and who took it, and who has the roles
+-- what has happened: the value at each position, who
+-- published it and who took it, and who has the roles
 pub record Book (T : Type 0) : Type 0 where
   pub log : ℕ → T
   pub publisher : ℕ → ℕ
@@ -38,7 +39,8 @@ face cells n words =
       cell = λ p i. slice_index words (place cells n p i);
     }
 
-module _ {T : Type 0} (words_of : T → List ℕ) (spare capacity : ℕ) (f : Face) (b : Book T) (seat : ℕ) where
+module _ {T : Type 0} (words_of : T → List ℕ) (spare capacity : ℕ) (f : Face) (b : Book T)
+    (seat : ℕ) where
   abbrev pub Produces : Type 0
   Produces = (f.producer ≡ 0) × (seat ≡ b.producer)
 
@@ -48,25 +50,36 @@ module _ {T : Type 0} (words_of : T → List ℕ) (spare capacity : ℕ) (f : Fa
   abbrev pub KnowsPush : PushStage → Type 0
   KnowsPush pushing.Away = Unit {0}
   KnowsPush pushing.Ready = Produces × (f.write ≤ f.read + capacity)
-  KnowsPush (pushing.SawWrite p) = Produces × (f.write ≡ p) × (p ≢ 2 ^ 64 - 1) × (p ≤ f.read + capacity)
+  KnowsPush (pushing.SawWrite p) =
+      Produces × (f.write ≡ p) × (p ≢ 2 ^ 64 - 1) × (p ≤ f.read + capacity)
   KnowsPush (pushing.Storing p r ws) =
-      Produces × (f.write ≡ p) × (p ≢ 2 ^ 64 - 1) × (r ≤ f.read) × (p < r + capacity + spare) × ((i : ℕ) → i < length ws → f.cell p i ≡ slice_index ws i)
+      Produces × (f.write ≡ p) × (p ≢ 2 ^ 64 - 1) × (r ≤ f.read) × (p < r + capacity + spare)
+      × ((i : ℕ) → i < length ws → f.cell p i ≡ slice_index ws i)
   KnowsPush (pushing.Full r) = Produces × (f.write ≡ r + capacity + 1) × (r ≤ f.read)
-  KnowsPush (pushing.HandsBack r ws) = Produces × (f.write ≤ f.read + capacity) × ((i : ℕ) → i < length ws → f.cell r i ≡ slice_index ws i)
+  KnowsPush (pushing.HandsBack r ws) =
+      Produces × (f.write ≤ f.read + capacity)
+      × ((i : ℕ) → i < length ws → f.cell r i ≡ slice_index ws i)
 
   abbrev pub KnowsPop : PopStage T → Type 0
   KnowsPop popping.Away = Unit {0}
   KnowsPop popping.Ready = Consumes
-  KnowsPop (popping.SawRead p) = Consumes × (p ≤ f.read) × (p < f.read → f.read < f.write) × (spare ≡ 0 → f.read ≡ p)
-  KnowsPop (popping.SawValue p x) = Consumes × (spare ≡ 0) × (f.read ≡ p) × (p < f.write) × (b.log p ≡ x)
+  KnowsPop (popping.SawRead p) =
+      Consumes × (p ≤ f.read) × (p < f.read → f.read < f.write) × (spare ≡ 0 → f.read ≡ p)
+  KnowsPop (popping.SawValue p x) =
+      Consumes × (spare ≡ 0) × (f.read ≡ p) × (p < f.write) × (b.log p ≡ x)
   KnowsPop (popping.SawSome p) = Consumes × (p ≤ f.read) × (f.read < f.write)
-  KnowsPop (popping.Copied p ws) = Consumes × (p ≤ f.read) × (f.read < f.write) × (f.read ≡ p → (i : ℕ) → i < length ws → slice_index (words_of (b.log p)) i ≡ slice_index ws i)
+  KnowsPop (popping.Copied p ws) =
+      Consumes × (p ≤ f.read) × (f.read < f.write)
+      × (f.read ≡ p → (i : ℕ) → i < length ws
+      → slice_index (words_of (b.log p)) i ≡ slice_index ws i)
 
-  -- the write position that stood with the read position lies between the one that was loaded before and the one now
+  -- the write position that stood with the read position lies between the
+  -- one that was loaded before and the one now
   abbrev pub KnowsLen : LenStage → Type 0
   KnowsLen lengths.Idle = Unit {0}
   KnowsLen (lengths.SawWrite w) = w ≤ f.write
-  KnowsLen (lengths.SawBoth w r) = (stood : ℕ) × (w ≤ stood) × (stood ≤ f.write) × (r ≤ stood) × (stood ≤ r + capacity + spare)
+  KnowsLen (lengths.SawBoth w r) =
+      (stood : ℕ) × (w ≤ stood) × (stood ≤ f.write) × (r ≤ stood) × (stood ≤ r + capacity + spare)
 
   abbrev pub IsPublished : ℕ × T → Type 0
   IsPublished x = (x.0 < f.write) × (b.log x.0 ≡ x.1) × (b.publisher x.0 ≡ seat)
@@ -78,7 +91,8 @@ module _ {T : Type 0} (words_of : T → List ℕ) (spare capacity : ℕ) (f : Fa
     pub push : KnowsPush v.push
     pub last_push : (p : ℕ) → v.last_push ≡ Some p → Produces × (f.write ≡ p + 1)
     pub pop : KnowsPop v.pop
-    pub last_pop : (p : ℕ) → v.last_pop ≡ Some p → Consumes × (p < f.read) × (spare ≡ 0 → f.read ≡ p + 1)
+    pub last_pop : (p : ℕ) → v.last_pop ≡ Some p
+        → Consumes × (p < f.read) × (spare ≡ 0 → f.read ≡ p + 1)
     pub len : KnowsLen v.len
     pub published : All IsPublished v.published
     pub taken : All IsTaken v.taken
@@ -86,16 +100,19 @@ module _ {T : Type 0} (words_of : T → List ℕ) (spare capacity : ℕ) (f : Fa
     pub taken_once : AllPairs (λ (x y : ℕ × T). x.0 ≢ y.0) v.taken
 
 module _ {T : Type 0} (words_of : T → List ℕ) (n : ℕ) (spare capacity : ℕ) where
-  -- at most the capacity waits, and one value more while a push is under way; what waits stands in the cells
+  -- at most the capacity waits, and one value more while a push is
+  -- under way; what waits stands in the cells
   pub record Fits (f : Face) (log : ℕ → T) : Type 0 where
     pub behind : f.read ≤ f.write
     pub within : f.write ≤ f.read + capacity + spare
     pub resting : f.producer ≡ 1 → f.write ≤ f.read + capacity
     pub small : f.write < 2 ^ 64
-    pub cells : (p i : ℕ) → f.read ≤ p → p < f.write → i < n → f.cell p i ≡ slice_index (words_of (log p)) i
+    pub cells : (p i : ℕ) → f.read ≤ p → p < f.write → i < n
+        → f.cell p i ≡ slice_index (words_of (log p)) i
 
   pub record Kept (s : State (Unit {0}) (View T)) : Type 0 where
     pub book : Book T
     pub wide : length s.words ≡ n * (capacity + spare) + 4
     pub fits : Fits (face (capacity + spare) n s.words) book.log
-    pub seats : (j : ℕ) (v : View T) → get_elem? s.views j ≡ some v → Knows words_of spare capacity (face (capacity + spare) n s.words) book j v
+    pub seats : (j : ℕ) (v : View T) → get_elem? s.views j ≡ some v
+        → Knows words_of spare capacity (face (capacity + spare) n s.words) book j v

@@ -1,4 +1,5 @@
--- What the view of a seat is while a call is at a stage, and how the call ends: of the view with which it began, and the view now.
+-- What the view of a seat is while a call is at a stage, and how the call ends: of the
+-- view with which it began, and the view now.
 use Rattle.std.specs.Prelude.{◌≡◌, ℕ, ◌+◌, ◌-◌, ◌*◌, ◌^◌, ◌<◌, ◌≤◌, Bool, true, false, Some, List, [], ◌∷◌, take, length, slice_index}
 use Rattle.std.specs.List.{All}
 use Rattle.steps.specs.Copied.{value_in}
@@ -61,7 +62,8 @@ module _ {T : Type 0} (spare : ℕ) where
   abbrev pub LenStands : View T → View T → lens.LenStage → Type 0
   LenStands base v lens.TheVariants.LoadsWrite = v ≡ base
   LenStands base v (lens.TheVariants.LoadsRead w) =
-      (v ≡ with_len (lengths.SawWrite w) base) × (w < 2 ^ 64) × All (λ (x : ℕ × T). x.0 < w) base.published
+      (v ≡ with_len (lengths.SawWrite w) base) × (w < 2 ^ 64)
+      × All (λ (x : ℕ × T). x.0 < w) base.published
   LenStands base v (lens.TheVariants.LoadsWriteAgain w r) =
       (v ≡ with_len (lengths.SawBoth w r) base) × (w < 2 ^ 64)
       × All (λ (x : ℕ × T). x.0 < w) base.published × All (λ (x : ℕ × T). x.0 < r) base.taken
@@ -70,7 +72,8 @@ module _ {T : Type 0} (spare : ℕ) where
       × All (λ (x : ℕ × T). x.0 < w) base.published × All (λ (x : ℕ × T). x.0 < r) base.taken
 
   abbrev pub LenAt : View T → View T → Len → Unit {0} → Type 0
-  LenAt base v c room = (base.len ≡ lengths.Idle) × (c.capacity ≡ base.capacity) × LenStands base v c.stage
+  LenAt base v c room =
+      (base.len ≡ lengths.Idle) × (c.capacity ≡ base.capacity) × LenStands base v c.stage
 
   abbrev pub LenEnds : View T → ℕ → Unit {0} → View T → Type 0
   LenEnds base number room w = (w ≡ base) × Stood spare base number
@@ -81,7 +84,8 @@ module _ {T : Type 0} (words_of : T → List ℕ) (n : ℕ) where
   abbrev pub PushStands : View T → View T → ℕ → T → pushes.PushStage → Type 0
   PushStands base v capacity x pushes.TheVariants.LoadsWrite = v ≡ base
   PushStands base v capacity x (pushes.TheVariants.LoadsRead p) =
-      (v ≡ with_push (pushing.SawWrite p) base) × (p < 2 ^ 64 - 1) × ((q : ℕ) → base.last_push ≡ Some q → p ≡ q + 1)
+      (v ≡ with_push (pushing.SawWrite p) base) × (p < 2 ^ 64 - 1)
+      × ((q : ℕ) → base.last_push ≡ Some q → p ≡ q + 1)
   PushStands base v capacity x (pushes.TheVariants.StoresCell p cell at) =
       (r : ℕ) × (v ≡ with_push (pushing.Storing p r (take at (words_of x))) base) × (p < 2 ^ 64 - 1)
       × (at < n) × (cell ≡ place capacity n p 0) × (0 < capacity)
@@ -103,13 +107,15 @@ module _ {T R : Type 0} (words_of : T → List ℕ) (n : ℕ) (words_in : R → 
   abbrev pub PopStands : View T → View T → ℕ → R → pops.PopStage → Type 0
   PopStands base v capacity room pops.TheVariants.LoadsRead = v ≡ base
   PopStands base v capacity room (pops.TheVariants.LoadsWrite p) =
-      (v ≡ with_pop (popping.SawRead p) base) × (p < 2 ^ 64) × ((q : ℕ) → base.last_pop ≡ Some q → p ≡ q + 1)
+      (v ≡ with_pop (popping.SawRead p) base) × (p < 2 ^ 64)
+      × ((q : ℕ) → base.last_pop ≡ Some q → p ≡ q + 1)
   PopStands base v capacity room (pops.TheVariants.LoadsCell p cell at) =
       (x : T) × (v ≡ with_pop (popping.SawValue p x) base) × (p < 2 ^ 64 - 1)
       × (at < n) × (cell ≡ place capacity n p 0) × (0 < capacity)
       × ((i : ℕ) → i < at → slice_index (words_in room) i ≡ slice_index (words_of x) i)
   PopStands base v capacity room (pops.TheVariants.StoresRead p) =
-      (x : T) × (v ≡ with_pop (popping.SawValue p x) base) × (p < 2 ^ 64 - 1) × (take n (words_in room) ≡ words_of x)
+      (x : T) × (v ≡ with_pop (popping.SawValue p x) base) × (p < 2 ^ 64 - 1)
+      × (take n (words_in room) ≡ words_of x)
 
   abbrev pub PopAt : View T → View T → Pop T R → R → Type 0
   PopAt base v c room =
@@ -129,24 +135,33 @@ abbrev pub Follows : View ℕ → ℕ → Type 0
 Follows base p = (p < 2 ^ 64 - 1) × Below p base × ((q : ℕ) → base.last_push ≡ Some q → p ≡ q + 1)
 
 abbrev pub PushOverStands : View ℕ → View ℕ → ℕ → ℕ → OneWord → over_pushes.PushStage → Type 0
-PushOverStands base v capacity x room over_pushes.TheVariants.HandsBack = (v ≡ base) × (capacity ≡ 0)
-PushOverStands base v capacity x room over_pushes.TheVariants.LoadsWrite = (v ≡ base) × (0 < capacity)
+PushOverStands base v capacity x room over_pushes.TheVariants.HandsBack =
+    (v ≡ base) × (capacity ≡ 0)
+PushOverStands base v capacity x room over_pushes.TheVariants.LoadsWrite =
+    (v ≡ base) × (0 < capacity)
 PushOverStands base v capacity x room (over_pushes.TheVariants.LoadsRead p) =
-    (v ≡ with_push (pushing.SawWrite p) base) × (0 < capacity) × (p < 2 ^ 64 - 1) × ((q : ℕ) → base.last_push ≡ Some q → p ≡ q + 1)
+    (v ≡ with_push (pushing.SawWrite p) base) × (0 < capacity) × (p < 2 ^ 64 - 1)
+    × ((q : ℕ) → base.last_push ≡ Some q → p ≡ q + 1)
 PushOverStands base v capacity x room (over_pushes.TheVariants.StoresCell p r) =
-    (v ≡ with_push (pushing.Storing p r []) base) × (0 < capacity) × (p < 2 ^ 64 - 1) × (r ≤ p) × (p ≤ r + capacity)
+    (v ≡ with_push (pushing.Storing p r []) base) × (0 < capacity) × (p < 2 ^ 64 - 1) × (r ≤ p)
+    × (p ≤ r + capacity)
 PushOverStands base v capacity x room (over_pushes.TheVariants.StoresWrite p r) =
-    (v ≡ with_push (pushing.Storing p r (x ∷ [])) base) × (0 < capacity) × (p < 2 ^ 64 - 1) × (r ≤ p) × (p ≤ r + capacity)
+    (v ≡ with_push (pushing.Storing p r (x ∷ [])) base) × (0 < capacity) × (p < 2 ^ 64 - 1)
+    × (r ≤ p) × (p ≤ r + capacity)
 PushOverStands base v capacity x room (over_pushes.TheVariants.MovesRead r) =
-    (p : ℕ) × (v ≡ with_push (pushing.Full r) (pushed p x base)) × (0 < capacity) × (r < 2 ^ 64 - 1) × Follows base p × Sound (pushed p x base)
+    (p : ℕ) × (v ≡ with_push (pushing.Full r) (pushed p x base)) × (0 < capacity) × (r < 2 ^ 64 - 1)
+    × Follows base p × Sound (pushed p x base)
     × (p ≡ r + base.capacity)
 PushOverStands base v capacity x room (over_pushes.TheVariants.LoadsCell r) =
-    (p y : ℕ) × (v ≡ with_push (pushing.HandsBack r (y ∷ [])) (handed_back r y (pushed p x base))) × (0 < capacity) × (r < 2 ^ 64 - 1)
-    × Follows base p × All (λ (z : ℕ × ℕ). z.0 < r) base.taken × Sound (handed_back r y (pushed p x base)) × (p ≡ r + base.capacity)
+    (p y : ℕ) × (v ≡ with_push (pushing.HandsBack r (y ∷ [])) (handed_back r y (pushed p x base)))
+    × (0 < capacity) × (r < 2 ^ 64 - 1)
+    × Follows base p × All (λ (z : ℕ × ℕ). z.0 < r) base.taken
+    × Sound (handed_back r y (pushed p x base)) × (p ≡ r + base.capacity)
 
 abbrev pub PushOverAt : ℕ → View ℕ → View ℕ → over.Push → OneWord → Type 0
 PushOverAt x base v c room =
-    (base.push ≡ pushing.Ready) × (c.capacity ≡ base.capacity) × PushOverStands base v c.capacity x room c.stage
+    (base.push ≡ pushing.Ready) × (c.capacity ≡ base.capacity)
+    × PushOverStands base v c.capacity x room c.stage
 
 -- there is a cell for the value, and a position after the guard's last push
 abbrev pub HasRoom : View ℕ → Type 0
@@ -160,8 +175,10 @@ PushOverEnds x base Oldest room w = HasReplaced x room.0 base w × HasRoom base
 abbrev pub PopOverStands : View ℕ → View ℕ → OneWord → over_pops.PopStage → Type 0
 PopOverStands base v room over_pops.TheVariants.FindsNone = v ≡ base
 PopOverStands base v room over_pops.TheVariants.LoadsRead = v ≡ base
-PopOverStands base v room (over_pops.TheVariants.LoadsWrite p) = v ≡ with_pop (popping.SawRead p) base
-PopOverStands base v room (over_pops.TheVariants.LoadsCell p) = (v ≡ with_pop (popping.SawSome p) base) × (p < 2 ^ 64 - 1)
+PopOverStands base v room (over_pops.TheVariants.LoadsWrite p) =
+    v ≡ with_pop (popping.SawRead p) base
+PopOverStands base v room (over_pops.TheVariants.LoadsCell p) =
+    (v ≡ with_pop (popping.SawSome p) base) × (p < 2 ^ 64 - 1)
 PopOverStands base v room (over_pops.TheVariants.MovesRead p) =
     (v ≡ with_pop (popping.Copied p (room.0 ∷ [])) base) × (p < 2 ^ 64 - 1)
 

@@ -1,4 +1,5 @@
--- What each step tells its seat: of the view before, the number found (at a store, the number stored) and the view after.
+-- What each step tells its seat: of the view before, the number found (at a
+-- store, the number stored) and the view after.
 use Rattle.std.specs.Prelude.{◌≡◌, ◌≢◌, ℕ, ◌+◌, ◌-◌, ◌*◌, ◌%◌, ◌^◌, ◌<◌, ◌≤◌, Some, List, [], ◌∷◌, ◌++◌, All, slice_index}
 use Rattle.atomic_table.specs.Table.{Me, Step}
 use Rattle.lock_free_sp.specs.declared.ring.view.PushStage.{PushStage}
@@ -24,7 +25,8 @@ with_word x (pushing.HandsBack r ws) = pushing.HandsBack r ws
 
 module _ {T : Type 0} where
   -- no slot is out with the seat that was not
-  abbrev pub tells : (View T → ℕ → View T → Type 0) → Step (Unit {0}) → Me (Unit {0}) (View T) → ℕ → Me (Unit {0}) (View T) → Type 0
+  abbrev pub tells : (View T → ℕ → View T → Type 0) → Step (Unit {0}) → Me (Unit {0}) (View T) → ℕ
+      → Me (Unit {0}) (View T) → Type 0
   tells told step old n new = told old.0 n new.0 × (new.1 ≡ old.1)
 
   abbrev pub took_producer : View T → ℕ → View T → Type 0
@@ -51,7 +53,8 @@ module _ {T : Type 0} where
     pub behind : n ≤ p
     pub within : p ≤ n + v.capacity
     pub room : p ≢ n + v.capacity → w ≡ with_push (pushing.Storing p n []) v
-    pub full : p ≡ n + v.capacity → (w ≡ with_push pushing.Ready v) × All (λ (x : ℕ × T). x.0 + v.capacity < p) v.taken
+    pub full : p ≡ n + v.capacity
+        → (w ≡ with_push pushing.Ready v) × All (λ (x : ℕ × T). x.0 + v.capacity < p) v.taken
 
   abbrev pub saw_room : View T → ℕ → View T → Type 0
   saw_room v n w = (p : ℕ) → v.push ≡ pushing.SawWrite p → SawRoom v n w p
@@ -68,7 +71,8 @@ module _ {T : Type 0} where
     pub order : InOrder w w
 
   abbrev pub published_at : (T → List ℕ) → View T → ℕ → View T → Type 0
-  published_at words v n w = (p r : ℕ) (x : T) → v.push ≡ pushing.Storing p r (words x) → Published v w p x
+  published_at words v n w =
+      (p r : ℕ) (x : T) → v.push ≡ pushing.Storing p r (words x) → Published v w p x
 
   abbrev pub saw_read : View T → ℕ → View T → Type 0
   saw_read v n w =
@@ -86,7 +90,9 @@ module _ {T : Type 0} where
 
   abbrev pub loaded : (T → List ℕ) → ℕ → ℕ → View T → ℕ → View T → Type 0
   loaded words n word v found w =
-      (w ≡ v) × ((p i : ℕ) (x : T) → v.pop ≡ popping.SawValue p x → word ≡ place v.capacity n p i → i < n → found ≡ slice_index (words x) i)
+      (w ≡ v)
+      × ((p i : ℕ) (x : T) → v.pop ≡ popping.SawValue p x → word ≡ place v.capacity n p i
+      → i < n → found ≡ slice_index (words x) i)
 
   -- the value x is taken at p
   pub record Taken (v w : View T) (p : ℕ) (x : T) : Type 0 where
@@ -100,11 +106,13 @@ module _ {T : Type 0} where
   taken_at v n w = (p : ℕ) (x : T) → v.pop ≡ popping.SawValue p x → Taken v w p x
 
   abbrev pub len_saw_write : View T → ℕ → View T → Type 0
-  len_saw_write v n w = (w ≡ with_len (lengths.SawWrite n) v) × All (λ (x : ℕ × T). x.0 < n) v.published
+  len_saw_write v n w =
+      (w ≡ with_len (lengths.SawWrite n) v) × All (λ (x : ℕ × T). x.0 < n) v.published
 
   abbrev pub len_saw_read : View T → ℕ → View T → Type 0
   len_saw_read v n w =
-      (p : ℕ) → v.len ≡ lengths.SawWrite p → (w ≡ with_len (lengths.SawBoth p n) v) × All (λ (x : ℕ × T). x.0 < n) v.taken
+      (p : ℕ) → v.len ≡ lengths.SawWrite p
+      → (w ≡ with_len (lengths.SawBoth p n) v) × All (λ (x : ℕ × T). x.0 < n) v.taken
 
   -- where the write position is the one that was loaded first, both stood together
   abbrev pub len_saw_again : ℕ → View T → ℕ → View T → Type 0
@@ -126,7 +134,8 @@ module _ {T : Type 0} where
   abbrev pub saw_front : View T → ℕ → View T → Type 0
   saw_front v n w = (p : ℕ) → v.push ≡ pushing.SawWrite p → SawFront v n w p
 
-  -- the value x is published at p, where the read position was r: past the capacity, the oldest is to be taken
+  -- the value x is published at p, where the read position was r:
+  -- past the capacity, the oldest is to be taken
   pub record PublishedOver (v w : View T) (p r : ℕ) (x : T) : Type 0 where
     pub size : w.capacity ≡ v.capacity
     pub view : p ≢ r + v.capacity → w ≡ pushed p x v
@@ -136,19 +145,24 @@ module _ {T : Type 0} where
     pub sound : Sound w
 
   abbrev pub published_over : (T → List ℕ) → View T → ℕ → View T → Type 0
-  published_over words v n w = (p r : ℕ) (x : T) → v.push ≡ pushing.Storing p r (words x) → PublishedOver v w p r x
+  published_over words v n w =
+      (p r : ℕ) (x : T) → v.push ≡ pushing.Storing p r (words x) → PublishedOver v w p r x
 
   -- the value x is taken at r, or the read position has moved
   pub record TookBack (words : T → List ℕ) (v : View T) (n : ℕ) (w : View T) (r : ℕ) : Type 0 where
     pub size : w.capacity ≡ v.capacity
-    pub taken : n ≡ r → (x : T) × (w ≡ with_push (pushing.HandsBack r (words x)) (handed_back r x v)) × All (λ (y : ℕ × T). y.0 < r) v.taken × Sound w
+    pub taken : n ≡ r
+        → (x : T) × (w ≡ with_push (pushing.HandsBack r (words x)) (handed_back r x v))
+        × All (λ (y : ℕ × T). y.0 < r) v.taken × Sound w
     pub moved : n ≢ r → w ≡ with_push pushing.Ready v
 
   abbrev pub took_back : (T → List ℕ) → View T → ℕ → View T → Type 0
   took_back words v n w = (r : ℕ) → v.push ≡ pushing.Full r → TookBack words v n w r
 
   abbrev pub loaded_back : View T → ℕ → View T → Type 0
-  loaded_back v n w = (w ≡ with_push pushing.Ready v) × ((r : ℕ) (ws : List ℕ) → v.push ≡ pushing.HandsBack r ws → n ≡ slice_index ws 0)
+  loaded_back v n w =
+      (w ≡ with_push pushing.Ready v)
+      × ((r : ℕ) (ws : List ℕ) → v.push ≡ pushing.HandsBack r ws → n ≡ slice_index ws 0)
 
   abbrev pub saw_front_to_pop : View T → ℕ → View T → Type 0
   saw_front_to_pop v n w = w ≡ with_pop (popping.SawRead n) v
@@ -157,16 +171,20 @@ module _ {T : Type 0} where
   abbrev pub saw_some : View T → ℕ → View T → Type 0
   saw_some v n w =
       (p : ℕ) → v.pop ≡ popping.SawRead p
-      → (p ≢ n → (w ≡ with_pop (popping.SawSome p) v) × (p < 2 ^ 64 - 1)) × (p ≡ n → w ≡ with_pop popping.Ready v)
+      → (p ≢ n → (w ≡ with_pop (popping.SawSome p) v) × (p < 2 ^ 64 - 1))
+      × (p ≡ n → w ≡ with_pop popping.Ready v)
 
   abbrev pub copied : View T → ℕ → View T → Type 0
   copied v n w = (p : ℕ) → v.pop ≡ popping.SawSome p → w ≡ with_pop (popping.Copied p (n ∷ [])) v
 
   -- the value x is taken at p, or the read position has moved
-  pub record TookFront (words : T → List ℕ) (v : View T) (n : ℕ) (w : View T) (p word : ℕ) : Type 0 where
+  pub record TookFront (words : T → List ℕ) (v : View T) (n : ℕ) (w : View T)
+      (p word : ℕ) : Type 0 where
     pub size : w.capacity ≡ v.capacity
-    pub taken : n ≡ p → (x : T) × (slice_index (words x) 0 ≡ word) × (w ≡ popped p x v) × All (λ (y : ℕ × T). y.0 < p) v.taken × Sound w
+    pub taken : n ≡ p → (x : T) × (slice_index (words x) 0 ≡ word) × (w ≡ popped p x v)
+        × All (λ (y : ℕ × T). y.0 < p) v.taken × Sound w
     pub moved : n ≢ p → (w ≡ with_pop (popping.SawSome n) v) × (n < 2 ^ 64 - 1)
 
   abbrev pub took_front : (T → List ℕ) → View T → ℕ → View T → Type 0
-  took_front words v n w = (p word : ℕ) → v.pop ≡ popping.Copied p (word ∷ []) → TookFront words v n w p word
+  took_front words v n w =
+      (p word : ℕ) → v.pop ≡ popping.Copied p (word ∷ []) → TookFront words v n w p word

@@ -47,7 +47,8 @@ module _ {T : Type 0} where
 
   -- a push of x at the position p is done
   abbrev pub pushed : ℕ → T → View T → View T
-  pushed p x v = record v { push = pushing.Ready; last_push = Some p; published = v.published ++ (p, x) ∷ [] }
+  pushed p x v =
+      record v { push = pushing.Ready; last_push = Some p; published = v.published ++ (p, x) ∷ [] }
 
   -- a pop of x at the position p is done
   abbrev pub popped : ℕ → T → View T → View T
@@ -64,12 +65,17 @@ module _ {T : Type 0} where
   -- it has no role, and no call under way
   abbrev pub IsIdle : View T → Type 0
   IsIdle v =
-      (v.push ≡ pushing.Away) × (v.last_push ≡ None) × (v.pop ≡ popping.Away) × (v.last_pop ≡ None) × (v.len ≡ lengths.Idle)
+      (v.push ≡ pushing.Away) × (v.last_push ≡ None) × (v.pop ≡ popping.Away) × (v.last_pop ≡ None)
+      × (v.len ≡ lengths.Idle)
 
   -- it has the producer's role alone, and no call under way
   abbrev pub IsProducing : View T → Type 0
-  IsProducing v = (v.push ≡ pushing.Ready) × (v.pop ≡ popping.Away) × (v.last_pop ≡ None) × (v.len ≡ lengths.Idle)
+  IsProducing v =
+      (v.push ≡ pushing.Ready) × (v.pop ≡ popping.Away) × (v.last_pop ≡ None)
+      × (v.len ≡ lengths.Idle)
 
   -- it has the consumer's role alone, and no call under way
   abbrev pub IsConsuming : View T → Type 0
-  IsConsuming v = (v.pop ≡ popping.Ready) × (v.push ≡ pushing.Away) × (v.last_push ≡ None) × (v.len ≡ lengths.Idle)
+  IsConsuming v =
+      (v.pop ≡ popping.Ready) × (v.push ≡ pushing.Away) × (v.last_push ≡ None)
+      × (v.len ≡ lengths.Idle)

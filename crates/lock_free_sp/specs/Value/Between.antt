@@ -12,7 +12,8 @@ module _ {T : Type 0} where
   abbrev pub UpTo : ℕ → View T → Type 0
   UpTo p v = All (λ (x : ℕ × T). x.0 ≤ p) v.stored × All (λ (x : ℕ × T). x.0 ≤ p) v.loaded
 
-  -- what holds of each pass, and of each guard: no version is stored twice, equal versions carry equal values, and none is above the guard's last store
+  -- what holds of each pass, and of each guard: no version is stored twice, equal versions carry
+  -- equal values, and none is above the guard's last store
   pub record Sound (v : View T) : Type 0 where
     pub stored : AllPairs (λ (x y : ℕ × T). x.0 ≢ y.0) v.stored
     pub stored_loaded : Agree v.stored v.loaded

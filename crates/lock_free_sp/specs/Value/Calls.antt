@@ -19,7 +19,9 @@ module _ {T : Type 0} {words : Ghosts T} where
 
   -- the same seat, at the same table
   abbrev pub IsSame : Held T (ValueRule T) words → Held T (ValueRule T) words → Type 0
-  IsSame old new = (table_of new ≡ table_of old) × (new.seated.seat.id ≡ old.seated.seat.id) × (new.seated.table ≡ old.seated.table)
+  IsSame old new =
+      (table_of new ≡ table_of old) × (new.seated.seat.id ≡ old.seated.seat.id)
+      × (new.seated.table ≡ old.seated.table)
 
 module _ {T : Type 0} where
   -- a store of x: at a version above all that were known, and right after the guard's last store
@@ -30,7 +32,7 @@ module _ {T : Type 0} where
     pub next : (q : ℕ) → v.last_store ≡ Some q → version ≡ q + 1
     pub sound : Sound w
 
-  -- a store that was refused: the guard's last store has the last version
+  -- a store that was refused: where the guard has stored before, that has the last version
   pub record WasAtEnd (v w : View T) : Type 0 where
     pub same : w ≡ v
     pub end : (q : ℕ) → v.last_store ≡ Some q → q ≡ 2 ^ 64 - 1

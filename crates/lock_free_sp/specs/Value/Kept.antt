@@ -38,7 +38,9 @@ module _ {T : Type 0} (f : Face) (b : Book T) (seat : ℕ) where
   abbrev pub KnowsStore : StoreStage → Type 0
   KnowsStore storing.Away = Unit {0}
   KnowsStore storing.Ready = Produces
-  KnowsStore (storing.Storing p ws) = Produces × (f.version ≡ p) × (p ≢ 2 ^ 64 - 1) × ((i : ℕ) → i < length ws → f.cell (p + 1) i ≡ slice_index ws i)
+  KnowsStore (storing.Storing p ws) =
+      Produces × (f.version ≡ p) × (p ≢ 2 ^ 64 - 1)
+      × ((i : ℕ) → i < length ws → f.cell (p + 1) i ≡ slice_index ws i)
 
   abbrev pub IsStored : ℕ × T → Type 0
   IsStored x = (x.0 ≤ f.version) × (b.log x.0 ≡ x.1) × (b.storer x.0 ≡ seat)
@@ -49,7 +51,10 @@ module _ {T : Type 0} (f : Face) (b : Book T) (seat : ℕ) where
 module _ {T : Type 0} (words_of : T → List ℕ) (f : Face) (b : Book T) where
   abbrev pub KnowsLoad : LoadStage → Type 0
   KnowsLoad loading.Idle = Unit {0}
-  KnowsLoad (loading.Copying p ws) = (1 ≤ p) × (p ≤ f.version) × (f.version ≡ p → (i : ℕ) → i < length ws → slice_index (words_of (b.log p)) i ≡ slice_index ws i)
+  KnowsLoad (loading.Copying p ws) =
+      (1 ≤ p) × (p ≤ f.version)
+      × (f.version ≡ p → (i : ℕ) → i < length ws
+      → slice_index (words_of (b.log p)) i ≡ slice_index ws i)
 
   pub record Knows (seat : ℕ) (v : View T) : Type 0 where
     pub store : KnowsStore f b seat v.store
@@ -70,4 +75,5 @@ module _ {T : Type 0} (words_of : T → List ℕ) (n : ℕ) where
     pub book : Book T
     pub wide : length s.words ≡ n * 2 + 2
     pub fits : Fits (face n s.words) book.log
-    pub seats : (j : ℕ) (v : View T) → get_elem? s.views j ≡ some v → Knows words_of (face n s.words) book j v
+    pub seats : (j : ℕ) (v : View T) → get_elem? s.views j ≡ some v
+        → Knows words_of (face n s.words) book j v

@@ -1,4 +1,5 @@
--- What the view of a seat is while a call is at a stage, and how the call ends: of the view with which it began, and the view now.
+-- What the view of a seat is while a call is at a stage, and how the call ends: of the
+-- view with which it began, and the view now.
 use Rattle.std.specs.Prelude.{◌≡◌, ℕ, ◌+◌, ◌<◌, ◌≤◌, Bool, true, false, List, length, take}
 use Rattle.steps.specs.Copied.{value_in}
 use Rattle.steps.specs.declared.queues.roles.AcquireRole.{AcquireRole}
@@ -37,8 +38,10 @@ module _ {T : Type 0} (words_of : T → List ℕ) (n : ℕ) where
   abbrev pub StoreStands : T → View T → View T → stores.StoreStage → Type 0
   StoreStands x base v stores.TheVariants.LoadsVersion = v ≡ base
   StoreStands x base v (stores.TheVariants.StoresCell cell at) =
-      (p : ℕ) × (v ≡ with_store (storing.Storing p (take at (words_of x))) base) × (at < n) × (cell ≡ place n (p + 1) 0)
-  StoreStands x base v stores.TheVariants.AddsVersion = (p : ℕ) × (v ≡ with_store (storing.Storing p (words_of x)) base)
+      (p : ℕ) × (v ≡ with_store (storing.Storing p (take at (words_of x))) base) × (at < n)
+      × (cell ≡ place n (p + 1) 0)
+  StoreStands x base v stores.TheVariants.AddsVersion =
+      (p : ℕ) × (v ≡ with_store (storing.Storing p (words_of x)) base)
 
   abbrev pub StoreAt : T → View T → View T → Store T → Unit {0} → Type 0
   StoreAt x base v c room = (base.store ≡ storing.Ready) × StoreStands x base v c.stage
@@ -55,12 +58,14 @@ module _ {T R : Type 0} (n : ℕ) (words_in : R → List ℕ) where
   abbrev pub LoadStands : View T → View T → R → loads.LoadStage → Type 0
   LoadStands base v room loads.TheVariants.LoadsVersion = v ≡ base
   LoadStands base v room (loads.TheVariants.LoadsCell version cell at) =
-      (v ≡ with_load (loading.Copying version (take at (words_in room))) base) × (at < n) × (cell ≡ place n version 0)
+      (v ≡ with_load (loading.Copying version (take at (words_in room))) base) × (at < n)
+      × (cell ≡ place n version 0)
   LoadStands base v room (loads.TheVariants.ChecksVersion version) =
       v ≡ with_load (loading.Copying version (take n (words_in room))) base
 
   abbrev pub LoadAt : View T → View T → Load T R → R → Type 0
-  LoadAt base v c room = (base.load ≡ loading.Idle) × (n ≤ length (words_in room)) × LoadStands base v room c.stage
+  LoadAt base v c room =
+      (base.load ≡ loading.Idle) × (n ≤ length (words_in room)) × LoadStands base v room c.stage
 
 module _ {T R : Type 0} (value_of : List ℕ → T) (n : ℕ) (words_in : R → List ℕ) where
   -- the value is the one that the words in the room make

@@ -1,4 +1,5 @@
--- What each step on a value's table tells its seat: of the view before, the number found (at a store, the number stored) and the view after.
+-- What each step on a value's table tells its seat: of the view before, the number found (at a
+-- store, the number stored) and the view after.
 use Rattle.std.specs.Prelude.{◌≡◌, ◌≢◌, ℕ, ◌+◌, ◌-◌, ◌*◌, ◌%◌, ◌^◌, ◌≤◌, Some, List, [], ◌∷◌, ◌++◌, length}
 use Rattle.atomic_table.specs.Table.{Me, Step}
 use Rattle.lock_free_sp.specs.declared.value.view.StoreStage.{StoreStage}
@@ -26,7 +27,8 @@ with_copied x (loading.Copying p ws) = loading.Copying p (ws ++ x ∷ [])
 
 module _ {T : Type 0} where
   -- no slot is out with the seat that was not
-  abbrev pub tells : (View T → ℕ → View T → Type 0) → Step (Unit {0}) → Me (Unit {0}) (View T) → ℕ → Me (Unit {0}) (View T) → Type 0
+  abbrev pub tells : (View T → ℕ → View T → Type 0) → Step (Unit {0}) → Me (Unit {0}) (View T) → ℕ
+      → Me (Unit {0}) (View T) → Type 0
   tells told step old n new = told old.0 n new.0 × (new.1 ≡ old.1)
 
   abbrev pub took_producer : View T → ℕ → View T → Type 0
@@ -53,7 +55,8 @@ module _ {T : Type 0} where
     pub sound : Sound w
 
   abbrev pub store_published : (T → List ℕ) → View T → ℕ → View T → Type 0
-  store_published words v n w = (p : ℕ) (x : T) → v.store ≡ storing.Storing p (words x) → Published v w p x
+  store_published words v n w =
+      (p : ℕ) (x : T) → v.store ≡ storing.Storing p (words x) → Published v w p x
 
   abbrev pub load_started : View T → ℕ → View T → Type 0
   load_started v n w = (w ≡ with_load (loading.Copying n []) v) × (1 ≤ n)
@@ -68,7 +71,8 @@ module _ {T : Type 0} where
 
   abbrev pub load_settled : (List ℕ → T) → ℕ → View T → ℕ → View T → Type 0
   load_settled value_of size v n w =
-      (p : ℕ) (ws : List ℕ) → v.load ≡ loading.Copying p ws → length ws ≡ size → Settled v n w p (value_of ws)
+      (p : ℕ) (ws : List ℕ) → v.load ≡ loading.Copying p ws → length ws ≡ size
+      → Settled v n w p (value_of ws)
 
   abbrev pub learned : View T → ℕ → View T → Type 0
   learned v n w = (w ≡ v) × Sound v

@@ -44,7 +44,8 @@ module _ {T : Type 0} where
 
   -- a store of x at the version p is done
   abbrev pub stored_at : ℕ → T → View T → View T
-  stored_at p x v = record v { store = storing.Ready; last_store = Some p; stored = v.stored ++ (p, x) ∷ [] }
+  stored_at p x v =
+      record v { store = storing.Ready; last_store = Some p; stored = v.stored ++ (p, x) ∷ [] }
 
   -- a load of x at the version p is done
   abbrev pub loaded_at : ℕ → T → View T → View T

@@ -28,8 +28,10 @@ impl<V, K, Q: Rule<V, K>> Seated<V, K, Q> {
     /// One operation on one word: its old value, and the new one at a store.
     #[inline(always)]
     fn perform<M: Tells<V>>(&mut self, ask: Ask) -> u64
-        requires owes { OwesAsk (Q.holds (key_of self.old)) (table_of self.old).words (table_of self.old).slots self.old.seat.id M.told ask.word ask.op self.old.seat.me }
-        requires capacity { (v : V) (n : ℕ) (w : V) → M.told v n w → Q.capacity_seen w ≡ Q.capacity_seen v }
+        requires owes { OwesAsk (Q.holds (key_of self.old)) (table_of self.old).words
+            (table_of self.old).slots self.old.seat.id M.told ask.word ask.op self.old.seat.me }
+        requires capacity { (v : V) (n : ℕ) (w : V) → M.told v n w
+            → Q.capacity_seen w ≡ Q.capacity_seen v }
         ensures same { IsSame self.old self.new }
         ensures told { M.told (seen self.old) result (seen self.new) }
     {
@@ -64,15 +66,24 @@ impl<V, K, Q: Rule<V, K>> Seated<V, K, Q> {
         given: &C::Given,
         room: &mut C::Room,
     ) -> After<C, C::End>
-        requires gives { (v : V) (n : ℕ) (w : V) → M.told v n w → Told Q.capacity_seen (D.at given.now) (D.ends given.now) (λ c k. C.after c given.now k) C.kept call room.old v n w }
-        requires takes { (v : V) (n : ℕ) (w : V) → Told Q.capacity_seen (D.at given.now) (D.ends given.now) (λ c k. C.after c given.now k) C.kept call room.old v n w → M.told v n w }
+        requires gives { (v : V) (n : ℕ) (w : V) → M.told v n w
+            → Told Q.capacity_seen (D.at given.now) (D.ends given.now)
+            (λ c k. C.after c given.now k) C.kept call room.old v n w }
+        requires takes { (v : V) (n : ℕ) (w : V)
+            → Told Q.capacity_seen (D.at given.now) (D.ends given.now)
+            (λ c k. C.after c given.now k) C.kept call room.old v n w
+            → M.told v n w }
         requires table { IsAt Q.size Q.capacity Q.capacity_seen self.old }
-        requires rule { KeepsRule Q.capacity_seen (D.at given.now) (D.ends given.now) Q.size Q.capacity Q.holds (λ c. C.want_of c given.now) (λ c k. C.after c given.now k) C.kept }
+        requires rule { KeepsRule Q.capacity_seen (D.at given.now) (D.ends given.now) Q.size
+            Q.capacity Q.holds (λ c. C.want_of c given.now) (λ c k. C.after c given.now k) C.kept }
         requires at { (base : V) × D.at given.now base (seen self.old) call room.old }
         ensures same { IsSame self.old self.new }
         ensures capacity { Q.capacity_seen (seen self.new) ≡ Q.capacity_seen (seen self.old) }
-        ensures taken { (n : ℕ) × (result ≡ C.after call given.now n) × (room.new ≡ C.kept call room.old n) }
-        ensures told { (base : V) → D.at given.now base (seen self.old) call room.old → Next Q.capacity_seen (D.at given.now) (D.ends given.now) base result room.new (seen self.new) }
+        ensures taken { (n : ℕ) × (result ≡ C.after call given.now n)
+            × (room.new ≡ C.kept call room.old n) }
+        ensures told { (base : V) → D.at given.now base (seen self.old) call room.old
+            → Next Q.capacity_seen (D.at given.now) (D.ends given.now) base
+            result room.new (seen self.new) }
     {
         let old = match call.ask(given) {
             Want::Ask(ask) => self.perform::<M>(ask),
@@ -91,7 +102,8 @@ impl<V, K, Q: Rule<V, K>> Seated<V, K, Q> {
         room: &mut C::Room,
     ) -> C::End
         requires table { IsAt Q.size Q.capacity Q.capacity_seen self.old }
-        requires rule { KeepsRule Q.capacity_seen (D.at given.now) (D.ends given.now) Q.size Q.capacity Q.holds (λ c. C.want_of c given.now) (λ c k. C.after c given.now k) C.kept }
+        requires rule { KeepsRule Q.capacity_seen (D.at given.now) (D.ends given.now) Q.size
+            Q.capacity Q.holds (λ c. C.want_of c given.now) (λ c k. C.after c given.now k) C.kept }
         requires at { D.at given.now (seen self.old) (seen self.old) call room.old }
         ensures same { IsSame self.old self.new }
         ensures capacity { Q.capacity_seen (seen self.new) ≡ Q.capacity_seen (seen self.old) }
@@ -129,7 +141,8 @@ impl<V, K, Q: Rule<V, K>> Seated<V, K, Q> {
         room: &mut C::Room,
     ) -> C::End
         requires table { IsAt Q.size Q.capacity Q.capacity_seen self.old }
-        requires rule { KeepsRule Q.capacity_seen (D.at given.now) (D.ends given.now) Q.size Q.capacity Q.holds (λ c. C.want_of c given.now) (λ c k. C.after c given.now k) C.kept }
+        requires rule { KeepsRule Q.capacity_seen (D.at given.now) (D.ends given.now) Q.size
+            Q.capacity Q.holds (λ c. C.want_of c given.now) (λ c k. C.after c given.now k) C.kept }
         requires at { D.at given.now (seen self.old) (seen self.old) call room.old }
         ensures same { IsSame self.old self.new }
         ensures capacity { Q.capacity_seen (seen self.new) ≡ Q.capacity_seen (seen self.old) }

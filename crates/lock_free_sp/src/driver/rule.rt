@@ -15,8 +15,8 @@ pub trait Rule<V, K>: TableRule<(), V, K> {
     ghost capacity_seen: { V → ℕ };
 }
 
-/// What a seat knows while the call C is under way, and how the call ends. One call may be driven for several reasons, as
-/// to take one role or the other, so it stands apart from the call.
+/// What a seat knows while the call C is under way, and how the call ends. One call may be driven
+/// for several reasons, as to take one role or the other, so it stands apart from the call.
 pub trait Drives<V, C: Routine> {
     /// Of what it is given, the view with which the call began, and the view now.
     ghost at: { C.Given → V → V → C → C.Room → Type 0 };

@@ -1,5 +1,5 @@
-//! The ends of a queue: what callers share, and what each of them holds. The queues are this with a kind E, values T and a
-//! rule; each module of `spsc` has its own names for them.
+//! The ends of a queue: what callers share, and what each of them holds. The queues are this with a
+//! kind E, values T and a rule; each module of `spsc` has its own names for them.
 ghost use Rattle.std.specs.Prelude.{◌≡◌, ◌+◌, ◌*◌};
 ghost use Rattle.std.specs.Arc.{arc_value};
 ghost use Rattle.lock_free_sp.specs.Ring.Views.{IsIdle, IsProducing, IsConsuming};

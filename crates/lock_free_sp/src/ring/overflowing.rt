@@ -20,8 +20,11 @@ impl Held<Overflowing, u64, RingRule<Overflowing, u64>> {
         requires { (seen self.old).push ≡ pushing.Ready }
         ensures same { IsSame self.old self.new }
         ensures added { IfNone result (HasAdded value (seen self.old) (seen self.new)) }
-        ensures handed_back { IfSome result (λ y. HasReplaced value y (seen self.old) (seen self.new) ⊎ WasHandedBack value y (seen self.old) (seen self.new)) }
-        ensures own { TakesNone (seen self.old) → (result ≡ Some value) × (seen self.new ≡ seen self.old) }
+        ensures handed_back { IfSome result
+            (λ y. HasReplaced value y (seen self.old) (seen self.new)
+            ⊎ WasHandedBack value y (seen self.old) (seen self.new)) }
+        ensures own { TakesNone (seen self.old)
+            → (result ≡ Some value) × (seen self.new ≡ seen self.old) }
     {
         let mut room = OneWord(0);
         let call = Push::new(self.capacity);

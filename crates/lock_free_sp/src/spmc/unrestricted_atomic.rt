@@ -24,7 +24,9 @@ pub struct UnrestrictedAtomic<T: Words> {
 #[derive(Drop)]
 pub struct Pass<T: Words> {
     token: Token<T>,
-    ghost idle: { (token.seated.seat.me.0.store ≡ storing.Away) × (token.seated.seat.me.0.last_store ≡ None) × (token.seated.seat.me.0.load ≡ loading.Idle) },
+    ghost idle: { (token.seated.seat.me.0.store ≡ storing.Away)
+        × (token.seated.seat.me.0.last_store ≡ None)
+        × (token.seated.seat.me.0.load ≡ loading.Idle) },
 }
 
 /// The end of a value that stores. There is one at a time. It owns the pass that it was acquired with, and gives the
@@ -32,7 +34,8 @@ pub struct Pass<T: Words> {
 pub struct Producer<'a, T: Words> {
     value: &'a UnrestrictedAtomic<T>,
     token: Token<T>,
-    ghost role: { (token.seated.seat.me.0.store ≡ storing.Ready) × (token.seated.seat.me.0.load ≡ loading.Idle) },
+    ghost role: { (token.seated.seat.me.0.store ≡ storing.Ready)
+        × (token.seated.seat.me.0.load ≡ loading.Idle) },
 }
 
 impl<'a, T: Words> Drop for Producer<'a, T> {

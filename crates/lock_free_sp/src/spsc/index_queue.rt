@@ -17,7 +17,8 @@ use steps::enums::UniqueIndexCreationError;
 /// After `IndexQueue` of the Rust crate.
 pub type IndexQueue = Ring<Numbers, u64, RingRule<Numbers, u64>>;
 
-/// The same for at most CAPACITY numbers; CAPACITY is from 0 to 2^32 - 1. After `FixedSizeIndexQueue` of the Rust crate.
+/// The same for at most CAPACITY numbers; CAPACITY is from 0 to 2^32 - 1.
+/// After `FixedSizeIndexQueue` of the Rust crate.
 pub type FixedSizeIndexQueue<const CAPACITY: usize> = FixedSize<
     Numbers,
     u64,
@@ -46,7 +47,8 @@ impl IndexQueue {
         ensures pass { IfOk result (λ r. IsPassOf r.0 r.1 × (view r.1 ≡ blank capacity)) }
         ensures capacity { IfOk result (λ r. capacity_of r.0 ≡ capacity) }
         ensures admitted { OnOk result (capacity_refusal 0 (2 ^ 32 - 1) capacity ≡ None) }
-        ensures refused { IfErr result (λ e. (capacity_refusal 0 (2 ^ 32 - 1) capacity ≡ Some e) ⊎ (capacity_refusal 0 (2 ^ 32 - 1) capacity ≡ None) × (e ≡ NoMemory)) }
+        ensures refused { IfErr result (λ e. (capacity_refusal 0 (2 ^ 32 - 1) capacity ≡ Some e)
+            ⊎ (capacity_refusal 0 (2 ^ 32 - 1) capacity ≡ None) × (e ≡ NoMemory)) }
     {
         Ring::open(alloc, capacity, 0)
     }
@@ -60,7 +62,8 @@ impl IndexQueue {
         ensures pass { IfOk result (λ r. IsPassOf r.0 r.1 × (view r.1 ≡ blank capacity)) }
         ensures capacity { IfOk result (λ r. capacity_of r.0 ≡ capacity) }
         ensures admitted { OnOk result (capacity_refusal 0 (2 ^ 32 - 1) capacity ≡ None) }
-        ensures refused { IfErr result (λ e. (capacity_refusal 0 (2 ^ 32 - 1) capacity ≡ Some e) ⊎ (capacity_refusal 0 (2 ^ 32 - 1) capacity ≡ None) × (e ≡ NoMemory)) }
+        ensures refused { IfErr result (λ e. (capacity_refusal 0 (2 ^ 32 - 1) capacity ≡ Some e)
+            ⊎ (capacity_refusal 0 (2 ^ 32 - 1) capacity ≡ None) × (e ≡ NoMemory)) }
     {
         Ring::open(alloc, capacity, position)
     }
@@ -76,7 +79,8 @@ impl<const CAPACITY: usize> FixedSizeIndexQueue<CAPACITY> {
     ) -> Result<(FixedSizeIndexQueue<CAPACITY>, Pass), UniqueIndexCreationError>
         ensures pass { IfOk result (λ r. IsPassOf (ring_of r.0) r.1 × (view r.1 ≡ blank CAPACITY)) }
         ensures admitted { OnOk result (capacity_refusal 0 (2 ^ 32 - 1) CAPACITY ≡ None) }
-        ensures refused { IfErr result (λ e. (capacity_refusal 0 (2 ^ 32 - 1) CAPACITY ≡ Some e) ⊎ (capacity_refusal 0 (2 ^ 32 - 1) CAPACITY ≡ None) × (e ≡ NoMemory)) }
+        ensures refused { IfErr result (λ e. (capacity_refusal 0 (2 ^ 32 - 1) CAPACITY ≡ Some e)
+            ⊎ (capacity_refusal 0 (2 ^ 32 - 1) CAPACITY ≡ None) × (e ≡ NoMemory)) }
     {
         FixedSize::open(alloc, 0)
     }
@@ -87,7 +91,8 @@ impl<'a> Producer<'a> {
     /// changes. After `Producer::push` of the Rust crate.
     pub fn push(&mut self, value: u64) -> bool
         ensures queue { producer_queue self.new ≡ producer_queue self.old }
-        ensures pushed { IsTrue result → HasPushed value (producer_view self.old) (producer_view self.new) }
+        ensures pushed { IsTrue result
+            → HasPushed value (producer_view self.old) (producer_view self.new) }
         ensures full { IsFalse result → WasFull (producer_view self.old) (producer_view self.new) }
     {
         self.token.push(&value)
@@ -99,7 +104,8 @@ impl<'a> Consumer<'a> {
     /// the Rust crate.
     pub fn pop(&mut self) -> Option<u64>
         ensures queue { consumer_queue self.new ≡ consumer_queue self.old }
-        ensures popped { IfSome result (λ x. HasPopped x (consumer_view self.old) (consumer_view self.new)) }
+        ensures popped { IfSome result
+            (λ x. HasPopped x (consumer_view self.old) (consumer_view self.new)) }
         ensures empty { IfNone result (WasEmpty (consumer_view self.old) (consumer_view self.new)) }
     {
         self.token.pop(OneWord(0))

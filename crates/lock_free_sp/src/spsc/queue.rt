@@ -35,7 +35,8 @@ impl<T: Words, const CAPACITY: usize> Queue<T, CAPACITY> {
     pub fn new(alloc: Global) -> Result<(Queue<T, CAPACITY>, Pass<T>), UniqueIndexCreationError>
         ensures pass { IfOk result (λ r. IsPassOf (ring_of r.0) r.1 × (view r.1 ≡ blank CAPACITY)) }
         ensures admitted { OnOk result (capacity_refusal 0 (2 ^ 32 - 1) CAPACITY ≡ None) }
-        ensures refused { IfErr result (λ e. (capacity_refusal 0 (2 ^ 32 - 1) CAPACITY ≡ Some e) ⊎ (capacity_refusal 0 (2 ^ 32 - 1) CAPACITY ≡ None) × (e ≡ NoMemory)) }
+        ensures refused { IfErr result (λ e. (capacity_refusal 0 (2 ^ 32 - 1) CAPACITY ≡ Some e)
+            ⊎ (capacity_refusal 0 (2 ^ 32 - 1) CAPACITY ≡ None) × (e ≡ NoMemory)) }
     {
         FixedSize::open(alloc, 0)
     }
@@ -47,7 +48,8 @@ impl<T: Words, const CAPACITY: usize> Queue<T, CAPACITY> {
     ) -> Result<(Queue<T, CAPACITY>, Pass<T>), UniqueIndexCreationError>
         ensures pass { IfOk result (λ r. IsPassOf (ring_of r.0) r.1 × (view r.1 ≡ blank CAPACITY)) }
         ensures admitted { OnOk result (capacity_refusal 0 (2 ^ 32 - 1) CAPACITY ≡ None) }
-        ensures refused { IfErr result (λ e. (capacity_refusal 0 (2 ^ 32 - 1) CAPACITY ≡ Some e) ⊎ (capacity_refusal 0 (2 ^ 32 - 1) CAPACITY ≡ None) × (e ≡ NoMemory)) }
+        ensures refused { IfErr result (λ e. (capacity_refusal 0 (2 ^ 32 - 1) CAPACITY ≡ Some e)
+            ⊎ (capacity_refusal 0 (2 ^ 32 - 1) CAPACITY ≡ None) × (e ≡ NoMemory)) }
     {
         FixedSize::open(alloc, position)
     }
@@ -58,7 +60,8 @@ impl<'a, T: Words> Producer<'a, T> {
     /// changes. After `Producer::push` of the Rust crate.
     pub fn push(&mut self, value: &T) -> bool
         ensures queue { producer_queue self.new ≡ producer_queue self.old }
-        ensures pushed { IsTrue result → HasPushed value.now (producer_view self.old) (producer_view self.new) }
+        ensures pushed { IsTrue result
+            → HasPushed value.now (producer_view self.old) (producer_view self.new) }
         ensures full { IsFalse result → WasFull (producer_view self.old) (producer_view self.new) }
     {
         self.token.push(value)
@@ -70,7 +73,8 @@ impl<'a, T: Words> Consumer<'a, T> {
     /// Rust crate.
     pub fn pop(&mut self) -> Option<T>
         ensures queue { consumer_queue self.new ≡ consumer_queue self.old }
-        ensures popped { IfSome result (λ x. HasPopped x (consumer_view self.old) (consumer_view self.new)) }
+        ensures popped { IfSome result
+            (λ x. HasPopped x (consumer_view self.old) (consumer_view self.new)) }
         ensures empty { IfNone result (WasEmpty (consumer_view self.old) (consumer_view self.new)) }
     {
         // a room is filled with zeros: the smallest that the words fit in

@@ -1,5 +1,5 @@
-//! The queue of numbers of 64 bits that hands its oldest number back where it is full, with one producer and one consumer,
-//! shared between threads.
+//! The queue of numbers of 64 bits that hands its oldest number back where it is full, with one
+//! producer and one consumer, shared between threads.
 ghost use Rattle.std.specs.Prelude.{◌≡◌, ◌⊎◌, ◌-◌, ◌^◌, None, Some, IfOk, IfErr, OnOk, IfSome, IfNone};
 ghost use Rattle.steps.specs.Enums.{capacity_refusal};
 ghost use Rattle.steps.specs.declared.enums.UniqueIndexCreationError.TheVariants.{NoMemory};
@@ -14,12 +14,13 @@ use std::alloc::Global;
 use std::sync::Wait;
 use steps::enums::UniqueIndexCreationError;
 
-/// A queue of numbers that hands its oldest number back where it is full, which threads share by reference. One producer
-/// pushes and one consumer pops at a time. After `SafelyOverflowingIndexQueue` of the Rust crate.
+/// A queue of numbers that hands its oldest number back where it is full, which threads share by
+/// reference. One producer pushes and one consumer pops at a time. After
+/// `SafelyOverflowingIndexQueue` of the Rust crate.
 pub type SafelyOverflowingIndexQueue = Ring<Overflowing, u64, RingRule<Overflowing, u64>>;
 
-/// The same for at most CAPACITY numbers; CAPACITY is from 0 to 2^32 - 1. After `FixedSizeSafelyOverflowingIndexQueue` of
-/// the Rust crate.
+/// The same for at most CAPACITY numbers; CAPACITY is from 0 to 2^32 - 1. After
+/// `FixedSizeSafelyOverflowingIndexQueue` of the Rust crate.
 pub type FixedSizeSafelyOverflowingIndexQueue<const CAPACITY: usize> = FixedSize<
     Overflowing,
     u64,
@@ -48,7 +49,8 @@ impl SafelyOverflowingIndexQueue {
         ensures pass { IfOk result (λ r. IsPassOf r.0 r.1 × (view r.1 ≡ blank capacity)) }
         ensures capacity { IfOk result (λ r. capacity_of r.0 ≡ capacity) }
         ensures admitted { OnOk result (capacity_refusal 0 (2 ^ 32 - 1) capacity ≡ None) }
-        ensures refused { IfErr result (λ e. (capacity_refusal 0 (2 ^ 32 - 1) capacity ≡ Some e) ⊎ (capacity_refusal 0 (2 ^ 32 - 1) capacity ≡ None) × (e ≡ NoMemory)) }
+        ensures refused { IfErr result (λ e. (capacity_refusal 0 (2 ^ 32 - 1) capacity ≡ Some e)
+            ⊎ (capacity_refusal 0 (2 ^ 32 - 1) capacity ≡ None) × (e ≡ NoMemory)) }
     {
         Ring::open(alloc, capacity, 0)
     }
@@ -62,7 +64,8 @@ impl SafelyOverflowingIndexQueue {
         ensures pass { IfOk result (λ r. IsPassOf r.0 r.1 × (view r.1 ≡ blank capacity)) }
         ensures capacity { IfOk result (λ r. capacity_of r.0 ≡ capacity) }
         ensures admitted { OnOk result (capacity_refusal 0 (2 ^ 32 - 1) capacity ≡ None) }
-        ensures refused { IfErr result (λ e. (capacity_refusal 0 (2 ^ 32 - 1) capacity ≡ Some e) ⊎ (capacity_refusal 0 (2 ^ 32 - 1) capacity ≡ None) × (e ≡ NoMemory)) }
+        ensures refused { IfErr result (λ e. (capacity_refusal 0 (2 ^ 32 - 1) capacity ≡ Some e)
+            ⊎ (capacity_refusal 0 (2 ^ 32 - 1) capacity ≡ None) × (e ≡ NoMemory)) }
     {
         Ring::open(alloc, capacity, position)
     }
@@ -78,7 +81,8 @@ impl<const CAPACITY: usize> FixedSizeSafelyOverflowingIndexQueue<CAPACITY> {
     ) -> Result<(FixedSizeSafelyOverflowingIndexQueue<CAPACITY>, Pass), UniqueIndexCreationError>
         ensures pass { IfOk result (λ r. IsPassOf (ring_of r.0) r.1 × (view r.1 ≡ blank CAPACITY)) }
         ensures admitted { OnOk result (capacity_refusal 0 (2 ^ 32 - 1) CAPACITY ≡ None) }
-        ensures refused { IfErr result (λ e. (capacity_refusal 0 (2 ^ 32 - 1) CAPACITY ≡ Some e) ⊎ (capacity_refusal 0 (2 ^ 32 - 1) CAPACITY ≡ None) × (e ≡ NoMemory)) }
+        ensures refused { IfErr result (λ e. (capacity_refusal 0 (2 ^ 32 - 1) CAPACITY ≡ Some e)
+            ⊎ (capacity_refusal 0 (2 ^ 32 - 1) CAPACITY ≡ None) × (e ≡ NoMemory)) }
     {
         FixedSize::open(alloc, 0)
     }
@@ -90,9 +94,13 @@ impl<'a> Producer<'a> {
     /// `Producer::push` of the Rust crate.
     pub fn push(&mut self, value: u64) -> Option<u64>
         ensures queue { producer_queue self.new ≡ producer_queue self.old }
-        ensures added { IfNone result (HasAdded value (producer_view self.old) (producer_view self.new)) }
-        ensures handed_back { IfSome result (λ y. HasReplaced value y (producer_view self.old) (producer_view self.new) ⊎ WasHandedBack value y (producer_view self.old) (producer_view self.new)) }
-        ensures own { TakesNone (producer_view self.old) → (result ≡ Some value) × (producer_view self.new ≡ producer_view self.old) }
+        ensures added { IfNone result
+            (HasAdded value (producer_view self.old) (producer_view self.new)) }
+        ensures handed_back { IfSome result
+            (λ y. HasReplaced value y (producer_view self.old) (producer_view self.new)
+            ⊎ WasHandedBack value y (producer_view self.old) (producer_view self.new)) }
+        ensures own { TakesNone (producer_view self.old)
+            → (result ≡ Some value) × (producer_view self.new ≡ producer_view self.old) }
     {
         self.token.push(value)
     }
@@ -103,7 +111,8 @@ impl<'a> Consumer<'a> {
     /// the Rust crate.
     pub fn pop(&mut self, rt: &impl Wait) -> Option<u64>
         ensures queue { consumer_queue self.new ≡ consumer_queue self.old }
-        ensures popped { IfSome result (λ x. HasTaken x (consumer_view self.old) (consumer_view self.new)) }
+        ensures popped { IfSome result
+            (λ x. HasTaken x (consumer_view self.old) (consumer_view self.new)) }
         ensures empty { IfNone result (consumer_view self.new ≡ consumer_view self.old) }
     {
         self.token.pop(rt)

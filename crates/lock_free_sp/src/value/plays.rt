@@ -1,4 +1,5 @@
-//! What splitting a seat and joining two leaves, and what a look at the table tells. These types are for the proofs alone.
+//! What splitting a seat and joining two leaves, and what a look at the table
+//! tells. These types are for the proofs alone.
 ghost use Rattle.lock_free_sp.specs.Value.Views.{blank, joined};
 ghost use Rattle.lock_free_sp.specs.Value.Tells.{tells, learned};
 

@@ -1,7 +1,8 @@
 //! The rule of a value's table.
 //!
 //! The words are those of `steps::atomic`: the version, which opens at 1 or above and goes up by 1 at each store, the
-//! producer's role, and two cells: the value of a version stands in the one whose number is the version less 1, modulo 2.
+//! producer's role, and two cells: the value of a version stands in the one
+//! whose number is the version less 1, modulo 2.
 
 use super::view::View;
 use crate::driver::rule::Rule;

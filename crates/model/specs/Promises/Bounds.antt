@@ -12,7 +12,8 @@ module _ {T : Type 0} where
   abbrev pub most_steps : Kind → Start T → ℕ → ℕ
   most_steps kind (Queues start) backs = queues.most_steps kind start backs
 
-  -- a call has taken at most its steps, and begun a loop's turn again at most as often as other parties changed words
+  -- a call has taken at most its steps, and begun a loop's turn again at
+  -- most as often as other parties changed words
   pub record IsBounded (kind : Kind) (start : Start T) (g : Progress) : Type 0 where
     pub steps : g.steps ≤ most_steps kind start g.backs
     pub backs : g.backs ≤ g.others

@@ -15,14 +15,16 @@ module _ {T : Type 0} where
   abbrev pub Wrote : Kind → ℕ → Start T → Answer T → List (Event T) → Type 0
   Wrote kind capacity (Queues start) answer wrote = queues.Wrote kind capacity start answer wrote
 
-  -- Where an event may stand in its party's span: a call begins where none is under way, acts at most once, writes
-  -- what its family says, and finishes with what its answer says.
+  -- Where an event may stand in its party's span: a call begins where none is under way, acts at
+  -- most once, writes what its family says, and finishes with what its answer says.
   abbrev pub Stands : Kind → ℕ → Event T → Span T → Type 0
   Stands kind capacity (Begun p start) span = IsShut span
   Stands kind capacity (Published p item) span = queues.MayPublish item span
   Stands kind capacity (HandedOut p item) span = queues.MayHandOut kind span
-  Stands kind capacity (Acted p start answer) span = IsOpenFor start (λ wrote. moments wrote ≡ []) span
-  Stands kind capacity (Finished p start answer) span = IsOpenFor start (Wrote kind capacity start answer) span
+  Stands kind capacity (Acted p start answer) span =
+      IsOpenFor start (λ wrote. moments wrote ≡ []) span
+  Stands kind capacity (Finished p start answer) span =
+      IsOpenFor start (Wrote kind capacity start answer) span
 
   abbrev pub StandsRight : Kind → ℕ → List (Event T) → Event T → Type 0
   StandsRight kind capacity before e = Stands kind capacity e (span_of (owner e) before)

@@ -22,7 +22,8 @@ ask_of_flight (Some flight) = ask_of (want_of flight)
 
 -- ---- the counts of a call
 
--- one step more where an operation was asked for, at most one turn back more, and what others changed stays
+-- one step more where an operation was asked for, at most one
+-- turn back more, and what others changed stays
 pub record HasGoneOn (asks over : Bool) (old new : Progress) : Type 0 where
   pub steps : new.steps ≡ (if asks then old.steps + 1 else old.steps)
   pub backs : (new.backs ≡ old.backs) ⊎ (new.backs ≡ old.backs + 1)
@@ -63,19 +64,25 @@ module _ {T : Type 0} where
   abbrev pub GoesOn : World T → Turn T → World T → Type 0
   GoesOn old (Begin p start) new = flight_in new p ≡ first_of old.kind old.capacity start
   GoesOn old (Next p) new =
-      IfSome (flight_in old p) (λ flight. StandsAt new p (after_of flight (old_of old.words (ask_of (want_of flight)))))
-  GoesOn old (Decide p said) new = IfSome (flight_in old p) (λ flight. StandsAt new p (after_of flight (number_of said)))
+      IfSome (flight_in old p)
+      (λ flight. StandsAt new p (after_of flight (old_of old.words (ask_of (want_of flight)))))
+  GoesOn old (Decide p said) new =
+      IfSome (flight_in old p) (λ flight. StandsAt new p (after_of flight (number_of said)))
   GoesOn old (Die owner) new = Unit {0}
 
   -- ---- the counts
 
   -- A call that has just begun has taken no step. One that was under way counts its turn.
   abbrev pub CountsTurn : World T → Turn T → World T → Type 0
-  CountsTurn old (Begin p start) new = progress_in new p ≡ Some record { steps = 0; backs = 0; others = 0; finished = false }
+  CountsTurn old (Begin p start) new =
+      progress_in new p ≡ Some record { steps = 0; backs = 0; others = 0; finished = false }
   CountsTurn old (Next p) new =
-      IfSome (flight_in old p) (λ flight. BothGoOn (is_some (ask_in old (Next p))) (is_none (flight_in new p)) (progress_in old p) (progress_in new p))
+      IfSome (flight_in old p)
+      (λ flight. BothGoOn (is_some (ask_in old (Next p))) (is_none (flight_in new p))
+      (progress_in old p) (progress_in new p))
   CountsTurn old (Decide p said) new =
-      IfSome (flight_in old p) (λ flight. BothGoOn false (is_none (flight_in new p)) (progress_in old p) (progress_in new p))
+      IfSome (flight_in old p)
+      (λ flight. BothGoOn false (is_none (flight_in new p)) (progress_in old p) (progress_in new p))
   CountsTurn old (Die owner) new = Unit {0}
 
   -- a call that is under way counts a change of a word's value, and nothing else
@@ -84,7 +91,8 @@ module _ {T : Type 0} where
     pub backs : after.backs ≡ before.backs
     pub finished : after.finished ≡ before.finished
     pub same : new.words ≡ old.words → after.others ≡ before.others
-    pub changed : new.words ≢ old.words → after.others ≡ (if before.finished then before.others else before.others + 1)
+    pub changed : new.words ≢ old.words
+        → after.others ≡ (if before.finished then before.others else before.others + 1)
 
   abbrev pub BothSee : World T → World T → Option Progress → Option Progress → Type 0
   BothSee old new None None = Unit {0}
@@ -93,7 +101,8 @@ module _ {T : Type 0} where
   BothSee old new (Some before) None = ⊥
 
   abbrev pub CountsOthers : World T → Turn T → World T → Type 0
-  CountsOthers old turn new = (q : ℕ) → ¬ IsParty turn q → BothSee old new (progress_in old q) (progress_in new q)
+  CountsOthers old turn new =
+      (q : ℕ) → ¬ IsParty turn q → BothSee old new (progress_in old q) (progress_in new q)
 
   -- ---- the order of what is written down
 

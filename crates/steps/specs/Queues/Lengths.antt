@@ -39,9 +39,13 @@ abbrev pub len_takes : Len → LenStage → ℕ → After Len ℕ
 len_takes call LoadsWrite old = GoOn (at_len call (LoadsRead old))
 len_takes call (LoadsRead write) old = GoOn (at_len call (LoadsWriteAgain write old))
 len_takes call (LoadsWriteAgain write read) old =
-    if old == write then GoOn (at_len call (LoadsReadAgain write read)) else GoOn (first_len call.capacity)
+    if old == write
+    then GoOn (at_len call (LoadsReadAgain write read))
+    else GoOn (first_len call.capacity)
 len_takes call (LoadsReadAgain write read) old =
-    if old == read then Done (number_waiting call.capacity write read) else GoOn (first_len call.capacity)
+    if old == read
+    then Done (number_waiting call.capacity write read)
+    else GoOn (first_len call.capacity)
 
 abbrev pub len_after : Len → ℕ → After Len ℕ
 len_after call old = len_takes call call.stage old

@@ -20,41 +20,52 @@ cell_word capacity position = 4 + position % (capacity + 1)
 
 -- moves the word on from this position
 abbrev pub move : ℕ → ℕ → Want (Unit {0})
-move word position = wants.TheVariants.Ask (record { word = word; op = Exchange position (after_position position) })
+move word position =
+    wants.TheVariants.Ask (record { word = word; op = Exchange position (after_position position) })
 
 -- ---- push
 
 -- without capacity the value is handed back, and no word is asked for
 abbrev pub first_push : ℕ → Push
 first_push capacity =
-    record { capacity = capacity; stage = if capacity == 0 then pushes.TheVariants.HandsBack else pushes.TheVariants.LoadsWrite }
+    record {
+      capacity = capacity;
+      stage = if capacity == 0 then pushes.TheVariants.HandsBack else pushes.TheVariants.LoadsWrite;
+    }
 
 abbrev pub at_push : Push → pushes.PushStage → Push
 at_push call stage = record call { stage = stage }
 
--- load write; load read; store the cell; store write + 1; move read on; load the cell of the old read
+-- load write; load read; store the cell; store write + 1;
+-- move read on; load the cell of the old read
 abbrev pub push_asks : ℕ → pushes.PushStage → ℕ → Want (Unit {0})
 push_asks capacity pushes.TheVariants.HandsBack value = wants.TheVariants.Nothing
 push_asks capacity pushes.TheVariants.LoadsWrite value = load 0
 push_asks capacity (pushes.TheVariants.LoadsRead write) value = load 1
-push_asks capacity (pushes.TheVariants.StoresCell write read) value = store (cell_word capacity write) value
-push_asks capacity (pushes.TheVariants.StoresWrite write read) value = store 0 (after_position write)
+push_asks capacity (pushes.TheVariants.StoresCell write read) value =
+    store (cell_word capacity write) value
+push_asks capacity (pushes.TheVariants.StoresWrite write read) value =
+    store 0 (after_position write)
 push_asks capacity (pushes.TheVariants.MovesRead read) value = move 1 read
 push_asks capacity (pushes.TheVariants.LoadsCell read) value = load (cell_word capacity read)
 
 abbrev pub push_want : Push → ℕ → Want (Unit {0})
 push_want call value = push_asks call.capacity call.stage value
 
--- the queue was full where the read position was so far behind; where it has moved since, there is room
+-- the queue was full where the read position was so far
+-- behind; where it has moved since, there is room
 abbrev pub push_takes : Push → pushes.PushStage → ℕ → After Push PushEnd
 push_takes call pushes.TheVariants.HandsBack old = Done Own
 push_takes call pushes.TheVariants.LoadsWrite old =
     if old == 2 ^ 64 - 1 then Done Own else GoOn (at_push call (pushes.TheVariants.LoadsRead old))
-push_takes call (pushes.TheVariants.LoadsRead write) old = GoOn (at_push call (pushes.TheVariants.StoresCell write old))
+push_takes call (pushes.TheVariants.LoadsRead write) old =
+    GoOn (at_push call (pushes.TheVariants.StoresCell write old))
 push_takes call (pushes.TheVariants.StoresCell write read) old =
     GoOn (at_push call (pushes.TheVariants.StoresWrite write read))
 push_takes call (pushes.TheVariants.StoresWrite write read) old =
-    if distance write read == call.capacity then GoOn (at_push call (pushes.TheVariants.MovesRead read)) else Done Added
+    if distance write read == call.capacity
+    then GoOn (at_push call (pushes.TheVariants.MovesRead read))
+    else Done Added
 push_takes call (pushes.TheVariants.MovesRead read) old =
     if old == read then GoOn (at_push call (pushes.TheVariants.LoadsCell read)) else Done Added
 push_takes call (pushes.TheVariants.LoadsCell read) old = Done Oldest
@@ -95,7 +106,10 @@ push_left (pushes.TheVariants.LoadsCell read) = 0
 
 abbrev pub first_pop : ℕ → Pop
 first_pop capacity =
-    record { capacity = capacity; stage = if capacity == 0 then pops.TheVariants.FindsNone else pops.TheVariants.LoadsRead }
+    record {
+      capacity = capacity;
+      stage = if capacity == 0 then pops.TheVariants.FindsNone else pops.TheVariants.LoadsRead;
+    }
 
 abbrev pub at_pop : Pop → pops.PopStage → Pop
 at_pop call stage = record call { stage = stage }
@@ -117,7 +131,8 @@ pop_takes call pops.TheVariants.FindsNone old = Done false
 pop_takes call pops.TheVariants.LoadsRead old = GoOn (at_pop call (pops.TheVariants.LoadsWrite old))
 pop_takes call (pops.TheVariants.LoadsWrite read) old =
     if old == read then Done false else GoOn (at_pop call (pops.TheVariants.LoadsCell read))
-pop_takes call (pops.TheVariants.LoadsCell read) old = GoOn (at_pop call (pops.TheVariants.MovesRead read))
+pop_takes call (pops.TheVariants.LoadsCell read) old =
+    GoOn (at_pop call (pops.TheVariants.MovesRead read))
 pop_takes call (pops.TheVariants.MovesRead read) old =
     if old == read then Done true else GoOn (at_pop call (pops.TheVariants.LoadsCell old))
 

@@ -38,7 +38,8 @@ module _ {V : Type 0} where
   at_push call stage = record call { stage = stage }
 
   abbrev pub first_push : ℕ → Push V
-  first_push capacity = record { capacity = capacity; stage = pushes.TheVariants.LoadsWrite; of = record {} }
+  first_push capacity =
+      record { capacity = capacity; stage = pushes.TheVariants.LoadsWrite; of = record {} }
 
   -- load write; load read; store the cell, word by word; store write + 1
   abbrev pub push_asks : (V → List ℕ) → pushes.PushStage → V → Want (Unit {0})
@@ -53,11 +54,14 @@ module _ {V : Type 0} where
 
   abbrev pub push_takes : ℕ → Push V → pushes.PushStage → ℕ → After (Push V) Bool
   push_takes size call pushes.TheVariants.LoadsWrite old =
-      if old == 2 ^ 64 - 1 then Done false else GoOn (at_push call (pushes.TheVariants.LoadsRead old))
+      if old == 2 ^ 64 - 1
+      then Done false
+      else GoOn (at_push call (pushes.TheVariants.LoadsRead old))
   push_takes size call (pushes.TheVariants.LoadsRead write) old =
       if call.capacity == 0 || distance write old == call.capacity
       then Done false
-      else GoOn (at_push call (pushes.TheVariants.StoresCell write (cell_word call.capacity size write) 0))
+      else GoOn
+      (at_push call (pushes.TheVariants.StoresCell write (cell_word call.capacity size write) 0))
   push_takes size call (pushes.TheVariants.StoresCell write cell at) old =
       if nat_lt (at + 1) size
       then GoOn (at_push call (pushes.TheVariants.StoresCell write cell (at + 1)))
@@ -94,17 +98,20 @@ module _ {V R : Type 0} where
   at_pop call stage = record call { stage = stage }
 
   abbrev pub first_pop : ℕ → Pop V R
-  first_pop capacity = record { capacity = capacity; stage = pops.TheVariants.LoadsRead; of = record {} }
+  first_pop capacity =
+      record { capacity = capacity; stage = pops.TheVariants.LoadsRead; of = record {} }
 
   abbrev pub pop_want : Pop V R → Want (Unit {0})
   pop_want call = pop_asks call.stage
 
   abbrev pub pop_takes : ℕ → Pop V R → pops.PopStage → ℕ → After (Pop V R) Bool
-  pop_takes size call pops.TheVariants.LoadsRead old = GoOn (at_pop call (pops.TheVariants.LoadsWrite old))
+  pop_takes size call pops.TheVariants.LoadsRead old =
+      GoOn (at_pop call (pops.TheVariants.LoadsWrite old))
   pop_takes size call (pops.TheVariants.LoadsWrite read) old =
       if call.capacity == 0 || old == read
       then Done false
-      else GoOn (at_pop call (pops.TheVariants.LoadsCell read (cell_word call.capacity size read) 0))
+      else GoOn
+      (at_pop call (pops.TheVariants.LoadsCell read (cell_word call.capacity size read) 0))
   pop_takes size call (pops.TheVariants.LoadsCell read cell at) old =
       if nat_lt (at + 1) size
       then GoOn (at_pop call (pops.TheVariants.LoadsCell read cell (at + 1)))

@@ -6,14 +6,15 @@ use crate::ask::{After, Ask, Op, Want};
 use crate::queues::ring::{READ, WRITE};
 use crate::routine::Routine;
 
-/// The number of values that wait, at one moment of the call. Four steps, and at most four more for each turn back.
+/// The number of values that wait, by two positions that were each loaded twice and found the same. Four steps, and at
+/// most four more for each turn back.
 ///
 /// It loads the write position, the read position, the write position again and the read position again. Where the
 /// third load differs from the first (tested before the fourth is asked), or the fourth from the second, it begins
 /// again. Once neither has moved, both stood together at the moment of the second and of the third load. A queue of
 /// capacity 0 has no value, whatever its words say. In an overflowing queue the number can be one more than the
-/// capacity, while a push is between its two moves. After `len`, `is_empty` and `is_full` of the Rust crate's queues, which compare
-/// this number with 0 and the capacity.
+/// capacity, while a push is between its two moves. After `len`, `is_empty` and `is_full` of the
+/// Rust crate's queues, which compare this number with 0 and the capacity.
 #[derive(Debug, Clone, Copy)]
 pub struct Len {
     pub capacity: u32,

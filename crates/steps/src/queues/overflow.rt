@@ -19,8 +19,8 @@ pub fn cell_word(capacity: u32, position: u64) -> usize
     FIRST_CELL + (position % (capacity as u64 + 1)) as usize
 }
 
-/// Appends the value that it is given: None, or Some of the oldest value where the queue was full and it left. At most 6
-/// steps.
+/// Appends the value that it is given: None, or Some of the oldest value where the
+/// queue was full and it left. At most 6 steps.
 ///
 /// It loads the write position (u64::MAX: the value itself, and nothing changes), loads the read position, stores the
 /// cell, and stores the next write position. Where the read position was not `capacity` behind: None. Else it moves the
@@ -58,10 +58,11 @@ pub enum PushEnd {
 
 /// Takes the oldest value, or None where the queue is empty. At most 4 steps, and 2 more for each turn back.
 ///
-/// It loads the read position, loads the write position (the same: None, and nothing changes), loads the cell, and moves
-/// the read position on from where it was. Where a push has moved it, it goes back to the load of the cell, with the
-/// position found. A queue of capacity 0 is empty, and no step is taken. One pop at a time is the caller's concern.
-/// After `pop` of the Rust crate's `SafelyOverflowingIndexQueue`.
+/// It loads the read position, loads the write position (the same: None, and nothing changes),
+/// loads the cell, and moves the read position on from where it was. Where a push has moved it,
+/// it goes back to the load of the cell, with the position found. A queue of capacity 0 is
+/// empty, and no step is taken. One pop at a time is the caller's concern. After `pop` of the
+/// Rust crate's `SafelyOverflowingIndexQueue`.
 #[derive(Debug, Clone, Copy)]
 pub struct Pop {
     pub capacity: u32,
@@ -146,7 +147,8 @@ impl Routine for Push {
 
     ghost answer_of = { λ end given room. push_answer given room.0 end };
 
-    ghost store_tells_nothing = { λ c given room m n t. overflow_push_tells c c.stage given room m n t };
+    ghost store_tells_nothing = { λ c given room m n t.
+        overflow_push_tells c c.stage given room m n t };
 
     #[inline(always)]
     fn ask(self, given: &u64) -> Want<()> {

@@ -39,9 +39,10 @@ pub fn cell_word(capacity: u32, words: u8, position: u64) -> usize
 
 /// Appends the value that it is given: true, or false where the queue is full. At most 3 + `T::WORDS` steps.
 ///
-/// It loads the write position (u64::MAX: false, and nothing changes), loads the read position (`capacity` behind: false,
-/// and nothing changes), stores the value's words into its cell, and stores the next write position. One push at a time
-/// is the caller's concern. After `push` of the Rust crate's `IndexQueue` and `Queue`.
+/// It loads the write position (u64::MAX: false, and nothing changes), loads the read position
+/// (`capacity` behind: false, and nothing changes), stores the value's words into its cell, and
+/// stores the next write position. One push at a time is the caller's concern. After `push` of
+/// the Rust crate's `IndexQueue` and `Queue`.
 #[derive(Debug, Clone, Copy)]
 pub struct Push<T> {
     pub capacity: u32,
@@ -137,7 +138,8 @@ impl<T: Words> Routine for Push<T> {
 
     ghost answer_of = { λ end given room. end };
 
-    ghost store_tells_nothing = { λ c given room m n t. push_tells T.words_of T.WORDS c c.stage given room m n t };
+    ghost store_tells_nothing = { λ c given room m n t.
+        push_tells T.words_of T.WORDS c c.stage given room m n t };
 
     #[inline(always)]
     fn ask(self, given: &T) -> Want<()> {
@@ -236,9 +238,11 @@ impl<T: Words, R: Room<T> + Drop> Routine for Pop<T, R> {
 
     ghost value_of = { λ given room. value_in T.value_of T.WORDS (R.words_in room) };
 
-    ghost answer_of = { λ end given room. pop_answer (value_in T.value_of T.WORDS (R.words_in room)) end };
+    ghost answer_of = { λ end given room.
+        pop_answer (value_in T.value_of T.WORDS (R.words_in room)) end };
 
-    ghost store_tells_nothing = { λ c given room m n t. pop_tells R.with_word T.WORDS c c.stage room m n t };
+    ghost store_tells_nothing = { λ c given room m n t.
+        pop_tells R.with_word T.WORDS c c.stage room m n t };
 
     #[inline(always)]
     fn ask(self, _given: &()) -> Want<()> {

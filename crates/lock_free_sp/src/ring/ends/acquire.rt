@@ -13,7 +13,8 @@ impl<E: Spare, T: Words> Ring<E, T, RingRule<E, T>> {
     /// the Rust crate.
     pub fn acquire_producer(&self, pass: Pass<E, T>) -> Result<Producer<'_, E, T>, Pass<E, T>>
         requires { IsPassOf self.now pass }
-        ensures acquired { IfOk result (λ p. (producer_queue p ≡ queue_of pass) × (producer_view p ≡ with_producer (view pass))) }
+        ensures acquired { IfOk result (λ p. (producer_queue p ≡ queue_of pass)
+            × (producer_view p ≡ with_producer (view pass))) }
         ensures refused { IfErr result (λ p. (queue_of p ≡ queue_of pass) × (view p ≡ view pass)) }
     {
         let Pass { mut token } = pass;
@@ -28,7 +29,8 @@ impl<E: Spare, T: Words> Ring<E, T, RingRule<E, T>> {
     /// the Rust crate.
     pub fn acquire_consumer(&self, pass: Pass<E, T>) -> Result<Consumer<'_, E, T>, Pass<E, T>>
         requires { IsPassOf self.now pass }
-        ensures acquired { IfOk result (λ c. (consumer_queue c ≡ queue_of pass) × (consumer_view c ≡ with_consumer (view pass))) }
+        ensures acquired { IfOk result (λ c. (consumer_queue c ≡ queue_of pass)
+            × (consumer_view c ≡ with_consumer (view pass))) }
         ensures refused { IfErr result (λ p. (queue_of p ≡ queue_of pass) × (view p ≡ view pass)) }
     {
         let Pass { mut token } = pass;
@@ -72,7 +74,8 @@ impl<'a, E: Spare, T: Words> Consumer<'a, E, T> {
         ensures view { consumer_view self.new ≡ joined (consumer_view self.old) (view other) }
         ensures rule { Ruled (consumer_view self.old) (view other) }
         ensures order { IfExact E.SPARE (InOrder (consumer_view self.old) (view other)) }
-        ensures joined { IfExact E.SPARE (InOrder (consumer_view self.new) (consumer_view self.new)) }
+        ensures joined { IfExact E.SPARE
+            (InOrder (consumer_view self.new) (consumer_view self.new)) }
         ensures sound { Sound (consumer_view self.new) }
     {
         let Pass { token } = other;

@@ -37,7 +37,8 @@ impl<E: Spare, T: Words> Ring<E, T, RingRule<E, T>> {
         requires { IsPassOf self.now pass.old }
         ensures queue { queue_of pass.new ≡ queue_of pass.old }
         ensures view { view pass.new ≡ view pass.old }
-        ensures stood { (n : ℕ) × Stood E.SPARE (view pass.old) n × (result ≡ (n == capacity_of self.now)) }
+        ensures stood { (n : ℕ) × Stood E.SPARE (view pass.old) n
+            × (result ≡ (n == capacity_of self.now)) }
     {
         pass.token.len(rt) == self.capacity as u64
     }

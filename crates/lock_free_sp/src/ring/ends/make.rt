@@ -23,7 +23,8 @@ impl<E: Spare, T: Words> Ring<E, T, RingRule<E, T>> {
         ensures pass { IfOk result (λ r. IsPassOf r.0 r.1 × (view r.1 ≡ blank capacity)) }
         ensures capacity { IfOk result (λ r. capacity_of r.0 ≡ capacity) }
         ensures admitted { OnOk result (capacity_refusal 0 (2 ^ 32 - 1) capacity ≡ None) }
-        ensures refused { IfErr result (λ e. (capacity_refusal 0 (2 ^ 32 - 1) capacity ≡ Some e) ⊎ (capacity_refusal 0 (2 ^ 32 - 1) capacity ≡ None) × (e ≡ NoMemory)) }
+        ensures refused { IfErr result (λ e. (capacity_refusal 0 (2 ^ 32 - 1) capacity ≡ Some e)
+            ⊎ (capacity_refusal 0 (2 ^ 32 - 1) capacity ≡ None) × (e ≡ NoMemory)) }
     {
         if let Some(error) = capacity_refusal(capacity as u64, 0, u32::MAX as u64) {
             return Err(error);
@@ -53,7 +54,8 @@ impl<E: Spare, T: Words, const CAPACITY: usize> FixedSize<E, T, RingRule<E, T>, 
     ) -> Result<(FixedSize<E, T, RingRule<E, T>, CAPACITY>, Pass<E, T>), UniqueIndexCreationError>
         ensures pass { IfOk result (λ r. IsPassOf (ring_of r.0) r.1 × (view r.1 ≡ blank CAPACITY)) }
         ensures admitted { OnOk result (capacity_refusal 0 (2 ^ 32 - 1) CAPACITY ≡ None) }
-        ensures refused { IfErr result (λ e. (capacity_refusal 0 (2 ^ 32 - 1) CAPACITY ≡ Some e) ⊎ (capacity_refusal 0 (2 ^ 32 - 1) CAPACITY ≡ None) × (e ≡ NoMemory)) }
+        ensures refused { IfErr result (λ e. (capacity_refusal 0 (2 ^ 32 - 1) CAPACITY ≡ Some e)
+            ⊎ (capacity_refusal 0 (2 ^ 32 - 1) CAPACITY ≡ None) × (e ≡ NoMemory)) }
     {
         let (ring, pass) = Ring::open(alloc, CAPACITY, position)?;
         Ok((FixedSize { ring }, pass))

@@ -14,7 +14,8 @@ impl<E: Spare, T: Words> Pass<E, T> {
     pub fn split(&mut self) -> Option<Pass<E, T>>
         ensures queue { queue_of self.new ≡ queue_of self.old }
         ensures view { view self.new ≡ view self.old }
-        ensures new { IfSome result (λ p. (queue_of p ≡ queue_of self.old) × (view p ≡ blank (view self.old).capacity)) }
+        ensures new { IfSome result
+            (λ p. (queue_of p ≡ queue_of self.old) × (view p ≡ blank (view self.old).capacity)) }
     {
         let token = self.token.split()?;
         Some(Pass { token })

@@ -47,8 +47,10 @@ impl<T: Words> UnrestrictedAtomic<T> {
     /// the Rust crate.
     pub fn acquire_producer(&self, pass: Pass<T>) -> Result<Producer<'_, T>, Pass<T>>
         requires { IsPassOf self.now pass }
-        ensures acquired { IfOk result (λ p. (value_of_producer p ≡ value_of_pass pass) × (producer_view p ≡ with_producer (view pass))) }
-        ensures refused { IfErr result (λ p. (value_of_pass p ≡ value_of_pass pass) × (view p ≡ view pass)) }
+        ensures acquired { IfOk result (λ p. (value_of_producer p ≡ value_of_pass pass)
+            × (producer_view p ≡ with_producer (view pass))) }
+        ensures refused { IfErr result
+            (λ p. (value_of_pass p ≡ value_of_pass pass) × (view p ≡ view pass)) }
     {
         let Pass { mut token } = pass;
         if token.take_producer() {
@@ -74,7 +76,8 @@ impl<T: Words> Pass<T> {
     pub fn split(&mut self) -> Option<Pass<T>>
         ensures value { value_of_pass self.new ≡ value_of_pass self.old }
         ensures view { view self.new ≡ view self.old }
-        ensures new { IfSome result (λ p. (value_of_pass p ≡ value_of_pass self.old) × (view p ≡ blank)) }
+        ensures new { IfSome result
+            (λ p. (value_of_pass p ≡ value_of_pass self.old) × (view p ≡ blank)) }
     {
         let token = self.token.split()?;
         Some(Pass { token })
@@ -98,7 +101,8 @@ impl<'a, T: Words> Producer<'a, T> {
     /// of the Rust crate.
     pub fn store(&mut self, value: T) -> bool
         ensures value { value_of_producer self.new ≡ value_of_producer self.old }
-        ensures stored { IsTrue result → HasStored value (producer_view self.old) (producer_view self.new) }
+        ensures stored { IsTrue result
+            → HasStored value (producer_view self.old) (producer_view self.new) }
         ensures end { IsFalse result → WasAtEnd (producer_view self.old) (producer_view self.new) }
     {
         self.token.store(&value)

@@ -56,18 +56,22 @@ fresh = record { 0 = 0 }
 
 abbrev pub push_of : Kind → ℕ → ℕ → QueueFlight
 push_of kinds.TheVariants.IndexQueue capacity index =
-    Indices (rings.TheVariants.Push (record { call = first_push capacity; given = index; room = tt }))
+    Indices (rings.TheVariants.Push
+    (record { call = first_push capacity; given = index; room = tt }))
 push_of kinds.TheVariants.Overflow capacity index =
-    Overflow (overflows.TheVariants.Push (record { call = overflow.first_push capacity; given = index; room = fresh }))
+    Overflow (overflows.TheVariants.Push
+    (record { call = overflow.first_push capacity; given = index; room = fresh }))
 
 abbrev pub pop_of : Kind → ℕ → QueueFlight
 pop_of kinds.TheVariants.IndexQueue capacity =
     Indices (rings.TheVariants.Pop (record { call = first_pop capacity; given = tt; room = fresh }))
 pop_of kinds.TheVariants.Overflow capacity =
-    Overflow (overflows.TheVariants.Pop (record { call = overflow.first_pop capacity; given = tt; room = fresh }))
+    Overflow (overflows.TheVariants.Pop
+    (record { call = overflow.first_pop capacity; given = tt; room = fresh }))
 
 abbrev pub length_of : LengthOf → ℕ → QueueFlight
-length_of which capacity = Length which (record { call = first_len capacity; given = tt; room = tt })
+length_of which capacity =
+    Length which (record { call = first_len capacity; given = tt; room = tt })
 
 module _ {T : Type 0} where
   -- the call that begins, or None where the kind has no such call
@@ -80,8 +84,10 @@ module _ {T : Type 0} where
   first kind capacity (starts.TheVariants.Push value) = None
   first kind capacity starts.TheVariants.Pop = Some (pop_of kind capacity)
   first kind capacity starts.TheVariants.Len = Some (length_of measures.TheVariants.Len capacity)
-  first kind capacity starts.TheVariants.IsEmpty = Some (length_of measures.TheVariants.IsEmpty capacity)
-  first kind capacity starts.TheVariants.IsFull = Some (length_of measures.TheVariants.IsFull capacity)
+  first kind capacity starts.TheVariants.IsEmpty =
+      Some (length_of measures.TheVariants.IsEmpty capacity)
+  first kind capacity starts.TheVariants.IsFull =
+      Some (length_of measures.TheVariants.IsFull capacity)
 
 -- ---- the calls under way
 
@@ -103,14 +109,16 @@ popped (Some index) = answers.TheVariants.PoppedIndex index
 abbrev pub length_answer : {T : Type 0} → LengthOf → ℕ → ℕ → Answer T
 length_answer measures.TheVariants.Len capacity number = answers.TheVariants.Number number
 length_answer measures.TheVariants.IsEmpty capacity number = answers.TheVariants.Truth (number == 0)
-length_answer measures.TheVariants.IsFull capacity number = answers.TheVariants.Truth (number == capacity)
+length_answer measures.TheVariants.IsFull capacity number =
+    answers.TheVariants.Truth (number == capacity)
 
 -- 1 where the call begins a turn of its loop again once it is handed this old value
 abbrev pub back : QueueFlight → ℕ → ℕ
 back (Role call) old = 0
 back (Indices call) old = 0
 back (Overflow (overflows.TheVariants.Push run)) old = 0
-back (Overflow (overflows.TheVariants.Pop run)) old = if overflow.goes_back run.call.stage old then 1 else 0
+back (Overflow (overflows.TheVariants.Pop run)) old =
+    if overflow.goes_back run.call.stage old then 1 else 0
 back (Length which run) old = if turns_back run.call.stage old then 1 else 0
 
 -- an end that is the answer
@@ -121,19 +129,26 @@ module _ {T : Type 0} where
   -- how it goes on from the old value of its word
   abbrev pub after : QueueFlight → ℕ → After QueueFlight (Answer T)
   after (Role (Acquire run)) old =
-      as_call (λ r. Role (Acquire r)) answers.TheVariants.Truth (went_on as_it_is run.given run.room (acquire_after run.call old))
+      as_call (λ r. Role (Acquire r)) answers.TheVariants.Truth
+      (went_on as_it_is run.given run.room (acquire_after run.call old))
   after (Role (Release run)) old =
-      as_call (λ r. Role (Release r)) (λ _. answers.TheVariants.Done) (went_on as_it_is run.given run.room (release_after run.call old))
+      as_call (λ r. Role (Release r)) (λ _. answers.TheVariants.Done)
+      (went_on as_it_is run.given run.room (release_after run.call old))
   after (Indices (rings.TheVariants.Push run)) old =
-      as_call (λ r. Indices (rings.TheVariants.Push r)) answers.TheVariants.Truth (went_on as_it_is run.given run.room (push_after 1 run.call old))
+      as_call (λ r. Indices (rings.TheVariants.Push r)) answers.TheVariants.Truth
+      (went_on as_it_is run.given run.room (push_after 1 run.call old))
   after (Indices (rings.TheVariants.Pop run)) old =
       as_call (λ r. Indices (rings.TheVariants.Pop r)) popped
-      (went_on (λ end given room. pop_answer room.0 end) run.given (pop_kept kept_in_one run.call run.room old) (pop_after 1 run.call old))
+      (went_on (λ end given room. pop_answer room.0 end) run.given
+      (pop_kept kept_in_one run.call run.room old) (pop_after 1 run.call old))
   after (Overflow (overflows.TheVariants.Push run)) old =
       as_call (λ r. Overflow (overflows.TheVariants.Push r)) popped
-      (went_on (λ end given room. overflow.push_answer given room.0 end) run.given (overflow.push_kept run.call run.room old) (overflow.push_after run.call old))
+      (went_on (λ end given room. overflow.push_answer given room.0 end) run.given
+      (overflow.push_kept run.call run.room old) (overflow.push_after run.call old))
   after (Overflow (overflows.TheVariants.Pop run)) old =
       as_call (λ r. Overflow (overflows.TheVariants.Pop r)) popped
-      (went_on (λ end given room. overflow.pop_answer room.0 end) run.given (overflow.pop_kept run.call run.room old) (overflow.pop_after run.call old))
+      (went_on (λ end given room. overflow.pop_answer room.0 end) run.given
+      (overflow.pop_kept run.call run.room old) (overflow.pop_after run.call old))
   after (Length which run) old =
-      as_call (λ r. Length which r) (length_answer which run.call.capacity) (went_on as_it_is run.given run.room (len_after run.call old))
+      as_call (λ r. Length which r) (length_answer which run.call.capacity)
+      (went_on as_it_is run.given run.room (len_after run.call old))

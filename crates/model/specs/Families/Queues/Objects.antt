@@ -21,7 +21,8 @@ module _ {T : Type 0} where
   -- ---- the bounded list
 
   abbrev pub appended : ℕ → List (Item T) → Item T → List (Item T)
-  appended capacity items item = if nat_lt (length items) capacity then items ++ item ∷ [] else items
+  appended capacity items item =
+      if nat_lt (length items) capacity then items ++ item ∷ [] else items
 
   abbrev pub list_after : ℕ → List (Item T) → Start T → List (Item T)
   list_after capacity items (Queues (PushIndex index)) = appended capacity items (Index index)
@@ -30,15 +31,18 @@ module _ {T : Type 0} where
   list_after capacity items other = items
 
   abbrev pub list_answer : ℕ → List (Item T) → Start T → Answer T
-  list_answer capacity items (Queues (PushIndex index)) = answers.TheVariants.Truth (nat_lt (length items) capacity)
-  list_answer capacity items (Queues (Push value)) = answers.TheVariants.Truth (nat_lt (length items) capacity)
+  list_answer capacity items (Queues (PushIndex index)) =
+      answers.TheVariants.Truth (nat_lt (length items) capacity)
+  list_answer capacity items (Queues (Push value)) =
+      answers.TheVariants.Truth (nat_lt (length items) capacity)
   list_answer capacity items (Queues Pop) = answer_of_item (slice_get items 0)
   list_answer capacity items other = answers.TheVariants.Done
 
-  -- Push appends and answers true where the length is below the capacity, else it answers false and changes nothing.
-  -- Pop takes the front, or answers None.
+  -- Push appends and answers true where the length is below the capacity, else it answers false and
+  -- changes nothing. Pop takes the front, or answers None.
   abbrev pub bounded_list : ℕ → Object T (List (Item T))
-  bounded_list capacity = record { opening = []; after = list_after capacity; answer = list_answer capacity }
+  bounded_list capacity =
+      record { opening = []; after = list_after capacity; answer = list_answer capacity }
 
   -- ---- the overflowing list
 
@@ -51,19 +55,22 @@ module _ {T : Type 0} where
   cut_off capacity items = if nat_lt capacity (length items) then slice_get items 0 else None
 
   abbrev pub overflow_after : ℕ → List (Item T) → Start T → List (Item T)
-  overflow_after capacity items (Queues (PushIndex index)) = cut capacity (items ++ Index index ∷ [])
+  overflow_after capacity items (Queues (PushIndex index)) =
+      cut capacity (items ++ Index index ∷ [])
   overflow_after capacity items (Queues (Push value)) = cut capacity (items ++ Value value ∷ [])
   overflow_after capacity items (Queues Pop) = drop 1 items
   overflow_after capacity items other = items
 
   abbrev pub overflow_answer : ℕ → List (Item T) → Start T → Answer T
-  overflow_answer capacity items (Queues (PushIndex index)) = answer_of_item (cut_off capacity (items ++ Index index ∷ []))
-  overflow_answer capacity items (Queues (Push value)) = answer_of_item (cut_off capacity (items ++ Value value ∷ []))
+  overflow_answer capacity items (Queues (PushIndex index)) =
+      answer_of_item (cut_off capacity (items ++ Index index ∷ []))
+  overflow_answer capacity items (Queues (Push value)) =
+      answer_of_item (cut_off capacity (items ++ Value value ∷ []))
   overflow_answer capacity items (Queues Pop) = answer_of_item (slice_get items 0)
   overflow_answer capacity items other = answers.TheVariants.Done
 
-  -- Push appends, and where the length then passes the capacity the front leaves and is answered, else None.
-  -- Pop takes the front, or answers None.
+  -- Push appends, and where the length then passes the capacity the front leaves and is answered,
+  -- else None. Pop takes the front, or answers None.
   abbrev pub overflowing_list : ℕ → Object T (List (Item T))
   overflowing_list capacity =
       record { opening = []; after = overflow_after capacity; answer = overflow_answer capacity }

@@ -8,12 +8,15 @@ use Rattle.model.specs.declared.families.queues.QueueStart.TheVariants.{AcquireP
 use Rattle.model.specs.Families.Queues.Reading.{producer_of, consumer_of}
 
 module _ {T : Type 0} where
-  -- An acquire answers true where nobody holds the role, and false where somebody does. Its holder gives it back.
+  -- An acquire answers true where nobody holds the role, and false where
+  -- somebody does. Its holder gives it back.
   abbrev pub GrantsRight : List (Event T) → Event T → Type 0
   GrantsRight before (Finished p (Queues AcquireProducer) (Truth true)) = producer_of before ≡ None
-  GrantsRight before (Finished p (Queues AcquireProducer) (Truth false)) = IsSome (producer_of before)
+  GrantsRight before (Finished p (Queues AcquireProducer) (Truth false)) =
+      IsSome (producer_of before)
   GrantsRight before (Finished p (Queues ReleaseProducer) answer) = producer_of before ≡ Some p
   GrantsRight before (Finished p (Queues AcquireConsumer) (Truth true)) = consumer_of before ≡ None
-  GrantsRight before (Finished p (Queues AcquireConsumer) (Truth false)) = IsSome (consumer_of before)
+  GrantsRight before (Finished p (Queues AcquireConsumer) (Truth false)) =
+      IsSome (consumer_of before)
   GrantsRight before (Finished p (Queues ReleaseConsumer) answer) = consumer_of before ≡ Some p
   GrantsRight before e = Unit {0}

@@ -23,7 +23,8 @@ module _ {T : Type 0} where
   moments_of Pop answer = (Queues Pop, answer) ∷ []
   moments_of other answer = []
 
-  -- a value that goes through the cells; an overflowing queue without capacity hands it back at once
+  -- a value that goes through the cells; an overflowing
+  -- queue without capacity hands it back at once
   abbrev pub through_cells : Kind → ℕ → Item T → List (Item T)
   through_cells IndexQueue capacity item = item ∷ []
   through_cells Overflow zero item = []
@@ -36,8 +37,10 @@ module _ {T : Type 0} where
   published_by_push Overflow capacity item answer = through_cells Overflow capacity item
 
   abbrev pub published_by : Kind → ℕ → QueueStart T → Answer T → List (Item T)
-  published_by kind capacity (PushIndex index) answer = published_by_push kind capacity (Index index) answer
-  published_by kind capacity (Push value) answer = published_by_push kind capacity (Value value) answer
+  published_by kind capacity (PushIndex index) answer =
+      published_by_push kind capacity (Index index) answer
+  published_by kind capacity (Push value) answer =
+      published_by_push kind capacity (Value value) answer
   published_by kind capacity start answer = []
 
   -- the values that it handed out
@@ -47,7 +50,8 @@ module _ {T : Type 0} where
   handed_out_by kind capacity answer = []
 
   -- what a finished call has written in its span
-  pub record Wrote (kind : Kind) (capacity : ℕ) (start : QueueStart T) (answer : Answer T) (wrote : List (Event T)) : Type 0 where
+  pub record Wrote (kind : Kind) (capacity : ℕ) (start : QueueStart T) (answer : Answer T)
+      (wrote : List (Event T)) : Type 0 where
     pub moments : moments wrote ≡ moments_of start answer
     pub published : published wrote ≡ published_by kind capacity start answer
     pub handed_out : handed_out wrote ≡ handed_out_by kind capacity answer

@@ -30,14 +30,17 @@ use Rattle.model.specs.Families.Queues.Opening.{holds}
 use Rattle.model.specs.Parties.{party_of, doing_of, flight_of}
 use Rattle.model.specs.Step.{Step, answer_in}
 
--- ---- a push that has published over a full queue, and acts once the read position goes on from here
+-- ---- a push that has published over a full queue, and acts once the read position goes on
 
 abbrev pub pending_from : ℕ → ℕ → overflow_pushes.PushStage → Option ℕ
-pending_from position value (overflow_pushes.TheVariants.MovesRead read) = if read == position then Some value else None
+pending_from position value (overflow_pushes.TheVariants.MovesRead read) =
+    if read == position then Some value else None
 pending_from position value other = None
 
 abbrev pub pending_at : ℕ → Option Flight → Option ℕ
-pending_at position (Some (flights.TheVariants.Queues (Overflow (overflows.TheVariants.Push run)))) = pending_from position run.given run.call.stage
+pending_at position
+    (Some (flights.TheVariants.Queues (Overflow (overflows.TheVariants.Push run)))) =
+    pending_from position run.given run.call.stage
 pending_at position other = None
 
 module _ {T : Type 0} where
@@ -45,12 +48,16 @@ module _ {T : Type 0} where
   abbrev pub pending : ℕ → Option ℕ → List (ℕ × Party T) → Option (ℕ × ℕ)
   pending position None latest = None
   pending position (Some p) latest =
-      option_map (λ value. (p, value)) (pending_at position (flight_of (doing_of (party_of p latest))))
+      option_map (λ value. (p, value))
+      (pending_at position (flight_of (doing_of (party_of p latest))))
 
-  -- the push that acts where this party moves the read position, which the consumer alone can do by a pop
+  -- the push that acts where this party moves the read position,
+  -- which the consumer alone can do by a pop
   abbrev pub beside : Roles → List ℕ → List (ℕ × Party T) → ℕ → Option (ℕ × ℕ)
   beside roles words latest p =
-      if holds roles.consumer p then pending (slice_index words read_word) roles.producer latest else None
+      if holds roles.consumer p
+      then pending (slice_index words read_word) roles.producer latest
+      else None
 
   -- ---- what the next step of a call does
 
@@ -62,21 +69,24 @@ module _ {T : Type 0} where
   push_effect item (pushes.TheVariants.StoresCell write cell at) = Quiet
   push_effect item (pushes.TheVariants.StoresWrite write) = Publishes item
 
-  -- None is settled by the load of the write position, the value that was read by the store of the read position
+  -- None is settled by the load of the write position, the value that
+  -- was read by the store of the read position
   abbrev pub pop_effect : Item T → pops.PopStage → Effect T
   pop_effect item pops.TheVariants.LoadsRead = Quiet
   pop_effect item (pops.TheVariants.LoadsWrite read) = Acts
   pop_effect item (pops.TheVariants.LoadsCell read cell at) = Quiet
   pop_effect item (pops.TheVariants.StoresRead read) = HandsOut item
 
-  -- A push that found the queue full waits for the read position to go on: it acts at its own move, or where a pop moves it first.
-  -- Where it has gone on already, there is room.
+  -- A push that found the queue full waits for the read position to go on: it acts at its own move,
+  -- or where a pop moves it first. Where it has gone on already, there is room.
   abbrev pub overflow_push_effect : List ℕ → ℕ → Item T → overflow_pushes.PushStage → ℕ → Effect T
   overflow_push_effect words capacity item overflow_pushes.TheVariants.HandsBack old = Acts
   overflow_push_effect words capacity item overflow_pushes.TheVariants.LoadsWrite old = Quiet
   overflow_push_effect words capacity item (overflow_pushes.TheVariants.LoadsRead write) old = Quiet
-  overflow_push_effect words capacity item (overflow_pushes.TheVariants.StoresCell write read) old = Quiet
-  overflow_push_effect words capacity item (overflow_pushes.TheVariants.StoresWrite write read) old =
+  overflow_push_effect words capacity item (overflow_pushes.TheVariants.StoresCell write read) old =
+      Quiet
+  overflow_push_effect words capacity item
+      (overflow_pushes.TheVariants.StoresWrite write read) old =
       if distance write read == capacity && not (slice_index words read_word == read)
       then PublishesAndActs item
       else Publishes item
@@ -89,18 +99,23 @@ module _ {T : Type 0} where
   takes_effect item None = HandsOut item
   takes_effect item (Some push) = MakesRoom item push.0 push.1
 
-  abbrev pub overflow_pop_effect : List ℕ → Option (ℕ × ℕ) → ℕ → overflow_pops.PopStage → ℕ → Effect T
+  abbrev pub overflow_pop_effect : List ℕ → Option (ℕ × ℕ) → ℕ
+      → overflow_pops.PopStage → ℕ → Effect T
   overflow_pop_effect words push capacity overflow_pops.TheVariants.FindsNone old = Acts
   overflow_pop_effect words push capacity overflow_pops.TheVariants.LoadsRead old = Quiet
   overflow_pop_effect words push capacity (overflow_pops.TheVariants.LoadsWrite read) old = Acts
   overflow_pop_effect words push capacity (overflow_pops.TheVariants.LoadsCell read) old = Quiet
   overflow_pop_effect words push capacity (overflow_pops.TheVariants.MovesRead read) old =
-      if old == read then takes_effect (Index (slice_index words (cell_word capacity read))) push else Quiet
+      if old == read
+      then takes_effect (Index (slice_index words (cell_word capacity read))) push
+      else Quiet
 
   abbrev pub effect_of : List ℕ → Option (ℕ × ℕ) → QueueFlight → ℕ → Effect T
   effect_of words push (Role call) old = Quiet
-  effect_of words push (Indices (rings.TheVariants.Push run)) old = push_effect (Index run.given) run.call.stage
-  effect_of words push (Indices (rings.TheVariants.Pop run)) old = pop_effect (Index run.room.0) run.call.stage
+  effect_of words push (Indices (rings.TheVariants.Push run)) old =
+      push_effect (Index run.given) run.call.stage
+  effect_of words push (Indices (rings.TheVariants.Pop run)) old =
+      pop_effect (Index run.room.0) run.call.stage
   effect_of words push (Overflow (overflows.TheVariants.Push run)) old =
       overflow_push_effect words run.call.capacity (Index run.given) run.call.stage old
   effect_of words push (Overflow (overflows.TheVariants.Pop run)) old =
@@ -118,12 +133,14 @@ module _ {T : Type 0} where
   effects_of p start Quiet outcome = []
   effects_of p start Acts outcome = acts_if_done p start outcome
   effects_of p start (Publishes item) outcome = Published p item ∷ acts_if_done p start outcome
-  effects_of p start (PublishesAndActs item) outcome = Published p item ∷ Acted p (Queues start) PoppedNone ∷ []
+  effects_of p start (PublishesAndActs item) outcome =
+      Published p item ∷ Acted p (Queues start) PoppedNone ∷ []
   effects_of p start (HandsOut item) outcome = HandedOut p item ∷ acts_if_done p start outcome
   effects_of p start (TakesOut index) outcome =
       HandedOut p (Index index) ∷ Acted p (Queues start) (PoppedIndex index) ∷ []
   effects_of p start (MakesRoom item q pushed) outcome =
-      HandedOut p item ∷ (acts_if_done p start outcome ++ Acted q (Queues (PushIndex pushed)) PoppedNone ∷ [])
+      HandedOut p item
+      ∷ (acts_if_done p start outcome ++ Acted q (Queues (PushIndex pushed)) PoppedNone ∷ [])
 
   -- ---- the roles: held from the end of an acquire that answers true to the end of the giving back
 
@@ -136,11 +153,13 @@ module _ {T : Type 0} where
 
   -- ---- all that a step comes to
 
-  abbrev pub step : List ℕ → Option (ℕ × ℕ) → ℕ → QueueStart T → QueueFlight → ℕ → Roles → Step QueueFlight Roles T
+  abbrev pub step : List ℕ → Option (ℕ × ℕ) → ℕ → QueueStart T → QueueFlight → ℕ → Roles
+      → Step QueueFlight Roles T
   step words waits p start flight old roles =
       record {
         after = after flight old;
         back = back flight old;
-        wrote = effects_of p start (effect_of words waits flight old) (answer_in (after {T = T} flight old));
+        wrote = effects_of p start (effect_of words waits flight old)
+            (answer_in (after {T = T} flight old));
         kept = roles_after p start (answer_in (after flight old)) roles;
       }

@@ -1,6 +1,6 @@
 //! The calls of the queues under way: what each wants, and how it goes on.
-ghost use Rattle.std.specs.Prelude.{◌≡◌, MatchOption};
-ghost use Rattle.steps.specs.declared.ask.After.TheVariants.{GoOn, Done};
+ghost use Rattle.std.specs.Prelude.{◌≡◌};
+ghost use Rattle.steps.specs.Ask.{CameTo};
 ghost use Rattle.model.specs.Families.Queues.Calls.{acquire_of, release_of, push_of, pop_of, length_of, first, want, after, back, popped, length_answer};
 
 use super::QueueStart;
@@ -193,7 +193,7 @@ impl QueueFlight {
 
     /// Lets the call go on from an answer, where it lies: its own answer, where it is done.
     pub fn resume<T: Copy>(&mut self, answer: u64) -> Option<Answer<T>>
-        ensures { MatchOption result (after {T = T} self.old answer ≡ GoOn self.new) (λ a. after self.old answer ≡ Done a) }
+        ensures { CameTo result self.new (after self.old answer) }
     {
         match self {
             QueueFlight::Role(RoleCall::Acquire(run)) => {

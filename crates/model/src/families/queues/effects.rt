@@ -1,7 +1,6 @@
 //! What a step of a call writes down.
 ghost use Rattle.std.specs.Prelude.{◌≡◌, ◌+◌, ◌≤◌, ◌<◌, ◌++◌, vec_len, vec_capacity, option_copied};
-ghost use Rattle.std.specs.Prelude.{MatchOption};
-ghost use Rattle.steps.specs.declared.ask.After.TheVariants.{GoOn, Done};
+ghost use Rattle.steps.specs.Ask.{CameTo};
 ghost use Rattle.model.specs.Families.Queues.Steps.{pending_at, pending, beside, push_effect, pop_effect, overflow_push_effect, overflow_pop_effect, effect_of, acts_if_done, effects_of, roles_after, step};
 
 use super::calls::{OverflowCall, QueueFlight, RingCall};
@@ -295,10 +294,14 @@ impl QueueFlight {
         events: &mut Vec<Event<T>>,
     ) -> Went<T>
         requires { vec_len events.old + MOST_EFFECTS ≤ vec_capacity events.old }
-        ensures after { MatchOption result.done ((step words.now.items waits number start.now self.old answer roles.old).after ≡ GoOn self.new) (λ a. (step words.now.items waits number start.now self.old answer roles.old).after ≡ Done a) }
-        ensures back { result.back ≡ (step words.now.items waits number start.now self.old answer roles.old).back }
-        ensures kept { roles.new ≡ (step words.now.items waits number start.now self.old answer roles.old).kept }
-        ensures wrote { events.new.items ≡ events.old.items ++ (step words.now.items waits number start.now self.old answer roles.old).wrote }
+        ensures after { CameTo result.done self.new
+            (step words.now.items waits number start.now self.old answer roles.old).after }
+        ensures back { result.back
+            ≡ (step words.now.items waits number start.now self.old answer roles.old).back }
+        ensures kept { roles.new
+            ≡ (step words.now.items waits number start.now self.old answer roles.old).kept }
+        ensures wrote { events.new.items ≡ events.old.items
+            ++ (step words.now.items waits number start.now self.old answer roles.old).wrote }
         ensures few { vec_len events.new ≤ vec_len events.old + MOST_EFFECTS }
         ensures room { vec_capacity events.new ≡ vec_capacity events.old }
     {
