@@ -50,8 +50,8 @@ pub enum StoreStage {
     AddsVersion,
 }
 
-/// The value, by way of a room R, which counts where the version is found unchanged at the last step. At most 2 + `T::WORDS` steps, and 1 + `T::WORDS` more
-/// for each turn back.
+/// The value, by way of a room R, which counts where the version is found unchanged at the last step. At most
+/// 2 + `T::WORDS` steps, and 1 + `T::WORDS` more for each turn back.
 ///
 /// It loads the version, loads the words of that version's cell, in their order, and exchanges the version for itself:
 /// where it has not moved, the answer is the value of the words that were loaded. Else it goes back to the loads of the
