@@ -43,7 +43,7 @@ impl<T: Words> Machine<T> {
     ghost use Rattle.model.specs.Refusals.{refusal_of, IsRefusal, is_going};
     ghost use Rattle.model.specs.Turns.{after_turn, after_turns, AreAllowed};
     ghost use Rattle.model.specs.Promises.{IsKept, AreTurns};
-    ghost use Rattle.model.specs.Promises.Turns.{WritesOneWord, GoesOn, CountsTurn, CountsOthers, WritesDown};
+    ghost use Rattle.model.specs.Promises.Turns.{IsOneTurnLater, WritesOneWord, GoesOn, CountsTurn, CountsOthers, WritesDown};
 
     /// A structure that is empty, with both roles free, and this many parties, numbered from 0. Room for a party
     /// is made as it first begins a call.
@@ -79,6 +79,7 @@ impl<T: Words> Machine<T> {
         ensures ok { OnOk result (self.new ≡ after_turn self.old turn) }
 
         // The same, in its own words.
+        ensures later { OnOk result (IsOneTurnLater self.old.world self.new.world) }
         ensures word { OnOk result (WritesOneWord self.old.world turn self.new.world) }
         ensures call { OnOk result (GoesOn self.old.world turn self.new.world) }
         ensures counts { OnOk result (CountsTurn self.old.world turn self.new.world) }

@@ -220,6 +220,19 @@ fn progress_counts_steps_and_the_changes_of_others(rt: HostRuntime) -> Result<()
 }
 
 #[test]
+fn a_role_that_is_held_is_refused_by_false(rt: HostRuntime) -> Result<(), Fail> {
+    let mut machine = with_roles(&rt, 1)?;
+    for (party, start) in [
+        (1, Start::Queues(QueueStart::AcquireProducer)),
+        (0, Start::Queues(QueueStart::AcquireConsumer)),
+    ] {
+        calls(&mut machine, party, start, 1)?;
+        assert_eq!(rt; last_answer(&machine), Some(Answer::Truth(false)));
+    }
+    Ok(())
+}
+
+#[test]
 fn a_refused_turn_changes_nothing(rt: HostRuntime) -> Result<(), Fail> {
     let alloc = rt.alloc();
     let mut machine: Machine<u128> = Machine::new(alloc, Kind::IndexQueue, 1, 2)?;
@@ -234,6 +247,11 @@ fn a_refused_turn_changes_nothing(rt: HostRuntime) -> Result<(), Fail> {
     let rows = [
         (
             Turn::Begin(0, Start::Queues(QueueStart::Pop)),
+            Refusal::Busy,
+        ),
+        // Busy comes before a call that the kind does not have, and both before the role.
+        (
+            Turn::Begin(0, Start::Queues(QueueStart::Push(1))),
             Refusal::Busy,
         ),
         (Turn::Next(1), Refusal::Idle),

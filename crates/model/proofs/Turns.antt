@@ -23,7 +23,7 @@ use Rattle.model.specs.declared.turn.Turn.{Turn}
 use Rattle.model.specs.declared.turn.Turn.TheVariants.{Begin, Next, Decide, Die}
 use Rattle.model.specs.Families.{first_of, want_of, ask_of, after_of, beside_of, step_of}
 use Rattle.model.specs.Parties.{party_of, doing_of, flight_of, progress_after}
-use Rattle.model.specs.Promises.Turns.{ask_of_flight, WritesOneWord, StandsAt, GoesOn, BothGoOn, CountsTurn, BothSee, CountsOthers}
+use Rattle.model.specs.Promises.Turns.{IsOneTurnLater, ask_of_flight, WritesOneWord, StandsAt, GoesOn, BothGoOn, CountsTurn, BothSee, CountsOthers}
 use Rattle.model.specs.Refusals.{refusal_of}
 use Rattle.model.specs.Small.{HasSmallCount, IsSmall}
 use Rattle.model.specs.Step.{Step}
@@ -31,7 +31,8 @@ use Rattle.model.specs.Turns.{old_of, words_after, change_of, step_count, ask_of
 use Rattle.model.specs.World.{World, flight_in, progress_in}
 use Rattle.model.proofs.Counts.{back_small}
 use Rattle.model.proofs.Parties.{party_put_same, party_put_other}
-use Rattle.model.proofs.Rows.{may_begin}
+use Rattle.model.proofs.Reached.{turn_making}
+use Rattle.model.proofs.Rows.{may_begin, may_next, may_decide, never_dies}
 
 later : (changes since change : ℕ) → (changes + change) - (since + change) ≡ changes - since
 later changes since change = omega arith
@@ -84,6 +85,40 @@ module _ {T : Type 0} where
   -- how a call goes on is told by its table alone
   pub step_after : (words : List ℕ) (beside : Beside) (p : ℕ) (start : Start T) (flight : Flight) (old : ℕ) (kept : Kept) → (step_of words beside p start flight old kept).after ≡ after_of flight old
   step_after words (besides.TheVariants.Queues waits) p (starts.TheVariants.Queues start) (flights.TheVariants.Queues flight) old (kepts.TheVariants.Queues roles) = refl
+
+  -- ---- the machine
+
+  same_but_turns : (w : World T) (turn : Turn T) → (world_after w turn).turns ≡ w.turns + 1 → IsOneTurnLater w (world_after w turn)
+  same_but_turns w turn e =
+      let making = turn_making w turn in
+      record { kind = making.kind; capacity = making.capacity; parties = making.parties; turns = e }
+
+  begin_turns : (w : World T) (p : ℕ) (start : Start T) (o : Option Flight) → is_none o ≡ false → (after_begin w p start o).turns ≡ w.turns + 1
+  begin_turns w p start None e = absurd (cc)
+  begin_turns w p start (Some flight) e = refl
+
+  answer_turns : (w : World T) (p : ℕ) (x : Party T) (ask : Option Ask) (answer : ℕ) (flight : Flight) (doing : Doing) → flight_of (Some doing) ≡ Some flight → (after_answer w p x ask answer doing).turns ≡ w.turns + 1
+  answer_turns w p x ask answer flight (Over others) e = absurd (cc)
+  answer_turns w p x ask answer flight (Going going since) e = refl
+
+  next_turns : (w : World T) (p : ℕ) (flight : Flight) (o : Option (Party T)) → flight_of (doing_of o) ≡ Some flight → (after_next w p o).turns ≡ w.turns + 1
+  next_turns w p flight None e = absurd (cc)
+  next_turns w p flight (Some x) e = answer_turns w p x (ask_of_doing x.doing) (old_of w.words (ask_of_doing x.doing)) flight x.doing e
+
+  decision_turns : (w : World T) (p : ℕ) (said : Bool) (flight : Flight) (o : Option (Party T)) → flight_of (doing_of o) ≡ Some flight → (after_decision w p said o).turns ≡ w.turns + 1
+  decision_turns w p said flight None e = absurd (cc)
+  decision_turns w p said flight (Some x) e = answer_turns w p x None (number_of said) flight x.doing e
+
+  pub one_turn_later : (w : World T) (turn : Turn T) → refusal_of w turn ≡ None → IsOneTurnLater w (world_after w turn)
+  one_turn_later w (Begin p start) e =
+      same_but_turns w (Begin p start) (begin_turns w p start (first_of w.kind w.capacity start) (may_begin w p start e).call)
+  one_turn_later w (Next p) e =
+      let may = may_next w p e in
+      same_but_turns w (Next p) (next_turns w p may.flight (party_of p w.latest) may.is)
+  one_turn_later w (Decide p said) e =
+      let may = may_decide w p said e in
+      same_but_turns w (Decide p said) (decision_turns w p said may.flight (party_of p w.latest) may.is)
+  one_turn_later w (Die owner) e = absurd (never_dies w owner e)
 
   -- ---- one word
 

@@ -1,11 +1,12 @@
 -- The definitions at a worked run, and at histories that they refuse.
-use Rattle.std.proofs.Common.{◌≡◌, ℕ, true, false, Some, List, [], ◌∷◌, ◌++◌, length, refl, sym, subst}
+use Rattle.std.proofs.Common.{◌≡◌, ℕ, true, false, Some, None, List, [], ◌∷◌, ◌++◌, length, refl, sym, subst}
 use Rattle.model.specs.declared.event.Item.TheVariants.{Index}
 use Rattle.model.specs.declared.event.Start.TheVariants.{Queues}
 use Rattle.model.specs.declared.event.Answer.{Answer}
 use Rattle.model.specs.declared.event.Answer.TheVariants.{Truth, Number, PoppedNone, PoppedIndex}
 use Rattle.model.specs.declared.event.Event.{Event}
 use Rattle.model.specs.declared.event.Event.TheVariants.{Begun, Published, HandedOut, Acted, Finished}
+use Rattle.model.specs.declared.families.Kept as kepts
 use Rattle.model.specs.declared.families.queues.QueueStart.TheVariants.{AcquireProducer, AcquireConsumer, PushIndex, Pop, Len}
 use Rattle.model.specs.declared.turn.Kind.TheVariants.{IndexQueue, Overflow}
 use Rattle.model.specs.declared.turn.Turn.{Turn}
@@ -14,7 +15,7 @@ use Rattle.model.specs.Families.Queues.Book.{AnswersRight}
 use Rattle.model.specs.Families.Queues.Lengths.{TellsLength}
 use Rattle.model.specs.Families.Queues.Objects.{bounded_list, overflowing_list}
 use Rattle.model.specs.Families.Queues.Reading.{waiting}
-use Rattle.model.specs.Families.Queues.Roles.{GrantsRight}
+use Rattle.model.specs.Families.Queues.Roles.{GrantsRight, KeepsHolders}
 use Rattle.model.specs.Moments.{BeginsNone}
 use Rattle.model.specs.Objects.{IsLegal}
 use Rattle.model.specs.Promises.Spans.{Stands, Wrote}
@@ -318,3 +319,7 @@ no_second_holder right = cc
 -- a role for nobody
 pub no_lost_role : GrantsRight {T = ℕ} [] (Finished 0 (Queues AcquireProducer) (Truth false)) → ⊥
 no_lost_role right = cc
+
+-- a machine that forgets who has acquired the role
+pub no_forgotten_holder : KeepsHolders {T = ℕ} (kepts.TheVariants.Queues (record { producer = None; consumer = None })) (Finished 0 (Queues AcquireProducer) (Truth true) ∷ []) → ⊥
+no_forgotten_holder kept = let lost = kept.0 in cc

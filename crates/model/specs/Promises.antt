@@ -12,11 +12,12 @@ pub mod Spans
 pub mod Turns
 use Bounds.{Progresses}
 use Spans.{StandsRight}
-use Turns.{WritesOneWord, GoesOn, CountsTurn, CountsOthers, WritesDown}
+use Turns.{IsOneTurnLater, WritesOneWord, GoesOn, CountsTurn, CountsOthers, WritesDown}
 
 module _ {T : Type 0} where
   -- a turn that was taken
   pub record IsTurn (old : Trace T) (turn : Turn T) (new : Trace T) : Type 0 where
+    pub later : IsOneTurnLater old.world new.world
     pub word : WritesOneWord old.world turn new.world
     pub call : GoesOn old.world turn new.world
     pub counts : CountsTurn old.world turn new.world

@@ -57,11 +57,6 @@ abbrev pub step_count : Option Ask → ℕ
 step_count None = 0
 step_count (Some ask) = 1
 
--- a call that is done keeps how often others changed words until now
-abbrev pub end_where : Bool → ℕ → Doing → Doing
-end_where true changes (Going flight since) = Over (changes - since)
-end_where is_done changes doing = doing
-
 module _ {T : Type 0} where
   -- ---- a call begins
 

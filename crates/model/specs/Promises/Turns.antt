@@ -47,6 +47,15 @@ module _ {T : Type 0} where
   IsParty (Decide p said) q = q ≡ p
   IsParty (Die owner) q = ⊥
 
+  -- ---- the machine
+
+  -- it is the same machine, one turn later
+  pub record IsOneTurnLater (old new : World T) : Type 0 where
+    pub kind : new.kind ≡ old.kind
+    pub capacity : new.capacity ≡ old.capacity
+    pub parties : new.parties ≡ old.parties
+    pub turns : new.turns ≡ old.turns + 1
+
   -- ---- one word
 
   -- at most the asked word changes, as the operation says
@@ -107,10 +116,10 @@ module _ {T : Type 0} where
   -- ---- the order of what is written down
 
   -- what a step did to the structure
-  abbrev pub IsEffect : Event T → Type 0
-  IsEffect (Published p item) = Unit {0}
-  IsEffect (HandedOut p item) = Unit {0}
-  IsEffect e = ⊥
+  abbrev pub IsEffectOf : Turn T → Event T → Type 0
+  IsEffectOf turn (Published p item) = IsParty turn p
+  IsEffectOf turn (HandedOut p item) = IsParty turn p
+  IsEffectOf turn e = ⊥
 
   abbrev pub IsAct : Event T → Type 0
   IsAct (Acted p start answer) = Unit {0}
@@ -130,7 +139,7 @@ module _ {T : Type 0} where
     pub acts : List (Event T)
     pub ends : List (Event T)
     pub is : events ≡ old.events ++ ((effects ++ acts) ++ ends)
-    pub are_effects : AllByRecursion IsEffect effects
+    pub are_effects : AllByRecursion (IsEffectOf turn) effects
     pub are_acts : AllByRecursion IsAct acts
     pub are_ends : AllByRecursion (IsEndOf turn) ends
     pub right : AllByRecursion (ActsRight old turn) acts

@@ -51,7 +51,7 @@ use Rattle.model.specs.Families.Queues.Promises.{load_of_write, load_of_read, fi
 use Rattle.model.specs.Families.Queues.Steps.{beside, takes_effect, effect_of, acts_if_done, effects_of}
 use Rattle.model.specs.Parties.{party_of, doing_of, flight_of}
 use Rattle.model.specs.Promises.{IsTurn, AreTurns}
-use Rattle.model.specs.Promises.Turns.{ask_in, IsParty, IsEffect, IsAct, IsEndOf, ActsRight, WritesInOrder, WritesDown}
+use Rattle.model.specs.Promises.Turns.{ask_in, IsParty, IsEffectOf, IsAct, IsEndOf, ActsRight, WritesInOrder, WritesDown}
 use Rattle.model.specs.Reading.{Open, span_of}
 use Rattle.model.specs.Refusals.{refusal_of, is_due}
 use Rattle.model.specs.Step.{as_call, answer_in}
@@ -62,7 +62,7 @@ use Rattle.model.proofs.Reached.{reached_more}
 use Rattle.model.proofs.Readings.{AreRight}
 use Rattle.model.proofs.Rows.{may_next, must_be_due}
 use Rattle.model.proofs.Small.{reached_small}
-use Rattle.model.proofs.Turns.{writes_one_word, goes_on, counts_turn, counts_others}
+use Rattle.model.proofs.Turns.{one_turn_later, writes_one_word, goes_on, counts_turn, counts_others}
 use Rattle.queue_laws.proofs.Overflow.Knows.{overflow_pop_at, KnowsOverflowPop, OverflowAt}
 use Rattle.queue_laws.proofs.Queues.Asks.{never_asks}
 use Rattle.queue_laws.proofs.Queues.Core.{Core}
@@ -114,14 +114,14 @@ module _ {T : Type 0} where
   effects_are p start (TakesOut index) outcome = refl
   effects_are p start (MakesRoom item q pushed) outcome = refl
 
-  did_effects : (p : ℕ) (effect : Effect T) → AllByRecursion IsEffect (did p effect)
-  did_effects p Quiet = tt
-  did_effects p Acts = tt
-  did_effects p (Publishes item) = (tt, tt)
-  did_effects p (PublishesAndActs item) = (tt, tt)
-  did_effects p (HandsOut item) = (tt, tt)
-  did_effects p (TakesOut index) = (tt, tt)
-  did_effects p (MakesRoom item q pushed) = (tt, tt)
+  did_effects : (turn : Turn T) (p : ℕ) (effect : Effect T) → IsParty turn p → AllByRecursion (IsEffectOf turn) (did p effect)
+  did_effects turn p Quiet mine = tt
+  did_effects turn p Acts mine = tt
+  did_effects turn p (Publishes item) mine = (mine, tt)
+  did_effects turn p (PublishesAndActs item) mine = (mine, tt)
+  did_effects turn p (HandsOut item) mine = (mine, tt)
+  did_effects turn p (TakesOut index) mine = (mine, tt)
+  did_effects turn p (MakesRoom item q pushed) mine = (mine, tt)
 
   acts_act : (p : ℕ) (start : QueueStart T) (outcome : Option (Answer T)) → AllByRecursion IsAct (acts_if_done p start outcome)
   acts_act p start None = tt
@@ -305,7 +305,7 @@ module _ {T : Type 0} (t : Trace T) (p : ℕ) (s : frame.Sound (family t.world.k
           acts = acts_of p start effect outcome;
           ends = ends;
           is = ap (λ es. t.events ++ (es ++ ends)) (effects_are p start effect outcome);
-          are_effects = did_effects p effect;
+          are_effects = did_effects (Next p) p effect refl;
           are_acts = all_act p start effect outcome;
           are_ends = ends_end (Next p) p (Queues start) (answer_in (any_call (after flight old))) refl;
           right = step_right t (Next p) p refl words waits s.state.roles s.state.core start flight old at asks moves.2.right;
@@ -351,6 +351,7 @@ module _ {T : Type 0} where
   pub reached_turn : (t : Trace T) (turn : Turn T) → refusal_of t.world turn ≡ None → IsReached t → IsTurn t turn (after_turn t turn)
   reached_turn t turn e r =
       record {
+        later = one_turn_later t.world turn e;
         word = writes_one_word t.world turn;
         call = goes_on t.world turn e;
         counts = counts_turn t.world turn e;

@@ -1,5 +1,5 @@
 -- What the invariant says of the events, in the promises' words.
-use Rattle.std.proofs.Common.{◌≡◌, ℕ, suc, ◌+◌, ◌-◌, ◌%◌, ◌*◌, ◌≤◌, Some, List, [], ◌∷◌, length, get_or, map, slice_get, take, refl, sym, ap, ◌∙◌, arith, length-append}
+use Rattle.std.proofs.Common.{◌≡◌, ℕ, suc, ◌+◌, ◌-◌, ◌%◌, ◌*◌, ◌≤◌, Some, List, [], ◌∷◌, length, get_or, map, slice_get, take, refl, sym, ap, subst, ◌∙◌, arith, length-append}
 use Rattle.std.proofs.lemmas.List.{length-map, take-map}
 use Rattle.steps.specs.declared.copied.OneWord.{OneWord}
 use Rattle.steps.specs.declared.queues.ring.PushStage as pushes
@@ -38,6 +38,7 @@ use Rattle.model.specs.Families.Queues.Calls.{words_of_index}
 use Rattle.model.specs.Families.Queues.Opening.{cells_of}
 use Rattle.model.specs.Parties.{party_of}
 use Rattle.model.specs.Families.Queues.Promises.{IsQueue}
+use Rattle.model.specs.Families.Queues.Roles.{KeepsHolders}
 use Rattle.model.specs.Families.Queues.Reading.{published, handed_out}
 use Rattle.model.specs.Promises.{IsKept, Promised}
 use Rattle.model.specs.Promises.Bounds as any_bounds
@@ -222,6 +223,7 @@ module _ {T : Type 0} where
         answers = rw same_capacity s.holds.answers;
         lengths = rw same_capacity s.holds.lengths;
         roles = s.holds.grants;
+        holders = subst (λ kept. KeepsHolders kept t.events) (sym is.0) (sym s.holds.producers, sym s.holds.consumers);
       }
 
   promised : (kind : Kind) (t : Trace T) → IsQueue t → Promised kind t

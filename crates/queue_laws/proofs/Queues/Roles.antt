@@ -38,7 +38,7 @@ module _ {T : Type 0} (kd : Kind) (scene : Scene T) (small : scene.turns < 2 ^ 6
     ends kd (with_roles scene None co) inv small (record { producer = Some scene.party; consumer = co }) 0 AcquireProducer (answers.TheVariants.Truth true) (takes producer_word)
         (record { moments = refl; published = refl; handed_out = refl })
         tt
-        inv.queue.producers
+        (rw inv.queue.producers refl)
         (refl, refl)
         (omega arith)
         (omega arith)
@@ -66,7 +66,7 @@ module _ {T : Type 0} (kd : Kind) (scene : Scene T) (small : scene.turns < 2 ^ 6
     ends kd (with_roles scene pr None) inv small (record { producer = pr; consumer = Some scene.party }) 0 AcquireConsumer (answers.TheVariants.Truth true) (takes consumer_word)
         (record { moments = refl; published = refl; handed_out = refl })
         tt
-        inv.queue.consumers
+        (rw inv.queue.consumers refl)
         (refl, refl)
         (omega arith)
         (omega arith)
@@ -94,7 +94,7 @@ module _ {T : Type 0} (kd : Kind) (scene : Scene T) (small : scene.turns < 2 ^ 6
     ends kd (with_roles scene pr co) inv small (record { producer = None; consumer = co }) 0 ReleaseProducer answers.TheVariants.Done (gives producer_word)
         (record { moments = refl; published = refl; handed_out = refl })
         tt
-        (inv.queue.producers ∙ holds)
+        (refl, inv.queue.producers ∙ holds)
         (refl, refl)
         (omega arith)
         (omega arith)
@@ -109,7 +109,7 @@ module _ {T : Type 0} (kd : Kind) (scene : Scene T) (small : scene.turns < 2 ^ 6
     ends kd (with_roles scene pr co) inv small (record { producer = pr; consumer = None }) 0 ReleaseConsumer answers.TheVariants.Done (gives consumer_word)
         (record { moments = refl; published = refl; handed_out = refl })
         tt
-        (inv.queue.consumers ∙ holds)
+        (refl, inv.queue.consumers ∙ holds)
         (refl, refl)
         (omega arith)
         (omega arith)

@@ -21,6 +21,9 @@ returns-clause-allowed g c = rw (← c.self.view_is) c.in_ok-step.ensures.allowe
 pub returns-clause-ok : goal.returns-clause-ok
 returns-clause-ok g c = rw (← c.self.view_is) c.in_ok-step.ensures.ok
 
+pub returns-clause-later : goal.returns-clause-later
+returns-clause-later g c = (step_turn (trace_of c.self.inside.parts) c.args.self.now (trace_of c.step.new.self) c.args.turn c.self.view_is c.self.invariant c.in_ok-step.ensures.allowed c.in_ok-step.ensures.ok).later
+
 pub returns-clause-word : goal.returns-clause-word
 returns-clause-word g c = (step_turn (trace_of c.self.inside.parts) c.args.self.now (trace_of c.step.new.self) c.args.turn c.self.view_is c.self.invariant c.in_ok-step.ensures.allowed c.in_ok-step.ensures.ok).word
 

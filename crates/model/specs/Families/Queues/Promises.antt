@@ -14,7 +14,7 @@ use Rattle.model.specs.Families.Queues.Calls.{write_word, read_word}
 use Rattle.model.specs.Families.Queues.Lengths.{TellsLength}
 use Rattle.model.specs.Families.Queues.Objects.{list_of}
 use Rattle.model.specs.Families.Queues.Reading.{waiting}
-use Rattle.model.specs.Families.Queues.Roles.{GrantsRight}
+use Rattle.model.specs.Families.Queues.Roles.{GrantsRight, KeepsHolders}
 use Rattle.model.specs.Objects.{IsLegal, standing}
 use Rattle.model.specs.Reading.{Each, moments}
 use Rattle.model.specs.World.{Trace}
@@ -43,6 +43,7 @@ module _ {T : Type 0} where
     pub answers : Each (AnswersRight t.world.capacity) t.events
     pub lengths : Each (TellsLength t.world.capacity) t.events
     pub roles : Each GrantsRight t.events
+    pub holders : KeepsHolders t.world.kept t.events
 
   -- In a turn that asks for this operation, a push answers false only where capacity
   -- values wait as it loads read, and a pop None only where nothing waits as it loads
