@@ -43,7 +43,7 @@ layout ro k = k.write ∷ k.read ∷ free ro.producer ∷ free ro.consumer ∷ k
 abbrev pub len_at : ℕ → LenStage → Running Len (Unit {0}) (Unit {0})
 len_at c stage = record { call = record { capacity = c; stage = stage }; given = tt; room = tt }
 
--- How many steps the call has taken at most, having turned back so often. Which of a length call's loads after_turn it back is not kept.
+-- How many steps the call has taken at most, having turned back so often. Which of a length call's loads turned it back is not kept.
 abbrev pub len_number : LenStage → ℕ
 len_number lens.TheVariants.LoadsWrite = 0
 len_number (lens.TheVariants.LoadsRead write) = 1
