@@ -32,7 +32,7 @@ use Rattle.steps.specs.Queues.Ring.{cell_word, distance, at_push, push_asks, pus
 use Rattle.steps.specs.Queues.Overflow as overflow
 use Rattle.steps.specs.Atomic as value
 
-no_store : {A : Type 0} → IsTrue false → A
+pub no_store : {A : Type 0} → IsTrue false → A
 no_store t = absurd (true≢false (sym t))
 
 -- ---- roles

@@ -1,7 +1,9 @@
 pub mod Ask
 pub mod Atomic
+pub mod Bits
 pub mod Copied
 pub mod Enums
+pub mod Indices
 pub mod Laws
 pub mod Picks
 pub mod Queues

@@ -8,10 +8,10 @@
 
 pub mod ask;
 pub mod atomic;
+pub mod bits;
 pub mod copied;
 pub mod enums;
+pub mod indices;
 pub mod queues;
 pub mod routine;
-#[cfg(test)]
-mod tests;
 pub mod words;

@@ -1,0 +1,123 @@
+-- The calls of the bit set on one place, one step after another.
+use Rattle.std.specs.Prelude.{ℕ, ◌+◌, ◌-◌, ◌==◌, Bool, true, false, not, Option, Some, None, if◌then◌else◌, nat_lt}
+use Rattle.steps.specs.Queues.Ring.{after_position, load, store}
+use Rattle.steps.specs.Bits.Words.{element_of, has_flag, with_flag, without_flag}
+use Rattle.steps.specs.declared.ask.Op.TheVariants.{Exchange}
+use Rattle.steps.specs.declared.ask.Want.{Want}
+use Rattle.steps.specs.declared.ask.Want as wants
+use Rattle.steps.specs.declared.ask.After.{After}
+use Rattle.steps.specs.declared.ask.After.TheVariants.{GoOn, Done}
+use Rattle.steps.specs.declared.bits.bit_set.Set.{Set}
+use Rattle.steps.specs.declared.bits.bit_set.SetStage as sets
+use Rattle.steps.specs.declared.bits.bit_set.ResetNext.{ResetNext}
+use Rattle.steps.specs.declared.bits.bit_set.ResetNextStage as resets
+
+-- writes the word where it is still as it was found
+abbrev pub exchange : ℕ → ℕ → ℕ → Want (Unit {0})
+exchange word found new =
+    wants.TheVariants.Ask (record { word = word; op = Exchange found new })
+
+-- ---- set
+
+abbrev pub first_set : Set
+first_set = record { stage = sets.TheVariants.LoadsElement }
+
+abbrev pub at_set : sets.SetStage → Set
+at_set stage = record { stage = stage }
+
+-- load the element; exchange it for the element with the flag
+abbrev pub set_asks : sets.SetStage → ℕ → Want (Unit {0})
+set_asks sets.TheVariants.LoadsElement place = load (element_of place)
+set_asks (sets.TheVariants.ExchangesElement found) place =
+    exchange (element_of place) found (with_flag found place)
+
+abbrev pub set_want : Set → ℕ → Want (Unit {0})
+set_want call place = set_asks call.stage place
+
+-- where the flag stands, nothing is to be done
+abbrev pub set_tests : ℕ → ℕ → After Set Bool
+set_tests place found =
+    if has_flag found place
+    then Done false
+    else GoOn (at_set (sets.TheVariants.ExchangesElement found))
+
+-- where the element has changed, it is tested again
+abbrev pub set_takes : sets.SetStage → ℕ → ℕ → After Set Bool
+set_takes sets.TheVariants.LoadsElement place old = set_tests place old
+set_takes (sets.TheVariants.ExchangesElement found) place old =
+    if old == found then Done true else set_tests place old
+
+abbrev pub set_after : Set → ℕ → ℕ → After Set Bool
+set_after call place old = set_takes call.stage place old
+
+abbrev pub set_turns_back : sets.SetStage → ℕ → Bool
+set_turns_back sets.TheVariants.LoadsElement old = false
+set_turns_back (sets.TheVariants.ExchangesElement found) old = not (old == found)
+
+-- ---- reset_next
+
+abbrev pub first_reset : ℕ → ResetNext
+first_reset capacity =
+    record { capacity = capacity; stage = resets.TheVariants.LoadsPosition }
+
+abbrev pub at_reset : ResetNext → resets.ResetNextStage → ResetNext
+at_reset call stage = record { capacity = call.capacity; stage = stage }
+
+-- the place that comes after so many places from the start: after the last one comes 0
+abbrev pub place_after : ℕ → ℕ → ℕ → ℕ
+place_after capacity start passed =
+    if nat_lt (start + passed) capacity then start + passed else start + passed - capacity
+
+-- load the reset position; load the element of each place in turn, and exchange it for the
+-- element without the flag; store the position after the place
+abbrev pub reset_asks : ℕ → resets.ResetNextStage → Want (Unit {0})
+reset_asks capacity resets.TheVariants.LoadsPosition = load 0
+reset_asks capacity (resets.TheVariants.LoadsElement start passed) =
+    load (element_of (place_after capacity start passed))
+reset_asks capacity (resets.TheVariants.ExchangesElement start passed found) =
+    exchange (element_of (place_after capacity start passed)) found
+    (without_flag found (place_after capacity start passed))
+reset_asks capacity (resets.TheVariants.StoresPosition place) = store 0 (after_position place)
+
+abbrev pub reset_want : ResetNext → Want (Unit {0})
+reset_want call = reset_asks call.capacity call.stage
+
+-- it comes to the next place, if there is one that it has not passed
+abbrev pub reset_comes_to : ResetNext → ℕ → ℕ → After ResetNext (Option ℕ)
+reset_comes_to call start passed =
+    if nat_lt passed call.capacity
+    then GoOn (at_reset call (resets.TheVariants.LoadsElement start passed))
+    else Done None
+
+-- where the flag is clear, it goes on to the next place
+abbrev pub reset_tests : ResetNext → ℕ → ℕ → ℕ → After ResetNext (Option ℕ)
+reset_tests call start passed found =
+    if has_flag found (place_after call.capacity start passed)
+    then GoOn (at_reset call (resets.TheVariants.ExchangesElement start passed found))
+    else reset_comes_to call start (passed + 1)
+
+abbrev pub at_most : ℕ → ℕ → ℕ
+at_most capacity position = if nat_lt capacity position then capacity else position
+
+-- where the element has changed, the flag is tested again
+abbrev pub reset_takes : ResetNext → resets.ResetNextStage → ℕ → After ResetNext (Option ℕ)
+reset_takes call resets.TheVariants.LoadsPosition old =
+    reset_comes_to call (at_most call.capacity old) 0
+reset_takes call (resets.TheVariants.LoadsElement start passed) old =
+    reset_tests call start passed old
+reset_takes call (resets.TheVariants.ExchangesElement start passed found) old =
+    if old == found
+    then GoOn
+    (at_reset call (resets.TheVariants.StoresPosition (place_after call.capacity start passed)))
+    else reset_tests call start passed old
+reset_takes call (resets.TheVariants.StoresPosition place) old = Done (Some place)
+
+abbrev pub reset_after : ResetNext → ℕ → After ResetNext (Option ℕ)
+reset_after call old = reset_takes call call.stage old
+
+abbrev pub reset_turns_back : resets.ResetNextStage → ℕ → Bool
+reset_turns_back resets.TheVariants.LoadsPosition old = false
+reset_turns_back (resets.TheVariants.LoadsElement start passed) old = false
+reset_turns_back (resets.TheVariants.ExchangesElement start passed found) old =
+    not (old == found)
+reset_turns_back (resets.TheVariants.StoresPosition place) old = false

@@ -1,0 +1,71 @@
+-- What the calls of the bit sets keep to: a store tells them nothing, and those
+-- that end by themselves come nearer to their end at each step.
+use Rattle.std.specs.Prelude.{◌≡◌, ℕ, ◌+◌, ◌<◌, ◌≤◌, IsTrue, nat_lt, refl}
+use Rattle.std.proofs.Common.{arith, ap}
+use Rattle.std.proofs.lemmas.Bool.Decides.{nat_tests}
+use Rattle.steps.specs.Ask.{is_store}
+use Rattle.steps.specs.Laws.{no_store}
+use Rattle.steps.specs.Picks.{by_test}
+use Rattle.steps.specs.declared.ask.Op.TheVariants.{Swap}
+use Rattle.steps.specs.declared.ask.Want as wants
+use Rattle.steps.specs.declared.ask.After.{After}
+use Rattle.steps.specs.declared.ask.After.TheVariants.{GoOn, Done}
+use Rattle.steps.specs.declared.bits.bit_set.SetStage as sets
+use Rattle.steps.specs.declared.bits.bit_set.ResetNext.{ResetNext}
+use Rattle.steps.specs.declared.bits.bit_set.ResetNextStage as resets
+use Rattle.steps.specs.declared.bits.counting_bit_set.Set as counts
+use Rattle.steps.specs.declared.bits.reset_all.ResetAll.{ResetAll}
+use Rattle.steps.specs.Bits.BitSet.{set_asks, set_takes, reset_asks, reset_takes}
+use Rattle.steps.specs.Bits.Counts as counting
+use Rattle.steps.specs.Bits.ResetAll.{reset_all_want, reset_all_after, reset_all_kept, reset_all_left}
+use Rattle.steps.specs.declared.copied.OneWord.{OneWord}
+
+pub set_tells : (stage : sets.SetStage) (place : ℕ) (room : Unit {0}) (m n : ℕ)
+    → IsTrue (is_store (set_asks stage place))
+    → (set_takes stage place m ≡ set_takes stage place n) × (room ≡ room)
+set_tells sets.TheVariants.LoadsElement place room m n t = no_store t
+set_tells (sets.TheVariants.ExchangesElement found) place room m n t = no_store t
+
+pub reset_tells : (c : ResetNext) (stage : resets.ResetNextStage) (room : Unit {0}) (m n : ℕ)
+    → IsTrue (is_store (reset_asks c.capacity stage))
+    → (reset_takes c stage m ≡ reset_takes c stage n) × (room ≡ room)
+reset_tells c resets.TheVariants.LoadsPosition room m n t = no_store t
+reset_tells c (resets.TheVariants.LoadsElement start passed) room m n t = no_store t
+reset_tells c (resets.TheVariants.ExchangesElement start passed found) room m n t = no_store t
+reset_tells c (resets.TheVariants.StoresPosition place) room m n t = (refl, refl)
+
+pub count_tells : (c : counts.Set) (place : ℕ) (room : Unit {0}) (m n : ℕ)
+    → IsTrue (is_store (counting.set_want c place))
+    → (counting.set_after c m ≡ counting.set_after c n) × (room ≡ room)
+count_tells c place room m n t = no_store t
+
+pub count_fewer : (c d : counts.Set) (n : ℕ) → counting.set_after c n ≡ GoOn d → 0 < 0
+count_fewer c d n goes = cc
+
+pub reset_all_tells : (c : ResetAll) (room : OneWord) (m n : ℕ)
+    → IsTrue (is_store (reset_all_want c))
+    → (reset_all_after c m ≡ reset_all_after c n)
+    × (reset_all_kept room m ≡ reset_all_kept room n)
+reset_all_tells c room m n =
+    by_test (λ w. IsTrue (is_store w) → (reset_all_after c m ≡ reset_all_after c n)
+    × (reset_all_kept room m ≡ reset_all_kept room n)) (nat_lt c.word c.end)
+    (wants.TheVariants.Ask (record { word = c.word; op = Swap 0 })) wants.TheVariants.Nothing
+    (λ h t. no_store t) (λ h t. no_store t)
+
+-- one more than is left once it has gone on, nothing once it is done
+abbrev reset_all_then : After ResetAll (Unit {0}) → ℕ
+reset_all_then (GoOn d) = reset_all_left d + 1
+reset_all_then (Done e) = 0
+
+reset_all_nearer : (c : ResetAll) (n : ℕ)
+    → reset_all_then (reset_all_after c n) ≤ reset_all_left c
+reset_all_nearer c n =
+    by_test (λ a. reset_all_then a ≤ reset_all_left c) (nat_lt (c.word + 1) c.end)
+    (GoOn (record { word = c.word + 1; end = c.end })) (Done tt)
+    (λ t. let further : c.word + 1 < c.end = grind (arith, nat_tests) in omega arith)
+    (λ t. omega arith)
+
+pub reset_all_fewer : (c d : ResetAll) (n : ℕ) → reset_all_after c n ≡ GoOn d
+    → reset_all_left d < reset_all_left c
+reset_all_fewer c d n goes =
+    let e = ap reset_all_then goes in let f = reset_all_nearer c n in omega arith

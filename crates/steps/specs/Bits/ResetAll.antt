@@ -1,0 +1,38 @@
+-- The call that empties the words of a set, one after another.
+use Rattle.std.specs.Prelude.{ℕ, ◌+◌, ◌-◌, if◌then◌else◌, nat_lt}
+use Rattle.steps.specs.Bits.Words.{elements}
+use Rattle.steps.specs.declared.ask.Op.TheVariants.{Swap}
+use Rattle.steps.specs.declared.ask.Want.{Want}
+use Rattle.steps.specs.declared.ask.Want as wants
+use Rattle.steps.specs.declared.ask.After.{After}
+use Rattle.steps.specs.declared.ask.After.TheVariants.{GoOn, Done}
+use Rattle.steps.specs.declared.bits.reset_all.ResetAll.{ResetAll}
+use Rattle.steps.specs.declared.copied.OneWord.{OneWord}
+
+-- the elements of a bit set stand after its reset position
+abbrev pub all_bits : ℕ → ResetAll
+all_bits capacity = record { word = 1; end = 1 + elements capacity }
+
+abbrev pub all_counts : ℕ → ResetAll
+all_counts capacity = record { word = 0; end = capacity }
+
+-- swap the word with 0
+abbrev pub reset_all_want : ResetAll → Want (Unit {0})
+reset_all_want call =
+    if nat_lt call.word call.end
+    then wants.TheVariants.Ask (record { word = call.word; op = Swap 0 })
+    else wants.TheVariants.Nothing
+
+abbrev pub reset_all_after : ResetAll → ℕ → After ResetAll (Unit {0})
+reset_all_after call old =
+    if nat_lt (call.word + 1) call.end
+    then GoOn (record { word = call.word + 1; end = call.end })
+    else Done tt
+
+-- what stood in the word that was swapped last
+abbrev pub reset_all_kept : OneWord → ℕ → OneWord
+reset_all_kept room old = record { 0 = old }
+
+-- it goes down at each step
+abbrev pub reset_all_left : ResetAll → ℕ
+reset_all_left call = call.end - call.word

@@ -1,0 +1,215 @@
+-- The calls of the unique index set, one step after another.
+use Rattle.std.specs.Prelude.{ℕ, ◌+◌, ◌-◌, ◌%◌, ◌^◌, ◌==◌, ◌&&◌, Bool, false, not, Result, Ok, Err, if◌then◌else◌, nat_lt}
+use Rattle.steps.specs.Queues.Ring.{load, store}
+use Rattle.steps.specs.Indices.Head.{next_word, flag_word, flag, has_flag, proposed, aba, borrowed, locked, says_locked, head_word}
+use Rattle.steps.specs.declared.ask.Op.TheVariants.{Sub, And, Or, Exchange}
+use Rattle.steps.specs.declared.ask.Want.{Want}
+use Rattle.steps.specs.declared.ask.Want as wants
+use Rattle.steps.specs.declared.ask.After.{After}
+use Rattle.steps.specs.declared.ask.After.TheVariants.{GoOn, Done}
+use Rattle.steps.specs.declared.indices.enums.ReleaseState.{ReleaseState}
+use Rattle.steps.specs.declared.indices.enums.ReleaseState.TheVariants.{Locked, Unlocked}
+use Rattle.steps.specs.declared.indices.enums.UniqueIndexSetAcquireFailure.{UniqueIndexSetAcquireFailure}
+use Rattle.steps.specs.declared.indices.enums.UniqueIndexSetAcquireFailure.TheVariants as failures
+use Rattle.steps.specs.declared.indices.unique.Acquire.{Acquire}
+use Rattle.steps.specs.declared.indices.unique.AcquireStage as acquires
+use Rattle.steps.specs.declared.indices.unique.Release.{Release}
+use Rattle.steps.specs.declared.indices.unique.ReleaseStage as releases
+use Rattle.steps.specs.declared.indices.looks.BorrowedIndices.{BorrowedIndices}
+use Rattle.steps.specs.declared.indices.looks.IsLocked.{IsLocked}
+
+abbrev pub exchange_head : ℕ → ℕ → Want (Unit {0})
+exchange_head from to = wants.TheVariants.Ask (record { word = 0; op = Exchange from to })
+
+-- ---- acquire
+
+abbrev pub Acquired : Type 0
+Acquired = Result ℕ UniqueIndexSetAcquireFailure
+
+abbrev pub first_acquire : ℕ → Acquire
+first_acquire capacity =
+    record { capacity = capacity; stage = acquires.TheVariants.LoadsHead }
+
+abbrev pub at_acquire : Acquire → acquires.AcquireStage → Acquire
+at_acquire call stage = record call { stage = stage }
+
+-- one index more is borrowed, and the next one is proposed
+abbrev pub head_taken : ℕ → ℕ → ℕ
+head_taken head next =
+    head_word
+    (record {
+      head = next;
+      aba = (aba head + 1) % 2 ^ 16;
+      borrowed_indices = borrowed head + 1;
+    })
+
+abbrev pub claim : ℕ → ℕ → Want (Unit {0})
+claim capacity index =
+    wants.TheVariants.Ask (record { word = flag_word capacity index; op = Or (flag index) })
+
+-- load the head; load the next index of the proposed one; exchange the head; claim
+abbrev pub acquire_asks : ℕ → acquires.AcquireStage → Want (Unit {0})
+acquire_asks capacity acquires.TheVariants.LoadsHead = load 0
+acquire_asks capacity (acquires.TheVariants.LoadsNext head) = load (next_word (proposed head))
+acquire_asks capacity (acquires.TheVariants.ExchangesHead head next) =
+    exchange_head head (head_taken head next)
+acquire_asks capacity (acquires.TheVariants.Claims index) = claim capacity index
+acquire_asks capacity (acquires.TheVariants.Scans index) = claim capacity index
+
+abbrev pub acquire_want : Acquire → Want (Unit {0})
+acquire_want call = acquire_asks call.capacity call.stage
+
+-- what a head word says: where it proposes no index of the set, its proposal stays
+abbrev pub acquire_sees : Acquire → ℕ → After Acquire Acquired
+acquire_sees call head =
+    if says_locked head
+    then Done (Err failures.IsLocked)
+    else if borrowed head == call.capacity
+    then Done (Err failures.OutOfIndices)
+    else if nat_lt (proposed head) call.capacity
+    then GoOn (at_acquire call (acquires.TheVariants.LoadsNext head))
+    else GoOn (at_acquire call (acquires.TheVariants.ExchangesHead head (proposed head)))
+
+-- the proposed index is claimed first, else the flags are tried from 0 on, again and again
+abbrev pub first_claim : ℕ → ℕ → acquires.AcquireStage
+first_claim capacity head =
+    if nat_lt (proposed head) capacity
+    then acquires.TheVariants.Claims (proposed head)
+    else acquires.TheVariants.Scans 0
+
+abbrev pub scanned_next : ℕ → ℕ → ℕ
+scanned_next capacity index = if nat_lt (index + 1) capacity then index + 1 else 0
+
+abbrev pub acquire_takes : Acquire → acquires.AcquireStage → ℕ → After Acquire Acquired
+acquire_takes call acquires.TheVariants.LoadsHead old = acquire_sees call old
+acquire_takes call (acquires.TheVariants.LoadsNext head) old =
+    GoOn (at_acquire call (acquires.TheVariants.ExchangesHead head (old % 2 ^ 24)))
+acquire_takes call (acquires.TheVariants.ExchangesHead head next) old =
+    if old == head
+    then GoOn (at_acquire call (first_claim call.capacity head))
+    else acquire_sees call old
+acquire_takes call (acquires.TheVariants.Claims index) old =
+    if has_flag old index
+    then GoOn (at_acquire call (acquires.TheVariants.Scans 0))
+    else Done (Ok index)
+acquire_takes call (acquires.TheVariants.Scans index) old =
+    if has_flag old index
+    then GoOn (at_acquire call (acquires.TheVariants.Scans (scanned_next call.capacity index)))
+    else Done (Ok index)
+
+abbrev pub acquire_after : Acquire → ℕ → After Acquire Acquired
+acquire_after call old = acquire_takes call call.stage old
+
+-- the head has moved, or each flag was found claimed
+abbrev pub acquire_goes_back : ℕ → acquires.AcquireStage → ℕ → Bool
+acquire_goes_back capacity acquires.TheVariants.LoadsHead old = false
+acquire_goes_back capacity (acquires.TheVariants.LoadsNext head) old = false
+acquire_goes_back capacity (acquires.TheVariants.ExchangesHead head next) old = not (old == head)
+acquire_goes_back capacity (acquires.TheVariants.Claims index) old = false
+acquire_goes_back capacity (acquires.TheVariants.Scans index) old =
+    has_flag old index && not (nat_lt (index + 1) capacity)
+
+-- ---- release
+
+-- one index less is borrowed, and this one is proposed
+abbrev pub head_given_back : ℕ → ℕ → ℕ
+head_given_back head index =
+    head_word
+    (record {
+      head = index;
+      aba = (aba head + 1) % 2 ^ 16;
+      borrowed_indices = (borrowed head + (2 ^ 32 - 1)) % 2 ^ 32;
+    })
+
+-- the last index is given back, and the set is locked
+abbrev pub head_locked : ℕ → ℕ → ℕ
+head_locked head index =
+    head_word
+    (record { head = index; aba = (aba head + 1) % 2 ^ 16; borrowed_indices = locked })
+
+abbrev pub locks : Bool → ℕ → Bool
+locks lock head = lock && (borrowed head == 1)
+
+abbrev pub head_released : Bool → ℕ → ℕ → ℕ
+head_released lock head index =
+    if locks lock head then head_locked head index else head_given_back head index
+
+-- clear the flag; load the head; store what it proposes as the next
+-- index of this one; exchange the head; subtract 1 from the head
+abbrev pub release_asks : Bool → ℕ → ℕ → releases.ReleaseStage → Want (Unit {0})
+release_asks lock capacity index releases.TheVariants.ClearsFlag =
+    wants.TheVariants.Ask
+    (record { word = flag_word capacity index; op = And (2 ^ 64 - 1 - flag index) })
+release_asks lock capacity index releases.TheVariants.LoadsHead = load 0
+release_asks lock capacity index (releases.TheVariants.StoresNext head) =
+    store (next_word index) (proposed head)
+release_asks lock capacity index (releases.TheVariants.ExchangesHead head) =
+    exchange_head head (head_released lock head index)
+release_asks lock capacity index releases.TheVariants.Subtracts =
+    wants.TheVariants.Ask (record { word = 0; op = Sub 1 })
+
+abbrev pub state_after : Bool → ℕ → ReleaseState
+state_after lock head = if locks lock head then Locked else Unlocked
+
+module _ {M : Type 0} where
+  abbrev pub first_release : ℕ → Release M
+  first_release capacity =
+      record {
+        capacity = capacity;
+        stage = releases.TheVariants.ClearsFlag;
+        of = record {};
+      }
+
+  abbrev pub at_release : Release M → releases.ReleaseStage → Release M
+  at_release call stage = record call { stage = stage }
+
+  abbrev pub release_want : Bool → Release M → ℕ → Want (Unit {0})
+  release_want lock call index = release_asks lock call.capacity index call.stage
+
+  -- where the head has moved, a release that may lock goes on from the
+  -- head found, and any other one only subtracts
+  abbrev pub release_takes : Bool → Release M → releases.ReleaseStage → ℕ
+      → After (Release M) ReleaseState
+  release_takes lock call releases.TheVariants.ClearsFlag old =
+      GoOn (at_release call releases.TheVariants.LoadsHead)
+  release_takes lock call releases.TheVariants.LoadsHead old =
+      GoOn (at_release call (releases.TheVariants.StoresNext old))
+  release_takes lock call (releases.TheVariants.StoresNext head) old =
+      GoOn (at_release call (releases.TheVariants.ExchangesHead head))
+  release_takes lock call (releases.TheVariants.ExchangesHead head) old =
+      if old == head
+      then Done (state_after lock head)
+      else if lock
+      then GoOn (at_release call (releases.TheVariants.StoresNext old))
+      else GoOn (at_release call releases.TheVariants.Subtracts)
+  release_takes lock call releases.TheVariants.Subtracts old = Done Unlocked
+
+  abbrev pub release_after : Bool → Release M → ℕ → After (Release M) ReleaseState
+  release_after lock call old = release_takes lock call call.stage old
+
+-- the head has moved
+abbrev pub release_goes_back : Bool → releases.ReleaseStage → ℕ → Bool
+release_goes_back lock releases.TheVariants.ClearsFlag old = false
+release_goes_back lock releases.TheVariants.LoadsHead old = false
+release_goes_back lock (releases.TheVariants.StoresNext head) old = false
+release_goes_back lock (releases.TheVariants.ExchangesHead head) old = lock && not (old == head)
+release_goes_back lock releases.TheVariants.Subtracts old = false
+
+-- where it does not lock, it goes down at each step
+abbrev pub release_left : releases.ReleaseStage → ℕ
+release_left releases.TheVariants.ClearsFlag = 4
+release_left releases.TheVariants.LoadsHead = 3
+release_left (releases.TheVariants.StoresNext head) = 2
+release_left (releases.TheVariants.ExchangesHead head) = 1
+release_left releases.TheVariants.Subtracts = 0
+
+-- ---- the number of borrowed indices, and the lock
+
+abbrev pub borrowed_number : ℕ → ℕ
+borrowed_number head = if says_locked head then 0 else borrowed head
+
+abbrev pub borrowed_after : BorrowedIndices → ℕ → After BorrowedIndices ℕ
+borrowed_after call old = Done (borrowed_number old)
+
+abbrev pub locked_after : IsLocked → ℕ → After IsLocked Bool
+locked_after call old = Done (says_locked old)

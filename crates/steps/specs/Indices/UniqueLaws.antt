@@ -1,0 +1,68 @@
+-- What the calls of the unique index set keep to: a store tells them nothing, and one that ends by
+-- itself comes nearer to its end at each step.
+use Rattle.std.specs.Prelude.{◌≡◌, ℕ, ◌+◌, ◌<◌, ◌≤◌, Bool, false, IsTrue, refl}
+use Rattle.std.proofs.Common.{arith, ap, sym, true≢false}
+use Rattle.steps.specs.Ask.{is_store}
+use Rattle.steps.specs.Picks.{by_eq}
+use Rattle.steps.specs.Queues.Ring.{load}
+use Rattle.steps.specs.declared.ask.After.{After}
+use Rattle.steps.specs.declared.ask.After.TheVariants.{GoOn, Done}
+use Rattle.steps.specs.declared.indices.enums.ReleaseState.{ReleaseState}
+use Rattle.steps.specs.declared.indices.unique.Acquire.{Acquire}
+use Rattle.steps.specs.declared.indices.unique.AcquireStage as acquires
+use Rattle.steps.specs.declared.indices.unique.Release.{Release}
+use Rattle.steps.specs.declared.indices.unique.ReleaseStage as releases
+use Rattle.steps.specs.declared.indices.looks.BorrowedIndices.{BorrowedIndices}
+use Rattle.steps.specs.declared.indices.looks.IsLocked.{IsLocked}
+use Rattle.steps.specs.Indices.Unique.{acquire_asks, acquire_takes, at_release, release_asks, release_takes, release_after, release_left, state_after, borrowed_after, locked_after}
+
+no_store : {A : Type 0} → IsTrue false → A
+no_store t = absurd (true≢false (sym t))
+
+pub acquire_tells : (c : Acquire) (stage : acquires.AcquireStage) (room : Unit {0}) (m n : ℕ)
+    → IsTrue (is_store (acquire_asks c.capacity stage))
+    → (acquire_takes c stage m ≡ acquire_takes c stage n) × (room ≡ room)
+acquire_tells c acquires.TheVariants.LoadsHead room m n t = no_store t
+acquire_tells c (acquires.TheVariants.LoadsNext head) room m n t = no_store t
+acquire_tells c (acquires.TheVariants.ExchangesHead head next) room m n t = no_store t
+acquire_tells c (acquires.TheVariants.Claims index) room m n t = no_store t
+acquire_tells c (acquires.TheVariants.Scans index) room m n t = no_store t
+
+module _ {M : Type 0} where
+  pub release_tells : (lock : Bool) (c : Release M) (stage : releases.ReleaseStage) (index : ℕ)
+      (room : Unit {0}) (m n : ℕ) → IsTrue (is_store (release_asks lock c.capacity index stage))
+      → (release_takes lock c stage m ≡ release_takes lock c stage n) × (room ≡ room)
+  release_tells lock c releases.TheVariants.ClearsFlag index room m n t = no_store t
+  release_tells lock c releases.TheVariants.LoadsHead index room m n t = no_store t
+  release_tells lock c (releases.TheVariants.StoresNext head) index room m n t = (refl, refl)
+  release_tells lock c (releases.TheVariants.ExchangesHead head) index room m n t = no_store t
+  release_tells lock c releases.TheVariants.Subtracts index room m n t = no_store t
+
+  abbrev release_then : After (Release M) ReleaseState → ℕ
+  release_then (GoOn d) = release_left d.stage + 1
+  release_then (Done e) = 0
+
+  release_stage_fewer : (c : Release M) (stage : releases.ReleaseStage) (k : ℕ)
+      → release_then (release_takes false c stage k) ≤ release_left stage
+  release_stage_fewer c releases.TheVariants.ClearsFlag k = omega arith
+  release_stage_fewer c releases.TheVariants.LoadsHead k = omega arith
+  release_stage_fewer c (releases.TheVariants.StoresNext head) k = omega arith
+  release_stage_fewer c (releases.TheVariants.ExchangesHead head) k =
+      by_eq (λ a. release_then a ≤ 1) k head (Done (state_after false head))
+      (GoOn (at_release c releases.TheVariants.Subtracts)) (λ e. omega arith) (λ e. omega arith)
+  release_stage_fewer c releases.TheVariants.Subtracts k = omega arith
+
+  pub release_fewer : (c d : Release M) (k : ℕ) → release_after false c k ≡ GoOn d
+      → release_left d.stage < release_left c.stage
+  release_fewer c d k goes =
+      let e = ap release_then goes in let f = release_stage_fewer c c.stage k in omega arith
+
+pub load_tells : {A : Type 0} (word : ℕ) (after : ℕ → A) (room : Unit {0}) (m n : ℕ)
+    → IsTrue (is_store (load word)) → (after m ≡ after n) × (room ≡ room)
+load_tells word after room m n t = no_store t
+
+pub borrowed_fewer : (c d : BorrowedIndices) (n : ℕ) → borrowed_after c n ≡ GoOn d → 0 < 0
+borrowed_fewer c d n goes = cc
+
+pub locked_fewer : (c d : IsLocked) (n : ℕ) → locked_after c n ≡ GoOn d → 0 < 0
+locked_fewer c d n goes = cc

@@ -1,0 +1,6 @@
+//! The calls of the sets of indices.
+pub mod enums;
+pub mod head;
+pub mod layout;
+pub mod looks;
+pub mod unique;

@@ -1,0 +1,235 @@
+//! Calls driven alone over a list of words, in both of their forms.
+use std::process::Abort;
+use steps::ask::{After, Ask, Call, Want};
+use steps::atomic::{Load, Store};
+use steps::copied::{Copied, OneWord};
+use steps::queues::overflow;
+use steps::queues::ring::{Pop, Push};
+use steps::routine::{Routine, Running};
+use steps::words::Words;
+
+pub fn push<T: Words + Drop>(capacity: u32, value: T) -> Running<Push<T>, T, ()> {
+    Running {
+        call: Push::new(capacity),
+        given: value,
+        room: (),
+    }
+}
+
+pub fn pop<T: Words>(capacity: u32) -> Running<Pop<T, Copied>, (), Copied> {
+    Running {
+        call: Pop::new(capacity),
+        given: (),
+        room: Copied::new(),
+    }
+}
+
+/// A pop of a value of one word, into a room of one word.
+pub fn pop_one(capacity: u32) -> Running<Pop<u64, OneWord>, (), OneWord> {
+    Running {
+        call: Pop::new(capacity),
+        given: (),
+        room: OneWord(0),
+    }
+}
+
+pub fn overflow_push(capacity: u32, value: u64) -> Running<overflow::Push, u64, OneWord> {
+    Running {
+        call: overflow::Push::new(capacity),
+        given: value,
+        room: OneWord(0),
+    }
+}
+
+pub fn overflow_pop(capacity: u32) -> Running<overflow::Pop, (), OneWord> {
+    Running {
+        call: overflow::Pop::new(capacity),
+        given: (),
+        room: OneWord(0),
+    }
+}
+
+pub fn store<T: Words + Drop>(value: T) -> Running<Store<T>, T, ()> {
+    Running {
+        call: Store::new(),
+        given: value,
+        room: (),
+    }
+}
+
+pub fn load<T: Words>() -> Running<Load<T, Copied>, (), Copied> {
+    Running {
+        call: Load::new(),
+        given: (),
+        room: Copied::new(),
+    }
+}
+
+/// A load of a value of one word, into a room of one word.
+pub fn load_one() -> Running<Load<u64, OneWord>, (), OneWord> {
+    Running {
+        call: Load::new(),
+        given: (),
+        room: OneWord(0),
+    }
+}
+
+/// A call that is given nothing and reads no value.
+pub fn bare<C: Routine<Given = (), Room = ()>>(call: C) -> Running<C, (), ()> {
+    Running {
+        call,
+        given: (),
+        room: (),
+    }
+}
+
+/// The operation that is wanted.
+fn asked<V>(want: &Want<V>) -> Option<Ask> {
+    match want {
+        Want::Ask(ask) => Some(*ask),
+        Want::Question(_) => None,
+        Want::Nothing => None,
+    }
+}
+
+/// Does the operation on these words: what the call is handed.
+fn answer_to(asked: Option<Ask>, words: &mut [u64]) -> u64 {
+    match asked {
+        Some(ask) if ask.word < words.len() => {
+            let old = words[ask.word];
+            words[ask.word] = ask.op.apply(old);
+            old
+        }
+        _ => 0,
+    }
+}
+
+/// Takes at most so many steps of the call by value: its answer and its steps, or the call where it has not ended.
+fn by_value<C: Call + Drop>(
+    mut call: C,
+    most: u64,
+    words: &mut [u64],
+) -> Result<(C::Answer, u64), C>
+where
+    C::Answer: Drop,
+{
+    for taken in 0..most {
+        let answer = answer_to(asked(&call.ask()), words);
+        match call.take(answer) {
+            After::GoOn(next) => call = next,
+            After::Done(answer) => return Ok((answer, taken + 1)),
+        }
+    }
+    Err(call)
+}
+
+/// Takes at most so many steps of the call in place: its answer and its steps, where it has ended.
+fn in_place<C: Routine>(
+    call: &mut Running<C, C::Given, C::Room>,
+    most: u64,
+    words: &mut [u64],
+) -> Option<(C::Answer, u64)>
+where
+    C::Answer: Drop,
+{
+    for taken in 0..most {
+        let answer = answer_to(asked(&call.want()), words);
+        if let Some(answer) = call.go_on(answer) {
+            return Some((answer, taken + 1));
+        }
+    }
+    None
+}
+
+/// Takes at most so many steps of the call in both ways, each over words of its own, and compares them: its answer and
+/// its steps, or the call where it has not ended.
+fn run<C: Routine + Drop, const N: usize>(
+    rt: &impl Abort,
+    call: Running<C, C::Given, C::Room>,
+    most: u64,
+    words: &mut [u64; N],
+) -> Result<(C::Answer, u64), Running<C, C::Given, C::Room>>
+where
+    C::Given: Copy,
+    C::Room: Copy,
+    C::Answer: PartialEq + Drop,
+{
+    let mut other = Running {
+        call: call.call,
+        given: call.given,
+        room: call.room,
+    };
+    let mut other_words = *words;
+    let ended = in_place(&mut other, most, &mut other_words);
+    let valued = by_value(call, most, words);
+    assert!(rt; *words == other_words);
+    match valued {
+        Ok(end) => {
+            assert!(rt; ended == Some(end));
+            ended.ok_or(other)
+        }
+        Err(call) => {
+            assert!(rt; ended.is_none());
+            assert!(rt; asked(&other.want()) == asked(&call.ask()));
+            Err(other)
+        }
+    }
+}
+
+/// Runs the call to its end, of at most 300 steps: its answer and its steps.
+pub fn whole<C: Routine + Drop, const N: usize>(
+    rt: &impl Abort,
+    call: Running<C, C::Given, C::Room>,
+    words: &mut [u64; N],
+) -> Option<(C::Answer, u64)>
+where
+    C::Given: Copy,
+    C::Room: Copy,
+    C::Answer: PartialEq + Drop,
+{
+    run(rt, call, 300, words).ok()
+}
+
+/// Takes so many steps of the call, which does not end by them.
+pub fn partly<C: Routine + Drop, const N: usize>(
+    rt: &impl Abort,
+    call: Running<C, C::Given, C::Room>,
+    steps: u64,
+    words: &mut [u64; N],
+) -> Option<Running<C, C::Given, C::Room>>
+where
+    C::Given: Copy,
+    C::Room: Copy,
+    C::Answer: PartialEq + Drop,
+{
+    run(rt, call, steps, words).err()
+}
+
+/// Whether the call ends with this answer after so many steps.
+pub fn ends<C: Routine + Drop, const N: usize>(
+    rt: &impl Abort,
+    call: Running<C, C::Given, C::Room>,
+    words: &mut [u64; N],
+    answer: C::Answer,
+    steps: u64,
+) -> bool
+where
+    C::Given: Copy,
+    C::Room: Copy,
+    C::Answer: PartialEq + Drop,
+{
+    match whole(rt, call, words) {
+        Some((came, taken)) => came == answer && taken == steps,
+        None => false,
+    }
+}
+
+/// These words, with others at some places.
+pub fn with<const N: usize>(mut words: [u64; N], places: &[(usize, u64)]) -> [u64; N] {
+    for (at, word) in places {
+        if *at < N {
+            words[*at] = *word;
+        }
+    }
+    words
+}

@@ -1,0 +1,112 @@
+//! Rows of calls on one list of words, each with what it must answer and the steps that it must take.
+use crate::drive::{bare, ends, load, overflow_pop, overflow_push, pop, push, store};
+use std::process::Abort;
+use steps::queues::lengths::Len;
+use steps::words::Words;
+
+/// A call, what it answers and its steps.
+#[derive(Drop)]
+pub enum Row<T> {
+    Push(T, bool, u64),
+    Pop(Option<T>, u64),
+    Store(T, bool, u64),
+    Load(T, u64),
+    Len(u64, u64),
+}
+
+fn does<T: Words + PartialEq + Drop, const N: usize>(
+    rt: &impl Abort,
+    capacity: u32,
+    words: &mut [u64; N],
+    row: &Row<T>,
+) -> bool {
+    match *row {
+        Row::Push(value, taken, steps) => ends(rt, push(capacity, value), words, taken, steps),
+        Row::Pop(value, steps) => ends(rt, pop::<T>(capacity), words, value, steps),
+        Row::Store(value, taken, steps) => ends(rt, store(value), words, taken, steps),
+        Row::Load(value, steps) => ends(rt, load::<T>(), words, value, steps),
+        Row::Len(number, steps) => ends(rt, bare(Len::new(capacity)), words, number, steps),
+    }
+}
+
+/// Makes these calls, each of which has to come out so, and the words then have to be these.
+pub fn play<T: Words + PartialEq + Drop, const N: usize>(
+    rt: &impl Abort,
+    name: &str,
+    capacity: u32,
+    words: [u64; N],
+    rows: &[Row<T>],
+    after: [u64; N],
+) {
+    let mut words = words;
+    for (at, row) in rows.iter().enumerate() {
+        assert!(rt; does(rt, capacity, &mut words, row), "{name}: row {at}");
+    }
+    assert!(rt; words == after, "{name}: words");
+}
+
+/// A call of the overflowing queue, likewise.
+pub enum Over {
+    Push(u64, Option<u64>, u64),
+    Pop(Option<u64>, u64),
+    Len(u64, u64),
+}
+
+fn does_over<const N: usize>(
+    rt: &impl Abort,
+    capacity: u32,
+    words: &mut [u64; N],
+    row: &Over,
+) -> bool {
+    match *row {
+        Over::Push(value, back, steps) => {
+            ends(rt, overflow_push(capacity, value), words, back, steps)
+        }
+        Over::Pop(value, steps) => ends(rt, overflow_pop(capacity), words, value, steps),
+        Over::Len(number, steps) => ends(rt, bare(Len::new(capacity)), words, number, steps),
+    }
+}
+
+/// Makes these calls, each of which has to come out so, and the words then have to be these.
+pub fn play_over<const N: usize>(
+    rt: &impl Abort,
+    name: &str,
+    capacity: u32,
+    words: [u64; N],
+    rows: &[Over],
+    after: [u64; N],
+) {
+    let mut words = words;
+    for (at, row) in rows.iter().enumerate() {
+        assert!(rt;
+            does_over(rt, capacity, &mut words, row),
+            "{name}: row {at}"
+        );
+    }
+    assert!(rt; words == after, "{name}: words");
+}
+
+/// Whether an empty queue can be filled with these values, as many as its capacity, and emptied, twice.
+pub fn fills_and_empties<T: Words + PartialEq + Drop, const N: usize>(
+    rt: &impl Abort,
+    capacity: u32,
+    values: &[T],
+    words: &mut [u64; N],
+) -> bool {
+    let steps = T::WORDS as u64 + 3;
+    let mut right = true;
+    for _ in 0..2 {
+        for value in values {
+            right &= does(rt, capacity, words, &Row::Push(*value, true, steps));
+        }
+        right &= does::<T, N>(rt, capacity, words, &Row::Len(capacity as u64, 4));
+        for value in values {
+            right &= does(rt, capacity, words, &Row::Push(*value, false, 2));
+        }
+        for value in values {
+            right &= does(rt, capacity, words, &Row::Pop(Some(*value), steps));
+        }
+        right &= does::<T, N>(rt, capacity, words, &Row::Pop(None, 2));
+    }
+    right
+}
