@@ -1,22 +1,25 @@
 -- What a turn of one party's call is to the whole machine.
-use Rattle.std.proofs.Common.{◌≡◌, ℕ, ◌+◌, ◌-◌, ◌^◌, ◌<◌, inl, inr, ⊎_elim, Bool, false, Option, Some, None, nat_le, List, refl, ap, ◌∙◌, arith}
+use Rattle.std.proofs.Common.{◌≡◌, ℕ, ◌+◌, ◌-◌, ◌^◌, ◌<◌, inl, inr, ⊎_elim, Bool, false, Option, Some, None, is_some, Bor, nat_le, List, refl, sym, ap, ◌∙◌, arith}
 use Rattle.std.proofs.lemmas.Bool.Decides.{nat_tests}
+use Rattle.std.specs.Prelude.{option_copied}
 use Rattle.model.specs.declared.event.Event.{Event}
+use Rattle.model.specs.declared.event.Start.{Start}
 use Rattle.model.specs.declared.party.Doing.{Doing}
 use Rattle.model.specs.declared.party.Doing.TheVariants.{Going, Over}
 use Rattle.model.specs.declared.party.Party.{Party}
 use Rattle.model.specs.declared.turn.Refusal.{Refusal}
-use Rattle.model.specs.Families.{beside_of}
+use Rattle.model.specs.declared.turn.Turn.TheVariants.{Begin}
+use Rattle.model.specs.Families.{begin_rows, beside_of}
 use Rattle.model.specs.Parties.{party_of, put, doing_of, flight_of}
 use Rattle.model.specs.Refusals.{refusal_of, IsRefusal}
 use Rattle.model.specs.Rows.{first_row}
 use Rattle.model.specs.Turns.{turn_of, after_turn}
-use Rattle.model.specs.World.{World}
+use Rattle.model.specs.World.{World, flight_in}
 use Rattle.machine.specs.Parts.{going_rows, going_refusal, IsGoingRefusal, Around, after_turn_of}
 
 module _ {T : Type 0} (w : World T) (p : ℕ) (said : Option Bool) where
   -- what is tested of the turn, once its party is there
-  rows_left : w.turns < 2 ^ 64 - 2 → p < w.parties → refusal_of w (turn_of p said) ≡ first_row (going_rows (flight_of (doing_of (party_of p w.latest))) said)
+  rows_left : w.turns < 2 ^ 64 - 2 → p < w.parties → refusal_of w (turn_of p said) ≡ first_row (going_rows w.coding (flight_of (doing_of (party_of p w.latest))) said)
   rows_left small within = go said
     where
       early : nat_le (2 ^ 64 - 2) w.turns ≡ false
@@ -25,21 +28,21 @@ module _ {T : Type 0} (w : World T) (p : ℕ) (said : Option Bool) where
       there : nat_le w.parties p ≡ false
       there = grind (arith, nat_tests)
 
-      go : (said : Option Bool) → refusal_of w (turn_of p said) ≡ first_row (going_rows (flight_of (doing_of (party_of p w.latest))) said)
+      go : (said : Option Bool) → refusal_of w (turn_of p said) ≡ first_row (going_rows w.coding (flight_of (doing_of (party_of p w.latest))) said)
       go None = rw (early, there) refl
       go (Some b) = rw (early, there) refl
 
-  pub refusal_is : (x : Party T) → w.turns < 2 ^ 64 - 2 → p < w.parties → party_of p w.latest ≡ Some x → refusal_of w (turn_of p said) ≡ going_refusal x.doing said
-  refusal_is x small within found = rows_left small within ∙ ap (λ o. first_row (going_rows (flight_of (doing_of o)) said)) found
+  pub refusal_is : (x : Party T) → w.turns < 2 ^ 64 - 2 → p < w.parties → party_of p w.latest ≡ Some x → refusal_of w (turn_of p said) ≡ going_refusal w.coding x.doing said
+  refusal_is x small within found = rows_left small within ∙ ap (λ o. first_row (going_rows w.coding (flight_of (doing_of o)) said)) found
 
-  pub is_refusal : (x : Party T) (r : Refusal) → w.turns < 2 ^ 64 - 2 → p < w.parties → party_of p w.latest ≡ Some x → IsGoingRefusal x.doing said r → IsRefusal w (turn_of p said) r
+  pub is_refusal : (x : Party T) (r : Refusal) → w.turns < 2 ^ 64 - 2 → p < w.parties → party_of p w.latest ≡ Some x → IsGoingRefusal w.coding x.doing said r → IsRefusal w (turn_of p said) r
   is_refusal x r small within found h =
       let same = refusal_is x small within found in
       ⊎_elim (λ row. inl (same ∙ row)) (λ memory. inr (same ∙ memory.0, memory.1)) h
 
   pub going_is :
-      (events : List (Event T)) (x : Party T) (a : Around T) (latest : List (ℕ × Party T)) → party_of p w.latest ≡ Some x → going_refusal x.doing said ≡ None
-      → a ≡ after_turn_of p said (beside_of w.words w.kept w.latest p) x.doing (record { party = x; words = w.words; kept = w.kept; changes = w.changes; events = events })
+      (events : List (Event T)) (x : Party T) (a : Around T) (latest : List (ℕ × Party T)) → party_of p w.latest ≡ Some x → going_refusal w.coding x.doing said ≡ None
+      → a ≡ after_turn_of w.coding p said (beside_of w.words w.kept w.latest p) x.doing (record { party = x; words = w.words; kept = w.kept; changes = w.changes; events = events })
       → latest ≡ put p a.party w.latest
       → record { world = record w { words = a.words; kept = a.kept; latest = latest; changes = a.changes; turns = w.turns + 1 }; events = a.events } ≡ after_turn (record { world = w; events = events }) (turn_of p said)
   going_is events x a latest found allowed is written = rw written (go x.doing refl said refl)
@@ -47,7 +50,7 @@ module _ {T : Type 0} (w : World T) (p : ℕ) (said : Option Bool) where
       begun : Around T
       begun = record { party = x; words = w.words; kept = w.kept; changes = w.changes; events = events }
 
-      go : (doing : Doing) → x.doing ≡ doing → (b : Option Bool) → said ≡ b
+      go : (doing : Doing T) → x.doing ≡ doing → (b : Option Bool) → said ≡ b
           → record { world = record w { words = a.words; kept = a.kept; latest = put p a.party w.latest; changes = a.changes; turns = w.turns + 1 }; events = a.events } ≡ after_turn (record { world = w; events = events }) (turn_of p said)
       go (Over others) d None e =
           let clash = rw (d, e) at allowed in
@@ -57,3 +60,15 @@ module _ {T : Type 0} (w : World T) (p : ℕ) (said : Option Bool) where
           absurd (cc)
       go (Going flight since) d None e = rw is (rw (d, e) (rw (found, d) refl))
       go (Going flight since) d (Some b) e = rw is (rw (d, e) (rw (found, d) refl))
+
+-- a turn that begins a call passes where the family's own rows do
+pub begin_passes : {T : Type 0} (w : World T) (p : ℕ) (start : Start T) → w.turns < 2 ^ 64 - 2 → p < w.parties → is_some (flight_in w p) ≡ false → first_row (begin_rows w.kind w.capacity w.kept p start) ≡ None → refusal_of w (Begin p start) ≡ None
+begin_passes w p start small within free rows =
+    let early : nat_le (2 ^ 64 - 2) w.turns ≡ false = grind (arith, nat_tests) in
+    let there : nat_le w.parties p ≡ false = grind (arith, nat_tests) in
+    rw (early, there, free) rows
+
+-- no call under way was found
+pub none_found : {A : Type 0} (o : Option (Bor A)) (found : Option A) → option_copied o ≡ found → false ≡ is_some o → is_some found ≡ false
+none_found None found is e = ap is_some (sym is)
+none_found (Some x) found is e = absurd (cc)

@@ -2,7 +2,6 @@
 use Rattle.std.specs.Prelude.{◌≡◌, ◌⊎◌, ℕ, ◌+◌, Bool, not, Option, Some, None, is_none, List, [], ◌∷◌, ◌++◌}
 use Rattle.steps.specs.declared.ask.Ask.{Ask}
 use Rattle.model.specs.declared.event.Event.{Event}
-use Rattle.model.specs.declared.families.Beside.{Beside}
 use Rattle.model.specs.declared.families.Flight.{Flight}
 use Rattle.model.specs.declared.families.Kept.{Kept}
 use Rattle.model.specs.declared.party.Doing.{Doing}
@@ -10,56 +9,60 @@ use Rattle.model.specs.declared.party.Doing.TheVariants.{Going, Over}
 use Rattle.model.specs.declared.party.Party.{Party}
 use Rattle.model.specs.declared.turn.Refusal.{Refusal}
 use Rattle.model.specs.declared.turn.Refusal.TheVariants.{Idle, Undecided, NoMemory}
+use Rattle.model.specs.Coding.{Coding}
 use Rattle.model.specs.Families.{want_of, ask_of, step_of}
 use Rattle.model.specs.Parties.{flight_of}
 use Rattle.model.specs.Refusals.{is_due}
 use Rattle.model.specs.Rows.{first_row}
 use Rattle.model.specs.Step.{Step}
 use Rattle.model.specs.Turns.{old_of, words_after, change_of, step_count, number_of, party_after, events_of_step}
-use Rattle.model.specs.World.{Trace}
+use Rattle.model.specs.World.{Trace, State, trace_in}
 use Rattle.machine.specs.declared.parts.Parts.{Parts}
 
--- the machine that these parts make
-abbrev pub trace_of : {T : Type 0} → Parts T → Trace T
-trace_of m =
+-- what these parts hold
+abbrev pub state_of : {T : Type 0} → Parts T → State T
+state_of m =
     record {
-      world =
-          record {
-            kind = m.kind;
-            capacity = m.capacity;
-            parties = m.parties;
-            words = m.words.items;
-            kept = m.kept;
-            latest = m.latest.entries;
-            changes = m.changes;
-            turns = m.turns;
-          };
+      kind = m.kind;
+      capacity = m.capacity;
+      parties = m.parties;
+      words = m.words.items;
+      kept = m.kept;
+      latest = m.latest.entries;
+      changes = m.changes;
+      turns = m.turns;
       events = m.events.items;
     }
 
--- what is tested of the call that is to go on, with a decision or without
-abbrev pub going_rows : Option Flight → Option Bool → List (Bool × Refusal)
-going_rows flight None = (is_none flight, Idle) ∷ (is_due flight, Undecided) ∷ []
-going_rows flight (Some said) = (is_none flight, Idle) ∷ (not (is_due flight), Undecided) ∷ []
+-- the machine that these parts make
+abbrev pub trace_of : {T : Type 0} → Coding T → Parts T → Trace T
+trace_of code m = trace_in code (state_of m)
 
-abbrev pub going_refusal : Doing → Option Bool → Option Refusal
-going_refusal doing said = first_row (going_rows (flight_of (Some doing)) said)
+module _ {T : Type 0} where
+  -- what is tested of the call that is to go on, with a decision or without
+  abbrev pub going_rows : Coding T → Option (Flight T) → Option Bool → List (Bool × Refusal)
+  going_rows code flight None = (is_none flight, Idle) ∷ (is_due code flight, Undecided) ∷ []
+  going_rows code flight (Some said) =
+      (is_none flight, Idle) ∷ (not (is_due code flight), Undecided) ∷ []
 
--- a refusal of it names the first row that applies; where none does, memory was refused
-abbrev pub IsGoingRefusal : Doing → Option Bool → Refusal → Type 0
-IsGoingRefusal doing said refusal =
-    (going_refusal doing said ≡ Some refusal)
-    ⊎ (going_refusal doing said ≡ None) × (refusal ≡ NoMemory)
+  abbrev pub going_refusal : Coding T → Doing T → Option Bool → Option Refusal
+  going_refusal code doing said = first_row (going_rows code (flight_of (Some doing)) said)
 
--- the operation that the call does: none with a decision
-abbrev pub ask_with : Option Bool → Flight → Option Ask
-ask_with None flight = ask_of (want_of flight)
-ask_with (Some said) flight = None
+  -- a refusal of it names the first row that applies; where none does, memory was refused
+  abbrev pub IsGoingRefusal : Coding T → Doing T → Option Bool → Refusal → Type 0
+  IsGoingRefusal code doing said refusal =
+      (going_refusal code doing said ≡ Some refusal)
+      ⊎ (going_refusal code doing said ≡ None) × (refusal ≡ NoMemory)
 
--- what it is handed: the old value of its word, or the decision
-abbrev pub answer_with : Option Bool → List ℕ → Flight → ℕ
-answer_with None words flight = old_of words (ask_of (want_of flight))
-answer_with (Some said) words flight = number_of said
+  -- the operation that the call does: none with a decision
+  abbrev pub ask_with : Coding T → Option Bool → Flight T → Option Ask
+  ask_with code None flight = ask_of (want_of code flight)
+  ask_with code (Some said) flight = None
+
+  -- what it is handed: the old value of its word, or the decision
+  abbrev pub answer_with : Coding T → Option Bool → List ℕ → Flight T → ℕ
+  answer_with code None words flight = old_of words (ask_of (want_of code flight))
+  answer_with code (Some said) words flight = number_of said
 
 -- what a party's turn works on
 pub record Around (T : Type 0) : Type 0 where
@@ -80,7 +83,8 @@ module _ {T : Type 0} where
         events = events;
       }
 
-  abbrev after_going : ℕ → Option Ask → Party T → ℕ → Around T → Step Flight Kept T → Around T
+  abbrev after_going : ℕ → Option Ask → Party T → ℕ → Around T
+      → Step (Flight T) Kept T → Around T
   after_going p ask x since a s =
       record {
         party = party_after x since a.changes (step_count ask) (change_of a.words ask) s;
@@ -91,8 +95,10 @@ module _ {T : Type 0} where
       }
 
   -- what the turn makes of it; a call that is done stays
-  abbrev pub after_turn_of : ℕ → Option Bool → Beside → Doing → Around T → Around T
-  after_turn_of p said beside (Over others) a = a
-  after_turn_of p said beside (Going flight since) a =
-      after_going p (ask_with said flight) a.party since a
-      (step_of a.words beside p a.party.start flight (answer_with said a.words flight) a.kept)
+  abbrev pub after_turn_of : Coding T → ℕ → Option Bool → Option (ℕ × ℕ) → Doing T → Around T
+      → Around T
+  after_turn_of code p said beside (Over others) a = a
+  after_turn_of code p said beside (Going flight since) a =
+      after_going p (ask_with code said flight) a.party since a
+      (step_of code a.words beside p a.party.start flight
+      (answer_with code said a.words flight) a.kept)

@@ -10,10 +10,9 @@ use steps::enums::UniqueIndexCreationError;
 use steps::words::Words;
 
 mod parts;
-#[cfg(test)]
-mod tests;
 
 use event::Event;
+use model::coding::Coded;
 pub use model::{event, families, party, turn};
 use parts::Parts;
 use party::{Progress, flight_of, progress_of};
@@ -22,31 +21,33 @@ use turn::{Kind, Refusal, Turn};
 /// One structure and its parties, with what they have done so far. `T` is the type of the values of the structures
 /// that keep values; the queues of indices keep numbers of 64 bits, whatever `T` is.
 #[derive(Drop)]
-pub struct Machine<T> {
+pub struct Machine<T: Words> {
     parts: Parts<T>,
 }
 
-impl<T> Model for Machine<T> {
-    ghost use Rattle.model.specs.World.{Trace};
-    ghost use Rattle.machine.specs.Parts.{trace_of};
+impl<T: Words> Model for Machine<T> {
+    ghost use Rattle.model.specs.Coding.{coding_of};
+    ghost use Rattle.model.specs.World.{State};
+    ghost use Rattle.machine.specs.Parts.{state_of, trace_of};
     ghost use Rattle.model.specs.Turns.{IsReached};
 
-    ghost Value = { Trace T };
+    ghost Value = { State T };
 
-    ghost view = { λ m. trace_of m.parts };
+    ghost view = { λ m. state_of m.parts };
 
-    ghost invariant = { λ m. IsReached (trace_of m.parts) };
+    ghost invariant = { λ m.
+        IsReached (trace_of (coding_of T.WORDS T.words_of T.value_of) m.parts) };
 }
 
 impl<T: Words> Machine<T> {
-    ghost use Rattle.model.specs.World.{opening, capacity_error, IsCreationError, progress_in};
+    ghost use Rattle.model.specs.World.{opening, capacity_error, IsCreationError, trace_in, world_in, progress_in};
     ghost use Rattle.model.specs.Refusals.{refusal_of, IsRefusal, is_going};
     ghost use Rattle.model.specs.Turns.{after_turn, after_turns, AreAllowed};
-    ghost use Rattle.model.specs.Promises.{IsKept, AreTurns};
-    ghost use Rattle.model.specs.Promises.Turns.{IsOneTurnLater, WritesOneWord, GoesOn, CountsTurn, CountsOthers, WritesDown};
+    ghost use Rattle.model.specs.Promises.{IsKept, WritesEvents, AreTurns};
+    ghost use Rattle.model.specs.Promises.Turns.{IsOneTurnLater, WritesOneWord, GoesOn, CountsTurn, CountsOthers};
 
-    /// A structure that is empty, with both roles free, and this many parties, numbered from 0. Room for a party
-    /// is made as it first begins a call.
+    /// A structure that is empty, or has the value that words of zeros make, with its roles free, and this many
+    /// parties, numbered from 0. Room for a party is made as it first begins a call.
     ///
     /// Refused are, in this order, a capacity above the greatest of the kind, one below the least, and memory.
     pub fn new(
@@ -55,7 +56,8 @@ impl<T: Words> Machine<T> {
         capacity: usize,
         parties: u32,
     ) -> Result<Machine<T>, UniqueIndexCreationError>
-        ensures ok { IfOk result (λ m. m ≡ opening kind capacity parties) }
+        ensures ok { IfOk result (λ m. trace_in ⟦<T as Coded>⟧.coding m
+            ≡ opening ⟦<T as Coded>⟧.coding kind capacity parties) }
         ensures admitted { OnOk result (capacity_error kind capacity ≡ None) }
         ensures refused { IfErr result (IsCreationError kind capacity) }
     {
@@ -71,23 +73,32 @@ impl<T: Words> Machine<T> {
     /// where a decision is due; for `Decide` `Idle` and `Undecided` where none is due; for `Die` `WrongCall`; last
     /// `NoMemory`, where there is no room for the events or for a new party.
     pub fn step(&mut self, turn: Turn<T>) -> Result<(), Refusal>
-        ensures allowed { OnOk result (refusal_of self.old.world turn ≡ None) }
-        ensures refused { IfErr result (IsRefusal self.old.world turn) }
+        ensures allowed { OnOk result
+            (refusal_of (world_in ⟦<T as Coded>⟧.coding self.old) turn ≡ None) }
+        ensures refused { IfErr result
+            (IsRefusal (world_in ⟦<T as Coded>⟧.coding self.old) turn) }
         ensures err { OnErr result (self.new ≡ self.old) }
 
         // What the turn makes of the machine, and what it writes down.
-        ensures ok { OnOk result (self.new ≡ after_turn self.old turn) }
+        ensures ok { OnOk result (trace_in ⟦<T as Coded>⟧.coding self.new
+            ≡ after_turn (trace_in ⟦<T as Coded>⟧.coding self.old) turn) }
 
         // The same, in its own words.
-        ensures later { OnOk result (IsOneTurnLater self.old.world self.new.world) }
-        ensures word { OnOk result (WritesOneWord self.old.world turn self.new.world) }
-        ensures call { OnOk result (GoesOn self.old.world turn self.new.world) }
-        ensures counts { OnOk result (CountsTurn self.old.world turn self.new.world) }
-        ensures others { OnOk result (CountsOthers self.old.world turn self.new.world) }
-        ensures events { OnOk result (WritesDown self.old turn self.new) }
+        ensures later { OnOk result (IsOneTurnLater (world_in ⟦<T as Coded>⟧.coding self.old)
+            (world_in ⟦<T as Coded>⟧.coding self.new)) }
+        ensures word { OnOk result (WritesOneWord (world_in ⟦<T as Coded>⟧.coding self.old)
+            turn (world_in ⟦<T as Coded>⟧.coding self.new)) }
+        ensures call { OnOk result (GoesOn (world_in ⟦<T as Coded>⟧.coding self.old)
+            turn (world_in ⟦<T as Coded>⟧.coding self.new)) }
+        ensures counts { OnOk result (CountsTurn (world_in ⟦<T as Coded>⟧.coding self.old)
+            turn (world_in ⟦<T as Coded>⟧.coding self.new)) }
+        ensures others { OnOk result (CountsOthers (world_in ⟦<T as Coded>⟧.coding self.old)
+            turn (world_in ⟦<T as Coded>⟧.coding self.new)) }
+        ensures events { OnOk result (WritesEvents (trace_in ⟦<T as Coded>⟧.coding self.old)
+            turn (trace_in ⟦<T as Coded>⟧.coding self.new)) }
 
         // The promises of every run.
-        ensures kept { IsKept self.new }
+        ensures kept { IsKept (trace_in ⟦<T as Coded>⟧.coding self.new) }
     {
         self.parts.step(turn)?;
         Ok(())
@@ -97,10 +108,13 @@ impl<T: Words> Machine<T> {
     /// it change nothing.
     pub fn run(&mut self, turns: &[Turn<T>]) -> usize
         ensures count { result ≤ length turns.now }
-        ensures allowed { AreAllowed self.old (take result turns.now) }
-        ensures taken { self.new ≡ after_turns self.old (take result turns.now) }
-        ensures each { AreTurns self.old (take result turns.now) }
-        ensures kept { IsKept self.new }
+        ensures allowed { AreAllowed (trace_in ⟦<T as Coded>⟧.coding self.old)
+            (take result turns.now) }
+        ensures taken { trace_in ⟦<T as Coded>⟧.coding self.new
+            ≡ after_turns (trace_in ⟦<T as Coded>⟧.coding self.old) (take result turns.now) }
+        ensures each { AreTurns (trace_in ⟦<T as Coded>⟧.coding self.old)
+            (take result turns.now) }
+        ensures kept { IsKept (trace_in ⟦<T as Coded>⟧.coding self.new) }
     {
         let _ = &self.parts;
         for (at, turn) in turns.iter().enumerate() {
@@ -120,23 +134,24 @@ impl<T: Words> Machine<T> {
 
     /// The shared words as they are now. Of a queue: the write position, the read position, the producer's role, the
     /// consumer's role (1 while it is free), and the cells, of which an overflowing
-    /// queue has one more than its capacity.
+    /// queue has one more than its capacity. Of the single value: the version, the producer's role, and two cells of
+    /// `T::WORDS` words each, of which the one with the number (version - 1) mod 2 has the value that stands.
     pub fn words(&self) -> &[u64]
-        ensures { result.now ≡ self.now.world.words }
+        ensures { result.now ≡ self.now.words }
     {
         &self.parts.words
     }
 
     /// How far the party's latest call has come, or None where it has begun none.
     pub fn under_way(&self, party: u32) -> Option<Progress>
-        ensures { result ≡ progress_in self.now.world party }
+        ensures { result ≡ progress_in (world_in ⟦<T as Coded>⟧.coding self.now) party }
     {
         progress_of(&self.parts.latest, self.parts.changes, party)
     }
 
     /// Whether the party has a call under way that needs no decision to go on.
     pub fn is_going(&self, party: u32) -> bool
-        ensures { result ≡ is_going self.now.world party }
+        ensures { result ≡ is_going (world_in ⟦<T as Coded>⟧.coding self.now) party }
     {
         match flight_of(&self.parts.latest, party) {
             Some(flight) => !flight.is_asking(),

@@ -3,9 +3,10 @@ ghost use Rattle.std.specs.Prelude.{◌≡◌, ◌-◌, ◌^◌, ◌≤◌, ◌<
 ghost use Rattle.model.specs.World.{opening, capacity_error, IsCreationError};
 ghost use Rattle.model.specs.Refusals.{refusal_of, IsRefusal};
 ghost use Rattle.model.specs.Small.{IsSmall, HasSmallCounts};
-ghost use Rattle.model.specs.Turns.{turn_of, number_of, after_turn};
-ghost use Rattle.machine.specs.Parts.{trace_of, going_refusal, IsGoingRefusal, around, after_turn_of};
+ghost use Rattle.model.specs.Turns.{turn_of, number_of, one_if, after_turn};
+ghost use Rattle.machine.specs.Parts.{state_of, trace_of, going_refusal, IsGoingRefusal, around, after_turn_of};
 
+use model::coding::Coded;
 use model::event::{Event, Start};
 use model::families::{self, Beside, Kept, MOST_EFFECTS};
 use model::party::{Doing, Latest, Party, flight_of};
@@ -15,6 +16,7 @@ use std::alloc::Global;
 use std::collections::BTreeMap;
 use steps::ask::Want;
 use steps::enums::UniqueIndexCreationError;
+use steps::words::Words;
 
 /// As many turns as a machine takes.
 const MOST_TURNS: u64 = u64::MAX - 1;
@@ -39,8 +41,15 @@ fn number_of(said: bool) -> u64
     if said { 1 } else { 0 }
 }
 
+/// What a turn back counts.
+fn one_if(back: bool) -> u64
+    ensures { result ≡ one_if back }
+{
+    if back { 1 } else { 0 }
+}
+
 /// The party's call takes its step, or is handed a decision, unless it is refused.
-fn go_on<T: Copy>(
+fn go_on<T: Words>(
     party: &mut Party<T>,
     number: u32,
     said: Option<bool>,
@@ -54,10 +63,12 @@ fn go_on<T: Copy>(
     requires turns { turns < 2 ^ 64 - 2 }
     requires changes { changes.old ≤ turns }
     requires small { HasSmallCounts turns changes.old party.old }
-    ensures allowed { OnOk result (going_refusal party.old.doing said ≡ None) }
-    ensures refused { IfErr result (IsGoingRefusal party.old.doing said) }
+    ensures allowed { OnOk result
+        (going_refusal ⟦<T as Coded>⟧.coding party.old.doing said ≡ None) }
+    ensures refused { IfErr result
+        (IsGoingRefusal ⟦<T as Coded>⟧.coding party.old.doing said) }
     ensures ok { OnOk result (around party.new words.new.items kept.new changes.new events.new.items
-        ≡ after_turn_of number said beside party.old.doing
+        ≡ after_turn_of ⟦<T as Coded>⟧.coding number said beside party.old.doing
         (around party.old words.old.items kept.old changes.old events.old.items)) }
     ensures party { OnErr result (party.new ≡ party.old) }
     ensures words { OnErr result (words.new.items ≡ words.old.items) }
@@ -82,7 +93,7 @@ fn go_on<T: Copy>(
     *changes += change;
     *since += change;
     party.steps += words::count(ask);
-    party.backs += went.back;
+    party.backs += one_if(went.back);
     if let Some(answer) = went.done {
         events.push_reserved(Event::Finished(number, party.start, answer));
         party.doing = Doing::Over(changes.saturating_sub(*since));
@@ -91,7 +102,7 @@ fn go_on<T: Copy>(
     Ok(())
 }
 
-impl<T: Copy> Parts<T> {
+impl<T: Words> Parts<T> {
     /// The parts of a machine in which nothing has happened.
     pub fn new(
         alloc: Global,
@@ -99,7 +110,8 @@ impl<T: Copy> Parts<T> {
         capacity: usize,
         parties: u32,
     ) -> Result<Parts<T>, UniqueIndexCreationError>
-        ensures ok { IfOk result (λ m. trace_of m ≡ opening kind capacity parties) }
+        ensures ok { IfOk result (λ m. trace_of ⟦<T as Coded>⟧.coding m
+            ≡ opening ⟦<T as Coded>⟧.coding kind capacity parties) }
         ensures admitted { OnOk result (capacity_error kind capacity ≡ None) }
         ensures refused { IfErr result (IsCreationError kind capacity) }
     {
@@ -107,7 +119,7 @@ impl<T: Copy> Parts<T> {
             return Err(error);
         }
         let capacity = capacity as u32;
-        let Ok(words) = families::opening_words(alloc, kind, capacity) else {
+        let Ok((words, kept)) = families::opening::<T>(alloc, kind, capacity) else {
             return Err(UniqueIndexCreationError::NoMemory);
         };
         Ok(Parts {
@@ -115,7 +127,7 @@ impl<T: Copy> Parts<T> {
             capacity,
             parties,
             words,
-            kept: families::opening_kept(kind),
+            kept,
             latest: BTreeMap::new(alloc),
             changes: 0,
             turns: 0,
@@ -127,12 +139,14 @@ impl<T: Copy> Parts<T> {
     fn begin(&mut self, number: u32, start: Start<T>) -> Result<(), Refusal>
         requires { self.old.turns < 2 ^ 64 - 2 }
         ensures allowed { OnOk result
-            (refusal_of (trace_of self.old).world (Turn.Begin number start) ≡ None) }
+            (refusal_of (trace_of ⟦<T as Coded>⟧.coding self.old).world
+            (Turn.Begin number start) ≡ None) }
         ensures refused { IfErr result
-            (IsRefusal (trace_of self.old).world (Turn.Begin number start)) }
+            (IsRefusal (trace_of ⟦<T as Coded>⟧.coding self.old).world (Turn.Begin number start)) }
         ensures ok { OnOk result
-            (trace_of self.new ≡ after_turn (trace_of self.old) (Turn.Begin number start)) }
-        ensures err { OnErr result (trace_of self.new ≡ trace_of self.old) }
+            (trace_of ⟦<T as Coded>⟧.coding self.new
+            ≡ after_turn (trace_of ⟦<T as Coded>⟧.coding self.old) (Turn.Begin number start)) }
+        ensures err { OnErr result (state_of self.new ≡ state_of self.old) }
     {
         if number >= self.parties {
             return Err(Refusal::NoParty);
@@ -140,12 +154,7 @@ impl<T: Copy> Parts<T> {
         if flight_of(&self.latest, number).is_some() {
             return Err(Refusal::Busy);
         }
-        let Some(flight) = families::first(self.kind, self.capacity, &start) else {
-            return Err(Refusal::WrongCall);
-        };
-        if let Some(refusal) = families::call_refusal(&self.kept, number, &start) {
-            return Err(refusal);
-        }
+        let flight = families::begin(self.kind, self.capacity, &self.kept, number, &start)?;
         let Ok(()) = self.events.reserve(1) else {
             return Err(Refusal::NoMemory);
         };
@@ -166,13 +175,16 @@ impl<T: Copy> Parts<T> {
     /// The party's call takes its step, or is handed a decision, unless that is refused.
     fn resume(&mut self, number: u32, said: Option<bool>) -> Result<(), Refusal>
         requires turns { self.old.turns < 2 ^ 64 - 2 }
-        requires small { IsSmall (trace_of self.old).world }
+        requires small { IsSmall (trace_of ⟦<T as Coded>⟧.coding self.old).world }
         ensures allowed { OnOk result
-            (refusal_of (trace_of self.old).world (turn_of number said) ≡ None) }
-        ensures refused { IfErr result (IsRefusal (trace_of self.old).world (turn_of number said)) }
+            (refusal_of (trace_of ⟦<T as Coded>⟧.coding self.old).world (turn_of number said)
+            ≡ None) }
+        ensures refused { IfErr result
+            (IsRefusal (trace_of ⟦<T as Coded>⟧.coding self.old).world (turn_of number said)) }
         ensures ok { OnOk result
-            (trace_of self.new ≡ after_turn (trace_of self.old) (turn_of number said)) }
-        ensures err { OnErr result (trace_of self.new ≡ trace_of self.old) }
+            (trace_of ⟦<T as Coded>⟧.coding self.new
+            ≡ after_turn (trace_of ⟦<T as Coded>⟧.coding self.old) (turn_of number said)) }
+        ensures err { OnErr result (state_of self.new ≡ state_of self.old) }
     {
         if number >= self.parties {
             return Err(Refusal::NoParty);
@@ -204,11 +216,14 @@ impl<T: Copy> Parts<T> {
 
     /// One turn.
     pub fn step(&mut self, turn: Turn<T>) -> Result<(), Refusal>
-        requires { IsSmall (trace_of self.old).world }
-        ensures allowed { OnOk result (refusal_of (trace_of self.old).world turn ≡ None) }
-        ensures ok { OnOk result (trace_of self.new ≡ after_turn (trace_of self.old) turn) }
-        ensures refused { IfErr result (IsRefusal (trace_of self.old).world turn) }
-        ensures err { OnErr result (trace_of self.new ≡ trace_of self.old) }
+        requires { IsSmall (trace_of ⟦<T as Coded>⟧.coding self.old).world }
+        ensures allowed { OnOk result
+            (refusal_of (trace_of ⟦<T as Coded>⟧.coding self.old).world turn ≡ None) }
+        ensures ok { OnOk result
+            (trace_of ⟦<T as Coded>⟧.coding self.new ≡ after_turn (trace_of ⟦<T as Coded>⟧.coding self.old) turn) }
+        ensures refused { IfErr result
+            (IsRefusal (trace_of ⟦<T as Coded>⟧.coding self.old).world turn) }
+        ensures err { OnErr result (state_of self.new ≡ state_of self.old) }
     {
         if self.turns >= MOST_TURNS {
             return Err(Refusal::AtEnd);

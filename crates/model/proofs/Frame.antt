@@ -14,9 +14,11 @@ use Rattle.model.specs.declared.party.Party.{Party}
 use Rattle.model.specs.declared.turn.Kind.{Kind}
 use Rattle.model.specs.declared.turn.Turn.{Turn}
 use Rattle.model.specs.declared.turn.Turn.TheVariants.{Begin, Next, Decide, Die}
+use Rattle.model.specs.Coding.{Coding}
 use Rattle.model.specs.Families.{first_of, want_of, ask_of, is_question}
 use Rattle.model.specs.Parties.{party_of, put, doing_of, flight_of, progress_after}
-use Rattle.model.specs.Promises.Bounds.{most_steps, Progresses}
+use Rattle.model.specs.Promises.Bounds.{Progresses}
+use Rattle.model.specs.Promise.{Promise}
 use Rattle.model.specs.Promises.Spans.{Stands, StandsRight}
 use Rattle.model.specs.Reading.{Each, Span, Never, Open, Ended, own_after, span_of}
 use Rattle.model.specs.Refusals.{refusal_of, is_due}
@@ -30,20 +32,22 @@ use Rattle.model.proofs.Rows.{may_begin, may_next, may_decide, must_be_due, neve
 
 -- what a family gives
 pub record Family (T : Type 0) : Type 1 where
+  pub coding : Coding T
   pub kind : Kind
+  pub promise : Promise T
   pub capacity : ℕ
   pub State : Type 0  -- what the words and what is kept beside them hold
   pub Fit : Kept → List ℕ → State → Type 0  -- they hold it
   pub Holds : State → List (ℕ × Party T) → List (Event T) → ℕ → Type 0  -- what is so of it and of the events, after so many turns
-  pub written : State → ℕ → Flight → List (Event T)  -- what a party's call under way has written since its begin
-  pub number : Flight → ℕ → ℕ  -- how many steps it has taken at most, having turned back so often
-  pub At : State → ℕ → Start T → Flight → Type 0  -- where it stands
-  pub Knows : State → ℕ → List (Event T) → ℕ → ℕ → ℕ → Flight → Type 0  -- what it knows of the events and of the counts
+  pub written : State → ℕ → Flight T → List (Event T)  -- what a party's call under way has written since its begin
+  pub number : Flight T → ℕ → ℕ  -- how many steps it has taken at most, having turned back so often
+  pub At : State → ℕ → Start T → Flight T → Type 0  -- where it stands
+  pub Knows : State → ℕ → List (Event T) → ℕ → ℕ → ℕ → Flight T → Type 0  -- what it knows of the events and of the counts
 
 module _ {T : Type 0} (F : Family T) where
   -- ---- a party's latest call beside its span
 
-  pub record IsUnderWay (s : F.State) (p : ℕ) (x : Party T) (flight : Flight) (seen : Span T) : Type 0 where
+  pub record IsUnderWay (s : F.State) (p : ℕ) (x : Party T) (flight : Flight T) (seen : Span T) : Type 0 where
     pub span : seen ≡ Open x.start (F.written s p flight)
     pub steps : x.steps ≤ F.number flight x.backs
     pub at : F.At s p x.start flight
@@ -52,9 +56,9 @@ module _ {T : Type 0} (F : Family T) where
     pub answer : Answer T
     pub wrote : List (Event T)
     pub span : seen ≡ Ended x.start answer wrote
-    pub steps : x.steps ≤ most_steps F.kind x.start x.backs
+    pub steps : x.steps ≤ F.promise.most_steps F.coding.size x.start x.backs
 
-  abbrev pub FitsDoing : F.State → ℕ → Party T → Doing → Span T → Type 0
+  abbrev pub FitsDoing : F.State → ℕ → Party T → Doing T → Span T → Type 0
   FitsDoing s p x (Going flight since) span = IsUnderWay s p x flight span
   FitsDoing s p x (Over others) span = HasEnded x span
 
@@ -62,7 +66,7 @@ module _ {T : Type 0} (F : Family T) where
   Fits s p None span = span ≡ Never
   Fits s p (Some x) span = FitsDoing s p x x.doing span
 
-  abbrev pub KnowsDoing : F.State → ℕ → List (Event T) → ℕ → ℕ → Doing → Type 0
+  abbrev pub KnowsDoing : F.State → ℕ → List (Event T) → ℕ → ℕ → Doing T → Type 0
   KnowsDoing s p events changes backs (Going flight since) = F.Knows s p events since changes backs flight
   KnowsDoing s p events changes backs (Over others) = backs ≤ others
 
@@ -73,13 +77,13 @@ module _ {T : Type 0} (F : Family T) where
   -- ---- the invariant
 
   pub record Inv (s : F.State) (latest : List (ℕ × Party T)) (events : List (Event T)) (changes : ℕ) : Type 0 where
-    pub spans : Each (StandsRight F.kind F.capacity) events
+    pub spans : Each (StandsRight F.promise F.capacity) events
     pub calls : (p : ℕ) → Fits s p (party_of p latest) (span_of p events)
     pub knows : (p : ℕ) → KnowsParty s p events changes (party_of p latest)
 
   -- what a turn of the party p owes, which can write events of other parties too
   pub record Owes (s : F.State) (p : ℕ) (y : Party T) (latest : List (ℕ × Party T)) (events es : List (Event T)) (changes : ℕ) : Type 0 where
-    pub stands : AreRight (StandsRight F.kind F.capacity) events es
+    pub stands : AreRight (StandsRight F.promise F.capacity) events es
     pub here : Fits s p (Some y) (span_of p (events ++ es))
     pub knows : KnowsDoing s p (events ++ es) changes y.backs y.doing
     pub others : (q : ℕ) → q ≢ p → Fits s q (party_of q latest) (span_of q (events ++ es))
@@ -89,7 +93,7 @@ module _ {T : Type 0} (F : Family T) where
       → Inv s' (put p y latest) (events ++ es) changes'
   advance s s' p y latest events es changes changes' inv owes =
       record {
-        spans = Each-append (StandsRight F.kind F.capacity) events es inv.spans owes.stands;
+        spans = Each-append (StandsRight F.promise F.capacity) events es inv.spans owes.stands;
         calls = λ q. ⊎_elim (mine q) (theirs q) (cases_eq q p);
         knows = λ q. ⊎_elim (mine_knows q) (theirs_know q) (cases_eq q p);
       }
@@ -115,15 +119,15 @@ module _ {T : Type 0} (F : Family T) where
   -- what it shows, where its span was this
   pub record Shows (s s' : F.State) (from : Span T) (p : ℕ) (y : Party T) (events es : List (Event T)) (changes changes' : ℕ) : Type 0 where
     pub own : AreOwn p es
-    pub stands : AllFollow (Stands F.kind F.capacity) from es
+    pub stands : AllFollow (Stands F.promise F.capacity) from es
     pub here : Fits s' p (Some y) (fold own_after from es)
     pub knows : KnowsDoing s' p (events ++ es) changes' y.backs y.doing
-    pub others : (q : ℕ) → q ≢ p → (start : Start T) (flight : Flight) → F.At s q start flight → F.At s' q start flight × (F.written s' q flight ≡ F.written s q flight)
-    pub others_know : (q : ℕ) → q ≢ p → (since backs : ℕ) (flight : Flight) → F.Knows s q events since changes backs flight → F.Knows s' q (events ++ es) since changes' backs flight
+    pub others : (q : ℕ) → q ≢ p → (start : Start T) (flight : Flight T) → F.At s q start flight → F.At s' q start flight × (F.written s' q flight ≡ F.written s q flight)
+    pub others_know : (q : ℕ) → q ≢ p → (since backs : ℕ) (flight : Flight T) → F.Knows s q events since changes backs flight → F.Knows s' q (events ++ es) since changes' backs flight
 
   -- a call of another party stays where its span does
-  module _ (s s' : F.State) (q : ℕ) (others : (start : Start T) (flight : Flight) → F.At s q start flight → F.At s' q start flight × (F.written s' q flight ≡ F.written s q flight)) where
-    doing_fits : (x : Party T) (doing : Doing) (span : Span T) → FitsDoing s q x doing span → FitsDoing s' q x doing span
+  module _ (s s' : F.State) (q : ℕ) (others : (start : Start T) (flight : Flight T) → F.At s q start flight → F.At s' q start flight × (F.written s' q flight ≡ F.written s q flight)) where
+    doing_fits : (x : Party T) (doing : Doing T) (span : Span T) → FitsDoing s q x doing span → FitsDoing s' q x doing span
     doing_fits x (Going flight since) span h =
         let both = others x.start flight h.at in
         record { span = h.span ∙ ap (λ es. Open x.start es) (sym both.1); steps = h.steps; at = both.0 }
@@ -133,8 +137,8 @@ module _ {T : Type 0} (F : Family T) where
     still_fits None span h = h
     still_fits (Some x) span h = doing_fits x x.doing span h
 
-  module _ (s s' : F.State) (q : ℕ) (events es : List (Event T)) (changes changes' : ℕ) (others : (since backs : ℕ) (flight : Flight) → F.Knows s q events since changes backs flight → F.Knows s' q (events ++ es) since changes' backs flight) where
-    doing_knows : (backs : ℕ) (doing : Doing) → KnowsDoing s q events changes backs doing → KnowsDoing s' q (events ++ es) changes' backs doing
+  module _ (s s' : F.State) (q : ℕ) (events es : List (Event T)) (changes changes' : ℕ) (others : (since backs : ℕ) (flight : Flight T) → F.Knows s q events since changes backs flight → F.Knows s' q (events ++ es) since changes' backs flight) where
+    doing_knows : (backs : ℕ) (doing : Doing T) → KnowsDoing s q events changes backs doing → KnowsDoing s' q (events ++ es) changes' backs doing
     doing_knows backs (Going flight since) h = others since backs flight h
     doing_knows backs (Over others) h = h
 
@@ -147,7 +151,7 @@ module _ {T : Type 0} (F : Family T) where
   owes s s' from p y latest events es changes changes' is inv shows =
       let span : span_of p (events ++ es) ≡ fold own_after from es = span_of-own p events es shows.own ∙ ap (λ a. fold own_after a es) is in
       record {
-        stands = spans_right (Stands F.kind F.capacity) p events es from is shows.own shows.stands;
+        stands = spans_right (Stands F.promise F.capacity) p events es from is shows.own shows.stands;
         here = subst (λ a. Fits s' p (Some y) a) (sym span) shows.here;
         knows = shows.knows;
         others = λ q ne.
@@ -161,14 +165,14 @@ module _ {T : Type 0} (F : Family T) where
   shut s p None seen e h = subst IsShut (sym h) tt
   shut s p (Some x) seen e h = go x.doing e h
     where
-      go : (doing : Doing) → flight_of (Some doing) ≡ None → FitsDoing s p x doing seen → IsShut seen
+      go : (doing : Doing T) → flight_of (Some doing) ≡ None → FitsDoing s p x doing seen → IsShut seen
       go (Going flight since) e h = absurd (cc)
       go (Over others) e h = subst IsShut (sym h.span) tt
 
-  pub under_way : (s : F.State) (p : ℕ) (x : Party T) (doing : Doing) (flight : Flight) (since : ℕ) (seen : Span T) → doing ≡ Going flight since → FitsDoing s p x doing seen → IsUnderWay s p x flight seen
+  pub under_way : (s : F.State) (p : ℕ) (x : Party T) (doing : Doing T) (flight : Flight T) (since : ℕ) (seen : Span T) → doing ≡ Going flight since → FitsDoing s p x doing seen → IsUnderWay s p x flight seen
   under_way s p x doing flight since seen e h = subst (λ d. FitsDoing s p x d seen) e h
 
-  pub knows_now : (s : F.State) (p : ℕ) (events : List (Event T)) (changes : ℕ) (o : Option (Party T)) (x : Party T) (flight : Flight) (since : ℕ) → o ≡ Some x → x.doing ≡ Going flight since → KnowsParty s p events changes o
+  pub knows_now : (s : F.State) (p : ℕ) (events : List (Event T)) (changes : ℕ) (o : Option (Party T)) (x : Party T) (flight : Flight T) (since : ℕ) → o ≡ Some x → x.doing ≡ Going flight since → KnowsParty s p events changes o
       → F.Knows s p events since changes x.backs flight
   knows_now s p events changes o x flight since found doing h =
       subst (KnowsDoing s p events changes x.backs) doing (subst (KnowsParty s p events changes) found h)
@@ -176,6 +180,7 @@ module _ {T : Type 0} (F : Family T) where
   -- ---- every turn
 
   pub record Sound (t : Trace T) : Type 0 where
+    pub coding : t.world.coding ≡ F.coding
     pub kind : t.world.kind ≡ F.kind
     pub capacity : t.world.capacity ≡ F.capacity
     pub state : F.State
@@ -191,26 +196,27 @@ module _ {T : Type 0} (F : Family T) where
     pub owes : Owes state p y t.world.latest t.events es changes
 
   -- the step of a party's call from this answer, with this operation
-  abbrev pub ComesByStep : Trace T → ℕ → Party T → Flight → ℕ → Option Ask → ℕ → Type 0
+  abbrev pub ComesByStep : Trace T → ℕ → Party T → Flight T → ℕ → Option Ask → ℕ → Type 0
   ComesByStep t p x flight since ask answer =
       Comes t p (step_in t.world p x flight answer).kept (words_after t.world.words ask) (party_after x since t.world.changes (step_count ask) (change_of t.world.words ask) (step_in t.world p x flight answer)) (events_of_step p x.start (step_in t.world p x flight answer)) (t.world.changes + change_of t.world.words ask)
 
   -- what a family owes
   pub record Laws : Type 0 where
-    pub step : (t : Trace T) (p : ℕ) (x : Party T) (flight : Flight) (since : ℕ) → Sound t → t.world.turns < 2 ^ 64 - 2 → party_of p t.world.latest ≡ Some x → x.doing ≡ Going flight since
-        → ComesByStep t p x flight since (ask_of (want_of flight)) (old_of t.world.words (ask_of (want_of flight)))
-    pub decision : (t : Trace T) (p : ℕ) (x : Party T) (flight : Flight) (since : ℕ) (said : Bool) → Sound t → t.world.turns < 2 ^ 64 - 2 → party_of p t.world.latest ≡ Some x → x.doing ≡ Going flight since → is_question (want_of flight) ≡ true
+    pub step : (t : Trace T) (p : ℕ) (x : Party T) (flight : Flight T) (since : ℕ) → Sound t → t.world.turns < 2 ^ 64 - 2 → party_of p t.world.latest ≡ Some x → x.doing ≡ Going flight since
+        → ComesByStep t p x flight since (ask_of (want_of t.world.coding flight)) (old_of t.world.words (ask_of (want_of t.world.coding flight)))
+    pub decision : (t : Trace T) (p : ℕ) (x : Party T) (flight : Flight T) (since : ℕ) (said : Bool) → Sound t → t.world.turns < 2 ^ 64 - 2 → party_of p t.world.latest ≡ Some x → x.doing ≡ Going flight since → is_question (want_of t.world.coding flight) ≡ true
         → ComesByStep t p x flight since None (number_of said)
-    pub begin : (t : Trace T) (p : ℕ) (start : Start T) (flight : Flight) → Sound t → MayBegin t.world p start → first_of t.world.kind t.world.capacity start ≡ Some flight
+    pub begin : (t : Trace T) (p : ℕ) (start : Start T) (flight : Flight T) → Sound t → MayBegin t.world p start → first_of t.world.kind t.world.capacity start ≡ Some flight
         → Comes t p t.world.kept t.world.words (party_at_begin start flight t.world.changes) (Begun p start ∷ []) t.world.changes
 
   module _ (laws : Laws) where
-    step_sound : (t : Trace T) (p : ℕ) (x : Party T) (flight : Flight) (since : ℕ) (ask : Option Ask) (answer : ℕ) → Sound t → ComesByStep t p x flight since ask answer
+    step_sound : (t : Trace T) (p : ℕ) (x : Party T) (flight : Flight T) (since : ℕ) (ask : Option Ask) (answer : ℕ) → Sound t → ComesByStep t p x flight since ask answer
         → Sound record { world = after_step t.world p x since ask (step_in t.world p x flight answer); events = t.events ++ events_of_step p x.start (step_in t.world p x flight answer) }
     step_sound t p x flight since ask answer s comes =
         let w = t.world in
         let y = party_after x since w.changes (step_count ask) (change_of w.words ask) (step_in w p x flight answer) in
         record {
+          coding = s.coding;
           kind = s.kind;
           capacity = s.capacity;
           state = comes.state;
@@ -226,25 +232,25 @@ module _ {T : Type 0} (F : Family T) where
     next_sound t p may s None e = same t s
     next_sound t p may s (Some x) e = go x.doing refl
       where
-        go : (doing : Doing) → x.doing ≡ doing → Sound record { world = after_answer t.world p x (ask_of_doing doing) (old_of t.world.words (ask_of_doing doing)) doing; events = t.events ++ events_of_answer t.world p x (old_of t.world.words (ask_of_doing doing)) doing }
+        go : (doing : Doing T) → x.doing ≡ doing → Sound record { world = after_answer t.world p x (ask_of_doing t.world.coding doing) (old_of t.world.words (ask_of_doing t.world.coding doing)) doing; events = t.events ++ events_of_answer t.world p x (old_of t.world.words (ask_of_doing t.world.coding doing)) doing }
         go (Over others) d = same t s
         go (Going flight since) d =
-            step_sound t p x flight since (ask_of (want_of flight)) (old_of t.world.words (ask_of (want_of flight))) s
+            step_sound t p x flight since (ask_of (want_of t.world.coding flight)) (old_of t.world.words (ask_of (want_of t.world.coding flight))) s
             (laws.step t p x flight since s may.turns e d)
 
-    decision_sound : (t : Trace T) (p : ℕ) (said : Bool) → MayGoOn t.world p → is_due (flight_in t.world p) ≡ true → Sound t → (o : Option (Party T)) → party_of p t.world.latest ≡ o
+    decision_sound : (t : Trace T) (p : ℕ) (said : Bool) → MayGoOn t.world p → is_due t.world.coding (flight_in t.world p) ≡ true → Sound t → (o : Option (Party T)) → party_of p t.world.latest ≡ o
         → Sound record { world = after_decision t.world p said o; events = t.events ++ events_of_decision t.world p said o }
     decision_sound t p said may due s None e = same t s
     decision_sound t p said may due s (Some x) e = go x.doing refl
       where
-        go : (doing : Doing) → x.doing ≡ doing → Sound record { world = after_answer t.world p x None (number_of said) doing; events = t.events ++ events_of_answer t.world p x (number_of said) doing }
+        go : (doing : Doing T) → x.doing ≡ doing → Sound record { world = after_answer t.world p x None (number_of said) doing; events = t.events ++ events_of_answer t.world p x (number_of said) doing }
         go (Over others) d = same t s
         go (Going flight since) d =
             let here : flight_in t.world p ≡ Some flight = ap (λ o. flight_of (doing_of o)) e ∙ ap (λ d. flight_of (Some d)) d in
-            let asks : is_question (want_of flight) ≡ true = rw here at due in
+            let asks : is_question (want_of t.world.coding flight) ≡ true = rw here at due in
             step_sound t p x flight since None (number_of said) s (laws.decision t p x flight since said s may.turns e d asks)
 
-    begin_sound : (t : Trace T) (p : ℕ) (start : Start T) → MayBegin t.world p start → Sound t → (o : Option Flight) → first_of t.world.kind t.world.capacity start ≡ o → Sound record { world = after_begin t.world p start o; events = t.events ++ Begun p start ∷ [] }
+    begin_sound : (t : Trace T) (p : ℕ) (start : Start T) → MayBegin t.world p start → Sound t → (o : Option (Flight T)) → first_of t.world.kind t.world.capacity start ≡ o → Sound record { world = after_begin t.world p start o; events = t.events ++ Begun p start ∷ [] }
     begin_sound t p start may s None e =
         let call = rw e at may.call in
         absurd (cc)
@@ -252,6 +258,7 @@ module _ {T : Type 0} (F : Family T) where
         let w = t.world in
         let comes = laws.begin t p start flight s may e in
         record {
+          coding = s.coding;
           kind = s.kind;
           capacity = s.capacity;
           state = comes.state;
@@ -268,24 +275,24 @@ module _ {T : Type 0} (F : Family T) where
     turn_sound t (Begin p start) e s = begin_sound t p start (may_begin t.world p start e) s (first_of t.world.kind t.world.capacity start) refl
     turn_sound t (Next p) e s = next_sound t p (may_next t.world p e) s (party_of p t.world.latest) refl
     turn_sound t (Decide p said) e s =
-        decision_sound t p said (may_decide t.world p said e) (is_true (is_due (flight_in t.world p)) (must_be_due t.world p said e)) s (party_of p t.world.latest) refl
+        decision_sound t p said (may_decide t.world p said e) (is_true (is_due t.world.coding (flight_in t.world p)) (must_be_due t.world p said e)) s (party_of p t.world.latest) refl
     turn_sound t (Die owner) e s = absurd (never_dies t.world owner e)
 
-    pub reached_sound : (t : Trace T) → Sound (opening t.world.kind t.world.capacity t.world.parties) → IsReached t → Sound t
+    pub reached_sound : (t : Trace T) → Sound (opening t.world.coding t.world.kind t.world.capacity t.world.parties) → IsReached t → Sound t
     reached_sound t first r = kept_by_runs Sound (λ u turn e h. turn_sound u turn e h) t first r
 
   -- ---- progress
 
   -- what a family says of the counts of a call under way
   pub record Bounds : Type 0 where
-    pub most : (s : F.State) (p backs : ℕ) (start : Start T) (flight : Flight) → F.At s p start flight → F.number flight backs ≤ most_steps F.kind start backs
-    pub paid : (s : F.State) (p : ℕ) (events : List (Event T)) (since changes backs : ℕ) (flight : Flight) → F.Knows s p events since changes backs flight → backs ≤ changes - since
+    pub most : (s : F.State) (p backs : ℕ) (start : Start T) (flight : Flight T) → F.At s p start flight → F.number flight backs ≤ F.promise.most_steps F.coding.size start backs
+    pub paid : (s : F.State) (p : ℕ) (events : List (Event T)) (since changes backs : ℕ) (flight : Flight T) → F.Knows s p events since changes backs flight → backs ≤ changes - since
 
-  pub progresses : Bounds → (s : F.State) (p : ℕ) (events : List (Event T)) (changes : ℕ) (o : Option (Party T)) (seen : Span T) → Fits s p o seen → KnowsParty s p events changes o → Progresses F.kind seen (progress_after changes o)
-  progresses bounds s p events changes None seen h knows = subst (λ a. Progresses {T = T} F.kind a None) (sym h) tt
+  pub progresses : Bounds → (s : F.State) (p : ℕ) (events : List (Event T)) (changes : ℕ) (o : Option (Party T)) (seen : Span T) → Fits s p o seen → KnowsParty s p events changes o → Progresses F.promise F.coding.size seen (progress_after changes o)
+  progresses bounds s p events changes None seen h knows = subst (λ a. Progresses {T = T} F.promise F.coding.size a None) (sym h) tt
   progresses bounds s p events changes (Some x) seen h knows = go x.doing refl h knows
     where
-      go : (doing : Doing) → x.doing ≡ doing → FitsDoing s p x doing seen → KnowsDoing s p events changes x.backs doing → Progresses F.kind seen (progress_after changes (Some x))
+      go : (doing : Doing T) → x.doing ≡ doing → FitsDoing s p x doing seen → KnowsDoing s p events changes x.backs doing → Progresses F.promise F.coding.size seen (progress_after changes (Some x))
       go (Going flight since) e h knows =
           let most = bounds.most s p x.backs x.start flight h.at in
           let steps = h.steps in

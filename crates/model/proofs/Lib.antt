@@ -1,6 +1,7 @@
 pub mod Counts
 pub mod Frame
 pub mod Moments
+pub mod Orders
 pub mod Parties
 pub mod Reached
 pub mod Readings
@@ -8,4 +9,6 @@ pub mod Replays
 pub mod Rows
 pub mod Small
 pub mod Turns
+pub mod Values
 pub mod Worked
+pub mod WorkedValue

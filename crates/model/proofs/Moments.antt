@@ -1,7 +1,7 @@
 -- A moment of a call, once it has come, stays one of its moments until the party begins another call.
 use Rattle.std.proofs.Common.{◌≢◌, ℕ, List, [], ◌∷◌, ◌++◌, sym, ap, ◌∙◌, append_assoc, append-nil}
 use Rattle.model.specs.declared.event.Event.{Event}
-use Rattle.model.specs.declared.event.Event.TheVariants.{Begun, Published, HandedOut, Acted, Finished}
+use Rattle.model.specs.declared.event.Event.TheVariants.{Begun}
 use Rattle.model.specs.Moments.{BeginsNone, HeldOnce}
 use Rattle.model.proofs.Readings.{AreOwn}
 
@@ -9,19 +9,13 @@ module _ {T : Type 0} where
   begins_none_more : (p : ℕ) (es more : List (Event T)) → BeginsNone p es → BeginsNone p more → BeginsNone p (es ++ more)
   begins_none_more p [] more h m = m
   begins_none_more p (Begun q start ∷ es) more h m = (h.0, begins_none_more p es more h.1 m)
-  begins_none_more p (Published q item ∷ es) more h m = begins_none_more p es more h m
-  begins_none_more p (HandedOut q item ∷ es) more h m = begins_none_more p es more h m
-  begins_none_more p (Acted q start answer ∷ es) more h m = begins_none_more p es more h m
-  begins_none_more p (Finished q start answer ∷ es) more h m = begins_none_more p es more h m
+  begins_none_more p (e ∷ es) more h m = begins_none_more p es more h m
 
   -- the events of another party begin none of this party's calls
   pub others_begin_none : (p q : ℕ) (es : List (Event T)) → p ≢ q → AreOwn q es → BeginsNone p es
   others_begin_none p q [] ne own = tt
   others_begin_none p q (Begun r start ∷ es) ne own = ((λ e. ne (sym e ∙ own.0)), others_begin_none p q es ne own.1)
-  others_begin_none p q (Published r item ∷ es) ne own = others_begin_none p q es ne own.1
-  others_begin_none p q (HandedOut r item ∷ es) ne own = others_begin_none p q es ne own.1
-  others_begin_none p q (Acted r start answer ∷ es) ne own = others_begin_none p q es ne own.1
-  others_begin_none p q (Finished r start answer ∷ es) ne own = others_begin_none p q es ne own.1
+  others_begin_none p q (e ∷ es) ne own = others_begin_none p q es ne own.1
 
   pub held_now : (p : ℕ) (P : List (Event T) → Type 0) (events : List (Event T)) → P events → HeldOnce p P events
   held_now p P events h = record { part = events; rest = []; is = sym (append-nil events); within = tt; held = h }

@@ -11,6 +11,7 @@ use Rattle.model.specs.declared.turn.Turn.{Turn}
 use Rattle.model.specs.declared.turn.Turn.TheVariants.{Begin, Next, Decide, Die}
 use Rattle.std.proofs.lemmas.List.{take_more}
 use Rattle.steps.specs.declared.ask.Ask.{Ask}
+use Rattle.model.specs.Coding.{Coding, IsCoding}
 use Rattle.model.specs.Families.{first_of}
 use Rattle.model.specs.Parties.{party_of}
 use Rattle.model.specs.World.{World, Trace, opening, capacity_error}
@@ -21,24 +22,25 @@ module _ {T : Type 0} where
   -- ---- what a machine is made with stays
 
   pub record SameMaking (old new : World T) : Type 0 where
+    pub coding : new.coding ≡ old.coding
     pub kind : new.kind ≡ old.kind
     pub capacity : new.capacity ≡ old.capacity
     pub parties : new.parties ≡ old.parties
 
   abbrev same : (w : World T) → SameMaking w w
-  same w = record { kind = refl; capacity = refl; parties = refl }
+  same w = record { coding = refl; kind = refl; capacity = refl; parties = refl }
 
-  begin_making : (w : World T) (p : ℕ) (start : Start T) (flight : Option Flight) → SameMaking w (after_begin w p start flight)
+  begin_making : (w : World T) (p : ℕ) (start : Start T) (flight : Option (Flight T)) → SameMaking w (after_begin w p start flight)
   begin_making w p start None = same w
-  begin_making w p start (Some flight) = record { kind = refl; capacity = refl; parties = refl }
+  begin_making w p start (Some flight) = record { coding = refl; kind = refl; capacity = refl; parties = refl }
 
-  answer_making : (w : World T) (p : ℕ) (x : Party T) (ask : Option Ask) (answer : ℕ) (doing : Doing) → SameMaking w (after_answer w p x ask answer doing)
+  answer_making : (w : World T) (p : ℕ) (x : Party T) (ask : Option Ask) (answer : ℕ) (doing : Doing T) → SameMaking w (after_answer w p x ask answer doing)
   answer_making w p x ask answer (Over others) = same w
-  answer_making w p x ask answer (Going flight since) = record { kind = refl; capacity = refl; parties = refl }
+  answer_making w p x ask answer (Going flight since) = record { coding = refl; kind = refl; capacity = refl; parties = refl }
 
   next_making : (w : World T) (p : ℕ) (o : Option (Party T)) → SameMaking w (after_next w p o)
   next_making w p None = same w
-  next_making w p (Some x) = answer_making w p x (ask_of_doing x.doing) (old_of w.words (ask_of_doing x.doing)) x.doing
+  next_making w p (Some x) = answer_making w p x (ask_of_doing w.coding x.doing) (old_of w.words (ask_of_doing w.coding x.doing)) x.doing
 
   decision_making : (w : World T) (p : ℕ) (said : Bool) (o : Option (Party T)) → SameMaking w (after_decision w p said o)
   decision_making w p said None = same w
@@ -62,17 +64,18 @@ module _ {T : Type 0} where
   pub reached_more : (t : Trace T) (turn : Turn T) → refusal_of t.world turn ≡ None → IsReached t → IsReached (after_turn t turn)
   reached_more t turn e r =
       let making = turn_making t.world turn in
-      let more : after_turn t turn ≡ run (r.turns ++ turn ∷ []) (opening t.world.kind t.world.capacity t.world.parties) =
-      sym (attempt_allowed t turn e) ∙ (ap (λ u. attempt u turn) r.is ∙ sym (run_more r.turns turn (opening t.world.kind t.world.capacity t.world.parties)))
+      let more : after_turn t turn ≡ run (r.turns ++ turn ∷ []) (opening t.world.coding t.world.kind t.world.capacity t.world.parties) =
+      sym (attempt_allowed t turn e) ∙ (ap (λ u. attempt u turn) r.is ∙ sym (run_more r.turns turn (opening t.world.coding t.world.kind t.world.capacity t.world.parties)))
       in
       record {
+        coded = rw making.coding r.coded;
         admitted = rw (making.kind, making.capacity) r.admitted;
         turns = r.turns ++ turn ∷ [];
-        is = rw (making.kind, making.capacity, making.parties) more;
+        is = rw (making.coding, making.kind, making.capacity, making.parties) more;
       }
 
-  pub reached_opening : (kind : Kind) (capacity parties : ℕ) → capacity_error kind capacity ≡ None → IsReached {T = T} (opening kind capacity parties)
-  reached_opening kind capacity parties e = record { admitted = e; turns = []; is = refl }
+  pub reached_opening : (code : Coding T) (kind : Kind) (capacity parties : ℕ) → IsCoding code → capacity_error kind capacity ≡ None → IsReached (opening code kind capacity parties)
+  reached_opening code kind capacity parties coded e = record { coded = coded; admitted = e; turns = []; is = refl }
 
   pub reached_is : (t u : Trace T) → t ≡ u → IsReached u → IsReached t
   reached_is t u e r = subst IsReached (sym e) r
@@ -112,5 +115,5 @@ module _ {T : Type 0} where
     run_keeps [] t h = h
     run_keeps (turn ∷ turns) t h = run_keeps turns (attempt t turn) (attempt_keeps t turn (refusal_of t.world turn) refl h)
 
-    pub kept_by_runs : (t : Trace T) → P (opening t.world.kind t.world.capacity t.world.parties) → IsReached t → P t
-    kept_by_runs t first r = subst P (sym r.is) (run_keeps r.turns (opening t.world.kind t.world.capacity t.world.parties) first)
+    pub kept_by_runs : (t : Trace T) → P (opening t.world.coding t.world.kind t.world.capacity t.world.parties) → IsReached t → P t
+    kept_by_runs t first r = subst P (sym r.is) (run_keeps r.turns (opening t.world.coding t.world.kind t.world.capacity t.world.parties) first)

@@ -9,8 +9,9 @@ use Rattle.model.specs.declared.turn.Refusal.{Refusal}
 use Rattle.model.specs.declared.turn.Refusal.TheVariants.{AtEnd, NoParty, Idle, Undecided, WrongCall}
 use Rattle.model.specs.Parties.{flight_of, doing_of}
 use Rattle.model.specs.World.{World, flight_in}
-use Rattle.model.specs.Families.{first_of, call_refusal}
+use Rattle.model.specs.Families.{begin_of, first_of}
 use Rattle.model.specs.Turns.{turn_of}
+use Rattle.model.specs.Rows.{first_row}
 use Rattle.model.specs.Refusals.{refusal_of, is_at_end, is_due}
 
 -- a row that did not apply
@@ -27,7 +28,7 @@ not_some None e = refl
 not_some (Some x) e = absurd (cc)
 
 module _ {T : Type 0} where
-  pub some_party : (o : Option (Party T)) (f : Flight) → flight_of (doing_of o) ≡ Some f → (x : Party T) × (o ≡ Some x)
+  pub some_party : (o : Option (Party T)) (f : Flight T) → flight_of (doing_of o) ≡ Some f → (x : Party T) × (o ≡ Some x)
   some_party None f e = absurd (cc)
   some_party (Some x) f e = (x, refl)
 
@@ -36,7 +37,7 @@ module _ {T : Type 0} where
     pub party : p < w.parties
     pub free : flight_in w p ≡ None
     pub call : is_none (first_of w.kind w.capacity start) ≡ false
-    pub rows : call_refusal w.kept p start ≡ None
+    pub rows : first_row ((begin_of w.kind w.capacity start).rows w.kept p) ≡ None
 
   pub may_begin : (w : World T) (p : ℕ) (start : Start T) → refusal_of w (Begin p start) ≡ None → MayBegin w p start
   may_begin w p start e =
@@ -57,7 +58,7 @@ module _ {T : Type 0} where
   pub record MayGoOn (w : World T) (p : ℕ) : Type 0 where
     pub turns : w.turns < 2 ^ 64 - 2
     pub party : p < w.parties
-    pub flight : Flight
+    pub flight : Flight T
     pub is : flight_in w p ≡ Some flight
 
   pub may_next : (w : World T) (p : ℕ) → refusal_of w (Next p) ≡ None → MayGoOn w p
@@ -84,12 +85,12 @@ module _ {T : Type 0} where
   may_resume w p None e = may_next w p e
   may_resume w p (Some said) e = may_decide w p said e
 
-  pub must_be_due : (w : World T) (p : ℕ) (said : Bool) → refusal_of w (Decide p said) ≡ None → not (is_due (flight_in w p)) ≡ false
+  pub must_be_due : (w : World T) (p : ℕ) (said : Bool) → refusal_of w (Decide p said) ≡ None → not (is_due w.coding (flight_in w p)) ≡ false
   must_be_due w p said e =
       let a = row_passed (is_at_end w) AtEnd _ e in
       let b = row_passed (nat_le w.parties p) NoParty _ a.1 in
       let c = row_passed (is_none (flight_in w p)) Idle _ b.1 in
-      let d = row_passed (not (is_due (flight_in w p))) Undecided _ c.1 in
+      let d = row_passed (not (is_due w.coding (flight_in w p))) Undecided _ c.1 in
       d.0
 
   pub never_dies : (w : World T) (owner : ℕ) → refusal_of w (Die owner) ≡ None → ⊥

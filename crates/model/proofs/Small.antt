@@ -25,7 +25,7 @@ use Rattle.model.proofs.Parties.{party_put_same, party_put_other}
 use Rattle.model.proofs.Reached.{kept_by_runs}
 use Rattle.model.proofs.Rows.{may_begin, may_next, may_decide}
 
-more_changes : (changes more : ℕ) (doing : Doing) → HasSmallCount changes doing → HasSmallCount (changes + more) doing
+more_changes : {T : Type 0} (changes more : ℕ) (doing : Doing T) → HasSmallCount changes doing → HasSmallCount (changes + more) doing
 more_changes changes more (Going flight since) h = omega arith
 more_changes changes more (Over others) h = omega arith
 
@@ -53,7 +53,7 @@ module _ {T : Type 0} where
       theirs : q ≢ p → HasSmallCounts (turns + 1) (changes + more) x
       theirs ne = later turns changes more x (all q x (sym (party_put_other q p y latest ne) ∙ found))
 
-  begin_small : (w : World T) (p : ℕ) (start : Start T) (flight : Option Flight) → w.turns < 2 ^ 64 - 2 → IsSmall w → IsSmall (after_begin w p start flight)
+  begin_small : (w : World T) (p : ℕ) (start : Start T) (flight : Option (Flight T)) → w.turns < 2 ^ 64 - 2 → IsSmall w → IsSmall (after_begin w p start flight)
   begin_small w p start None below h = h
   begin_small w p start (Some flight) below h =
       let changes = h.changes in
@@ -66,13 +66,14 @@ module _ {T : Type 0} where
         latest = subst (λ n. AllSmall (w.turns + 1) n (put p y w.latest)) same (all_put w.turns w.changes 0 p y w.latest here h.latest);
       }
 
-  doing_small : (changes since change : ℕ) (after : After Flight (Answer T)) → since ≤ changes → HasSmallCount (changes + change) (doing_after (changes + change) (since + change) after)
+  doing_small : (changes since change : ℕ) (after : After (Flight T) (Answer T)) → since ≤ changes → HasSmallCount (changes + change) (doing_after (changes + change) (since + change) after)
   doing_small changes since change (GoOn flight) h = omega arith
   doing_small changes since change (Done answer) h = omega arith
 
-  step_small : (w : World T) (p : ℕ) (x : Party T) (since : ℕ) (ask : Option Ask) (s : Step Flight Kept T) → w.turns < 2 ^ 64 - 2 → x.steps ≤ w.turns → x.backs ≤ w.turns → s.back ≤ 1 → since ≤ w.changes → IsSmall w
+  step_small : (w : World T) (p : ℕ) (x : Party T) (since : ℕ) (ask : Option Ask) (s : Step (Flight T) Kept T) → w.turns < 2 ^ 64 - 2 → x.steps ≤ w.turns → x.backs ≤ w.turns → since ≤ w.changes → IsSmall w
       → IsSmall (after_step w p x since ask s)
-  step_small w p x since ask s below steps backs few begun h =
+  step_small w p x since ask s below steps backs begun h =
+      let few = back_small s.back in
       let one = change_small w.words ask in
       let step = steps_small ask in
       let changes = h.changes in
@@ -86,17 +87,17 @@ module _ {T : Type 0} where
             h.latest;
       }
 
-  answer_small : (w : World T) (p : ℕ) (x : Party T) (ask : Option Ask) (answer : ℕ) (doing : Doing) → w.turns < 2 ^ 64 - 2 → x.steps ≤ w.turns → x.backs ≤ w.turns → HasSmallCount w.changes doing → IsSmall w
+  answer_small : (w : World T) (p : ℕ) (x : Party T) (ask : Option Ask) (answer : ℕ) (doing : Doing T) → w.turns < 2 ^ 64 - 2 → x.steps ≤ w.turns → x.backs ≤ w.turns → HasSmallCount w.changes doing → IsSmall w
       → IsSmall (after_answer w p x ask answer doing)
   answer_small w p x ask answer (Over others) below steps backs small h = h
   answer_small w p x ask answer (Going flight since) below steps backs small h =
-      step_small w p x since ask (step_in w p x flight answer) below steps backs (back_small w.words (beside_of w.words w.kept w.latest p) p x.start flight answer w.kept) small h
+      step_small w p x since ask (step_in w p x flight answer) below steps backs small h
 
   next_small : (w : World T) (p : ℕ) (o : Option (Party T)) → party_of p w.latest ≡ o → w.turns < 2 ^ 64 - 2 → IsSmall w → IsSmall (after_next w p o)
   next_small w p None e below h = h
   next_small w p (Some x) e below h =
       let here = h.latest p x e in
-      answer_small w p x (ask_of_doing x.doing) (old_of w.words (ask_of_doing x.doing)) x.doing below here.steps here.backs here.doing h
+      answer_small w p x (ask_of_doing w.coding x.doing) (old_of w.words (ask_of_doing w.coding x.doing)) x.doing below here.steps here.backs here.doing h
 
   decision_small : (w : World T) (p : ℕ) (said : Bool) (o : Option (Party T)) → party_of p w.latest ≡ o → w.turns < 2 ^ 64 - 2 → IsSmall w → IsSmall (after_decision w p said o)
   decision_small w p said None e below h = h

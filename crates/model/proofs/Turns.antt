@@ -9,13 +9,8 @@ use Rattle.steps.specs.declared.ask.After.{After}
 use Rattle.steps.specs.declared.ask.After.TheVariants.{GoOn, Done}
 use Rattle.model.specs.declared.event.Answer.{Answer}
 use Rattle.model.specs.declared.event.Start.{Start}
-use Rattle.model.specs.declared.event.Start as starts
-use Rattle.model.specs.declared.families.Beside.{Beside}
-use Rattle.model.specs.declared.families.Beside as besides
 use Rattle.model.specs.declared.families.Flight.{Flight}
-use Rattle.model.specs.declared.families.Flight as flights
 use Rattle.model.specs.declared.families.Kept.{Kept}
-use Rattle.model.specs.declared.families.Kept as kepts
 use Rattle.model.specs.declared.party.Doing.{Doing}
 use Rattle.model.specs.declared.party.Doing.TheVariants.{Going, Over}
 use Rattle.model.specs.declared.party.Party.{Party}
@@ -27,9 +22,8 @@ use Rattle.model.specs.Promises.Turns.{IsOneTurnLater, ask_of_flight, WritesOneW
 use Rattle.model.specs.Refusals.{refusal_of}
 use Rattle.model.specs.Small.{HasSmallCount, IsSmall}
 use Rattle.model.specs.Step.{Step}
-use Rattle.model.specs.Turns.{old_of, words_after, change_of, step_count, ask_of_doing, number_of, after_begin, party_at_begin, after_step, party_after, doing_after, step_in, after_answer, after_next, after_decision, world_after}
+use Rattle.model.specs.Turns.{old_of, words_after, change_of, step_count, ask_of_doing, number_of, one_if, after_begin, party_at_begin, after_step, party_after, doing_after, step_in, after_answer, after_next, after_decision, world_after}
 use Rattle.model.specs.World.{World, flight_in, progress_in}
-use Rattle.model.proofs.Counts.{back_small}
 use Rattle.model.proofs.Parties.{party_put_same, party_put_other}
 use Rattle.model.proofs.Reached.{turn_making}
 use Rattle.model.proofs.Rows.{may_begin, may_next, may_decide, never_dies}
@@ -78,34 +72,35 @@ one_more_if : (o : Option Ask) (n : ℕ) → n + step_count o ≡ cond (is_some 
 one_more_if None n = omega arith
 one_more_if (Some ask) n = refl
 
-one_or_more : (old back : ℕ) → back ≤ 1 → (old + back ≡ old) ⊎ (old + back ≡ old + 1)
-one_or_more old back h = ⊎_elim (λ e. inl (omega arith)) (λ e. inr (omega arith)) (cases_lt back 1)
+one_or_more : (old : ℕ) (back : Bool) → (old + one_if back ≡ old) ⊎ (old + one_if back ≡ old + 1)
+one_or_more old true = inr refl
+one_or_more old false = inl (omega arith)
 
 module _ {T : Type 0} where
-  -- how a call goes on is told by its table alone
-  pub step_after : (words : List ℕ) (beside : Beside) (p : ℕ) (start : Start T) (flight : Flight) (old : ℕ) (kept : Kept) → (step_of words beside p start flight old kept).after ≡ after_of flight old
-  step_after words (besides.TheVariants.Queues waits) p (starts.TheVariants.Queues start) (flights.TheVariants.Queues flight) old (kepts.TheVariants.Queues roles) = refl
+  -- each call goes on as its table alone says, whatever its step does besides
+  abbrev pub GoesAsTold : World T → Type 0
+  GoesAsTold w = (p : ℕ) (x : Party T) (flight : Flight T) (since answer : ℕ) → party_of p w.latest ≡ Some x → x.doing ≡ Going flight since → (step_in w p x flight answer).after ≡ after_of w.coding flight answer
 
   -- ---- the machine
 
   same_but_turns : (w : World T) (turn : Turn T) → (world_after w turn).turns ≡ w.turns + 1 → IsOneTurnLater w (world_after w turn)
   same_but_turns w turn e =
       let making = turn_making w turn in
-      record { kind = making.kind; capacity = making.capacity; parties = making.parties; turns = e }
+      record { coding = making.coding; kind = making.kind; capacity = making.capacity; parties = making.parties; turns = e }
 
-  begin_turns : (w : World T) (p : ℕ) (start : Start T) (o : Option Flight) → is_none o ≡ false → (after_begin w p start o).turns ≡ w.turns + 1
+  begin_turns : (w : World T) (p : ℕ) (start : Start T) (o : Option (Flight T)) → is_none o ≡ false → (after_begin w p start o).turns ≡ w.turns + 1
   begin_turns w p start None e = absurd (cc)
   begin_turns w p start (Some flight) e = refl
 
-  answer_turns : (w : World T) (p : ℕ) (x : Party T) (ask : Option Ask) (answer : ℕ) (flight : Flight) (doing : Doing) → flight_of (Some doing) ≡ Some flight → (after_answer w p x ask answer doing).turns ≡ w.turns + 1
+  answer_turns : (w : World T) (p : ℕ) (x : Party T) (ask : Option Ask) (answer : ℕ) (flight : Flight T) (doing : Doing T) → flight_of (Some doing) ≡ Some flight → (after_answer w p x ask answer doing).turns ≡ w.turns + 1
   answer_turns w p x ask answer flight (Over others) e = absurd (cc)
   answer_turns w p x ask answer flight (Going going since) e = refl
 
-  next_turns : (w : World T) (p : ℕ) (flight : Flight) (o : Option (Party T)) → flight_of (doing_of o) ≡ Some flight → (after_next w p o).turns ≡ w.turns + 1
+  next_turns : (w : World T) (p : ℕ) (flight : Flight T) (o : Option (Party T)) → flight_of (doing_of o) ≡ Some flight → (after_next w p o).turns ≡ w.turns + 1
   next_turns w p flight None e = absurd (cc)
-  next_turns w p flight (Some x) e = answer_turns w p x (ask_of_doing x.doing) (old_of w.words (ask_of_doing x.doing)) flight x.doing e
+  next_turns w p flight (Some x) e = answer_turns w p x (ask_of_doing w.coding x.doing) (old_of w.words (ask_of_doing w.coding x.doing)) flight x.doing e
 
-  decision_turns : (w : World T) (p : ℕ) (said : Bool) (flight : Flight) (o : Option (Party T)) → flight_of (doing_of o) ≡ Some flight → (after_decision w p said o).turns ≡ w.turns + 1
+  decision_turns : (w : World T) (p : ℕ) (said : Bool) (flight : Flight T) (o : Option (Party T)) → flight_of (doing_of o) ≡ Some flight → (after_decision w p said o).turns ≡ w.turns + 1
   decision_turns w p said flight None e = absurd (cc)
   decision_turns w p said flight (Some x) e = answer_turns w p x None (number_of said) flight x.doing e
 
@@ -122,19 +117,19 @@ module _ {T : Type 0} where
 
   -- ---- one word
 
-  begin_word : (w : World T) (p : ℕ) (start : Start T) (flight : Option Flight) → (after_begin w p start flight).words ≡ w.words
+  begin_word : (w : World T) (p : ℕ) (start : Start T) (flight : Option (Flight T)) → (after_begin w p start flight).words ≡ w.words
   begin_word w p start None = refl
   begin_word w p start (Some flight) = refl
 
-  answer_word : (w : World T) (p : ℕ) (x : Party T) (answer : ℕ) (doing : Doing) → (after_answer w p x (ask_of_doing doing) answer doing).words ≡ words_after w.words (ask_of_flight (flight_of (Some doing)))
+  answer_word : (w : World T) (p : ℕ) (x : Party T) (answer : ℕ) (doing : Doing T) → (after_answer w p x (ask_of_doing w.coding doing) answer doing).words ≡ words_after w.words (ask_of_flight w.coding (flight_of (Some doing)))
   answer_word w p x answer (Over others) = refl
   answer_word w p x answer (Going flight since) = refl
 
-  next_word : (w : World T) (p : ℕ) (o : Option (Party T)) → (after_next w p o).words ≡ words_after w.words (ask_of_flight (flight_of (doing_of o)))
+  next_word : (w : World T) (p : ℕ) (o : Option (Party T)) → (after_next w p o).words ≡ words_after w.words (ask_of_flight w.coding (flight_of (doing_of o)))
   next_word w p None = refl
-  next_word w p (Some x) = answer_word w p x (old_of w.words (ask_of_doing x.doing)) x.doing
+  next_word w p (Some x) = answer_word w p x (old_of w.words (ask_of_doing w.coding x.doing)) x.doing
 
-  decided_word : (w : World T) (p : ℕ) (x : Party T) (answer : ℕ) (doing : Doing) → (after_answer w p x None answer doing).words ≡ w.words
+  decided_word : (w : World T) (p : ℕ) (x : Party T) (answer : ℕ) (doing : Doing T) → (after_answer w p x None answer doing).words ≡ w.words
   decided_word w p x answer (Over others) = refl
   decided_word w p x answer (Going flight since) = refl
 
@@ -151,94 +146,96 @@ module _ {T : Type 0} where
   -- ---- the party's own call
 
   -- the party after its call went on
-  step_here : (w : World T) (p : ℕ) (x : Party T) (since : ℕ) (ask : Option Ask) (s : Step Flight Kept T)
+  step_here : (w : World T) (p : ℕ) (x : Party T) (since : ℕ) (ask : Option Ask) (s : Step (Flight T) Kept T)
       → party_of p (after_step w p x since ask s).latest ≡ Some (party_after x since w.changes (step_count ask) (change_of w.words ask) s)
   step_here w p x since ask s = party_put_same p (party_after x since w.changes (step_count ask) (change_of w.words ask) s) w.latest
 
-  stands : (changes since : ℕ) (after : After Flight (Answer T)) (w : World T) (p : ℕ) (x : Party T) → party_of p w.latest ≡ Some x → x.doing ≡ doing_after changes since after → StandsAt w p after
+  stands : (changes since : ℕ) (after : After (Flight T) (Answer T)) (w : World T) (p : ℕ) (x : Party T) → party_of p w.latest ≡ Some x → x.doing ≡ doing_after changes since after → StandsAt w p after
   stands changes since (GoOn flight) w p x e d = rw (e, d) refl
   stands changes since (Done answer) w p x e d = rw (e, d) refl
 
-  goes : (w : World T) (p : ℕ) (x : Party T) (flight : Flight) (since : ℕ) (ask : Option Ask) (answer : ℕ) → StandsAt (after_step w p x since ask (step_in w p x flight answer)) p (after_of flight answer)
-  goes w p x flight since ask answer =
+  goes : (w : World T) (p : ℕ) (x : Party T) (flight : Flight T) (since : ℕ) (ask : Option Ask) (answer : ℕ) → (step_in w p x flight answer).after ≡ after_of w.coding flight answer
+      → StandsAt (after_step w p x since ask (step_in w p x flight answer)) p (after_of w.coding flight answer)
+  goes w p x flight since ask answer same =
       let s = step_in w p x flight answer in
       let y = party_after x since w.changes (step_count ask) (change_of w.words ask) s in
-      let same = step_after w.words (beside_of w.words w.kept w.latest p) p x.start flight answer w.kept in
       subst (StandsAt (after_step w p x since ask s) p) same
       (stands (w.changes + change_of w.words ask) (since + change_of w.words ask) s.after (after_step w p x since ask s) p y (step_here w p x since ask s) refl)
 
-  next_goes : (w : World T) (p : ℕ) (o : Option (Party T)) → IfSome (flight_of (doing_of o)) (λ flight. StandsAt (after_next w p o) p (after_of flight (old_of w.words (ask_of (want_of flight)))))
-  next_goes w p None = tt
-  next_goes w p (Some x) = go x.doing
+  next_goes : (w : World T) (p : ℕ) → GoesAsTold w → (o : Option (Party T)) → party_of p w.latest ≡ o → IfSome (flight_of (doing_of o)) (λ flight. StandsAt (after_next w p o) p (after_of w.coding flight (old_of w.words (ask_of (want_of w.coding flight)))))
+  next_goes w p tells None found = tt
+  next_goes w p tells (Some x) found = go x.doing refl
     where
-      go : (doing : Doing) → IfSome (flight_of (Some doing)) (λ flight. StandsAt (after_answer w p x (ask_of_doing doing) (old_of w.words (ask_of_doing doing)) doing) p (after_of flight (old_of w.words (ask_of (want_of flight)))))
-      go (Over others) = tt
-      go (Going flight since) = goes w p x flight since (ask_of (want_of flight)) (old_of w.words (ask_of (want_of flight)))
+      go : (doing : Doing T) → x.doing ≡ doing
+          → IfSome (flight_of (Some doing)) (λ flight. StandsAt (after_answer w p x (ask_of_doing w.coding doing) (old_of w.words (ask_of_doing w.coding doing)) doing) p (after_of w.coding flight (old_of w.words (ask_of (want_of w.coding flight)))))
+      go (Over others) e = tt
+      go (Going flight since) e =
+          let old = old_of w.words (ask_of (want_of w.coding flight)) in
+          goes w p x flight since (ask_of (want_of w.coding flight)) old (tells p x flight since old found e)
 
-  decision_goes : (w : World T) (p : ℕ) (said : Bool) (o : Option (Party T)) → IfSome (flight_of (doing_of o)) (λ flight. StandsAt (after_decision w p said o) p (after_of flight (number_of said)))
-  decision_goes w p said None = tt
-  decision_goes w p said (Some x) = go x.doing
+  decision_goes : (w : World T) (p : ℕ) (said : Bool) → GoesAsTold w → (o : Option (Party T)) → party_of p w.latest ≡ o → IfSome (flight_of (doing_of o)) (λ flight. StandsAt (after_decision w p said o) p (after_of w.coding flight (number_of said)))
+  decision_goes w p said tells None found = tt
+  decision_goes w p said tells (Some x) found = go x.doing refl
     where
-      go : (doing : Doing) → IfSome (flight_of (Some doing)) (λ flight. StandsAt (after_answer w p x None (number_of said) doing) p (after_of flight (number_of said)))
-      go (Over others) = tt
-      go (Going flight since) = goes w p x flight since None (number_of said)
+      go : (doing : Doing T) → x.doing ≡ doing → IfSome (flight_of (Some doing)) (λ flight. StandsAt (after_answer w p x None (number_of said) doing) p (after_of w.coding flight (number_of said)))
+      go (Over others) e = tt
+      go (Going flight since) e = goes w p x flight since None (number_of said) (tells p x flight since (number_of said) found e)
 
-  begin_goes : (w : World T) (p : ℕ) (start : Start T) (o : Option Flight) → is_none o ≡ false → flight_in (after_begin w p start o) p ≡ o
+  begin_goes : (w : World T) (p : ℕ) (start : Start T) (o : Option (Flight T)) → is_none o ≡ false → flight_in (after_begin w p start o) p ≡ o
   begin_goes w p start None e = absurd (cc)
   begin_goes w p start (Some flight) e = ap (λ o. flight_of (doing_of o)) (party_put_same p (party_at_begin start flight w.changes) w.latest)
 
-  pub goes_on : (w : World T) (turn : Turn T) → refusal_of w turn ≡ None → GoesOn w turn (world_after w turn)
-  goes_on w (Begin p start) e = begin_goes w p start (first_of w.kind w.capacity start) (may_begin w p start e).call
-  goes_on w (Next p) e = next_goes w p (party_of p w.latest)
-  goes_on w (Decide p said) e = decision_goes w p said (party_of p w.latest)
-  goes_on w (Die owner) e = tt
+  pub goes_on : (w : World T) (turn : Turn T) → GoesAsTold w → refusal_of w turn ≡ None → GoesOn w turn (world_after w turn)
+  goes_on w (Begin p start) tells e = begin_goes w p start (first_of w.kind w.capacity start) (may_begin w p start e).call
+  goes_on w (Next p) tells e = next_goes w p tells (party_of p w.latest) refl
+  goes_on w (Decide p said) tells e = decision_goes w p said tells (party_of p w.latest) refl
+  goes_on w (Die owner) tells e = tt
 
   -- ---- its counts
 
-  going_on : (changes since steps change : ℕ) (asks : Bool) (s : Step Flight Kept T) (x : Party T) (flight : Flight) → x.doing ≡ Going flight since → s.back ≤ 1 → x.steps + steps ≡ cond asks (x.steps + 1) x.steps
+  going_on : (changes since steps change : ℕ) (asks : Bool) (s : Step (Flight T) Kept T) (x : Party T) (flight : Flight T) → x.doing ≡ Going flight since → x.steps + steps ≡ cond asks (x.steps + 1) x.steps
       → BothGoOn asks (is_none (flight_of (doing_of (Some (party_after x since changes steps change s))))) (progress_after changes (Some x)) (progress_after (changes + change) (Some (party_after x since changes steps change s)))
-  going_on changes since steps change asks s x flight e few count = go s.after
+  going_on changes since steps change asks s x flight e count = go s.after
     where
-      go : (after : After Flight (Answer T))
-          → BothGoOn asks (is_none (flight_of (Some (doing_after (changes + change) (since + change) after)))) (progress_after changes (Some x)) (progress_after (changes + change) (Some (record { start = x.start; steps = x.steps + steps; backs = x.backs + s.back; doing = doing_after (changes + change) (since + change) after })))
+      go : (after : After (Flight T) (Answer T))
+          → BothGoOn asks (is_none (flight_of (Some (doing_after (changes + change) (since + change) after)))) (progress_after changes (Some x)) (progress_after (changes + change) (Some (record { start = x.start; steps = x.steps + steps; backs = x.backs + one_if s.back; doing = doing_after (changes + change) (since + change) after })))
       go (GoOn next) =
           let same = later changes since change in
-          rw e (record { steps = count; backs = one_or_more x.backs s.back few; others = same; finished = refl })
+          rw e (record { steps = count; backs = one_or_more x.backs s.back; others = same; finished = refl })
       go (Done answer) =
           let same = later changes since change in
-          rw e (record { steps = count; backs = one_or_more x.backs s.back few; others = same; finished = refl })
+          rw e (record { steps = count; backs = one_or_more x.backs s.back; others = same; finished = refl })
 
-  counted : (w : World T) (p : ℕ) (x : Party T) (flight : Flight) (since : ℕ) (ask : Option Ask) (answer : ℕ) → party_of p w.latest ≡ Some x → x.doing ≡ Going flight since
+  counted : (w : World T) (p : ℕ) (x : Party T) (flight : Flight T) (since : ℕ) (ask : Option Ask) (answer : ℕ) → party_of p w.latest ≡ Some x → x.doing ≡ Going flight since
       → BothGoOn (is_some ask) (is_none (flight_in (after_step w p x since ask (step_in w p x flight answer)) p)) (progress_in w p) (progress_in (after_step w p x since ask (step_in w p x flight answer)) p)
   counted w p x flight since ask answer found e =
       let s = step_in w p x flight answer in
-      let few = back_small w.words (beside_of w.words w.kept w.latest p) p x.start flight answer w.kept in
       let y = party_after x since w.changes (step_count ask) (change_of w.words ask) s in
       let here = step_here w p x since ask s in
-      let goal = going_on w.changes since (step_count ask) (change_of w.words ask) (is_some ask) s x flight e few (one_more_if ask x.steps) in
+      let goal = going_on w.changes since (step_count ask) (change_of w.words ask) (is_some ask) s x flight e (one_more_if ask x.steps) in
       rw (here, found) goal
 
   next_counts : (w : World T) (p : ℕ) (o : Option (Party T)) → party_of p w.latest ≡ o
-      → IfSome (flight_of (doing_of o)) (λ flight. BothGoOn (is_some (ask_of_flight (flight_of (doing_of o)))) (is_none (flight_in (after_next w p o) p)) (progress_in w p) (progress_in (after_next w p o) p))
+      → IfSome (flight_of (doing_of o)) (λ flight. BothGoOn (is_some (ask_of_flight w.coding (flight_of (doing_of o)))) (is_none (flight_in (after_next w p o) p)) (progress_in w p) (progress_in (after_next w p o) p))
   next_counts w p None found = tt
   next_counts w p (Some x) found = go x.doing refl
     where
-      go : (doing : Doing) → x.doing ≡ doing
-          → IfSome (flight_of (Some doing)) (λ flight. BothGoOn (is_some (ask_of_flight (flight_of (Some doing)))) (is_none (flight_in (after_answer w p x (ask_of_doing doing) (old_of w.words (ask_of_doing doing)) doing) p)) (progress_in w p) (progress_in (after_answer w p x (ask_of_doing doing) (old_of w.words (ask_of_doing doing)) doing) p))
+      go : (doing : Doing T) → x.doing ≡ doing
+          → IfSome (flight_of (Some doing)) (λ flight. BothGoOn (is_some (ask_of_flight w.coding (flight_of (Some doing)))) (is_none (flight_in (after_answer w p x (ask_of_doing w.coding doing) (old_of w.words (ask_of_doing w.coding doing)) doing) p)) (progress_in w p) (progress_in (after_answer w p x (ask_of_doing w.coding doing) (old_of w.words (ask_of_doing w.coding doing)) doing) p))
       go (Over others) e = tt
-      go (Going flight since) e = counted w p x flight since (ask_of (want_of flight)) (old_of w.words (ask_of (want_of flight))) found e
+      go (Going flight since) e = counted w p x flight since (ask_of (want_of w.coding flight)) (old_of w.words (ask_of (want_of w.coding flight))) found e
 
   decision_counts : (w : World T) (p : ℕ) (said : Bool) (o : Option (Party T)) → party_of p w.latest ≡ o
       → IfSome (flight_of (doing_of o)) (λ flight. BothGoOn false (is_none (flight_in (after_decision w p said o) p)) (progress_in w p) (progress_in (after_decision w p said o) p))
   decision_counts w p said None found = tt
   decision_counts w p said (Some x) found = go x.doing refl
     where
-      go : (doing : Doing) → x.doing ≡ doing
+      go : (doing : Doing T) → x.doing ≡ doing
           → IfSome (flight_of (Some doing)) (λ flight. BothGoOn false (is_none (flight_in (after_answer w p x None (number_of said) doing) p)) (progress_in w p) (progress_in (after_answer w p x None (number_of said) doing) p))
       go (Over others) e = tt
       go (Going flight since) e = counted w p x flight since None (number_of said) found e
 
-  begin_counts : (w : World T) (p : ℕ) (start : Start T) (o : Option Flight) → is_none o ≡ false → progress_in (after_begin w p start o) p ≡ Some record { steps = 0; backs = 0; others = 0; finished = false }
+  begin_counts : (w : World T) (p : ℕ) (start : Start T) (o : Option (Flight T)) → is_none o ≡ false → progress_in (after_begin w p start o) p ≡ Some record { steps = 0; backs = 0; others = 0; finished = false }
   begin_counts w p start None e = absurd (cc)
   begin_counts w p start (Some flight) e =
       let none : w.changes - w.changes ≡ 0 = omega arith in
@@ -260,7 +257,7 @@ module _ {T : Type 0} where
   sees : (old new : World T) (x : Party T) → Tells old new → HasSmallCount old.changes x.doing → BothSee old new (progress_after old.changes (Some x)) (progress_after new.changes (Some x))
   sees old new x tells small = go x.doing refl small
     where
-      go : (doing : Doing) → x.doing ≡ doing → HasSmallCount old.changes doing → BothSee old new (progress_after old.changes (Some x)) (progress_after new.changes (Some x))
+      go : (doing : Doing T) → x.doing ≡ doing → HasSmallCount old.changes doing → BothSee old new (progress_after old.changes (Some x)) (progress_after new.changes (Some x))
       go (Going flight since) e h =
           rw e
           (record {
@@ -279,19 +276,19 @@ module _ {T : Type 0} where
   still_tells : (old new : World T) → new.words ≡ old.words → new.changes ≡ old.changes → Tells old new
   still_tells old new words changes = record { same = λ s. changes; changed = λ ne. absurd (ne words) }
 
-  step_tells : (w : World T) (p : ℕ) (x : Party T) (since : ℕ) (ask : Option Ask) (s : Step Flight Kept T) → Tells w (after_step w p x since ask s)
+  step_tells : (w : World T) (p : ℕ) (x : Party T) (since : ℕ) (ask : Option Ask) (s : Step (Flight T) Kept T) → Tells w (after_step w p x since ask s)
   step_tells w p x since ask s =
       record {
         same = λ e. let none = unchanged_words w.words ask e in omega arith;
         changed = λ ne. let one = changed_words w.words ask ne in omega arith;
       }
 
-  begin_others : (w : World T) (p : ℕ) (start : Start T) (o : Option Flight) (q : ℕ) → q ≢ p → IsSmall w → BothSee w (after_begin w p start o) (progress_in w q) (progress_in (after_begin w p start o) q)
+  begin_others : (w : World T) (p : ℕ) (start : Start T) (o : Option (Flight T)) (q : ℕ) → q ≢ p → IsSmall w → BothSee w (after_begin w p start o) (progress_in w q) (progress_in (after_begin w p start o) q)
   begin_others w p start None q ne small = seen w w q (party_of q w.latest) refl refl (still_tells w w refl refl) small
   begin_others w p start (Some flight) q ne small =
       seen w (after_begin w p start (Some flight)) q (party_of q w.latest) refl (party_put_other q p (party_at_begin start flight w.changes) w.latest ne) (still_tells w (after_begin w p start (Some flight)) refl refl) small
 
-  answer_others : (w : World T) (p : ℕ) (x : Party T) (ask : Option Ask) (answer : ℕ) (doing : Doing) (q : ℕ) → q ≢ p → IsSmall w → BothSee w (after_answer w p x ask answer doing) (progress_in w q) (progress_in (after_answer w p x ask answer doing) q)
+  answer_others : (w : World T) (p : ℕ) (x : Party T) (ask : Option Ask) (answer : ℕ) (doing : Doing T) (q : ℕ) → q ≢ p → IsSmall w → BothSee w (after_answer w p x ask answer doing) (progress_in w q) (progress_in (after_answer w p x ask answer doing) q)
   answer_others w p x ask answer (Over others) q ne small = seen w w q (party_of q w.latest) refl refl (still_tells w w refl refl) small
   answer_others w p x ask answer (Going flight since) q ne small =
       let s = step_in w p x flight answer in
@@ -300,7 +297,7 @@ module _ {T : Type 0} where
 
   next_others : (w : World T) (p : ℕ) (o : Option (Party T)) (q : ℕ) → q ≢ p → IsSmall w → BothSee w (after_next w p o) (progress_in w q) (progress_in (after_next w p o) q)
   next_others w p None q ne small = seen w w q (party_of q w.latest) refl refl (still_tells w w refl refl) small
-  next_others w p (Some x) q ne small = answer_others w p x (ask_of_doing x.doing) (old_of w.words (ask_of_doing x.doing)) x.doing q ne small
+  next_others w p (Some x) q ne small = answer_others w p x (ask_of_doing w.coding x.doing) (old_of w.words (ask_of_doing w.coding x.doing)) x.doing q ne small
 
   decision_others : (w : World T) (p : ℕ) (said : Bool) (o : Option (Party T)) (q : ℕ) → q ≢ p → IsSmall w → BothSee w (after_decision w p said o) (progress_in w q) (progress_in (after_decision w p said o) q)
   decision_others w p said None q ne small = seen w w q (party_of q w.latest) refl refl (still_tells w w refl refl) small

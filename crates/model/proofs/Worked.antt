@@ -8,17 +8,21 @@ use Rattle.model.specs.declared.event.Event.{Event}
 use Rattle.model.specs.declared.event.Event.TheVariants.{Begun, Published, HandedOut, Acted, Finished}
 use Rattle.model.specs.declared.families.Kept as kepts
 use Rattle.model.specs.declared.families.queues.QueueStart.TheVariants.{AcquireProducer, AcquireConsumer, PushIndex, Pop, Len}
+use Rattle.model.specs.declared.families.queues.QueueKind as kinds
 use Rattle.model.specs.declared.turn.Kind.TheVariants.{IndexQueue, Overflow}
 use Rattle.model.specs.declared.turn.Turn.{Turn}
 use Rattle.model.specs.declared.turn.Turn.TheVariants.{Begin, Next}
 use Rattle.model.specs.Families.Queues.Book.{AnswersRight}
+use Rattle.model.specs.Coding.{one_word}
 use Rattle.model.specs.Families.Queues.Lengths.{TellsLength}
 use Rattle.model.specs.Families.Queues.Objects.{bounded_list, overflowing_list}
 use Rattle.model.specs.Families.Queues.Reading.{waiting}
 use Rattle.model.specs.Families.Queues.Roles.{GrantsRight, KeepsHolders}
 use Rattle.model.specs.Moments.{BeginsNone}
 use Rattle.model.specs.Objects.{IsLegal}
-use Rattle.model.specs.Promises.Spans.{Stands, Wrote}
+use Rattle.model.specs.Families.Queues.Promises.{wrote}
+use Rattle.model.specs.Promises.Families.{promise_of}
+use Rattle.model.specs.Promises.Spans.{Stands}
 use Rattle.model.specs.Reading.{acts, moments, Open}
 use Rattle.model.specs.Turns.{run}
 use Rattle.model.specs.World.{opening, progress_in}
@@ -56,10 +60,10 @@ told =
     ∷ Finished 0 (Queues (PushIndex 5)) (Truth true)
     ∷ []
 
-pub stopped_push : (run turns (opening IndexQueue 1 2)).events ≡ told
+pub stopped_push : (run turns (opening one_word IndexQueue 1 2)).events ≡ told
 stopped_push = refl
 
-pub stopped_push_words : (run turns (opening IndexQueue 1 2)).world.words ≡ 1 ∷ 0 ∷ 0 ∷ 0 ∷ 5 ∷ []
+pub stopped_push_words : (run turns (opening one_word IndexQueue 1 2)).world.words ≡ 1 ∷ 0 ∷ 0 ∷ 0 ∷ 5 ∷ []
 stopped_push_words = refl
 
 pub one_waits : waiting told ≡ Index 5 ∷ []
@@ -99,10 +103,10 @@ length_told =
     ∷ Finished 0 (Queues (PushIndex 5)) (Truth true)
     ∷ []
 
-pub length_again : (run length_turns (opening IndexQueue 1 2)).events ≡ length_told ++ Finished 1 (Queues Len) (Number 1) ∷ []
+pub length_again : (run length_turns (opening one_word IndexQueue 1 2)).events ≡ length_told ++ Finished 1 (Queues Len) (Number 1) ∷ []
 length_again = refl
 
-pub length_counts : progress_in (run length_turns (opening IndexQueue 1 2)).world 1 ≡ Some (record { steps = 7; backs = 1; others = 2; finished = true })
+pub length_counts : progress_in (run length_turns (opening one_word IndexQueue 1 2)).world 1 ≡ Some (record { steps = 7; backs = 1; others = 2; finished = true })
 length_counts = refl
 
 pub one_waited : TellsLength 1 length_told (Finished 1 (Queues Len) (Number 1))
@@ -187,7 +191,7 @@ room_told =
     ∷ Finished 0 (Queues (PushIndex 2)) PoppedNone
     ∷ []
 
-pub pop_makes_room : (run (holding_one ++ room_turns) (opening Overflow 1 3)).events ≡ holding_one_told ++ room_told
+pub pop_makes_room : (run (holding_one ++ room_turns) (opening one_word Overflow 1 3)).events ≡ holding_one_told ++ room_told
 pop_makes_room = refl
 
 pub room_is_legal : IsLegal (overflowing_list 1) (moments (holding_one_told ++ room_told))
@@ -225,10 +229,10 @@ again_told =
     ∷ Finished 1 (Queues Pop) (PoppedIndex 2)
     ∷ []
 
-pub pop_reads_again : (run (holding_one ++ again_turns) (opening Overflow 1 3)).events ≡ holding_one_told ++ again_told
+pub pop_reads_again : (run (holding_one ++ again_turns) (opening one_word Overflow 1 3)).events ≡ holding_one_told ++ again_told
 pop_reads_again = refl
 
-pub pop_counts : progress_in (run (holding_one ++ again_turns) (opening Overflow 1 3)).world 1 ≡ Some (record { steps = 6; backs = 1; others = 3; finished = true })
+pub pop_counts : progress_in (run (holding_one ++ again_turns) (opening one_word Overflow 1 3)).world 1 ≡ Some (record { steps = 6; backs = 1; others = 3; finished = true })
 pop_counts = refl
 
 pub again_is_legal : IsLegal (overflowing_list 1) (moments (holding_one_told ++ again_told))
@@ -245,14 +249,14 @@ pub no_late_push : IsLegal {T = ℕ} (overflowing_list 1) ((Queues (PushIndex 1)
 no_late_push legal = cc
 
 -- a push that hands a value out of a bounded queue
-pub no_bounded_push_hands_out : Stands {T = ℕ} IndexQueue 1 (HandedOut 0 (Index 5)) (Open (Queues (PushIndex 5)) []) → ⊥
+pub no_bounded_push_hands_out : Stands {T = ℕ} (promise_of IndexQueue) 1 (HandedOut 0 (Index 5)) (Open (Queues (PushIndex 5)) []) → ⊥
 no_bounded_push_hands_out stands = let h : Queues (PushIndex 5) ≡ Queues Pop = stands.0 in cc
 
 -- a push that an overflowing queue loses, and one that it publishes without a place for it
-pub no_lost_overflow : Wrote {T = ℕ} Overflow 1 (Queues (PushIndex 5)) PoppedNone (Acted 0 (Queues (PushIndex 5)) PoppedNone ∷ []) → ⊥
+pub no_lost_overflow : wrote {T = ℕ} kinds.TheVariants.Overflow 1 (Queues (PushIndex 5)) PoppedNone (Acted 0 (Queues (PushIndex 5)) PoppedNone ∷ []) → ⊥
 no_lost_overflow wrote = let p = wrote.published in cc
 
-pub no_place : Wrote {T = ℕ} Overflow 0 (Queues (PushIndex 5)) (PoppedIndex 5) (Published 0 (Index 5) ∷ Acted 0 (Queues (PushIndex 5)) (PoppedIndex 5) ∷ []) → ⊥
+pub no_place : wrote {T = ℕ} kinds.TheVariants.Overflow 0 (Queues (PushIndex 5)) (PoppedIndex 5) (Published 0 (Index 5) ∷ Acted 0 (Queues (PushIndex 5)) (PoppedIndex 5) ∷ []) → ⊥
 no_place wrote = let p = wrote.published in cc
 
 -- a push that hands back the newest value
@@ -268,15 +272,15 @@ pub no_excuse : IsLegal {T = ℕ} (bounded_list 1) ((Queues (PushIndex 5), Truth
 no_excuse legal = cc
 
 -- a call that acts a second time
-pub no_second_act : Stands {T = ℕ} IndexQueue 1 (Acted 0 (Queues Pop) PoppedNone) (Open (Queues Pop) (Acted 0 (Queues Pop) PoppedNone ∷ [])) → ⊥
+pub no_second_act : Stands {T = ℕ} (promise_of IndexQueue) 1 (Acted 0 (Queues Pop) PoppedNone) (Open (Queues Pop) (Acted 0 (Queues Pop) PoppedNone ∷ [])) → ⊥
 no_second_act stands = let h : (acts {T = ℕ} (Acted 0 (Queues Pop) PoppedNone)) ++ [] ≡ [] = stands.1 in cc
 
 -- a call that ends without having acted
-pub no_silent_end : Stands {T = ℕ} IndexQueue 1 (Finished 0 (Queues Pop) PoppedNone) (Open (Queues Pop) []) → ⊥
+pub no_silent_end : Stands {T = ℕ} (promise_of IndexQueue) 1 (Finished 0 (Queues Pop) PoppedNone) (Open (Queues Pop) []) → ⊥
 no_silent_end stands = let h = stands.1 in let m = h.moments in cc
 
 -- a push that answers true and publishes nothing
-pub no_lost_push : Wrote {T = ℕ} IndexQueue 1 (Queues (PushIndex 5)) (Truth true) (Acted 0 (Queues (PushIndex 5)) (Truth true) ∷ []) → ⊥
+pub no_lost_push : wrote {T = ℕ} kinds.TheVariants.IndexQueue 1 (Queues (PushIndex 5)) (Truth true) (Acted 0 (Queues (PushIndex 5)) (Truth true) ∷ []) → ⊥
 no_lost_push wrote = let p = wrote.published in cc
 
 -- a pop that answers None while a value waits

@@ -1,60 +1,63 @@
 -- The families of calls: one line a family, which passes on to what stands in its own room.
-use Rattle.std.specs.Prelude.{ℕ, Bool, true, false, Option, Some, None, option_map, List}
+use Rattle.std.specs.Prelude.{ℕ, Bool, true, false, Option, Some, None, is_none, List, [], ◌∷◌}
 use Rattle.steps.specs.declared.ask.After.{After}
+use Rattle.steps.specs.declared.ask.After.TheVariants.{GoOn}
 use Rattle.steps.specs.declared.ask.Ask.{Ask}
 use Rattle.steps.specs.declared.ask.Want.{Want}
 use Rattle.steps.specs.declared.ask.Want as wants
 use Rattle.model.specs.declared.event.Answer.{Answer}
 use Rattle.model.specs.declared.event.Start.{Start}
 use Rattle.model.specs.declared.event.Start as starts
-use Rattle.model.specs.declared.families.Beside.{Beside}
-use Rattle.model.specs.declared.families.Beside as besides
 use Rattle.model.specs.declared.families.Flight.{Flight}
 use Rattle.model.specs.declared.families.Flight as flights
 use Rattle.model.specs.declared.families.Kept.{Kept}
 use Rattle.model.specs.declared.families.Kept as kepts
+use Rattle.model.specs.declared.families.queues.QueueKind as queue_kinds
 use Rattle.model.specs.declared.party.Party.{Party}
 use Rattle.model.specs.declared.turn.Kind.{Kind}
-use Rattle.model.specs.declared.turn.Kind.TheVariants.{IndexQueue, Overflow}
+use Rattle.model.specs.declared.turn.Kind as kinds
+use Rattle.model.specs.declared.turn.Kind.TheVariants.{IndexQueue, Overflow, Queue}
 use Rattle.model.specs.declared.turn.Refusal.{Refusal}
-use Rattle.model.specs.Rows.{first_row}
-use Rattle.model.specs.Step.{Step, as_call, as_step}
+use Rattle.model.specs.declared.turn.Refusal.TheVariants.{WrongCall}
+use Rattle.model.specs.Coding.{Coding}
+use Rattle.model.specs.Opening.{Opening}
+use Rattle.model.specs.Step.{Beginning, Going, Step, as_step}
+pub mod Atomic
 pub mod Queues
+use Rattle.model.specs.Families.Atomic.Calls as atomic_calls
+use Rattle.model.specs.Families.Atomic.Opening as atomic_opening
+use Rattle.model.specs.Families.Atomic.Steps as atomic_steps
 use Rattle.model.specs.Families.Queues.Calls as queue_calls
 use Rattle.model.specs.Families.Queues.Opening as queue_opening
 use Rattle.model.specs.Families.Queues.Steps as queue_steps
 
 -- ---- the opening
 
-abbrev pub opening_words : Kind → ℕ → List ℕ
-opening_words IndexQueue capacity = queue_opening.opening_words IndexQueue capacity
-opening_words Overflow capacity = queue_opening.opening_words Overflow capacity
-
-abbrev pub opening_kept : Kind → Kept
-opening_kept IndexQueue = kepts.TheVariants.Queues queue_opening.opening_roles
-opening_kept Overflow = kepts.TheVariants.Queues queue_opening.opening_roles
+abbrev pub opening_of : Kind → Opening
+opening_of IndexQueue = queue_opening.opening queue_kinds.TheVariants.IndexQueue
+opening_of Overflow = queue_opening.opening queue_kinds.TheVariants.Overflow
+opening_of Queue = queue_opening.opening queue_kinds.TheVariants.Queue
+opening_of kinds.TheVariants.Atomic = atomic_opening.opening
 
 -- ---- a call begins
 
 module _ {T : Type 0} where
+  abbrev pub begin_of : Kind → ℕ → Start T → Beginning (Flight T) Kept
+  begin_of kind capacity (starts.TheVariants.Queues start) =
+      queue_opening.begin kind capacity start
+  begin_of kind capacity (starts.TheVariants.Atomic start) = atomic_opening.begin kind start
+
   -- the call that begins, or None where the kind has no such call
-  abbrev pub first_of : Kind → ℕ → Start T → Option Flight
-  first_of kind capacity (starts.TheVariants.Queues start) =
-      option_map flights.TheVariants.Queues (queue_calls.first kind capacity start)
+  abbrev pub first_of : Kind → ℕ → Start T → Option (Flight T)
+  first_of kind capacity start = (begin_of kind capacity start).call
 
-  -- what the family tests of a party that is to begin a call, in order
-  abbrev pub call_rows : Kept → ℕ → Start T → List (Bool × Refusal)
-  call_rows (kepts.TheVariants.Queues roles) p (starts.TheVariants.Queues start) =
-      queue_opening.call_rows roles p start
-
-  abbrev pub call_refusal : Kept → ℕ → Start T → Option Refusal
-  call_refusal kept p start = first_row (call_rows kept p start)
+  -- what is tested of a party that is to begin a call, in order: the family's rows come last
+  abbrev pub begin_rows : Kind → ℕ → Kept → ℕ → Start T → List (Bool × Refusal)
+  begin_rows kind capacity kept p start =
+      (is_none (first_of kind capacity start), WrongCall)
+      ∷ (begin_of kind capacity start).rows kept p
 
 -- ---- a call goes on
-
--- what a call under way wants next
-abbrev pub want_of : Flight → Want (Unit {0})
-want_of (flights.TheVariants.Queues flight) = queue_calls.want flight
 
 -- the operation that it asks for, if any
 abbrev pub ask_of : Want (Unit {0}) → Option Ask
@@ -68,19 +71,35 @@ is_question (wants.TheVariants.Question question) = true
 is_question wants.TheVariants.Nothing = false
 
 module _ {T : Type 0} where
+  abbrev pub going_of : Coding T → Flight T → Going (Flight T) T
+  going_of code (flights.TheVariants.Queues flight) = queue_calls.going code flight
+  going_of code (flights.TheVariants.Atomic flight) = atomic_calls.going code flight
+
+  -- what a call under way wants next
+  abbrev pub want_of : Coding T → Flight T → Want (Unit {0})
+  want_of code flight = (going_of code flight).want
+
   -- how it goes on from the old value of its word
-  abbrev pub after_of : Flight → ℕ → After Flight (Answer T)
-  after_of (flights.TheVariants.Queues flight) old =
-      as_call flights.TheVariants.Queues (λ answer. answer) (queue_calls.after flight old)
+  abbrev pub after_of : Coding T → Flight T → ℕ → After (Flight T) (Answer T)
+  after_of code flight old = (going_of code flight).after old
 
   -- what a step of this party has to know of the others
-  abbrev pub beside_of : List ℕ → Kept → List (ℕ × Party T) → ℕ → Beside
+  abbrev pub beside_of : List ℕ → Kept → List (ℕ × Party T) → ℕ → Option (ℕ × ℕ)
   beside_of words (kepts.TheVariants.Queues roles) latest p =
-      besides.TheVariants.Queues (queue_steps.beside roles words latest p)
+      queue_steps.beside roles words latest p
+  beside_of words kept latest p = None
 
-  -- what the step of a call comes to, in these words and from this old value of its word
-  abbrev pub step_of : List ℕ → Beside → ℕ → Start T → Flight → ℕ → Kept → Step Flight Kept T
-  step_of words (besides.TheVariants.Queues waits) p (starts.TheVariants.Queues start)
-      (flights.TheVariants.Queues flight) old (kepts.TheVariants.Queues roles) =
+  -- What the step of a call comes to, in these words and from this old value of its word. Where the
+  -- name, the call and what is kept are not of one family, nothing happens.
+  abbrev pub step_of : Coding T → List ℕ → Option (ℕ × ℕ) → ℕ → Start T → Flight T → ℕ → Kept
+      → Step (Flight T) Kept T
+  step_of code words beside p (starts.TheVariants.Queues start) (flights.TheVariants.Queues flight)
+      old (kepts.TheVariants.Queues roles) =
       as_step flights.TheVariants.Queues kepts.TheVariants.Queues
-      (queue_steps.step words waits p start flight old roles)
+      (queue_steps.step code words beside p start flight old roles)
+  step_of code words beside p (starts.TheVariants.Atomic start) (flights.TheVariants.Atomic flight)
+      old (kepts.TheVariants.Atomic producer) =
+      as_step flights.TheVariants.Atomic kepts.TheVariants.Atomic
+      (atomic_steps.step code p start flight old producer)
+  step_of code words beside p start flight old kept =
+      record { after = GoOn flight; back = false; wrote = []; kept = kept }

@@ -1,7 +1,10 @@
+pub mod Coding
 pub mod Families
 pub mod Moments
 pub mod Objects
+pub mod Opening
 pub mod Parties
+pub mod Promise
 pub mod Promises
 pub mod Reading
 pub mod Refusals

@@ -18,26 +18,25 @@ module _ {T : Type 0} where
   abbrev pub put : ℕ → Party T → List (ℕ × Party T) → List (ℕ × Party T)
   put p x latest = insert_entry nat_cmp latest p x
 
-  abbrev pub doing_of : Option (Party T) → Option Doing
+  abbrev pub doing_of : Option (Party T) → Option (Doing T)
   doing_of None = None
   doing_of (Some x) = Some x.doing
 
--- the call under way
-abbrev pub flight_of : Option Doing → Option Flight
-flight_of None = None
-flight_of (Some (Going flight since)) = Some flight
-flight_of (Some (Over others)) = None
+  -- the call under way
+  abbrev pub flight_of : Option (Doing T) → Option (Flight T)
+  flight_of None = None
+  flight_of (Some (Going flight since)) = Some flight
+  flight_of (Some (Over others)) = None
 
--- the changes of words by others while the call was under way
-abbrev pub others_of : ℕ → Doing → ℕ
-others_of changes (Going flight since) = changes - since
-others_of changes (Over others) = others
+  -- the changes of words by others while the call was under way
+  abbrev pub others_of : ℕ → Doing T → ℕ
+  others_of changes (Going flight since) = changes - since
+  others_of changes (Over others) = others
 
-abbrev pub is_over : Doing → Bool
-is_over (Going flight since) = false
-is_over (Over others) = true
+  abbrev pub is_over : Doing T → Bool
+  is_over (Going flight since) = false
+  is_over (Over others) = true
 
-module _ {T : Type 0} where
   -- how far the latest call has come, where words were changed so often
   abbrev pub progress_after : ℕ → Option (Party T) → Option Progress
   progress_after changes None = None

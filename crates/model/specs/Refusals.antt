@@ -5,23 +5,24 @@ use Rattle.model.specs.declared.turn.Turn.{Turn}
 use Rattle.model.specs.declared.turn.Turn.TheVariants.{Begin, Next, Decide, Die}
 use Rattle.model.specs.declared.turn.Refusal.{Refusal}
 use Rattle.model.specs.declared.turn.Refusal.TheVariants.{NoParty, Busy, Idle, WrongCall, Undecided, NoMemory, AtEnd}
-use Rattle.model.specs.Families.{first_of, call_rows, want_of, is_question}
+use Rattle.model.specs.Coding.{Coding}
+use Rattle.model.specs.Families.{begin_rows, want_of, is_question}
 use Rattle.model.specs.Rows.{first_row}
 use Rattle.model.specs.World.{World, flight_in}
 
--- a decision is due
-abbrev pub is_due : Option Flight → Bool
-is_due None = false
-is_due (Some flight) = is_question (want_of flight)
-
--- a call is under way, and it needs no decision to go on
-abbrev pub goes : Option Flight → Bool
-goes None = false
-goes (Some flight) = not (is_question (want_of flight))
-
 module _ {T : Type 0} where
+  -- a decision is due
+  abbrev pub is_due : Coding T → Option (Flight T) → Bool
+  is_due code None = false
+  is_due code (Some flight) = is_question (want_of code flight)
+
+  -- a call is under way, and it needs no decision to go on
+  abbrev pub goes : Coding T → Option (Flight T) → Bool
+  goes code None = false
+  goes code (Some flight) = not (is_question (want_of code flight))
+
   abbrev pub is_going : World T → ℕ → Bool
-  is_going w p = goes (flight_in w p)
+  is_going w p = goes w.coding (flight_in w p)
 
   abbrev pub is_at_end : World T → Bool
   is_at_end w = nat_le (2 ^ 64 - 2) w.turns
@@ -32,19 +33,18 @@ module _ {T : Type 0} where
       (is_at_end w, AtEnd)
       ∷ (nat_le w.parties p, NoParty)
       ∷ (is_some (flight_in w p), Busy)
-      ∷ (is_none (first_of w.kind w.capacity start), WrongCall)
-      ∷ call_rows w.kept p start
+      ∷ begin_rows w.kind w.capacity w.kept p start
   rows_of w (Next p) =
       (is_at_end w, AtEnd)
       ∷ (nat_le w.parties p, NoParty)
       ∷ (is_none (flight_in w p), Idle)
-      ∷ (is_due (flight_in w p), Undecided)
+      ∷ (is_due w.coding (flight_in w p), Undecided)
       ∷ []
   rows_of w (Decide p said) =
       (is_at_end w, AtEnd)
       ∷ (nat_le w.parties p, NoParty)
       ∷ (is_none (flight_in w p), Idle)
-      ∷ (not (is_due (flight_in w p)), Undecided)
+      ∷ (not (is_due w.coding (flight_in w p)), Undecided)
       ∷ []
   rows_of w (Die owner) = (is_at_end w, AtEnd) ∷ (true, WrongCall) ∷ []
 

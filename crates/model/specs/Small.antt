@@ -6,11 +6,11 @@ use Rattle.model.specs.declared.party.Party.{Party}
 use Rattle.model.specs.Parties.{party_of}
 use Rattle.model.specs.World.{World}
 
-abbrev pub HasSmallCount : ℕ → Doing → Type 0
-HasSmallCount changes (Going flight since) = since ≤ changes
-HasSmallCount changes (Over others) = others ≤ changes
-
 module _ {T : Type 0} where
+  abbrev pub HasSmallCount : ℕ → Doing T → Type 0
+  HasSmallCount changes (Going flight since) = since ≤ changes
+  HasSmallCount changes (Over others) = others ≤ changes
+
   pub record HasSmallCounts (turns changes : ℕ) (x : Party T) : Type 0 where
     pub steps : x.steps ≤ turns
     pub backs : x.backs ≤ turns

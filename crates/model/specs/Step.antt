@@ -1,14 +1,24 @@
--- What a step of a call comes to: in a family by its own calls and what it
--- keeps, in a machine by those of any family.
-use Rattle.std.specs.Prelude.{ℕ, Option, Some, None, List}
+-- How a call begins, how it goes on, and what a step of it comes to: in a family by its own
+-- calls and what it keeps, in a machine by those of any family.
+use Rattle.std.specs.Prelude.{ℕ, Bool, Option, Some, None, List}
 use Rattle.steps.specs.declared.ask.After.{After}
 use Rattle.steps.specs.declared.ask.After.TheVariants.{GoOn, Done}
+use Rattle.steps.specs.declared.ask.Want.{Want}
 use Rattle.model.specs.declared.event.Answer.{Answer}
 use Rattle.model.specs.declared.event.Event.{Event}
+use Rattle.model.specs.declared.turn.Refusal.{Refusal}
+
+pub record Beginning (F K : Type 0) : Type 0 where
+  pub call : Option F  -- the call that begins, or None where the kind has no such call
+  pub rows : K → ℕ → List (Bool × Refusal)  -- what is tested of a party that is to begin it
+
+pub record Going (F T : Type 0) : Type 0 where
+  pub want : Want (Unit {0})  -- what the call wants next
+  pub after : ℕ → After F (Answer T)  -- how it goes on from the old value of its word
 
 pub record Step (F K T : Type 0) : Type 0 where
   pub after : After F (Answer T)  -- the call goes on, or it is done
-  pub back : ℕ  -- 1 where it begins a turn of its loop again
+  pub back : Bool  -- whether it begins a turn of its loop again
   pub wrote : List (Event T)  -- what it did to the structure, and who acts there, in order
   pub kept : K  -- what the family keeps beside its words
 

@@ -16,6 +16,7 @@ use Rattle.model.specs.declared.party.Party.{Party}
 use Rattle.model.specs.declared.turn.Refusal.{Refusal}
 use Rattle.model.specs.declared.turn.Turn.{Turn}
 use Rattle.model.specs.declared.turn.Turn.TheVariants.{Begin, Next, Decide, Die}
+use Rattle.model.specs.Coding.{Coding, IsCoding}
 use Rattle.model.specs.Families.{first_of, want_of, ask_of, beside_of, step_of}
 use Rattle.model.specs.Parties.{party_of, put}
 use Rattle.model.specs.Refusals.{refusal_of}
@@ -47,24 +48,29 @@ abbrev pub number_of : Bool → ℕ
 number_of true = 1
 number_of false = 0
 
--- the operation that the call under way asks for, if any
-abbrev pub ask_of_doing : Doing → Option Ask
-ask_of_doing (Going flight since) = ask_of (want_of flight)
-ask_of_doing (Over others) = None
-
 -- a call takes one step for each operation
 abbrev pub step_count : Option Ask → ℕ
 step_count None = 0
 step_count (Some ask) = 1
 
+-- what a turn back counts
+abbrev pub one_if : Bool → ℕ
+one_if true = 1
+one_if false = 0
+
 module _ {T : Type 0} where
+  -- the operation that the call under way asks for, if any
+  abbrev pub ask_of_doing : Coding T → Doing T → Option Ask
+  ask_of_doing code (Going flight since) = ask_of (want_of code flight)
+  ask_of_doing code (Over others) = None
+
   -- ---- a call begins
 
-  abbrev pub party_at_begin : Start T → Flight → ℕ → Party T
+  abbrev pub party_at_begin : Start T → Flight T → ℕ → Party T
   party_at_begin start flight changes =
       record { start = start; steps = 0; backs = 0; doing = Going flight changes }
 
-  abbrev pub after_begin : World T → ℕ → Start T → Option Flight → World T
+  abbrev pub after_begin : World T → ℕ → Start T → Option (Flight T) → World T
   after_begin w p start None = w
   after_begin w p start (Some flight) =
       record w {
@@ -75,22 +81,22 @@ module _ {T : Type 0} where
   -- ---- a call goes on
 
   -- where the call stands then
-  abbrev pub doing_after : ℕ → ℕ → After Flight (Answer T) → Doing
+  abbrev pub doing_after : ℕ → ℕ → After (Flight T) (Answer T) → Doing T
   doing_after changes since (GoOn flight) = Going flight since
   doing_after changes since (Done answer) = Over (changes - since)
 
   -- its party, after so many steps more and so many changes of a word
-  abbrev pub party_after : Party T → ℕ → ℕ → ℕ → ℕ → Step Flight Kept T → Party T
+  abbrev pub party_after : Party T → ℕ → ℕ → ℕ → ℕ → Step (Flight T) Kept T → Party T
   party_after x since changes steps change s =
       record {
         start = x.start;
         steps = x.steps + steps;
-        backs = x.backs + s.back;
+        backs = x.backs + one_if s.back;
         doing = doing_after (changes + change) (since + change) s.after;
       }
 
   -- the operation is done, if there is one, and the call goes on by this step
-  abbrev pub after_step : World T → ℕ → Party T → ℕ → Option Ask → Step Flight Kept T → World T
+  abbrev pub after_step : World T → ℕ → Party T → ℕ → Option Ask → Step (Flight T) Kept T → World T
   after_step w p x since ask s =
       record w {
         words = words_after w.words ask;
@@ -102,12 +108,12 @@ module _ {T : Type 0} where
       }
 
   -- what the step of a party's call comes to from this answer
-  abbrev pub step_in : World T → ℕ → Party T → Flight → ℕ → Step Flight Kept T
+  abbrev pub step_in : World T → ℕ → Party T → Flight T → ℕ → Step (Flight T) Kept T
   step_in w p x flight answer =
-      step_of w.words (beside_of w.words w.kept w.latest p) p x.start flight answer w.kept
+      step_of w.coding w.words (beside_of w.words w.kept w.latest p) p x.start flight answer w.kept
 
   -- the call goes on from this answer; one that is done stays
-  abbrev pub after_answer : World T → ℕ → Party T → Option Ask → ℕ → Doing → World T
+  abbrev pub after_answer : World T → ℕ → Party T → Option Ask → ℕ → Doing T → World T
   after_answer w p x ask answer (Over others) = w
   after_answer w p x ask answer (Going flight since) =
       after_step w p x since ask (step_in w p x flight answer)
@@ -117,10 +123,10 @@ module _ {T : Type 0} where
   ending_of p start (Some answer) = Finished p start answer ∷ []
 
   -- the events of a step, the end of the call last
-  abbrev pub events_of_step : ℕ → Start T → Step Flight Kept T → List (Event T)
+  abbrev pub events_of_step : ℕ → Start T → Step (Flight T) Kept T → List (Event T)
   events_of_step p start s = s.wrote ++ ending_of p start (answer_in s.after)
 
-  abbrev pub events_of_answer : World T → ℕ → Party T → ℕ → Doing → List (Event T)
+  abbrev pub events_of_answer : World T → ℕ → Party T → ℕ → Doing T → List (Event T)
   events_of_answer w p x answer (Over others) = []
   events_of_answer w p x answer (Going flight since) =
       events_of_step p x.start (step_in w p x flight answer)
@@ -136,7 +142,8 @@ module _ {T : Type 0} where
   abbrev pub after_next : World T → ℕ → Option (Party T) → World T
   after_next w p None = w
   after_next w p (Some x) =
-      after_answer w p x (ask_of_doing x.doing) (old_of w.words (ask_of_doing x.doing)) x.doing
+      after_answer w p x (ask_of_doing w.coding x.doing)
+      (old_of w.words (ask_of_doing w.coding x.doing)) x.doing
 
   -- the call is handed yes or no
   abbrev pub after_decision : World T → ℕ → Bool → Option (Party T) → World T
@@ -154,7 +161,7 @@ module _ {T : Type 0} where
   abbrev pub events_of_next : World T → ℕ → Option (Party T) → List (Event T)
   events_of_next w p None = []
   events_of_next w p (Some x) =
-      events_of_answer w p x (old_of w.words (ask_of_doing x.doing)) x.doing
+      events_of_answer w p x (old_of w.words (ask_of_doing w.coding x.doing)) x.doing
 
   abbrev pub events_of_decision : World T → ℕ → Bool → Option (Party T) → List (Event T)
   events_of_decision w p said None = []
@@ -197,6 +204,8 @@ module _ {T : Type 0} where
 
   -- some list of turns leads here from the opening, at a capacity that is admitted
   pub record IsReached (t : Trace T) : Type 0 where
+    pub coded : IsCoding t.world.coding
     pub admitted : capacity_error t.world.kind t.world.capacity ≡ None
     pub turns : List (Turn T)
-    pub is : t ≡ run turns (opening t.world.kind t.world.capacity t.world.parties)
+    pub is : t
+        ≡ run turns (opening t.world.coding t.world.kind t.world.capacity t.world.parties)

@@ -1,5 +1,5 @@
 -- The machine as plain data.
-use Rattle.std.specs.Prelude.{◌≡◌, ◌⊎◌, ℕ, ◌-◌, ◌^◌, Option, Some, None, List, []}
+use Rattle.std.specs.Prelude.{◌≡◌, ◌⊎◌, ℕ, Option, Some, None, List, []}
 use Rattle.steps.specs.declared.enums.UniqueIndexCreationError.{UniqueIndexCreationError}
 use Rattle.steps.specs.declared.enums.UniqueIndexCreationError.TheVariants.{NoMemory}
 use Rattle.steps.specs.Enums.{capacity_refusal}
@@ -9,11 +9,12 @@ use Rattle.model.specs.declared.families.Kept.{Kept}
 use Rattle.model.specs.declared.party.Party.{Party}
 use Rattle.model.specs.declared.party.Progress.{Progress}
 use Rattle.model.specs.declared.turn.Kind.{Kind}
-use Rattle.model.specs.declared.turn.Kind.TheVariants.{IndexQueue, Overflow}
-use Rattle.model.specs.Families.{opening_words, opening_kept}
+use Rattle.model.specs.Coding.{Coding}
+use Rattle.model.specs.Families.{opening_of}
 use Rattle.model.specs.Parties.{party_of, doing_of, flight_of, progress_after}
 
 pub record World (T : Type 0) : Type 0 where
+  pub coding : Coding T  -- how its values are written in words
   pub kind : Kind
   pub capacity : ℕ
   pub parties : ℕ
@@ -23,24 +24,27 @@ pub record World (T : Type 0) : Type 0 where
   pub changes : ℕ  -- how often a step has changed a word's value
   pub turns : ℕ
 
+-- what a machine holds: the same beside its type's coding, and the events of its turns in order
+pub record State (T : Type 0) : Type 0 where
+  pub kind : Kind
+  pub capacity : ℕ
+  pub parties : ℕ
+  pub words : List ℕ
+  pub kept : Kept
+  pub latest : List (ℕ × Party T)
+  pub changes : ℕ
+  pub turns : ℕ
+  pub events : List (Event T)
+
 -- a machine, with the events of its turns in order
 pub record Trace (T : Type 0) : Type 0 where
   pub world : World T
   pub events : List (Event T)
 
--- the least capacity of a kind, and the greatest
-abbrev pub least_capacity : Kind → ℕ
-least_capacity IndexQueue = 0
-least_capacity Overflow = 0
-
-abbrev pub greatest_capacity : Kind → ℕ
-greatest_capacity IndexQueue = 2 ^ 32 - 1
-greatest_capacity Overflow = 2 ^ 32 - 1
-
 -- the refusal of a capacity that is not admitted
 abbrev pub capacity_error : Kind → ℕ → Option UniqueIndexCreationError
 capacity_error kind capacity =
-    capacity_refusal (least_capacity kind) (greatest_capacity kind) capacity
+    capacity_refusal (opening_of kind).least (opening_of kind).greatest capacity
 
 -- why no machine is made: its capacity, or where that is admitted, memory
 abbrev pub IsCreationError : Kind → ℕ → UniqueIndexCreationError → Type 0
@@ -48,16 +52,39 @@ IsCreationError kind capacity e =
     (capacity_error kind capacity ≡ Some e) ⊎ (capacity_error kind capacity ≡ None) × (e ≡ NoMemory)
 
 module _ {T : Type 0} where
-  abbrev pub opening : Kind → ℕ → ℕ → Trace T
-  opening kind capacity parties =
+  -- the machine that holds this, where values are written so
+  abbrev pub trace_in : Coding T → State T → Trace T
+  trace_in code s =
       record {
         world =
             record {
+              coding = code;
+              kind = s.kind;
+              capacity = s.capacity;
+              parties = s.parties;
+              words = s.words;
+              kept = s.kept;
+              latest = s.latest;
+              changes = s.changes;
+              turns = s.turns;
+            };
+        events = s.events;
+      }
+
+  abbrev pub world_in : Coding T → State T → World T
+  world_in code s = (trace_in code s).world
+
+  abbrev pub opening : Coding T → Kind → ℕ → ℕ → Trace T
+  opening code kind capacity parties =
+      record {
+        world =
+            record {
+              coding = code;
               kind = kind;
               capacity = capacity;
               parties = parties;
-              words = opening_words kind capacity;
-              kept = opening_kept kind;
+              words = (opening_of kind).words code.size capacity;
+              kept = (opening_of kind).kept;
               latest = [];
               changes = 0;
               turns = 0;
@@ -66,7 +93,7 @@ module _ {T : Type 0} where
       }
 
   -- the party's call under way
-  abbrev pub flight_in : World T → ℕ → Option Flight
+  abbrev pub flight_in : World T → ℕ → Option (Flight T)
   flight_in w p = flight_of (doing_of (party_of p w.latest))
 
   -- how far the party's latest call has come

@@ -1,4 +1,5 @@
 //! Calls by their names and arguments, their answers, and what a run writes down.
+use crate::families::atomic::AtomicStart;
 use crate::families::queues::QueueStart;
 
 /// A value of a queue.
@@ -15,6 +16,8 @@ pub enum Item<T> {
 pub enum Start<T> {
     /// A call of a queue, or on one of its roles.
     Queues(QueueStart<T>),
+    /// A call of the single value, or on its producer's role.
+    Atomic(AtomicStart<T>),
 }
 
 /// What a call answers.
@@ -22,7 +25,7 @@ pub enum Start<T> {
 pub enum Answer<T> {
     /// Of giving a role back.
     Done,
-    /// Of a push of the bounded queue, of acquiring a role, and of asking whether a queue is empty or full.
+    /// Of a push of the bounded queue, of a store, of acquiring a role, and of asking whether a queue is empty or full.
     Truth(bool),
     /// Of asking how many values wait.
     Number(u64),
@@ -32,6 +35,8 @@ pub enum Answer<T> {
     PoppedIndex(u64),
     /// The same for a value of the machine's own type.
     Popped(T),
+    /// The value that a load answers.
+    Loaded(T),
 }
 
 /// What a run writes down. The number is the party's.

@@ -1,16 +1,21 @@
 //! The families of calls. Each has a room of its own, and here one line where a machine passes on to it.
-ghost use Rattle.std.specs.Prelude.{◌≡◌, ◌+◌, ◌≤◌, ◌++◌, IfOk, vec_len, vec_capacity};
+ghost use Rattle.std.specs.Prelude.{◌≡◌, ◌+◌, ◌≤◌, ◌++◌, None, Some, OnOk, IfOk, IfErr, vec_len, vec_capacity};
 ghost use Rattle.steps.specs.Ask.{CameTo};
-ghost use Rattle.model.specs.Families.{first_of, want_of, is_question, opening_words, opening_kept, beside_of, step_of, call_refusal};
+ghost use Rattle.model.specs.Families.{opening_of, first_of, begin_rows, want_of, is_question, beside_of, step_of};
+ghost use Rattle.model.specs.Rows.{first_row};
 
+use crate::coding::Coded;
 use crate::event::{Answer, Event, Start};
 use crate::party::Latest;
 use crate::turn::{Kind, Refusal};
-use queues::Roles;
+use atomic::calls::AtomicFlight;
 use queues::calls::QueueFlight;
+use queues::{QueueKind, Roles};
 use std::alloc::{AllocError, Global};
 use steps::ask::Want;
+use steps::words::Words;
 
+pub mod atomic;
 pub mod queues;
 
 /// The most events that a step of a call writes, apart from the end of its call.
@@ -18,71 +23,85 @@ pub const MOST_EFFECTS: usize = queues::effects::MOST_EFFECTS;
 
 /// A call under way in a machine.
 #[derive(Drop)]
-pub enum Flight {
-    Queues(QueueFlight),
+pub enum Flight<T> {
+    Queues(QueueFlight<T>),
+    Atomic(AtomicFlight<T>),
 }
 
 /// What a family needs to know beside its words.
 #[derive(Clone, Copy)]
 pub enum Kept {
     Queues(Roles),
+    /// Who holds the producer's role of the single value.
+    Atomic(Option<u32>),
 }
 
-/// What the step of one party has to know of the others.
-#[derive(Clone, Copy)]
-pub enum Beside {
-    /// The party and the value of a push that acts where a pop moves the read position.
-    Queues(Option<(u32, u64)>),
-}
+/// What the step of one party has to know of the others: the party and the value of a push that acts where this step
+/// moves the read position. Only an overflowing queue has such.
+pub type Beside = Option<(u32, u64)>;
 
-/// What became of a call that went on: 1 where it begins a turn of its loop
-/// again, else 0, and its answer where it is done.
+/// What became of a call that went on: whether it begins a turn of its loop again, and its answer where it is done.
 #[derive(Drop)]
 pub struct Went<T> {
-    pub back: u64,
+    pub back: bool,
     pub done: Option<Answer<T>>,
 }
 
-/// The words at the opening of a structure of this kind and capacity.
-pub fn opening_words(alloc: Global, kind: Kind, capacity: u32) -> Result<Vec<u64>, AllocError>
-    ensures { IfOk result (λ words. words.items ≡ opening_words kind capacity) }
+/// The least and the greatest capacity of a kind.
+pub fn capacities(kind: Kind) -> (u64, u64)
+    ensures least { result.0 ≡ (opening_of kind).least }
+    ensures greatest { result.1 ≡ (opening_of kind).greatest }
 {
     match kind {
-        Kind::IndexQueue => queues::opening::opening_words(alloc, kind, capacity),
-        Kind::Overflow => queues::opening::opening_words(alloc, kind, capacity),
+        Kind::IndexQueue => queues::opening::CAPACITIES,
+        Kind::Overflow => queues::opening::CAPACITIES,
+        Kind::Queue => queues::opening::CAPACITIES,
+        Kind::Atomic => atomic::opening::CAPACITIES,
     }
 }
 
-/// What the family of this kind keeps at the opening.
-pub fn opening_kept(kind: Kind) -> Kept
-    ensures { result ≡ opening_kept kind }
+/// The words at the opening of a structure of this kind and capacity, and what its family keeps beside them.
+pub fn opening<T: Words>(
+    alloc: Global,
+    kind: Kind,
+    capacity: u32,
+) -> Result<(Vec<u64>, Kept), AllocError>
+    ensures words { IfOk result
+        (λ opened. opened.0.items ≡ (opening_of kind).words ⟦<T as Coded>⟧.coding.size capacity) }
+    ensures kept { IfOk result (λ opened. opened.1 ≡ (opening_of kind).kept) }
 {
     match kind {
-        Kind::IndexQueue => Kept::Queues(queues::opening::opening_roles()),
-        Kind::Overflow => Kept::Queues(queues::opening::opening_roles()),
+        Kind::IndexQueue => queues::opening::open::<T>(alloc, QueueKind::IndexQueue, capacity),
+        Kind::Overflow => queues::opening::open::<T>(alloc, QueueKind::Overflow, capacity),
+        Kind::Queue => queues::opening::open::<T>(alloc, QueueKind::Queue, capacity),
+        Kind::Atomic => atomic::opening::open::<T>(alloc),
     }
 }
 
-/// The call that begins, or None where the kind has no such call.
-pub fn first<T: Copy>(kind: Kind, capacity: u32, start: &Start<T>) -> Option<Flight>
-    ensures { result ≡ first_of kind capacity start.now }
+/// The call that this party begins, or why it may not.
+pub fn begin<T: Words>(
+    kind: Kind,
+    capacity: u32,
+    kept: &Kept,
+    number: u32,
+    start: &Start<T>,
+) -> Result<Flight<T>, Refusal>
+    ensures ok { IfOk result (λ flight. first_of kind capacity start.now ≡ Some flight) }
+    ensures allowed { OnOk result
+        (first_row (begin_rows kind capacity kept.now number start.now) ≡ None) }
+    ensures refused { IfErr result
+        (λ row. first_row (begin_rows kind capacity kept.now number start.now) ≡ Some row) }
 {
-    match start {
-        Start::Queues(start) => {
-            let flight = queues::calls::first(kind, capacity, start)?;
-            Some(Flight::Queues(flight))
+    match (start, kept) {
+        (Start::Queues(start), Kept::Queues(roles)) => {
+            let flight = queues::opening::begin(kind, capacity, roles, number, start)?;
+            Ok(Flight::Queues(flight))
         }
-    }
-}
-
-/// Why the family refuses that this party begins the call, if it does.
-pub fn call_refusal<T: Copy>(kept: &Kept, number: u32, start: &Start<T>) -> Option<Refusal>
-    ensures { result ≡ call_refusal kept.now number start.now }
-{
-    match (kept, start) {
-        (Kept::Queues(roles), Start::Queues(start)) => {
-            queues::opening::call_refusal(roles, number, start)
+        (Start::Atomic(start), Kept::Atomic(producer)) => {
+            let flight = atomic::opening::begin(kind, *producer, number, start)?;
+            Ok(Flight::Atomic(flight))
         }
+        _ => Err(Refusal::WrongCall),
     }
 }
 
@@ -91,25 +110,25 @@ pub fn look_beside<T>(kept: &Kept, words: &Vec<u64>, latest: &Latest<T>, number:
     ensures { result ≡ beside_of words.now.items kept.now latest.now.entries number }
 {
     match kept {
-        Kept::Queues(roles) => {
-            Beside::Queues(queues::effects::look_beside(roles, words, latest, number))
-        }
+        Kept::Queues(roles) => queues::effects::look_beside(roles, words, latest, number),
+        _ => None,
     }
 }
 
-impl Flight {
+impl<T: Words> Flight<T> {
     /// What the call wants next.
     pub fn want(&self) -> Want<()>
-        ensures { result ≡ want_of self.now }
+        ensures { result ≡ want_of ⟦<T as Coded>⟧.coding self.now }
     {
         match self {
             Flight::Queues(flight) => flight.want(),
+            Flight::Atomic(flight) => flight.want(),
         }
     }
 
     /// Whether a decision is due.
     pub fn is_asking(&self) -> bool
-        ensures { result ≡ is_question (want_of self.now) }
+        ensures { result ≡ is_question (want_of ⟦<T as Coded>⟧.coding self.now) }
     {
         match self.want() {
             Want::Question(_) => true,
@@ -119,7 +138,7 @@ impl Flight {
 
     /// Lets the call go on from an answer, where it lies, and writes down what its step does, in the room that was kept
     /// for it. The words are those before the step.
-    pub fn go_on<T: Copy>(
+    pub fn go_on(
         &mut self,
         number: u32,
         start: &Start<T>,
@@ -130,24 +149,29 @@ impl Flight {
         events: &mut Vec<Event<T>>,
     ) -> Went<T>
         requires { vec_len events.old + MOST_EFFECTS ≤ vec_capacity events.old }
-        ensures after { CameTo result.done self.new
-            (step_of words.now.items beside number start.now self.old answer kept.old).after }
-        ensures back { result.back
-            ≡ (step_of words.now.items beside number start.now self.old answer kept.old).back }
-        ensures kept { kept.new
-            ≡ (step_of words.now.items beside number start.now self.old answer kept.old).kept }
+        ensures after { CameTo result.done self.new (step_of ⟦<T as Coded>⟧.coding words.now.items beside
+            number start.now self.old answer kept.old).after }
+        ensures back { result.back ≡ (step_of ⟦<T as Coded>⟧.coding words.now.items beside
+            number start.now self.old answer kept.old).back }
+        ensures kept { kept.new ≡ (step_of ⟦<T as Coded>⟧.coding words.now.items beside
+            number start.now self.old answer kept.old).kept }
         ensures wrote { events.new.items ≡ events.old.items
-            ++ (step_of words.now.items beside number start.now self.old answer kept.old).wrote }
+            ++ (step_of ⟦<T as Coded>⟧.coding words.now.items beside
+            number start.now self.old answer kept.old).wrote }
         ensures few { vec_len events.new ≤ vec_len events.old + MOST_EFFECTS }
         ensures room { vec_capacity events.new ≡ vec_capacity events.old }
     {
-        match (self, start, beside, kept) {
-            (
-                Flight::Queues(flight),
-                Start::Queues(start),
-                Beside::Queues(waits),
-                Kept::Queues(roles),
-            ) => flight.go_on(number, start, words, waits, answer, roles, events),
+        match (self, start, kept) {
+            (Flight::Queues(flight), Start::Queues(start), Kept::Queues(roles)) => {
+                flight.go_on(number, start, words, beside, answer, roles, events)
+            }
+            (Flight::Atomic(flight), Start::Atomic(start), Kept::Atomic(producer)) => {
+                flight.go_on(number, start, answer, producer, events)
+            }
+            _ => Went {
+                back: false,
+                done: None,
+            },
         }
     }
 }

@@ -2,6 +2,7 @@
 //! definitions that a reader must believe stand in `specs/`.
 #![tactic(auto)]
 
+pub mod coding;
 pub mod event;
 pub mod families;
 pub mod party;

@@ -21,9 +21,9 @@ pub struct Progress {
 
 /// Where a party's latest call stands.
 #[derive(Drop)]
-pub enum Doing {
+pub enum Doing<T> {
     /// It goes on. So many changes of words were made before it began, or by itself.
-    Going(Flight, u64),
+    Going(Flight<T>, u64),
     /// It is done. So many changes were made by others while it was under way.
     Over(u64),
 }
@@ -34,14 +34,14 @@ pub struct Party<T> {
     pub start: Start<T>,
     pub steps: u64,
     pub backs: u64,
-    pub doing: Doing,
+    pub doing: Doing<T>,
 }
 
 /// The parties that have begun a call, by number.
 pub type Latest<T> = BTreeMap<u32, Party<T>>;
 
 /// The call that the party has under way.
-pub fn flight_of<T>(latest: &Latest<T>, number: u32) -> Option<&Flight>
+pub fn flight_of<T>(latest: &Latest<T>, number: u32) -> Option<&Flight<T>>
     ensures { option_copied result ≡ flight_of (doing_of (party_of number latest.now.entries)) }
 {
     match latest.get(&number) {

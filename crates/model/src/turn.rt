@@ -3,6 +3,7 @@ ghost use Rattle.std.specs.Prelude.{◌≡◌};
 ghost use Rattle.model.specs.World.{capacity_error};
 
 use crate::event::Start;
+use crate::families::capacities;
 use steps::enums::{OwnerId, UniqueIndexCreationError, capacity_refusal};
 use thiserror::Error;
 
@@ -12,16 +13,19 @@ pub enum Kind {
     IndexQueue,
     /// The overflowing queue of indices.
     Overflow,
+    /// The bounded queue of values of the machine's own type.
+    Queue,
+    /// The single value.
+    Atomic,
 }
 
-/// Why a machine of this kind is not made with this capacity, or None. A queue has from 0 to 2^32 - 1.
+/// Why a machine of this kind is not made with this capacity, or None. A queue has from 0 to 2^32 - 1, and the
+/// single value 1.
 pub fn capacity_error(kind: Kind, capacity: usize) -> Option<UniqueIndexCreationError>
     ensures { result ≡ capacity_error kind capacity }
 {
-    match kind {
-        Kind::IndexQueue => capacity_refusal(capacity as u64, 0, u32::MAX as u64),
-        Kind::Overflow => capacity_refusal(capacity as u64, 0, u32::MAX as u64),
-    }
+    let (least, greatest) = capacities(kind);
+    capacity_refusal(capacity as u64, least, greatest)
 }
 
 /// One turn of a run. The number is the party's.

@@ -1,4 +1,5 @@
 pub mod Asks
+pub mod Begins
 pub mod Core
 pub mod Invariant
 pub mod Justified
@@ -10,3 +11,4 @@ pub mod Pending
 pub mod Roles
 pub mod Sound
 pub mod Stages
+pub mod Values

@@ -1,3 +1,4 @@
+pub mod Kinds
 pub mod Knows
 pub mod Pops
 pub mod Pushes

@@ -7,18 +7,16 @@ use Rattle.steps.specs.declared.ask.After.TheVariants.{GoOn, Done}
 use Rattle.model.specs.declared.families.Flight.{Flight}
 use Rattle.model.specs.declared.event.Answer.{Answer}
 use Rattle.model.specs.declared.event.Event.{Event}
-use Rattle.model.specs.declared.event.Event.TheVariants.{Begun, Published, HandedOut, Acted, Finished}
+use Rattle.model.specs.declared.event.Event.TheVariants.{Begun, Acted, Finished}
 use Rattle.model.specs.declared.party.Progress.{Progress}
 use Rattle.model.specs.declared.turn.Turn.{Turn}
 use Rattle.model.specs.declared.turn.Turn.TheVariants.{Begin, Next, Decide, Die}
+use Rattle.model.specs.Coding.{Coding}
 use Rattle.model.specs.Families.{first_of, want_of, ask_of, after_of}
-use Rattle.model.specs.Families.Queues.Promises as queues
+use Rattle.model.specs.Promise.{Promise}
+use Rattle.model.specs.Reading.{owner}
 use Rattle.model.specs.Turns.{words_after, old_of, number_of}
 use Rattle.model.specs.World.{World, Trace, flight_in, progress_in}
-
-abbrev pub ask_of_flight : Option Flight → Option Ask
-ask_of_flight None = None
-ask_of_flight (Some flight) = ask_of (want_of flight)
 
 -- ---- the counts of a call
 
@@ -36,9 +34,13 @@ BothGoOn asks over (Some old) None = ⊥
 BothGoOn asks over None new = ⊥
 
 module _ {T : Type 0} where
+  abbrev pub ask_of_flight : Coding T → Option (Flight T) → Option Ask
+  ask_of_flight code None = None
+  ask_of_flight code (Some flight) = ask_of (want_of code flight)
+
   -- the operation on a word that the turn asks for, if any
   abbrev pub ask_in : World T → Turn T → Option Ask
-  ask_in w (Next p) = ask_of_flight (flight_in w p)
+  ask_in w (Next p) = ask_of_flight w.coding (flight_in w p)
   ask_in w turn = None
 
   abbrev pub IsParty : Turn T → ℕ → Type 0
@@ -51,6 +53,7 @@ module _ {T : Type 0} where
 
   -- it is the same machine, one turn later
   pub record IsOneTurnLater (old new : World T) : Type 0 where
+    pub coding : new.coding ≡ old.coding
     pub kind : new.kind ≡ old.kind
     pub capacity : new.capacity ≡ old.capacity
     pub parties : new.parties ≡ old.parties
@@ -65,7 +68,7 @@ module _ {T : Type 0} where
   -- ---- the party's call
 
   -- the call stands there afterwards, or is done
-  abbrev pub StandsAt : World T → ℕ → After Flight (Answer T) → Type 0
+  abbrev pub StandsAt : World T → ℕ → After (Flight T) (Answer T) → Type 0
   StandsAt w p (GoOn flight) = flight_in w p ≡ Some flight
   StandsAt w p (Done answer) = flight_in w p ≡ None
 
@@ -74,9 +77,11 @@ module _ {T : Type 0} where
   GoesOn old (Begin p start) new = flight_in new p ≡ first_of old.kind old.capacity start
   GoesOn old (Next p) new =
       IfSome (flight_in old p)
-      (λ flight. StandsAt new p (after_of flight (old_of old.words (ask_of (want_of flight)))))
+      (λ flight. StandsAt new p
+      (after_of old.coding flight (old_of old.words (ask_of (want_of old.coding flight)))))
   GoesOn old (Decide p said) new =
-      IfSome (flight_in old p) (λ flight. StandsAt new p (after_of flight (number_of said)))
+      IfSome (flight_in old p)
+      (λ flight. StandsAt new p (after_of old.coding flight (number_of said)))
   GoesOn old (Die owner) new = Unit {0}
 
   -- ---- the counts
@@ -115,11 +120,12 @@ module _ {T : Type 0} where
 
   -- ---- the order of what is written down
 
-  -- what a step did to the structure
+  -- what a step did to the structure: any event but a begin, an act and an end
   abbrev pub IsEffectOf : Turn T → Event T → Type 0
-  IsEffectOf turn (Published p item) = IsParty turn p
-  IsEffectOf turn (HandedOut p item) = IsParty turn p
-  IsEffectOf turn e = ⊥
+  IsEffectOf turn (Begun p start) = ⊥
+  IsEffectOf turn (Acted p start answer) = ⊥
+  IsEffectOf turn (Finished p start answer) = ⊥
+  IsEffectOf turn e = IsParty turn (owner e)
 
   abbrev pub IsAct : Event T → Type 0
   IsAct (Acted p start answer) = Unit {0}
@@ -130,11 +136,12 @@ module _ {T : Type 0} where
   IsEndOf turn e = ⊥
 
   -- what the family says of an event of this turn
-  abbrev pub ActsRight : Trace T → Turn T → Event T → Type 0
-  ActsRight old turn e = queues.ActsRight old (ask_in old.world turn) (IsParty turn) e
+  abbrev pub ActsRight : Promise T → Trace T → Turn T → Event T → Type 0
+  ActsRight promise old turn e = promise.acts_right old (ask_in old.world turn) (IsParty turn) e
 
   -- what the step did to the structure, then the acts, then the end
-  pub record WritesInOrder (old : Trace T) (turn : Turn T) (events : List (Event T)) : Type 0 where
+  pub record WritesInOrder (promise : Promise T) (old : Trace T) (turn : Turn T)
+      (events : List (Event T)) : Type 0 where
     pub effects : List (Event T)
     pub acts : List (Event T)
     pub ends : List (Event T)
@@ -142,10 +149,10 @@ module _ {T : Type 0} where
     pub are_effects : AllByRecursion (IsEffectOf turn) effects
     pub are_acts : AllByRecursion IsAct acts
     pub are_ends : AllByRecursion (IsEndOf turn) ends
-    pub right : AllByRecursion (ActsRight old turn) acts
+    pub right : AllByRecursion (ActsRight promise old turn) acts
 
-  abbrev pub WritesDown : Trace T → Turn T → Trace T → Type 0
-  WritesDown old (Begin p start) new = new.events ≡ old.events ++ Begun p start ∷ []
-  WritesDown old (Next p) new = WritesInOrder old (Next p) new.events
-  WritesDown old (Decide p said) new = WritesInOrder old (Decide p said) new.events
-  WritesDown old (Die owner) new = new.events ≡ old.events
+  abbrev pub WritesDown : Promise T → Trace T → Turn T → Trace T → Type 0
+  WritesDown promise old (Begin p start) new = new.events ≡ old.events ++ Begun p start ∷ []
+  WritesDown promise old (Next p) new = WritesInOrder promise old (Next p) new.events
+  WritesDown promise old (Decide p said) new = WritesInOrder promise old (Decide p said) new.events
+  WritesDown promise old (Die owner) new = new.events ≡ old.events

@@ -3,6 +3,16 @@ pub mod calls;
 pub mod effects;
 pub mod opening;
 
+/// Which queue it is.
+#[derive(Clone, Copy)]
+pub enum QueueKind {
+    IndexQueue,
+    /// The overflowing queue of indices.
+    Overflow,
+    /// The bounded queue of the machine's own values.
+    Queue,
+}
+
 /// A call of a queue by its name and arguments. Which of the pushes a kind has depends on its values.
 #[derive(Debug, Clone, Copy, PartialEq, Eq)]
 pub enum QueueStart<T> {

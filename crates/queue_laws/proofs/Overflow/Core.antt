@@ -5,7 +5,7 @@ use Rattle.std.proofs.lemmas.List.{map-append, length-map, take-append-le}
 use Rattle.std.proofs.Math.Seq.{take-append_seam}
 use Rattle.model.specs.declared.event.Item.{Item}
 use Rattle.model.specs.declared.event.Item.TheVariants.{Index}
-use Rattle.model.specs.declared.turn.Kind.TheVariants.{Overflow}
+use Rattle.model.specs.declared.families.queues.QueueKind.TheVariants.{Overflow}
 use Rattle.model.specs.Families.Queues.Objects.{cut, cut_off}
 use Rattle.model.specs.Families.Queues.Calls.{words_of_index}
 use Rattle.model.specs.Families.Queues.Spans.{through_cells}

@@ -69,7 +69,7 @@ overflow_pop_number (overflow_pops.TheVariants.LoadsCell read) = 2
 overflow_pop_number (overflow_pops.TheVariants.MovesRead read) = 3
 
 -- Of an overflowing queue's pop: the same, of the read position alone.
-abbrev pub KnowsBacks : Core ℕ → ℕ → ℕ → ℕ → overflow_pops.PopStage → Type 0
+abbrev pub KnowsBacks : {V : Type 0} → Core V → ℕ → ℕ → ℕ → overflow_pops.PopStage → Type 0
 KnowsBacks k since changes backs overflow_pops.TheVariants.FindsNone = backs + since ≤ changes
 KnowsBacks k since changes backs overflow_pops.TheVariants.LoadsRead = backs + since ≤ changes
 KnowsBacks k since changes backs (overflow_pops.TheVariants.LoadsWrite read) =
@@ -80,7 +80,7 @@ KnowsBacks k since changes backs (overflow_pops.TheVariants.MovesRead read) =
     (read ≤ k.read) × (backs + since + k.read ≤ changes + read)
 
 -- a turn of another party keeps it
-module _ (k k' : Core ℕ) (changes changes' : ℕ) (up : GoesUp k k' changes changes') where
+module _ {V : Type 0} (k k' : Core V) (changes changes' : ℕ) (up : GoesUp k k' changes changes') where
   pub backs_keep : (since backs : ℕ) (stage : overflow_pops.PopStage) → KnowsBacks k since changes backs stage → KnowsBacks k' since changes' backs stage
   backs_keep since backs overflow_pops.TheVariants.FindsNone h =
       let w = up.write in
@@ -116,7 +116,7 @@ module _ (k k' : Core ℕ) (changes changes' : ℕ) (up : GoesUp k k' changes ch
 
 module _ {T : Type 0} where
   -- what a push has written since its begin
-  abbrev pub overflow_wrote : ℕ → Core ℕ → ℕ → ℕ → overflow_pushes.PushStage → List (Event T)
+  abbrev pub overflow_wrote : {V : Type 0} → ℕ → Core V → ℕ → ℕ → overflow_pushes.PushStage → List (Event T)
   overflow_wrote c k p v overflow_pushes.TheVariants.HandsBack = []
   overflow_wrote c k p v overflow_pushes.TheVariants.LoadsWrite = []
   overflow_wrote c k p v (overflow_pushes.TheVariants.LoadsRead write) = []

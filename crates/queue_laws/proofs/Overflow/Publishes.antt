@@ -22,7 +22,8 @@ use Rattle.model.specs.declared.event.Event.{Event}
 use Rattle.model.specs.declared.event.Start.TheVariants.{Queues}
 use Rattle.model.specs.declared.event.Event.TheVariants.{Published, Acted}
 use Rattle.model.specs.declared.party.Party.{Party}
-use Rattle.model.specs.declared.turn.Kind as kinds
+use Rattle.model.specs.declared.families.queues.QueueKind as kinds
+use Rattle.model.specs.Coding.{Coding}
 use Rattle.model.specs.Families.Queues.Objects.{answer_of_item}
 use Rattle.model.specs.Families.Queues.Calls.{write_word, after, words_of_index}
 use Rattle.model.specs.Families.Queues.Steps.{pending_at, pending, effect_of}
@@ -40,33 +41,33 @@ use Rattle.queue_laws.proofs.Queues.Pending.{pending_here, few_wait, none_hangs}
 use Rattle.queue_laws.proofs.Queues.Stages.{party_then, DoesStep, Moves, MovesOf}
 use Rattle.queue_laws.proofs.Overflow.Keeping.{publish_keeps_pop}
 
-module _ {T : Type 0} (scene : Scene T) (inv : Inv kinds.TheVariants.Overflow scene) (small : scene.turns < 2 ^ 64 - 2) (v : ℕ) (room : OneWord) (holds : scene.roles.producer ≡ Some scene.party) (b : scene.backs ≡ 0) where
+module _ {T : Type 0} (en : Coding T) (scene : Scene T kinds.TheVariants.Overflow) (inv : Inv en kinds.TheVariants.Overflow scene) (small : scene.turns < 2 ^ 64 - 2) (v : ℕ) (room : OneWord) (holds : scene.roles.producer ≡ Some scene.party) (b : scene.backs ≡ 0) where
   open scene use {capacity as c, roles as ro, core as k, party as p, steps, since, latest, events}
 
-  abbrev at : overflow_pushes.PushStage → QueueFlight
+  abbrev at : overflow_pushes.PushStage → QueueFlight T
   at stage = Overflow (overflow_push_at c v room stage)
 
-  abbrev Does : List (Event T) → Option Ask → After QueueFlight (Answer T) → Effect T → Type 0
-  Does wrote ask after effect = DoesStep kinds.TheVariants.Overflow scene wrote (PushIndex v) ask 0 after effect
+  abbrev Does : List (Event T) → Option Ask → After (QueueFlight T) (Answer T) → Effect T → Type 0
+  Does wrote ask after effect = DoesStep en kinds.TheVariants.Overflow scene wrote (PushIndex v) ask false after effect
 
   abbrev Moved : overflow_pushes.PushStage → Type 0
-  Moved stage = MovesOf kinds.TheVariants.Overflow scene (PushIndex v) (at stage)
+  Moved stage = MovesOf en kinds.TheVariants.Overflow scene (PushIndex v) (at stage)
 
-  abbrev MovesBy : Option Ask → After QueueFlight (Answer T) → Effect T → Type 0
-  MovesBy ask after effect = Moves kinds.TheVariants.Overflow scene (PushIndex v) ask 0 after effect
+  abbrev MovesBy : Option Ask → After (QueueFlight T) (Answer T) → Effect T → Type 0
+  MovesBy ask after effect = Moves en kinds.TheVariants.Overflow scene (PushIndex v) ask false after effect
 
   abbrev IsCalm : Type 0
   IsCalm = pending_at k.read (flight_of (doing_of (party_of p latest))) ≡ None
 
   -- the party after a step of this operation
-  abbrev after_it : Option Ask → After QueueFlight (Answer T) → Party T
-  after_it ask after = party_then kinds.TheVariants.Overflow scene (PushIndex v) ask 0 after
+  abbrev after_it : Option Ask → After (QueueFlight T) (Answer T) → Party T
+  after_it ask after = party_then en kinds.TheVariants.Overflow scene (PushIndex v) ask false after
 
   calm_none : (position : ℕ) → pending_at position (flight_of (doing_of (party_of p latest))) ≡ None → pending position ro.producer latest ≡ None
   calm_none position calm = subst (λ o. pending position o latest ≡ None) (sym holds) (ap (option_map (λ (n : ℕ). (p, n))) calm)
 
   few : IsCalm → length k.waiting ≤ c
-  few calm = few_wait kinds.TheVariants.Overflow c k (pending k.read ro.producer latest) (calm_none k.read calm) inv.queue.good inv.queue.hangs
+  few calm = few_wait en kinds.TheVariants.Overflow c k (pending k.read ro.producer latest) (calm_none k.read calm) inv.queue.good inv.queue.hangs
 
   -- which push is pending once this party has moved
   pending_after : (position : ℕ) (y : Party T) → pending position ro.producer (put p y latest) ≡ option_map (λ (n : ℕ). (p, n)) (pending_at position (flight_of (Some y.doing)))
@@ -119,7 +120,7 @@ module _ {T : Type 0} (scene : Scene T) (inv : Inv kinds.TheVariants.Overflow sc
             right = (tt, (tt, (tt, tt)));
             lengths = (tt, (tt, (tt, tt)));
             good = good_publish;
-            hangs = none_hangs kinds.TheVariants.Overflow c after_publish (pending k.read ro.producer (put p (after_it next_write (Done PoppedNone)) latest)) (pending_after k.read (after_it next_write (Done PoppedNone))) (omega arith);
+            hangs = none_hangs T kinds.TheVariants.Overflow c after_publish (pending k.read ro.producer (put p (after_it next_write (Done PoppedNone)) latest)) (pending_after k.read (after_it next_write (Done PoppedNone))) (omega arith);
             out = omega arith;
             book = joined;
             goes = list.0;
@@ -133,7 +134,7 @@ module _ {T : Type 0} (scene : Scene T) (inv : Inv kinds.TheVariants.Overflow sc
                 };
             knows = omega arith;
             up = record { write = omega arith; read = omega arith; paid = omega arith };
-            others = λ q ne. kept c ro ro k after_publish q (λ h. h) (λ h. h) kinds.TheVariants.Overflow (record { push = λ mine w stage h. absurd (clash ro.producer p q ne holds mine); pop = λ mine other stage h. publish_keeps_pop c k v other stage h });
+            others = λ q ne. kept ro ro q (λ h. h) (λ h. h) en c kinds.TheVariants.Overflow k after_publish (record { push = λ mine w stage h. absurd (clash ro.producer p q ne holds mine); pop = λ mine other stage h. publish_keeps_pop c k v other stage h });
             reached = omega arith;
           },
         )
@@ -161,7 +162,7 @@ module _ {T : Type 0} (scene : Scene T) (inv : Inv kinds.TheVariants.Overflow sc
             right = (tt, tt);
             lengths = (tt, tt);
             good = good_publish;
-            hangs = subst (Hangs kinds.TheVariants.Overflow c after_publish) (sym hung) (some, k.waiting, refl, many);
+            hangs = subst (Hangs T kinds.TheVariants.Overflow c after_publish) (sym hung) (some, k.waiting, refl, many);
             out = omega arith;
             book = joined;
             goes = push_waits c k.waiting v many;
@@ -169,7 +170,7 @@ module _ {T : Type 0} (scene : Scene T) (inv : Inv kinds.TheVariants.Overflow sc
             here = record { span = rw t refl; steps = omega arith; at = (holds, refl, refl, (some, omega arith, omega arith, λ same. (k.waiting, refl))) };
             knows = omega arith;
             up = record { write = omega arith; read = omega arith; paid = omega arith };
-            others = λ q ne. kept c ro ro k after_publish q (λ h. h) (λ h. h) kinds.TheVariants.Overflow (record { push = λ mine w stage h. absurd (clash ro.producer p q ne holds mine); pop = λ mine other stage h. publish_keeps_pop c k v other stage h });
+            others = λ q ne. kept ro ro q (λ h. h) (λ h. h) en c kinds.TheVariants.Overflow k after_publish (record { push = λ mine w stage h. absurd (clash ro.producer p q ne holds mine); pop = λ mine other stage h. publish_keeps_pop c k v other stage h });
             reached = omega arith;
           },
         )
@@ -199,7 +200,7 @@ module _ {T : Type 0} (scene : Scene T) (inv : Inv kinds.TheVariants.Overflow sc
             right = (tt, (tt, tt));
             lengths = (tt, (tt, tt));
             good = good_publish;
-            hangs = none_hangs kinds.TheVariants.Overflow c after_publish (pending k.read ro.producer (put p (after_it next_write (GoOn (at (overflow_pushes.TheVariants.MovesRead read)))) latest)) calm (omega arith);
+            hangs = none_hangs T kinds.TheVariants.Overflow c after_publish (pending k.read ro.producer (put p (after_it next_write (GoOn (at (overflow_pushes.TheVariants.MovesRead read)))) latest)) calm (omega arith);
             out = omega arith;
             book = joined;
             goes = list.0;
@@ -207,16 +208,16 @@ module _ {T : Type 0} (scene : Scene T) (inv : Inv kinds.TheVariants.Overflow sc
             here = record { span = rw t refl; steps = omega arith; at = (holds, refl, refl, (some, omega arith, omega arith, λ same. absurd (omega arith))) };
             knows = omega arith;
             up = record { write = omega arith; read = omega arith; paid = omega arith };
-            others = λ q ne. kept c ro ro k after_publish q (λ h. h) (λ h. h) kinds.TheVariants.Overflow (record { push = λ mine w stage h. absurd (clash ro.producer p q ne holds mine); pop = λ mine other stage h. publish_keeps_pop c k v other stage h });
+            others = λ q ne. kept ro ro q (λ h. h) (λ h. h) en c kinds.TheVariants.Overflow k after_publish (record { push = λ mine w stage h. absurd (clash ro.producer p q ne holds mine); pop = λ mine other stage h. publish_keeps_pop c k v other stage h });
             reached = omega arith;
           },
         )
 
-    pub stores_write : Does [] next_write (after (at (overflow_pushes.TheVariants.StoresWrite k.write read)) k.write) (effect_of (layout ro k) (pending k.read ro.producer latest) (at (overflow_pushes.TheVariants.StoresWrite k.write read)) k.write)
+    pub stores_write : Does [] next_write (after en (at (overflow_pushes.TheVariants.StoresWrite k.write read)) k.write) (effect_of en (layout ro k) (pending k.read ro.producer latest) (at (overflow_pushes.TheVariants.StoresWrite k.write read)) k.write)
     stores_write = go (distance k.write read == c) (k.read == read) refl refl
       where
         go : (full here : Bool) → (distance k.write read == c) ≡ full → (k.read == read) ≡ here
-            → Does [] next_write (after (at (overflow_pushes.TheVariants.StoresWrite k.write read)) k.write) (effect_of (layout ro k) (pending k.read ro.producer latest) (at (overflow_pushes.TheVariants.StoresWrite k.write read)) k.write)
+            → Does [] next_write (after en (at (overflow_pushes.TheVariants.StoresWrite k.write read)) k.write) (effect_of en (layout ro k) (pending k.read ro.producer latest) (at (overflow_pushes.TheVariants.StoresWrite k.write read)) k.write)
         go false here t e =
             let g = inv.queue.good in
             let write = g.write in

@@ -24,7 +24,8 @@ use Rattle.model.specs.declared.event.Start.TheVariants.{Queues}
 use Rattle.model.specs.declared.event.Event.TheVariants.{Published, HandedOut, Acted}
 use Rattle.model.specs.declared.families.Flight as flights
 use Rattle.model.specs.declared.party.Party.{Party}
-use Rattle.model.specs.declared.turn.Kind as kinds
+use Rattle.model.specs.declared.families.queues.QueueKind as kinds
+use Rattle.model.specs.Coding.{Coding}
 use Rattle.model.specs.Families.Queues.Objects.{answer_of_item}
 use Rattle.model.specs.Families.Queues.Calls.{write_word, read_word, after, words_of_index}
 use Rattle.model.specs.Families.Queues.Steps.{pending_at, pending, effect_of}
@@ -44,33 +45,33 @@ use Rattle.queue_laws.proofs.Queues.Stages.{party_then, DoesStep, Moves, MovesOf
 use Rattle.queue_laws.proofs.Overflow.Publishes.{stores_write}
 use Rattle.queue_laws.proofs.Overflow.Keeping.{fill_keeps_pop, take_keeps_pop}
 
-module _ {T : Type 0} (scene : Scene T) (inv : Inv kinds.TheVariants.Overflow scene) (small : scene.turns < 2 ^ 64 - 2) (v : ℕ) (room : OneWord) (holds : scene.roles.producer ≡ Some scene.party) (b : scene.backs ≡ 0) where
+module _ {T : Type 0} (en : Coding T) (scene : Scene T kinds.TheVariants.Overflow) (inv : Inv en kinds.TheVariants.Overflow scene) (small : scene.turns < 2 ^ 64 - 2) (v : ℕ) (room : OneWord) (holds : scene.roles.producer ≡ Some scene.party) (b : scene.backs ≡ 0) where
   open scene use {capacity as c, roles as ro, core as k, party as p, steps, since, latest, events}
 
-  abbrev at : overflow_pushes.PushStage → QueueFlight
+  abbrev at : overflow_pushes.PushStage → QueueFlight T
   at stage = Overflow (overflow_push_at c v room stage)
 
-  abbrev Does : List (Event T) → Option Ask → After QueueFlight (Answer T) → Effect T → Type 0
-  Does wrote ask after effect = DoesStep kinds.TheVariants.Overflow scene wrote (PushIndex v) ask 0 after effect
+  abbrev Does : List (Event T) → Option Ask → After (QueueFlight T) (Answer T) → Effect T → Type 0
+  Does wrote ask after effect = DoesStep en kinds.TheVariants.Overflow scene wrote (PushIndex v) ask false after effect
 
   abbrev Moved : overflow_pushes.PushStage → Type 0
-  Moved stage = MovesOf kinds.TheVariants.Overflow scene (PushIndex v) (at stage)
+  Moved stage = MovesOf en kinds.TheVariants.Overflow scene (PushIndex v) (at stage)
 
-  abbrev MovesBy : Option Ask → After QueueFlight (Answer T) → Effect T → Type 0
-  MovesBy ask after effect = Moves kinds.TheVariants.Overflow scene (PushIndex v) ask 0 after effect
+  abbrev MovesBy : Option Ask → After (QueueFlight T) (Answer T) → Effect T → Type 0
+  MovesBy ask after effect = Moves en kinds.TheVariants.Overflow scene (PushIndex v) ask false after effect
 
   abbrev IsCalm : Type 0
   IsCalm = pending_at k.read (flight_of (doing_of (party_of p latest))) ≡ None
 
   -- the party after a step of this operation
-  abbrev after_it : Option Ask → After QueueFlight (Answer T) → Party T
-  after_it ask after = party_then kinds.TheVariants.Overflow scene (PushIndex v) ask 0 after
+  abbrev after_it : Option Ask → After (QueueFlight T) (Answer T) → Party T
+  after_it ask after = party_then en kinds.TheVariants.Overflow scene (PushIndex v) ask false after
 
   calm_none : (position : ℕ) → pending_at position (flight_of (doing_of (party_of p latest))) ≡ None → pending position ro.producer latest ≡ None
   calm_none position calm = subst (λ o. pending position o latest ≡ None) (sym holds) (ap (option_map (λ (n : ℕ). (p, n))) calm)
 
   few : IsCalm → length k.waiting ≤ c
-  few calm = few_wait kinds.TheVariants.Overflow c k (pending k.read ro.producer latest) (calm_none k.read calm) inv.queue.good inv.queue.hangs
+  few calm = few_wait en kinds.TheVariants.Overflow c k (pending k.read ro.producer latest) (calm_none k.read calm) inv.queue.good inv.queue.hangs
 
   -- which push is pending once this party has moved
   pending_after : (position : ℕ) (y : Party T) → pending position ro.producer (put p y latest) ≡ option_map (λ (n : ℕ). (p, n)) (pending_at position (flight_of (Some y.doing)))
@@ -91,7 +92,7 @@ module _ {T : Type 0} (scene : Scene T) (inv : Inv kinds.TheVariants.Overflow sc
       right = (tt, (tt, tt));
       lengths = (tt, (tt, tt));
       good = inv.queue.good;
-      hangs = still_hangs kinds.TheVariants.Overflow scene inv small k (after_it None (Done (PoppedIndex v))) refl refl refl calm;
+      hangs = still_hangs en kinds.TheVariants.Overflow scene inv small k (after_it None (Done (PoppedIndex v))) refl refl refl calm;
       out = omega arith;
       book = append-nil (map Index k.waiting);
       goes = rw none refl;
@@ -110,13 +111,13 @@ module _ {T : Type 0} (scene : Scene T) (inv : Inv kinds.TheVariants.Overflow sc
     },
   )
 
-  loads_write : 0 < c → steps ≤ 0 → IsCalm → Does [] (Some load_of_write) (after (at overflow_pushes.TheVariants.LoadsWrite) k.write) Quiet
+  loads_write : 0 < c → steps ≤ 0 → IsCalm → Does [] (Some load_of_write) (after en (at overflow_pushes.TheVariants.LoadsWrite) k.write) Quiet
   loads_write some s calm =
       let low = inv.queue.reached in
       let t : (k.write == 2 ^ 64 - 1) ≡ false = grind (arith, nat_tests) in
-      let goes : after {T = T} (at overflow_pushes.TheVariants.LoadsWrite) k.write ≡ GoOn (at (overflow_pushes.TheVariants.LoadsRead k.write)) = rw t refl in
+      let goes : after en (at overflow_pushes.TheVariants.LoadsWrite) k.write ≡ GoOn (at (overflow_pushes.TheVariants.LoadsRead k.write)) = rw t refl in
       subst (λ a. Does [] (Some load_of_write) a Quiet) (sym goes)
-      (quiet kinds.TheVariants.Overflow scene inv small calm 0 (PushIndex v) (Some load_of_write) (at (overflow_pushes.TheVariants.LoadsRead k.write)) k refl refl refl refl inv.queue.good refl
+      (quiet en kinds.TheVariants.Overflow scene inv small calm false (PushIndex v) (Some load_of_write) (at (overflow_pushes.TheVariants.LoadsRead k.write)) k refl refl refl refl inv.queue.good refl
       (record { span = refl; steps = omega arith; at = (holds, refl, refl, (some, refl)) })
       (omega arith)
       (λ q ne st f h. (h, refl)))
@@ -126,7 +127,7 @@ module _ {T : Type 0} (scene : Scene T) (inv : Inv kinds.TheVariants.Overflow sc
       let below = few calm in
       let g = inv.queue.good in
       let write = g.write in
-      quiet kinds.TheVariants.Overflow scene inv small calm 0 (PushIndex v) (Some load_of_read) (at (overflow_pushes.TheVariants.StoresCell k.write k.read)) k refl refl refl refl inv.queue.good refl
+      quiet en kinds.TheVariants.Overflow scene inv small calm false (PushIndex v) (Some load_of_read) (at (overflow_pushes.TheVariants.StoresCell k.write k.read)) k refl refl refl refl inv.queue.good refl
       (record { span = refl; steps = omega arith; at = (holds, refl, refl, (some, refl, omega arith, omega arith)) })
       (omega arith)
       (λ q ne st f h. (h, refl))
@@ -139,11 +140,11 @@ module _ {T : Type 0} (scene : Scene T) (inv : Inv kinds.TheVariants.Overflow sc
       let none : Holds 1 words_of_index (c + 1) k.cells k.write v 0 = λ i h. absurd (omega arith) in
       let good = fills 1 words_of_index (c + 1) k 0 v (omega arith) (omega arith) g in
       let place : cell_word c k.write ≡ 4 + (1 * (k.write % (c + 1)) + 0) = omega arith in
-      quiet kinds.TheVariants.Overflow scene inv small calm 0 (PushIndex v) (Some (record { word = cell_word c k.write; op = Store v })) (at (overflow_pushes.TheVariants.StoresWrite k.write read)) (filled 1 words_of_index (c + 1) k 0 v) refl refl refl refl good
+      quiet en kinds.TheVariants.Overflow scene inv small calm false (PushIndex v) (Some (record { word = cell_word c k.write; op = Store v })) (at (overflow_pushes.TheVariants.StoresWrite k.write read)) (filled 1 words_of_index (c + 1) k 0 v) refl refl refl refl good
       (set_at k.write k.read (free ro.producer) (free ro.consumer) k.cells (cell_word c k.write) (1 * (k.write % (c + 1)) + 0) v place)
       (record { span = refl; steps = omega arith; at = (holds, refl, refl, (some, refl, low, far, one_filled 1 words_of_index (c + 1) k v 0 (omega arith) (omega arith) g none)) })
       (omega arith)
-      (λ q ne. kept c ro ro k (filled 1 words_of_index (c + 1) k 0 v) q (λ h. h) (λ h. h) kinds.TheVariants.Overflow (record { push = λ mine w stage h. absurd (clash ro.producer p q ne holds mine); pop = λ mine other stage h. fill_keeps_pop c k 0 v other stage h }))
+      (λ q ne. kept ro ro q (λ h. h) (λ h. h) en c kinds.TheVariants.Overflow k (filled 1 words_of_index (c + 1) k 0 v) (record { push = λ mine w stage h. absurd (clash ro.producer p q ne holds mine); pop = λ mine other stage h. fill_keeps_pop c k 0 v other stage h }))
 
   -- ---- the move of the read position
 
@@ -165,7 +166,7 @@ module _ {T : Type 0} (scene : Scene T) (inv : Inv kinds.TheVariants.Overflow sc
       let next : after_position k.read ≡ k.read + 1 = omega arith in
       let moved : (after_position k.read == k.read) ≡ false = grind (arith, nat_tests) in
       let ask : Option Ask = Some (record { word = read_word; op = Exchange k.read (after_position k.read) }) in
-      let after : After QueueFlight (Answer T) = GoOn (at (overflow_pushes.TheVariants.LoadsCell k.read)) in
+      let after : After (QueueFlight T) (Answer T) = GoOn (at (overflow_pushes.TheVariants.LoadsCell k.read)) in
       let words : words_after (layout ro k) (Some (record { word = read_word; op = Exchange k.read (after_position k.read) })) ≡ layout ro (taken 1 words_of_index (c + 1) k rest) = rw t (ap (λ n. k.write ∷ n ∷ free ro.producer ∷ free ro.consumer ∷ k.cells) next) in
       let one : change_of (layout ro k) (Some (record { word = read_word; op = Exchange k.read (after_position k.read) })) ≡ 1 = rw (t, moved) refl in (
         taken 1 words_of_index (c + 1) k rest,
@@ -179,7 +180,7 @@ module _ {T : Type 0} (scene : Scene T) (inv : Inv kinds.TheVariants.Overflow sc
           right = (tt, (tt, tt));
           lengths = (tt, (tt, tt));
           good = takes 1 words_of_index (c + 1) k (get_or k.cells (k.read % (c + 1)) 0) rest first g;
-          hangs = none_hangs kinds.TheVariants.Overflow c (taken 1 words_of_index (c + 1) k rest) (pending (k.read + 1) ro.producer (put p (after_it ask after) latest)) (pending_after (k.read + 1) (after_it ask after)) (omega arith);
+          hangs = none_hangs T kinds.TheVariants.Overflow c (taken 1 words_of_index (c + 1) k rest) (pending (k.read + 1) ro.producer (put p (after_it ask after) latest)) (pending_after (k.read + 1) (after_it ask after)) (omega arith);
           out = omega arith;
           book = append-nil (map Index k.waiting) ∙ ap (map Index) first;
           goes = list.0;
@@ -187,7 +188,7 @@ module _ {T : Type 0} (scene : Scene T) (inv : Inv kinds.TheVariants.Overflow sc
           here = record { span = refl; steps = omega arith; at = (holds, refl, refl, (some, omega arith, far)) };
           knows = omega arith;
           up = record { write = omega arith; read = omega arith; paid = omega arith };
-          others = λ q ne. kept c ro ro k (taken 1 words_of_index (c + 1) k rest) q (λ h. h) (λ h. h) kinds.TheVariants.Overflow (record { push = λ mine w stage h. absurd (clash ro.producer p q ne holds mine); pop = λ mine other stage h. take_keeps_pop c k rest far other stage h });
+          others = λ q ne. kept ro ro q (λ h. h) (λ h. h) en c kinds.TheVariants.Overflow k (taken 1 words_of_index (c + 1) k rest) (record { push = λ mine w stage h. absurd (clash ro.producer p q ne holds mine); pop = λ mine other stage h. take_keeps_pop c k rest far other stage h });
           reached = omega arith;
         },
       )
@@ -210,7 +211,7 @@ module _ {T : Type 0} (scene : Scene T) (inv : Inv kinds.TheVariants.Overflow sc
           right = (tt, tt);
           lengths = (tt, tt);
           good = inv.queue.good;
-          hangs = still_hangs kinds.TheVariants.Overflow scene inv small k (after_it ask (Done PoppedNone)) refl refl refl calm;
+          hangs = still_hangs en kinds.TheVariants.Overflow scene inv small k (after_it ask (Done PoppedNone)) refl refl refl calm;
           out = omega arith;
           book = append-nil (map Index k.waiting);
           goes = refl;
@@ -250,7 +251,7 @@ module _ {T : Type 0} (scene : Scene T) (inv : Inv kinds.TheVariants.Overflow sc
           right = (tt, tt);
           lengths = (tt, tt);
           good = inv.queue.good;
-          hangs = still_hangs kinds.TheVariants.Overflow scene inv small k (after_it ask (Done (PoppedIndex (oldest_at read)))) refl refl refl calm;
+          hangs = still_hangs en kinds.TheVariants.Overflow scene inv small k (after_it ask (Done (PoppedIndex (oldest_at read)))) refl refl refl calm;
           out = omega arith;
           book = append-nil (map Index k.waiting);
           goes = refl;
@@ -272,9 +273,9 @@ module _ {T : Type 0} (scene : Scene T) (inv : Inv kinds.TheVariants.Overflow sc
   -- ---- every step
 
   -- a step that writes events of its party alone
-  by_itself : (wrote : List (Event T)) (ask : Option Ask) (after : After QueueFlight (Answer T)) (effect : Effect T) → span_of p events ≡ Open (Queues (PushIndex v)) wrote → Does wrote ask after effect
+  by_itself : (wrote : List (Event T)) (ask : Option Ask) (after : After (QueueFlight T) (Answer T)) (effect : Effect T) → span_of p events ≡ Open (Queues (PushIndex v)) wrote → Does wrote ask after effect
       → MovesBy ask after effect
-  by_itself wrote ask after effect seen step = alone kinds.TheVariants.Overflow scene inv wrote (PushIndex v) ask 0 after effect seen step
+  by_itself wrote ask after effect seen step = alone en kinds.TheVariants.Overflow scene inv wrote (PushIndex v) ask false after effect seen step
 
   calm_at : (stage : overflow_pushes.PushStage) → flight_of (doing_of (party_of p latest)) ≡ Some (flights.TheVariants.Queues (at stage)) → pending_at k.read (Some (flights.TheVariants.Queues (at stage))) ≡ None → IsCalm
   calm_at stage found none = ap (pending_at k.read) found ∙ none
@@ -294,13 +295,13 @@ module _ {T : Type 0} (scene : Scene T) (inv : Inv kinds.TheVariants.Overflow sc
           let far = knows.2 in
           let place : get_or (layout ro k) (cell_word c k.read) 0 ≡ get_or k.cells (k.read % (c + 1)) 0 = word_at k.write k.read (free ro.producer) (free ro.consumer) k.cells (cell_word c k.read) (k.read % (c + 1)) refl in
           let wrote : has_written {T = T} c k p (at (overflow_pushes.TheVariants.MovesRead k.read)) ≡ Published p (Index v) ∷ [] = rw t refl in
-          let goes : after {T = T} (at (overflow_pushes.TheVariants.MovesRead k.read)) k.read ≡ GoOn (at (overflow_pushes.TheVariants.LoadsCell k.read)) = rw t refl in
-          let told : effect_of {T = T} (layout ro k) (pending k.read ro.producer latest) (at (overflow_pushes.TheVariants.MovesRead k.read)) k.read ≡ TakesOut (get_or k.cells (k.read % (c + 1)) 0) = rw (t, place) refl in
+          let goes : after en (at (overflow_pushes.TheVariants.MovesRead k.read)) k.read ≡ GoOn (at (overflow_pushes.TheVariants.LoadsCell k.read)) = rw t refl in
+          let told : effect_of en (layout ro k) (pending k.read ro.producer latest) (at (overflow_pushes.TheVariants.MovesRead k.read)) k.read ≡ TakesOut (get_or k.cells (k.read % (c + 1)) 0) = rw (t, place) refl in
           let as_seen : span_of p events ≡ Open (Queues (PushIndex v)) (has_written c k p (at (overflow_pushes.TheVariants.MovesRead k.read))) = subst (λ r. span_of p events ≡ Open (Queues (PushIndex v)) (has_written c k p (at (overflow_pushes.TheVariants.MovesRead r)))) same seen in
           let step = takes_out knows.0 (omega arith) last.0 last.1 s in
           let all = by_itself (Published p (Index v) ∷ []) (asks_move k.read) (GoOn (at (overflow_pushes.TheVariants.LoadsCell k.read))) (TakesOut (get_or k.cells (k.read % (c + 1)) 0)) (as_seen ∙ ap (λ es. Open (Queues (PushIndex v)) es) wrote) step in
           subst (λ r. Moved (overflow_pushes.TheVariants.MovesRead r)) (sym same)
-          (subst (λ a. MovesBy (asks_move k.read) a (effect_of (layout ro k) (pending k.read ro.producer latest) (at (overflow_pushes.TheVariants.MovesRead k.read)) k.read)) (sym goes)
+          (subst (λ a. MovesBy (asks_move k.read) a (effect_of en (layout ro k) (pending k.read ro.producer latest) (at (overflow_pushes.TheVariants.MovesRead k.read)) k.read)) (sym goes)
           (subst (λ e. MovesBy (asks_move k.read) (GoOn (at (overflow_pushes.TheVariants.LoadsCell k.read))) e) (sym told) all))
       go false e =
           let other : k.read ≢ read = grind (arith, nat_tests) in
@@ -308,11 +309,11 @@ module _ {T : Type 0} (scene : Scene T) (inv : Inv kinds.TheVariants.Overflow sc
           let moved : read < k.read = omega arith in
           let t : (read == k.read) ≡ false = grind (arith, nat_tests) in
           let wrote : has_written {T = T} c k p (at (overflow_pushes.TheVariants.MovesRead read)) ≡ Published p (Index v) ∷ Acted p (Queues (PushIndex v)) PoppedNone ∷ [] = rw t refl in
-          let goes : after {T = T} (at (overflow_pushes.TheVariants.MovesRead read)) k.read ≡ Done PoppedNone = rw e refl in
-          let told : effect_of {T = T} (layout ro k) (pending k.read ro.producer latest) (at (overflow_pushes.TheVariants.MovesRead read)) k.read ≡ Quiet = rw e refl in
+          let goes : after en (at (overflow_pushes.TheVariants.MovesRead read)) k.read ≡ Done PoppedNone = rw e refl in
+          let told : effect_of en (layout ro k) (pending k.read ro.producer latest) (at (overflow_pushes.TheVariants.MovesRead read)) k.read ≡ Quiet = rw e refl in
           let calm = calm_at (overflow_pushes.TheVariants.MovesRead read) found (rw t refl) in
           let all = by_itself (Published p (Index v) ∷ Acted p (Queues (PushIndex v)) PoppedNone ∷ []) (asks_move read) (Done PoppedNone) Quiet (seen ∙ ap (λ es. Open (Queues (PushIndex v)) es) wrote) (gives_up read knows.0 moved s calm) in
-          subst (λ a. MovesBy (asks_move read) a (effect_of (layout ro k) (pending k.read ro.producer latest) (at (overflow_pushes.TheVariants.MovesRead read)) k.read)) (sym goes)
+          subst (λ a. MovesBy (asks_move read) a (effect_of en (layout ro k) (pending k.read ro.producer latest) (at (overflow_pushes.TheVariants.MovesRead read)) k.read)) (sym goes)
           (subst (λ e. MovesBy (asks_move read) (Done PoppedNone) e) (sym told) all)
 
   pub overflow_push_step :
@@ -320,7 +321,7 @@ module _ {T : Type 0} (scene : Scene T) (inv : Inv kinds.TheVariants.Overflow sc
       → span_of p events ≡ Open (Queues (PushIndex v)) (has_written c k p (at stage)) → Moved stage
   overflow_push_step overflow_pushes.TheVariants.HandsBack knows s found seen = by_itself [] None (Done (PoppedIndex v)) Acts seen (hands_back knows s (calm_at overflow_pushes.TheVariants.HandsBack found refl))
   overflow_push_step overflow_pushes.TheVariants.LoadsWrite knows s found seen =
-      by_itself [] (Some load_of_write) (after (at overflow_pushes.TheVariants.LoadsWrite) k.write) Quiet seen (loads_write knows s (calm_at overflow_pushes.TheVariants.LoadsWrite found refl))
+      by_itself [] (Some load_of_write) (after en (at overflow_pushes.TheVariants.LoadsWrite) k.write) Quiet seen (loads_write knows s (calm_at overflow_pushes.TheVariants.LoadsWrite found refl))
   overflow_push_step (overflow_pushes.TheVariants.LoadsRead write) knows s found seen =
       subst (λ w. Moved (overflow_pushes.TheVariants.LoadsRead w)) (sym knows.1)
       (by_itself [] (Some load_of_read) (GoOn (at (overflow_pushes.TheVariants.StoresCell k.write k.read))) Quiet seen (loads_read knows.0 s (calm_at (overflow_pushes.TheVariants.LoadsRead write) found refl)))
@@ -329,7 +330,7 @@ module _ {T : Type 0} (scene : Scene T) (inv : Inv kinds.TheVariants.Overflow sc
       (by_itself [] (Some (record { word = cell_word c k.write; op = Store v })) (GoOn (at (overflow_pushes.TheVariants.StoresWrite k.write read))) Quiet seen (stores_cell read knows.0 knows.2 knows.3 s (calm_at (overflow_pushes.TheVariants.StoresCell write read) found refl)))
   overflow_push_step (overflow_pushes.TheVariants.StoresWrite write read) knows s found seen =
       subst (λ w. Moved (overflow_pushes.TheVariants.StoresWrite w read)) (sym knows.1)
-      (by_itself [] (Some (record { word = write_word; op = Store (after_position k.write) })) (after (at (overflow_pushes.TheVariants.StoresWrite k.write read)) k.write) (effect_of (layout ro k) (pending k.read ro.producer latest) (at (overflow_pushes.TheVariants.StoresWrite k.write read)) k.write) seen (stores_write scene inv small v room holds b read knows.0 knows.2 knows.3 knows.4 s))
+      (by_itself [] (Some (record { word = write_word; op = Store (after_position k.write) })) (after en (at (overflow_pushes.TheVariants.StoresWrite k.write read)) k.write) (effect_of en (layout ro k) (pending k.read ro.producer latest) (at (overflow_pushes.TheVariants.StoresWrite k.write read)) k.write) seen (stores_write en scene inv small v room holds b read knows.0 knows.2 knows.3 knows.4 s))
   overflow_push_step (overflow_pushes.TheVariants.MovesRead read) knows s found seen = moves_read read knows s found seen
   overflow_push_step (overflow_pushes.TheVariants.LoadsCell read) knows s found seen =
       let old : get_or (layout ro k) (cell_word c read) 0 ≡ get_or k.cells (read % (c + 1)) 0 = word_at k.write k.read (free ro.producer) (free ro.consumer) k.cells (cell_word c read) (read % (c + 1)) refl in

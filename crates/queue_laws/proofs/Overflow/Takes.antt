@@ -1,5 +1,5 @@
 -- The move of the read position by a pop of the overflowing queue, alone or with a push that waits for it.
-use Rattle.std.proofs.Common.{◌≡◌, ◌≢◌, ℕ, suc, ◌+◌, ◌-◌, ◌*◌, ◌^◌, ◌<◌, ◌≤◌, ◌==◌, true, false, ⊎_elim, inl, Option, Some, None, List, [], ◌∷◌, ◌++◌, length, map, take, drop, fold, refl, sym, ap, subst, ◌∙◌, append-nil, append_assoc, arith}
+use Rattle.std.proofs.Common.{Bool, ◌≡◌, ◌≢◌, ℕ, suc, ◌+◌, ◌-◌, ◌*◌, ◌^◌, ◌<◌, ◌≤◌, ◌==◌, true, false, ⊎_elim, inl, Option, Some, None, List, [], ◌∷◌, ◌++◌, length, map, take, drop, fold, refl, sym, ap, subst, ◌∙◌, append-nil, append_assoc, arith}
 use Rattle.std.proofs.lemmas.Bool.{cases_eq}
 use Rattle.std.proofs.lemmas.Bool.Decides.{nat_tests}
 use Rattle.steps.specs.declared.ask.Ask.{Ask}
@@ -27,10 +27,12 @@ use Rattle.model.specs.declared.event.Start as starts
 use Rattle.model.specs.declared.families.Flight.{Flight}
 use Rattle.model.specs.declared.families.Flight as flights
 use Rattle.model.specs.declared.party.Party.{Party}
-use Rattle.model.specs.declared.turn.Kind as kinds
+use Rattle.model.specs.declared.families.queues.QueueKind as kinds
+use Rattle.model.specs.Coding.{Coding}
 use Rattle.model.specs.Families.Queues.Objects.{answer_of_item}
-use Rattle.model.specs.Families.Queues.Calls.{read_word, after, back, words_of_index}
+use Rattle.model.specs.Families.Queues.Calls.{read_word, after, goes_back, words_of_index}
 use Rattle.model.specs.Families.Queues.Objects.{cut_off}
+use Rattle.model.specs.Families.Queues.Promises.{promise}
 use Rattle.model.specs.Families.Queues.Steps.{pending_at, pending, beside, takes_effect}
 use Rattle.model.specs.Parties.{party_of, put, doing_of, flight_of}
 use Rattle.model.specs.Promises.Spans.{Stands}
@@ -49,7 +51,7 @@ use Rattle.queue_laws.proofs.Queues.Pending.{pending_put, few_wait, none_hangs}
 use Rattle.queue_laws.proofs.Queues.Stages.{party_then, DoesStep, Moves, alone}
 use Rattle.queue_laws.proofs.Overflow.Keeping.{take_keeps_push}
 
-module _ {T : Type 0} (scene : Scene T) (inv : Inv kinds.TheVariants.Overflow scene) (small : scene.turns < 2 ^ 64 - 2) (room : OneWord) (holds : scene.roles.consumer ≡ Some scene.party) where
+module _ {T : Type 0} (en : Coding T) (scene : Scene T kinds.TheVariants.Overflow) (inv : Inv en kinds.TheVariants.Overflow scene) (small : scene.turns < 2 ^ 64 - 2) (room : OneWord) (holds : scene.roles.consumer ≡ Some scene.party) where
   open scene use {capacity as c, roles as ro, core as k, party as p, steps, backs, since, changes, latest, events}
 
   -- the push that acts where this party moves the read position
@@ -59,14 +61,14 @@ module _ {T : Type 0} (scene : Scene T) (inv : Inv kinds.TheVariants.Overflow sc
   waits_is : waits ≡ pending k.read ro.producer latest
   waits_is = let t : (p == p) ≡ true = grind (arith, nat_tests) in rw (holds, t) refl
 
-  abbrev Does : Option Ask → ℕ → After QueueFlight (Answer T) → Effect T → Type 0
-  Does ask back after effect = DoesStep kinds.TheVariants.Overflow scene [] Pop ask back after effect
+  abbrev Does : Option Ask → Bool → After (QueueFlight T) (Answer T) → Effect T → Type 0
+  Does ask back after effect = DoesStep en kinds.TheVariants.Overflow scene [] Pop ask back after effect
 
-  abbrev MovesBy : Option Ask → ℕ → After QueueFlight (Answer T) → Effect T → Type 0
-  MovesBy ask back after effect = Moves kinds.TheVariants.Overflow scene Pop ask back after effect
+  abbrev MovesBy : Option Ask → Bool → After (QueueFlight T) (Answer T) → Effect T → Type 0
+  MovesBy ask back after effect = Moves en kinds.TheVariants.Overflow scene Pop ask back after effect
 
-  abbrev after_it : Option Ask → ℕ → After QueueFlight (Answer T) → Party T
-  after_it ask back after = party_then kinds.TheVariants.Overflow scene Pop ask back after
+  abbrev after_it : Option Ask → Bool → After (QueueFlight T) (Answer T) → Party T
+  after_it ask back after = party_then en kinds.TheVariants.Overflow scene Pop ask back after
 
   abbrev pub asks_move : ℕ → Option Ask
   asks_move read = Some (record { word = read_word; op = Exchange read (after_position read) })
@@ -109,19 +111,19 @@ module _ {T : Type 0} (scene : Scene T) (inv : Inv kinds.TheVariants.Overflow sc
       few_rest = let g = inv.queue.good in let few = g.few in let long = shorter in omega arith
 
       -- no push waits for the next read position
-      hangs_take : Hangs kinds.TheVariants.Overflow c after_take (pending (k.read + 1) ro.producer (put p (after_it (asks_move k.read) 0 (Done answer)) latest))
+      hangs_take : Hangs T kinds.TheVariants.Overflow c after_take (pending (k.read + 1) ro.producer (put p (after_it (asks_move k.read) false (Done answer)) latest))
       hangs_take =
-          let y = after_it (asks_move k.read) 0 (Done answer) in
+          let y = after_it (asks_move k.read) false (Done answer) in
           let stays : pending (k.read + 1) ro.producer (put p y latest) ≡ pending (k.read + 1) ro.producer latest = pending_put (k.read + 1) ro.producer p y latest refl (calm (k.read + 1)) in
-          let none : pending (k.read + 1) ro.producer latest ≡ None = past_none c ro k (k.read + 1) (omega arith) latest events inv.frame.calls ro.producer in
-          none_hangs kinds.TheVariants.Overflow c after_take (pending (k.read + 1) ro.producer (put p y latest)) (stays ∙ none) few_rest
+          let none : pending (k.read + 1) ro.producer latest ≡ None = past_none en c ro k (k.read + 1) (omega arith) latest events inv.frame.calls ro.producer in
+          none_hangs T kinds.TheVariants.Overflow c after_take (pending (k.read + 1) ro.producer (put p y latest)) (stays ∙ none) few_rest
 
       -- no push is pending
-      takes_alone : pending k.read ro.producer latest ≡ None → Does (asks_move k.read) 0 (Done answer) (HandsOut (Index value))
+      takes_alone : pending k.read ro.producer latest ≡ None → Does (asks_move k.read) false (Done answer) (HandsOut (Index value))
       takes_alone none =
           let g = inv.queue.good in
           let write = g.write in
-          let few = few_wait kinds.TheVariants.Overflow c k (pending k.read ro.producer latest) none inv.queue.good inv.queue.hangs in
+          let few = few_wait en kinds.TheVariants.Overflow c k (pending k.read ro.producer latest) none inv.queue.good inv.queue.hangs in
           let list = pop_front {T = T} c k.waiting value rest first few in
           let change = one in
           let reached = inv.queue.reached in (
@@ -150,7 +152,7 @@ module _ {T : Type 0} (scene : Scene T) (inv : Inv kinds.TheVariants.Overflow sc
                   };
               knows = omega arith;
               up = record { write = omega arith; read = omega arith; paid = omega arith };
-              others = λ q ne. kept c ro ro k after_take q (λ h. h) (λ h. h) kinds.TheVariants.Overflow (record { push = λ mine w stage h. take_keeps_push c k q rest g few w stage h; pop = λ mine other stage h. absurd (clash ro.consumer p q ne holds mine) });
+              others = λ q ne. kept ro ro q (λ h. h) (λ h. h) en c kinds.TheVariants.Overflow k after_take (record { push = λ mine w stage h. take_keeps_push c k q rest g few w stage h; pop = λ mine other stage h. absurd (clash ro.consumer p q ne holds mine) });
               reached = omega arith;
             },
           )
@@ -188,14 +190,14 @@ module _ {T : Type 0} (scene : Scene T) (inv : Inv kinds.TheVariants.Overflow sc
             append_assoc run_2 (acts_q ∷ []) (ends_p ∷ [])
             ∙ (append_assoc run_1 (acts_p ∷ []) (acts_q ∷ ends_p ∷ []) ∙ append_assoc events (hands ∷ []) (acts_p ∷ acts_q ∷ ends_p ∷ []))
 
-        abbrev pushing : Pushing → QueueFlight
+        abbrev pushing : Pushing → QueueFlight T
         pushing run = Overflow (overflows.TheVariants.Push run)
 
-        abbrev after_queue : Queue
+        abbrev after_queue : Queue ℕ
         after_queue = record { roles = ro; core = after_take }
 
-        abbrev IsAt : Queue → Start T → Pushing → Type 0
-        IsAt state start run = (family kinds.TheVariants.Overflow c).At state q start (flights.TheVariants.Queues (pushing run))
+        abbrev IsAt : Queue ℕ → Start T → Pushing → Type 0
+        IsAt state start run = (family en kinds.TheVariants.Overflow c).At state q start (flights.TheVariants.Queues (pushing run))
 
         start_is : (start : Start T) (run : Pushing) → IsAt (queue_in scene) start run → run.given ≡ w → start ≡ Queues (PushIndex w)
         start_is (starts.TheVariants.Queues (PushIndex v)) run h e = let same : v ≡ w = sym h.2 ∙ e in ap (λ (n : ℕ). Queues (PushIndex n)) same
@@ -215,10 +217,10 @@ module _ {T : Type 0} (scene : Scene T) (inv : Inv kinds.TheVariants.Overflow sc
               let clashing : None ≡ Some w = sym none ∙ is.waits in
               cc
 
-          under : frame.IsUnderWay (family kinds.TheVariants.Overflow c) (queue_in scene) q x (flights.TheVariants.Queues (pushing run)) (span_of q events)
+          under : frame.IsUnderWay (family en kinds.TheVariants.Overflow c) (queue_in scene) q x (flights.TheVariants.Queues (pushing run)) (span_of q events)
           under =
-              subst (λ d. frame.FitsDoing (family kinds.TheVariants.Overflow c) (queue_in scene) q x d (span_of q events)) is.doing
-              (subst (λ o. frame.Fits (family kinds.TheVariants.Overflow c) (queue_in scene) q o (span_of q events)) is.found (inv.frame.calls q))
+              subst (λ d. frame.FitsDoing (family en kinds.TheVariants.Overflow c) (queue_in scene) q x d (span_of q events)) is.doing
+              (subst (λ o. frame.Fits (family en kinds.TheVariants.Overflow c) (queue_in scene) q o (span_of q events)) is.found (inv.frame.calls q))
 
           start : x.start ≡ Queues (PushIndex w)
           start = start_is x.start run under.at is.value
@@ -263,30 +265,30 @@ module _ {T : Type 0} (scene : Scene T) (inv : Inv kinds.TheVariants.Overflow sc
               ∙ (span_of-other q r run_2 (acts_q ∷ []) nq (refl, tt)
               ∙ (span_of-other p r run_1 (acts_p ∷ []) np (refl, tt) ∙ span_of-other p r events (hands ∷ []) np (refl, tt))))
 
-          pushing_fits : frame.Fits (family kinds.TheVariants.Overflow c) after_queue q (party_of q latest) (span_of q (events ++ told))
+          pushing_fits : frame.Fits (family en kinds.TheVariants.Overflow c) after_queue q (party_of q latest) (span_of q (events ++ told))
           pushing_fits =
-              let now : frame.IsUnderWay (family kinds.TheVariants.Overflow c) after_queue q x (flights.TheVariants.Queues (pushing run)) (span_of q (events ++ told)) =
+              let now : frame.IsUnderWay (family en kinds.TheVariants.Overflow c) after_queue q x (flights.TheVariants.Queues (pushing run)) (span_of q (events ++ told)) =
               record {
                 span = q_4 ∙ (ap (λ es. Open (Queues (PushIndex w)) es) (sym writes) ∙ ap (λ st. Open st (has_written c after_take q (pushing run))) (sym start));
                 steps = under.steps;
                 at = still_at x.start run is.stage under.at;
               }
               in
-              subst (λ o. frame.Fits (family kinds.TheVariants.Overflow c) after_queue q o (span_of q (events ++ told))) (sym is.found)
-              (subst (λ d. frame.FitsDoing (family kinds.TheVariants.Overflow c) after_queue q x d (span_of q (events ++ told))) (sym is.doing) now)
+              subst (λ o. frame.Fits (family en kinds.TheVariants.Overflow c) after_queue q o (span_of q (events ++ told))) (sym is.found)
+              (subst (λ d. frame.FitsDoing (family en kinds.TheVariants.Overflow c) after_queue q x d (span_of q (events ++ told))) (sym is.doing) now)
 
-          other_fits : (r : ℕ) → r ≢ p → r ≢ q → frame.Fits (family kinds.TheVariants.Overflow c) after_queue r (party_of r latest) (span_of r (events ++ told))
+          other_fits : (r : ℕ) → r ≢ p → r ≢ q → frame.Fits (family en kinds.TheVariants.Overflow c) after_queue r (party_of r latest) (span_of r (events ++ told))
           other_fits r np nq =
-              subst (λ a. frame.Fits (family kinds.TheVariants.Overflow c) after_queue r (party_of r latest) a) (sym (theirs r np nq))
-              (frame.still_fits (family kinds.TheVariants.Overflow c) (queue_in scene) after_queue r
-              (any_stays kinds.TheVariants.Overflow c ro ro k after_take r (kept c ro ro k after_take r (λ h. h) (λ h. h) kinds.TheVariants.Overflow (record { push = λ mine v stage h. absurd (clash ro.producer q r nq producer mine); pop = λ mine other stage h. absurd (clash ro.consumer p r np holds mine) })))
+              subst (λ a. frame.Fits (family en kinds.TheVariants.Overflow c) after_queue r (party_of r latest) a) (sym (theirs r np nq))
+              (frame.still_fits (family en kinds.TheVariants.Overflow c) (queue_in scene) after_queue r
+              (any_stays en kinds.TheVariants.Overflow c ro ro k after_take r (kept ro ro r (λ h. h) (λ h. h) en c kinds.TheVariants.Overflow k after_take (record { push = λ mine v stage h. absurd (clash ro.producer q r nq producer mine); pop = λ mine other stage h. absurd (clash ro.consumer p r np holds mine) })))
               (party_of r latest) (span_of r events) (inv.frame.calls r))
 
-          takes_for : MovesBy (asks_move k.read) 0 (Done answer) (MakesRoom (Index value) q w)
+          takes_for : MovesBy (asks_move k.read) false (Done answer) (MakesRoom (Index value) q w)
           takes_for =
               let g = inv.queue.good in
               let write = g.write in
-              let over = subst (Hangs kinds.TheVariants.Overflow c k) hung inv.queue.hangs in
+              let over = subst (Hangs T kinds.TheVariants.Overflow c k) hung inv.queue.hangs in
               let list = pop_room {T = T} c k.waiting over.1 value w rest some over.2 over.3 first in
               let change = one in
               let reached = inv.queue.reached in
@@ -311,13 +313,13 @@ module _ {T : Type 0} (scene : Scene T) (inv : Inv kinds.TheVariants.Overflow sc
                 },
                 record {
                   stands = (
-                    subst (λ a. Stands kinds.TheVariants.Overflow c hands a) (sym seen) (inl refl, refl),
+                    subst (λ a. Stands (promise kinds.TheVariants.Overflow) c hands a) (sym seen) (inl refl, refl),
                     (
-                      subst (λ a. Stands kinds.TheVariants.Overflow c acts_p a) (sym p_1) (refl, refl),
+                      subst (λ a. Stands (promise kinds.TheVariants.Overflow) c acts_p a) (sym p_1) (refl, refl),
                       (
-                        subst (λ a. Stands kinds.TheVariants.Overflow c acts_q a) (sym q_2) (refl, refl),
+                        subst (λ a. Stands (promise kinds.TheVariants.Overflow) c acts_q a) (sym q_2) (refl, refl),
                         (
-                          subst (λ a. Stands kinds.TheVariants.Overflow c ends_p a) (sym p_3) (refl, record { moments = refl; published = refl; handed_out = sym (one_passes c (Index value) some) }),
+                          subst (λ a. Stands (promise kinds.TheVariants.Overflow) c ends_p a) (sym p_3) (refl, record { moments = refl; published = refl; handed_out = sym (one_passes c (Index value) some) }),
                           tt,
                         ),
                       ),
@@ -325,19 +327,19 @@ module _ {T : Type 0} (scene : Scene T) (inv : Inv kinds.TheVariants.Overflow sc
                   );
                   here = record { answer = answer; wrote = hands ∷ acts_p ∷ []; span = p_4; steps = omega arith };
                   knows = omega arith;
-                  others = λ r np. ⊎_elim (λ e. subst (λ n. frame.Fits (family kinds.TheVariants.Overflow c) after_queue n (party_of n latest) (span_of n (events ++ told))) (sym e) pushing_fits) (other_fits r np) (cases_eq r q);
-                  others_know = λ r np. frame.still_knows (family kinds.TheVariants.Overflow c) (queue_in scene) after_queue r events told changes (changes + change_of (layout ro k) (asks_move k.read)) (any_knows c k after_take r events told changes (changes + change_of (layout ro k) (asks_move k.read)) up tt) (party_of r latest) (inv.frame.knows r);
+                  others = λ r np. ⊎_elim (λ e. subst (λ n. frame.Fits (family en kinds.TheVariants.Overflow c) after_queue n (party_of n latest) (span_of n (events ++ told))) (sym e) pushing_fits) (other_fits r np) (cases_eq r q);
+                  others_know = λ r np. frame.still_knows (family en kinds.TheVariants.Overflow c) (queue_in scene) after_queue r events told changes (changes + change_of (layout ro k) (asks_move k.read)) (any_knows en c k after_take r events told changes (changes + change_of (layout ro k) (asks_move k.read)) up tt) (party_of r latest) (inv.frame.knows r);
                 },
               )
 
-        makes_room : MovesBy (asks_move k.read) 0 (Done answer) (MakesRoom (Index value) q w)
+        makes_room : MovesBy (asks_move k.read) false (Done answer) (MakesRoom (Index value) q w)
         makes_room =
             let is = pending_is k.read latest q w ro.producer hung in
             takes_for is.0 is.1 is.2 is.3 is.4
 
-      pub takes_it : span_of p events ≡ Open (Queues Pop) [] → MovesBy (asks_move k.read) 0 (Done answer) (takes_effect (Index value) waits)
-      takes_it seen = subst (λ o. MovesBy (asks_move k.read) 0 (Done answer) (takes_effect (Index value) o)) (sym waits_is) (go (pending k.read ro.producer latest) refl)
+      pub takes_it : span_of p events ≡ Open (Queues Pop) [] → MovesBy (asks_move k.read) false (Done answer) (takes_effect (Index value) waits)
+      takes_it seen = subst (λ o. MovesBy (asks_move k.read) false (Done answer) (takes_effect (Index value) o)) (sym waits_is) (go (pending k.read ro.producer latest) refl)
         where
-          go : (o : Option (ℕ × ℕ)) → pending k.read ro.producer latest ≡ o → MovesBy (asks_move k.read) 0 (Done answer) (takes_effect (Index value) o)
-          go None e = alone kinds.TheVariants.Overflow scene inv [] Pop (asks_move k.read) 0 (Done answer) (HandsOut (Index value)) seen (takes_alone e)
+          go : (o : Option (ℕ × ℕ)) → pending k.read ro.producer latest ≡ o → MovesBy (asks_move k.read) false (Done answer) (takes_effect (Index value) o)
+          go None e = alone en kinds.TheVariants.Overflow scene inv [] Pop (asks_move k.read) false (Done answer) (HandsOut (Index value)) seen (takes_alone e)
           go (Some push) e = makes_room seen push.0 push.1 e

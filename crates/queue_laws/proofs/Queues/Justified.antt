@@ -1,7 +1,7 @@
 -- What a turn writes down: what its step did to the queue, then the acts, then the end. A push that answers false, and a
 -- pop that answers None, did so in its own turn, as it loaded the other position; without capacity, an overflowing queue's
 -- pop loads none.
-use Rattle.std.proofs.Common.{◌≡◌, ℕ, zero, suc, ◌-◌, ◌^◌, ◌<◌, ◌==◌, Bool, true, false, cond, Option, Some, None, List, [], ◌∷◌, ◌++◌, get_or, refl, sym, ap, subst, ◌∙◌, append-nil, ◌≤◌, arith}
+use Rattle.std.proofs.Common.{◌≡◌, ℕ, zero, suc, ◌-◌, ◌^◌, ◌<◌, ◌==◌, ◌||◌, Bool, true, false, cond, Option, Some, None, List, [], ◌∷◌, ◌++◌, get_or, refl, sym, ap, subst, ◌∙◌, append-nil, ◌≤◌, arith}
 use Rattle.std.specs.List.{AllByRecursion}
 use Rattle.steps.specs.declared.ask.Ask.{Ask}
 use Rattle.steps.specs.declared.ask.After.{After}
@@ -14,6 +14,8 @@ use Rattle.steps.specs.declared.queues.overflow.Pop as overflow_pop
 use Rattle.steps.specs.declared.queues.overflow.PopStage as overflow_pops
 use Rattle.steps.specs.declared.queues.overflow.PushEnd.{PushEnd}
 use Rattle.steps.specs.declared.queues.overflow.PushEnd.TheVariants.{Added, Own, Oldest}
+use Rattle.steps.specs.declared.copied.Kept as cells
+use Rattle.steps.specs.Queues.Ring.{distance}
 use Rattle.steps.specs.Queues.Overflow.{cell_word, push_after, push_kept, push_answer, pop_answer}
 use Rattle.steps.specs.Routine.{went_on}
 use Rattle.model.specs.declared.event.Answer.{Answer}
@@ -29,58 +31,56 @@ use Rattle.model.specs.declared.families.Flight as flights
 use Rattle.model.specs.declared.families.Kept.{Kept}
 use Rattle.model.specs.declared.families.Kept as kepts
 use Rattle.model.specs.declared.families.queues.QueueStart.{QueueStart}
-use Rattle.model.specs.declared.families.queues.QueueStart.TheVariants.{PushIndex, Pop}
+use Rattle.model.specs.declared.families.queues.QueueStart.TheVariants.{PushIndex, Push, Pop}
 use Rattle.model.specs.declared.families.queues.Roles.{Roles}
 use Rattle.model.specs.declared.families.queues.calls.OverflowCall as overflows
 use Rattle.model.specs.declared.families.queues.calls.QueueFlight.{QueueFlight}
-use Rattle.model.specs.declared.families.queues.calls.QueueFlight.TheVariants.{Role, Indices, Overflow, Length}
+use Rattle.model.specs.declared.families.queues.calls.QueueFlight.TheVariants.{Role, Indices, Values, Overflow, Length}
 use Rattle.model.specs.declared.families.queues.calls.RingCall as rings
 use Rattle.model.specs.declared.families.queues.effects.Effect.{Effect}
 use Rattle.model.specs.declared.families.queues.effects.Effect.TheVariants.{Quiet, Acts, Publishes, PublishesAndActs, HandsOut, TakesOut, MakesRoom}
 use Rattle.model.specs.declared.party.Doing.{Doing}
 use Rattle.model.specs.declared.party.Doing.TheVariants.{Going, Over}
 use Rattle.model.specs.declared.party.Party.{Party}
-use Rattle.model.specs.declared.turn.Kind.{Kind}
-use Rattle.model.specs.declared.turn.Kind as kinds
+use Rattle.model.specs.declared.families.queues.QueueKind.{QueueKind}
+use Rattle.model.specs.declared.families.queues.QueueKind as kinds
 use Rattle.model.specs.declared.turn.Turn.{Turn}
 use Rattle.model.specs.declared.turn.Turn.TheVariants.{Begin, Next, Decide, Die}
-use Rattle.model.specs.Families.{want_of, ask_of, beside_of, step_of}
+use Rattle.model.specs.Coding.{Coding, IsCoding}
+use Rattle.model.specs.Families.{want_of, after_of, ask_of, beside_of, step_of}
 use Rattle.model.specs.Families.Queues.Book.{AnswersRight}
 use Rattle.model.specs.Families.Queues.Calls.{want, after, popped}
-use Rattle.model.specs.Families.Queues.Promises.{load_of_write, load_of_read, finding_none}
+use Rattle.model.specs.Families.Queues.Promises.{load_of_write, load_of_read, finding_none, promise}
 use Rattle.model.specs.Families.Queues.Steps.{beside, takes_effect, effect_of, acts_if_done, effects_of}
 use Rattle.model.specs.Parties.{party_of, doing_of, flight_of}
-use Rattle.model.specs.Promises.{IsTurn, AreTurns}
+use Rattle.model.specs.Promises.{IsTurnBy}
 use Rattle.model.specs.Promises.Turns.{ask_in, IsParty, IsEffectOf, IsAct, IsEndOf, ActsRight, WritesInOrder, WritesDown}
 use Rattle.model.specs.Reading.{Open, span_of}
-use Rattle.model.specs.Refusals.{refusal_of, is_due}
 use Rattle.model.specs.Step.{as_call, answer_in}
 use Rattle.model.specs.Turns.{old_of, ask_of_doing, ending_of, events_of_step, events_of_answer, events_of_next, after_turn, AreAllowed, IsReached}
 use Rattle.model.specs.World.{Trace, flight_in}
 use Rattle.model.proofs.Frame as frame
-use Rattle.model.proofs.Reached.{reached_more}
+use Rattle.model.proofs.Orders.{Orders, Keeps, turn_is}
 use Rattle.model.proofs.Readings.{AreRight}
-use Rattle.model.proofs.Rows.{may_next, must_be_due}
-use Rattle.model.proofs.Small.{reached_small}
-use Rattle.model.proofs.Turns.{one_turn_later, writes_one_word, goes_on, counts_turn, counts_others}
 use Rattle.queue_laws.proofs.Overflow.Knows.{overflow_pop_at, KnowsOverflowPop, OverflowAt}
-use Rattle.queue_laws.proofs.Queues.Asks.{never_asks}
 use Rattle.queue_laws.proofs.Queues.Core.{Core}
-use Rattle.queue_laws.proofs.Queues.Invariant.{family}
-use Rattle.queue_laws.proofs.Queues.Knows.{layout, If, At}
-use Rattle.queue_laws.proofs.Queues.Sound.{kept_is, step_moves, scene_of, inv_of, reached_sound}
+use Rattle.queue_laws.proofs.Queues.Invariant.{Queue, Fit, machine_kind, family}
+use Rattle.queue_laws.proofs.Queues.Knows.{layout, IndexAt, ValueAt, OverAt, At}
+use Rattle.queue_laws.proofs.Queues.Sound.{kept_is, step_moves, scene_of, inv_of, stands_at, asks_nothing, reached_sound}
+use Rattle.queue_laws.proofs.Queues.Kept.{kept, promised_by}
 use Rattle.queue_laws.proofs.Queues.Stages.{told_after, any_call}
-use Rattle.queue_laws.proofs.Ring.Knows.{push_at, pop_at, RingAt}
+use Rattle.queue_laws.proofs.Queues.Values.{Val, encoded, item}
+use Rattle.queue_laws.proofs.Ring.Kinds.{Ring, of_indices, of_values, kind_of, Room, words_in, push, got, read_in, ring_want, ring_after, ring_effect}
+use Rattle.queue_laws.proofs.Ring.Knows.{push_at, pop_at, PushAt, PopAt}
 
--- where a pop of each kind finds nothing
-ring_finds : (kd : Kind) (c : ℕ) (A : Type 0) → If kd A ⊥ → (finding_none kd c ≡ Some load_of_write) × A
-ring_finds kinds.TheVariants.IndexQueue c A h = (refl, h)
-ring_finds kinds.TheVariants.Overflow c A h = absurd h
+-- where a pop finds nothing
+ring_finds : (r : Ring) (c : ℕ) → finding_none (kind_of r) c ≡ Some load_of_write
+ring_finds of_indices c = refl
+ring_finds of_values c = refl
 
-overflow_finds : (kd : Kind) (c : ℕ) (B : Type 0) → If kd ⊥ B → (0 < c → finding_none kd c ≡ Some load_of_write) × (c ≡ 0 → finding_none kd c ≡ None) × B
-overflow_finds kinds.TheVariants.IndexQueue c B h = absurd h
-overflow_finds kinds.TheVariants.Overflow zero B h = ((λ some. absurd (omega arith)), (λ none. refl), h)
-overflow_finds kinds.TheVariants.Overflow (suc less) B h = ((λ some. refl), (λ none. absurd (omega arith)), h)
+overflow_finds : (c : ℕ) → (0 < c → finding_none kinds.TheVariants.Overflow c ≡ Some load_of_write) × (c ≡ 0 → finding_none kinds.TheVariants.Overflow c ≡ None)
+overflow_finds zero = ((λ some. absurd (omega arith)), (λ none. refl))
+overflow_finds (suc less) = ((λ some. refl), (λ none. absurd (omega arith)))
 
 module _ {T : Type 0} where
   -- ---- the order
@@ -147,7 +147,10 @@ module _ {T : Type 0} where
 
 -- ---- what an act tells
 
-module _ {T : Type 0} (t : Trace T) (turn : Turn T) (p : ℕ) (mine : IsParty turn p) where
+module _ {T : Type 0} (own : QueueKind) (t : Trace T) (turn : Turn T) (p : ℕ) (mine : IsParty turn p) where
+  abbrev en : Coding T
+  en = t.world.coding
+
   abbrev c : ℕ
   c = t.world.capacity
 
@@ -158,37 +161,32 @@ module _ {T : Type 0} (t : Trace T) (turn : Turn T) (p : ℕ) (mine : IsParty tu
   Right es = AreRight (AnswersRight c) t.events es
 
   abbrev Justified : List (Event T) → Type 0
-  Justified es = AllByRecursion (ActsRight t turn) es
+  Justified es = AllByRecursion (ActsRight (promise own) t turn) es
 
-  push_acted : (index : ℕ) (answer : Answer T) → asked ≡ Some load_of_read → AnswersRight c t.events (Acted p (Queues (PushIndex index)) answer) → ActsRight t turn (Acted p (Queues (PushIndex index)) answer)
-  push_acted index answers.TheVariants.Done asks h = tt
-  push_acted index (answers.TheVariants.Truth true) asks h = tt
-  push_acted index (answers.TheVariants.Truth false) asks h = (mine, asks, h)
-  push_acted index (answers.TheVariants.Number number) asks h = tt
-  push_acted index answers.TheVariants.PoppedNone asks h = tt
-  push_acted index (answers.TheVariants.PoppedIndex old) asks h = tt
-  push_acted index (answers.TheVariants.Popped value) asks h = tt
+  push_acted : (r : Ring) (v : Val T (kind_of r)) → asked ≡ Some load_of_read → AnswersRight c t.events (Acted p (Queues (push r v)) (answers.TheVariants.Truth false)) → ActsRight (promise own) t turn (Acted p (Queues (push r v)) (answers.TheVariants.Truth false))
+  push_acted of_indices v asks h = (mine, asks, h)
+  push_acted of_values v asks h = (mine, asks, h)
 
-  push_acts : (index : ℕ) (after : After QueueFlight (Answer T)) → asked ≡ Some load_of_read → Right (told_after p (PushIndex index) Acts after) → Justified (acts_if_done p (PushIndex index) (answer_in after))
-  push_acts index (GoOn flight) asks h = tt
-  push_acts index (Done answer) asks h = (push_acted index answer asks h.0, tt)
+  taken_acted : (r : Ring) (v : Val T (kind_of r)) → ActsRight (promise own) t turn (Acted p (Queues (push r v)) (answers.TheVariants.Truth true))
+  taken_acted of_indices v = tt
+  taken_acted of_values v = tt
 
-  pop_acted : (answer : Answer T) → asked ≡ finding_none t.world.kind c → AnswersRight c t.events (Acted p (Queues Pop) answer) → ActsRight t turn (Acted p (Queues Pop) answer)
-  pop_acted answers.TheVariants.Done asks h = tt
-  pop_acted (answers.TheVariants.Truth truth) asks h = tt
-  pop_acted (answers.TheVariants.Number number) asks h = tt
+  got_acted : (r : Ring) (v : Val T (kind_of r)) → ActsRight (promise own) t turn (Acted p (Queues Pop) (got r v))
+  got_acted of_indices v = tt
+  got_acted of_values v = tt
+
+  pop_acted : (answer : Answer T) → asked ≡ finding_none own c → AnswersRight c t.events (Acted p (Queues Pop) answer) → ActsRight (promise own) t turn (Acted p (Queues Pop) answer)
   pop_acted answers.TheVariants.PoppedNone asks h = (mine, asks, h)
-  pop_acted (answers.TheVariants.PoppedIndex index) asks h = tt
-  pop_acted (answers.TheVariants.Popped value) asks h = tt
+  pop_acted answer asks h = tt
 
-  pop_acts : (after : After QueueFlight (Answer T)) → asked ≡ finding_none t.world.kind c → Right (told_after p Pop Acts after) → Justified (acts_if_done p Pop (answer_in after))
+  pop_acts : (after : After (QueueFlight T) (Answer T)) → asked ≡ finding_none own c → Right (told_after p Pop Acts after) → Justified (acts_if_done p Pop (answer_in after))
   pop_acts (GoOn flight) asks h = tt
   pop_acts (Done answer) asks h = (pop_acted answer asks h.0, tt)
 
   -- a push of an overflowing queue answers nothing that is asked about
   module _ (index given : ℕ) (room : OneWord) where
     abbrev answered : After overflow_push.Push PushEnd → Option (Answer T)
-    answered after = answer_in (as_call (λ r. Overflow (overflows.TheVariants.Push r)) popped (went_on (λ end given room. push_answer given room.0 end) given room after))
+    answered after = answer_in {C = QueueFlight T} (as_call (λ r. Overflow (overflows.TheVariants.Push r)) popped (went_on (λ end given room. push_answer given room.0 end) given room after))
 
     overflow_act : (after : After overflow_push.Push PushEnd) → Justified (acts_if_done p (PushIndex index) (answered after))
     overflow_act (GoOn call) = tt
@@ -204,167 +202,189 @@ module _ {T : Type 0} (t : Trace T) (turn : Turn T) (p : ℕ) (mine : IsParty tu
     overflow_acts (HandsOut out) after = overflow_act after
     overflow_acts (TakesOut out) after = (tt, tt)
     overflow_acts (MakesRoom out q pushed) after =
-        joined (ActsRight t turn) (acts_if_done p (PushIndex index) (answered after)) (Acted q (Queues (PushIndex pushed)) answers.TheVariants.PoppedNone ∷ []) (overflow_act after) (tt, tt)
+        joined (ActsRight (promise own) t turn) (acts_if_done p (PushIndex index) (answered after)) (Acted q (Queues (PushIndex pushed)) answers.TheVariants.PoppedNone ∷ []) (overflow_act after) (tt, tt)
 
   module _ (words : List ℕ) (waits : Option (ℕ × ℕ)) where
-    abbrev Tells : QueueStart T → QueueFlight → ℕ → Type 0
-    Tells start flight old = Right (told_after p start (effect_of words waits flight old) (after flight old))
+    abbrev Tells : QueueStart T → QueueFlight T → ℕ → Type 0
+    Tells start flight old = Right (told_after p start (effect_of en words waits flight old) (after en flight old))
 
     -- who acts in a step of a call, where these are the words
-    abbrev Acting : QueueStart T → QueueFlight → ℕ → Type 0
-    Acting start flight old = Justified (acts_of p start (effect_of words waits flight old) (answer_in (after {T = T} flight old)))
+    abbrev Acting : QueueStart T → QueueFlight T → ℕ → Type 0
+    Acting start flight old = Justified (acts_of p start (effect_of en words waits flight old) (answer_in (after en flight old)))
 
-    push_right : (v capacity : ℕ) (stage : pushes.PushStage) (old : ℕ) → asked ≡ ask_of (want (Indices (push_at capacity v stage))) → Tells (PushIndex v) (Indices (push_at capacity v stage)) old → Acting (PushIndex v) (Indices (push_at capacity v stage)) old
-    push_right v capacity pushes.TheVariants.LoadsWrite old asks h = tt
-    push_right v capacity (pushes.TheVariants.LoadsRead write) old asks h = push_acts v (after (Indices (push_at capacity v (pushes.TheVariants.LoadsRead write))) old) asks h
-    push_right v capacity (pushes.TheVariants.StoresCell write cell at) old asks h = tt
-    push_right v capacity (pushes.TheVariants.StoresWrite write) old asks h = (tt, tt)
+    module _ (r : Ring) where
+      abbrev RingTells : QueueStart T → rings.RingCall (Val T (kind_of r)) (Room r) → ℕ → Type 0
+      RingTells start call old = Right (told_after p start (ring_effect en r call) (ring_after en r call old))
 
-    pop_right : (capacity : ℕ) (room : OneWord) (stage : pops.PopStage) (old : ℕ) → asked ≡ ask_of (want (Indices (pop_at capacity room stage))) → finding_none t.world.kind c ≡ Some load_of_write → Tells Pop (Indices (pop_at capacity room stage)) old
-        → Acting Pop (Indices (pop_at capacity room stage)) old
-    pop_right capacity room pops.TheVariants.LoadsRead old asks finds h = tt
-    pop_right capacity room (pops.TheVariants.LoadsWrite read) old asks finds h = pop_acts (after (Indices (pop_at capacity room (pops.TheVariants.LoadsWrite read))) old) (asks ∙ sym finds) h
-    pop_right capacity room (pops.TheVariants.LoadsCell read cell at) old asks finds h = tt
-    pop_right capacity room (pops.TheVariants.StoresRead read) old asks finds h = (tt, tt)
+      abbrev RingActing : QueueStart T → rings.RingCall (Val T (kind_of r)) (Room r) → ℕ → Type 0
+      RingActing start call old = Justified (acts_of p start (ring_effect en r call) (answer_in (ring_after en r call old)))
+
+      push_right : (v : Val T (kind_of r)) (capacity : ℕ) (stage : pushes.PushStage) (old : ℕ) → asked ≡ ask_of (ring_want en r (push_at capacity v stage)) → RingTells (push r v) (push_at capacity v stage) old → RingActing (push r v) (push_at capacity v stage) old
+      push_right v capacity pushes.TheVariants.LoadsWrite old asks h = tt
+      push_right v capacity (pushes.TheVariants.LoadsRead write) old asks h = go (capacity == 0 || distance write old == capacity) refl h
+        where
+          call : rings.RingCall (Val T (kind_of r)) (Room r)
+          call = push_at capacity v (pushes.TheVariants.LoadsRead write)
+
+          go : (b : Bool) → (capacity == 0 || distance write old == capacity) ≡ b → RingTells (push r v) call old → RingActing (push r v) call old
+          go true e h =
+              let goes : ring_after en r call old ≡ Done (answers.TheVariants.Truth false) = rw e refl in
+              let told = subst (λ a. Right (told_after p (push r v) Acts a)) goes h in
+              subst (λ a. Justified (acts_of p (push r v) Acts (answer_in a))) (sym goes) (push_acted r v asks told.0, tt)
+          go false e h = rw e tt
+      push_right v capacity (pushes.TheVariants.StoresCell write cell at) old asks h = tt
+      push_right v capacity (pushes.TheVariants.StoresWrite write) old asks h = (taken_acted r v, tt)
+
+      pop_right : (capacity : ℕ) (room : Room r) (stage : pops.PopStage) (old : ℕ) → asked ≡ ask_of (ring_want en r (pop_at capacity room stage)) → finding_none own c ≡ Some load_of_write → RingTells Pop (pop_at capacity room stage) old
+          → RingActing Pop (pop_at capacity room stage) old
+      pop_right capacity room pops.TheVariants.LoadsRead old asks finds h = tt
+      pop_right capacity room (pops.TheVariants.LoadsWrite read) old asks finds h = pop_acts (ring_after en r (pop_at capacity room (pops.TheVariants.LoadsWrite read)) old) (asks ∙ sym finds) h
+      pop_right capacity room (pops.TheVariants.LoadsCell read cell at) old asks finds h = tt
+      pop_right capacity room (pops.TheVariants.StoresRead read) old asks finds h = (got_acted r (read_in en r room), tt)
+
+      push_call_right : (ro : Roles) (k : Core (Val T (kind_of r))) (v : Val T (kind_of r)) (call : rings.RingCall (Val T (kind_of r)) (Room r)) (old : ℕ) → PushAt (encoded en (kind_of r)) (words_in r) c ro k p v call
+          → asked ≡ ask_of (ring_want en r call) → RingTells (push r v) call old → RingActing (push r v) call old
+      push_call_right ro k v (rings.TheVariants.Push run) old at asks h =
+          subst (λ x. RingTells (push r v) (push_at run.call.capacity x run.call.stage) old → asked ≡ ask_of (ring_want en r (push_at run.call.capacity x run.call.stage)) → RingActing (push r v) (push_at run.call.capacity x run.call.stage) old) (sym at.2)
+          (λ right asks. push_right v run.call.capacity run.call.stage old asks right)
+          h
+          asks
+      push_call_right ro k v (rings.TheVariants.Pop run) old at asks h = absurd at
+
+      pop_call_right : (ro : Roles) (k : Core (Val T (kind_of r))) (call : rings.RingCall (Val T (kind_of r)) (Room r)) (old : ℕ) → PopAt (encoded en (kind_of r)) (words_in r) c ro k p call → finding_none own c ≡ Some load_of_write
+          → asked ≡ ask_of (ring_want en r call) → RingTells Pop call old → RingActing Pop call old
+      pop_call_right ro k (rings.TheVariants.Push run) old at finds asks h = absurd at
+      pop_call_right ro k (rings.TheVariants.Pop run) old at finds asks h = pop_right run.call.capacity run.room run.call.stage old asks finds h
 
     -- a pop that moves the read position answers a value
     taking : (item : Item T) (push : Option (ℕ × ℕ)) (room : OneWord) (on : overflow_pop.Pop) (b : Bool)
-        → Justified (acts_of p Pop (cond b (takes_effect item push) Quiet) (answer_in (as_call (λ r. Overflow (overflows.TheVariants.Pop r)) popped (went_on (λ end given room. pop_answer room.0 end) tt room (cond b (Done true) (GoOn on))))))
+        → Justified (acts_of p Pop (cond b (takes_effect item push) Quiet) (answer_in {C = QueueFlight T} (as_call (λ r. Overflow (overflows.TheVariants.Pop r)) popped (went_on (λ end given room. pop_answer room.0 end) tt room (cond b (Done true) (GoOn on))))))
     taking item None room on true = (tt, tt)
     taking item (Some push) room on true = (tt, (tt, tt))
     taking item push room on false = tt
 
     overflow_pop_right :
-        (k : Core ℕ) (room : OneWord) (stage : overflow_pops.PopStage) (old : ℕ) → KnowsOverflowPop c k room stage → asked ≡ ask_of (want (Overflow (overflow_pop_at c room stage)))
-        → (0 < c → finding_none t.world.kind c ≡ Some load_of_write) → (c ≡ 0 → finding_none t.world.kind c ≡ None) → Tells Pop (Overflow (overflow_pop_at c room stage)) old → Acting Pop (Overflow (overflow_pop_at c room stage)) old
+        (k : Core ℕ) (room : OneWord) (stage : overflow_pops.PopStage) (old : ℕ) → KnowsOverflowPop c k room stage → asked ≡ ask_of (want en (Overflow (overflow_pop_at c room stage)))
+        → (0 < c → finding_none own c ≡ Some load_of_write) → (c ≡ 0 → finding_none own c ≡ None) → Tells Pop (Overflow (overflow_pop_at c room stage)) old → Acting Pop (Overflow (overflow_pop_at c room stage)) old
     overflow_pop_right k room overflow_pops.TheVariants.FindsNone old knows asks some none h =
-        pop_acts (after (Overflow (overflow_pop_at c room overflow_pops.TheVariants.FindsNone)) old) (asks ∙ sym (none knows)) h
+        pop_acts (after en (Overflow (overflow_pop_at c room overflow_pops.TheVariants.FindsNone)) old) (asks ∙ sym (none knows)) h
     overflow_pop_right k room overflow_pops.TheVariants.LoadsRead old knows asks some none h = tt
     overflow_pop_right k room (overflow_pops.TheVariants.LoadsWrite read) old knows asks some none h =
-        pop_acts (after (Overflow (overflow_pop_at c room (overflow_pops.TheVariants.LoadsWrite read))) old) (asks ∙ sym (some knows.0)) h
+        pop_acts (after en (Overflow (overflow_pop_at c room (overflow_pops.TheVariants.LoadsWrite read))) old) (asks ∙ sym (some knows.0)) h
     overflow_pop_right k room (overflow_pops.TheVariants.LoadsCell read) old knows asks some none h = tt
     overflow_pop_right k room (overflow_pops.TheVariants.MovesRead read) old knows asks some none h =
         taking (Index (get_or words (cell_word c read) 0)) waits room (record { capacity = c; stage = overflow_pops.TheVariants.LoadsCell old }) (old == read)
 
-    ring_right : (ro : Roles) (k : Core ℕ) (start : QueueStart T) (call : rings.RingCall ℕ OneWord) (old : ℕ) → RingAt c ro k p start call → finding_none t.world.kind c ≡ Some load_of_write → asked ≡ ask_of (want (Indices call)) → Tells start (Indices call) old
-        → Acting start (Indices call) old
-    ring_right ro k (PushIndex v) (rings.TheVariants.Push run) old at finds asks h =
-        subst (λ x. Tells (PushIndex v) (Indices (push_at run.call.capacity x run.call.stage)) old → asked ≡ ask_of (want (Indices (push_at run.call.capacity x run.call.stage))) → Acting (PushIndex v) (Indices (push_at run.call.capacity x run.call.stage)) old) (sym at.2)
-        (λ right asks. push_right v run.call.capacity run.call.stage old asks right)
-        h
-        asks
-    ring_right ro k Pop (rings.TheVariants.Pop run) old at finds asks h = pop_right run.call.capacity run.room run.call.stage old asks finds h
-    ring_right ro k start call old at finds asks h = absurd at
+    index_right : (ro : Roles) (k : Core ℕ) (start : QueueStart T) (call : rings.RingCall ℕ OneWord) (old : ℕ) → IndexAt kinds.TheVariants.IndexQueue c ro k p start call → finding_none own c ≡ Some load_of_write
+        → asked ≡ ask_of (want en (Indices call)) → Tells start (Indices call) old → Acting start (Indices call) old
+    index_right ro k (PushIndex v) (rings.TheVariants.Push run) old at finds asks h = push_call_right of_indices ro k v (rings.TheVariants.Push run) old at asks h
+    index_right ro k Pop (rings.TheVariants.Pop run) old at finds asks h = pop_call_right of_indices ro k (rings.TheVariants.Pop run) old at finds asks h
+    index_right ro k start call old at finds asks h = absurd at
+
+    value_right : (ro : Roles) (k : Core T) (start : QueueStart T) (call : rings.RingCall T (cells.Kept 128)) (old : ℕ) → ValueAt en kinds.TheVariants.Queue c ro k p start call → finding_none own c ≡ Some load_of_write
+        → asked ≡ ask_of (want en (Values call)) → Tells start (Values call) old → Acting start (Values call) old
+    value_right ro k (Push v) (rings.TheVariants.Push run) old at finds asks h = push_call_right of_values ro k v (rings.TheVariants.Push run) old at asks h
+    value_right ro k Pop (rings.TheVariants.Pop run) old at finds asks h = pop_call_right of_values ro k (rings.TheVariants.Pop run) old at finds asks h
+    value_right ro k start call old at finds asks h = absurd at
 
     overflow_right :
-        (ro : Roles) (k : Core ℕ) (start : QueueStart T) (call : overflows.OverflowCall) (old : ℕ) → OverflowAt c ro k p start call → (0 < c → finding_none t.world.kind c ≡ Some load_of_write) → (c ≡ 0 → finding_none t.world.kind c ≡ None)
-        → asked ≡ ask_of (want (Overflow call)) → Tells start (Overflow call) old → Acting start (Overflow call) old
+        (ro : Roles) (k : Core ℕ) (start : QueueStart T) (call : overflows.OverflowCall) (old : ℕ) → OverflowAt c ro k p start call → (0 < c → finding_none own c ≡ Some load_of_write) → (c ≡ 0 → finding_none own c ≡ None)
+        → asked ≡ ask_of (want en (Overflow call)) → Tells start (Overflow call) old → Acting start (Overflow call) old
     overflow_right ro k (PushIndex v) (overflows.TheVariants.Push run) old at some none asks h =
-        overflow_acts v run.given (push_kept run.call run.room old) (effect_of {T = T} words waits (Overflow (overflows.TheVariants.Push run)) old) (push_after run.call old)
+        overflow_acts v run.given (push_kept run.call run.room old) (effect_of en words waits (Overflow (overflows.TheVariants.Push run)) old) (push_after run.call old)
     overflow_right ro k Pop (overflows.TheVariants.Pop run) old at some none asks h =
-        subst (λ x. Tells Pop (Overflow (overflow_pop_at x run.room run.call.stage)) old → asked ≡ ask_of (want (Overflow (overflow_pop_at x run.room run.call.stage))) → Acting Pop (Overflow (overflow_pop_at x run.room run.call.stage)) old) (sym at.1)
+        subst (λ x. Tells Pop (Overflow (overflow_pop_at x run.room run.call.stage)) old → asked ≡ ask_of (want en (Overflow (overflow_pop_at x run.room run.call.stage))) → Acting Pop (Overflow (overflow_pop_at x run.room run.call.stage)) old) (sym at.1)
         (λ right asks. overflow_pop_right k run.room run.call.stage old at.2 asks some none right)
         h
         asks
     overflow_right ro k start call old at some none asks h = absurd at
 
-    step_right : (ro : Roles) (k : Core ℕ) (start : QueueStart T) (flight : QueueFlight) (old : ℕ) → At t.world.kind c ro k p start flight → asked ≡ ask_of (want flight) → Tells start flight old → Acting start flight old
-    step_right ro k start (Role call) old at asks h = tt
-    step_right ro k start (Indices call) old at asks h =
-        let ring = ring_finds t.world.kind c (RingAt c ro k p start call) at in
-        ring_right ro k start call old ring.1 ring.0 asks h
-    step_right ro k start (Overflow call) old at asks h =
-        let finds = overflow_finds t.world.kind c (OverflowAt c ro k p start call) at in
-        overflow_right ro k start call old finds.2 finds.0 finds.1 asks h
-    step_right ro k start (Length which call) old at asks h = tt
+    step_right : (kd : QueueKind) → own ≡ kd → (ro : Roles) (k : Core (Val T kd)) (start : QueueStart T) (flight : QueueFlight T) (old : ℕ) → At en kd c ro k p start flight → asked ≡ ask_of (want en flight) → Tells start flight old → Acting start flight old
+    step_right kd same ro k start (Role call) old at asks h = tt
+    step_right kinds.TheVariants.IndexQueue same ro k start (Indices call) old at asks h = index_right ro k start call old at (ap (λ n. finding_none n c) same ∙ ring_finds of_indices c) asks h
+    step_right kinds.TheVariants.Overflow same ro k start (Indices call) old at asks h = absurd at
+    step_right kinds.TheVariants.Queue same ro k start (Indices call) old at asks h = absurd at
+    step_right kinds.TheVariants.IndexQueue same ro k start (Values call) old at asks h = absurd at
+    step_right kinds.TheVariants.Overflow same ro k start (Values call) old at asks h = absurd at
+    step_right kinds.TheVariants.Queue same ro k start (Values call) old at asks h = value_right ro k start call old at (ap (λ n. finding_none n c) same ∙ ring_finds of_values c) asks h
+    step_right kinds.TheVariants.IndexQueue same ro k start (Overflow call) old at asks h = absurd at
+    step_right kinds.TheVariants.Overflow same ro k start (Overflow call) old at asks h =
+        let finds = overflow_finds c in
+        overflow_right ro k start call old at (λ some. ap (λ n. finding_none n c) same ∙ finds.0 some) (λ none. ap (λ n. finding_none n c) same ∙ finds.1 none) asks h
+    step_right kinds.TheVariants.Queue same ro k start (Overflow call) old at asks h = absurd at
+    step_right kd same ro k start (Length which call) old at asks h = tt
 
 -- ---- every turn
 
-module _ {T : Type 0} (t : Trace T) (p : ℕ) (s : frame.Sound (family t.world.kind t.world.capacity) t) (small : t.world.turns < 2 ^ 64 - 2) where
-  module _ (x : Party T) (since : ℕ) where
-    -- the events of its step where the words, what is kept, and the call's name are these
-    abbrev InOrder : List ℕ → Kept → Start T → Flight → Type 0
-    InOrder words kept start flight =
-        WritesInOrder t (Next p) (t.events ++ events_of_step p start (step_of words (beside_of words kept t.world.latest p) p start flight (old_of words (ask_of (want_of flight))) kept))
+module _ {T : Type 0} (en : Coding T) (law : IsCoding en) (kd : QueueKind) (c : ℕ) (t : Trace T) (p : ℕ) (s : frame.Sound (family en kd c) t) (small : t.world.turns < 2 ^ 64 - 2) (x : Party T) (since : ℕ) where
+  -- the events of its step where the values are written so, the words, what is kept, and the call's name are these
+  abbrev InOrder : Coding T → List ℕ → Kept → Start T → Flight T → Type 0
+  InOrder z words kept start flight =
+      WritesInOrder (promise kd) t (Next p) (t.events ++ events_of_step p start (step_of z words (beside_of words kept t.world.latest p) p start flight (old_of words (ask_of (want_of z flight))) kept))
 
-    in_order : (start : Start T) (flight : Flight) → (family t.world.kind t.world.capacity).At s.state p start flight → x.steps ≤ (family {T = T} t.world.kind t.world.capacity).number flight x.backs
-        → (family t.world.kind t.world.capacity).Knows s.state p t.events since t.world.changes x.backs flight → flight_of (doing_of (party_of p t.world.latest)) ≡ Some flight
-        → span_of p t.events ≡ Open start ((family t.world.kind t.world.capacity).written s.state p flight) → InOrder (layout s.state.roles s.state.core) (kepts.TheVariants.Queues s.state.roles) start flight
-    in_order (Queues start) (flights.TheVariants.Queues flight) at steps knows found seen =
-        let scene = scene_of t.world.kind t.world.capacity t s small p x since in
-        let words = layout s.state.roles s.state.core in
-        let moves = step_moves scene small t.world.kind (inv_of t.world.kind t.world.capacity t s small p x since) start flight at steps knows (found, seen) in
-        let old = old_of words (ask_of (want flight)) in
-        let waits = beside s.state.roles words t.world.latest p in
-        let effect : Effect T = effect_of words waits flight old in
-        let outcome : Option (Answer T) = answer_in (after flight old) in
-        let ends : List (Event T) = ending_of p (Queues start) (answer_in (any_call (after flight old))) in
-        let asks : ask_in t.world (Next p) ≡ ask_of (want flight) = rw found refl in
-        record {
-          effects = did p effect;
-          acts = acts_of p start effect outcome;
-          ends = ends;
-          is = ap (λ es. t.events ++ (es ++ ends)) (effects_are p start effect outcome);
-          are_effects = did_effects (Next p) p effect refl;
-          are_acts = all_act p start effect outcome;
-          are_ends = ends_end (Next p) p (Queues start) (answer_in (any_call (after flight old))) refl;
-          right = step_right t (Next p) p refl words waits s.state.roles s.state.core start flight old at asks moves.2.right;
-        }
+  in_order : (start : Start T) (flight : Flight T) → t.world.coding ≡ en → t.world.capacity ≡ c → (family en kd c).At s.state p start flight → x.steps ≤ (family {T = T} en kd c).number flight x.backs → (family en kd c).Knows s.state p t.events since t.world.changes x.backs flight
+      → flight_of (doing_of (party_of p t.world.latest)) ≡ Some flight → span_of p t.events ≡ Open start ((family en kd c).written s.state p flight) → InOrder t.world.coding (layout s.state.roles s.state.core) (kepts.TheVariants.Queues s.state.roles) start flight
+  in_order (Queues start) (flights.TheVariants.Queues flight) same_coding same_capacity at steps knows found seen =
+      let scene = scene_of en law kd c t s small p x since in
+      let words = layout s.state.roles s.state.core in
+      let moves = step_moves en law kd scene small (inv_of en law kd c t s small p x since) start flight at steps knows (found, seen) in
+      let z = t.world.coding in
+      let old = old_of words (ask_of (want z flight)) in
+      let waits = beside s.state.roles words t.world.latest p in
+      let effect : Effect T = effect_of z words waits flight old in
+      let outcome : Option (Answer T) = answer_in (after z flight old) in
+      let ends : List (Event T) = ending_of p (Queues start) (answer_in (any_call (after z flight old))) in
+      let asks : ask_in t.world (Next p) ≡ ask_of (want z flight) = rw found refl in
+      record {
+        effects = did p effect;
+        acts = acts_of p start effect outcome;
+        ends = ends;
+        is = ap (λ es. t.events ++ (es ++ ends)) (effects_are p start effect outcome);
+        are_effects = did_effects (Next p) p effect refl;
+        are_acts = all_act p start effect outcome;
+        are_ends = ends_end (Next p) p (Queues start) (answer_in (any_call (after z flight old))) refl;
+        right = step_right kd t (Next p) p refl words waits kd refl s.state.roles s.state.core start flight old
+            (subst (λ y. At y kd t.world.capacity s.state.roles s.state.core p start flight) (sym same_coding) (subst (λ n. At en kd n s.state.roles s.state.core p start flight) (sym same_capacity) at))
+            asks
+            (subst (λ n. AreRight (AnswersRight n) t.events (told_after p start effect (after z flight old))) (sym same_capacity)
+            (subst (λ (y : Coding T). AreRight (AnswersRight c) t.events (told_after p start (effect_of y words waits flight (old_of words (ask_of (want y flight)))) (after y flight (old_of words (ask_of (want y flight)))))) (sym same_coding) moves.2.right));
+      }
+  in_order start flight same_coding same_capacity at steps knows found seen = absurd at
 
-    step_in_order : (flight : Flight) → party_of p t.world.latest ≡ Some x → x.doing ≡ Going flight since → InOrder t.world.words t.world.kept x.start flight
-    step_in_order flight found doing =
-        let fam = family {T = T} t.world.kind t.world.capacity in
-        let fits = subst (λ o. frame.Fits fam s.state p o (span_of p t.events)) found (s.inv.calls p) in
-        let here = frame.under_way fam s.state p x x.doing flight since (span_of p t.events) doing fits in
-        let knows = frame.knows_now fam s.state p t.events t.world.changes (party_of p t.world.latest) x flight since found doing (s.inv.knows p) in
-        let goes : flight_of (doing_of (party_of p t.world.latest)) ≡ Some flight = ap (λ o. flight_of (doing_of o)) found ∙ ap (λ d. flight_of (Some d)) doing in
-        let is = kept_is t.world.kept t.world.words s.state s.fit in
-        subst (λ ws. InOrder ws t.world.kept x.start flight) (sym is.1)
-        (subst (λ kept. InOrder (layout s.state.roles s.state.core) kept x.start flight) (sym is.0) (in_order x.start flight here.at here.steps knows goes here.span))
+  step_in_order : (flight : Flight T) → party_of p t.world.latest ≡ Some x → x.doing ≡ Going flight since → InOrder t.world.coding t.world.words t.world.kept x.start flight
+  step_in_order flight found doing =
+      let fam = family {T = T} en kd c in
+      let fits = subst (λ o. frame.Fits fam s.state p o (span_of p t.events)) found (s.inv.calls p) in
+      let here = frame.under_way fam s.state p x x.doing flight since (span_of p t.events) doing fits in
+      let knows = frame.knows_now fam s.state p t.events t.world.changes (party_of p t.world.latest) x flight since found doing (s.inv.knows p) in
+      let goes : flight_of (doing_of (party_of p t.world.latest)) ≡ Some flight = ap (λ o. flight_of (doing_of o)) found ∙ ap (λ d. flight_of (Some d)) doing in
+      let is = kept_is t.world.kept t.world.words s.state s.fit in
+      subst (λ ws. InOrder t.world.coding ws t.world.kept x.start flight) (sym is.1)
+      (subst (λ kept. InOrder t.world.coding (layout s.state.roles s.state.core) kept x.start flight) (sym is.0) (in_order x.start flight s.coding s.capacity here.at here.steps knows goes here.span))
 
-  nothing : WritesInOrder t (Next p) (t.events ++ [])
-  nothing = record { effects = []; acts = []; ends = []; is = refl; are_effects = tt; are_acts = tt; are_ends = tt; right = tt }
-
-  next_in_order : (o : Option (Party T)) → party_of p t.world.latest ≡ o → WritesInOrder t (Next p) (t.events ++ events_of_next t.world p o)
-  next_in_order None e = nothing
-  next_in_order (Some x) e = go x.doing refl
-    where
-      go : (doing : Doing) → x.doing ≡ doing → WritesInOrder t (Next p) (t.events ++ events_of_answer t.world p x (old_of t.world.words (ask_of_doing doing)) doing)
-      go (Over others) d = nothing
-      go (Going flight since) d = step_in_order x since flight e d
-
-never_due : (o : Option Flight) → is_due o ≡ false
-never_due None = refl
-never_due (Some (flights.TheVariants.Queues flight)) = never_asks flight
+-- a call of a queue goes on as its table says
+told : {T : Type 0} (en z : Coding T) (kd : QueueKind) (c : ℕ) (words : List ℕ) (waits : Option (ℕ × ℕ)) (s : Queue (Val T kd)) (p : ℕ) (start : Start T) (flight : Flight T) (answer : ℕ) (kept : Kept) → Fit kept words s → (family en kd c).At s p start flight
+    → (step_of z words waits p start flight answer kept).after ≡ after_of z flight answer
+told y z kd c words waits s p (Queues start) (flights.TheVariants.Queues flight) answer (kepts.TheVariants.Queues roles) fit at = refl
+told y z kd c words waits s p (Queues start) (flights.TheVariants.Queues flight) answer held fit at = absurd fit
+told y z kd c words waits s p start flight answer held fit at = absurd at
 
 module _ {T : Type 0} where
-  writes_down : (t : Trace T) (turn : Turn T) → refusal_of t.world turn ≡ None → frame.Sound (family t.world.kind t.world.capacity) t → WritesDown t turn (after_turn t turn)
-  writes_down t (Begin p start) e s = refl
-  writes_down t (Next p) e s = next_in_order t p s (may_next t.world p e).turns (party_of p t.world.latest) refl
-  writes_down t (Decide p said) e s =
-      let due = must_be_due t.world p said e in
-      let none = never_due (flight_in t.world p) in
-      let clash = rw none at due in
-      absurd (cc)
-  writes_down t (Die owner) e s = append-nil t.events
-
-  pub reached_turn : (t : Trace T) (turn : Turn T) → refusal_of t.world turn ≡ None → IsReached t → IsTurn t turn (after_turn t turn)
-  reached_turn t turn e r =
+  orders : (en : Coding T) → IsCoding en → (kd : QueueKind) (c : ℕ) → Orders (family en kd c)
+  orders en law kd c =
       record {
-        later = one_turn_later t.world turn e;
-        word = writes_one_word t.world turn;
-        call = goes_on t.world turn e;
-        counts = counts_turn t.world turn e;
-        others = counts_others t.world turn (reached_small t r);
-        events = writes_down t turn e (reached_sound t r);
+        step = λ t p x flight since s small found doing. step_in_order en law kd c t p s small x since flight found doing;
+        decision = λ t p x flight since said s small found doing asks. asks_nothing en kd c t p x flight since s found doing asks;
+        after = λ t p x flight since answer s found doing.
+            told en t.world.coding kd c t.world.words (beside_of t.world.words t.world.kept t.world.latest p) s.state p x.start flight answer t.world.kept s.fit (stands_at en kd c t p x flight since s found doing);
       }
 
-  pub reached_turns : (t : Trace T) (turns : List (Turn T)) → IsReached t → AreAllowed t turns → AreTurns t turns
-  reached_turns t [] r all = tt
-  reached_turns t (turn ∷ turns) r all =
-      (reached_turn t turn all.0 r, reached_turns (after_turn t turn) turns (reached_more t turn all.0 r) all.1)
-
-  -- the same of a machine that is seen as `now`
-  pub step_turn : (inside now new : Trace T) (turn : Turn T) → inside ≡ now → IsReached inside → refusal_of inside.world turn ≡ None → new ≡ after_turn inside turn → IsTurn now turn new
-  step_turn inside now new turn is r free goes =
-      subst (λ t. IsTurn t turn new) is (subst (λ t. IsTurn inside turn t) (sym goes) (reached_turn inside turn free r))
+  -- what is proved of every run of a queue
+  pub queue_keeps : (kd : QueueKind) → Keeps T (machine_kind kd)
+  queue_keeps kd =
+      record {
+        kept = λ t is r. kept kd t is r;
+        turn = λ t turn is e r.
+            subst (λ P. IsTurnBy P t turn (after_turn t turn)) (sym (promised_by kd t is))
+            (turn_is (family t.world.coding kd t.world.capacity) (orders t.world.coding r.coded kd t.world.capacity) t turn e r (reached_sound kd t is r));
+      }

@@ -1,5 +1,6 @@
 -- What a step of one party keeps of what the calls of the others know.
-use Rattle.std.proofs.Common.{◌≡◌, ◌≢◌, ℕ, Option, Some, refl, sym, ◌∙◌}
+use Rattle.std.proofs.Common.{◌≡◌, ◌≢◌, ℕ, Option, Some, List, refl, sym, ◌∙◌}
+use Rattle.steps.specs.declared.copied.Kept.{Kept}
 use Rattle.steps.specs.declared.copied.OneWord.{OneWord}
 use Rattle.steps.specs.declared.queues.ring.PushStage as pushes
 use Rattle.steps.specs.declared.queues.ring.PopStage as pops
@@ -10,67 +11,94 @@ use Rattle.model.specs.declared.families.queues.calls.RoleCall.TheVariants.{Acqu
 use Rattle.model.specs.declared.families.queues.calls.RingCall as rings
 use Rattle.model.specs.declared.families.queues.calls.OverflowCall as overflows
 use Rattle.model.specs.declared.families.queues.calls.QueueFlight.{QueueFlight}
-use Rattle.model.specs.declared.families.queues.calls.QueueFlight.TheVariants.{Role, Indices, Overflow, Length}
+use Rattle.model.specs.declared.families.queues.calls.QueueFlight.TheVariants.{Role, Indices, Values, Overflow, Length}
 use Rattle.model.specs.declared.families.queues.QueueStart.{QueueStart}
-use Rattle.model.specs.declared.families.queues.QueueStart.TheVariants.{AcquireProducer, ReleaseProducer, AcquireConsumer, ReleaseConsumer, PushIndex, Pop}
+use Rattle.model.specs.declared.families.queues.QueueStart.TheVariants.{AcquireProducer, ReleaseProducer, AcquireConsumer, ReleaseConsumer, PushIndex, Push, Pop}
 use Rattle.model.specs.declared.families.queues.Roles.{Roles}
-use Rattle.model.specs.declared.turn.Kind.{Kind}
-use Rattle.model.specs.declared.turn.Kind as kinds
+use Rattle.model.specs.declared.families.queues.QueueKind.{QueueKind}
+use Rattle.model.specs.declared.families.queues.QueueKind as kinds
+use Rattle.model.specs.Coding.{Coding, one_word}
 use Rattle.queue_laws.proofs.Queues.Core.{Core}
-use Rattle.queue_laws.proofs.Ring.Knows.{KnowsPush, KnowsPop, RingAt}
+use Rattle.queue_laws.proofs.Queues.Values.{Val, encoded}
+use Rattle.queue_laws.proofs.Ring.Knows.{KnowsPush, KnowsPop, PushAt, PopAt}
 use Rattle.queue_laws.proofs.Overflow.Knows.{KnowsOverflowPush, KnowsOverflowPop, overflow_wrote, OverflowAt}
-use Rattle.queue_laws.proofs.Queues.Knows.{has_written, RoleAt, If, At}
+use Rattle.queue_laws.proofs.Queues.Knows.{in_one, in_cell, has_written, RoleAt, IndexAt, ValueAt, OverAt, At}
 
 -- a role has one holder
 pub clash : (o : Option ℕ) (p q : ℕ) → q ≢ p → o ≡ Some p → o ≡ Some q → ⊥
 clash o p q ne a b = let same : Some p ≡ Some q = sym a ∙ b in ne (cc)
 
-pub record RingKeeps (c : ℕ) (ro : Roles) (k k' : Core ℕ) (q : ℕ) : Type 0 where
-  pub push : ro.producer ≡ Some q → (v : ℕ) (stage : pushes.PushStage) → KnowsPush c k v stage → KnowsPush c k' v stage
-  pub pop : ro.consumer ≡ Some q → (room : OneWord) (stage : pops.PopStage) → KnowsPop c k room stage → KnowsPop c k' room stage
+pub record RingKeeps {V : Type 0} (en : Coding V) (c : ℕ) (ro : Roles) (k k' : Core V) (q : ℕ) : Type 0 where
+  pub push : ro.producer ≡ Some q → (v : V) (stage : pushes.PushStage) → KnowsPush en c k v stage → KnowsPush en c k' v stage
+  pub pop : ro.consumer ≡ Some q → (room : List ℕ) (stage : pops.PopStage) → KnowsPop en c k room stage → KnowsPop en c k' room stage
 
 pub record OverflowKeeps (T : Type 0) (c : ℕ) (ro : Roles) (k k' : Core ℕ) (q : ℕ) : Type 0 where
   pub push : ro.producer ≡ Some q → (v : ℕ) (stage : overflow_pushes.PushStage) → KnowsOverflowPush c k v stage → KnowsOverflowPush c k' v stage × (overflow_wrote {T = T} c k' q v stage ≡ overflow_wrote c k q v stage)
   pub pop : ro.consumer ≡ Some q → (room : OneWord) (stage : overflow_pops.PopStage) → KnowsOverflowPop c k room stage → KnowsOverflowPop c k' room stage
 
 -- what the pushes and pops of the kind keep
-abbrev pub Keeps : Type 0 → Kind → ℕ → Roles → Core ℕ → Core ℕ → ℕ → Type 0
-Keeps T kd c ro k k' q = If kd (RingKeeps c ro k k' q) (OverflowKeeps T c ro k k' q)
+abbrev pub Keeps : {T : Type 0} → Coding T → (kd : QueueKind) → ℕ → Roles → Core (Val T kd) → Core (Val T kd) → ℕ → Type 0
+Keeps en kinds.TheVariants.IndexQueue c ro k k' q = RingKeeps one_word c ro k k' q
+Keeps {T = T} en kinds.TheVariants.Overflow c ro k k' q = OverflowKeeps T c ro k k' q
+Keeps en kinds.TheVariants.Queue c ro k k' q = RingKeeps en c ro k k' q
 
 -- where the queue stays
-pub keeps_same : (T : Type 0) (kd : Kind) (c : ℕ) (ro : Roles) (k : Core ℕ) (q : ℕ) → Keeps T kd c ro k k q
-keeps_same T kinds.TheVariants.IndexQueue c ro k q = record { push = λ mine v stage h. h; pop = λ mine room stage h. h }
-keeps_same T kinds.TheVariants.Overflow c ro k q = record { push = λ mine v stage h. (h, refl); pop = λ mine room stage h. h }
+pub keeps_same : {T : Type 0} → (en : Coding T) (kd : QueueKind) (c : ℕ) (ro : Roles) (k : Core (Val T kd)) (q : ℕ) → Keeps en kd c ro k k q
+keeps_same en kinds.TheVariants.IndexQueue c ro k q = record { push = λ mine v stage h. h; pop = λ mine room stage h. h }
+keeps_same en kinds.TheVariants.Overflow c ro k q = record { push = λ mine v stage h. (h, refl); pop = λ mine room stage h. h }
+keeps_same en kinds.TheVariants.Queue c ro k q = record { push = λ mine v stage h. h; pop = λ mine room stage h. h }
 
-module _ {T : Type 0} (c : ℕ) (ro ro' : Roles) (k k' : Core ℕ) (q : ℕ) (producer : ro.producer ≡ Some q → ro'.producer ≡ Some q) (consumer : ro.consumer ≡ Some q → ro'.consumer ≡ Some q) where
-  role_kept : (start : QueueStart T) (call : RoleCall) → RoleAt ro q start call → RoleAt ro' q start call
+module _ (ro ro' : Roles) (q : ℕ) (producer : ro.producer ≡ Some q → ro'.producer ≡ Some q) (consumer : ro.consumer ≡ Some q → ro'.consumer ≡ Some q) where
+  role_kept : {T : Type 0} → (start : QueueStart T) (call : RoleCall) → RoleAt ro q start call → RoleAt ro' q start call
   role_kept AcquireProducer (Acquire call) h = h
   role_kept ReleaseProducer (Release call) h = (h.0, producer h.1)
   role_kept AcquireConsumer (Acquire call) h = h
   role_kept ReleaseConsumer (Release call) h = (h.0, consumer h.1)
   role_kept start call h = absurd h
 
-  ring_kept : RingKeeps c ro k k' q → (start : QueueStart T) (call : rings.RingCall ℕ OneWord) → RingAt c ro k q start call → RingAt c ro' k' q start call
-  ring_kept keeps (PushIndex v) (rings.TheVariants.Push run) h = (producer h.0, h.1, h.2, keeps.push h.0 v run.call.stage h.3)
-  ring_kept keeps Pop (rings.TheVariants.Pop run) h = (consumer h.0, h.1, keeps.pop h.0 run.room run.call.stage h.2)
-  ring_kept keeps start call h = absurd h
+  module _ {V R : Type 0} (en : Coding V) (words_in : R → List ℕ) (c : ℕ) (k k' : Core V) (keeps : RingKeeps en c ro k k' q) where
+    push_kept : (v : V) (call : rings.RingCall V R) → PushAt en words_in c ro k q v call → PushAt en words_in c ro' k' q v call
+    push_kept v (rings.TheVariants.Push run) h = (producer h.0, h.1, h.2, keeps.push h.0 v run.call.stage h.3)
+    push_kept v (rings.TheVariants.Pop run) h = absurd h
 
-  overflow_kept : OverflowKeeps T c ro k k' q → (start : QueueStart T) (call : overflows.OverflowCall) → OverflowAt c ro k q start call
-      → OverflowAt c ro' k' q start call × (has_written {T = T} c k' q (Overflow call) ≡ has_written c k q (Overflow call))
-  overflow_kept keeps (PushIndex v) (overflows.TheVariants.Push run) h =
-      let both = keeps.push h.0 v run.call.stage h.3 in
-      let same = h.2 in
-      ((producer h.0, h.1, h.2, both.0), rw same both.1)
-  overflow_kept keeps Pop (overflows.TheVariants.Pop run) h = ((consumer h.0, h.1, keeps.pop h.0 run.room run.call.stage h.2), refl)
-  overflow_kept keeps start call h = absurd h
+    pop_kept : (call : rings.RingCall V R) → PopAt en words_in c ro k q call → PopAt en words_in c ro' k' q call
+    pop_kept (rings.TheVariants.Push run) h = absurd h
+    pop_kept (rings.TheVariants.Pop run) h = (consumer h.0, h.1, keeps.pop h.0 (words_in run.room) run.call.stage h.2)
 
-  abbrev KeptAt : Kind → QueueStart T → QueueFlight → Type 0
-  KeptAt kd start flight = At kd c ro k q start flight → At kd c ro' k' q start flight × (has_written {T = T} c k' q flight ≡ has_written c k q flight)
+  module _ {T : Type 0} (en : Coding T) (c : ℕ) where
+    index_kept : (k k' : Core ℕ) → RingKeeps one_word c ro k k' q → (start : QueueStart T) (call : rings.RingCall ℕ OneWord)
+        → IndexAt kinds.TheVariants.IndexQueue c ro k q start call → IndexAt kinds.TheVariants.IndexQueue c ro' k' q start call
+    index_kept k k' keeps (PushIndex v) call h = push_kept one_word in_one c k k' keeps v call h
+    index_kept k k' keeps Pop call h = pop_kept one_word in_one c k k' keeps call h
+    index_kept k k' keeps start call h = absurd h
 
-  pub kept : (kd : Kind) → Keeps T kd c ro k k' q → (start : QueueStart T) (flight : QueueFlight) → KeptAt kd start flight
-  kept kd keeps start (Role call) h = (role_kept start call h, refl)
-  kept kinds.TheVariants.IndexQueue keeps start (Indices call) h = (ring_kept keeps start call h, refl)
-  kept kinds.TheVariants.Overflow keeps start (Indices call) h = absurd h
-  kept kinds.TheVariants.IndexQueue keeps start (Overflow call) h = absurd h
-  kept kinds.TheVariants.Overflow keeps start (Overflow call) h = overflow_kept keeps start call h
-  kept kd keeps start (Length which call) h = (h, refl)
+    value_kept : (k k' : Core T) → RingKeeps en c ro k k' q → (start : QueueStart T) (call : rings.RingCall T (Kept 128))
+        → ValueAt en kinds.TheVariants.Queue c ro k q start call → ValueAt en kinds.TheVariants.Queue c ro' k' q start call
+    value_kept k k' keeps (Push v) call h = push_kept en in_cell c k k' keeps v call h
+    value_kept k k' keeps Pop call h = pop_kept en in_cell c k k' keeps call h
+    value_kept k k' keeps start call h = absurd h
+
+    overflow_kept : (k k' : Core ℕ) → OverflowKeeps T c ro k k' q → (start : QueueStart T) (call : overflows.OverflowCall) → OverflowAt c ro k q start call
+        → OverflowAt c ro' k' q start call × (has_written {T = T} c k' q (Overflow call) ≡ has_written c k q (Overflow call))
+    overflow_kept k k' keeps (PushIndex v) (overflows.TheVariants.Push run) h =
+        let both = keeps.push h.0 v run.call.stage h.3 in
+        let same = h.2 in
+        ((producer h.0, h.1, h.2, both.0), rw same both.1)
+    overflow_kept k k' keeps Pop (overflows.TheVariants.Pop run) h = ((consumer h.0, h.1, keeps.pop h.0 run.room run.call.stage h.2), refl)
+    overflow_kept k k' keeps start call h = absurd h
+
+    abbrev KeptAt : (kd : QueueKind) → Core (Val T kd) → Core (Val T kd) → QueueStart T → QueueFlight T → Type 0
+    KeptAt kd k k' start flight = At en kd c ro k q start flight → At en kd c ro' k' q start flight × (has_written {T = T} c k' q flight ≡ has_written c k q flight)
+
+    pub kept : (kd : QueueKind) (k k' : Core (Val T kd)) → Keeps en kd c ro k k' q → (start : QueueStart T) (flight : QueueFlight T) → KeptAt kd k k' start flight
+    kept kd k k' keeps start (Role call) h = (role_kept start call h, refl)
+    kept kinds.TheVariants.IndexQueue k k' keeps start (Indices call) h = (index_kept k k' keeps start call h, refl)
+    kept kinds.TheVariants.Overflow k k' keeps start (Indices call) h = absurd h
+    kept kinds.TheVariants.Queue k k' keeps start (Indices call) h = absurd h
+    kept kinds.TheVariants.IndexQueue k k' keeps start (Values call) h = absurd h
+    kept kinds.TheVariants.Overflow k k' keeps start (Values call) h = absurd h
+    kept kinds.TheVariants.Queue k k' keeps start (Values call) h = (value_kept k k' keeps start call h, refl)
+    kept kinds.TheVariants.IndexQueue k k' keeps start (Overflow call) h = absurd h
+    kept kinds.TheVariants.Overflow k k' keeps start (Overflow call) h = overflow_kept k k' keeps start call h
+    kept kinds.TheVariants.Queue k k' keeps start (Overflow call) h = absurd h
+    kept kd k k' keeps start (Length which call) h = (h, refl)

@@ -1,6 +1,9 @@
 -- What the invariant says of the events, in the promises' words.
-use Rattle.std.proofs.Common.{◌≡◌, ℕ, suc, ◌+◌, ◌-◌, ◌%◌, ◌*◌, ◌≤◌, Some, List, [], ◌∷◌, length, get_or, map, slice_get, take, refl, sym, ap, subst, ◌∙◌, arith, length-append}
+use lib.Seq.{get_or-drop}
+use native.Mathlib.Nat.{mul-le-mul_left}
+use Rattle.std.proofs.Common.{◌≡◌, ℕ, suc, ◌+◌, ◌-◌, ◌%◌, ◌*◌, ◌<◌, ◌≤◌, Some, List, [], ◌∷◌, length, get_or, map, slice_get, take, drop, refl, sym, ap, subst, ◌∙◌, arith, length-append, length-drop}
 use Rattle.std.proofs.lemmas.List.{length-map, take-map}
+use Rattle.steps.specs.declared.copied.Kept as rooms
 use Rattle.steps.specs.declared.copied.OneWord.{OneWord}
 use Rattle.steps.specs.declared.queues.ring.PushStage as pushes
 use Rattle.steps.specs.declared.queues.ring.PopStage as pops
@@ -17,11 +20,11 @@ use Rattle.model.specs.declared.families.queues.calls.LengthOf.{LengthOf}
 use Rattle.model.specs.declared.families.queues.calls.LengthOf as measures
 use Rattle.model.specs.declared.families.queues.calls.OverflowCall as overflows
 use Rattle.model.specs.declared.families.queues.calls.QueueFlight.{QueueFlight}
-use Rattle.model.specs.declared.families.queues.calls.QueueFlight.TheVariants.{Role, Indices, Overflow, Length}
+use Rattle.model.specs.declared.families.queues.calls.QueueFlight.TheVariants.{Role, Indices, Values, Overflow, Length}
 use Rattle.model.specs.declared.event.Item.{Item}
-use Rattle.model.specs.declared.event.Item.TheVariants.{Index}
+use Rattle.model.specs.declared.event.Item.TheVariants.{Index, Value}
 use Rattle.model.specs.declared.families.queues.QueueStart.{QueueStart}
-use Rattle.model.specs.declared.families.queues.QueueStart.TheVariants.{PushIndex, Pop, IsEmpty, IsFull}
+use Rattle.model.specs.declared.families.queues.QueueStart.TheVariants.{PushIndex, Push, Pop, IsEmpty, IsFull}
 use Rattle.model.specs.declared.families.queues.QueueStart as starts
 use Rattle.model.specs.declared.event.Event.{Event}
 use Rattle.model.specs.declared.event.Start.{Start}
@@ -29,45 +32,57 @@ use Rattle.model.specs.declared.event.Start.TheVariants.{Queues}
 use Rattle.model.specs.declared.families.Flight.{Flight}
 use Rattle.model.specs.declared.families.Flight as flights
 use Rattle.model.specs.declared.families.queues.Roles.{Roles}
-use Rattle.model.specs.declared.turn.Kind.{Kind}
-use Rattle.model.specs.declared.turn.Kind.TheVariants.{IndexQueue}
-use Rattle.model.specs.declared.turn.Kind as kinds
-use Rattle.model.specs.Families.Queues.Book.{stored, waiting_in}
+use Rattle.model.specs.declared.families.queues.QueueKind.{QueueKind}
+use Rattle.model.specs.declared.families.queues.QueueKind.TheVariants.{IndexQueue}
+use Rattle.model.specs.declared.families.queues.QueueKind as kinds
+use Rattle.model.specs.Coding.{Coding, IsCoding, one_word}
+use Rattle.model.specs.Families.Queues.Book.{item_at, cell_of, stored, waiting_in}
 use Rattle.model.specs.Families.Queues.Bounds.{most_steps}
-use Rattle.model.specs.Families.Queues.Calls.{words_of_index}
-use Rattle.model.specs.Families.Queues.Opening.{cells_of}
+use Rattle.model.specs.Families.Queues.Opening.{cells_of, words_of_cell}
 use Rattle.model.specs.Parties.{party_of}
-use Rattle.model.specs.Families.Queues.Promises.{IsQueue}
+use Rattle.model.specs.Families.Queues.Promises.{IsQueue, most, promise}
 use Rattle.model.specs.Families.Queues.Roles.{KeepsHolders}
 use Rattle.model.specs.Families.Queues.Reading.{published, handed_out}
-use Rattle.model.specs.Promises.{IsKept, Promised}
-use Rattle.model.specs.Promises.Bounds as any_bounds
+use Rattle.model.specs.Promises.{IsKeptBy, IsKept}
+use Rattle.model.specs.Promises.Families.{promise_of}
 use Rattle.model.specs.Promises.Bounds.{Progresses}
 use Rattle.model.specs.Reading.{span_of}
 use Rattle.model.specs.Turns.{IsReached}
 use Rattle.model.specs.World.{Trace}
 use Rattle.queue_laws.proofs.Queues.Core.{Core, Good, take_all, at_below, word_at}
-use Rattle.queue_laws.proofs.Ring.Knows.{KnowsPush, KnowsPop, push_number, pop_number, RingAt}
+use Rattle.queue_laws.proofs.Ring.Knows.{KnowsPush, KnowsPop, push_number, pop_number, ring_number, PushAt, PopAt}
 use Rattle.queue_laws.proofs.Overflow.Knows.{overflow_push_number, overflow_pop_number, KnowsBacks, OverflowAt}
-use Rattle.queue_laws.proofs.Queues.Knows.{free, layout, listed, len_number, number_of, IsPaid, KnowsLen, KnowsFlight, RoleAt, LengthAt, At}
+use Rattle.queue_laws.proofs.Queues.Knows.{free, layout, in_one, in_cell, listed, len_number, number_of, IsPaid, KnowsLen, KnowsFlight, RoleAt, LengthAt, IndexAt, ValueAt, OverAt, At}
 use Rattle.model.proofs.Frame as frame
-use Rattle.queue_laws.proofs.Queues.Invariant.{Queue, family, waiting_is}
+use Rattle.queue_laws.proofs.Queues.Invariant.{Queue, machine_kind, family, waiting_is}
 use Rattle.queue_laws.proofs.Queues.Stages.{cell_place}
+use Rattle.queue_laws.proofs.Queues.Values.{Val, encoded, item}
+use Rattle.queue_laws.proofs.Ring.Pops.{same_words}
 use Rattle.queue_laws.proofs.Queues.Sound.{kept_is, reached_sound}
 
 -- ---- how many steps a call has taken
 
-push_most : (c : ℕ) (k : Core ℕ) (v : ℕ) (stage : pushes.PushStage) → KnowsPush c k v stage → push_number stage ≤ 4
-push_most c k v pushes.TheVariants.LoadsWrite h = omega arith
-push_most c k v (pushes.TheVariants.LoadsRead write) h = omega arith
-push_most c k v (pushes.TheVariants.StoresCell write cell at) h = let none = h.3 in omega arith
-push_most c k v (pushes.TheVariants.StoresWrite write) h = omega arith
+module _ {V : Type 0} (en : Coding V) (c : ℕ) (k : Core V) where
+  push_most : (v : V) (stage : pushes.PushStage) → KnowsPush en c k v stage → push_number en.size stage ≤ 3 + en.size
+  push_most v pushes.TheVariants.LoadsWrite h = omega arith
+  push_most v (pushes.TheVariants.LoadsRead write) h = omega arith
+  push_most v (pushes.TheVariants.StoresCell write cell at) h = let below = h.3 in omega arith
+  push_most v (pushes.TheVariants.StoresWrite write) h = omega arith
 
-pop_most : (c : ℕ) (k : Core ℕ) (room : OneWord) (stage : pops.PopStage) → KnowsPop c k room stage → pop_number stage ≤ 4
-pop_most c k room pops.TheVariants.LoadsRead h = omega arith
-pop_most c k room (pops.TheVariants.LoadsWrite read) h = omega arith
-pop_most c k room (pops.TheVariants.LoadsCell read cell at) h = let none = h.5 in omega arith
-pop_most c k room (pops.TheVariants.StoresRead read) h = omega arith
+  pop_most : (room : List ℕ) (stage : pops.PopStage) → KnowsPop en c k room stage → pop_number en.size stage ≤ 3 + en.size
+  pop_most room pops.TheVariants.LoadsRead h = omega arith
+  pop_most room (pops.TheVariants.LoadsWrite read) h = omega arith
+  pop_most room (pops.TheVariants.LoadsCell read cell at) h = let below = h.6 in omega arith
+  pop_most room (pops.TheVariants.StoresRead read) h = omega arith
+
+  module _ {R : Type 0} (words_in : R → List ℕ) (ro : Roles) (p : ℕ) where
+    push_call_most : (v : V) (call : rings.RingCall V R) → PushAt en words_in c ro k p v call → ring_number en words_in call ≤ 3 + en.size
+    push_call_most v (rings.TheVariants.Push run) h = push_most v run.call.stage h.3
+    push_call_most v (rings.TheVariants.Pop run) h = absurd h
+
+    pop_call_most : (call : rings.RingCall V R) → PopAt en words_in c ro k p call → ring_number en words_in call ≤ 3 + en.size
+    pop_call_most (rings.TheVariants.Push run) h = absurd h
+    pop_call_most (rings.TheVariants.Pop run) h = pop_most (words_in run.room) run.call.stage h.2
 
 overflow_push_most : (stage : overflow_pushes.PushStage) → overflow_push_number stage ≤ 6
 overflow_push_most overflow_pushes.TheVariants.HandsBack = omega arith
@@ -93,151 +108,209 @@ len_most backs (lens.TheVariants.LoadsReadAgain write read) = omega arith
 
 -- ---- how often it has turned back
 
-paid_backs : (k : Core ℕ) (since changes backs write read : ℕ) → IsPaid k since changes backs write read → backs ≤ changes - since
+paid_backs : {V : Type 0} → (k : Core V) (since changes backs write read : ℕ) → IsPaid k since changes backs write read → backs ≤ changes - since
 paid_backs k since changes backs write read h =
     let w = h.0 in
     let r = h.1 in
     let paid = h.2 in
     omega arith
 
-pop_paid : (k : Core ℕ) (since changes backs : ℕ) (stage : overflow_pops.PopStage) → KnowsBacks k since changes backs stage → backs ≤ changes - since
+pop_paid : {V : Type 0} → (k : Core V) (since changes backs : ℕ) (stage : overflow_pops.PopStage) → KnowsBacks k since changes backs stage → backs ≤ changes - since
 pop_paid k since changes backs overflow_pops.TheVariants.FindsNone h = omega arith
 pop_paid k since changes backs overflow_pops.TheVariants.LoadsRead h = omega arith
 pop_paid k since changes backs (overflow_pops.TheVariants.LoadsWrite read) h = let low = h.0 in let paid = h.1 in omega arith
 pop_paid k since changes backs (overflow_pops.TheVariants.LoadsCell read) h = let low = h.0 in let paid = h.1 in omega arith
 pop_paid k since changes backs (overflow_pops.TheVariants.MovesRead read) h = let low = h.0 in let paid = h.1 in omega arith
 
-module _ {T : Type 0} where
-  role_most : (kd : Kind) (ro : Roles) (p backs : ℕ) (start : QueueStart T) (call : RoleCall) → RoleAt ro p start call → 0 ≤ most_steps kd start backs
+module _ {T : Type 0} (en : Coding T) where
+  role_most : (kd : QueueKind) (ro : Roles) (p backs : ℕ) (start : QueueStart T) (call : RoleCall) → RoleAt ro p start call → 0 ≤ most_steps en.size kd start backs
   role_most kd ro p backs start call h = omega arith
 
-  ring_most : (c : ℕ) (ro : Roles) (k : Core ℕ) (p backs : ℕ) (start : QueueStart T) (call : rings.RingCall ℕ OneWord) → RingAt c ro k p start call → number_of (Indices call) backs ≤ most_steps IndexQueue start backs
-  ring_most c ro k p backs (PushIndex v) (rings.TheVariants.Push run) h = push_most c k v run.call.stage h.3
-  ring_most c ro k p backs Pop (rings.TheVariants.Pop run) h = pop_most c k run.room run.call.stage h.2
-  ring_most c ro k p backs start call h = absurd h
+  index_most : (c : ℕ) (ro : Roles) (k : Core ℕ) (p backs : ℕ) (start : QueueStart T) (call : rings.RingCall ℕ OneWord) → IndexAt IndexQueue c ro k p start call → number_of en (Indices call) backs ≤ most_steps en.size IndexQueue start backs
+  index_most c ro k p backs (PushIndex v) call h = push_call_most one_word c k in_one ro p v call h
+  index_most c ro k p backs Pop call h = pop_call_most one_word c k in_one ro p call h
+  index_most c ro k p backs start call h = absurd h
 
-  overflow_most : (c : ℕ) (ro : Roles) (k : Core ℕ) (p backs : ℕ) (start : QueueStart T) (call : overflows.OverflowCall) → OverflowAt c ro k p start call → number_of (Overflow call) backs ≤ most_steps kinds.TheVariants.Overflow start backs
+  value_most : (c : ℕ) (ro : Roles) (k : Core T) (p backs : ℕ) (start : QueueStart T) (call : rings.RingCall T (rooms.Kept 128)) → ValueAt en kinds.TheVariants.Queue c ro k p start call → number_of en (Values call) backs ≤ most_steps en.size kinds.TheVariants.Queue start backs
+  value_most c ro k p backs (Push v) call h = push_call_most en c k in_cell ro p v call h
+  value_most c ro k p backs Pop call h = pop_call_most en c k in_cell ro p call h
+  value_most c ro k p backs start call h = absurd h
+
+  overflow_most : (c : ℕ) (ro : Roles) (k : Core ℕ) (p backs : ℕ) (start : QueueStart T) (call : overflows.OverflowCall) → OverflowAt c ro k p start call → number_of en (Overflow call) backs ≤ most_steps en.size kinds.TheVariants.Overflow start backs
   overflow_most c ro k p backs (PushIndex v) (overflows.TheVariants.Push run) h = overflow_push_most run.call.stage
   overflow_most c ro k p backs Pop (overflows.TheVariants.Pop run) h = overflow_pop_most backs run.call.stage
   overflow_most c ro k p backs start call h = absurd h
 
-  length_most : (kd : Kind) (c backs : ℕ) (start : QueueStart T) (which : LengthOf) (run : Running Len (Unit {0}) (Unit {0})) → LengthAt c start which run.call.capacity → number_of (Length which run) backs ≤ most_steps kd start backs
+  length_most : (kd : QueueKind) (c backs : ℕ) (start : QueueStart T) (which : LengthOf) (run : Running Len (Unit {0}) (Unit {0})) → LengthAt c start which run.call.capacity → number_of en (Length which run) backs ≤ most_steps en.size kd start backs
   length_most kd c backs starts.TheVariants.Len measures.TheVariants.Len run h = len_most backs run.call.stage
   length_most kd c backs IsEmpty measures.TheVariants.IsEmpty run h = len_most backs run.call.stage
   length_most kd c backs IsFull measures.TheVariants.IsFull run h = len_most backs run.call.stage
   length_most kd c backs start which call h = absurd h
 
-  steps_most : (kd : Kind) (c : ℕ) (ro : Roles) (k : Core ℕ) (p backs : ℕ) (start : QueueStart T) (flight : QueueFlight) → At kd c ro k p start flight → number_of flight backs ≤ most_steps kd start backs
+  steps_most : (kd : QueueKind) (c : ℕ) (ro : Roles) (k : Core (Val T kd)) (p backs : ℕ) (start : QueueStart T) (flight : QueueFlight T) → At en kd c ro k p start flight → number_of en flight backs ≤ most_steps en.size kd start backs
   steps_most kd c ro k p backs start (Role call) h = role_most kd ro p backs start call h
-  steps_most IndexQueue c ro k p backs start (Indices call) h = ring_most c ro k p backs start call h
+  steps_most IndexQueue c ro k p backs start (Indices call) h = index_most c ro k p backs start call h
   steps_most kinds.TheVariants.Overflow c ro k p backs start (Indices call) h = absurd h
+  steps_most kinds.TheVariants.Queue c ro k p backs start (Indices call) h = absurd h
+  steps_most IndexQueue c ro k p backs start (Values call) h = absurd h
+  steps_most kinds.TheVariants.Overflow c ro k p backs start (Values call) h = absurd h
+  steps_most kinds.TheVariants.Queue c ro k p backs start (Values call) h = value_most c ro k p backs start call h
   steps_most IndexQueue c ro k p backs start (Overflow call) h = absurd h
   steps_most kinds.TheVariants.Overflow c ro k p backs start (Overflow call) h = overflow_most c ro k p backs start call h
+  steps_most kinds.TheVariants.Queue c ro k p backs start (Overflow call) h = absurd h
   steps_most kd c ro k p backs start (Length which call) h = length_most kd c backs start which call h
 
   -- ---- progress
 
-  len_paid : (c : ℕ) (k : Core ℕ) (p : ℕ) (events : List (Event T)) (since changes backs : ℕ) (stage : LenStage) → KnowsLen c k p events since changes backs stage → backs ≤ changes - since
+  len_paid : {V : Type 0} → (c : ℕ) (k : Core V) (p : ℕ) (events : List (Event T)) (since changes backs : ℕ) (stage : LenStage) → KnowsLen c k p events since changes backs stage → backs ≤ changes - since
   len_paid c k p events since changes backs lens.TheVariants.LoadsWrite h = omega arith
   len_paid c k p events since changes backs (lens.TheVariants.LoadsRead write) h = paid_backs k since changes backs write k.read h
   len_paid c k p events since changes backs (lens.TheVariants.LoadsWriteAgain write read) h = paid_backs k since changes backs write read h.0
   len_paid c k p events since changes backs (lens.TheVariants.LoadsReadAgain write read) h = paid_backs k since changes backs write read h.0
 
-  backs_paid : (c : ℕ) (k : Core ℕ) (p : ℕ) (events : List (Event T)) (since changes backs : ℕ) (flight : QueueFlight) → KnowsFlight c k p events since changes backs flight → backs ≤ changes - since
+  backs_paid : {V : Type 0} → (c : ℕ) (k : Core V) (p : ℕ) (events : List (Event T)) (since changes backs : ℕ) (flight : QueueFlight T) → KnowsFlight c k p events since changes backs flight → backs ≤ changes - since
   backs_paid c k p events since changes backs (Role call) h = omega arith
   backs_paid c k p events since changes backs (Indices call) h = omega arith
+  backs_paid c k p events since changes backs (Values call) h = omega arith
   backs_paid c k p events since changes backs (Overflow (overflows.TheVariants.Push call)) h = omega arith
   backs_paid c k p events since changes backs (Overflow (overflows.TheVariants.Pop run)) h = pop_paid k since changes backs run.call.stage h
   backs_paid c k p events since changes backs (Length which run) h = len_paid c k p events since changes backs run.call.stage h
 
-  pub bounds : (kd : Kind) (c : ℕ) → frame.Bounds (family {T = T} kd c)
-  bounds kd c = record { most = most; paid = paid }
+  pub bounds : (kd : QueueKind) (c : ℕ) → frame.Bounds (family {T = T} en kd c)
+  bounds kd c = record { most = at_most; paid = paid }
     where
-      most : (s : Queue) (p backs : ℕ) (start : Start T) (flight : Flight) → (family kd c).At s p start flight → (family {T = T} kd c).number flight backs ≤ any_bounds.most_steps kd start backs
-      most s p backs (Queues start) (flights.TheVariants.Queues flight) h = steps_most kd c s.roles s.core p backs start flight h
+      at_most : (s : Queue (Val T kd)) (p backs : ℕ) (start : Start T) (flight : Flight T) → (family en kd c).At s p start flight → (family {T = T} en kd c).number flight backs ≤ most kd en.size start backs
+      at_most s p backs (Queues start) (flights.TheVariants.Queues flight) h = steps_most kd c s.roles s.core p backs start flight h
+      at_most s p backs start flight h = absurd h
 
-      paid : (s : Queue) (p : ℕ) (events : List (Event T)) (since changes backs : ℕ) (flight : Flight) → (family kd c).Knows s p events since changes backs flight → backs ≤ changes - since
+      paid : (s : Queue (Val T kd)) (p : ℕ) (events : List (Event T)) (since changes backs : ℕ) (flight : Flight T) → (family en kd c).Knows s p events since changes backs flight → backs ≤ changes - since
       paid s p events since changes backs (flights.TheVariants.Queues flight) h = backs_paid c s.core p events since changes backs flight h
+      paid s p events since changes backs flight h = absurd h
 
   -- ---- the values that wait in the words
 
+  -- what stands in a cell that holds a value
+  item_is : IsCoding en → (kd : QueueKind) (words : List ℕ) (cell : ℕ) (v : Val T kd) → cell + (encoded en kd).size ≤ length words
+      → ((i : ℕ) → i < (encoded en kd).size → get_or words (cell + i) 0 ≡ get_or ((encoded en kd).words_of v) i 0) → item_at en kd words cell ≡ item kd v
+  item_is law IndexQueue words cell v long held = (let same : cell + 0 ≡ cell = omega arith in ap Index (ap (λ n. get_or words n 0) (sym same) ∙ held 0 (omega arith)))
+  item_is law kinds.TheVariants.Overflow words cell v long held = (let same : cell + 0 ≡ cell = omega arith in ap Index (ap (λ n. get_or words n 0) (sym same) ∙ held 0 (omega arith)))
+  item_is law kinds.TheVariants.Queue words cell v long held =
+      let size = law.sized v in
+      let behind = length-drop cell words in
+      let same : take en.size (drop cell words) ≡ en.words_of v =
+      subst (λ n. take n (drop cell words) ≡ en.words_of v) size
+      (same_words (drop cell words) (en.words_of v) (omega arith) (λ i below. get_or-drop cell words i 0 ∙ held i (omega arith)))
+      in
+      ap Value (ap en.value_of same ∙ law.given_back v)
+
   stored_is :
-      (n : ℕ) (words : List ℕ) (position : ℕ) (xs : List ℕ) → ((i v : ℕ) → slice_get xs i ≡ Some v → get_or words (cell_word n 1 (position + i)) 0 ≡ v)
-      → stored {T = T} n words position (length xs) ≡ map Index xs
-  stored_is n words position [] held = refl
-  stored_is n words position (x ∷ xs) held =
-      let first : get_or words (cell_word n 1 position) 0 ≡ x =
+      IsCoding en → (kd : QueueKind) (c : ℕ) (words : List ℕ) (position : ℕ) (xs : List (Val T kd))
+      → ((i : ℕ) (v : Val T kd) → slice_get xs i ≡ Some v → item_at en kd words (cell_of en kd c (position + i)) ≡ item kd v)
+      → stored en kd c words position (length xs) ≡ map (item kd) xs
+  stored_is law kd c words position [] held = refl
+  stored_is law kd c words position (x ∷ xs) held =
+      let first : item_at en kd words (cell_of en kd c position) ≡ item kd x =
       (let same : position + 0 ≡ position = omega arith in rw same at (held 0 x refl))
       in
-      let rest = stored_is n words (position + 1) xs (λ i v e. let same : position + 1 + i ≡ position + suc i = omega arith in rw same (held (suc i) v e)) in
+      let rest = stored_is law kd c words (position + 1) xs (λ i v e. let same : position + 1 + i ≡ position + suc i = omega arith in rw same (held (suc i) v e)) in
       rw (first, rest) refl
 
-  -- of a queue with so many cells
-  stored_waiting : (n : ℕ) (ro : Roles) (k : Core ℕ) → Good 1 words_of_index n k → waiting_in {T = T} n (layout ro k) ≡ map Index k.waiting
-  stored_waiting n ro k g =
+  cell_size : (kd : QueueKind) → words_of_cell en.size kd ≡ (encoded en kd).size
+  cell_size IndexQueue = refl
+  cell_size kinds.TheVariants.Overflow = refl
+  cell_size kinds.TheVariants.Queue = refl
+
+  stored_waiting : IsCoding en → (kd : QueueKind) (c : ℕ) (ro : Roles) (k : Core (Val T kd)) → Good (encoded en kd).size (encoded en kd).words_of (cells_of kd c) k → waiting_in en kd c (layout ro k) ≡ map (item kd) k.waiting
+  stored_waiting law kd c ro k g =
       let write = g.write in
       let many : k.write - k.read ≡ length k.waiting = omega arith in
       rw many
-      (stored_is n (layout ro k) k.read k.waiting held)
+      (stored_is law kd c (layout ro k) k.read k.waiting held)
     where
-      held : (i v : ℕ) → slice_get k.waiting i ≡ Some v → get_or (layout ro k) (cell_word n 1 (k.read + i)) 0 ≡ v
-      held i v e =
-          let below = at_below 1 words_of_index n k.waiting i v e in
-          let few = g.few in
-          let place = cell_place n (k.read + i) (omega arith) in
-          word_at k.write k.read (free ro.producer) (free ro.consumer) k.cells (cell_word n 1 (k.read + i)) (1 * ((k.read + i) % n) + 0) place
-          ∙ g.held i v e 0 (omega arith)
+      n : ℕ
+      n = cells_of kd c
 
-  listed_is : (kd : Kind) (c : ℕ) (k : Core ℕ) → Good 1 words_of_index (cells_of kd c) k → listed {T = T} kd c k.waiting ≡ take c (map Index k.waiting)
+      size : ℕ
+      size = (encoded en kd).size
+
+      held : (i : ℕ) (v : Val T kd) → slice_get k.waiting i ≡ Some v → item_at en kd (layout ro k) (cell_of en kd c (k.read + i)) ≡ item kd v
+      held i v e =
+          let below = at_below size (encoded en kd).words_of n k.waiting i v e in
+          let few = g.few in
+          let some : 0 < n = omega arith in
+          let first : cell_of en kd c (k.read + i) ≡ 4 + size * ((k.read + i) % n) = ap (λ m. cell_word n m (k.read + i)) (cell_size kd) ∙ cell_place size n (k.read + i) some in
+          let low : (k.read + i) % n < n = omega arith in
+          let step : size * ((k.read + i) % n + 1) ≤ size * n = mul-le-mul_left size (omega arith) in
+          let all = g.cells in
+          let word : (j : ℕ) → j < size → get_or (layout ro k) (4 + size * ((k.read + i) % n) + j) 0 ≡ get_or ((encoded en kd).words_of v) j 0 =
+          λ j js.
+          word_at k.write k.read (free ro.producer) (free ro.consumer) k.cells (4 + size * ((k.read + i) % n) + j) (size * ((k.read + i) % n) + j) (omega arith)
+          ∙ g.held i v e j js
+          in
+          subst (λ m. item_at en kd (layout ro k) m ≡ item kd v) (sym first)
+          (item_is law kd (layout ro k) (4 + size * ((k.read + i) % n)) v (omega arith) word)
+
+  listed_is : (kd : QueueKind) (c : ℕ) (k : Core (Val T kd)) → Good (encoded en kd).size (encoded en kd).words_of (cells_of kd c) k → listed {T = T} kd c k.waiting ≡ take c (map (item kd) k.waiting)
   listed_is IndexQueue c k g =
       let few = g.few in
-      let long : length (map {B = Item T} Index k.waiting) ≡ length k.waiting = length-map k.waiting Index in
-      sym (take_all c (map {B = Item T} Index k.waiting) (omega arith))
-  listed_is kinds.TheVariants.Overflow c k g = sym (take-map Index c k.waiting)
+      let long : length (map {B = Item T} (item IndexQueue) k.waiting) ≡ length k.waiting = length-map k.waiting (item {T = T} IndexQueue) in
+      sym (take_all c (map {B = Item T} (item IndexQueue) k.waiting) (omega arith))
+  listed_is kinds.TheVariants.Queue c k g =
+      let few = g.few in
+      let long : length (map {B = Item T} (item kinds.TheVariants.Queue) k.waiting) ≡ length k.waiting = length-map k.waiting (item {T = T} kinds.TheVariants.Queue) in
+      sym (take_all c (map {B = Item T} (item kinds.TheVariants.Queue) k.waiting) (omega arith))
+  listed_is kinds.TheVariants.Overflow c k g = sym (take-map (item {T = T} kinds.TheVariants.Overflow) c k.waiting)
 
   -- ---- what is promised
 
-  queue_kept : (kd : Kind) (c : ℕ) (t : Trace T) → t.world.kind ≡ kd → t.world.capacity ≡ c → (s : frame.Sound (family kd c) t) → IsQueue t
-  queue_kept kd c t same_kind same_capacity s =
+  queue_kept : IsCoding en → (kd : QueueKind) (c : ℕ) (t : Trace T) → t.world.coding ≡ en → t.world.capacity ≡ c → (s : frame.Sound (family en kd c) t) → IsQueue kd t
+  queue_kept law kd c t same_coding same_capacity s =
       let w = t.world in
       let k = s.state.core in
       let is = kept_is w.kept w.words s.state s.fit in
-      let good : Good 1 words_of_index (cells_of w.kind w.capacity) k = rw (same_kind, same_capacity) s.holds.good in
-      let cells = cells_of w.kind w.capacity in
-      let rest : waiting_in {T = T} cells w.words ≡ map Index k.waiting = ap (waiting_in cells) is.1 ∙ stored_waiting cells s.state.roles k good in
-      let long : length (map {B = Item T} Index k.waiting) ≡ length k.waiting = length-map k.waiting Index in
+      let good = s.holds.good in
+      let rest : waiting_in en kd c w.words ≡ map (item kd) k.waiting = ap (waiting_in en kd c) is.1 ∙ stored_waiting law kd c s.state.roles k good in
+      let long : length (map {B = Item T} (item kd) k.waiting) ≡ length k.waiting = length-map k.waiting (item {T = T} kd) in
       let few = good.few in
       let read : get_or w.words 1 0 ≡ k.read = ap (λ ws. get_or ws 1 0) is.1 in
       let write : get_or w.words 0 0 ≡ k.write = ap (λ ws. get_or ws 0 0) is.1 in
       let ahead = good.write in
       let joined : length (published t.events) ≡ length (handed_out t.events) + length k.waiting =
-      ap length s.holds.book ∙ (length-append (handed_out t.events) (map Index k.waiting) ∙ ap (λ n. length (handed_out t.events) + n) long)
+      ap length s.holds.book ∙ (length-append (handed_out t.events) (map (item kd) k.waiting) ∙ ap (λ n. length (handed_out t.events) + n) long)
       in
       let out = s.holds.out in
       record {
         list =
-            rw (same_kind, same_capacity)
-            (s.holds.stand ∙ (listed_is kd c k s.holds.good ∙ ap (take c) (sym (waiting_is t.events (map Index k.waiting) s.holds.book))));
-        moments = rw (same_kind, same_capacity) s.holds.legal;
-        book = record { read = read ∙ out; write = write ∙ (omega arith); rest = rw rest s.holds.book; few = rw rest (omega arith) };
+            rw same_capacity
+            (s.holds.stand ∙ (listed_is kd c k s.holds.good ∙ ap (take c) (sym (waiting_is t.events (map (item kd) k.waiting) s.holds.book))));
+        moments = rw same_capacity s.holds.legal;
+        book = record { read = read ∙ out; write = write ∙ (omega arith); rest = rw (same_coding, same_capacity, rest) s.holds.book; few = rw (same_coding, same_capacity, rest) (omega arith) };
         answers = rw same_capacity s.holds.answers;
         lengths = rw same_capacity s.holds.lengths;
         roles = s.holds.grants;
         holders = subst (λ kept. KeepsHolders kept t.events) (sym is.0) (sym s.holds.producers, sym s.holds.consumers);
       }
 
-  promised : (kind : Kind) (t : Trace T) → IsQueue t → Promised kind t
-  promised IndexQueue t h = h
-  promised kinds.TheVariants.Overflow t h = h
+promise_is : {T : Type 0} (kd : QueueKind) → promise_of {T = T} (machine_kind kd) ≡ promise kd
+promise_is IndexQueue = refl
+promise_is kinds.TheVariants.Overflow = refl
+promise_is kinds.TheVariants.Queue = refl
 
-  pub kept : (t : Trace T) → frame.Sound (family t.world.kind t.world.capacity) t → IsKept t
-  kept t s =
+module _ {T : Type 0} where
+  kept_by : (kd : QueueKind) (t : Trace T) → IsCoding t.world.coding → (s : frame.Sound (family t.world.coding kd t.world.capacity) t) → IsKeptBy (promise kd) t
+  kept_by kd t law s =
       let w = t.world in
       record {
         spans = s.inv.spans;
-        progress = λ p. frame.progresses (family w.kind w.capacity) (bounds w.kind w.capacity) s.state p t.events w.changes (party_of p w.latest) (span_of p t.events) (s.inv.calls p) (s.inv.knows p);
-        promised = promised w.kind t (queue_kept w.kind w.capacity t refl refl s);
+        progress = λ p. frame.progresses (family w.coding kd w.capacity) (bounds w.coding kd w.capacity) s.state p t.events w.changes (party_of p w.latest) (span_of p t.events) (s.inv.calls p) (s.inv.knows p);
+        promised = queue_kept w.coding law kd w.capacity t refl refl s;
       }
 
-  pub reached_kept : (t : Trace T) → IsReached t → IsKept t
-  reached_kept t r = kept t (reached_sound t r)
+  pub kept : (kd : QueueKind) (t : Trace T) → t.world.kind ≡ machine_kind kd → IsReached t → IsKept t
+  kept kd t is r =
+      subst (λ P. IsKeptBy P t) (sym (ap (promise_of {T = T}) is ∙ promise_is kd))
+      (kept_by kd t r.coded (reached_sound kd t is r))
+
+  -- a promise of the kind is the queue's
+  pub promised_by : (kd : QueueKind) (t : Trace T) → t.world.kind ≡ machine_kind kd → promise_of {T = T} t.world.kind ≡ promise kd
+  promised_by kd t is = ap (promise_of {T = T}) is ∙ promise_is kd

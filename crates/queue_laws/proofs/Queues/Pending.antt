@@ -2,15 +2,16 @@
 use Rattle.std.proofs.Common.{◌≡◌, ◌≢◌, ℕ, ◌≤◌, ⊎_elim, Option, Some, None, option_map, List, length, refl, sym, ap, subst, ◌∙◌, arith}
 use Rattle.std.proofs.lemmas.Bool.{cases_eq}
 use Rattle.model.specs.declared.party.Party.{Party}
-use Rattle.model.specs.declared.turn.Kind.{Kind}
-use Rattle.model.specs.declared.turn.Kind as kinds
-use Rattle.model.specs.Families.Queues.Calls.{words_of_index}
+use Rattle.model.specs.declared.families.queues.QueueKind.{QueueKind}
+use Rattle.model.specs.declared.families.queues.QueueKind as kinds
+use Rattle.model.specs.Coding.{Coding}
 use Rattle.model.specs.Families.Queues.Opening.{cells_of}
 use Rattle.model.specs.Families.Queues.Steps.{pending_at, pending}
 use Rattle.model.specs.Parties.{party_of, put, doing_of, flight_of}
 use Rattle.model.proofs.Parties.{party_put_same, party_put_other}
 use Rattle.queue_laws.proofs.Queues.Core.{Core, Good}
 use Rattle.queue_laws.proofs.Queues.Knows.{Hangs}
+use Rattle.queue_laws.proofs.Queues.Values.{Val, encoded}
 
 module _ {T : Type 0} where
   -- a party whose call is no such push, before and after it moved
@@ -34,28 +35,32 @@ module _ {T : Type 0} where
   pub pending_here : (position p : ℕ) (y : Party T) (latest : List (ℕ × Party T)) → pending position (Some p) (put p y latest) ≡ option_map (λ v. (p, v)) (pending_at position (flight_of (Some y.doing)))
   pending_here position p y latest = ap (λ o. option_map (λ (v : ℕ). (p, v)) (pending_at position (flight_of (doing_of o)))) (party_put_same p y latest)
 
-pub hangs_same : (kd : Kind) (c : ℕ) (k k' : Core ℕ) (o o' : Option (ℕ × ℕ)) → k'.waiting ≡ k.waiting → o' ≡ o → Hangs kd c k o → Hangs kd c k' o'
-hangs_same kinds.TheVariants.IndexQueue c k k' o o' same e h = tt
-hangs_same kinds.TheVariants.Overflow c k k' o o' same e h = subst (Hangs kinds.TheVariants.Overflow c k') (sym e) (go o h)
+pub hangs_same : (T : Type 0) (kd : QueueKind) (c : ℕ) (k k' : Core (Val T kd)) (o o' : Option (ℕ × ℕ)) → k'.waiting ≡ k.waiting → o' ≡ o → Hangs T kd c k o → Hangs T kd c k' o'
+hangs_same T kinds.TheVariants.IndexQueue c k k' o o' same e h = tt
+hangs_same T kinds.TheVariants.Queue c k k' o o' same e h = tt
+hangs_same T kinds.TheVariants.Overflow c k k' o o' same e h = subst (Hangs T kinds.TheVariants.Overflow c k') (sym e) (go o h)
   where
-    go : (o : Option (ℕ × ℕ)) → Hangs kinds.TheVariants.Overflow c k o → Hangs kinds.TheVariants.Overflow c k' o
+    go : (o : Option (ℕ × ℕ)) → Hangs T kinds.TheVariants.Overflow c k o → Hangs T kinds.TheVariants.Overflow c k' o
     go None h = rw same h
     go (Some push) h = (h.0, h.1, same ∙ h.2, h.3)
 
 -- where no push is pending
-pub few_wait : (kd : Kind) (c : ℕ) (k : Core ℕ) (o : Option (ℕ × ℕ)) → o ≡ None → Good 1 words_of_index (cells_of kd c) k → Hangs kd c k o → length k.waiting ≤ c
-few_wait kinds.TheVariants.IndexQueue c k o e g h = g.few
-few_wait kinds.TheVariants.Overflow c k o e g h = subst (Hangs kinds.TheVariants.Overflow c k) e h
+pub few_wait : {T : Type 0} → (en : Coding T) (kd : QueueKind) (c : ℕ) (k : Core (Val T kd)) (o : Option (ℕ × ℕ)) → o ≡ None → Good (encoded en kd).size (encoded en kd).words_of (cells_of kd c) k → Hangs T kd c k o → length k.waiting ≤ c
+few_wait {T = T} en kinds.TheVariants.IndexQueue c k o e g h = g.few
+few_wait {T = T} en kinds.TheVariants.Queue c k o e g h = g.few
+few_wait {T = T} en kinds.TheVariants.Overflow c k o e g h = subst (Hangs T kinds.TheVariants.Overflow c k) e h
 
-pub none_hangs : (kd : Kind) (c : ℕ) (k : Core ℕ) (o : Option (ℕ × ℕ)) → o ≡ None → length k.waiting ≤ c → Hangs kd c k o
-none_hangs kinds.TheVariants.IndexQueue c k o e few = tt
-none_hangs kinds.TheVariants.Overflow c k o e few = subst (Hangs kinds.TheVariants.Overflow c k) (sym e) few
+pub none_hangs : (T : Type 0) (kd : QueueKind) (c : ℕ) (k : Core (Val T kd)) (o : Option (ℕ × ℕ)) → o ≡ None → length k.waiting ≤ c → Hangs T kd c k o
+none_hangs T kinds.TheVariants.IndexQueue c k o e few = tt
+none_hangs T kinds.TheVariants.Queue c k o e few = tt
+none_hangs T kinds.TheVariants.Overflow c k o e few = subst (Hangs T kinds.TheVariants.Overflow c k) (sym e) few
 
 -- without capacity nothing waits
-pub nothing_waits : (kd : Kind) (c : ℕ) (k : Core ℕ) (o : Option (ℕ × ℕ)) → c ≡ 0 → Good 1 words_of_index (cells_of kd c) k → Hangs kd c k o → length k.waiting ≡ 0
-nothing_waits kinds.TheVariants.IndexQueue c k o e g h = let few = g.few in omega arith
-nothing_waits kinds.TheVariants.Overflow c k o e g h = go o h
+pub nothing_waits : {T : Type 0} → (en : Coding T) (kd : QueueKind) (c : ℕ) (k : Core (Val T kd)) (o : Option (ℕ × ℕ)) → c ≡ 0 → Good (encoded en kd).size (encoded en kd).words_of (cells_of kd c) k → Hangs T kd c k o → length k.waiting ≡ 0
+nothing_waits {T = T} en kinds.TheVariants.IndexQueue c k o e g h = let few = g.few in omega arith
+nothing_waits {T = T} en kinds.TheVariants.Queue c k o e g h = let few = g.few in omega arith
+nothing_waits {T = T} en kinds.TheVariants.Overflow c k o e g h = go o h
   where
-    go : (o : Option (ℕ × ℕ)) → Hangs kinds.TheVariants.Overflow c k o → length k.waiting ≡ 0
+    go : (o : Option (ℕ × ℕ)) → Hangs T kinds.TheVariants.Overflow c k o → length k.waiting ≡ 0
     go None h = omega arith
     go (Some push) h = let some = h.0 in absurd (omega arith)

@@ -6,7 +6,8 @@ use Rattle.steps.specs.declared.ask.After.TheVariants.{Done}
 use Rattle.model.specs.declared.event.Answer.{Answer}
 use Rattle.model.specs.declared.event.Answer as answers
 use Rattle.model.specs.declared.families.queues.QueueStart.TheVariants.{AcquireProducer, ReleaseProducer, AcquireConsumer, ReleaseConsumer}
-use Rattle.model.specs.declared.turn.Kind.{Kind}
+use Rattle.model.specs.declared.families.queues.QueueKind.{QueueKind}
+use Rattle.model.specs.Coding.{Coding}
 use Rattle.model.specs.Families.Queues.Calls.{acquire_of, release_of, producer_word, consumer_word}
 use Rattle.model.specs.Families.Queues.Steps.{pending}
 use Rattle.model.specs.Parties.{put}
@@ -22,110 +23,110 @@ abbrev gives : ℕ → Option Ask
 gives word = Some (record { word = word; op = Store 1 })
 
 -- the scene with other holders of the roles
-abbrev with_roles : {T : Type 0} → Scene T → Option ℕ → Option ℕ → Scene T
+abbrev with_roles : {T : Type 0} → {kd : QueueKind} → Scene T kd → Option ℕ → Option ℕ → Scene T kd
 with_roles scene pr co = record scene { roles = record { producer = pr; consumer = co } }
 
-module _ {T : Type 0} (kd : Kind) (scene : Scene T) (small : scene.turns < 2 ^ 64 - 2) (s : scene.steps ≤ 0) (b : scene.backs ≡ 0) where
+module _ {T : Type 0} (en : Coding T) (kd : QueueKind) (scene : Scene T kd) (small : scene.turns < 2 ^ 64 - 2) (s : scene.steps ≤ 0) (b : scene.backs ≡ 0) where
   open scene use {capacity as c, core as k}
 
   abbrev IsQuiet : Option ℕ → Option ℕ → Type 0
-  IsQuiet pr co = IsCalm kd (with_roles scene pr co) k.read
+  IsQuiet pr co = IsCalm en kd (with_roles scene pr co) k.read
 
-  acquire_producer : (pr co : Option ℕ) → Inv kd (with_roles scene pr co) → IsQuiet pr co → StepOf kd (with_roles scene pr co) AcquireProducer (acquire_of producer_word)
+  acquire_producer : (pr co : Option ℕ) → Inv en kd (with_roles scene pr co) → IsQuiet pr co → StepOf en kd (with_roles scene pr co) AcquireProducer (acquire_of producer_word)
   acquire_producer None co inv before = (
     k,
     refl,
-    ends kd (with_roles scene None co) inv small (record { producer = Some scene.party; consumer = co }) 0 AcquireProducer (answers.TheVariants.Truth true) (takes producer_word)
+    ends en kd (with_roles scene None co) inv small (record { producer = Some scene.party; consumer = co }) false AcquireProducer (answers.TheVariants.Truth true) (takes producer_word)
         (record { moments = refl; published = refl; handed_out = refl })
         tt
         (rw inv.queue.producers refl)
         (refl, refl)
         (omega arith)
         (omega arith)
-        (none_hangs kd c k (pending k.read (Some scene.party) (put scene.party (party_then kd (with_roles scene None co) AcquireProducer (takes producer_word) 0 (Done (answers.TheVariants.Truth true))) scene.latest)) (pending_here k.read scene.party (party_then kd (with_roles scene None co) AcquireProducer (takes producer_word) 0 (Done (answers.TheVariants.Truth true))) scene.latest) (few_wait kd c k (pending k.read None scene.latest) refl inv.queue.good inv.queue.hangs))
-        (λ q ne. kept c (record { producer = None; consumer = co }) (record { producer = Some scene.party; consumer = co }) k k q (λ h. cc) (λ h. h) kd (keeps_same T kd c (record { producer = None; consumer = co }) k q)),
+        (none_hangs T kd c k (pending k.read (Some scene.party) (put scene.party (party_then en kd (with_roles scene None co) AcquireProducer (takes producer_word) false (Done (answers.TheVariants.Truth true))) scene.latest)) (pending_here k.read scene.party (party_then en kd (with_roles scene None co) AcquireProducer (takes producer_word) false (Done (answers.TheVariants.Truth true))) scene.latest) (few_wait en kd c k (pending k.read None scene.latest) refl inv.queue.good inv.queue.hangs))
+        (λ q ne. kept (record { producer = None; consumer = co }) (record { producer = Some scene.party; consumer = co }) q (λ h. cc) (λ h. h) en c kd k k (keeps_same en kd c (record { producer = None; consumer = co }) k q)),
   )
   acquire_producer (Some r) co inv before = (
     k,
     refl,
-    ends kd (with_roles scene (Some r) co) inv small (record { producer = Some r; consumer = co }) 0 AcquireProducer (answers.TheVariants.Truth false) (takes producer_word)
+    ends en kd (with_roles scene (Some r) co) inv small (record { producer = Some r; consumer = co }) false AcquireProducer (answers.TheVariants.Truth false) (takes producer_word)
         (record { moments = refl; published = refl; handed_out = refl })
         tt
         (rw inv.queue.producers refl)
         (refl, refl)
         (omega arith)
         (omega arith)
-        (still_hangs kd (with_roles scene (Some r) co) inv small k (party_then kd (with_roles scene (Some r) co) AcquireProducer (takes producer_word) 0 (Done (answers.TheVariants.Truth false))) refl refl refl before)
+        (still_hangs en kd (with_roles scene (Some r) co) inv small k (party_then en kd (with_roles scene (Some r) co) AcquireProducer (takes producer_word) false (Done (answers.TheVariants.Truth false))) refl refl refl before)
         (λ q ne st f h. (h, refl)),
   )
 
-  acquire_consumer : (pr co : Option ℕ) → Inv kd (with_roles scene pr co) → IsQuiet pr co → StepOf kd (with_roles scene pr co) AcquireConsumer (acquire_of consumer_word)
+  acquire_consumer : (pr co : Option ℕ) → Inv en kd (with_roles scene pr co) → IsQuiet pr co → StepOf en kd (with_roles scene pr co) AcquireConsumer (acquire_of consumer_word)
   acquire_consumer pr None inv before = (
     k,
     refl,
-    ends kd (with_roles scene pr None) inv small (record { producer = pr; consumer = Some scene.party }) 0 AcquireConsumer (answers.TheVariants.Truth true) (takes consumer_word)
+    ends en kd (with_roles scene pr None) inv small (record { producer = pr; consumer = Some scene.party }) false AcquireConsumer (answers.TheVariants.Truth true) (takes consumer_word)
         (record { moments = refl; published = refl; handed_out = refl })
         tt
         (rw inv.queue.consumers refl)
         (refl, refl)
         (omega arith)
         (omega arith)
-        (still_hangs kd (with_roles scene pr None) inv small k (party_then kd (with_roles scene pr None) AcquireConsumer (takes consumer_word) 0 (Done (answers.TheVariants.Truth true))) refl refl refl before)
-        (λ q ne. kept c (record { producer = pr; consumer = None }) (record { producer = pr; consumer = Some scene.party }) k k q (λ h. h) (λ h. cc) kd (keeps_same T kd c (record { producer = pr; consumer = None }) k q)),
+        (still_hangs en kd (with_roles scene pr None) inv small k (party_then en kd (with_roles scene pr None) AcquireConsumer (takes consumer_word) false (Done (answers.TheVariants.Truth true))) refl refl refl before)
+        (λ q ne. kept (record { producer = pr; consumer = None }) (record { producer = pr; consumer = Some scene.party }) q (λ h. h) (λ h. cc) en c kd k k (keeps_same en kd c (record { producer = pr; consumer = None }) k q)),
   )
   acquire_consumer pr (Some r) inv before = (
     k,
     refl,
-    ends kd (with_roles scene pr (Some r)) inv small (record { producer = pr; consumer = Some r }) 0 AcquireConsumer (answers.TheVariants.Truth false) (takes consumer_word)
+    ends en kd (with_roles scene pr (Some r)) inv small (record { producer = pr; consumer = Some r }) false AcquireConsumer (answers.TheVariants.Truth false) (takes consumer_word)
         (record { moments = refl; published = refl; handed_out = refl })
         tt
         (rw inv.queue.consumers refl)
         (refl, refl)
         (omega arith)
         (omega arith)
-        (still_hangs kd (with_roles scene pr (Some r)) inv small k (party_then kd (with_roles scene pr (Some r)) AcquireConsumer (takes consumer_word) 0 (Done (answers.TheVariants.Truth false))) refl refl refl before)
+        (still_hangs en kd (with_roles scene pr (Some r)) inv small k (party_then en kd (with_roles scene pr (Some r)) AcquireConsumer (takes consumer_word) false (Done (answers.TheVariants.Truth false))) refl refl refl before)
         (λ q ne st f h. (h, refl)),
   )
 
-  release_producer : (pr co : Option ℕ) → pr ≡ Some scene.party → Inv kd (with_roles scene pr co) → IsQuiet pr co → StepOf kd (with_roles scene pr co) ReleaseProducer (release_of producer_word)
+  release_producer : (pr co : Option ℕ) → pr ≡ Some scene.party → Inv en kd (with_roles scene pr co) → IsQuiet pr co → StepOf en kd (with_roles scene pr co) ReleaseProducer (release_of producer_word)
   release_producer pr co holds inv before = (
     k,
     refl,
-    ends kd (with_roles scene pr co) inv small (record { producer = None; consumer = co }) 0 ReleaseProducer answers.TheVariants.Done (gives producer_word)
+    ends en kd (with_roles scene pr co) inv small (record { producer = None; consumer = co }) false ReleaseProducer answers.TheVariants.Done (gives producer_word)
         (record { moments = refl; published = refl; handed_out = refl })
         tt
         (refl, inv.queue.producers ∙ holds)
         (refl, refl)
         (omega arith)
         (omega arith)
-        (none_hangs kd c k None refl (few_wait kd c k (pending k.read pr scene.latest) (subst (λ o. pending k.read o scene.latest ≡ None) (sym holds) (ap (option_map (λ (v : ℕ). (scene.party, v))) before)) inv.queue.good inv.queue.hangs))
-        (λ q ne. kept c (record { producer = pr; consumer = co }) (record { producer = None; consumer = co }) k k q (λ h. absurd (clash pr scene.party q ne holds h)) (λ h. h) kd (keeps_same T kd c (record { producer = pr; consumer = co }) k q)),
+        (none_hangs T kd c k None refl (few_wait en kd c k (pending k.read pr scene.latest) (subst (λ o. pending k.read o scene.latest ≡ None) (sym holds) (ap (option_map (λ (v : ℕ). (scene.party, v))) before)) inv.queue.good inv.queue.hangs))
+        (λ q ne. kept (record { producer = pr; consumer = co }) (record { producer = None; consumer = co }) q (λ h. absurd (clash pr scene.party q ne holds h)) (λ h. h) en c kd k k (keeps_same en kd c (record { producer = pr; consumer = co }) k q)),
   )
 
-  release_consumer : (pr co : Option ℕ) → co ≡ Some scene.party → Inv kd (with_roles scene pr co) → IsQuiet pr co → StepOf kd (with_roles scene pr co) ReleaseConsumer (release_of consumer_word)
+  release_consumer : (pr co : Option ℕ) → co ≡ Some scene.party → Inv en kd (with_roles scene pr co) → IsQuiet pr co → StepOf en kd (with_roles scene pr co) ReleaseConsumer (release_of consumer_word)
   release_consumer pr co holds inv before = (
     k,
     refl,
-    ends kd (with_roles scene pr co) inv small (record { producer = pr; consumer = None }) 0 ReleaseConsumer answers.TheVariants.Done (gives consumer_word)
+    ends en kd (with_roles scene pr co) inv small (record { producer = pr; consumer = None }) false ReleaseConsumer answers.TheVariants.Done (gives consumer_word)
         (record { moments = refl; published = refl; handed_out = refl })
         tt
         (refl, inv.queue.consumers ∙ holds)
         (refl, refl)
         (omega arith)
         (omega arith)
-        (still_hangs kd (with_roles scene pr co) inv small k (party_then kd (with_roles scene pr co) ReleaseConsumer (gives consumer_word) 0 (Done answers.TheVariants.Done)) refl refl refl before)
-        (λ q ne. kept c (record { producer = pr; consumer = co }) (record { producer = pr; consumer = None }) k k q (λ h. h) (λ h. absurd (clash co scene.party q ne holds h)) kd (keeps_same T kd c (record { producer = pr; consumer = co }) k q)),
+        (still_hangs en kd (with_roles scene pr co) inv small k (party_then en kd (with_roles scene pr co) ReleaseConsumer (gives consumer_word) false (Done answers.TheVariants.Done)) refl refl refl before)
+        (λ q ne. kept (record { producer = pr; consumer = co }) (record { producer = pr; consumer = None }) q (λ h. h) (λ h. absurd (clash co scene.party q ne holds h)) en c kd k k (keeps_same en kd c (record { producer = pr; consumer = co }) k q)),
   )
 
   -- with the holders as they are
-  pub acquires_producer : Inv kd scene → IsCalm kd scene k.read → StepOf kd scene AcquireProducer (acquire_of producer_word)
+  pub acquires_producer : Inv en kd scene → IsCalm en kd scene k.read → StepOf en kd scene AcquireProducer (acquire_of producer_word)
   acquires_producer inv before = acquire_producer scene.roles.producer scene.roles.consumer inv before
 
-  pub acquires_consumer : Inv kd scene → IsCalm kd scene k.read → StepOf kd scene AcquireConsumer (acquire_of consumer_word)
+  pub acquires_consumer : Inv en kd scene → IsCalm en kd scene k.read → StepOf en kd scene AcquireConsumer (acquire_of consumer_word)
   acquires_consumer inv before = acquire_consumer scene.roles.producer scene.roles.consumer inv before
 
-  pub releases_producer : scene.roles.producer ≡ Some scene.party → Inv kd scene → IsCalm kd scene k.read → StepOf kd scene ReleaseProducer (release_of producer_word)
+  pub releases_producer : scene.roles.producer ≡ Some scene.party → Inv en kd scene → IsCalm en kd scene k.read → StepOf en kd scene ReleaseProducer (release_of producer_word)
   releases_producer holds inv before = release_producer scene.roles.producer scene.roles.consumer holds inv before
 
-  pub releases_consumer : scene.roles.consumer ≡ Some scene.party → Inv kd scene → IsCalm kd scene k.read → StepOf kd scene ReleaseConsumer (release_of consumer_word)
+  pub releases_consumer : scene.roles.consumer ≡ Some scene.party → Inv en kd scene → IsCalm en kd scene k.read → StepOf en kd scene ReleaseConsumer (release_of consumer_word)
   releases_consumer holds inv before = release_consumer scene.roles.producer scene.roles.consumer holds inv before

@@ -1,42 +1,58 @@
 -- What was published, what was handed out, and what waits.
-use Rattle.std.specs.Prelude.{◌≡◌, ℕ, zero, suc, ◌+◌, ◌-◌, ◌≤◌, false, List, [], ◌∷◌, ◌++◌, length, slice_index}
+use Rattle.std.specs.Prelude.{◌≡◌, ℕ, zero, suc, ◌+◌, ◌-◌, ◌≤◌, false, List, [], ◌∷◌, ◌++◌, length, take, drop, slice_index}
 use Rattle.steps.specs.Queues.Ring.{cell_word}
 use Rattle.model.specs.declared.event.Item.{Item}
-use Rattle.model.specs.declared.event.Item.TheVariants.{Index}
+use Rattle.model.specs.declared.event.Item.TheVariants.{Index, Value}
 use Rattle.model.specs.declared.event.Start.TheVariants.{Queues}
 use Rattle.model.specs.declared.event.Answer.TheVariants.{Truth, PoppedNone}
 use Rattle.model.specs.declared.event.Event.{Event}
 use Rattle.model.specs.declared.event.Event.TheVariants.{Acted}
 use Rattle.model.specs.declared.families.queues.QueueStart.TheVariants.{PushIndex, Push, Pop}
+use Rattle.model.specs.declared.families.queues.QueueKind.{QueueKind}
+use Rattle.model.specs.declared.families.queues.QueueKind.TheVariants.{IndexQueue, Overflow, Queue}
+use Rattle.model.specs.Coding.{Coding}
 use Rattle.model.specs.Families.Queues.Calls.{write_word, read_word}
-use Rattle.model.specs.Families.Queues.Opening.{cells_of}
+use Rattle.model.specs.Families.Queues.Opening.{cells_of, words_of_cell}
 use Rattle.model.specs.Families.Queues.Reading.{published, handed_out, waiting}
 use Rattle.model.specs.World.{Trace}
 
-module _ {T : Type 0} where
-  -- the values that stand in so many cells, from this position on
-  abbrev pub stored : ℕ → List ℕ → ℕ → ℕ → List (Item T)
-  stored cells words position zero = []
-  stored cells words position (suc count) =
-      Index (slice_index words (cell_word cells 1 position))
-      ∷ stored cells words (position + 1) count
+module _ {T : Type 0} (code : Coding T) where
+  -- the value in a cell, which begins at this word
+  abbrev pub item_at : QueueKind → List ℕ → ℕ → Item T
+  item_at IndexQueue words cell = Index (slice_index words cell)
+  item_at Overflow words cell = Index (slice_index words cell)
+  item_at Queue words cell =
+      Value (code.value_of (take code.size (drop cell words)))
 
-  -- of a queue with so many cells the values between the read position and the write position
-  abbrev pub waiting_in : ℕ → List ℕ → List (Item T)
-  waiting_in cells words =
-      stored cells words (slice_index words read_word)
+  -- the first word of a position's cell, in a queue of this capacity
+  abbrev pub cell_of : QueueKind → ℕ → ℕ → ℕ
+  cell_of kind capacity position =
+      cell_word (cells_of kind capacity) (words_of_cell code.size kind) position
+
+  -- the values that stand in so many cells, from this position on
+  abbrev pub stored : QueueKind → ℕ → List ℕ → ℕ → ℕ → List (Item T)
+  stored kind capacity words position zero = []
+  stored kind capacity words position (suc count) =
+      item_at kind words (cell_of kind capacity position)
+      ∷ stored kind capacity words (position + 1) count
+
+  -- those between the read position and the write position
+  abbrev pub waiting_in : QueueKind → ℕ → List ℕ → List (Item T)
+  waiting_in kind capacity words =
+      stored kind capacity words (slice_index words read_word)
       (slice_index words write_word - slice_index words read_word)
 
   -- The positions count what was handed out and what was published. What was handed out is a
   -- beginning of what was published, and the rest waits in the words, at most a value a cell.
-  pub record IsBook (t : Trace T) : Type 0 where
+  pub record IsBook (kind : QueueKind) (t : Trace T) : Type 0 where
     pub read : slice_index t.world.words read_word ≡ length (handed_out t.events)
     pub write : slice_index t.world.words write_word ≡ length (published t.events)
     pub rest : published t.events
-        ≡ handed_out t.events ++ waiting_in (cells_of t.world.kind t.world.capacity) t.world.words
-    pub few : length (waiting_in (cells_of t.world.kind t.world.capacity) t.world.words)
-        ≤ cells_of t.world.kind t.world.capacity
+        ≡ handed_out t.events ++ waiting_in kind t.world.capacity t.world.words
+    pub few : length (waiting_in kind t.world.capacity t.world.words)
+        ≤ cells_of kind t.world.capacity
 
+module _ {T : Type 0} where
   -- a push answers false only where capacity values wait, and a pop None only where nothing waits
   abbrev pub AnswersRight : ℕ → List (Event T) → Event T → Type 0
   AnswersRight capacity before (Acted p (Queues (PushIndex index)) (Truth false)) =

@@ -2,26 +2,29 @@
 use Rattle.std.specs.Prelude.{ℕ, ◌+◌, ◌*◌}
 use Rattle.model.specs.declared.families.queues.QueueStart.{QueueStart}
 use Rattle.model.specs.declared.families.queues.QueueStart.TheVariants.{AcquireProducer, ReleaseProducer, AcquireConsumer, ReleaseConsumer, PushIndex, Push, Pop, Len, IsEmpty, IsFull}
-use Rattle.model.specs.declared.turn.Kind.{Kind}
-use Rattle.model.specs.declared.turn.Kind.TheVariants.{IndexQueue, Overflow}
+use Rattle.model.specs.declared.families.queues.QueueKind.{QueueKind}
+use Rattle.model.specs.declared.families.queues.QueueKind.TheVariants.{IndexQueue, Overflow, Queue}
 
-abbrev pub most_push_steps : Kind → ℕ
-most_push_steps IndexQueue = 4
-most_push_steps Overflow = 6
+-- where a value of the machine's own type has so many words
+abbrev pub most_push_steps : ℕ → QueueKind → ℕ
+most_push_steps size IndexQueue = 4
+most_push_steps size Overflow = 6
+most_push_steps size Queue = 3 + size
 
-abbrev pub most_pop_steps : Kind → ℕ → ℕ
-most_pop_steps IndexQueue backs = 4
-most_pop_steps Overflow backs = 4 + 2 * backs
+abbrev pub most_pop_steps : ℕ → QueueKind → ℕ → ℕ
+most_pop_steps size IndexQueue backs = 4
+most_pop_steps size Overflow backs = 4 + 2 * backs
+most_pop_steps size Queue backs = 3 + size
 
 -- how many steps the call takes at most, where it has begun a loop's turn again so often
-abbrev pub most_steps : {T : Type 0} → Kind → QueueStart T → ℕ → ℕ
-most_steps kind AcquireProducer backs = 1
-most_steps kind ReleaseProducer backs = 1
-most_steps kind AcquireConsumer backs = 1
-most_steps kind ReleaseConsumer backs = 1
-most_steps kind (PushIndex index) backs = most_push_steps kind
-most_steps kind (Push value) backs = most_push_steps kind
-most_steps kind Pop backs = most_pop_steps kind backs
-most_steps kind Len backs = 4 * (backs + 1)
-most_steps kind IsEmpty backs = 4 * (backs + 1)
-most_steps kind IsFull backs = 4 * (backs + 1)
+abbrev pub most_steps : {T : Type 0} → ℕ → QueueKind → QueueStart T → ℕ → ℕ
+most_steps size kind AcquireProducer backs = 1
+most_steps size kind ReleaseProducer backs = 1
+most_steps size kind AcquireConsumer backs = 1
+most_steps size kind ReleaseConsumer backs = 1
+most_steps size kind (PushIndex index) backs = most_push_steps size kind
+most_steps size kind (Push value) backs = most_push_steps size kind
+most_steps size kind Pop backs = most_pop_steps size kind backs
+most_steps size kind Len backs = 4 * (backs + 1)
+most_steps size kind IsEmpty backs = 4 * (backs + 1)
+most_steps size kind IsFull backs = 4 * (backs + 1)

@@ -7,8 +7,8 @@ use Rattle.model.specs.declared.event.Start.TheVariants.{Queues}
 use Rattle.model.specs.declared.event.Answer.{Answer}
 use Rattle.model.specs.declared.event.Answer as answers
 use Rattle.model.specs.declared.families.queues.QueueStart.TheVariants.{PushIndex, Push, Pop}
-use Rattle.model.specs.declared.turn.Kind.{Kind}
-use Rattle.model.specs.declared.turn.Kind.TheVariants.{IndexQueue, Overflow}
+use Rattle.model.specs.declared.families.queues.QueueKind.{QueueKind}
+use Rattle.model.specs.declared.families.queues.QueueKind.TheVariants.{IndexQueue, Overflow, Queue}
 use Rattle.model.specs.Objects.{Object}
 
 module _ {T : Type 0} where
@@ -76,6 +76,7 @@ module _ {T : Type 0} where
       record { opening = []; after = overflow_after capacity; answer = overflow_answer capacity }
 
   -- the list that the calls of a kind answer as
-  abbrev pub list_of : Kind → ℕ → Object T (List (Item T))
+  abbrev pub list_of : QueueKind → ℕ → Object T (List (Item T))
   list_of IndexQueue capacity = bounded_list capacity
   list_of Overflow capacity = overflowing_list capacity
+  list_of Queue capacity = bounded_list capacity

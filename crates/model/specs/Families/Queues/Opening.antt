@@ -1,30 +1,70 @@
 -- The words of a queue at its opening, and who may begin which call.
-use Rattle.std.specs.Prelude.{ℕ, ◌+◌, ◌==◌, Bool, false, not, Option, Some, None, List, [], ◌∷◌, replicate}
+use Rattle.std.specs.Prelude.{ℕ, ◌+◌, ◌*◌, ◌-◌, ◌^◌, ◌==◌, Bool, true, false, not, Option, Some, None, option_map, List, [], ◌∷◌, replicate}
+use Rattle.model.specs.declared.families.Flight.{Flight}
+use Rattle.model.specs.declared.families.Flight as flights
+use Rattle.model.specs.declared.families.Kept.{Kept}
+use Rattle.model.specs.declared.families.Kept as kepts
 use Rattle.model.specs.declared.families.queues.QueueStart.{QueueStart}
 use Rattle.model.specs.declared.families.queues.QueueStart.TheVariants.{AcquireProducer, ReleaseProducer, AcquireConsumer, ReleaseConsumer, PushIndex, Push, Pop, Len, IsEmpty, IsFull}
 use Rattle.model.specs.declared.families.queues.Roles.{Roles}
+use Rattle.model.specs.declared.families.queues.calls.QueueFlight.{QueueFlight}
 use Rattle.model.specs.declared.turn.Kind.{Kind}
-use Rattle.model.specs.declared.turn.Kind as kinds
+use Rattle.model.specs.declared.turn.Kind as any_kinds
+use Rattle.model.specs.declared.families.queues.QueueKind.{QueueKind}
+use Rattle.model.specs.declared.families.queues.QueueKind as kinds
 use Rattle.model.specs.declared.turn.Refusal.{Refusal}
-use Rattle.model.specs.declared.turn.Refusal.TheVariants.{NoRole}
+use Rattle.model.specs.declared.turn.Refusal.TheVariants.{WrongCall, NoRole}
+use Rattle.model.specs.Families.Queues.Calls.{first}
+use Rattle.model.specs.Opening.{Opening}
+use Rattle.model.specs.Step.{Beginning}
 
 -- the cells of a queue: an overflowing one has one more than its capacity
-abbrev pub cells_of : Kind → ℕ → ℕ
+abbrev pub cells_of : QueueKind → ℕ → ℕ
 cells_of kinds.TheVariants.IndexQueue capacity = capacity
 cells_of kinds.TheVariants.Overflow capacity = capacity + 1
+cells_of kinds.TheVariants.Queue capacity = capacity
+
+-- the words of a cell, where a value of the machine's own type has so many
+abbrev pub words_of_cell : ℕ → QueueKind → ℕ
+words_of_cell size kinds.TheVariants.IndexQueue = 1
+words_of_cell size kinds.TheVariants.Overflow = 1
+words_of_cell size kinds.TheVariants.Queue = size
 
 -- write position, read position, both roles free, and the cells
-abbrev pub opening_words : Kind → ℕ → List ℕ
-opening_words kind capacity = 0 ∷ 0 ∷ 1 ∷ 1 ∷ replicate (cells_of kind capacity) 0
+abbrev pub opening_words : ℕ → QueueKind → ℕ → List ℕ
+opening_words size kind capacity =
+    0 ∷ 0 ∷ 1 ∷ 1 ∷ replicate (words_of_cell size kind * cells_of kind capacity) 0
 
-abbrev pub opening_roles : Roles
-opening_roles = record { producer = None; consumer = None }
+-- nobody holds a role; the capacity is a number of 32 bits
+abbrev pub opening : QueueKind → Opening
+opening kind =
+    record {
+      least = 0;
+      greatest = 2 ^ 32 - 1;
+      words = λ size capacity. opening_words size kind capacity;
+      kept = kepts.TheVariants.Queues (record { producer = None; consumer = None });
+    }
 
 abbrev pub holds : Option ℕ → ℕ → Bool
 holds None p = false
 holds (Some q) p = q == p
 
+-- which queue a machine of a kind has, if any
+abbrev pub queue_kind : Kind → Option QueueKind
+queue_kind any_kinds.TheVariants.IndexQueue = Some kinds.TheVariants.IndexQueue
+queue_kind any_kinds.TheVariants.Overflow = Some kinds.TheVariants.Overflow
+queue_kind any_kinds.TheVariants.Queue = Some kinds.TheVariants.Queue
+queue_kind kind = None
+
 module _ {T : Type 0} where
+  abbrev first_in : Option QueueKind → ℕ → QueueStart T → Option (QueueFlight T)
+  first_in None capacity start = None
+  first_in (Some kind) capacity start = first kind capacity start
+
+  -- the call that begins on a machine of this kind
+  abbrev pub call_of : Kind → ℕ → QueueStart T → Option (QueueFlight T)
+  call_of kind capacity start = first_in (queue_kind kind) capacity start
+
   -- the call asks for a role that the party does not hold
   abbrev pub lacks_role : Roles → ℕ → QueueStart T → Bool
   lacks_role roles p AcquireProducer = false
@@ -41,3 +81,14 @@ module _ {T : Type 0} where
   -- what is tested of a party that is to begin a call
   abbrev pub call_rows : Roles → ℕ → QueueStart T → List (Bool × Refusal)
   call_rows roles p start = (lacks_role roles p start, NoRole) ∷ []
+
+  abbrev pub kept_rows : QueueStart T → Kept → ℕ → List (Bool × Refusal)
+  kept_rows start (kepts.TheVariants.Queues roles) p = call_rows roles p start
+  kept_rows start kept p = (true, WrongCall) ∷ []
+
+  abbrev pub begin : Kind → ℕ → QueueStart T → Beginning (Flight T) Kept
+  begin kind capacity start =
+      record {
+        call = option_map flights.TheVariants.Queues (call_of kind capacity start);
+        rows = kept_rows start;
+      }

@@ -1,22 +1,27 @@
 -- What holds of the machine of a queue, after any turns.
-use Rattle.std.specs.Prelude.{◌≡◌, ℕ, zero, suc, false, Option, Some, None, [], length, take}
+use Rattle.std.specs.Prelude.{◌≡◌, ℕ, zero, suc, false, Option, Some, None, List, [], length, take}
 use Rattle.steps.specs.declared.ask.Ask.{Ask}
 use Rattle.steps.specs.declared.ask.Op.TheVariants.{Load}
+use Rattle.model.specs.declared.event.Start.{Start}
 use Rattle.model.specs.declared.event.Start.TheVariants.{Queues}
 use Rattle.model.specs.declared.event.Answer.TheVariants.{Truth, PoppedNone}
 use Rattle.model.specs.declared.event.Event.{Event}
-use Rattle.model.specs.declared.event.Event.TheVariants.{Acted}
+use Rattle.model.specs.declared.event.Answer.{Answer}
+use Rattle.model.specs.declared.event.Event.TheVariants.{Published, HandedOut, Acted}
 use Rattle.model.specs.declared.families.queues.QueueStart.TheVariants.{PushIndex, Push, Pop}
-use Rattle.model.specs.declared.turn.Kind.{Kind}
-use Rattle.model.specs.declared.turn.Kind.TheVariants.{IndexQueue, Overflow}
+use Rattle.model.specs.declared.families.queues.QueueKind.{QueueKind}
+use Rattle.model.specs.declared.families.queues.QueueKind.TheVariants.{IndexQueue, Overflow, Queue}
 use Rattle.model.specs.Families.Queues.Book.{IsBook, AnswersRight}
 use Rattle.model.specs.Families.Queues.Calls.{write_word, read_word}
 use Rattle.model.specs.Families.Queues.Lengths.{TellsLength}
 use Rattle.model.specs.Families.Queues.Objects.{list_of}
 use Rattle.model.specs.Families.Queues.Reading.{waiting}
 use Rattle.model.specs.Families.Queues.Roles.{GrantsRight, KeepsHolders}
+use Rattle.model.specs.Families.Queues.Bounds.{most_steps}
+use Rattle.model.specs.Families.Queues.Spans.{Wrote, MayPublish, MayHandOut}
 use Rattle.model.specs.Objects.{IsLegal, standing}
-use Rattle.model.specs.Reading.{Each, moments}
+use Rattle.model.specs.Promise.{Promise}
+use Rattle.model.specs.Reading.{Each, moments, Span}
 use Rattle.model.specs.World.{Trace}
 
 abbrev pub load_of_write : Ask
@@ -27,19 +32,20 @@ load_of_read = record { word = read_word; op = Load }
 
 -- where a pop finds that nothing waits: at its load of write, but an
 -- overflowing queue without capacity needs no word
-abbrev pub finding_none : Kind → ℕ → Option Ask
+abbrev pub finding_none : QueueKind → ℕ → Option Ask
 finding_none IndexQueue capacity = Some load_of_write
 finding_none Overflow zero = None
 finding_none Overflow (suc less) = Some load_of_write
+finding_none Queue capacity = Some load_of_write
 
 module _ {T : Type 0} where
   -- The list of the moments is those that wait, without the newest
   -- while there is one more than the capacity.
-  pub record IsQueue (t : Trace T) : Type 0 where
-    pub list : standing (list_of t.world.kind t.world.capacity) (moments t.events)
+  pub record IsQueue (kind : QueueKind) (t : Trace T) : Type 0 where
+    pub list : standing (list_of kind t.world.capacity) (moments t.events)
         ≡ take t.world.capacity (waiting t.events)
-    pub moments : IsLegal (list_of t.world.kind t.world.capacity) (moments t.events)
-    pub book : IsBook t
+    pub moments : IsLegal (list_of kind t.world.capacity) (moments t.events)
+    pub book : IsBook t.world.coding kind t
     pub answers : Each (AnswersRight t.world.capacity) t.events
     pub lengths : Each (TellsLength t.world.capacity) t.events
     pub roles : Each GrantsRight t.events
@@ -48,12 +54,37 @@ module _ {T : Type 0} where
   -- In a turn that asks for this operation, a push answers false only where capacity
   -- values wait as it loads read, and a pop None only where nothing waits as it loads
   -- write, or where it loads none, without capacity. Each does so in a turn of its own party.
-  abbrev pub ActsRight : Trace T → Option Ask → (ℕ → Type 0) → Event T → Type 0
-  ActsRight old ask IsTurnOf (Acted p (Queues (PushIndex index)) (Truth false)) =
+  abbrev pub ActsRight : QueueKind → Trace T → Option Ask → (ℕ → Type 0) → Event T → Type 0
+  ActsRight kind old ask IsTurnOf (Acted p (Queues (PushIndex index)) (Truth false)) =
       IsTurnOf p × (ask ≡ Some load_of_read) × (length (waiting old.events) ≡ old.world.capacity)
-  ActsRight old ask IsTurnOf (Acted p (Queues (Push value)) (Truth false)) =
+  ActsRight kind old ask IsTurnOf (Acted p (Queues (Push value)) (Truth false)) =
       IsTurnOf p × (ask ≡ Some load_of_read) × (length (waiting old.events) ≡ old.world.capacity)
-  ActsRight old ask IsTurnOf (Acted p (Queues Pop) PoppedNone) =
-      IsTurnOf p × (ask ≡ finding_none old.world.kind old.world.capacity)
+  ActsRight kind old ask IsTurnOf (Acted p (Queues Pop) PoppedNone) =
+      IsTurnOf p × (ask ≡ finding_none kind old.world.capacity)
       × (waiting old.events ≡ [])
-  ActsRight old ask IsTurnOf e = Unit {0}
+  ActsRight kind old ask IsTurnOf e = Unit {0}
+
+  -- ---- the promise
+
+  abbrev pub may_stand : QueueKind → Event T → Span T → Type 0
+  may_stand kind (Published p item) span = MayPublish item span
+  may_stand kind (HandedOut p item) span = MayHandOut kind span
+  may_stand kind e span = ⊥
+
+  abbrev pub wrote : QueueKind → ℕ → Start T → Answer T → List (Event T) → Type 0
+  wrote kind capacity (Queues start) answer events = Wrote kind capacity start answer events
+  wrote kind capacity start answer events = ⊥
+
+  abbrev pub most : QueueKind → ℕ → Start T → ℕ → ℕ
+  most kind size (Queues start) backs = most_steps size kind start backs
+  most kind size start backs = 0
+
+  abbrev pub promise : QueueKind → Promise T
+  promise kind =
+      record {
+        may_stand = may_stand kind;
+        wrote = wrote kind;
+        most_steps = most kind;
+        acts_right = ActsRight kind;
+        holds = IsQueue kind;
+      }

@@ -26,3 +26,4 @@ module _ {T : Type 0} where
   abbrev pub KeepsHolders : Kept → List (Event T) → Type 0
   KeepsHolders (kepts.TheVariants.Queues roles) events =
       (roles.producer ≡ producer_of events) × (roles.consumer ≡ consumer_of events)
+  KeepsHolders kept events = ⊥

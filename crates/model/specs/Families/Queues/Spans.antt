@@ -9,8 +9,8 @@ use Rattle.model.specs.declared.event.Answer.TheVariants.{Truth, PoppedIndex, Po
 use Rattle.model.specs.declared.event.Event.{Event}
 use Rattle.model.specs.declared.families.queues.QueueStart.{QueueStart}
 use Rattle.model.specs.declared.families.queues.QueueStart.TheVariants.{PushIndex, Push, Pop}
-use Rattle.model.specs.declared.turn.Kind.{Kind}
-use Rattle.model.specs.declared.turn.Kind.TheVariants.{IndexQueue, Overflow}
+use Rattle.model.specs.declared.families.queues.QueueKind.{QueueKind}
+use Rattle.model.specs.declared.families.queues.QueueKind.TheVariants.{IndexQueue, Overflow, Queue}
 use Rattle.model.specs.Families.Queues.Reading.{published, handed_out}
 use Rattle.model.specs.Reading.{moments, Span}
 use Rattle.model.specs.Shape.{IsOpen, IsOpenFor}
@@ -25,18 +25,21 @@ module _ {T : Type 0} where
 
   -- a value that goes through the cells; an overflowing
   -- queue without capacity hands it back at once
-  abbrev pub through_cells : Kind → ℕ → Item T → List (Item T)
+  abbrev pub through_cells : QueueKind → ℕ → Item T → List (Item T)
   through_cells IndexQueue capacity item = item ∷ []
   through_cells Overflow zero item = []
   through_cells Overflow (suc less) item = item ∷ []
+  through_cells Queue capacity item = item ∷ []
 
   -- the values that a push published: one that was taken; in an overflowing queue each
-  abbrev pub published_by_push : Kind → ℕ → Item T → Answer T → List (Item T)
+  abbrev pub published_by_push : QueueKind → ℕ → Item T → Answer T → List (Item T)
   published_by_push IndexQueue capacity item (Truth true) = item ∷ []
   published_by_push IndexQueue capacity item answer = []
   published_by_push Overflow capacity item answer = through_cells Overflow capacity item
+  published_by_push Queue capacity item (Truth true) = item ∷ []
+  published_by_push Queue capacity item answer = []
 
-  abbrev pub published_by : Kind → ℕ → QueueStart T → Answer T → List (Item T)
+  abbrev pub published_by : QueueKind → ℕ → QueueStart T → Answer T → List (Item T)
   published_by kind capacity (PushIndex index) answer =
       published_by_push kind capacity (Index index) answer
   published_by kind capacity (Push value) answer =
@@ -44,13 +47,13 @@ module _ {T : Type 0} where
   published_by kind capacity start answer = []
 
   -- the values that it handed out
-  abbrev pub handed_out_by : Kind → ℕ → Answer T → List (Item T)
+  abbrev pub handed_out_by : QueueKind → ℕ → Answer T → List (Item T)
   handed_out_by kind capacity (PoppedIndex index) = through_cells kind capacity (Index index)
   handed_out_by kind capacity (Popped value) = through_cells kind capacity (Value value)
   handed_out_by kind capacity answer = []
 
   -- what a finished call has written in its span
-  pub record Wrote (kind : Kind) (capacity : ℕ) (start : QueueStart T) (answer : Answer T)
+  pub record Wrote (kind : QueueKind) (capacity : ℕ) (start : QueueStart T) (answer : Answer T)
       (wrote : List (Event T)) : Type 0 where
     pub moments : moments wrote ≡ moments_of start answer
     pub published : published wrote ≡ published_by kind capacity start answer
@@ -67,10 +70,11 @@ module _ {T : Type 0} where
   MayPublish item span = IsOpenFor (push_of item) (λ wrote. published wrote ≡ []) span
 
   -- the calls that hand values out: in an overflowing queue pushes too
-  abbrev pub HandsOut : Kind → Start T → Type 0
+  abbrev pub HandsOut : QueueKind → Start T → Type 0
   HandsOut IndexQueue call = call ≡ Queues Pop
   HandsOut Overflow call = (call ≡ Queues Pop) ⊎ (item : Item T) × (call ≡ push_of item)
+  HandsOut Queue call = call ≡ Queues Pop
 
   -- they do so once
-  abbrev pub MayHandOut : Kind → Span T → Type 0
+  abbrev pub MayHandOut : QueueKind → Span T → Type 0
   MayHandOut kind span = IsOpen (HandsOut kind) (λ wrote. handed_out wrote ≡ []) span

@@ -7,7 +7,7 @@ use Rattle.steps.specs.declared.queues.ring.PopStage as pops
 use Rattle.steps.specs.declared.queues.overflow.PushStage as overflow_pushes
 use Rattle.steps.specs.declared.queues.overflow.PopStage as overflow_pops
 use Rattle.model.specs.declared.event.Item.{Item}
-use Rattle.model.specs.declared.event.Item.TheVariants.{Index}
+use Rattle.model.specs.declared.event.Item.TheVariants.{Index, Value}
 use Rattle.model.specs.declared.event.Start.TheVariants.{Queues}
 use Rattle.model.specs.declared.event.Answer.{Answer}
 use Rattle.model.specs.declared.event.Answer.TheVariants.{Truth, PoppedNone, PoppedIndex}
@@ -21,11 +21,12 @@ use Rattle.model.specs.declared.families.queues.Roles.{Roles}
 use Rattle.model.specs.declared.families.queues.calls.RingCall as rings
 use Rattle.model.specs.declared.families.queues.calls.OverflowCall as overflows
 use Rattle.model.specs.declared.families.queues.calls.QueueFlight.{QueueFlight}
-use Rattle.model.specs.declared.families.queues.calls.QueueFlight.TheVariants.{Role, Indices, Overflow, Length}
+use Rattle.model.specs.declared.families.queues.calls.QueueFlight.TheVariants.{Role, Indices, Values, Overflow, Length}
 use Rattle.model.specs.declared.families.queues.effects.Effect.{Effect}
 use Rattle.model.specs.declared.families.queues.effects.Effect.TheVariants.{Quiet, Acts, Publishes, PublishesAndActs, HandsOut, TakesOut, MakesRoom}
 use Rattle.model.specs.declared.party.Party.{Party}
-use Rattle.model.specs.Families.Queues.Calls.{read_word, after, back}
+use Rattle.model.specs.Coding.{Coding}
+use Rattle.model.specs.Families.Queues.Calls.{read_word, read_in, after, goes_back}
 use Rattle.model.specs.Families.Queues.Opening.{holds}
 use Rattle.model.specs.Parties.{party_of, doing_of, flight_of}
 use Rattle.model.specs.Step.{Step, answer_in}
@@ -37,13 +38,13 @@ pending_from position value (overflow_pushes.TheVariants.MovesRead read) =
     if read == position then Some value else None
 pending_from position value other = None
 
-abbrev pub pending_at : ℕ → Option Flight → Option ℕ
-pending_at position
-    (Some (flights.TheVariants.Queues (Overflow (overflows.TheVariants.Push run)))) =
-    pending_from position run.given run.call.stage
-pending_at position other = None
-
 module _ {T : Type 0} where
+  abbrev pub pending_at : ℕ → Option (Flight T) → Option ℕ
+  pending_at position
+      (Some (flights.TheVariants.Queues (Overflow (overflows.TheVariants.Push run)))) =
+      pending_from position run.given run.call.stage
+  pending_at position other = None
+
   -- its party and its value; only the holder of the producer's role pushes
   abbrev pub pending : ℕ → Option ℕ → List (ℕ × Party T) → Option (ℕ × ℕ)
   pending position None latest = None
@@ -110,17 +111,21 @@ module _ {T : Type 0} where
       then takes_effect (Index (slice_index words (cell_word capacity read))) push
       else Quiet
 
-  abbrev pub effect_of : List ℕ → Option (ℕ × ℕ) → QueueFlight → ℕ → Effect T
-  effect_of words push (Role call) old = Quiet
-  effect_of words push (Indices (rings.TheVariants.Push run)) old =
+  abbrev pub effect_of : Coding T → List ℕ → Option (ℕ × ℕ) → QueueFlight T → ℕ → Effect T
+  effect_of code words push (Role call) old = Quiet
+  effect_of code words push (Indices (rings.TheVariants.Push run)) old =
       push_effect (Index run.given) run.call.stage
-  effect_of words push (Indices (rings.TheVariants.Pop run)) old =
+  effect_of code words push (Indices (rings.TheVariants.Pop run)) old =
       pop_effect (Index run.room.0) run.call.stage
-  effect_of words push (Overflow (overflows.TheVariants.Push run)) old =
+  effect_of code words push (Values (rings.TheVariants.Push run)) old =
+      push_effect (Value run.given) run.call.stage
+  effect_of code words push (Values (rings.TheVariants.Pop run)) old =
+      pop_effect (Value (read_in code run.room)) run.call.stage
+  effect_of code words push (Overflow (overflows.TheVariants.Push run)) old =
       overflow_push_effect words run.call.capacity (Index run.given) run.call.stage old
-  effect_of words push (Overflow (overflows.TheVariants.Pop run)) old =
+  effect_of code words push (Overflow (overflows.TheVariants.Pop run)) old =
       overflow_pop_effect words push run.call.capacity run.call.stage old
-  effect_of words push (Length which run) old = Quiet
+  effect_of code words push (Length which run) old = Quiet
 
   -- ---- the events, where this is the answer of a call that is done
 
@@ -153,13 +158,13 @@ module _ {T : Type 0} where
 
   -- ---- all that a step comes to
 
-  abbrev pub step : List ℕ → Option (ℕ × ℕ) → ℕ → QueueStart T → QueueFlight → ℕ → Roles
-      → Step QueueFlight Roles T
-  step words waits p start flight old roles =
+  abbrev pub step : Coding T → List ℕ → Option (ℕ × ℕ) → ℕ → QueueStart T → QueueFlight T → ℕ
+      → Roles → Step (QueueFlight T) Roles T
+  step code words waits p start flight old roles =
       record {
-        after = after flight old;
-        back = back flight old;
-        wrote = effects_of p start (effect_of words waits flight old)
-            (answer_in (after {T = T} flight old));
-        kept = roles_after p start (answer_in (after flight old)) roles;
+        after = after code flight old;
+        back = goes_back flight old;
+        wrote = effects_of p start (effect_of code words waits flight old)
+            (answer_in (after code flight old));
+        kept = roles_after p start (answer_in (after code flight old)) roles;
       }

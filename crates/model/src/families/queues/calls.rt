@@ -1,18 +1,19 @@
 //! The calls of the queues under way: what each wants, and how it goes on.
 ghost use Rattle.std.specs.Prelude.{◌≡◌};
 ghost use Rattle.steps.specs.Ask.{CameTo};
-ghost use Rattle.model.specs.Families.Queues.Calls.{acquire_of, release_of, push_of, pop_of, length_of, first, want, after, back, popped, length_answer};
+ghost use Rattle.model.specs.Families.Queues.Calls.{acquire_of, release_of, push_index_of, push_value_of, pop_of, length_of, first, want, after, goes_back, popped, popped_value, length_answer};
 
-use super::QueueStart;
+use super::{QueueKind, QueueStart};
+use crate::coding::Coded;
 use crate::event::Answer;
-use crate::turn::Kind;
 use steps::ask::Want;
-use steps::copied::OneWord;
+use steps::copied::{Copied, OneWord};
 use steps::queues::lengths::Len;
 use steps::queues::overflow;
 use steps::queues::ring::{CONSUMER, PRODUCER, Pop, Push};
 use steps::queues::roles::{AcquireRole, ReleaseRole};
 use steps::routine::Running;
+use steps::words::Words;
 
 /// A call on a role.
 #[derive(Drop)]
@@ -45,15 +46,17 @@ pub enum LengthOf {
 
 /// A call of a queue under way.
 #[derive(Drop)]
-pub enum QueueFlight {
+pub enum QueueFlight<T> {
     Role(RoleCall),
     Indices(RingCall<u64, OneWord>),
+    /// On a queue of the machine's own values.
+    Values(RingCall<T, Copied>),
     Overflow(OverflowCall),
     Length(LengthOf, Running<Len, (), ()>),
 }
 
 /// An acquiring of the role with this word.
-fn acquire_of(word: usize) -> QueueFlight
+fn acquire_of<T>(word: usize) -> QueueFlight<T>
     ensures { result ≡ acquire_of word }
 {
     QueueFlight::Role(RoleCall::Acquire(Running {
@@ -64,7 +67,7 @@ fn acquire_of(word: usize) -> QueueFlight
 }
 
 /// A giving back of the role with this word.
-fn release_of(word: usize) -> QueueFlight
+fn release_of<T>(word: usize) -> QueueFlight<T>
     ensures { result ≡ release_of word }
 {
     QueueFlight::Role(RoleCall::Release(Running {
@@ -74,42 +77,63 @@ fn release_of(word: usize) -> QueueFlight
     }))
 }
 
-/// A push of this index.
-fn push_of(kind: Kind, capacity: u32, index: u64) -> QueueFlight
-    ensures { result ≡ push_of kind capacity index }
+/// A push of this index, which the queues of indices have.
+fn push_index_of<T: Words>(kind: QueueKind, capacity: u32, index: u64) -> Option<QueueFlight<T>>
+    ensures { result ≡ push_index_of kind capacity index }
 {
     match kind {
-        Kind::IndexQueue => QueueFlight::Indices(RingCall::Push(Running {
+        QueueKind::IndexQueue => Some(QueueFlight::Indices(RingCall::Push(Running {
             call: Push::new(capacity),
             given: index,
             room: (),
-        })),
-        Kind::Overflow => QueueFlight::Overflow(OverflowCall::Push(Running {
+        }))),
+        QueueKind::Overflow => Some(QueueFlight::Overflow(OverflowCall::Push(Running {
             call: overflow::Push::new(capacity),
             given: index,
             room: OneWord(0),
-        })),
+        }))),
+        QueueKind::Queue => None,
     }
 }
 
-fn pop_of(kind: Kind, capacity: u32) -> QueueFlight
+/// A push of this value, which the queue of values has.
+fn push_value_of<T: Words>(kind: QueueKind, capacity: u32, value: T) -> Option<QueueFlight<T>>
+    ensures { result ≡ push_value_of kind capacity value }
+{
+    match kind {
+        QueueKind::IndexQueue => None,
+        QueueKind::Overflow => None,
+        QueueKind::Queue => Some(QueueFlight::Values(RingCall::Push(Running {
+            call: Push::new(capacity),
+            given: value,
+            room: (),
+        }))),
+    }
+}
+
+fn pop_of<T: Words>(kind: QueueKind, capacity: u32) -> QueueFlight<T>
     ensures { result ≡ pop_of kind capacity }
 {
     match kind {
-        Kind::IndexQueue => QueueFlight::Indices(RingCall::Pop(Running {
+        QueueKind::IndexQueue => QueueFlight::Indices(RingCall::Pop(Running {
             call: Pop::new(capacity),
             given: (),
             room: OneWord(0),
         })),
-        Kind::Overflow => QueueFlight::Overflow(OverflowCall::Pop(Running {
+        QueueKind::Overflow => QueueFlight::Overflow(OverflowCall::Pop(Running {
             call: overflow::Pop::new(capacity),
             given: (),
             room: OneWord(0),
         })),
+        QueueKind::Queue => QueueFlight::Values(RingCall::Pop(Running {
+            call: Pop::new(capacity),
+            given: (),
+            room: Copied { words: [0; 128] },
+        })),
     }
 }
 
-fn length_of(which: LengthOf, capacity: u32) -> QueueFlight
+fn length_of<T>(which: LengthOf, capacity: u32) -> QueueFlight<T>
     ensures { result ≡ length_of which capacity }
 {
     QueueFlight::Length(
@@ -123,7 +147,11 @@ fn length_of(which: LengthOf, capacity: u32) -> QueueFlight
 }
 
 /// The call that begins, or None where the kind has no such call.
-pub fn first<T: Copy>(kind: Kind, capacity: u32, start: &QueueStart<T>) -> Option<QueueFlight>
+pub fn first<T: Words>(
+    kind: QueueKind,
+    capacity: u32,
+    start: &QueueStart<T>,
+) -> Option<QueueFlight<T>>
     ensures { result ≡ first kind capacity start.now }
 {
     match *start {
@@ -131,8 +159,8 @@ pub fn first<T: Copy>(kind: Kind, capacity: u32, start: &QueueStart<T>) -> Optio
         QueueStart::ReleaseProducer => Some(release_of(PRODUCER)),
         QueueStart::AcquireConsumer => Some(acquire_of(CONSUMER)),
         QueueStart::ReleaseConsumer => Some(release_of(CONSUMER)),
-        QueueStart::PushIndex(index) => Some(push_of(kind, capacity, index)),
-        QueueStart::Push(_) => None,
+        QueueStart::PushIndex(index) => push_index_of(kind, capacity, index),
+        QueueStart::Push(value) => push_value_of(kind, capacity, value),
         QueueStart::Pop => Some(pop_of(kind, capacity)),
         QueueStart::Len => Some(length_of(LengthOf::Len, capacity)),
         QueueStart::IsEmpty => Some(length_of(LengthOf::IsEmpty, capacity)),
@@ -149,6 +177,15 @@ fn popped<T: Copy>(answer: Option<u64>) -> Answer<T>
     }
 }
 
+fn popped_value<T: Copy>(answer: Option<T>) -> Answer<T>
+    ensures { result ≡ popped_value answer }
+{
+    match answer {
+        Some(value) => Answer::Popped(value),
+        None => Answer::PoppedNone,
+    }
+}
+
 /// The answer where this number of values wait in a queue of this capacity.
 fn length_answer<T: Copy>(which: LengthOf, capacity: u32, number: u64) -> Answer<T>
     ensures { result ≡ length_answer which capacity number }
@@ -160,40 +197,41 @@ fn length_answer<T: Copy>(which: LengthOf, capacity: u32, number: u64) -> Answer
     }
 }
 
-impl QueueFlight {
+impl<T: Words> QueueFlight<T> {
     /// What the call wants next.
     pub fn want(&self) -> Want<()>
-        ensures { result ≡ want self.now }
+        ensures { result ≡ want ⟦<T as Coded>⟧.coding self.now }
     {
         match self {
             QueueFlight::Role(RoleCall::Acquire(run)) => run.want(),
             QueueFlight::Role(RoleCall::Release(run)) => run.want(),
             QueueFlight::Indices(RingCall::Push(run)) => run.want(),
             QueueFlight::Indices(RingCall::Pop(run)) => run.want(),
+            QueueFlight::Values(RingCall::Push(run)) => run.want(),
+            QueueFlight::Values(RingCall::Pop(run)) => run.want(),
             QueueFlight::Overflow(OverflowCall::Push(run)) => run.want(),
             QueueFlight::Overflow(OverflowCall::Pop(run)) => run.want(),
             QueueFlight::Length(_, run) => run.want(),
         }
     }
 
-    /// 1 where the call begins a turn of its loop again once it is handed this answer, else 0.
-    pub fn back(&self, answer: u64) -> u64
-        ensures { result ≡ back self.now answer }
+    /// Whether the call begins a turn of its loop again once it is handed this answer.
+    pub fn goes_back(&self, answer: u64) -> bool
+        ensures { result ≡ goes_back self.now answer }
     {
         match self {
-            QueueFlight::Role(_) => 0,
-            QueueFlight::Indices(_) => 0,
-            QueueFlight::Overflow(OverflowCall::Push(_)) => 0,
-            QueueFlight::Overflow(OverflowCall::Pop(run)) => {
-                if run.call.goes_back(answer) { 1 } else { 0 }
-            }
-            QueueFlight::Length(_, run) => { if run.call.turns_back(answer) { 1 } else { 0 } }
+            QueueFlight::Role(_) => false,
+            QueueFlight::Indices(_) => false,
+            QueueFlight::Values(_) => false,
+            QueueFlight::Overflow(OverflowCall::Push(_)) => false,
+            QueueFlight::Overflow(OverflowCall::Pop(run)) => run.call.goes_back(answer),
+            QueueFlight::Length(_, run) => run.call.turns_back(answer),
         }
     }
 
     /// Lets the call go on from an answer, where it lies: its own answer, where it is done.
-    pub fn resume<T: Copy>(&mut self, answer: u64) -> Option<Answer<T>>
-        ensures { CameTo result self.new (after self.old answer) }
+    pub fn resume(&mut self, answer: u64) -> Option<Answer<T>>
+        ensures { CameTo result self.new (after ⟦<T as Coded>⟧.coding self.old answer) }
     {
         match self {
             QueueFlight::Role(RoleCall::Acquire(run)) => {
@@ -211,6 +249,14 @@ impl QueueFlight {
             QueueFlight::Indices(RingCall::Pop(run)) => {
                 let value = run.go_on(answer)?;
                 Some(popped(value))
+            }
+            QueueFlight::Values(RingCall::Push(run)) => {
+                let pushed = run.go_on(answer)?;
+                Some(Answer::Truth(pushed))
+            }
+            QueueFlight::Values(RingCall::Pop(run)) => {
+                let value = run.go_on(answer)?;
+                Some(popped_value(value))
             }
             QueueFlight::Overflow(OverflowCall::Push(run)) => {
                 let oldest = run.go_on(answer)?;

@@ -6,13 +6,16 @@ ghost use Rattle.model.specs.Families.Queues.Steps.{pending_at, pending, beside,
 use super::calls::{OverflowCall, QueueFlight, RingCall};
 use super::opening::holds;
 use super::{QueueStart, Roles};
+use crate::coding::Coded;
 use crate::event::{Answer, Event, Item, Start};
 use crate::families::{Flight, Went};
 use crate::party::{Latest, flight_of};
 use crate::words::word_at;
+use steps::copied::Room;
 use steps::queues::overflow::cell_word;
 use steps::queues::ring::READ;
 use steps::queues::{overflow, ring};
+use steps::words::Words;
 
 /// The most events that a step writes, apart from the end of its call.
 pub const MOST_EFFECTS: usize = 3;
@@ -37,7 +40,7 @@ pub enum Effect<T> {
 }
 
 /// The value of the push that has published over a full queue, and acts once the read position goes on from here.
-fn pending_at(position: u64, flight: Option<&Flight>) -> Option<u64>
+fn pending_at<T>(position: u64, flight: Option<&Flight<T>>) -> Option<u64>
     ensures { result ≡ pending_at position (option_copied flight.entry) }
 {
     match flight {
@@ -172,13 +175,13 @@ fn overflow_pop_effect<T: Copy>(
 }
 
 /// What the next step of the call does, where these are the words, and this push has not acted yet.
-fn effect_of<T: Copy>(
+fn effect_of<T: Words>(
     words: &Vec<u64>,
     waits: Option<(u32, u64)>,
-    flight: &QueueFlight,
+    flight: &QueueFlight<T>,
     answer: u64,
 ) -> Effect<T>
-    ensures { result ≡ effect_of words.now.items waits flight.now answer }
+    ensures { result ≡ effect_of ⟦<T as Coded>⟧.coding words.now.items waits flight.now answer }
 {
     match flight {
         QueueFlight::Role(_) => Effect::Quiet,
@@ -188,6 +191,12 @@ fn effect_of<T: Copy>(
         }
         QueueFlight::Indices(RingCall::Pop(run)) => {
             pop_effect(Item::Index(run.room.0), &run.call.stage)
+        }
+        QueueFlight::Values(RingCall::Push(run)) => {
+            push_effect(Item::Value(run.given), &run.call.stage)
+        }
+        QueueFlight::Values(RingCall::Pop(run)) => {
+            pop_effect(Item::Value(run.room.value()), &run.call.stage)
         }
         QueueFlight::Overflow(OverflowCall::Push(run)) => {
             let item = Item::Index(run.given);
@@ -281,9 +290,9 @@ impl Roles {
     }
 }
 
-impl QueueFlight {
+impl<T: Words> QueueFlight<T> {
     /// Lets the call go on from an answer, where it lies, with what its step writes down.
-    pub fn go_on<T: Copy>(
+    pub fn go_on(
         &mut self,
         number: u32,
         start: &QueueStart<T>,
@@ -295,18 +304,18 @@ impl QueueFlight {
     ) -> Went<T>
         requires { vec_len events.old + MOST_EFFECTS ≤ vec_capacity events.old }
         ensures after { CameTo result.done self.new
-            (step words.now.items waits number start.now self.old answer roles.old).after }
+            (step ⟦<T as Coded>⟧.coding words.now.items waits number start.now self.old answer roles.old).after }
         ensures back { result.back
-            ≡ (step words.now.items waits number start.now self.old answer roles.old).back }
+            ≡ (step ⟦<T as Coded>⟧.coding words.now.items waits number start.now self.old answer roles.old).back }
         ensures kept { roles.new
-            ≡ (step words.now.items waits number start.now self.old answer roles.old).kept }
-        ensures wrote { events.new.items ≡ events.old.items
-            ++ (step words.now.items waits number start.now self.old answer roles.old).wrote }
+            ≡ (step ⟦<T as Coded>⟧.coding words.now.items waits number start.now self.old answer roles.old).kept }
+        ensures wrote { events.new.items ≡ events.old.items ++ (step ⟦<T as Coded>⟧.coding words.now.items
+            waits number start.now self.old answer roles.old).wrote }
         ensures few { vec_len events.new ≤ vec_len events.old + MOST_EFFECTS }
         ensures room { vec_capacity events.new ≡ vec_capacity events.old }
     {
         let effect = effect_of(words, waits, self, answer);
-        let back = self.back(answer);
+        let back = self.goes_back(answer);
         let done = self.resume(answer);
         tell(events, number, start, effect, done);
         roles.settle(number, start, done);

@@ -1,44 +1,64 @@
 //! The words of a queue at its opening, and who may begin which call.
-ghost use Rattle.std.specs.Prelude.{◌≡◌, IfOk};
-ghost use Rattle.model.specs.Families.Queues.Opening.{cells_of, opening_words, opening_roles, holds, lacks_role, call_rows};
+ghost use Rattle.std.specs.Prelude.{◌≡◌, ◌∷◌, None, Some, is_none, OnOk, IfOk, IfErr};
+ghost use Rattle.model.specs.Families.Queues.Opening.{cells_of, words_of_cell, opening, queue_kind, call_of, holds, lacks_role, call_rows};
 ghost use Rattle.model.specs.Rows.{first_row};
+ghost use Rattle.model.specs.declared.turn.Refusal.TheVariants.{WrongCall};
 
-use super::{QueueStart, Roles};
+use super::calls::{QueueFlight, first};
+use super::{QueueKind, QueueStart, Roles};
+use crate::coding::Coded;
+use crate::families::Kept;
 use crate::turn::{Kind, Refusal};
 use std::alloc::{AllocError, Global};
+use steps::words::Words;
+
+/// The least and the greatest capacity of a queue.
+pub const CAPACITIES: (u64, u64) = (0, u32::MAX as u64);
 
 /// How many cells a queue of this capacity has.
-fn cells_of(kind: Kind, capacity: u32) -> usize
+fn cells_of(kind: QueueKind, capacity: u32) -> usize
     ensures { result ≡ cells_of kind capacity }
 {
     match kind {
-        Kind::IndexQueue => capacity as usize,
-        Kind::Overflow => capacity as usize + 1,
+        QueueKind::IndexQueue => capacity as usize,
+        QueueKind::Overflow => capacity as usize + 1,
+        QueueKind::Queue => capacity as usize,
     }
 }
 
-/// The words at the opening of a queue of this capacity.
-pub fn opening_words(alloc: Global, kind: Kind, capacity: u32) -> Result<Vec<u64>, AllocError>
-    ensures { IfOk result (λ words. words.items ≡ opening_words kind capacity) }
+/// How many words a cell has.
+fn words_of_cell<T: Words>(kind: QueueKind) -> usize
+    ensures { result ≡ words_of_cell ⟦<T as Coded>⟧.coding.size kind }
 {
-    let cells = cells_of(kind, capacity);
+    match kind {
+        QueueKind::IndexQueue => 1,
+        QueueKind::Overflow => 1,
+        QueueKind::Queue => T::WORDS,
+    }
+}
+
+/// The words at the opening of a queue of this capacity. Nobody holds a role.
+pub fn open<T: Words>(
+    alloc: Global,
+    kind: QueueKind,
+    capacity: u32,
+) -> Result<(Vec<u64>, Kept), AllocError>
+    ensures words { IfOk result
+        (λ opened. opened.0.items ≡ (opening kind).words ⟦<T as Coded>⟧.coding.size capacity) }
+    ensures kept { IfOk result (λ opened. opened.1 ≡ (opening kind).kept) }
+{
+    let cells = words_of_cell::<T>(kind) * cells_of(kind, capacity);
     let mut words = Vec::with_capacity(alloc, 4 + cells)?;
     words.push_reserved(0);
     words.push_reserved(0);
     words.push_reserved(1);
     words.push_reserved(1);
     words.resize(4 + cells, 0)?;
-    Ok(words)
-}
-
-/// Nobody holds a role at the opening.
-pub fn opening_roles() -> Roles
-    ensures { result ≡ opening_roles }
-{
-    Roles {
+    let roles = Roles {
         producer: None,
         consumer: None,
-    }
+    };
+    Ok((words, Kept::Queues(roles)))
 }
 
 /// Whether this party holds the role.
@@ -69,13 +89,42 @@ fn lacks_role<T: Copy>(roles: &Roles, number: u32, start: &QueueStart<T>) -> boo
     }
 }
 
-/// Why this party may not begin the call.
-pub fn call_refusal<T: Copy>(roles: &Roles, number: u32, start: &QueueStart<T>) -> Option<Refusal>
-    ensures { result ≡ first_row (call_rows roles.now number start.now) }
+/// Which queue a machine of this kind has, if any.
+fn queue_kind(kind: Kind) -> Option<QueueKind>
+    ensures { result ≡ queue_kind kind }
 {
-    if lacks_role(roles, number, start) {
-        Some(Refusal::NoRole)
-    } else {
-        None
+    match kind {
+        Kind::IndexQueue => Some(QueueKind::IndexQueue),
+        Kind::Overflow => Some(QueueKind::Overflow),
+        Kind::Queue => Some(QueueKind::Queue),
+        _ => None,
     }
+}
+
+/// The call that this party begins, or why it may not.
+pub fn begin<T: Words>(
+    kind: Kind,
+    capacity: u32,
+    roles: &Roles,
+    number: u32,
+    start: &QueueStart<T>,
+) -> Result<QueueFlight<T>, Refusal>
+    ensures ok { IfOk result (λ flight. call_of kind capacity start.now ≡ Some flight) }
+    ensures allowed { OnOk result (first_row
+        ((is_none (call_of kind capacity start.now), WrongCall)
+        ∷ call_rows roles.now number start.now) ≡ None) }
+    ensures refused { IfErr result (λ row. first_row
+        ((is_none (call_of kind capacity start.now), WrongCall)
+        ∷ call_rows roles.now number start.now) ≡ Some row) }
+{
+    let Some(kind) = queue_kind(kind) else {
+        return Err(Refusal::WrongCall);
+    };
+    let Some(flight) = first(kind, capacity, start) else {
+        return Err(Refusal::WrongCall);
+    };
+    if lacks_role(roles, number, start) {
+        return Err(Refusal::NoRole);
+    }
+    Ok(flight)
 }

@@ -2,6 +2,7 @@ use Rattle.std.proofs.Common.{◌≡◌, ◌<◌, Some, refl, sym, ap, ◌∙◌
 use Rattle.std.proofs.lemmas.Map.Steps.{set_value_same}
 use Rattle.std.specs.BTreeMap.{is_at}
 use Rattle.std.specs.Ordering.{nat_cmp}
+use Rattle.model.specs.Coding.{coding_of}
 use Rattle.model.specs.Parties.{party_of, put}
 use Rattle.model.proofs.Parties.{set_is_put}
 use Rattle.machine.specs.Parts.{trace_of}
@@ -14,11 +15,11 @@ go_on-gone-requires-clause-small g c = c.requires.small.latest c.args.number c.i
 pub returns-in-Ok-clause-allowed : goal.returns-in-Ok-clause-allowed
 returns-in-Ok-clause-allowed g c =
     let within : c.args.number < c.args.self.now.parties = omega arith in
-    refusal_is (trace_of c.args.self.now).world c.args.number c.args.said c.in-Some.party.now c.requires.turns within (sym c.in-Some.ensures.value) ∙ c.in-Ok.ensures.allowed
+    refusal_is (trace_of (coding_of g.T.Words.WORDS g.T.Words.words_of g.T.Words.value_of) c.args.self.now).world c.args.number c.args.said c.in-Some.party.now c.requires.turns within (sym c.in-Some.ensures.value) ∙ c.in-Ok.ensures.allowed
 
 pub returns-in-Ok-clause-ok : goal.returns-in-Ok-clause-ok
 returns-in-Ok-clause-ok g c =
-    let w = (trace_of c.args.self.now).world in
+    let w = (trace_of (coding_of g.T.Words.WORDS g.T.Words.words_of g.T.Words.value_of) c.args.self.now).world in
     let x = c.in-Some.party.now in
     let y = c.go_on-gone.new.party in
     let found : party_of c.args.number w.latest ≡ Some x = sym c.in-Some.ensures.value in
@@ -31,11 +32,11 @@ returns-in-Ok-clause-ok g c =
 pub returns-in-Err-clause-refused : goal.returns-in-Err-clause-refused
 returns-in-Err-clause-refused g c =
     let within : c.args.number < c.args.self.now.parties = omega arith in
-    is_refusal (trace_of c.args.self.now).world c.args.number c.args.said c.in-Some.party.now c.in-Err.refusal c.requires.turns within (sym c.in-Some.ensures.value) c.in-Err.ensures.refused
+    is_refusal (trace_of (coding_of g.T.Words.WORDS g.T.Words.words_of g.T.Words.value_of) c.args.self.now).world c.args.number c.args.said c.in-Some.party.now c.in-Err.refusal c.requires.turns within (sym c.in-Some.ensures.value) c.in-Err.ensures.refused
 
 pub returns-in-Err-clause-err : goal.returns-in-Err-clause-err
 returns-in-Err-clause-err g c =
-    let w = (trace_of c.args.self.now).world in
+    let w = (trace_of (coding_of g.T.Words.WORDS g.T.Words.words_of g.T.Words.value_of) c.args.self.now).world in
     let x = c.in-Some.party.now in
     let same : (c.get_mut.follows.lender c.go_on-gone.new.party).entries ≡ w.latest =
     ap (λ y. (c.get_mut.follows.lender y).entries) c.in-Err.ensures.party

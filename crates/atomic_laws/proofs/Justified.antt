@@ -1,0 +1,195 @@
+-- What a turn writes down: the act, then the end. A store acts as it adds 1 to the version, a load as it finds the version
+-- unchanged, with the value that stands.
+use Rattle.std.proofs.Common.{◌≡◌, ℕ, ◌+◌, ◌-◌, ◌^◌, ◌<◌, ◌≤◌, ◌==◌, Bool, true, false, nat_lt, Option, Some, None, List, [], ◌∷◌, ◌++◌, get_or, refl, sym, ap, subst, ◌∙◌, arith}
+use Rattle.std.proofs.lemmas.Bool.Decides.{nat_tests}
+use Rattle.std.specs.List.{AllByRecursion}
+use Rattle.steps.specs.declared.ask.Ask.{Ask}
+use Rattle.steps.specs.declared.ask.After.{After}
+use Rattle.steps.specs.declared.ask.After.TheVariants.{GoOn, Done}
+use Rattle.steps.specs.declared.atomic.StoreStage.{StoreStage}
+use Rattle.steps.specs.declared.atomic.StoreStage as storing
+use Rattle.steps.specs.declared.atomic.LoadStage.{LoadStage}
+use Rattle.steps.specs.declared.atomic.LoadStage as loading
+use Rattle.steps.specs.declared.copied.Kept as rooms
+use Rattle.model.specs.declared.event.Answer.{Answer}
+use Rattle.model.specs.declared.event.Answer as answers
+use Rattle.model.specs.declared.event.Event.{Event}
+use Rattle.model.specs.declared.event.Event.TheVariants.{Acted}
+use Rattle.model.specs.declared.event.Start.{Start}
+use Rattle.model.specs.declared.event.Start.TheVariants.{Atomic}
+use Rattle.model.specs.declared.families.Flight.{Flight}
+use Rattle.model.specs.declared.families.Flight as flights
+use Rattle.model.specs.declared.families.Kept.{Kept}
+use Rattle.model.specs.declared.families.Kept as kepts
+use Rattle.model.specs.declared.families.atomic.AtomicStart.{AtomicStart}
+use Rattle.model.specs.declared.families.atomic.AtomicStart.TheVariants.{AcquireProducer, ReleaseProducer, Store, Load}
+use Rattle.model.specs.declared.families.atomic.calls.AtomicFlight.{AtomicFlight}
+use Rattle.model.specs.declared.families.atomic.calls.AtomicFlight as calls
+use Rattle.model.specs.declared.party.Doing.TheVariants.{Going}
+use Rattle.model.specs.declared.party.Party.{Party}
+use Rattle.model.specs.declared.turn.Kind as kinds
+use Rattle.model.specs.declared.turn.Turn.{Turn}
+use Rattle.model.specs.declared.turn.Turn.TheVariants.{Next}
+use Rattle.model.specs.Coding.{Coding}
+use Rattle.model.specs.Families.{want_of, after_of, ask_of, beside_of, step_of}
+use Rattle.model.specs.Families.Atomic.Calls.{want, after}
+use Rattle.model.specs.Families.Atomic.Promises.{AnswersRight, check_of_version, add_to_version, promise}
+use Rattle.model.specs.Families.Atomic.Steps.{acted}
+use Rattle.model.specs.Parties.{party_of, doing_of, flight_of}
+use Rattle.model.specs.Promises.{IsTurnBy}
+use Rattle.model.specs.Promises.Families.{promise_of}
+use Rattle.model.specs.Promises.Turns.{ask_in, IsParty, IsAct, IsEndOf, ActsRight, WritesInOrder}
+use Rattle.model.specs.Reading.{span_of}
+use Rattle.model.specs.Step.{answer_in}
+use Rattle.model.specs.Turns.{old_of, ending_of, events_of_step, after_turn}
+use Rattle.model.specs.World.{Trace}
+use Rattle.model.proofs.Frame as frame
+use Rattle.model.proofs.Orders.{Orders, Keeps, turn_is}
+use Rattle.model.proofs.Readings.{AreRight}
+use Rattle.atomic_laws.proofs.Core.{Core, layout}
+use Rattle.atomic_laws.proofs.Invariant.{Value, Fit, family}
+use Rattle.atomic_laws.proofs.Kept.{kept}
+use Rattle.atomic_laws.proofs.Knows.{At, store_at, load_at}
+use Rattle.atomic_laws.proofs.Sound.{kept_is, step_moves, scene_of, inv_of, stands_at, asks_nothing, reached_sound}
+use Rattle.atomic_laws.proofs.Stages.{told_after, any_call}
+
+module _ {T : Type 0} where
+  ends_end : (turn : Turn T) (p : ℕ) (start : Start T) (outcome : Option (Answer T)) → IsParty turn p → AllByRecursion (IsEndOf turn) (ending_of p start outcome)
+  ends_end turn p start None mine = tt
+  ends_end turn p start (Some answer) mine = (mine, tt)
+
+  store_acts : (p : ℕ) (value : T) (outcome : Option (Answer T)) → AllByRecursion IsAct (acted p (Store value) outcome)
+  store_acts p value None = tt
+  store_acts p value (Some (answers.TheVariants.Truth true)) = (tt, tt)
+  store_acts p value (Some answer) = tt
+
+  load_acts : (p : ℕ) (outcome : Option (Answer T)) → AllByRecursion IsAct (acted p Load outcome)
+  load_acts p None = tt
+  load_acts p (Some answer) = (tt, tt)
+
+  all_act : (p : ℕ) (start : AtomicStart T) (outcome : Option (Answer T)) → AllByRecursion IsAct (acted p start outcome)
+  all_act p (Store value) outcome = store_acts p value outcome
+  all_act p Load outcome = load_acts p outcome
+  all_act p start outcome = tt
+
+-- ---- what an act tells
+
+module _ {T : Type 0} (t : Trace T) (turn : Turn T) (p : ℕ) (mine : IsParty turn p) where
+  abbrev code : Coding T
+  code = t.world.coding
+
+  abbrev asked : Option Ask
+  asked = ask_in t.world turn
+
+  abbrev Justified : List (Event T) → Type 0
+  Justified es = AllByRecursion (ActsRight promise t turn) es
+
+  store_right : (value : T) (stage : StoreStage) (old : ℕ) → asked ≡ ask_of (want code (store_at value stage)) → Justified (acted p (Store value) (answer_in (after code (store_at value stage) old)))
+  store_right value storing.TheVariants.LoadsVersion old asks = go (old == 2 ^ 64 - 1) refl
+    where
+      go : (b : Bool) → (old == 2 ^ 64 - 1) ≡ b → Justified (acted p (Store value) (answer_in (after code (store_at value storing.TheVariants.LoadsVersion) old)))
+      go true e = rw e tt
+      go false e = rw e tt
+  store_right value (storing.TheVariants.StoresCell cell at) old asks = go (nat_lt (at + 1) code.size) refl
+    where
+      go : (b : Bool) → nat_lt (at + 1) code.size ≡ b → Justified (acted p (Store value) (answer_in (after code (store_at value (storing.TheVariants.StoresCell cell at)) old)))
+      go true e = rw e tt
+      go false e = rw e tt
+  store_right value storing.TheVariants.AddsVersion old asks = ((mine, asks), tt)
+
+  load_right : (room : rooms.Kept 128) (stage : LoadStage) (old : ℕ) → asked ≡ ask_of (want code (load_at room stage)) → old ≡ old_of t.world.words asked
+      → AreRight (AnswersRight code) t.events (told_after p Load (after code (load_at room stage) old)) → Justified (acted p Load (answer_in (after code (load_at room stage) old)))
+  load_right room loading.TheVariants.LoadsVersion old asks found h = tt
+  load_right room (loading.TheVariants.LoadsCell version cell at) old asks found h = go (nat_lt (at + 1) code.size) refl
+    where
+      go : (b : Bool) → nat_lt (at + 1) code.size ≡ b → Justified (acted p Load (answer_in (after code (load_at room (loading.TheVariants.LoadsCell version cell at)) old)))
+      go true e = rw e tt
+      go false e = rw e tt
+  load_right room (loading.TheVariants.ChecksVersion version) old asks found h = go (old == version) refl
+    where
+      go : (b : Bool) → (old == version) ≡ b → Justified (acted p Load (answer_in (after code (load_at room (loading.TheVariants.ChecksVersion version)) old)))
+      go true e =
+          let same : old ≡ version = grind (arith, nat_tests) in
+          let now : get_or t.world.words 0 0 ≡ version = sym (ap (old_of t.world.words) asks) ∙ (sym found ∙ same) in
+          let right = rw e at h in
+          rw e ((mine, asks ∙ ap (λ v. Some (check_of_version v)) (sym now), right.0), tt)
+      go false e = rw e tt
+
+  step_right : (holder : Option ℕ) (k : Core) (z : Coding T) (start : AtomicStart T) (flight : AtomicFlight T) (old : ℕ) → At z holder k p start flight → asked ≡ ask_of (want code flight) → old ≡ old_of t.world.words asked
+      → AreRight (AnswersRight code) t.events (told_after p start (after code flight old)) → Justified (acted p start (answer_in (after code flight old)))
+  step_right holder k z AcquireProducer (calls.TheVariants.Acquire run) old at asks found h = tt
+  step_right holder k z ReleaseProducer (calls.TheVariants.Release run) old at asks found h = tt
+  step_right holder k z (Store value) (calls.TheVariants.Store run) old at asks found h =
+      subst (λ v. asked ≡ ask_of (want code (store_at v run.call.stage)) → Justified (acted p (Store value) (answer_in (after code (store_at v run.call.stage) old)))) (sym at.1) (store_right value run.call.stage old) asks
+  step_right holder k z Load (calls.TheVariants.Load run) old at asks found h = load_right run.room run.call.stage old asks found h
+  step_right holder k z start flight old at asks found h = absurd at
+
+-- ---- every turn
+
+module _ {T : Type 0} (code : Coding T) (c : ℕ) (t : Trace T) (p : ℕ) (s : frame.Sound (family code c) t) (small : t.world.turns < 2 ^ 64 - 2) (x : Party T) (since : ℕ) where
+  -- the events of its step where the words, what is kept, and the call's name are these
+  abbrev InOrder : List ℕ → Kept → Start T → Flight T → Type 0
+  InOrder words kept start flight =
+      WritesInOrder promise t (Next p) (t.events ++ events_of_step p start (step_of t.world.coding words (beside_of words kept t.world.latest p) p start flight (old_of words (ask_of (want_of t.world.coding flight))) kept))
+
+  in_order : (start : Start T) (flight : Flight T) → t.world.words ≡ layout s.state.holder s.state.core → (family code c).At s.state p start flight → x.steps ≤ (family code c).number flight x.backs → (family code c).Knows s.state p t.events since t.world.changes x.backs flight
+      → flight_of (doing_of (party_of p t.world.latest)) ≡ Some flight → InOrder (layout s.state.holder s.state.core) (kepts.TheVariants.Atomic s.state.holder) start flight
+  in_order (Atomic start) (flights.TheVariants.Atomic flight) is at steps knows found =
+      let words = layout s.state.holder s.state.core in
+      let moves = step_moves (scene_of code c t s p x since) small (inv_of code c t s p x since) start flight at steps knows in
+      let z = t.world.coding in
+      let old = old_of words (ask_of (want z flight)) in
+      let outcome : Option (Answer T) = answer_in (after z flight old) in
+      let ends : List (Event T) = ending_of p (Atomic start) (answer_in (any_call (after z flight old))) in
+      let asks : ask_in t.world (Next p) ≡ ask_of (want z flight) = rw found refl in
+      let handed : old ≡ old_of t.world.words (ask_in t.world (Next p)) = rw (is, asks) refl in
+      record {
+        effects = [];
+        acts = acted p start outcome;
+        ends = ends;
+        is = refl;
+        are_effects = tt;
+        are_acts = all_act p start outcome;
+        are_ends = ends_end (Next p) p (Atomic start) (answer_in (any_call (after z flight old))) refl;
+        right = step_right t (Next p) p refl s.state.holder s.state.core code start flight old at asks handed
+            (subst (λ (y : Coding T). AreRight (AnswersRight y) t.events (told_after p start (after y flight (old_of words (ask_of (want y flight)))))) (sym s.coding) moves.2.right);
+      }
+  in_order start flight is at steps knows found = absurd at
+
+  step_in_order : (flight : Flight T) → party_of p t.world.latest ≡ Some x → x.doing ≡ Going flight since → InOrder t.world.words t.world.kept x.start flight
+  step_in_order flight found doing =
+      let fam = family code c in
+      let fits = subst (λ o. frame.Fits fam s.state p o (span_of p t.events)) found (s.inv.calls p) in
+      let here = frame.under_way fam s.state p x x.doing flight since (span_of p t.events) doing fits in
+      let knows = frame.knows_now fam s.state p t.events t.world.changes (party_of p t.world.latest) x flight since found doing (s.inv.knows p) in
+      let goes : flight_of (doing_of (party_of p t.world.latest)) ≡ Some flight = ap (λ o. flight_of (doing_of o)) found ∙ ap (λ d. flight_of (Some d)) doing in
+      let is = kept_is t.world.kept t.world.words s.state s.fit in
+      subst (λ ws. InOrder ws t.world.kept x.start flight) (sym is.1)
+      (subst (λ kept. InOrder (layout s.state.holder s.state.core) kept x.start flight) (sym is.0) (in_order x.start flight is.1 here.at here.steps knows goes))
+
+-- a call of a value goes on as its table says
+told : {T : Type 0} (code z : Coding T) (c : ℕ) (words : List ℕ) (beside : Option (ℕ × ℕ)) (s : Value) (p : ℕ) (start : Start T) (flight : Flight T) (answer : ℕ) (kept : Kept) → Fit kept words s → (family code c).At s p start flight
+    → (step_of z words beside p start flight answer kept).after ≡ after_of z flight answer
+told y z c words beside s p (Atomic start) (flights.TheVariants.Atomic flight) answer (kepts.TheVariants.Atomic producer) fit at = refl
+told y z c words beside s p (Atomic start) (flights.TheVariants.Atomic flight) answer held fit at = absurd fit
+told y z c words beside s p start flight answer held fit at = absurd at
+
+module _ {T : Type 0} where
+  orders : (code : Coding T) (c : ℕ) → Orders (family code c)
+  orders code c =
+      record {
+        step = λ t p x flight since s small found doing. step_in_order code c t p s small x since flight found doing;
+        decision = λ t p x flight since said s small found doing asks. asks_nothing code c t s p x flight since found doing asks;
+        after = λ t p x flight since answer s found doing.
+            told code t.world.coding c t.world.words (beside_of t.world.words t.world.kept t.world.latest p) s.state p x.start flight answer t.world.kept s.fit (stands_at code c t s p x flight since found doing);
+      }
+
+  -- what is proved of every run of the single value
+  pub value_keeps : Keeps T kinds.TheVariants.Atomic
+  value_keeps =
+      record {
+        kept = λ t is r. kept t is r;
+        turn = λ t turn is e r.
+            subst (λ P. IsTurnBy P t turn (after_turn t turn)) (sym (ap (promise_of {T = T}) is))
+            (turn_is (family t.world.coding t.world.capacity) (orders t.world.coding t.world.capacity) t turn e r (reached_sound t is r));
+      }

@@ -1,0 +1,10 @@
+pub mod Core
+pub mod Invariant
+pub mod Justified
+pub mod Kept
+pub mod Knows
+pub mod Loads
+pub mod Roles
+pub mod Sound
+pub mod Stages
+pub mod Stores

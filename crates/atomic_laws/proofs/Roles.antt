@@ -1,0 +1,42 @@
+-- The steps of the calls on the producer's role. Its word is 1 while the role is free.
+use Rattle.std.proofs.Common.{◌≡◌, ℕ, ◌≤◌, true, false, Option, Some, None, refl, sym, ◌∙◌, arith}
+use Rattle.steps.specs.declared.ask.Ask.{Ask}
+use Rattle.steps.specs.declared.ask.Op.TheVariants.{Store, Exchange}
+use Rattle.model.specs.declared.event.Answer as answers
+use Rattle.model.specs.declared.families.atomic.AtomicStart.TheVariants.{AcquireProducer, ReleaseProducer}
+use Rattle.model.specs.Families.Atomic.Calls.{first}
+use Rattle.atomic_laws.proofs.Invariant.{Scene, Inv}
+use Rattle.atomic_laws.proofs.Knows.{kept}
+use Rattle.atomic_laws.proofs.Stages.{clash, StepOf, ends}
+
+abbrev takes : Option Ask
+takes = Some (record { word = 1; op = Exchange 1 0 })
+
+abbrev gives : Option Ask
+gives = Some (record { word = 1; op = Store 1 })
+
+abbrev held_by : {T : Type 0} → Scene T → Option ℕ → Scene T
+held_by scene holder = record scene { holder = holder }
+
+module _ {T : Type 0} (scene : Scene T) (s : scene.steps ≤ 0) (b : scene.backs ≡ 0) where
+  open scene use {coding as code, core as k, party as p}
+
+  acquire : (holder : Option ℕ) → Inv (held_by scene holder) → StepOf (held_by scene holder) AcquireProducer (first AcquireProducer)
+  acquire None inv =
+      ends (held_by scene None) inv (Some p) AcquireProducer (answers.TheVariants.Truth true) takes refl (rw inv.value.holders refl) refl (omega arith) b refl
+      (λ q ne. kept code None (Some p) k k q (record { holder = λ h. absurd (cc); store = λ h words stage knows. knows; load = λ room stage knows. knows }))
+  acquire (Some r) inv =
+      ends (held_by scene (Some r)) inv (Some r) AcquireProducer (answers.TheVariants.Truth false) takes refl (rw inv.value.holders refl) refl (omega arith) b refl
+      (λ q ne st f h. h)
+
+  release : (holder : Option ℕ) → holder ≡ Some p → Inv (held_by scene holder) → StepOf (held_by scene holder) ReleaseProducer (first ReleaseProducer)
+  release holder holds inv =
+      ends (held_by scene holder) inv None ReleaseProducer answers.TheVariants.Done gives refl (refl, inv.value.holders ∙ holds) refl (omega arith) b refl
+      (λ q ne. kept code holder None k k q (record { holder = λ h. absurd (clash holder p q ne holds h); store = λ h words stage knows. knows; load = λ room stage knows. knows }))
+
+  -- with the holder as it is
+  pub acquires : Inv scene → StepOf scene AcquireProducer (first AcquireProducer)
+  acquires inv = acquire scene.holder inv
+
+  pub releases : scene.holder ≡ Some p → Inv scene → StepOf scene ReleaseProducer (first ReleaseProducer)
+  releases holds inv = release scene.holder holds inv

@@ -1,0 +1,277 @@
+-- Every turn keeps what holds of a value's machine: the laws of the family.
+use Rattle.std.proofs.Common.{◌≡◌, ℕ, ◌+◌, ◌-◌, ◌*◌, ◌^◌, ◌<◌, ◌≤◌, ◌==◌, Bool, true, false, not, Option, Some, None, option_map, List, [], ◌∷◌, ◌++◌, replicate, get_or, refl, sym, ap, subst, ◌∙◌, arith}
+use Rattle.std.proofs.lemmas.Bool.Decides.{nat_tests}
+use Rattle.std.proofs.lemmas.List.{length-replicate}
+use Rattle.steps.specs.declared.ask.Ask.{Ask}
+use Rattle.steps.specs.declared.atomic.StoreStage.{StoreStage}
+use Rattle.steps.specs.declared.atomic.StoreStage as storing
+use Rattle.steps.specs.declared.atomic.LoadStage.{LoadStage}
+use Rattle.steps.specs.declared.atomic.LoadStage as loading
+use Rattle.steps.specs.declared.copied.Kept as rooms
+use Rattle.model.specs.declared.event.Event.TheVariants.{Begun}
+use Rattle.model.specs.declared.event.Start.{Start}
+use Rattle.model.specs.declared.event.Start.TheVariants.{Atomic}
+use Rattle.model.specs.declared.families.Flight.{Flight}
+use Rattle.model.specs.declared.families.Flight as flights
+use Rattle.model.specs.declared.families.Kept.{Kept}
+use Rattle.model.specs.declared.families.Kept as kepts
+use Rattle.model.specs.declared.families.atomic.AtomicStart.{AtomicStart}
+use Rattle.model.specs.declared.families.atomic.AtomicStart.TheVariants.{AcquireProducer, ReleaseProducer, Store, Load}
+use Rattle.model.specs.declared.families.atomic.calls.AtomicFlight.{AtomicFlight}
+use Rattle.model.specs.declared.families.atomic.calls.AtomicFlight as calls
+use Rattle.model.specs.declared.party.Doing.TheVariants.{Going}
+use Rattle.model.specs.declared.party.Party.{Party}
+use Rattle.model.specs.declared.turn.Kind as kinds
+use Rattle.model.specs.declared.turn.Refusal.TheVariants.{NoRole}
+use Rattle.model.specs.Coding.{Coding, IsCoding}
+use Rattle.model.specs.Families.{first_of, want_of, ask_of, is_question, beside_of, step_of}
+use Rattle.model.specs.Families.Atomic.Calls.{first, want, fresh}
+use Rattle.model.specs.Families.Atomic.Opening.{lacks_role, kept_rows}
+use Rattle.model.specs.Families.Queues.Opening.{holds}
+use Rattle.model.specs.Parties.{party_of}
+use Rattle.model.specs.Reading.{Open, span_of}
+use Rattle.model.specs.Rows.{first_row}
+use Rattle.model.specs.Turns.{one_if, old_of, words_after, change_of, step_count, doing_after, party_at_begin, events_of_step, IsReached}
+use Rattle.model.specs.World.{Trace, opening}
+use Rattle.model.proofs.Frame as frame
+use Rattle.model.proofs.Readings.{Each-nil}
+use Rattle.model.proofs.Rows.{row_passed, MayBegin}
+use Rattle.atomic_laws.proofs.Core.{Core, layout, zeros}
+use Rattle.atomic_laws.proofs.Invariant.{Value, Fit, Scene, Inv, Shows, family, owes, holds_more}
+use Rattle.atomic_laws.proofs.Knows.{At, KnowsFlight, KnowsStore, KnowsLoad, number_of, store_at, load_at}
+use Rattle.atomic_laws.proofs.Loads.{load_step}
+use Rattle.atomic_laws.proofs.Roles.{acquires, releases}
+use Rattle.atomic_laws.proofs.Stages.{StepOf}
+use Rattle.atomic_laws.proofs.Stores.{store_step}
+
+holds_is : (o : Option ℕ) (p : ℕ) → not (holds o p) ≡ false → o ≡ Some p
+holds_is None p e = absurd (cc)
+holds_is (Some q) p e = go (q == p) refl e
+  where
+    go : (b : Bool) → (q == p) ≡ b → not b ≡ false → Some q ≡ Some p
+    go true t e = let same : q ≡ p = grind (arith, nat_tests) in ap Some same
+    go false t e = absurd (cc)
+
+pub kept_is : (kept : Kept) (words : List ℕ) (s : Value) → Fit kept words s → (kept ≡ kepts.TheVariants.Atomic s.holder) × (words ≡ layout s.holder s.core)
+kept_is (kepts.TheVariants.Atomic producer) words s fit = (ap (λ o. kepts.TheVariants.Atomic o) fit.1, fit.0)
+kept_is kept words s fit = absurd fit
+
+-- ---- one step of a call
+
+module _ {T : Type 0} (scene : Scene T) (small : scene.turns < 2 ^ 64 - 2) (inv : Inv scene) where
+  open scene use {coding as code, holder as ho, core as k, party as p}
+
+  pub step_moves : (start : AtomicStart T) (flight : AtomicFlight T) → At code ho k p start flight → scene.steps ≤ number_of code.size flight scene.backs → KnowsFlight k scene.since scene.changes scene.backs flight → StepOf scene start flight
+  step_moves AcquireProducer (calls.TheVariants.Acquire run) at s b =
+      subst (λ w. StepOf scene AcquireProducer (calls.TheVariants.Acquire (record { call = record { word = w }; given = tt; room = tt }))) (sym at) (acquires scene s b inv)
+  step_moves ReleaseProducer (calls.TheVariants.Release run) at s b =
+      subst (λ w. StepOf scene ReleaseProducer (calls.TheVariants.Release (record { call = record { word = w }; given = tt; room = tt }))) (sym at.0) (releases scene s b at.1 inv)
+  step_moves (Store value) (calls.TheVariants.Store run) at s b =
+      subst (λ v. StepOf scene (Store value) (store_at v run.call.stage)) (sym at.1) (store_step scene inv small value at.0 b run.call.stage at.2 s)
+  step_moves Load (calls.TheVariants.Load run) at s b = load_step scene inv small run.room run.call.stage at b s
+  step_moves start flight at s b = absurd at
+
+-- ---- what the first stage of a call knows
+
+record IsFirst {T : Type 0} (code : Coding T) (holder : Option ℕ) (k : Core) (p changes : ℕ) (start : AtomicStart T) (flight : AtomicFlight T) : Type 0 where
+  pub at : At code holder k p start flight
+  pub knows : KnowsFlight k changes changes 0 flight
+
+first_is : {T : Type 0} (code : Coding T) (holder : Option ℕ) (k : Core) (p changes : ℕ) (start : AtomicStart T) → lacks_role holder p start ≡ false → IsFirst code holder k p changes start (first start)
+first_is code holder k p changes AcquireProducer r = record { at = refl; knows = refl }
+first_is code holder k p changes ReleaseProducer r = record { at = (refl, holds_is holder p r); knows = refl }
+first_is code holder k p changes (Store value) r = record { at = (holds_is holder p r, refl, tt); knows = refl }
+first_is code holder k p changes Load r = record { at = length-replicate {A = ℕ} 128 0; knows = omega arith }
+
+-- a call that begins on a value is one of its own
+abbrev IsOwn : {T : Type 0} → Start T → Flight T → Type 0
+IsOwn (Atomic start) (flights.TheVariants.Atomic flight) = first start ≡ flight
+IsOwn start flight = ⊥
+
+begins_own : {T : Type 0} (c : ℕ) (start : Start T) (flight : Flight T) → first_of kinds.TheVariants.Atomic c start ≡ Some flight → IsOwn start flight
+begins_own c (Atomic start) (flights.TheVariants.Atomic flight) e = cc
+begins_own c (Atomic start) flight e = absurd (cc)
+begins_own c start flight e = absurd (cc)
+
+-- no call of a value asks a question
+store_asks : {T : Type 0} (code : Coding T) (value : T) (stage : StoreStage) → is_question (want code (store_at value stage)) ≡ false
+store_asks code value storing.TheVariants.LoadsVersion = refl
+store_asks code value (storing.TheVariants.StoresCell cell at) = refl
+store_asks code value storing.TheVariants.AddsVersion = refl
+
+load_asks : {T : Type 0} (code : Coding T) (room : rooms.Kept 128) (stage : LoadStage) → is_question (want code (load_at room stage)) ≡ false
+load_asks code room loading.TheVariants.LoadsVersion = refl
+load_asks code room (loading.TheVariants.LoadsCell version cell at) = refl
+load_asks code room (loading.TheVariants.ChecksVersion version) = refl
+
+never_asks : {T : Type 0} (code : Coding T) (flight : AtomicFlight T) → is_question (want code flight) ≡ false
+never_asks code (calls.TheVariants.Acquire run) = refl
+never_asks code (calls.TheVariants.Release run) = refl
+never_asks code (calls.TheVariants.Store run) = store_asks code run.given run.call.stage
+never_asks code (calls.TheVariants.Load run) = load_asks code run.room run.call.stage
+
+never_due : {A T : Type 0} → (code z : Coding T) (c : ℕ) (s : Value) (p : ℕ) (start : Start T) (flight : Flight T) → (family code c).At s p start flight → is_question (want_of z flight) ≡ true → A
+never_due code z c s p (Atomic start) (flights.TheVariants.Atomic flight) at e = let none = never_asks z flight in absurd (cc)
+never_due code z c s p start flight at e = absurd at
+
+-- ---- the laws of the family
+
+module _ {T : Type 0} (code : Coding T) (c : ℕ) (t : Trace T) (s : frame.Sound (family code c) t) (p : ℕ) where
+  -- a party's call under way stands where the value has such a call
+  pub stands_at : (x : Party T) (flight : Flight T) (since : ℕ) → party_of p t.world.latest ≡ Some x → x.doing ≡ Going flight since → (family code c).At s.state p x.start flight
+  stands_at x flight since found doing =
+      let fits = subst (λ o. frame.Fits (family code c) s.state p o (span_of p t.events)) found (s.inv.calls p) in
+      (frame.under_way (family code c) s.state p x x.doing flight since (span_of p t.events) doing fits).at
+
+  pub asks_nothing : {A : Type 0} → (x : Party T) (flight : Flight T) (since : ℕ) → party_of p t.world.latest ≡ Some x → x.doing ≡ Going flight since → is_question (want_of t.world.coding flight) ≡ true → A
+  asks_nothing x flight since found doing asks =
+      never_due code t.world.coding c s.state p x.start flight (stands_at x flight since found doing) asks
+
+  abbrev pub scene_of : Party T → ℕ → Scene T
+  scene_of x since =
+      record {
+        coding = code;
+        capacity = c;
+        holder = s.state.holder;
+        core = s.state.core;
+        party = p;
+        steps = x.steps;
+        backs = x.backs;
+        since = since;
+        changes = t.world.changes;
+        latest = t.world.latest;
+        events = t.events;
+        turns = t.world.turns;
+      }
+
+  pub inv_of : (x : Party T) (since : ℕ) → Inv (scene_of x since)
+  inv_of x since = record { value = s.holds; frame = s.inv }
+
+  module _ (small : t.world.turns < 2 ^ 64 - 2) (x : Party T) (since : ℕ) where
+    abbrev asks : Coding T → Flight T → Option Ask
+    asks z flight = ask_of (want_of z flight)
+
+    -- what its step comes to where the words, what is kept, and the call's name are these
+    abbrev ComesTo : Coding T → List ℕ → Kept → Start T → Flight T → Type 0
+    ComesTo z words kept start flight =
+        frame.Comes (family code c) t p (step_of z words (beside_of words kept t.world.latest p) p start flight (old_of words (asks z flight)) kept).kept (words_after words (asks z flight))
+        (record {
+          start = start;
+          steps = x.steps + step_count (asks z flight);
+          backs = x.backs + one_if (step_of z words (beside_of words kept t.world.latest p) p start flight (old_of words (asks z flight)) kept).back;
+          doing = doing_after (t.world.changes + change_of words (asks z flight)) (since + change_of words (asks z flight)) (step_of z words (beside_of words kept t.world.latest p) p start flight (old_of words (asks z flight)) kept).after;
+        })
+        (events_of_step p start (step_of z words (beside_of words kept t.world.latest p) p start flight (old_of words (asks z flight)) kept))
+        (t.world.changes + change_of words (asks z flight))
+
+    comes : (start : Start T) (flight : Flight T) → (family code c).At s.state p start flight → x.steps ≤ (family code c).number flight x.backs → (family code c).Knows s.state p t.events since t.world.changes x.backs flight → span_of p t.events ≡ Open start []
+        → ComesTo code (layout s.state.holder s.state.core) (kepts.TheVariants.Atomic s.state.holder) start flight
+    comes (Atomic start) (flights.TheVariants.Atomic flight) at steps knows seen =
+        let moves = step_moves (scene_of x since) small (inv_of x since) start flight at steps knows in
+        record {
+          state = record { holder = _; core = moves.0 };
+          fit = (moves.1, refl);
+          holds = holds_more (scene_of x since) _ moves.0 (Open (Atomic start) []) _ _ _ moves.2 s.holds;
+          owes = owes (scene_of x since) _ moves.0 (Open (Atomic start) []) _ _ _ moves.2 seen (inv_of x since);
+        }
+    comes start flight at steps knows seen = absurd at
+
+    pub step_comes : (flight : Flight T) → party_of p t.world.latest ≡ Some x → x.doing ≡ Going flight since → frame.ComesByStep (family code c) t p x flight since (asks t.world.coding flight) (old_of t.world.words (asks t.world.coding flight))
+    step_comes flight found doing =
+        let fits = subst (λ o. frame.Fits (family code c) s.state p o (span_of p t.events)) found (s.inv.calls p) in
+        let here = frame.under_way (family code c) s.state p x x.doing flight since (span_of p t.events) doing fits in
+        let knows = frame.knows_now (family code c) s.state p t.events t.world.changes (party_of p t.world.latest) x flight since found doing (s.inv.knows p) in
+        let is = kept_is t.world.kept t.world.words s.state s.fit in
+        subst (λ z. ComesTo z t.world.words t.world.kept x.start flight) (sym s.coding)
+        (subst (λ ws. ComesTo code ws t.world.kept x.start flight) (sym is.1)
+        (subst (λ kept. ComesTo code (layout s.state.holder s.state.core) kept x.start flight) (sym is.0) (comes x.start flight here.at here.steps knows here.span)))
+
+  -- ---- a call begins
+
+  begins : (start : AtomicStart T) (flight : AtomicFlight T) → IsFirst code s.state.holder s.state.core p t.world.changes start flight → frame.Sound (family code c) t → MayBegin t.world p (Atomic start)
+      → frame.Comes (family code c) t p t.world.kept t.world.words (party_at_begin (Atomic start) (flights.TheVariants.Atomic flight) t.world.changes) (Begun p (Atomic start) ∷ []) t.world.changes
+  begins start flight first sound may =
+      let y : Party T = party_at_begin (Atomic start) (flights.TheVariants.Atomic flight) t.world.changes in
+      let scene = scene_of y t.world.changes in
+      let k = s.state.core in
+      let low = s.holds.reached in
+      let shows : Shows scene s.state.holder k (span_of p t.events) y (Begun p (Atomic start) ∷ []) t.world.changes =
+      record {
+        right = (tt, tt);
+        grants = (tt, tt);
+        good = s.holds.good;
+        holders = refl;
+        goes = refl;
+        answers = refl;
+        up = record { version = omega arith; paid = omega arith };
+        reached = omega arith;
+        own = (refl, tt);
+        stands = (frame.shut (family code c) s.state p (party_of p t.world.latest) (span_of p t.events) may.free (s.inv.calls p), tt);
+        here = record { span = refl; steps = omega arith; at = first.at };
+        knows = first.knows;
+        others = λ q ne st f h. h;
+      }
+      in
+      record {
+        state = s.state;
+        fit = s.fit;
+        holds = holds_more scene s.state.holder k (span_of p t.events) y (Begun p (Atomic start) ∷ []) t.world.changes shows s.holds;
+        owes = owes scene s.state.holder k (span_of p t.events) y (Begun p (Atomic start) ∷ []) t.world.changes shows refl (inv_of y t.world.changes);
+      }
+
+  pub begin_comes : (start : Start T) (flight : Flight T) → MayBegin t.world p start → first_of t.world.kind t.world.capacity start ≡ Some flight
+      → frame.Comes (family code c) t p t.world.kept t.world.words (party_at_begin start flight t.world.changes) (Begun p start ∷ []) t.world.changes
+  begin_comes (Atomic start) (flights.TheVariants.Atomic flight) may e =
+      let is = kept_is t.world.kept t.world.words s.state s.fit in
+      let rows : first_row (kept_rows start (kepts.TheVariants.Atomic s.state.holder) p) ≡ None = subst (λ kept. first_row (kept_rows start kept p) ≡ None) is.0 may.rows in
+      let role = (row_passed (lacks_role s.state.holder p start) NoRole None rows).0 in
+      let named : first_of kinds.TheVariants.Atomic t.world.capacity (Atomic start) ≡ Some (flights.TheVariants.Atomic flight) = subst (λ kind. first_of kind t.world.capacity (Atomic start) ≡ Some (flights.TheVariants.Atomic flight)) s.kind e in
+      begins start flight (subst (λ f. IsFirst code s.state.holder s.state.core p t.world.changes start f) (begins_own t.world.capacity (Atomic start) (flights.TheVariants.Atomic flight) named) (first_is code s.state.holder s.state.core p t.world.changes start role)) s may
+  begin_comes start flight may e =
+      let named : first_of kinds.TheVariants.Atomic t.world.capacity start ≡ Some flight = subst (λ kind. first_of kind t.world.capacity start ≡ Some flight) s.kind e in
+      absurd (begins_own t.world.capacity start flight named)
+
+module _ {T : Type 0} where
+  laws : (code : Coding T) (c : ℕ) → frame.Laws (family code c)
+  laws code c =
+      record {
+        step = λ t p x flight since s small found doing. step_comes code c t s p small x since flight found doing;
+        decision = λ t p x flight since said s small found doing asks. asks_nothing code c t s p x flight since found doing asks;
+        begin = λ t p start flight s may e. begin_comes code c t s p start flight may e;
+      }
+
+  opening_sound : (code : Coding T) (c parties : ℕ) → IsCoding code → frame.Sound (family code c) (opening code kinds.TheVariants.Atomic c parties)
+  opening_sound code c parties coded =
+      record {
+        coding = refl;
+        kind = refl;
+        capacity = refl;
+        state = record { holder = None; core = record { version = 1; now = replicate code.size 0; cells = replicate (code.size * 2) 0 } };
+        fit = (refl, refl);
+        holds =
+            record {
+              coded = coded;
+              good =
+                  record {
+                    some = omega arith;
+                    sized = length-replicate code.size 0;
+                    cells = length-replicate (code.size * 2) 0;
+                    held = λ i below. zeros (code.size * 2) _ 0 ∙ sym (zeros code.size i 0);
+                  };
+              stand = refl;
+              legal = refl;
+              answers = Each-nil _;
+              holders = refl;
+              grants = Each-nil _;
+              reached = omega arith;
+            };
+        inv = record { spans = Each-nil _; calls = λ p. refl; knows = λ p. tt };
+      }
+
+  pub reached_sound : (t : Trace T) → t.world.kind ≡ kinds.TheVariants.Atomic → IsReached t → frame.Sound (family t.world.coding t.world.capacity) t
+  reached_sound t is r =
+      let w = t.world in
+      let first = opening_sound w.coding w.capacity w.parties r.coded in
+      frame.reached_sound (family w.coding w.capacity) (laws w.coding w.capacity) t
+      (subst (λ kind. frame.Sound (family w.coding w.capacity) (opening w.coding kind w.capacity w.parties)) (sym is) first)
+      r

@@ -1,0 +1,134 @@
+//! Runs of many turns, of large queues, of many parties and of calls that go back a thousand times.
+use crate::rows::{Row, made, run, tells_rounds};
+use machine::event::{Answer, Event, Start};
+use machine::families::queues::QueueStart;
+use machine::turn::{Kind, Refusal, Turn};
+use std::alloc::{AllocError, Global};
+use std::test::Fail;
+
+/// At capacity 5,000.
+pub const MANY_VALUES: [Row; 7] = [
+    Row::Roles,
+    Row::Fills(0, 5000, Answer::Truth(true)),
+    Row::Call(0, QueueStart::PushIndex(7), 2, Answer::Truth(false)),
+    Row::Call(0, QueueStart::Len, 4, Answer::Number(5000)),
+    Row::Drains(0, 5000),
+    Row::Call(1, QueueStart::Pop, 2, Answer::PoppedNone),
+    Row::Call(1, QueueStart::Len, 4, Answer::Number(0)),
+];
+
+/// At capacity 5,000 of the overflowing queue.
+pub const MANY_OVERFLOWING: [Row; 5] = [
+    Row::Roles,
+    Row::Fills(0, 5000, Answer::PoppedNone),
+    Row::Replaces(5000, 10_000),
+    Row::Drains(5000, 10_000),
+    Row::Call(1, QueueStart::Pop, 2, Answer::PoppedNone),
+];
+
+/// At capacity 3, the turns of `many_turns`, one after another.
+pub const MANY_TURNS: [Row; 4] = [
+    Row::Roles,
+    Row::Rounds(1000),
+    Row::Told(1000),
+    Row::Words(&[1000, 1000, 0, 0, 999, 997, 998]),
+];
+
+pub const MANY_PARTIES: [Row; 2] = [Row::Lengths(1000), Row::Count(2000)];
+
+const LAST: u32 = 4294967294;
+
+/// Of the greatest number of parties, the last one.
+pub const LAST_PARTY: [Row; 8] = [
+    Row::Call(LAST, QueueStart::AcquireProducer, 1, Answer::Truth(true)),
+    Row::Call(LAST, QueueStart::AcquireConsumer, 1, Answer::Truth(true)),
+    Row::Call(LAST, QueueStart::PushIndex(5), 4, Answer::Truth(true)),
+    Row::Call(LAST, QueueStart::Pop, 4, Answer::PoppedIndex(5)),
+    Row::Counts(LAST, 4, 0, 0, true),
+    Row::Events(
+        11,
+        &[Event::Finished(LAST, Start::Queues(QueueStart::Pop), Answer::PoppedIndex(5))],
+    ),
+    Row::RefusedBegin(u32::MAX, QueueStart::Len, Refusal::NoParty),
+    Row::RefusedNext(u32::MAX, Refusal::NoParty),
+];
+
+/// At capacity 1 of the overflowing queue.
+pub const POP_GOES_BACK: [Row; 7] = [
+    Row::Roles,
+    Row::Call(0, QueueStart::PushIndex(1), 4, Answer::PoppedNone),
+    Row::Part(1, QueueStart::Pop, 3),
+    Row::PopsAgain(1000),
+    Row::Counts(1, 2003, 1000, 3000, false),
+    Row::Ends(1, 1, Answer::PoppedIndex(1001)),
+    Row::Counts(1, 2004, 1000, 3000, true),
+];
+
+/// At capacity 1.
+pub const LENGTH_BEGINS_AGAIN: [Row; 6] = [
+    Row::Roles,
+    Row::Part(2, QueueStart::Len, 0),
+    Row::LengthsAgain(1000),
+    Row::Counts(2, 3000, 1000, 3000, false),
+    Row::Ends(2, 4, Answer::Number(0)),
+    Row::Counts(2, 3004, 1000, 3000, true),
+];
+
+/// Both roles are taken.
+const ROLES: [Turn<u128>; 4] = [
+    Turn::Begin(0, Start::Queues(QueueStart::AcquireProducer)),
+    Turn::Next(0),
+    Turn::Begin(1, Start::Queues(QueueStart::AcquireConsumer)),
+    Turn::Next(1),
+];
+
+/// A value is pushed and popped.
+fn round(value: u64) -> [Turn<u128>; 10] {
+    [
+        Turn::Begin(0, Start::Queues(QueueStart::PushIndex(value))),
+        Turn::Next(0),
+        Turn::Next(0),
+        Turn::Next(0),
+        Turn::Next(0),
+        Turn::Begin(1, Start::Queues(QueueStart::Pop)),
+        Turn::Next(1),
+        Turn::Next(1),
+        Turn::Next(1),
+        Turn::Next(1),
+    ]
+}
+
+/// Roles and 1,000 rounds: 10,004 turns.
+fn many_turns(alloc: Global) -> Result<Vec<Turn<u128>>, AllocError> {
+    let mut turns = Vec::from_slice(alloc, &ROLES)?;
+    for value in 0..1000 {
+        turns.extend_from_slice(&round(value))?;
+    }
+    Ok(turns)
+}
+
+#[test]
+fn ten_thousand_turns_by_one_run(rt: HostRuntime) -> Result<(), Fail> {
+    let turns = many_turns(rt.alloc())?;
+    let mut machine = made(rt.alloc(), Kind::IndexQueue, 3, 2)?;
+    assert!(rt; run(&mut machine, turns.as_slice()) == 10_004);
+    assert!(rt; tells_rounds(&machine, 1000));
+    assert!(rt; machine.words() == [1000, 1000, 0, 0, 999, 997, 998].as_slice());
+    Ok(())
+}
+
+#[test]
+fn run_takes_the_turns_up_to_a_refusal(rt: HostRuntime) -> Result<(), Fail> {
+    let mut machine = made(rt.alloc(), Kind::IndexQueue, 1, 1)?;
+    let turns = [
+        Turn::Begin(0, Start::Queues(QueueStart::AcquireProducer)),
+        Turn::Next(0),
+        Turn::Next(0),
+        Turn::Begin(0, Start::Queues(QueueStart::PushIndex(7))),
+    ];
+    assert!(rt; run(&mut machine, &turns) == 2);
+    let push = [Turn::Begin(0, Start::Queues(QueueStart::PushIndex(7)))];
+    assert!(rt; run(&mut machine, &push) == 1);
+    assert!(rt; machine.events().len() == 3);
+    Ok(())
+}

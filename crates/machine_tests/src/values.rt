@@ -1,0 +1,176 @@
+//! A machine over a type of three words, through its queue of values.
+use machine::Machine;
+use machine::event::{Answer, Event, Item, Start};
+use machine::families::queues::QueueStart;
+use machine::turn::{Kind, Refusal, Turn};
+use std::test::Fail;
+use steps::words::Words;
+
+/// Three numbers, each a word of its own.
+#[derive(Debug, Clone, Copy, PartialEq, Eq)]
+pub struct Reading {
+    pub time: u64,
+    pub level: u64,
+    pub state: u64,
+}
+
+impl Words for Reading {
+    ghost use Rattle.std.specs.Prelude.{ℕ, refl, [], ◌∷◌, slice_index};
+    ghost use Rattle.std.proofs.Common.{rules};
+
+    const WORDS: usize = 3;
+
+    ghost WORDS = { 3 };
+
+    ghost words_of = { λ x. x.time ∷ x.level ∷ x.state ∷ [] };
+
+    ghost value_of = { λ words. record {
+      time = slice_index words 0;
+      level = slice_index words 1;
+      state = slice_index words 2;
+    } };
+
+    ghost some = { Prim.search rules };
+
+    ghost few = { Prim.search rules };
+
+    ghost sized = { λ x. refl };
+
+    ghost given_back = { λ x. refl };
+
+    fn word(&self, at: usize) -> u64 {
+        match at {
+            0 => self.time,
+            1 => self.level,
+            _ => self.state,
+        }
+    }
+
+    fn of_words(words: &[u64]) -> Reading {
+        Reading {
+            time: words[0],
+            level: words[1],
+            state: words[2],
+        }
+    }
+}
+
+const ACQUIRE_PRODUCER: Start<Reading> = Start::Queues(QueueStart::AcquireProducer);
+
+const ACQUIRE_CONSUMER: Start<Reading> = Start::Queues(QueueStart::AcquireConsumer);
+
+const POP: Start<Reading> = Start::Queues(QueueStart::Pop);
+
+const LEN: Start<Reading> = Start::Queues(QueueStart::Len);
+
+/// One turn. No test needs what its contract says, and each call through it is proved without.
+pub fn step(machine: &mut Machine<Reading>, turn: Turn<Reading>) -> Result<(), Refusal> {
+    machine.step(turn)
+}
+
+#[test]
+fn three_words_at_once(rt: HostRuntime) -> Result<(), Fail> {
+    let first = Reading {
+        time: 1,
+        level: u64::MAX,
+        state: 3,
+    };
+    let second = Reading {
+        time: 4,
+        level: 5,
+        state: 6,
+    };
+    let (push_first, push_second) = (
+        Start::Queues(QueueStart::Push(first)),
+        Start::Queues(QueueStart::Push(second)),
+    );
+    let mut machine: Machine<Reading> = Machine::new(rt.alloc(), Kind::Queue, 1, 2)?;
+    // The party, its call, the turns that it takes of it, and the last event and the words then.
+    let table: [(u32, Start<Reading>, u64, Event<Reading>, [u64; 7]); 9] = [
+        (
+            0,
+            ACQUIRE_PRODUCER,
+            1,
+            Event::Finished(0, ACQUIRE_PRODUCER, Answer::Truth(true)),
+            [0, 0, 0, 1, 0, 0, 0],
+        ),
+        (
+            1,
+            ACQUIRE_CONSUMER,
+            1,
+            Event::Finished(1, ACQUIRE_CONSUMER, Answer::Truth(true)),
+            [0, 0, 0, 0, 0, 0, 0],
+        ),
+        // All but the last step of a push: its words stand in the cell, and nothing waits.
+        (
+            0,
+            push_first,
+            5,
+            Event::Begun(0, push_first),
+            [0, 0, 0, 0, 1, u64::MAX, 3],
+        ),
+        (
+            1,
+            POP,
+            2,
+            Event::Finished(1, POP, Answer::PoppedNone),
+            [0, 0, 0, 0, 1, u64::MAX, 3],
+        ),
+        (
+            1,
+            LEN,
+            0,
+            Event::Begun(1, LEN),
+            [0, 0, 0, 0, 1, u64::MAX, 3],
+        ),
+        (
+            0,
+            push_first,
+            1,
+            Event::Finished(0, push_first, Answer::Truth(true)),
+            [1, 0, 0, 0, 1, u64::MAX, 3],
+        ),
+        (
+            0,
+            push_second,
+            2,
+            Event::Finished(0, push_second, Answer::Truth(false)),
+            [1, 0, 0, 0, 1, u64::MAX, 3],
+        ),
+        (
+            1,
+            LEN,
+            4,
+            Event::Finished(1, LEN, Answer::Number(1)),
+            [1, 0, 0, 0, 1, u64::MAX, 3],
+        ),
+        (
+            1,
+            POP,
+            6,
+            Event::Finished(1, POP, Answer::Popped(first)),
+            [1, 1, 0, 0, 1, u64::MAX, 3],
+        ),
+    ];
+    for (at, (party, start, turns, last, words)) in table.into_iter().enumerate() {
+        // A call that is under way goes on.
+        if !machine.is_going(party) {
+            step(&mut machine, Turn::Begin(party, start))?;
+        }
+        for _ in 0..turns {
+            step(&mut machine, Turn::Next(party))?;
+        }
+        assert_eq!(rt; machine.events().last(), Some(&last), "{at}");
+        assert_eq!(rt; machine.words(), words.as_slice(), "{at}");
+    }
+    let told = [
+        Event::Begun(1, POP),
+        Event::HandedOut(1, Item::Value(first)),
+        Event::Acted(1, POP, Answer::Popped(first)),
+        Event::Finished(1, POP, Answer::Popped(first)),
+    ];
+    let events = machine.events();
+    let late = events.len().saturating_sub(told.len());
+    assert_eq!(rt; events.get(late..), Some(told.as_slice()));
+    Ok(())
+}

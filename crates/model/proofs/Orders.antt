@@ -1,0 +1,97 @@
+-- Every turn of a reached machine of any family is as its own words say.
+use Rattle.std.proofs.Common.{◌≡◌, ℕ, ◌-◌, ◌^◌, ◌<◌, Bool, true, false, not, Option, Some, None, List, [], ◌∷◌, ◌++◌, refl, sym, ap, subst, ◌∙◌, append-nil}
+use Rattle.model.specs.declared.families.Flight.{Flight}
+use Rattle.model.specs.declared.party.Doing.{Doing}
+use Rattle.model.specs.declared.party.Doing.TheVariants.{Going, Over}
+use Rattle.model.specs.declared.party.Party.{Party}
+use Rattle.model.specs.declared.turn.Kind.{Kind}
+use Rattle.model.specs.declared.turn.Turn.{Turn}
+use Rattle.model.specs.declared.turn.Turn.TheVariants.{Begin, Next, Decide, Die}
+use Rattle.model.specs.Families.{want_of, after_of, ask_of, is_question}
+use Rattle.model.specs.Parties.{party_of, doing_of, flight_of}
+use Rattle.model.specs.Promises.{IsTurnBy, IsTurn, AreTurns, IsKept}
+use Rattle.model.specs.Promises.Turns.{WritesInOrder, WritesDown}
+use Rattle.model.specs.Refusals.{refusal_of, is_due}
+use Rattle.model.specs.Turns.{old_of, ask_of_doing, number_of, step_in, events_of_step, events_of_answer, events_of_next, events_of_decision, after_turn, AreAllowed, IsReached}
+use Rattle.model.specs.World.{Trace, flight_in}
+use Rattle.model.proofs.Frame.{Family, Sound}
+use Rattle.model.proofs.Reached.{reached_more}
+use Rattle.model.proofs.Rows.{may_next, may_decide, must_be_due}
+use Rattle.model.proofs.Small.{reached_small}
+use Rattle.model.proofs.Turns.{one_turn_later, writes_one_word, goes_on, counts_turn, counts_others}
+
+is_true : (b : Bool) → not b ≡ false → b ≡ true
+is_true true e = refl
+is_true false e = absurd (cc)
+
+module _ {T : Type 0} (F : Family T) where
+  -- what a family owes of a step and of a decision: the order of what is written down, and that the call goes on as its table says
+  pub record Orders : Type 0 where
+    pub step : (t : Trace T) (p : ℕ) (x : Party T) (flight : Flight T) (since : ℕ) → Sound F t → t.world.turns < 2 ^ 64 - 2 → party_of p t.world.latest ≡ Some x → x.doing ≡ Going flight since
+        → WritesInOrder F.promise t (Next p) (t.events ++ events_of_step p x.start (step_in t.world p x flight (old_of t.world.words (ask_of (want_of t.world.coding flight)))))
+    pub decision : (t : Trace T) (p : ℕ) (x : Party T) (flight : Flight T) (since : ℕ) (said : Bool) → Sound F t → t.world.turns < 2 ^ 64 - 2 → party_of p t.world.latest ≡ Some x → x.doing ≡ Going flight since → is_question (want_of t.world.coding flight) ≡ true
+        → WritesInOrder F.promise t (Decide p said) (t.events ++ events_of_step p x.start (step_in t.world p x flight (number_of said)))
+    pub after : (t : Trace T) (p : ℕ) (x : Party T) (flight : Flight T) (since answer : ℕ) → Sound F t → party_of p t.world.latest ≡ Some x → x.doing ≡ Going flight since → (step_in t.world p x flight answer).after ≡ after_of t.world.coding flight answer
+
+  nothing : (t : Trace T) (turn : Turn T) → WritesInOrder F.promise t turn (t.events ++ [])
+  nothing t turn = record { effects = []; acts = []; ends = []; is = refl; are_effects = tt; are_acts = tt; are_ends = tt; right = tt }
+
+  module _ (orders : Orders) (t : Trace T) (s : Sound F t) (small : t.world.turns < 2 ^ 64 - 2) (p : ℕ) where
+    next_in_order : (o : Option (Party T)) → party_of p t.world.latest ≡ o → WritesInOrder F.promise t (Next p) (t.events ++ events_of_next t.world p o)
+    next_in_order None e = nothing t (Next p)
+    next_in_order (Some x) e = go x.doing refl
+      where
+        go : (doing : Doing T) → x.doing ≡ doing → WritesInOrder F.promise t (Next p) (t.events ++ events_of_answer t.world p x (old_of t.world.words (ask_of_doing t.world.coding doing)) doing)
+        go (Over others) d = nothing t (Next p)
+        go (Going flight since) d = orders.step t p x flight since s small e d
+
+    decision_in_order : (said : Bool) → is_due t.world.coding (flight_in t.world p) ≡ true → (o : Option (Party T)) → party_of p t.world.latest ≡ o → WritesInOrder F.promise t (Decide p said) (t.events ++ events_of_decision t.world p said o)
+    decision_in_order said due None e = nothing t (Decide p said)
+    decision_in_order said due (Some x) e = go x.doing refl
+      where
+        go : (doing : Doing T) → x.doing ≡ doing → WritesInOrder F.promise t (Decide p said) (t.events ++ events_of_answer t.world p x (number_of said) doing)
+        go (Over others) d = nothing t (Decide p said)
+        go (Going flight since) d =
+            let here : flight_in t.world p ≡ Some flight = ap (λ o. flight_of (doing_of o)) e ∙ ap (λ d. flight_of (Some d)) d in
+            orders.decision t p x flight since said s small e d (rw here at due)
+
+  writes_down : Orders → (t : Trace T) (turn : Turn T) → refusal_of t.world turn ≡ None → Sound F t → WritesDown F.promise t turn (after_turn t turn)
+  writes_down orders t (Begin p start) e s = refl
+  writes_down orders t (Next p) e s = next_in_order orders t s (may_next t.world p e).turns p (party_of p t.world.latest) refl
+  writes_down orders t (Decide p said) e s =
+      decision_in_order orders t s (may_decide t.world p said e).turns p said (is_true (is_due t.world.coding (flight_in t.world p)) (must_be_due t.world p said e)) (party_of p t.world.latest) refl
+  writes_down orders t (Die owner) e s = append-nil t.events
+
+  pub turn_is : Orders → (t : Trace T) (turn : Turn T) → refusal_of t.world turn ≡ None → IsReached t → Sound F t → IsTurnBy F.promise t turn (after_turn t turn)
+  turn_is orders t turn e r s =
+      record {
+        later = one_turn_later t.world turn e;
+        word = writes_one_word t.world turn;
+        call = goes_on t.world turn (λ p x flight since answer found doing. orders.after t p x flight since answer s found doing) e;
+        counts = counts_turn t.world turn e;
+        others = counts_others t.world turn (reached_small t r);
+        events = writes_down orders t turn e s;
+      }
+
+-- ---- what a kind's family proves of every run
+
+pub record Keeps (T : Type 0) (kind : Kind) : Type 0 where
+  pub kept : (t : Trace T) → t.world.kind ≡ kind → IsReached t → IsKept t
+  pub turn : (t : Trace T) (turn : Turn T) → t.world.kind ≡ kind → refusal_of t.world turn ≡ None → IsReached t → IsTurn t turn (after_turn t turn)
+
+module _ {T : Type 0} (laws : (kind : Kind) → Keeps T kind) where
+  pub reached_kept : (t : Trace T) → IsReached t → IsKept t
+  reached_kept t r = (laws t.world.kind).kept t refl r
+
+  reached_turn : (t : Trace T) (turn : Turn T) → refusal_of t.world turn ≡ None → IsReached t → IsTurn t turn (after_turn t turn)
+  reached_turn t turn e r = (laws t.world.kind).turn t turn refl e r
+
+  pub reached_turns : (t : Trace T) (turns : List (Turn T)) → IsReached t → AreAllowed t turns → AreTurns t turns
+  reached_turns t [] r all = tt
+  reached_turns t (turn ∷ turns) r all =
+      (reached_turn t turn all.0 r, reached_turns (after_turn t turn) turns (reached_more t turn all.0 r) all.1)
+
+  -- the same of a machine that is seen as `now`
+  pub step_turn : (inside now new : Trace T) (turn : Turn T) → inside ≡ now → IsReached inside → refusal_of inside.world turn ≡ None → new ≡ after_turn inside turn → IsTurn now turn new
+  step_turn inside now new turn is r free goes =
+      subst (λ t. IsTurn t turn new) is (subst (λ t. IsTurn inside turn t) (sym goes) (reached_turn inside turn free r))

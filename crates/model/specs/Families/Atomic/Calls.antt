@@ -1,0 +1,85 @@
+-- The calls of the single value: how each begins, and how one under way goes on.
+use Rattle.std.specs.Prelude.{ℕ, Bool, false, replicate}
+use Rattle.steps.specs.declared.ask.Want.{Want}
+use Rattle.steps.specs.declared.ask.After.{After}
+use Rattle.steps.specs.declared.copied.Kept as rooms
+use Rattle.steps.specs.Atomic as steps
+use Rattle.steps.specs.Atomic.{first_store, store_want, store_after, first_load, load_want, load_after, load_kept}
+use Rattle.steps.specs.Queues.Roles.{acquire_want, acquire_after, release_want, release_after}
+use Rattle.steps.specs.Routine.{went_on}
+use Rattle.model.specs.declared.event.Answer.{Answer}
+use Rattle.model.specs.declared.event.Answer as answers
+use Rattle.model.specs.declared.families.Flight.{Flight}
+use Rattle.model.specs.declared.families.Flight as flights
+use Rattle.model.specs.declared.families.atomic.AtomicStart.{AtomicStart}
+use Rattle.model.specs.declared.families.atomic.AtomicStart as starts
+use Rattle.model.specs.declared.families.atomic.calls.AtomicFlight.{AtomicFlight}
+use Rattle.model.specs.declared.families.atomic.calls.AtomicFlight.TheVariants.{Acquire, Release, Store, Load}
+use Rattle.model.specs.Coding.{Coding}
+use Rattle.model.specs.Families.Queues.Calls.{as_it_is, kept_at, read_in}
+use Rattle.model.specs.Step.{Going, as_call}
+
+-- ---- the words
+
+abbrev pub version_word : ℕ
+version_word = 0
+
+abbrev pub producer_word : ℕ
+producer_word = 1
+
+-- ---- the calls that begin
+
+-- a room in which nothing was put
+abbrev pub fresh : rooms.Kept 128
+fresh = record { words = replicate 128 0 }
+
+module _ {T : Type 0} where
+  abbrev pub first : AtomicStart T → AtomicFlight T
+  first starts.TheVariants.AcquireProducer =
+      Acquire (record { call = record { word = producer_word }; given = tt; room = tt })
+  first starts.TheVariants.ReleaseProducer =
+      Release (record { call = record { word = producer_word }; given = tt; room = tt })
+  first (starts.TheVariants.Store value) =
+      Store (record { call = first_store; given = value; room = tt })
+  first starts.TheVariants.Load = Load (record { call = first_load; given = tt; room = fresh })
+
+  -- ---- the calls under way
+
+  -- what a call under way wants next
+  abbrev pub want : Coding T → AtomicFlight T → Want (Unit {0})
+  want code (Acquire run) = acquire_want run.call
+  want code (Release run) = release_want run.call
+  want code (Store run) = store_want code.words_of run.call run.given
+  want code (Load run) = load_want run.call
+
+  -- whether the call begins a turn of its loop again once it is handed this old value
+  abbrev pub goes_back : AtomicFlight T → ℕ → Bool
+  goes_back (Acquire run) old = false
+  goes_back (Release run) old = false
+  goes_back (Store run) old = false
+  goes_back (Load run) old = steps.goes_back run.call.stage old
+
+  -- how it goes on from the old value of its word
+  abbrev pub after : Coding T → AtomicFlight T → ℕ → After (AtomicFlight T) (Answer T)
+  after code (Acquire run) old =
+      as_call Acquire answers.TheVariants.Truth
+      (went_on as_it_is run.given run.room (acquire_after run.call old))
+  after code (Release run) old =
+      as_call Release (λ _. answers.TheVariants.Done)
+      (went_on as_it_is run.given run.room (release_after run.call old))
+  after code (Store run) old =
+      as_call Store answers.TheVariants.Truth
+      (went_on as_it_is run.given run.room (store_after code.size run.call old))
+  after code (Load run) old =
+      as_call Load answers.TheVariants.Loaded
+      (went_on (λ end given room. read_in code room) run.given
+      (load_kept kept_at run.call run.room old) (load_after code.size run.call old))
+
+  -- the family's call under way, as one of a machine
+  abbrev pub going : Coding T → AtomicFlight T → Going (Flight T) T
+  going code flight =
+      record {
+        want = want code flight;
+        after = λ old.
+            as_call flights.TheVariants.Atomic (λ answer. answer) (after code flight old);
+      }

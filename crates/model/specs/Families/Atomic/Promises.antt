@@ -1,0 +1,91 @@
+-- What holds of the machine of the single value, after any turns.
+use Rattle.std.specs.Prelude.{◌≡◌, ℕ, ◌-◌, List, drop, take, replicate, Option, Some, slice_index}
+use Rattle.steps.specs.declared.ask.Ask.{Ask}
+use Rattle.steps.specs.declared.ask.Op.TheVariants.{Add, Exchange}
+use Rattle.steps.specs.Atomic.{cell_word}
+use Rattle.model.specs.declared.event.Start.{Start}
+use Rattle.model.specs.declared.event.Start.TheVariants.{Atomic}
+use Rattle.model.specs.declared.event.Answer.{Answer}
+use Rattle.model.specs.declared.event.Answer.TheVariants.{Loaded}
+use Rattle.model.specs.declared.event.Event.{Event}
+use Rattle.model.specs.declared.event.Event.TheVariants.{Acted}
+use Rattle.model.specs.declared.families.atomic.AtomicStart.TheVariants.{Store, Load}
+use Rattle.model.specs.Coding.{Coding}
+use Rattle.model.specs.Families.Atomic.Bounds.{most_steps}
+use Rattle.model.specs.Families.Atomic.Calls.{version_word}
+use Rattle.model.specs.Families.Atomic.Objects.{one_value}
+use Rattle.model.specs.Families.Atomic.Roles.{GrantsRight, KeepsHolder}
+use Rattle.model.specs.Families.Atomic.Spans.{moments_of}
+use Rattle.model.specs.Objects.{Object, IsLegal, standing}
+use Rattle.model.specs.Promise.{Promise}
+use Rattle.model.specs.Reading.{Each, moments, Span}
+use Rattle.model.specs.World.{Trace}
+
+-- the words of the cell in which the value of the version stands, where a value has so many words
+abbrev pub cell_in : ℕ → List ℕ → List ℕ
+cell_in size words =
+    take size (drop (cell_word size (slice_index words version_word - 1)) words)
+
+abbrev pub add_to_version : Ask
+add_to_version = record { word = version_word; op = Add 1 }
+
+-- it succeeds where the version is this one
+abbrev pub check_of_version : ℕ → Ask
+check_of_version version = record { word = version_word; op = Exchange version version }
+
+module _ {T : Type 0} where
+  -- the value that words of zeros make, replaced by stores
+  abbrev pub value_of_zeros : Coding T → Object T T
+  value_of_zeros code = one_value (code.value_of (replicate code.size 0))
+
+  -- the value that stands after these events
+  abbrev pub value_in : Coding T → List (Event T) → T
+  value_in code events = standing (value_of_zeros code) (moments events)
+
+  -- a load answers the value that stands
+  abbrev pub AnswersRight : Coding T → List (Event T) → Event T → Type 0
+  AnswersRight code before (Acted p (Atomic Load) answer) = answer ≡ Loaded (value_in code before)
+  AnswersRight code before e = Unit {0}
+
+  -- the words of the version's cell make the value that stands
+  pub record IsValue (t : Trace T) : Type 0 where
+    pub moments : IsLegal (value_of_zeros t.world.coding) (moments t.events)
+    pub answers : Each (AnswersRight t.world.coding) t.events
+    pub cell : t.world.coding.value_of (cell_in t.world.coding.size t.world.words)
+        ≡ value_in t.world.coding t.events
+    pub roles : Each GrantsRight t.events
+    pub holder : KeepsHolder t.world.kept t.events
+
+  -- A store acts in the turn that adds 1 to the version, and a load in the one that finds the
+  -- version unchanged, with the value that stands. Each does so in a turn of its own party.
+  abbrev pub ActsRight : Trace T → Option Ask → (ℕ → Type 0) → Event T → Type 0
+  ActsRight old ask IsTurnOf (Acted p (Atomic (Store value)) answer) =
+      IsTurnOf p × (ask ≡ Some add_to_version)
+  ActsRight old ask IsTurnOf (Acted p (Atomic Load) answer) =
+      IsTurnOf p
+      × (ask ≡ Some (check_of_version (slice_index old.world.words version_word)))
+      × (answer ≡ Loaded (value_in old.world.coding old.events))
+  ActsRight old ask IsTurnOf e = Unit {0}
+
+  -- ---- the promise
+
+  abbrev pub may_stand : Event T → Span T → Type 0
+  may_stand e span = ⊥
+
+  abbrev pub wrote : ℕ → Start T → Answer T → List (Event T) → Type 0
+  wrote capacity (Atomic start) answer events = moments events ≡ moments_of start answer
+  wrote capacity start answer events = ⊥
+
+  abbrev pub most : ℕ → Start T → ℕ → ℕ
+  most size (Atomic start) backs = most_steps size start backs
+  most size start backs = 0
+
+  abbrev pub promise : Promise T
+  promise =
+      record {
+        may_stand = may_stand;
+        wrote = wrote;
+        most_steps = most;
+        acts_right = ActsRight;
+        holds = IsValue;
+      }

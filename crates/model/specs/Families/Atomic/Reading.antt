@@ -1,0 +1,17 @@
+-- How the events of the single value are read.
+use Rattle.std.specs.Prelude.{ℕ, true, Option, Some, None, List, fold}
+use Rattle.model.specs.declared.event.Start.TheVariants.{Atomic}
+use Rattle.model.specs.declared.event.Answer.TheVariants.{Truth}
+use Rattle.model.specs.declared.event.Event.{Event}
+use Rattle.model.specs.declared.event.Event.TheVariants.{Finished}
+use Rattle.model.specs.declared.families.atomic.AtomicStart.TheVariants.{AcquireProducer, ReleaseProducer}
+
+module _ {T : Type 0} where
+  -- the role is held from an acquire that finished true to a giving back that finished
+  abbrev pub holder_after : Option ℕ → Event T → Option ℕ
+  holder_after holder (Finished p (Atomic AcquireProducer) (Truth true)) = Some p
+  holder_after holder (Finished p (Atomic ReleaseProducer) answer) = None
+  holder_after holder e = holder
+
+  abbrev pub holder_of : List (Event T) → Option ℕ
+  holder_of events = fold holder_after None events

@@ -1,0 +1,9 @@
+-- How a structure of a kind opens.
+use Rattle.std.specs.Prelude.{ℕ, List}
+use Rattle.model.specs.declared.families.Kept.{Kept}
+
+pub record Opening : Type 0 where
+  pub least : ℕ  -- its least capacity
+  pub greatest : ℕ
+  pub words : ℕ → ℕ → List ℕ  -- its words, by the number of words of a value and by the capacity
+  pub kept : Kept  -- what its family keeps beside them

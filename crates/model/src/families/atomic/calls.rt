@@ -1,0 +1,106 @@
+//! The calls of the single value under way: what each wants, and how it goes on.
+ghost use Rattle.std.specs.Prelude.{◌≡◌};
+ghost use Rattle.steps.specs.Ask.{CameTo};
+ghost use Rattle.model.specs.Families.Atomic.Calls.{fresh, first, want, after, goes_back};
+
+use super::AtomicStart;
+use crate::coding::Coded;
+use crate::event::Answer;
+use steps::ask::Want;
+use steps::atomic::{Load, PRODUCER, Store};
+use steps::copied::Copied;
+use steps::queues::roles::{AcquireRole, ReleaseRole};
+use steps::routine::Running;
+use steps::words::Words;
+
+/// A call of the single value under way.
+#[derive(Drop)]
+pub enum AtomicFlight<T> {
+    Acquire(Running<AcquireRole, (), ()>),
+    Release(Running<ReleaseRole, (), ()>),
+    Store(Running<Store<T>, T, ()>),
+    Load(Running<Load<T, Copied>, (), Copied>),
+}
+
+/// A room in which nothing was put.
+fn fresh() -> Copied
+    ensures { result ≡ fresh }
+{
+    Copied { words: [0; 128] }
+}
+
+/// The call that begins.
+pub fn first<T: Words>(start: &AtomicStart<T>) -> AtomicFlight<T>
+    ensures { result ≡ first start.now }
+{
+    match *start {
+        AtomicStart::AcquireProducer => AtomicFlight::Acquire(Running {
+            call: AcquireRole { word: PRODUCER },
+            given: (),
+            room: (),
+        }),
+        AtomicStart::ReleaseProducer => AtomicFlight::Release(Running {
+            call: ReleaseRole { word: PRODUCER },
+            given: (),
+            room: (),
+        }),
+        AtomicStart::Store(value) => AtomicFlight::Store(Running {
+            call: Store::new(),
+            given: value,
+            room: (),
+        }),
+        AtomicStart::Load => AtomicFlight::Load(Running {
+            call: Load::new(),
+            given: (),
+            room: fresh(),
+        }),
+    }
+}
+
+impl<T: Words> AtomicFlight<T> {
+    /// What the call wants next.
+    pub fn want(&self) -> Want<()>
+        ensures { result ≡ want ⟦<T as Coded>⟧.coding self.now }
+    {
+        match self {
+            AtomicFlight::Acquire(run) => run.want(),
+            AtomicFlight::Release(run) => run.want(),
+            AtomicFlight::Store(run) => run.want(),
+            AtomicFlight::Load(run) => run.want(),
+        }
+    }
+
+    /// Whether the call begins a turn of its loop again once it is handed this answer.
+    pub fn goes_back(&self, answer: u64) -> bool
+        ensures { result ≡ goes_back self.now answer }
+    {
+        match self {
+            AtomicFlight::Load(run) => run.call.goes_back(answer),
+            _ => false,
+        }
+    }
+
+    /// Lets the call go on from an answer, where it lies: its own answer, where it is done.
+    pub fn resume(&mut self, answer: u64) -> Option<Answer<T>>
+        ensures { CameTo result self.new (after ⟦<T as Coded>⟧.coding self.old answer) }
+    {
+        match self {
+            AtomicFlight::Acquire(run) => {
+                let taken = run.go_on(answer)?;
+                Some(Answer::Truth(taken))
+            }
+            AtomicFlight::Release(run) => {
+                let () = run.go_on(answer)?;
+                Some(Answer::Done)
+            }
+            AtomicFlight::Store(run) => {
+                let stored = run.go_on(answer)?;
+                Some(Answer::Truth(stored))
+            }
+            AtomicFlight::Load(run) => {
+                let value = run.go_on(answer)?;
+                Some(Answer::Loaded(value))
+            }
+        }
+    }
+}

@@ -1,0 +1,23 @@
+-- What the values of each kind of queue are, how they lie in words, and how events name them.
+use Rattle.std.proofs.Common.{ℕ}
+use Rattle.model.specs.declared.event.Item.{Item}
+use Rattle.model.specs.declared.event.Item.TheVariants.{Index, Value}
+use Rattle.model.specs.declared.families.queues.QueueKind.{QueueKind}
+use Rattle.model.specs.declared.families.queues.QueueKind.TheVariants.{IndexQueue, Overflow, Queue}
+use Rattle.model.specs.Coding.{Coding, one_word}
+
+abbrev pub Val : Type 0 → QueueKind → Type 0
+Val T IndexQueue = ℕ
+Val T Overflow = ℕ
+Val T Queue = T
+
+module _ {T : Type 0} where
+  abbrev pub encoded : Coding T → (kd : QueueKind) → Coding (Val T kd)
+  encoded en IndexQueue = one_word
+  encoded en Overflow = one_word
+  encoded en Queue = en
+
+  abbrev pub item : (kd : QueueKind) → Val T kd → Item T
+  item IndexQueue v = Index v
+  item Overflow v = Index v
+  item Queue v = Value v
