@@ -2,7 +2,7 @@
 use Rattle.std.proofs.Common.{◌≡◌, ℕ, false, List, [], ◌∷◌, Ok, Err, refl, true, codes}
 use Rattle.std.specs.Fmt.{digits}
 use Rattle.schedule.specs.declared.error.Cause.TheVariants as causes
-use Rattle.schedule.specs.Queues.{push_index, index_call, any_index_call, index_queue_call}
+use Rattle.schedule.specs.Queues.{push_index, push_value, item_call, any_call, queue_call}
 use Rattle.schedule.specs.Grammar.{number_at, setup_of, begin_of, next_of, turn_of, death_of, command_of}
 use Rattle.schedule.specs.Print.{event_text, refusal_text}
 use Rattle.schedule.specs.Output.{Output, outcome, nexts, lines_from, machine_of, output_of_lines, output, stopped}
@@ -13,19 +13,25 @@ printed_whole text = record { text = text; end = Ok tt }
 -- a push that stops before its last step, and a pop that finds nothing
 stopped_push : output [] (codes "index_queue 1 2\n0 begin acquire_producer\n0 next\n1 begin acquire_consumer\n1 next\n0 begin push 5\n0 next 3\n1 begin pop\n1 next 4\n0 next\n")
     ≡ printed_whole (codes "0 begun acquire_producer\n0 finished acquire_producer -> true\n1 begun acquire_consumer\n1 finished acquire_consumer -> true\n0 begun push 5\n1 begun pop\n1 acted pop -> none\n1 finished pop -> none\n0 published 5\n0 acted push 5 -> true\n0 finished push 5 -> true\n")
-unfolding output_of_lines machine_of setup_of number_at lines_from command_of turn_of begin_of index_queue_call any_index_call index_call push_index next_of nexts outcome event_text digits
+unfolding output_of_lines machine_of setup_of number_at lines_from command_of turn_of begin_of queue_call any_call item_call push_index next_of nexts outcome event_text digits
 stopped_push = refl
+
+-- a push of a value of two words that stops inside its cell
+stopped_in_a_cell : output [] (codes "queue 1 2\n0 begin acquire_producer\n0 next\n1 begin acquire_consumer\n1 next\n0 begin push 18446744073709551618\n0 next 4\n1 begin pop\n1 next 9\n0 next\n0 begin len\n0 next 9\n")
+    ≡ printed_whole (codes "0 begun acquire_producer\n0 finished acquire_producer -> true\n1 begun acquire_consumer\n1 finished acquire_consumer -> true\n0 begun push 18446744073709551618\n1 begun pop\n1 acted pop -> none\n1 finished pop -> none\n0 published 18446744073709551618\n0 acted push 18446744073709551618 -> true\n0 finished push 18446744073709551618 -> true\n0 begun len\n0 finished len -> 1\n")
+unfolding output_of_lines machine_of setup_of number_at lines_from command_of turn_of begin_of queue_call any_call item_call push_value next_of nexts outcome event_text digits
+stopped_in_a_cell = refl
 
 -- a length between the cell and the publication of a push, and one after it
 lengths : output [] (codes "index_queue 1 2\n0 begin acquire_producer\n0 next\n0 begin push 5\n0 next 3\n1 begin len\n1 next 9\n0 next\n1 begin is_full\n1 next 9\n")
     ≡ printed_whole (codes "0 begun acquire_producer\n0 finished acquire_producer -> true\n0 begun push 5\n1 begun len\n1 finished len -> 0\n0 published 5\n0 acted push 5 -> true\n0 finished push 5 -> true\n1 begun is_full\n1 finished is_full -> true\n")
-unfolding output_of_lines machine_of setup_of number_at lines_from command_of turn_of begin_of index_queue_call any_index_call index_call push_index next_of nexts outcome event_text digits
+unfolding output_of_lines machine_of setup_of number_at lines_from command_of turn_of begin_of queue_call any_call item_call push_index next_of nexts outcome event_text digits
 lengths = refl
 
 -- memory refused to the second turn
 short_turn : output (false ∷ true ∷ []) (codes "index_queue 1 1\n0 begin acquire_producer\n0 next\n0 next")
     ≡ printed_whole (codes "0 begun acquire_producer\nrefused NoMemory\n0 finished acquire_producer -> true\n")
-unfolding output_of_lines machine_of setup_of number_at lines_from command_of turn_of begin_of index_queue_call any_index_call next_of outcome event_text refusal_text digits
+unfolding output_of_lines machine_of setup_of number_at lines_from command_of turn_of begin_of queue_call any_call next_of outcome event_text refusal_text digits
 short_turn = refl
 
 missing : output [] [] ≡ stopped 1 causes.MissingValue
@@ -43,5 +49,5 @@ extra = refl
 
 -- the lines before a malformed one are printed, and empty lines are counted
 malformed : output [] (codes "index_queue 1 1\n\ndie 1\n0 begin push") ≡ record { text = codes "refused WrongCall\n"; end = Err (4, causes.MissingValue) }
-unfolding output_of_lines machine_of setup_of number_at lines_from command_of turn_of death_of begin_of index_queue_call any_index_call index_call push_index outcome refusal_text
+unfolding output_of_lines machine_of setup_of number_at lines_from command_of turn_of death_of begin_of queue_call any_call item_call push_index outcome refusal_text
 malformed = refl

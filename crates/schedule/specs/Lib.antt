@@ -1,3 +1,4 @@
+pub mod Atomic
 pub mod Grammar
 pub mod Output
 pub mod Print

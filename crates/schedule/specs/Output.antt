@@ -7,7 +7,10 @@ use Rattle.model.specs.declared.turn.Refusal.{Refusal}
 use Rattle.model.specs.declared.turn.Refusal.TheVariants.{NoMemory}
 use Rattle.model.specs.declared.turn.Turn.{Turn}
 use Rattle.model.specs.declared.turn.Turn.TheVariants.{Next}
-use Rattle.model.specs.World.{World, opening, capacity_error}
+use Rattle.steps.specs.Words.{words_of_u128, value_of_u128}
+use Rattle.model.specs.Coding.{Coding, coding_of}
+use Rattle.model.specs.World as machines
+use Rattle.model.specs.World.{World, opening, capacity_error, world_in}
 use Rattle.model.specs.Refusals.{refusal_of, is_going}
 use Rattle.model.specs.Turns.{world_after, events_of}
 use Rattle.schedule.specs.declared.error.Cause.{Cause}
@@ -20,6 +23,14 @@ use Rattle.schedule.specs.Grammar.{◌>>=◌, setup_of, command_of}
 use Rattle.schedule.specs.Print.{events_text, refusal_text}
 
 -- ---- one turn
+
+-- how the program's values are written in words
+abbrev pub two_words : Coding ℕ
+two_words = coding_of 2 words_of_u128 value_of_u128
+
+-- the world of a machine of such values
+abbrev pub world_of : machines.State ℕ → World ℕ
+world_of held = world_in two_words held
 
 -- what a turn prints, whether it was taken, and the world after it
 pub record Outcome : Type 0 where
@@ -135,7 +146,7 @@ machine_of ws = do
 
 abbrev pub opened : Setup → List Bool → State
 opened setup memory =
-    record { world = (opening setup.kind setup.capacity setup.parties).world; memory = memory }
+    record { world = (opening two_words setup.kind setup.capacity setup.parties).world; memory = memory }
 
 unfoldable pub output_of_lines : List Bool → List (List ℕ) → Output
 output_of_lines memory [] = stopped 1 causes.MissingValue

@@ -2,15 +2,16 @@
 use Rattle.std.specs.Prelude.{ℕ, Bool, true, false, List, [], ◌++◌, Result, Ok, Err, codes, decimal}
 use Rattle.std.specs.List.{flat_map}
 use Rattle.model.specs.declared.event.Answer.{Answer}
-use Rattle.model.specs.declared.event.Answer.TheVariants.{Done, Truth, Number, PoppedNone, PoppedIndex, Popped}
+use Rattle.model.specs.declared.event.Answer.TheVariants.{Done, Truth, Number, PoppedNone, PoppedIndex, Popped, Loaded}
 use Rattle.model.specs.declared.event.Event.{Event}
 use Rattle.model.specs.declared.event.Event.TheVariants.{Begun, Published, HandedOut, Acted, Finished}
 use Rattle.model.specs.declared.event.Item.{Item}
 use Rattle.model.specs.declared.event.Item.TheVariants.{Index, Value}
 use Rattle.model.specs.declared.event.Start.{Start}
-use Rattle.model.specs.declared.event.Start.TheVariants.{Queues}
+use Rattle.model.specs.declared.event.Start.TheVariants.{Queues, Atomic}
 use Rattle.model.specs.declared.turn.Refusal.{Refusal}
 use Rattle.model.specs.declared.turn.Refusal.TheVariants as refusals
+use Rattle.schedule.specs.Atomic.{value_call_text}
 use Rattle.schedule.specs.Queues.{queue_call_text}
 use Rattle.schedule.specs.declared.error.Cause.{Cause}
 use Rattle.schedule.specs.declared.error.Cause.TheVariants as causes
@@ -26,6 +27,7 @@ item_text (Value n) = decimal n
 -- a call and its arguments
 abbrev pub call_text : Start ℕ → List ℕ
 call_text (Queues start) = queue_call_text start
+call_text (Atomic start) = value_call_text start
 
 abbrev pub truth_text : Bool → List ℕ
 truth_text true = codes "true"
@@ -38,6 +40,7 @@ answer_text PoppedNone = codes "none"
 answer_text (PoppedIndex index) = codes "some " ++ decimal index
 answer_text (Popped value) = codes "some " ++ decimal value
 answer_text (Number n) = decimal n
+answer_text (Loaded value) = decimal value
 
 -- a call and its answer
 abbrev pub answered_text : Start ℕ → Answer ℕ → List ℕ

@@ -1,5 +1,5 @@
 -- The calls of the queues, as a schedule names them and as they print.
-use Rattle.std.specs.Prelude.{ℕ, ◌-◌, ◌^◌, List, ◌++◌, Option, Some, None, Result, Ok, Err, if◌then◌else◌, bytes_eq, codes, decimal}
+use Rattle.std.specs.Prelude.{ℕ, ◌-◌, ◌^◌, Bool, true, false, List, ◌++◌, Option, Some, None, Result, Ok, Err, if◌then◌else◌, bytes_eq, codes, decimal}
 use Rattle.model.specs.declared.event.Start.{Start}
 use Rattle.model.specs.declared.event.Start.TheVariants.{Queues}
 use Rattle.model.specs.declared.families.queues.QueueStart.{QueueStart}
@@ -25,27 +25,44 @@ length_call name =
     else if bytes_eq name (codes "is_full") then Some IsFull
     else None
 
+-- a push of an index, or of a value of the machine's own type
 unfoldable pub push_index : List (List ℕ) → Result (QueueStart ℕ × List (List ℕ)) Cause
 push_index ws = do
   index ← number_at (2 ^ 64 - 1) ws
   Ok (PushIndex index.0, index.1)
 
--- a call on the indices of a queue that is no call on a role
-unfoldable pub index_call : List ℕ → List (List ℕ) → Result (QueueStart ℕ × List (List ℕ)) Cause
-index_call name ws =
-    if bytes_eq name (codes "push") then push_index ws
+unfoldable pub push_value : List (List ℕ) → Result (QueueStart ℕ × List (List ℕ)) Cause
+push_value ws = do
+  value ← number_at (2 ^ 128 - 1) ws
+  Ok (Push value.0, value.1)
+
+abbrev pub push_call : Bool → List (List ℕ) → Result (QueueStart ℕ × List (List ℕ)) Cause
+push_call is_value ws = if is_value then push_value ws else push_index ws
+
+-- a call on the values of a queue that is no call on a role
+unfoldable pub item_call : Bool → List ℕ → List (List ℕ)
+    → Result (QueueStart ℕ × List (List ℕ)) Cause
+item_call is_value name ws =
+    if bytes_eq name (codes "push") then push_call is_value ws
     else if bytes_eq name (codes "pop") then Ok (Pop, ws)
     else elim (length_call name) [ Some start ↦ Ok (start, ws) | None ↦ Err UnknownCall ]
 
-unfoldable pub any_index_call : List ℕ → List (List ℕ) → Result (QueueStart ℕ × List (List ℕ)) Cause
-any_index_call name ws =
-    elim (role_call name) [ Some start ↦ Ok (start, ws) | None ↦ index_call name ws ]
+unfoldable pub any_call : Bool → List ℕ → List (List ℕ)
+    → Result (QueueStart ℕ × List (List ℕ)) Cause
+any_call is_value name ws =
+    elim (role_call name) [ Some start ↦ Ok (start, ws) | None ↦ item_call is_value name ws ]
 
--- the calls of a queue of indices
-unfoldable pub index_queue_call : List ℕ → List (List ℕ) → Result (Start ℕ × List (List ℕ)) Cause
-index_queue_call name ws = do
-  call ← any_index_call name ws
+-- the calls of a queue of indices, and of one of values
+unfoldable pub queue_call : Bool → List ℕ → List (List ℕ) → Result (Start ℕ × List (List ℕ)) Cause
+queue_call is_value name ws = do
+  call ← any_call is_value name ws
   Ok (Queues call.0, call.1)
+
+abbrev pub index_queue_call : List ℕ → List (List ℕ) → Result (Start ℕ × List (List ℕ)) Cause
+index_queue_call name ws = queue_call false name ws
+
+abbrev pub value_queue_call : List ℕ → List (List ℕ) → Result (Start ℕ × List (List ℕ)) Cause
+value_queue_call name ws = queue_call true name ws
 
 -- ---- how they print
 

@@ -4,8 +4,8 @@ ghost use Rattle.schedule.specs.Text.{words_left, words};
 ghost use Rattle.schedule.specs.Grammar.{Gives, next_word, ended, number_at, kind_of, setup_of, call_of, begin_of, count_of, next_of, decision_of, turn_of, death_of, command_of};
 
 use crate::error::Cause;
-use crate::queues;
 use crate::text::{Rest, number_of, words};
+use crate::{atomic, queues};
 use machine::event::Start;
 use machine::turn::{Kind, Turn};
 use steps::enums::OwnerId;
@@ -72,6 +72,10 @@ fn kind_of(name: &[u8]) -> Result<Kind, Cause>
         Ok(Kind::IndexQueue)
     } else if name == b"overflow".as_slice() {
         Ok(Kind::Overflow)
+    } else if name == b"queue".as_slice() {
+        Ok(Kind::Queue)
+    } else if name == b"atomic".as_slice() {
+        Ok(Kind::Atomic)
     } else {
         Err(Cause::UnknownKind)
     }
@@ -103,6 +107,8 @@ fn call_of<'a>(kind: Kind, name: &[u8], words: Rest<'a>) -> Result<(Start<u128>,
     match kind {
         Kind::IndexQueue => queues::index_queue_call(name, words),
         Kind::Overflow => queues::index_queue_call(name, words),
+        Kind::Queue => queues::value_queue_call(name, words),
+        Kind::Atomic => atomic::value_call(name, words),
     }
 }
 

@@ -100,6 +100,7 @@ impl Line {
     {
         match start {
             Start::Queues(start) => self.push_queue_call(start),
+            Start::Atomic(start) => self.push_value_call(start),
         }
     }
 
@@ -122,6 +123,7 @@ impl Line {
                 self.push_number(value);
             }
             Answer::Number(number) => self.push_number(u128::from(number)),
+            Answer::Loaded(value) => self.push_number(value),
         }
     }
 

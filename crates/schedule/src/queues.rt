@@ -2,7 +2,7 @@
 ghost use Rattle.std.specs.Prelude.{◌≡◌, ◌+◌, ◌≤◌, ◌++◌, length};
 ghost use Rattle.schedule.specs.Text.{words_left};
 ghost use Rattle.schedule.specs.Grammar.{Gives};
-ghost use Rattle.schedule.specs.Queues.{role_call, length_call, push_index, index_call, any_index_call, index_queue_call, queue_call_text};
+ghost use Rattle.schedule.specs.Queues.{role_call, length_call, push_index, push_value, push_call, item_call, any_call, queue_call, index_queue_call, value_queue_call, queue_call_text};
 
 use crate::error::Cause;
 use crate::grammar::number_at;
@@ -49,13 +49,36 @@ fn push_index(words: Rest<'_>) -> Result<(QueueStart<u128>, Rest<'_>), Cause>
     Ok((QueueStart::PushIndex(index as u64), rest))
 }
 
-#[tactic(auto, unfolding(crate::specs::Queues::index_call))]
-fn index_call<'a>(name: &[u8], words: Rest<'a>) -> Result<(QueueStart<u128>, Rest<'a>), Cause>
+#[tactic(auto, unfolding(crate::specs::Queues::push_value))]
+fn push_value(words: Rest<'_>) -> Result<(QueueStart<u128>, Rest<'_>), Cause>
+    ensures { Gives (λ x. (x.0, words_left x.1)) result (push_value (words_left words.entry)) }
+{
+    let (value, rest) = number_at(u128::MAX, words)?;
+    Ok((QueueStart::Push(value), rest))
+}
+
+fn push_call(is_value: bool, words: Rest<'_>) -> Result<(QueueStart<u128>, Rest<'_>), Cause>
     ensures { Gives (λ x. (x.0, words_left x.1)) result
-        (index_call name.now (words_left words.entry)) }
+        (push_call is_value (words_left words.entry)) }
+{
+    if is_value {
+        push_value(words)
+    } else {
+        push_index(words)
+    }
+}
+
+#[tactic(auto, unfolding(crate::specs::Queues::item_call))]
+fn item_call<'a>(
+    is_value: bool,
+    name: &[u8],
+    words: Rest<'a>,
+) -> Result<(QueueStart<u128>, Rest<'a>), Cause>
+    ensures { Gives (λ x. (x.0, words_left x.1)) result
+        (item_call is_value name.now (words_left words.entry)) }
 {
     if name == b"push".as_slice() {
-        push_index(words)
+        push_call(is_value, words)
     } else if name == b"pop".as_slice() {
         Ok((QueueStart::Pop, words))
     } else {
@@ -66,25 +89,48 @@ fn index_call<'a>(name: &[u8], words: Rest<'a>) -> Result<(QueueStart<u128>, Res
     }
 }
 
-#[tactic(auto, unfolding(crate::specs::Queues::any_index_call))]
-fn any_index_call<'a>(name: &[u8], words: Rest<'a>) -> Result<(QueueStart<u128>, Rest<'a>), Cause>
+#[tactic(auto, unfolding(crate::specs::Queues::any_call))]
+fn any_call<'a>(
+    is_value: bool,
+    name: &[u8],
+    words: Rest<'a>,
+) -> Result<(QueueStart<u128>, Rest<'a>), Cause>
     ensures { Gives (λ x. (x.0, words_left x.1)) result
-        (any_index_call name.now (words_left words.entry)) }
+        (any_call is_value name.now (words_left words.entry)) }
 {
     match role_call(name) {
         Some(start) => Ok((start, words)),
-        None => index_call(name, words),
+        None => item_call(is_value, name, words),
     }
 }
 
+#[tactic(auto, unfolding(crate::specs::Queues::queue_call))]
+fn queue_call<'a>(
+    is_value: bool,
+    name: &[u8],
+    words: Rest<'a>,
+) -> Result<(Start<u128>, Rest<'a>), Cause>
+    ensures { Gives (λ x. (x.0, words_left x.1)) result
+        (queue_call is_value name.now (words_left words.entry)) }
+{
+    let (start, rest) = any_call(is_value, name, words)?;
+    Ok((Start::Queues(start), rest))
+}
+
 /// A call of a queue of indices.
-#[tactic(auto, unfolding(crate::specs::Queues::index_queue_call))]
 pub fn index_queue_call<'a>(name: &[u8], words: Rest<'a>) -> Result<(Start<u128>, Rest<'a>), Cause>
     ensures { Gives (λ x. (x.0, words_left x.1)) result
         (index_queue_call name.now (words_left words.entry)) }
 {
-    let (start, rest) = any_index_call(name, words)?;
-    Ok((Start::Queues(start), rest))
+    queue_call(false, name, words)
+}
+
+/// A call of a queue of values.
+pub fn value_queue_call<'a>(name: &[u8], words: Rest<'a>) -> Result<(Start<u128>, Rest<'a>), Cause>
+    ensures { Gives (λ x. (x.0, words_left x.1)) result
+        (value_queue_call name.now (words_left words.entry)) }
+{
+    queue_call(true, name, words)
 }
 
 impl Line {

@@ -1,7 +1,7 @@
 //! A whole run: the input is read, the machine is made, and the lines are done one after another.
 ghost use Rattle.std.specs.Prelude.{◌^◌, ◌<◌, Bool, length};
 ghost use Rattle.schedule.specs.Grammar.{Gives};
-ghost use Rattle.schedule.specs.Output.{outcome, nexts, commanded, lines_from, machine_of, output};
+ghost use Rattle.schedule.specs.Output.{world_of, outcome, nexts, commanded, lines_from, machine_of, output};
 ghost use Rattle.schedule.specs.Run.{IsTurn, IsStep, Prints, IsOutput, IsRun};
 ghost use Rattle.schedule.specs.Text.{words, words_left};
 ghost use Rattle.model.specs.declared.turn.Turn.TheVariants.{Next};
@@ -23,8 +23,8 @@ fn take_turn<W: Write>(
     turn: Turn<u128>,
     writer: &mut W,
 ) -> Result<bool, ScheduleError>
-    ensures { (short : Bool) × IsTurn (outcome short machine.old.world turn)
-        machine.new.world (W.contents writer.old) (W.contents writer.new) result }
+    ensures { (short : Bool) × IsTurn (outcome short (world_of machine.old) turn)
+        (world_of machine.new) (W.contents writer.old) (W.contents writer.new) result }
 {
     let before = machine.events().len();
     match machine.step(turn) {
@@ -45,8 +45,8 @@ fn take_next<W: Write>(
     party: u32,
     writer: &mut W,
 ) -> Result<bool, ScheduleError>
-    ensures { (short : Bool) × IsStep party (outcome short machine.old.world (Next party))
-        machine.new.world (W.contents writer.old) (W.contents writer.new) result }
+    ensures { (short : Bool) × IsStep party (outcome short (world_of machine.old) (Next party))
+        (world_of machine.new) (W.contents writer.old) (W.contents writer.new) result }
 {
     match take_turn(machine, Turn::Next(party), writer) {
         Ok(taken) => Ok(taken && machine.is_going(party)),
@@ -61,7 +61,7 @@ fn take_nexts<W: Write>(
     most: u64,
     writer: &mut W,
 ) -> Result<(), ScheduleError>
-    ensures { Prints (nexts most party) machine.old.world machine.new.world
+    ensures { Prints (nexts most party) (world_of machine.old) (world_of machine.new)
         (W.contents writer.old) (W.contents writer.new) result }
 {
     for _ in 0..most {
@@ -80,7 +80,7 @@ fn do_command<W: Write>(
     command: Command,
     writer: &mut W,
 ) -> Result<(), ScheduleError>
-    ensures { Prints (commanded command) machine.old.world machine.new.world
+    ensures { Prints (commanded command) (world_of machine.old) (world_of machine.new)
         (W.contents writer.old) (W.contents writer.new) result }
 {
     match command {
@@ -102,7 +102,7 @@ fn do_lines<W: Write>(
     requires { length (words_left lines) < 2 ^ 63 }
     ensures { IsOutput
         (λ memory. lines_from kind 2 (words_left lines.entry)
-        (record { world = machine.old.world; memory = memory }))
+        (record { world = world_of machine.old; memory = memory }))
         (W.contents writer.old) (W.contents writer.new) result }
 {
     let mut left = lines;

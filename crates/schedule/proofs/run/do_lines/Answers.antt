@@ -1,5 +1,6 @@
 use Rattle.std.proofs.Common.{[], refl, ap, length, arith}
 use Rattle.std.proofs.KnownBytes.{Appends-nil}
+use Rattle.schedule.specs.Output.{world_of}
 use Rattle.schedule.proofs.Lines.{some_of, none_of, done_command, done_empty, lines_ended, lines_malformed, lines_failed}
 use Rattle.schedule.proofs.run.do_lines.Goals as goal
 use Rattle.schedule.proofs.run.do_lines.Goals.{then-not-is_empty+in-Ok+in-Ok-do_command, else-not-is_empty}
@@ -10,19 +11,19 @@ loop-line-init g c = record { numbered = omega arith; written = ([], [], λ more
 pub returns-in-Err : goal.returns-in-Err
 returns-in-Err g c =
     let i = c.loop-line.invariant.written in
-    lines_malformed c.args.kind _ _ _ c.in-Some.line.now c.loop-line.number c.args.machine.now.world c.loop-line.machine.world _ _ i.0 i.1 c.in-Err.cause i.2 i.3 c.in-Some.ensures
+    lines_malformed c.args.kind _ _ _ c.in-Some.line.now c.loop-line.number (world_of c.args.machine.now) (world_of c.loop-line.machine) _ _ i.0 i.1 c.in-Err.cause i.2 i.3 c.in-Some.ensures
     (some_of _ c.if-not-is_empty.ensures) c.in-Err.ensures
 
 pub returns-in-Err-do_command : goal.returns-in-Err-do_command
 returns-in-Err-do_command g c =
     let i = c.loop-line.invariant.written in
-    lines_failed c.args.kind _ _ _ c.in-Some.line.now c.loop-line.number c.args.machine.now.world c.loop-line.machine.world c.do_command.new.machine.world _ _ _ i.0 i.1 c.in-Ok.command c.in-Err-do_command.e i.2 i.3 c.in-Some.ensures
+    lines_failed c.args.kind _ _ _ c.in-Some.line.now c.loop-line.number (world_of c.args.machine.now) (world_of c.loop-line.machine) (world_of c.do_command.new.machine) _ _ _ i.0 i.1 c.in-Ok.command c.in-Err-do_command.e i.2 i.3 c.in-Some.ensures
     (some_of _ c.if-not-is_empty.ensures) c.in-Ok.ensures c.in-Err-do_command.ensures
 
 pub returns : goal.returns
 returns g c =
     let i = c.loop-line.invariant.written in
-    lines_ended c.args.kind _ _ c.loop-line.number c.args.machine.now.world c.loop-line.machine.world _ _ i.0 i.1 i.2 i.3 c.in_default.ensures
+    lines_ended c.args.kind _ _ c.loop-line.number (world_of c.args.machine.now) (world_of c.loop-line.machine) _ _ i.0 i.1 i.2 i.3 c.in_default.ensures
 
 pub loop-line-preserved : goal.loop-line-preserved
 loop-line-preserved g c =
@@ -33,11 +34,11 @@ loop-line-preserved g c =
           elim c.if-not-is_empty.branch [
             | then-not-is_empty+in-Ok+in-Ok-do_command w ↦
                 rw (w.machine-is, w.writer-is)
-                (done_command c.args.kind _ _ _ c.in-Some.line.now c.loop-line.number c.args.machine.now.world c.loop-line.machine.world w.do_command.new.machine.world
+                (done_command c.args.kind _ _ _ c.in-Some.line.now c.loop-line.number (world_of c.args.machine.now) (world_of c.loop-line.machine) (world_of w.do_command.new.machine)
                 _ _ _ i.0 i.1 w.in-Ok.command i.2 i.3 c.in-Some.ensures (some_of _ w.if-not-is_empty.ensures) w.in-Ok.ensures w.in-Ok-do_command.ensures)
             | else-not-is_empty w ↦
                 rw (w.machine-is, w.writer-is)
-                (done_empty c.args.kind _ _ _ c.in-Some.line.now c.loop-line.number c.args.machine.now.world c.loop-line.machine.world _ _ i.0 i.1 i.2 i.3
+                (done_empty c.args.kind _ _ _ c.in-Some.line.now c.loop-line.number (world_of c.args.machine.now) (world_of c.loop-line.machine) _ _ i.0 i.1 i.2 i.3
                 c.in-Some.ensures (none_of _ w.if-not-is_empty.ensures))
           ];
     }

@@ -1,6 +1,6 @@
 use Rattle.std.proofs.Common.{◌≡◌, ℕ, ◌+◌, ◌<◌, ◌^◌, ◌++◌, List, Bool, length}
 use Rattle.std.specs.Io.KnownBytes.{Appends}
-use Rattle.schedule.specs.Output.{lines_from, before}
+use Rattle.schedule.specs.Output.{world_of, lines_from, before}
 use Rattle.schedule.specs.Text.{words_left}
 use Rattle.schedule.proofs.run.do_lines.Given as goal
 
@@ -8,8 +8,8 @@ abbrev pub invariant-loop-line : goal.invariant-loop-line
 invariant-loop-line g l = record {
   numbered : l.number + length (words_left l.left) < 2 ^ 64;
   written : (memory : List Bool) × (text : List ℕ)
-      × ((more : List Bool) → lines_from l.kind 2 (words_left l.fn.lines) (record { world = l.fn.machine.world; memory = memory ++ more })
-      ≡ before text (lines_from l.kind l.number (words_left l.left) (record { world = l.machine.world; memory = more })))
+      × ((more : List Bool) → lines_from l.kind 2 (words_left l.fn.lines) (record { world = world_of l.fn.machine; memory = memory ++ more })
+      ≡ before text (lines_from l.kind l.number (words_left l.left) (record { world = world_of l.machine; memory = more })))
       × Appends (g.W.Write.contents l.fn.writer) (g.W.Write.contents l.writer) text;
 }
 

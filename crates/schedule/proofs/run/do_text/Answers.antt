@@ -1,4 +1,5 @@
 use Rattle.std.proofs.Common.{sym, ap, ◌∙◌, arith}
+use Rattle.schedule.specs.Output.{world_of}
 use Rattle.schedule.proofs.Whole.{few_lines, text_missing, text_malformed, text_lines}
 use Rattle.schedule.proofs.run.do_text.Goals as goal
 
@@ -13,5 +14,5 @@ do_lines-requires g c = omega (arith, few_lines c.args.input.now c.in-Some.first
 
 pub returns-in-Ok-new : goal.returns-in-Ok-new
 returns-in-Ok-new g c =
-    text_lines c.args.input.now c.in-Some.first.now _ c.in-Ok.setup c.in-Ok-new.machine.world _ _ c.do_lines.result
+    text_lines c.args.input.now c.in-Some.first.now _ c.in-Ok.setup (world_of c.in-Ok-new.machine) _ _ c.do_lines.result
     (sym c.lines.ensures ∙ c.in-Some.ensures) c.in-Ok.ensures (ap (λ t. t.world) c.in-Ok-new.ensures.ok) c.do_lines.ensures

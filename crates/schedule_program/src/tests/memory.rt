@@ -2,11 +2,10 @@
 ghost use Rattle.std.specs.Borrow.{ffalse};
 
 use super::{STOPPED_PUSH, STOPPED_PUSH_OUTPUT};
-use crate::error::ScheduleError;
-use crate::run::run;
-use crate::status::status;
+use schedule::error::{Cause, ScheduleError};
+use schedule::run::run;
+use schedule::status::status;
 use std::alloc::{AllocError, Allocator};
-use std::test::Fail;
 
 /// Memory that is refused at every call.
 #[derive(Clone, Copy)]
@@ -24,38 +23,30 @@ unsafe impl Allocator for Nothing {
 
 #[test]
 fn the_first_piece_is_refused(rt: HostRuntime) {
-    let mut reader = STOPPED_PUSH;
     let mut written: Vec<u8> = Vec::new(rt.alloc());
-    assert_eq!(rt;
-        run(Nothing, rt.alloc(), &mut reader, &mut written),
-        Err(ScheduleError::NoMemory)
-    );
-    assert!(rt; written.is_empty());
     // An empty input needs no memory.
-    let mut reader: &[u8] = b"";
-    assert!(rt;
-        matches!(
-            run(Nothing, rt.alloc(), &mut reader, &mut written),
-            Err(ScheduleError::Malformed(1, _))
-        )
-    );
+    let empty = Err(ScheduleError::Malformed(1, Cause::MissingValue));
+    let rows: [(&[u8], Result<(), ScheduleError>); 2] = [
+        (STOPPED_PUSH, Err(ScheduleError::NoMemory)),
+        (b"", empty),
+    ];
+    for (input, wanted) in rows {
+        let mut reader = input;
+        let ended = run(Nothing, rt.alloc(), &mut reader, &mut written);
+        assert!(rt; ended == wanted && written.is_empty());
+    }
 }
 
 #[test]
-fn the_room_for_the_output_is_refused(rt: HostRuntime) -> Result<(), Fail> {
+fn the_room_for_the_output_is_refused(rt: HostRuntime) {
     let alloc = rt.alloc();
     let mut reader = STOPPED_PUSH;
     let mut written: Vec<u8> = Vec::new(alloc);
     let mut errors: Vec<u8> = Vec::new(alloc);
     let ended = status(Nothing, alloc, &mut reader, &mut written, &mut errors);
-    assert_eq!(rt; ended, 1);
-    assert_eq!(rt; errors.as_slice(), b"no memory\n".as_slice());
-    assert!(rt; written.is_empty());
+    assert!(rt; ended == 1 && written.is_empty());
+    assert!(rt; errors.as_slice() == b"no memory\n".as_slice());
     // Nothing was read, so that another run has it all.
-    assert_eq!(rt;
-        status(alloc, alloc, &mut reader, &mut written, &mut errors),
-        0
-    );
-    assert_eq!(rt; written.as_slice(), STOPPED_PUSH_OUTPUT);
-    Ok(())
+    let ended = status(alloc, alloc, &mut reader, &mut written, &mut errors);
+    assert!(rt; ended == 0 && written.as_slice() == STOPPED_PUSH_OUTPUT);
 }

@@ -1,17 +1,7 @@
-//! Reads a written schedule of turns, and prints what each of them did.
+//! The program: a schedule on standard input, what its turns did on standard output.
 #![tactic(auto)]
 
-mod error;
-mod grammar;
-mod input;
-mod line;
-mod output;
-mod queues;
-mod run;
-mod status;
-mod text;
-
-use status::status;
+use schedule::status::status;
 use std::process::ExitCode;
 
 #[cfg(test)]

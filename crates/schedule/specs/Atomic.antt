@@ -1,0 +1,38 @@
+-- The calls of the single value, as a schedule names them and as they print.
+use Rattle.std.specs.Prelude.{ℕ, ◌-◌, ◌^◌, List, ◌++◌, Result, Ok, Err, if◌then◌else◌, bytes_eq, codes, decimal}
+use Rattle.model.specs.declared.event.Start.{Start}
+use Rattle.model.specs.declared.event.Start as starts
+use Rattle.model.specs.declared.families.atomic.AtomicStart.{AtomicStart}
+use Rattle.model.specs.declared.families.atomic.AtomicStart.TheVariants.{AcquireProducer, ReleaseProducer, Store, Load}
+use Rattle.schedule.specs.declared.error.Cause.{Cause}
+use Rattle.schedule.specs.declared.error.Cause.TheVariants.{UnknownCall}
+use Rattle.schedule.specs.Reading.{◌>>=◌, number_at}
+
+-- ---- how they are read
+
+unfoldable pub store : List (List ℕ) → Result (AtomicStart ℕ × List (List ℕ)) Cause
+store ws = do
+  value ← number_at (2 ^ 128 - 1) ws
+  Ok (Store value.0, value.1)
+
+unfoldable pub any_value_call : List ℕ → List (List ℕ) → Result (AtomicStart ℕ × List (List ℕ)) Cause
+any_value_call name ws =
+    if bytes_eq name (codes "acquire_producer") then Ok (AcquireProducer, ws)
+    else if bytes_eq name (codes "release_producer") then Ok (ReleaseProducer, ws)
+    else if bytes_eq name (codes "store") then store ws
+    else if bytes_eq name (codes "load") then Ok (Load, ws)
+    else Err UnknownCall
+
+-- the calls of the single value
+unfoldable pub value_call : List ℕ → List (List ℕ) → Result (Start ℕ × List (List ℕ)) Cause
+value_call name ws = do
+  call ← any_value_call name ws
+  Ok (starts.TheVariants.Atomic call.0, call.1)
+
+-- ---- how they print
+
+abbrev pub value_call_text : AtomicStart ℕ → List ℕ
+value_call_text AcquireProducer = codes "acquire_producer"
+value_call_text ReleaseProducer = codes "release_producer"
+value_call_text (Store value) = codes "store " ++ decimal value
+value_call_text Load = codes "load"

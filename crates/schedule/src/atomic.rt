@@ -1,0 +1,67 @@
+//! The calls of the single value, as a schedule names them and as they print.
+ghost use Rattle.std.specs.Prelude.{◌≡◌, ◌+◌, ◌≤◌, ◌++◌, length};
+ghost use Rattle.schedule.specs.Text.{words_left};
+ghost use Rattle.schedule.specs.Grammar.{Gives};
+ghost use Rattle.schedule.specs.Atomic.{store, any_value_call, value_call, value_call_text};
+
+use crate::error::Cause;
+use crate::grammar::number_at;
+use crate::line::Line;
+use crate::text::Rest;
+use machine::event::Start;
+use machine::families::atomic::AtomicStart;
+
+#[tactic(auto, unfolding(crate::specs::Atomic::store))]
+fn store(words: Rest<'_>) -> Result<(AtomicStart<u128>, Rest<'_>), Cause>
+    ensures { Gives (λ x. (x.0, words_left x.1)) result (store (words_left words.entry)) }
+{
+    let (value, rest) = number_at(u128::MAX, words)?;
+    Ok((AtomicStart::Store(value), rest))
+}
+
+#[tactic(auto, unfolding(crate::specs::Atomic::any_value_call))]
+fn any_value_call<'a>(name: &[u8], words: Rest<'a>) -> Result<(AtomicStart<u128>, Rest<'a>), Cause>
+    ensures { Gives (λ x. (x.0, words_left x.1)) result
+        (any_value_call name.now (words_left words.entry)) }
+{
+    if name == b"acquire_producer".as_slice() {
+        Ok((AtomicStart::AcquireProducer, words))
+    } else if name == b"release_producer".as_slice() {
+        Ok((AtomicStart::ReleaseProducer, words))
+    } else if name == b"store".as_slice() {
+        store(words)
+    } else if name == b"load".as_slice() {
+        Ok((AtomicStart::Load, words))
+    } else {
+        Err(Cause::UnknownCall)
+    }
+}
+
+/// A call of the single value.
+#[tactic(auto, unfolding(crate::specs::Atomic::value_call))]
+pub fn value_call<'a>(name: &[u8], words: Rest<'a>) -> Result<(Start<u128>, Rest<'a>), Cause>
+    ensures { Gives (λ x. (x.0, words_left x.1)) result
+        (value_call name.now (words_left words.entry)) }
+{
+    let (start, rest) = any_value_call(name, words)?;
+    Ok((Start::Atomic(start), rest))
+}
+
+impl Line {
+    /// Writes the call with its arguments.
+    pub fn push_value_call(&mut self, start: AtomicStart<u128>)
+        requires { length self.old + 80 ≤ 256 }
+        ensures text { self.new ≡ self.old ++ value_call_text start }
+        ensures short { length self.new ≤ length self.old + 80 }
+    {
+        match start {
+            AtomicStart::AcquireProducer => self.push("acquire_producer"),
+            AtomicStart::ReleaseProducer => self.push("release_producer"),
+            AtomicStart::Store(value) => {
+                self.push("store ");
+                self.push_number(value);
+            }
+            AtomicStart::Load => self.push("load"),
+        }
+    }
+}

@@ -1,0 +1,13 @@
+//! Reads a written schedule of turns, and prints what each of them did.
+#![tactic(auto)]
+
+mod atomic;
+pub mod error;
+mod grammar;
+mod input;
+mod line;
+mod output;
+mod queues;
+pub mod run;
+pub mod status;
+mod text;
