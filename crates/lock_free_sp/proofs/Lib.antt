@@ -1,2 +1,7 @@
+pub mod Shares
+pub mod Orders
+pub mod Whole
+pub mod Fractions
+pub mod WholeValue
 pub mod Driving
 pub mod Rules

@@ -8,7 +8,9 @@
 #![tactic(auto)]
 
 pub mod driver;
+pub mod laws;
 pub mod ring;
+pub mod share;
 pub mod spmc;
 pub mod spsc;
 pub mod value;

@@ -1,4 +1,5 @@
 pub mod Lists
+pub mod Histories
 pub mod Stays
 pub mod Roles
 pub mod Pushes

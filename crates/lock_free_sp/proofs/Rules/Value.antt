@@ -1,3 +1,4 @@
+pub mod Histories
 pub mod Stays
 pub mod Roles
 pub mod Stores

@@ -1,6 +1,7 @@
 -- What holds of the pairs that one pass knows, and of the pairs of any two.
 use Rattle.std.specs.Prelude.{◌≡◌, ◌≢◌, ℕ, zero, suc, ◌+◌, ◌<◌, ◌≤◌, Some, List, All, AllPairs}
 use Rattle.lock_free_sp.specs.declared.ring.view.View.{View}
+use Rattle.lock_free_sp.specs.Shares.{At}
 
 module _ {T : Type 0} where
   -- no position stands in both
@@ -36,6 +37,22 @@ module _ {T : Type 0} where
   InOrder v w =
       (p : ℕ) → v.last_pop ≡ Some p
       → All (λ (x : ℕ × T). x.0 ≤ p) w.taken × All (λ (x : ℕ × T). x.0 ≤ p + v.capacity) w.published
+
+  -- what a pass with the whole right knows: the positions at which values were published are those
+  -- from the opening one up to `write`, and those at which they were taken are those up to `read`
+  pub record Complete (v : View T) : Type 0 where
+    pub read : ℕ
+    pub write : ℕ
+    pub behind : v.opening ≤ read
+    pub ahead : read ≤ write
+    pub published : (p : ℕ) → v.opening ≤ p → p < write → At p v.published
+    pub published_within : All (λ (x : ℕ × T). (v.opening ≤ x.0) × (x.0 < write)) v.published
+    pub taken : (p : ℕ) → v.opening ≤ p → p < read → At p v.taken
+    pub taken_within : All (λ (x : ℕ × T). (v.opening ≤ x.0) × (x.0 < read)) v.taken
+
+  -- each position at which a value was published is one at which it was taken
+  abbrev pub Emptied : View T → Type 0
+  Emptied v = (p : ℕ) → At p v.published → At p v.taken
 
 -- what holds only of a queue with no cell beyond its capacity
 abbrev pub IfExact : ℕ → Type 0 → Type 0

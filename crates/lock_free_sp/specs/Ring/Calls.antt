@@ -6,8 +6,8 @@ use Rattle.lock_free_sp.specs.declared.ring.rule.Spare as spares
 use Rattle.lock_free_sp.specs.declared.ring.rule.RingRule.{RingRule}
 use Rattle.lock_free_sp.specs.declared.ring.token.Held.{Held}
 use Rattle.lock_free_sp.specs.declared.ring.view.View.{View}
-use Rattle.lock_free_sp.specs.Ring.Views.{pushed, popped, handed_back}
-use Rattle.lock_free_sp.specs.Ring.Between.{Below, Sound, InOrder}
+use Rattle.lock_free_sp.specs.Ring.Views.{pushed, popped, handed_back, IsWhole}
+use Rattle.lock_free_sp.specs.Ring.Between.{Below, Sound, InOrder, Emptied}
 
 module _ {E T : Type 0} {spare : spares.Ghosts E} {words : Ghosts T} where
   -- what the token's seat knows
@@ -53,10 +53,12 @@ module _ {T : Type 0} where
     pub sound : Sound w
     pub order : InOrder w w
 
-  -- a pop that found nothing: no position above the guard's last pop is known to be published
+  -- a pop that found nothing: no position above the guard's last pop is known to be published,
+  -- and with the whole right to know each that was published was taken
   pub record WasEmpty (v w : View T) : Type 0 where
     pub same : w ≡ v
     pub empty : (q : ℕ) → v.last_pop ≡ Some q → All (λ (x : ℕ × T). x.0 ≤ q) v.published
+    pub whole : IsWhole v → Emptied v
 
   -- a length: the distance between two positions that are above what is known,
   -- and no further apart than there are cells

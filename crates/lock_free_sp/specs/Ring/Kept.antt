@@ -10,6 +10,7 @@ use Rattle.lock_free_sp.specs.declared.ring.view.PopStage.TheVariants as popping
 use Rattle.lock_free_sp.specs.declared.ring.view.LenStage.{LenStage}
 use Rattle.lock_free_sp.specs.declared.ring.view.LenStage.TheVariants as lengths
 use Rattle.lock_free_sp.specs.declared.ring.view.View.{View}
+use Rattle.lock_free_sp.specs.Shares.{Shares, Recorded}
 use Rattle.lock_free_sp.specs.Ring.Tells.{place}
 
 -- the words, as numbers
@@ -99,6 +100,16 @@ module _ {T : Type 0} (words_of : T → List ℕ) (spare capacity : ℕ) (f : Fa
     pub published_once : AllPairs (λ (x y : ℕ × T). x.0 ≢ y.0) v.published
     pub taken_once : AllPairs (λ (x y : ℕ × T). x.0 ≢ y.0) v.taken
 
+-- each position from the opening one on is known to the seat that has published
+-- there, and to the one that has taken
+pub record History {T : Type 0} (f : Face) (b : Book T) (views : List (View T)) : Type 0 where
+  pub opening : ℕ
+  pub behind : opening ≤ f.read
+  pub place : (j : ℕ) (v : View T) → get_elem? views j ≡ some v → 0 < v.share.part
+      → v.opening ≡ opening
+  pub published : Recorded (λ v. v.share) (λ v. v.published) opening f.write b.publisher views
+  pub taken : Recorded (λ v. v.share) (λ v. v.taken) opening f.read b.taker views
+
 module _ {T : Type 0} (words_of : T → List ℕ) (n : ℕ) (spare capacity : ℕ) where
   -- at most the capacity waits, and one value more while a push is
   -- under way; what waits stands in the cells
@@ -112,7 +123,12 @@ module _ {T : Type 0} (words_of : T → List ℕ) (n : ℕ) (spare capacity : �
 
   pub record Kept (s : State (Unit {0}) (View T)) : Type 0 where
     pub book : Book T
+    pub modest : capacity < 2 ^ 32
     pub wide : length s.words ≡ n * (capacity + spare) + 4
     pub fits : Fits (face (capacity + spare) n s.words) book.log
     pub seats : (j : ℕ) (v : View T) → get_elem? s.views j ≡ some v
         → Knows words_of spare capacity (face (capacity + spare) n s.words) book j v
+    pub shares : Shares (λ v. v.share) s.views
+    pub history : History (face (capacity + spare) n s.words) book s.views
+    pub bare : (j : ℕ) (v : View T) → get_elem? s.views j ≡ some v → v.share.part ≡ 0
+        → v.capacity ≡ 2 ^ 32

@@ -22,8 +22,8 @@ use Rattle.lock_free_sp.specs.declared.ring.view.View.{View}
 use Rattle.lock_free_sp.specs.declared.ring.view.PushStage.TheVariants as pushing
 use Rattle.lock_free_sp.specs.declared.ring.view.PopStage.TheVariants as popping
 use Rattle.lock_free_sp.specs.declared.ring.view.LenStage.TheVariants as lengths
-use Rattle.lock_free_sp.specs.Ring.Views.{with_push, with_pop, with_len, with_producer, without_producer, with_consumer, without_consumer, pushed, handed_back}
-use Rattle.lock_free_sp.specs.Ring.Between.{Below, Sound}
+use Rattle.lock_free_sp.specs.Ring.Views.{IsWhole, with_push, with_pop, with_len, with_producer, without_producer, with_consumer, without_consumer, pushed, handed_back}
+use Rattle.lock_free_sp.specs.Ring.Between.{Below, Sound, Emptied}
 use Rattle.lock_free_sp.specs.Ring.Calls.{HasPushed, WasFull, HasPopped, WasEmpty, HasAdded, HasReplaced, WasHandedBack, HasTaken, Stood}
 use Rattle.lock_free_sp.specs.Ring.Tells.{place}
 
@@ -173,7 +173,7 @@ PushOverEnds x base Own room w = WasHandedBack x x base w
 PushOverEnds x base Oldest room w = HasReplaced x room.0 base w × HasRoom base
 
 abbrev pub PopOverStands : View ℕ → View ℕ → OneWord → over_pops.PopStage → Type 0
-PopOverStands base v room over_pops.TheVariants.FindsNone = v ≡ base
+PopOverStands base v room over_pops.TheVariants.FindsNone = (v ≡ base) × (base.capacity ≡ 0)
 PopOverStands base v room over_pops.TheVariants.LoadsRead = v ≡ base
 PopOverStands base v room (over_pops.TheVariants.LoadsWrite p) =
     v ≡ with_pop (popping.SawRead p) base
@@ -188,4 +188,5 @@ PopOverAt base v c room =
 
 abbrev pub PopOverEnds : View ℕ → Bool → OneWord → View ℕ → Type 0
 PopOverEnds base true room w = HasTaken room.0 base w
-PopOverEnds base false room w = w ≡ base
+PopOverEnds base false room w =
+    (w ≡ base) × (IsWhole base → 0 < base.capacity → Emptied base)

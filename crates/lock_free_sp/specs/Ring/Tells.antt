@@ -7,8 +7,8 @@ use Rattle.lock_free_sp.specs.declared.ring.view.PushStage.TheVariants as pushin
 use Rattle.lock_free_sp.specs.declared.ring.view.PopStage.TheVariants as popping
 use Rattle.lock_free_sp.specs.declared.ring.view.View.{View}
 use Rattle.lock_free_sp.specs.declared.ring.view.LenStage.TheVariants as lengths
-use Rattle.lock_free_sp.specs.Ring.Views.{with_push, with_pop, with_len, with_producer, without_producer, with_consumer, without_consumer, pushed, popped, handed_back}
-use Rattle.lock_free_sp.specs.Ring.Between.{Below, Sound, InOrder}
+use Rattle.lock_free_sp.specs.Ring.Views.{IsWhole, with_push, with_pop, with_len, with_producer, without_producer, with_consumer, without_consumer, pushed, popped, handed_back}
+use Rattle.lock_free_sp.specs.Ring.Between.{Below, Sound, InOrder, Complete, Emptied}
 
 -- the word of a position's cell at a place, where there are so many cells and a value has n words
 abbrev pub place : ℕ → ℕ → ℕ → ℕ → ℕ
@@ -83,6 +83,7 @@ module _ {T : Type 0} where
     pub behind : p ≤ n
     pub some : p ≢ n → (x : T) × (w ≡ with_pop (popping.SawValue p x) v)
     pub none : p ≡ n → (w ≡ with_pop popping.Ready v) × All (λ (x : ℕ × T). x.0 < p) v.published
+        × (IsWhole v → Emptied v)
     pub within : n ≤ p + v.capacity
 
   abbrev pub saw_value : View T → ℕ → View T → Type 0
@@ -121,7 +122,8 @@ module _ {T : Type 0} where
       → (w ≡ with_len lengths.Idle v) × (n ≡ p → (r ≤ p) × (p ≤ r + v.capacity + spare))
 
   abbrev pub learned : ℕ → View T → ℕ → View T → Type 0
-  learned spare v n w = (w ≡ v) × Sound v × (spare ≡ 0 → InOrder v v)
+  learned spare v n w =
+      (w ≡ v) × Sound v × (spare ≡ 0 → InOrder v v) × (IsWhole v → Complete v)
 
   -- ---- the overflowing queue
 
@@ -172,7 +174,7 @@ module _ {T : Type 0} where
   saw_some v n w =
       (p : ℕ) → v.pop ≡ popping.SawRead p
       → (p ≢ n → (w ≡ with_pop (popping.SawSome p) v) × (p < 2 ^ 64 - 1))
-      × (p ≡ n → w ≡ with_pop popping.Ready v)
+      × (p ≡ n → (w ≡ with_pop popping.Ready v) × (IsWhole v → Emptied v))
 
   abbrev pub copied : View T → ℕ → View T → Type 0
   copied v n w = (p : ℕ) → v.pop ≡ popping.SawSome p → w ≡ with_pop (popping.Copied p (n ∷ [])) v

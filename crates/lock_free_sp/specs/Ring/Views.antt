@@ -1,5 +1,5 @@
 -- What a seat knows of a ring, and how that changes.
-use Rattle.std.specs.Prelude.{◌≡◌, ℕ, Some, None, [], ◌∷◌, ◌++◌}
+use Rattle.std.specs.Prelude.{◌≡◌, ℕ, ◌^◌, Some, None, [], ◌∷◌, ◌++◌}
 use Rattle.lock_free_sp.specs.declared.ring.view.PushStage.{PushStage}
 use Rattle.lock_free_sp.specs.declared.ring.view.PushStage.TheVariants as pushing
 use Rattle.lock_free_sp.specs.declared.ring.view.PopStage.{PopStage}
@@ -7,9 +7,10 @@ use Rattle.lock_free_sp.specs.declared.ring.view.PopStage.TheVariants as popping
 use Rattle.lock_free_sp.specs.declared.ring.view.LenStage.{LenStage}
 use Rattle.lock_free_sp.specs.declared.ring.view.LenStage.TheVariants as lengths
 use Rattle.lock_free_sp.specs.declared.ring.view.View.{View}
+use Rattle.lock_free_sp.specs.Shares.{all_shares, no_share, half_of, both_of, IsAll}
 
 module _ {T : Type 0} where
-  -- it knows nothing, and has no role
+  -- it knows nothing, and has no role and no share
   abbrev pub blank : ℕ → View T
   blank capacity =
       record {
@@ -21,7 +22,29 @@ module _ {T : Type 0} where
         len = lengths.Idle;
         published = [];
         taken = [];
+        share = no_share;
+        opening = 0;
       }
+
+  -- the first pass of a queue with both positions here: it has the whole right to know
+  abbrev pub opened : ℕ → ℕ → View T
+  opened capacity position = record (blank capacity) { share = all_shares; opening = position }
+
+  -- what a pass that is split keeps
+  abbrev pub halved : View T → View T
+  halved v = record v { share = half_of v.share }
+
+  -- what is split off it: it knows nothing, and has the other half of the share
+  abbrev pub half : View T → View T
+  half v = record (blank v.capacity) { share = half_of v.share; opening = v.opening }
+
+  -- what is left of a pass that was joined to another: a capacity that no queue has
+  abbrev pub spent : View T
+  spent = blank (2 ^ 32)
+
+  -- it has the whole right to know
+  abbrev pub IsWhole : View T → Type 0
+  IsWhole v = IsAll v.share
 
   abbrev pub with_push : PushStage → View T → View T
   with_push stage v = record v { push = stage }
@@ -58,9 +81,14 @@ module _ {T : Type 0} where
   abbrev pub handed_back : ℕ → T → View T → View T
   handed_back p x v = record v { taken = v.taken ++ (p, x) ∷ [] }
 
-  -- what both know, with the roles of the first
+  -- what both know, with the roles of the first and the shares of both
   abbrev pub joined : View T → View T → View T
-  joined v w = record v { published = v.published ++ w.published; taken = v.taken ++ w.taken }
+  joined v w =
+      record v {
+        published = v.published ++ w.published;
+        taken = v.taken ++ w.taken;
+        share = both_of v.share w.share;
+      }
 
   -- it has no role, and no call under way
   abbrev pub IsIdle : View T → Type 0

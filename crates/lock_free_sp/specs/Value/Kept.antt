@@ -8,6 +8,7 @@ use Rattle.lock_free_sp.specs.declared.value.view.StoreStage.TheVariants as stor
 use Rattle.lock_free_sp.specs.declared.value.view.LoadStage.{LoadStage}
 use Rattle.lock_free_sp.specs.declared.value.view.LoadStage.TheVariants as loading
 use Rattle.lock_free_sp.specs.declared.value.view.View.{View}
+use Rattle.lock_free_sp.specs.Shares.{Shares, Recorded}
 use Rattle.lock_free_sp.specs.Value.Tells.{place}
 
 -- the words, as numbers
@@ -64,6 +65,17 @@ module _ {T : Type 0} (words_of : T → List ℕ) (f : Face) (b : Book T) where
     pub loaded : All (IsLoaded f b seat) v.loaded
     pub stored_once : AllPairs (λ (x y : ℕ × T). x.0 ≢ y.0) v.stored
 
+-- each version above the opening one is known to the seat that stored it, and
+-- the opening one to the seat that keeps it
+pub record History {T : Type 0} (f : Face) (b : Book T) (views : List (View T)) : Type 0 where
+  pub opening : ℕ
+  pub keeper : ℕ
+  pub behind : opening ≤ f.version
+  pub place : (j : ℕ) (v : View T) → get_elem? views j ≡ some v → 0 < v.share.part
+      → v.opening ≡ opening
+  pub stored : Recorded (λ v. v.share) (λ v. v.stored) (opening + 1) (f.version + 1) b.storer views
+  pub opened : Recorded (λ v. v.share) (λ v. v.loaded) opening (opening + 1) (λ p. keeper) views
+
 module _ {T : Type 0} (words_of : T → List ℕ) (n : ℕ) where
   -- the value of the newest version stands in its cell
   pub record Fits (f : Face) (log : ℕ → T) : Type 0 where
@@ -77,3 +89,5 @@ module _ {T : Type 0} (words_of : T → List ℕ) (n : ℕ) where
     pub fits : Fits (face n s.words) book.log
     pub seats : (j : ℕ) (v : View T) → get_elem? s.views j ≡ some v
         → Knows words_of (face n s.words) book j v
+    pub shares : Shares (λ v. v.share) s.views
+    pub history : History (face n s.words) book s.views

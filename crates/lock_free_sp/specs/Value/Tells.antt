@@ -7,8 +7,8 @@ use Rattle.lock_free_sp.specs.declared.value.view.StoreStage.TheVariants as stor
 use Rattle.lock_free_sp.specs.declared.value.view.LoadStage.{LoadStage}
 use Rattle.lock_free_sp.specs.declared.value.view.LoadStage.TheVariants as loading
 use Rattle.lock_free_sp.specs.declared.value.view.View.{View}
-use Rattle.lock_free_sp.specs.Value.Views.{with_store, with_load, with_producer, without_producer, stored_at, loaded_at}
-use Rattle.lock_free_sp.specs.Value.Between.{Below, UpTo, Sound}
+use Rattle.lock_free_sp.specs.Value.Views.{IsWhole, with_store, with_load, with_producer, without_producer, stored_at, loaded_at}
+use Rattle.lock_free_sp.specs.Value.Between.{Below, UpTo, Sound, Complete}
 
 -- the word of a version's cell at a place, where a value has n words
 abbrev pub place : ℕ → ℕ → ℕ → ℕ
@@ -75,4 +75,4 @@ module _ {T : Type 0} where
       → Settled v n w p (value_of ws)
 
   abbrev pub learned : View T → ℕ → View T → Type 0
-  learned v n w = (w ≡ v) × Sound v
+  learned v n w = (w ≡ v) × Sound v × (IsWhole v → Complete v)

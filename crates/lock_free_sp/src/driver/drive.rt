@@ -93,6 +93,29 @@ impl<V, K, Q: Rule<V, K>> Seated<V, K, Q> {
         call.take(given, room, old)
     }
 
+    /// One step of a call, for a caller who acts between two of them.
+    #[inline(always)]
+    pub fn step<C: Routine, D: Drives<V, C>>(
+        &mut self,
+        call: C,
+        given: &C::Given,
+        room: &mut C::Room,
+    ) -> After<C, C::End>
+        requires table { IsAt Q.size Q.capacity Q.capacity_seen self.old }
+        requires rule { KeepsRule Q.capacity_seen (D.at given.now) (D.ends given.now) Q.size
+            Q.capacity Q.holds (λ c. C.want_of c given.now) (λ c k. C.after c given.now k) C.kept }
+        requires at { (base : V) × D.at given.now base (seen self.old) call room.old }
+        ensures same { IsSame self.old self.new }
+        ensures capacity { Q.capacity_seen (seen self.new) ≡ Q.capacity_seen (seen self.old) }
+        ensures taken { (n : ℕ) × (result ≡ C.after call given.now n)
+            × (room.new ≡ C.kept call room.old n) }
+        ensures told { (base : V) → D.at given.now base (seen self.old) call room.old
+            → Next Q.capacity_seen (D.at given.now) (D.ends given.now) base
+            result room.new (seen self.new) }
+    {
+        self.once::<Brand, C, D>(call, given, room)
+    }
+
     /// Drives a call that ends by itself to its end.
     #[inline(always)]
     pub fn drive<C: Ends, D: Drives<V, C>>(

@@ -4,7 +4,7 @@ ghost use Rattle.std.specs.Prelude.{◌≡◌, ◌+◌, ◌*◌};
 ghost use Rattle.std.specs.Arc.{arc_value};
 ghost use Rattle.lock_free_sp.specs.Ring.Views.{IsIdle, IsProducing, IsConsuming};
 
-use super::rule::{RingRule, Spare};
+use super::rule::{Origin, RingRule, Spare};
 use super::token::Token;
 use super::view::View;
 use atomic_table::{Table, TableRule};
@@ -21,8 +21,8 @@ mod passes;
 
 /// A queue, which threads share by reference. One producer pushes and one consumer pops at a time.
 #[derive(Drop)]
-pub struct Ring<E: Spare, T: Words, Q: TableRule<(), View<T>, u64>> {
-    table: Arc<Table<(), View<T>, u64, Q, Global>, Global>,
+pub struct Ring<E: Spare, T: Words, Q: TableRule<(), View<T>, Origin>> {
+    table: Arc<Table<(), View<T>, Origin, Q, Global>, Global>,
     capacity: u32,
     of: PhantomData<E>,
     ghost sized: { (arc_value table).shared.table_id.words ≡ T.WORDS * (capacity + E.SPARE) + 4 },
@@ -30,7 +30,7 @@ pub struct Ring<E: Spare, T: Words, Q: TableRule<(), View<T>, u64>> {
 
 /// A queue whose capacity is part of its type. It is used as the queue that it has.
 #[derive(Drop)]
-pub struct FixedSize<E: Spare, T: Words, Q: TableRule<(), View<T>, u64>, const CAPACITY: usize> {
+pub struct FixedSize<E: Spare, T: Words, Q: TableRule<(), View<T>, Origin>, const CAPACITY: usize> {
     ring: Ring<E, T, Q>,
     ghost sized: { ring.capacity ≡ CAPACITY },
 }

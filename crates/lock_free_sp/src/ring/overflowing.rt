@@ -1,7 +1,9 @@
 //! The push and the pop of the overflowing queue.
-ghost use Rattle.std.specs.Prelude.{◌≡◌, ◌⊎◌, Some, IfSome, IfNone};
+ghost use Rattle.std.specs.Prelude.{◌≡◌, ◌⊎◌, ◌<◌, Some, IfSome, IfNone};
 ghost use Rattle.lock_free_sp.specs.declared.ring.view.PushStage.TheVariants as pushing;
 ghost use Rattle.lock_free_sp.specs.declared.ring.view.PopStage.TheVariants as popping;
+ghost use Rattle.lock_free_sp.specs.Ring.Views.{IsWhole};
+ghost use Rattle.lock_free_sp.specs.Ring.Between.{Emptied};
 ghost use Rattle.lock_free_sp.specs.Ring.Calls.{seen, IsSame, HasAdded, HasReplaced, WasHandedBack, TakesNone, HasTaken};
 
 use super::drives::{PopsOver, PushesOver};
@@ -41,6 +43,8 @@ impl Held<Overflowing, u64, RingRule<Overflowing, u64>> {
         ensures same { IsSame self.old self.new }
         ensures popped { IfSome result (λ x. HasTaken x (seen self.old) (seen self.new)) }
         ensures empty { IfNone result (seen self.new ≡ seen self.old) }
+        ensures whole { IfNone result (IsWhole (seen self.old) → 0 < (seen self.old).capacity
+            → Emptied (seen self.old)) }
     {
         let mut room = OneWord(0);
         let call = Pop::new(self.capacity);

@@ -1,7 +1,7 @@
 //! How tokens are made of one another.
-ghost use Rattle.std.specs.Prelude.{◌≡◌, IfSome};
-ghost use Rattle.lock_free_sp.specs.Ring.Views.{blank, joined};
-ghost use Rattle.lock_free_sp.specs.Ring.Between.{Sound, Ruled, InOrder};
+ghost use Rattle.std.specs.Prelude.{◌≡◌, IfSome, IfNone};
+ghost use Rattle.lock_free_sp.specs.Ring.Views.{halved, half, joined, IsWhole};
+ghost use Rattle.lock_free_sp.specs.Ring.Between.{Sound, Ruled, InOrder, Complete};
 ghost use Rattle.lock_free_sp.specs.Ring.Calls.{seen, table_of, IsSame};
 
 use super::plays::{Both, Cut, Learns};
@@ -18,9 +18,10 @@ impl<E: Spare, T: Words> Held<E, T, RingRule<E, T>> {
     /// when).
     pub fn split(&mut self) -> Option<Token<E, T>>
         ensures same { IsSame self.old self.new }
-        ensures left { seen self.new ≡ seen self.old }
+        ensures left { IfSome result (λ _. seen self.new ≡ halved (seen self.old)) }
+        ensures none { IfNone result (seen self.new ≡ seen self.old) }
         ensures table { IfSome result (λ t. table_of t ≡ table_of self.old) }
-        ensures right { IfSome result (λ t. seen t ≡ blank (seen self.old).capacity) }
+        ensures right { IfSome result (λ t. seen t ≡ half (seen self.old)) }
     {
         let seated = &mut self.seated;
         let Ok(table) = Arc::try_clone(&seated.table) else {
@@ -43,6 +44,7 @@ impl<E: Spare, T: Words> Held<E, T, RingRule<E, T>> {
         ensures sound { Sound (seen self.new) }
         ensures order { E.SPARE ≡ 0 → InOrder (seen self.old) (seen other) }
         ensures joined_order { E.SPARE ≡ 0 → InOrder (seen self.new) (seen self.new) }
+        ensures whole { IsWhole (seen self.new) → Complete (seen self.new) }
     {
         let Held { seated: other, .. } = other;
         let Seated { seat, .. } = other;
@@ -51,6 +53,20 @@ impl<E: Spare, T: Words> Held<E, T, RingRule<E, T>> {
             .table
             .shared
             .join_seat::<Both>(&mut seated.seat, seat);
+        seated
+            .table
+            .shared
+            .load::<Learns<E>>(&mut seated.seat, WRITE);
+    }
+
+    /// A look at what the token knows: one load.
+    pub fn look(&mut self)
+        ensures same { IsSame self.old self.new }
+        ensures view { seen self.new ≡ seen self.old }
+        ensures sound { Sound (seen self.new) }
+        ensures whole { IsWhole (seen self.new) → Complete (seen self.new) }
+    {
+        let seated = &mut self.seated;
         seated
             .table
             .shared

@@ -1,5 +1,5 @@
 //! How views are cut and joined. These types are for the proofs alone.
-ghost use Rattle.lock_free_sp.specs.Ring.Views.{blank, joined};
+ghost use Rattle.lock_free_sp.specs.Ring.Views.{spent, halved, half, joined};
 ghost use Rattle.lock_free_sp.specs.Ring.Tells.{tells, learned};
 
 use super::rule::Spare;
@@ -17,20 +17,20 @@ impl<E: Spare, T: Words> Play<(), View<T>> for Learns<E> {
     ghost then = { tells (learned E.SPARE) };
 }
 
-/// A new seat that knows nothing.
+/// A new seat that knows nothing, with half the share.
 pub struct Cut;
 
 impl<T: Words> Split<View<T>> for Cut {
-    ghost left = { λ v. v };
+    ghost left = { halved };
 
-    ghost right = { λ v. blank v.capacity };
+    ghost right = { half };
 }
 
-/// Both views in one, with the roles of the first.
+/// Both views in one, with the roles of the first, and both shares.
 pub struct Both;
 
 impl<T: Words> Join<View<T>> for Both {
     ghost both = { joined };
 
-    ghost spent = { blank 0 };
+    ghost spent = { spent };
 }

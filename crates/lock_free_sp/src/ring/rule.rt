@@ -75,28 +75,35 @@ impl Spare for Overflowing {
     ghost few = { le_refl 1 };
 }
 
-/// The rule, for the capacity that is the key.
+/// What a ring is made with, and so its key: its capacity, and where both positions stand.
+#[derive(Clone, Copy)]
+pub struct Origin {
+    pub capacity: u64,
+    pub position: u64,
+}
+
+/// The rule. The first seat has the whole right to know.
 pub struct RingRule<E, T> {
     of: PhantomData<(E, T)>,
 }
 
-impl<E: Spare, T: Words> TableRule<(), View<T>, u64> for RingRule<E, T> {
+impl<E: Spare, T: Words> TableRule<(), View<T>, Origin> for RingRule<E, T> {
     ghost use Rattle.lock_free_sp.specs.Ring.Kept.{Kept};
-    ghost use Rattle.lock_free_sp.specs.Ring.Views.{blank};
+    ghost use Rattle.lock_free_sp.specs.Ring.Views.{opened};
 
-    ghost holds = { λ capacity. Kept T.words_of T.WORDS E.SPARE capacity };
+    ghost holds = { λ key. Kept T.words_of T.WORDS E.SPARE key.capacity };
 
-    ghost first = { λ capacity. blank capacity };
+    ghost first = { λ key. opened key.capacity key.position };
 }
 
-impl<E: Spare, T: Words> Rule<View<T>, u64> for RingRule<E, T> {
+impl<E: Spare, T: Words> Rule<View<T>, Origin> for RingRule<E, T> {
     ghost use Rattle.std.specs.Prelude.{◌+◌, ◌*◌};
 
-    ghost size = { λ capacity. T.WORDS * (capacity + E.SPARE) + 4 };
+    ghost size = { λ key. T.WORDS * (key.capacity + E.SPARE) + 4 };
 
-    ghost capacity = { λ capacity. capacity };
+    ghost capacity = { λ key. key.capacity };
 
     ghost capacity_seen = { λ v. v.capacity };
 }
 
-pub type Board<E, T> = Table<(), View<T>, u64, RingRule<E, T>, Global>;
+pub type Board<E, T> = Table<(), View<T>, Origin, RingRule<E, T>, Global>;

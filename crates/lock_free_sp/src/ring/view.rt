@@ -1,4 +1,5 @@
 //! What a seat at the table of a ring knows. No value of these types is made: they are for contracts and proofs.
+use crate::share::Share;
 use std::collections::LinkedList;
 
 /// Where a seat's push stands.
@@ -57,4 +58,8 @@ pub struct View<T> {
     pub published: LinkedList<(u64, T)>,
     /// The positions at which it has taken, with the values.
     pub taken: LinkedList<(u64, T)>,
+    /// Its share of the right to know all that was published and taken.
+    pub share: Share,
+    /// Where both positions stood when the queue was made.
+    pub opening: u64,
 }

@@ -2,7 +2,7 @@
 ghost use Rattle.std.specs.Prelude.{◌≡◌, ◌⊎◌, ◌-◌, ◌^◌, true, false, None, Some, IsTrue, IsFalse, IfOk, IfErr, OnOk, IfSome, IfNone};
 ghost use Rattle.steps.specs.Enums.{capacity_refusal};
 ghost use Rattle.steps.specs.declared.enums.UniqueIndexCreationError.TheVariants.{NoMemory};
-ghost use Rattle.lock_free_sp.specs.Ring.Views.{blank};
+ghost use Rattle.lock_free_sp.specs.Ring.Views.{opened};
 ghost use Rattle.lock_free_sp.specs.Ring.Calls.{HasPushed, WasFull, HasPopped, WasEmpty};
 ghost use Rattle.lock_free_sp.specs.Ends.{capacity_of, view, IsPassOf, ring_of, producer_view, producer_queue, consumer_view, consumer_queue};
 
@@ -36,7 +36,8 @@ pub type Producer<'a> = ends::Producer<'a, Numbers, u64>;
 pub type Consumer<'a> = ends::Consumer<'a, Numbers, u64>;
 
 impl IndexQueue {
-    /// An empty queue for at most `capacity` numbers, and its first pass, which knows nothing.
+    /// An empty queue for at most `capacity` numbers, and its first pass, which knows nothing and has the
+    /// whole right to know.
     ///
     /// Refused are, in this order, a capacity above 2^32 - 1 (`ProvidedCapacityGreaterThanMaxCapacity`) and memory
     /// (`NoMemory`). After `IndexQueue::new` of the Rust crate.
@@ -44,7 +45,7 @@ impl IndexQueue {
         alloc: Global,
         capacity: usize,
     ) -> Result<(IndexQueue, Pass), UniqueIndexCreationError>
-        ensures pass { IfOk result (λ r. IsPassOf r.0 r.1 × (view r.1 ≡ blank capacity)) }
+        ensures pass { IfOk result (λ r. IsPassOf r.0 r.1 × (view r.1 ≡ opened capacity 0)) }
         ensures capacity { IfOk result (λ r. capacity_of r.0 ≡ capacity) }
         ensures admitted { OnOk result (capacity_refusal 0 (2 ^ 32 - 1) capacity ≡ None) }
         ensures refused { IfErr result (λ e. (capacity_refusal 0 (2 ^ 32 - 1) capacity ≡ Some e)
@@ -59,7 +60,7 @@ impl IndexQueue {
         capacity: usize,
         position: u64,
     ) -> Result<(IndexQueue, Pass), UniqueIndexCreationError>
-        ensures pass { IfOk result (λ r. IsPassOf r.0 r.1 × (view r.1 ≡ blank capacity)) }
+        ensures pass { IfOk result (λ r. IsPassOf r.0 r.1 × (view r.1 ≡ opened capacity position)) }
         ensures capacity { IfOk result (λ r. capacity_of r.0 ≡ capacity) }
         ensures admitted { OnOk result (capacity_refusal 0 (2 ^ 32 - 1) capacity ≡ None) }
         ensures refused { IfErr result (λ e. (capacity_refusal 0 (2 ^ 32 - 1) capacity ≡ Some e)
@@ -70,14 +71,16 @@ impl IndexQueue {
 }
 
 impl<const CAPACITY: usize> FixedSizeIndexQueue<CAPACITY> {
-    /// An empty queue and its first pass, which knows nothing.
+    /// An empty queue and its first pass, which knows nothing and has the
+    /// whole right to know.
     ///
     /// Refused are, in this order, a CAPACITY above 2^32 - 1 (`ProvidedCapacityGreaterThanMaxCapacity`) and memory
     /// (`NoMemory`). After `FixedSizeIndexQueue::new` of the Rust crate.
     pub fn new(
         alloc: Global,
     ) -> Result<(FixedSizeIndexQueue<CAPACITY>, Pass), UniqueIndexCreationError>
-        ensures pass { IfOk result (λ r. IsPassOf (ring_of r.0) r.1 × (view r.1 ≡ blank CAPACITY)) }
+        ensures pass { IfOk result
+            (λ r. IsPassOf (ring_of r.0) r.1 × (view r.1 ≡ opened CAPACITY 0)) }
         ensures admitted { OnOk result (capacity_refusal 0 (2 ^ 32 - 1) CAPACITY ≡ None) }
         ensures refused { IfErr result (λ e. (capacity_refusal 0 (2 ^ 32 - 1) CAPACITY ≡ Some e)
             ⊎ (capacity_refusal 0 (2 ^ 32 - 1) CAPACITY ≡ None) × (e ≡ NoMemory)) }

@@ -2,7 +2,7 @@
 ghost use Rattle.std.specs.Prelude.{◌≡◌, ◌⊎◌, ◌-◌, ◌^◌, true, false, None, Some, IsTrue, IsFalse, IfOk, IfErr, OnOk, IfSome, IfNone};
 ghost use Rattle.steps.specs.Enums.{capacity_refusal};
 ghost use Rattle.steps.specs.declared.enums.UniqueIndexCreationError.TheVariants.{NoMemory};
-ghost use Rattle.lock_free_sp.specs.Ring.Views.{blank};
+ghost use Rattle.lock_free_sp.specs.Ring.Views.{opened};
 ghost use Rattle.lock_free_sp.specs.Ring.Calls.{HasPushed, WasFull, HasPopped, WasEmpty};
 ghost use Rattle.lock_free_sp.specs.Ends.{view, IsPassOf, ring_of, producer_view, producer_queue, consumer_view, consumer_queue};
 
@@ -28,12 +28,14 @@ pub type Producer<'a, T> = ends::Producer<'a, Values, T>;
 pub type Consumer<'a, T> = ends::Consumer<'a, Values, T>;
 
 impl<T: Words, const CAPACITY: usize> Queue<T, CAPACITY> {
-    /// An empty queue and its first pass, which knows nothing.
+    /// An empty queue and its first pass, which knows nothing and has the
+    /// whole right to know.
     ///
     /// Refused are, in this order, a CAPACITY above 2^32 - 1 (`ProvidedCapacityGreaterThanMaxCapacity`) and memory
     /// (`NoMemory`). After `Queue::new` of the Rust crate.
     pub fn new(alloc: Global) -> Result<(Queue<T, CAPACITY>, Pass<T>), UniqueIndexCreationError>
-        ensures pass { IfOk result (λ r. IsPassOf (ring_of r.0) r.1 × (view r.1 ≡ blank CAPACITY)) }
+        ensures pass { IfOk result
+            (λ r. IsPassOf (ring_of r.0) r.1 × (view r.1 ≡ opened CAPACITY 0)) }
         ensures admitted { OnOk result (capacity_refusal 0 (2 ^ 32 - 1) CAPACITY ≡ None) }
         ensures refused { IfErr result (λ e. (capacity_refusal 0 (2 ^ 32 - 1) CAPACITY ≡ Some e)
             ⊎ (capacity_refusal 0 (2 ^ 32 - 1) CAPACITY ≡ None) × (e ≡ NoMemory)) }
@@ -46,7 +48,8 @@ impl<T: Words, const CAPACITY: usize> Queue<T, CAPACITY> {
         alloc: Global,
         position: u64,
     ) -> Result<(Queue<T, CAPACITY>, Pass<T>), UniqueIndexCreationError>
-        ensures pass { IfOk result (λ r. IsPassOf (ring_of r.0) r.1 × (view r.1 ≡ blank CAPACITY)) }
+        ensures pass { IfOk result
+            (λ r. IsPassOf (ring_of r.0) r.1 × (view r.1 ≡ opened CAPACITY position)) }
         ensures admitted { OnOk result (capacity_refusal 0 (2 ^ 32 - 1) CAPACITY ≡ None) }
         ensures refused { IfErr result (λ e. (capacity_refusal 0 (2 ^ 32 - 1) CAPACITY ≡ Some e)
             ⊎ (capacity_refusal 0 (2 ^ 32 - 1) CAPACITY ≡ None) × (e ≡ NoMemory)) }

@@ -1,9 +1,10 @@
 //! The queue of numbers of 64 bits that hands its oldest number back where it is full, with one
 //! producer and one consumer, shared between threads.
-ghost use Rattle.std.specs.Prelude.{◌≡◌, ◌⊎◌, ◌-◌, ◌^◌, None, Some, IfOk, IfErr, OnOk, IfSome, IfNone};
+ghost use Rattle.std.specs.Prelude.{◌≡◌, ◌⊎◌, ◌<◌, ◌-◌, ◌^◌, None, Some, IfOk, IfErr, OnOk, IfSome, IfNone};
 ghost use Rattle.steps.specs.Enums.{capacity_refusal};
 ghost use Rattle.steps.specs.declared.enums.UniqueIndexCreationError.TheVariants.{NoMemory};
-ghost use Rattle.lock_free_sp.specs.Ring.Views.{blank};
+ghost use Rattle.lock_free_sp.specs.Ring.Views.{opened, IsWhole};
+ghost use Rattle.lock_free_sp.specs.Ring.Between.{Emptied};
 ghost use Rattle.lock_free_sp.specs.Ring.Calls.{HasAdded, HasReplaced, WasHandedBack, TakesNone, HasTaken};
 ghost use Rattle.lock_free_sp.specs.Ends.{capacity_of, view, IsPassOf, ring_of, producer_view, producer_queue, consumer_view, consumer_queue};
 
@@ -38,7 +39,8 @@ pub type Producer<'a> = ends::Producer<'a, Overflowing, u64>;
 pub type Consumer<'a> = ends::Consumer<'a, Overflowing, u64>;
 
 impl SafelyOverflowingIndexQueue {
-    /// An empty queue for at most `capacity` numbers, and its first pass, which knows nothing.
+    /// An empty queue for at most `capacity` numbers, and its first pass, which knows nothing and has the
+    /// whole right to know.
     ///
     /// Refused are, in this order, a capacity above 2^32 - 1 (`ProvidedCapacityGreaterThanMaxCapacity`) and memory
     /// (`NoMemory`). After `SafelyOverflowingIndexQueue::new` of the Rust crate.
@@ -46,7 +48,7 @@ impl SafelyOverflowingIndexQueue {
         alloc: Global,
         capacity: usize,
     ) -> Result<(SafelyOverflowingIndexQueue, Pass), UniqueIndexCreationError>
-        ensures pass { IfOk result (λ r. IsPassOf r.0 r.1 × (view r.1 ≡ blank capacity)) }
+        ensures pass { IfOk result (λ r. IsPassOf r.0 r.1 × (view r.1 ≡ opened capacity 0)) }
         ensures capacity { IfOk result (λ r. capacity_of r.0 ≡ capacity) }
         ensures admitted { OnOk result (capacity_refusal 0 (2 ^ 32 - 1) capacity ≡ None) }
         ensures refused { IfErr result (λ e. (capacity_refusal 0 (2 ^ 32 - 1) capacity ≡ Some e)
@@ -61,7 +63,7 @@ impl SafelyOverflowingIndexQueue {
         capacity: usize,
         position: u64,
     ) -> Result<(SafelyOverflowingIndexQueue, Pass), UniqueIndexCreationError>
-        ensures pass { IfOk result (λ r. IsPassOf r.0 r.1 × (view r.1 ≡ blank capacity)) }
+        ensures pass { IfOk result (λ r. IsPassOf r.0 r.1 × (view r.1 ≡ opened capacity position)) }
         ensures capacity { IfOk result (λ r. capacity_of r.0 ≡ capacity) }
         ensures admitted { OnOk result (capacity_refusal 0 (2 ^ 32 - 1) capacity ≡ None) }
         ensures refused { IfErr result (λ e. (capacity_refusal 0 (2 ^ 32 - 1) capacity ≡ Some e)
@@ -72,14 +74,16 @@ impl SafelyOverflowingIndexQueue {
 }
 
 impl<const CAPACITY: usize> FixedSizeSafelyOverflowingIndexQueue<CAPACITY> {
-    /// An empty queue and its first pass, which knows nothing.
+    /// An empty queue and its first pass, which knows nothing and has the
+    /// whole right to know.
     ///
     /// Refused are, in this order, a CAPACITY above 2^32 - 1 (`ProvidedCapacityGreaterThanMaxCapacity`) and memory
     /// (`NoMemory`). After `FixedSizeSafelyOverflowingIndexQueue::new` of the Rust crate.
     pub fn new(
         alloc: Global,
     ) -> Result<(FixedSizeSafelyOverflowingIndexQueue<CAPACITY>, Pass), UniqueIndexCreationError>
-        ensures pass { IfOk result (λ r. IsPassOf (ring_of r.0) r.1 × (view r.1 ≡ blank CAPACITY)) }
+        ensures pass { IfOk result
+            (λ r. IsPassOf (ring_of r.0) r.1 × (view r.1 ≡ opened CAPACITY 0)) }
         ensures admitted { OnOk result (capacity_refusal 0 (2 ^ 32 - 1) CAPACITY ≡ None) }
         ensures refused { IfErr result (λ e. (capacity_refusal 0 (2 ^ 32 - 1) CAPACITY ≡ Some e)
             ⊎ (capacity_refusal 0 (2 ^ 32 - 1) CAPACITY ≡ None) × (e ≡ NoMemory)) }
@@ -114,6 +118,8 @@ impl<'a> Consumer<'a> {
         ensures popped { IfSome result
             (λ x. HasTaken x (consumer_view self.old) (consumer_view self.new)) }
         ensures empty { IfNone result (consumer_view self.new ≡ consumer_view self.old) }
+        ensures whole { IfNone result (IsWhole (consumer_view self.old)
+            → 0 < (consumer_view self.old).capacity → Emptied (consumer_view self.old)) }
     {
         self.token.pop(rt)
     }

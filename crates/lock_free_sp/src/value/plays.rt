@@ -1,6 +1,6 @@
 //! What splitting a seat and joining two leaves, and what a look at the table
 //! tells. These types are for the proofs alone.
-ghost use Rattle.lock_free_sp.specs.Value.Views.{blank, joined};
+ghost use Rattle.lock_free_sp.specs.Value.Views.{blank, halved, half, joined};
 ghost use Rattle.lock_free_sp.specs.Value.Tells.{tells, learned};
 
 use super::view::View;
@@ -14,16 +14,16 @@ impl<T: Words> Play<(), View<T>> for Learns {
     ghost then = { tells learned };
 }
 
-/// A new seat that knows nothing.
+/// A new seat that knows nothing, with half the share.
 pub struct Cut;
 
 impl<T: Words> Split<View<T>> for Cut {
-    ghost left = { λ v. v };
+    ghost left = { halved };
 
-    ghost right = { λ v. blank };
+    ghost right = { half };
 }
 
-/// Both views in one, with the role of the first.
+/// Both views in one, with the role of the first, and both shares.
 pub struct Both;
 
 impl<T: Words> Join<View<T>> for Both {

@@ -18,7 +18,7 @@ pub struct Opening<T> {
     pub value: T,
 }
 
-/// The rule. The first seat knows the opening value with its version.
+/// The rule. The first seat knows the opening value with its version, and has the whole right to know.
 pub struct ValueRule<T> {
     of: PhantomData<T>,
 }
@@ -32,15 +32,16 @@ impl<T: Words> TableRule<(), View<T>, Opening<T>> for ValueRule<T> {
     ghost first = { λ opening. opened opening.version opening.value };
 }
 
-/// A value has no capacity.
+/// A value has no capacity. What the driver keeps in its place is that who steps has a share.
 impl<T: Words> Rule<View<T>, Opening<T>> for ValueRule<T> {
     ghost use Rattle.std.specs.Prelude.{◌+◌, ◌*◌};
+    ghost use Rattle.lock_free_sp.specs.Value.Views.{sharing};
 
     ghost size = { λ opening. T.WORDS * 2 + 2 };
 
-    ghost capacity = { λ opening. 0 };
+    ghost capacity = { λ opening. 1 };
 
-    ghost capacity_seen = { λ v. 0 };
+    ghost capacity_seen = { sharing };
 }
 
 pub type Board<T> = Table<(), View<T>, Opening<T>, ValueRule<T>, Global>;

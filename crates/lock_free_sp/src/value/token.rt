@@ -1,5 +1,6 @@
 //! A seat at a value's table.
 ghost use Rattle.std.specs.Prelude.{◌≡◌, ◌+◌, ◌*◌};
+ghost use Rattle.lock_free_sp.specs.Value.Views.{sharing};
 
 use super::rule::{Opening, ValueRule};
 use super::view::View;
@@ -12,6 +13,7 @@ use steps::words::Words;
 pub struct Held<T: Words, Q: TableRule<(), View<T>, Opening<T>>> {
     pub seated: Seated<View<T>, Opening<T>, Q>,
     ghost sized: { seated.seat.table_id.words ≡ T.WORDS * 2 + 2 },
+    ghost shared: { sharing seated.seat.me.0 ≡ 1 },
 }
 
 pub type Token<T> = Held<T, ValueRule<T>>;

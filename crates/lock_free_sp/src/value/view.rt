@@ -1,4 +1,5 @@
 //! What a seat at the table of a value knows. No value of these types is made: they are for contracts and proofs.
+use crate::share::Share;
 use std::collections::LinkedList;
 
 /// Where a seat's store stands.
@@ -29,4 +30,8 @@ pub struct View<T> {
     pub stored: LinkedList<(u64, T)>,
     /// The versions that it has loaded, with the values, and the opening one in the pass that making gives.
     pub loaded: LinkedList<(u64, T)>,
+    /// Its share of the right to know all that was stored.
+    pub share: Share,
+    /// The version that the value was made with.
+    pub opening: u64,
 }

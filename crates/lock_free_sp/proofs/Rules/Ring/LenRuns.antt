@@ -10,6 +10,7 @@ use Rattle.steps.specs.declared.ask.After.TheVariants.{GoOn, Done}
 use Rattle.steps.specs.declared.queues.lengths.Len.{Len}
 use Rattle.steps.specs.declared.queues.lengths.LenStage as lens
 use Rattle.lock_free_sp.specs.declared.ring.view.LenStage.TheVariants as lengths
+use Rattle.lock_free_sp.specs.declared.ring.rule.Origin.{Origin}
 use Rattle.lock_free_sp.specs.declared.ring.view.View.{View}
 use Rattle.lock_free_sp.specs.Driver.{Told, Next, KeepsRule, Owes}
 use Rattle.lock_free_sp.specs.Ring.Views.{with_len}
@@ -102,8 +103,8 @@ module _ {T : Type 0} (words_of : T → List ℕ) (n spare : ℕ) where
     stage_owes base (lens.TheVariants.LoadsWriteAgain p r) at = loads_write_again base p r at
     stage_owes base (lens.TheVariants.LoadsReadAgain p r) at = loads_read_again base p r at
 
-  pub len_keeps : KeepsRule (λ (v : View T). v.capacity) (LenAt spare) (LenEnds spare) (λ (key : ℕ). n * (key + spare) + 4) (λ key. key) (λ key. Kept words_of n spare key) len_want (λ c k. len_after c k) (λ c m k. m)
-  len_keeps base v c m key words slots id size cap at = stage_owes v c key words slots id size cap base c.stage at
+  pub len_keeps : KeepsRule (λ (v : View T). v.capacity) (LenAt spare) (LenEnds spare) (λ (key : Origin). n * (key.capacity + spare) + 4) (λ key. key.capacity) (λ key. Kept words_of n spare key.capacity) len_want (λ c k. len_after c k) (λ c m k. m)
+  len_keeps base v c m key words slots id size cap at = stage_owes v c key.capacity words slots id size cap base c.stage at
 
 pub stood_few : {T : Type 0} (spare : ℕ) (v : View T) (waiting : ℕ) → Stood spare v waiting → waiting ≤ v.capacity + spare
 stood_few spare v waiting s =

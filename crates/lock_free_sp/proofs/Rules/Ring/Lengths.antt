@@ -8,7 +8,7 @@ use Rattle.lock_free_sp.specs.declared.ring.view.View.{View}
 use Rattle.lock_free_sp.specs.Ring.Views.{with_len}
 use Rattle.lock_free_sp.specs.Ring.Kept.{Kept, KnowsLen, IsPublished, IsTaken, face}
 use Rattle.lock_free_sp.specs.Ring.Tells.{tells, len_saw_write, len_saw_read, len_saw_again, learned}
-use Rattle.lock_free_sp.proofs.Rules.Ring.Stays.{knows_len, sound, in_order, St, looks}
+use Rattle.lock_free_sp.proofs.Rules.Ring.Stays.{completes, knows_len, sound, in_order, St, looks}
 use mathlib.Core.Option.{none}
 
 abbrev loaded_write : LenStage → ℕ
@@ -33,7 +33,7 @@ module _ {T : Type 0} (words_of : T → List ℕ) (n : ℕ) (spare capacity : �
   len_sees_write s r wide at small =
       let stage : LenStage = lengths.SawWrite (get_or s.words 0 0) in
       let k = r.seats id v at in
-      (with_len stage v, keeps, tt, looks words_of n spare capacity s r 0 id m.1 (with_len stage v) (knows_len words_of spare capacity (face (capacity + spare) n s.words) r.book id v k stage (le_refl (get_or s.words 0 0))), ((refl, All-weaker (IsPublished words_of spare capacity (face (capacity + spare) n s.words) r.book id) (λ x. x.0 < get_or s.words 0 0) (λ x h. h.0) v.published k.published), refl))
+      (with_len stage v, keeps, tt, looks words_of n spare capacity s r 0 id m.1 v (with_len stage v) at (refl, refl, refl, refl, refl) (knows_len words_of spare capacity (face (capacity + spare) n s.words) r.book id v k stage (le_refl (get_or s.words 0 0))), ((refl, All-weaker (IsPublished words_of spare capacity (face (capacity + spare) n s.words) r.book id) (λ x. x.0 < get_or s.words 0 0) (λ x h. h.0) v.published k.published), refl))
 
   -- the second load, of the read position
   pub len_sees_read : (p : ℕ) → v.len ≡ lengths.SawWrite p → Allows H slots id m 1 (λ x. x) (tells len_saw_read (step slots 1 0 0 none) m)
@@ -46,7 +46,7 @@ module _ {T : Type 0} (words_of : T → List ℕ) (n : ℕ) (spare capacity : �
         with_len stage v,
         keeps,
         tt,
-        looks words_of n spare capacity s r 1 id m.1 (with_len stage v) (knows_len words_of spare capacity f r.book id v k stage (f.write, mine, le_refl f.write, r.fits.behind, r.fits.within)),
+        looks words_of n spare capacity s r 1 id m.1 v (with_len stage v) at (refl, refl, refl, refl, refl) (knows_len words_of spare capacity f r.book id v k stage (f.write, mine, le_refl f.write, r.fits.behind, r.fits.within)),
         ((λ q e. (ap (λ z. with_len (lengths.SawBoth z found) v) (ap loaded_write (sym is ∙ e)), All-weaker (IsTaken words_of spare capacity f r.book id) (λ x. x.0 < found) (λ x h. h.0) v.taken k.taken)), refl),
       )
 
@@ -63,7 +63,7 @@ module _ {T : Type 0} (words_of : T → List ℕ) (n : ℕ) (spare capacity : �
         with_len lengths.Idle v,
         keeps,
         tt,
-        looks words_of n spare capacity s r 0 id m.1 (with_len lengths.Idle v) (knows_len words_of spare capacity f r.book id v k lengths.Idle tt),
+        looks words_of n spare capacity s r 0 id m.1 v (with_len lengths.Idle v) at (refl, refl, refl, refl, refl) (knows_len words_of spare capacity f r.book id v k lengths.Idle tt),
         (
           (λ p' q' e.
               let one : p ≡ p' = ap loaded_write (sym is ∙ e) in
@@ -77,4 +77,4 @@ module _ {T : Type 0} (words_of : T → List ℕ) (n : ℕ) (spare capacity : �
   pub learns : (word : ℕ) → v.capacity ≡ capacity → Allows H slots id m word (λ x. x) (tells (learned spare) (step slots word 0 0 none) m)
   learns word cap s r wide at small =
       let k = r.seats id v at in
-      (v, keeps, tt, looks words_of n spare capacity s r word id m.1 v k, ((refl, sound words_of spare capacity (face (capacity + spare) n s.words) r.book id v k r.fits.behind, in_order words_of spare capacity (face (capacity + spare) n s.words) r.book id v k r.fits.within cap), refl))
+      (v, keeps, tt, looks words_of n spare capacity s r word id m.1 v v at (refl, refl, refl, refl, refl) k, ((refl, sound words_of spare capacity (face (capacity + spare) n s.words) r.book id v k r.fits.behind, in_order words_of spare capacity (face (capacity + spare) n s.words) r.book id v k r.fits.within cap, λ is. (completes words_of n spare capacity s r id v at cap is).0), refl))

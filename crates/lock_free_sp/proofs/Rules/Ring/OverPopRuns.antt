@@ -1,20 +1,23 @@
 -- A pop of the overflowing queue, as a value, keeps the rule at each of its stages.
 use Rattle.std.proofs.Common.{◌≡◌, ℕ, ◌+◌, ◌*◌, ◌%◌, ◌<◌, ◌==◌, Bool, true, false, List, [], ◌∷◌, sym, refl, ap, subst, ◌∙◌, arith}
+use Rattle.std.specs.Prelude.{Option, IfNone}
 use Rattle.std.specs.List.{All}
 use Rattle.atomic_table.specs.Table.{Allows, step}
 use Rattle.steps.specs.Picks.{by_eq}
 use Rattle.steps.specs.Queues.Ring.{after_position}
-use Rattle.steps.specs.Queues.Overflow.{cell_word, at_pop, pop_want, pop_after, pop_kept}
+use Rattle.steps.specs.Queues.Overflow.{cell_word, at_pop, pop_want, pop_after, pop_kept, pop_answer}
 use Rattle.steps.specs.declared.ask.Op.TheVariants.{Load, Exchange}
 use Rattle.steps.specs.declared.ask.After.{After}
 use Rattle.steps.specs.declared.ask.After.TheVariants.{GoOn, Done}
 use Rattle.steps.specs.declared.copied.OneWord.{OneWord}
 use Rattle.steps.specs.declared.queues.overflow.Pop.{Pop}
 use Rattle.steps.specs.declared.queues.overflow.PopStage as pops
+use Rattle.lock_free_sp.specs.declared.ring.rule.Origin.{Origin}
 use Rattle.lock_free_sp.specs.declared.ring.view.View.{View}
 use Rattle.lock_free_sp.specs.declared.ring.view.PopStage.TheVariants as popping
 use Rattle.lock_free_sp.specs.Driver.{Told, Next, KeepsRule, Owes}
-use Rattle.lock_free_sp.specs.Ring.Views.{with_pop, popped}
+use Rattle.lock_free_sp.specs.Ring.Views.{with_pop, popped, IsWhole}
+use Rattle.lock_free_sp.specs.Ring.Between.{Emptied}
 use Rattle.lock_free_sp.specs.Ring.Kept.{Kept}
 use Rattle.lock_free_sp.specs.Ring.Tells.{place, saw_front_to_pop, saw_some, copied, TookFront, took_front, tells}
 use Rattle.lock_free_sp.specs.Ring.Stages.{PopOverAt, PopOverEnds}
@@ -55,12 +58,14 @@ module _ (v : View ℕ) (c : Pop) (room : OneWord) (key words slots id : ℕ) (s
       weaker (Kept words_of 1 1 key) words slots id saw_some (Tell (pops.TheVariants.LoadsWrite p)) 0 Load (v, [])
       (λ k small w told.
       let h = told p saw in (
-        dite (ℕ_discrete p k) (λ e. ap (λ (z : View ℕ). z.capacity) (h.1 e)) (λ ne. ap (λ (z : View ℕ). z.capacity) (h.0 ne).0),
+        dite (ℕ_discrete p k) (λ e. ap (λ (z : View ℕ). z.capacity) (h.1 e).0) (λ ne. ap (λ (z : View ℕ). z.capacity) (h.0 ne).0),
         λ base at. by_eq (λ a. Goes base a w) k p (Done false) (GoOn (at_pop c (pops.TheVariants.LoadsCell p)))
-            (λ e. h.1 (sym e) ∙ (ap (with_pop popping.Ready) at.2 ∙ ap (λ s. with_pop s base) (sym at.0)))
+            (λ e.
+            let none = h.1 (sym e) in
+            (none.0 ∙ (ap (with_pop popping.Ready) at.2 ∙ ap (λ s. with_pop s base) (sym at.0)), λ is any. subst (λ (z : View ℕ). IsWhole z → Emptied z) at.2 none.1 is))
             (λ ne. let some = h.0 (λ e. ne (sym e)) in (at.0, at.1, (some.0 ∙ ap (with_pop (popping.SawSome p)) at.2, some.1))),
       ))
-      (omega arith, sees_some words_of 1 1 key slots id (v, []) refl p saw)
+      (omega arith, sees_some words_of 1 1 key slots id (v, []) refl p saw cap)
 
   loads_cell : (base : View ℕ) (p : ℕ) → At base (pops.TheVariants.LoadsCell p) → Owe (pops.TheVariants.LoadsCell p)
   loads_cell base₀ p at₀ =
@@ -91,14 +96,19 @@ module _ (v : View ℕ) (c : Pop) (room : OneWord) (key words slots id : ℕ) (s
             record { position = p; adds = t.2 ∙ (ap (λ z. popped p z v) t.1 ∙ ap (popped p x) at.2.0); above = subst (λ (z : View ℕ). All (λ (y : ℕ × ℕ). y.0 < p) z.taken) at.2.0 t.3; sound = t.4 })
             (λ ne. let m = h.moved ne in (at.0, at.1, (m.0 ∙ ap (with_pop (popping.SawSome k)) at.2.0, m.1))),
       ))
-      (omega arith, subst (λ z. Allows (Kept words_of 1 1 key) slots id (v, []) 1 (λ y. either (y == p) z y) (tells (took_front words_of) (step slots 1 p z none) (v, []))) (sym next) (takes_front words_of 1 1 key slots id (v, []) refl p x is))
+      (omega arith, subst (λ z. Allows (Kept words_of 1 1 key) slots id (v, []) 1 (λ y. either (y == p) z y) (tells (took_front words_of) (step slots 1 p z none) (v, []))) (sym next) (takes_front words_of 1 1 key slots id (v, []) refl cap p x is))
 
   stage_owes : (base : View ℕ) (stage : pops.PopStage) → At base stage → Owe stage
-  stage_owes base pops.TheVariants.FindsNone at = (refl, λ base' at'. at'.2)
+  stage_owes base pops.TheVariants.FindsNone at = (refl, λ base' at'. (at'.2.0, λ is any. absurd (let none = at'.2.1 in omega arith)))
   stage_owes base pops.TheVariants.LoadsRead at = loads_read base at
   stage_owes base (pops.TheVariants.LoadsWrite p) at = loads_write base p at
   stage_owes base (pops.TheVariants.LoadsCell p) at = loads_cell base p at
   stage_owes base (pops.TheVariants.MovesRead p) at = moves_read base p at
 
-pub pop_keeps : KeepsRule (λ (v : View ℕ). v.capacity) PopOverAt PopOverEnds (λ (key : ℕ). 1 * (key + 1) + 4) (λ key. key) (λ key. Kept words_of 1 1 key) pop_want (λ c k. pop_after c k) pop_kept
-pop_keeps base v c m key words slots id size cap at = stage_owes v c m key words slots id size cap base c.stage at
+pub pop_keeps : KeepsRule (λ (v : View ℕ). v.capacity) PopOverAt PopOverEnds (λ (key : Origin). 1 * (key.capacity + 1) + 4) (λ key. key.capacity) (λ key. Kept words_of 1 1 key.capacity) pop_want (λ c k. pop_after c k) pop_kept
+pop_keeps base v c m key words slots id size cap at = stage_owes v c m key.capacity words slots id size cap base c.stage at
+
+-- a pop that answers None
+pub found_none : (base w : View ℕ) (end : Bool) (room : OneWord) (answer : Option ℕ) → answer ≡ pop_answer room.0 end → PopOverEnds base end room w → IfNone answer (IsWhole base → 0 < base.capacity → Emptied base)
+found_none base w true room answer is ends = subst (λ (z : Option ℕ). IfNone z (IsWhole base → 0 < base.capacity → Emptied base)) (sym is) tt
+found_none base w false room answer is ends = subst (λ (z : Option ℕ). IfNone z (IsWhole base → 0 < base.capacity → Emptied base)) (sym is) ends.1

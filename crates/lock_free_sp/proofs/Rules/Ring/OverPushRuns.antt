@@ -13,6 +13,7 @@ use Rattle.steps.specs.declared.queues.overflow.Push.{Push}
 use Rattle.steps.specs.declared.queues.overflow.PushStage as pushes
 use Rattle.steps.specs.declared.queues.overflow.PushEnd.{PushEnd}
 use Rattle.steps.specs.declared.queues.overflow.PushEnd.TheVariants.{Added, Own}
+use Rattle.lock_free_sp.specs.declared.ring.rule.Origin.{Origin}
 use Rattle.lock_free_sp.specs.declared.ring.view.View.{View}
 use Rattle.lock_free_sp.specs.declared.ring.view.PushStage.TheVariants as pushing
 use Rattle.lock_free_sp.specs.Driver.{Told, Next, KeepsRule, Owes}
@@ -160,7 +161,7 @@ module _ (v : View ℕ) (c : Push) (x : ℕ) (room : OneWord) (key words slots i
             let below = follows.0 in
             (record { position = p; adds = now; above = follows.1; next = follows.2; sound = subst Sound (sym now) at.2.5 }, (room', λ q last. let f = follows.2 q last in omega arith))),
       ))
-      (omega arith, subst (λ z. Allows (Kept words_of 1 1 key) slots id (v, []) 1 (λ y. either (y == r) z y) (tells (took_back words_of) (step slots 1 r z none) (v, []))) (sym next) (takes_back words_of 1 1 key slots id (v, []) refl (λ y. refl) (omega arith) r is))
+      (omega arith, subst (λ z. Allows (Kept words_of 1 1 key) slots id (v, []) 1 (λ y. either (y == r) z y) (tells (took_back words_of) (step slots 1 r z none) (v, []))) (sym next) (takes_back words_of 1 1 key slots id (v, []) refl cap (λ y. refl) (omega arith) r is))
 
   loads_cell : (base : View ℕ) (r : ℕ) → At base (pushes.TheVariants.LoadsCell r) → Owe (pushes.TheVariants.LoadsCell r)
   loads_cell base₀ r at₀ =
@@ -198,5 +199,5 @@ module _ (v : View ℕ) (c : Push) (x : ℕ) (room : OneWord) (key words slots i
   stage_owes base (pushes.TheVariants.MovesRead r) at = moves_read base r at
   stage_owes base (pushes.TheVariants.LoadsCell r) at = loads_cell base r at
 
-pub push_keeps : (x : ℕ) → KeepsRule (λ (v : View ℕ). v.capacity) (PushOverAt x) (PushOverEnds x) (λ (key : ℕ). 1 * (key + 1) + 4) (λ key. key) (λ key. Kept words_of 1 1 key) (λ c. push_want c x) (λ c k. push_after c k) push_kept
-push_keeps x base v c m key words slots id size cap at = stage_owes v c x m key words slots id size cap base c.stage at
+pub push_keeps : (x : ℕ) → KeepsRule (λ (v : View ℕ). v.capacity) (PushOverAt x) (PushOverEnds x) (λ (key : Origin). 1 * (key.capacity + 1) + 4) (λ key. key.capacity) (λ key. Kept words_of 1 1 key.capacity) (λ c. push_want c x) (λ c k. push_after c k) push_kept
+push_keeps x base v c m key words slots id size cap at = stage_owes v c x m key.capacity words slots id size cap base c.stage at

@@ -15,7 +15,9 @@ use Rattle.lock_free_sp.specs.Ring.Kept.{Face, Book, Kept, Fits, KnowsPush, Know
 use Rattle.lock_free_sp.specs.Ring.Tells.{tells, place, SawFront, saw_front, TookBack, took_back, loaded_back, saw_front_to_pop, saw_some, copied, TookFront, took_front}
 use Rattle.lock_free_sp.proofs.Rules.Ring.Pushes as pushes
 use Rattle.lock_free_sp.proofs.Rules.Ring.Pops as pops
-use Rattle.lock_free_sp.proofs.Rules.Ring.Stays.{put, put_same, put_other, same_some, Onwards, LeavesPush, LeavesPop, push_stays, pop_stays, len_stays, last_push_stays, last_pop_stays, published_stays, taken_stays, knows_push, knows_pop, sound, St, steps, looks, cells_stay}
+use Rattle.lock_free_sp.proofs.Shares.{put, put_same, put_other}
+use Rattle.lock_free_sp.proofs.Rules.Ring.Histories.{history_takes, emptied}
+use Rattle.lock_free_sp.proofs.Rules.Ring.Stays.{shared, completes, same_some, Onwards, LeavesPush, LeavesPop, push_stays, pop_stays, len_stays, last_push_stays, last_pop_stays, published_stays, taken_stays, knows_push, knows_pop, sound, St, steps, looks, cells_stay}
 use mathlib.Core.Logic.{dite}
 use mathlib.Core.Option.{none, some}
 use lib.ListN.{get_elem?}
@@ -52,7 +54,7 @@ module _ {T : Type 0} (words_of : T → List ℕ) (n : ℕ) (spare capacity : �
         next,
         keeps,
         tt,
-        looks words_of n spare capacity s r 1 id m.1 next (knows_push words_of spare capacity f r.book id v k stage (mine.0, write, mine.2, le_refl found, room, λ i lt. absurd (omega arith))),
+        looks words_of n spare capacity s r 1 id m.1 v next at (refl, refl, refl, refl, refl) (knows_push words_of spare capacity f r.book id v k stage (mine.0, write, mine.2, le_refl found, room, λ i lt. absurd (omega arith))),
         ((λ q e. subst (SawFront v found next) (ap pushes.position (sym is ∙ e)) told), refl),
       )
 
@@ -64,11 +66,11 @@ module _ {T : Type 0} (words_of : T → List ℕ) (n : ℕ) (spare capacity : �
       let k = r.seats id v at in
       let mine = subst (KnowsPop words_of spare capacity f r.book id) ready k.pop in
       let stage : PopStage T = popping.SawRead found in
-      (with_pop stage v, keeps, tt, looks words_of n spare capacity s r 1 id m.1 (with_pop stage v) (knows_pop words_of spare capacity f r.book id v k stage (mine, le_refl found, (λ past. absurd (omega arith)), λ exact. absurd (omega arith))), (refl, refl))
+      (with_pop stage v, keeps, tt, looks words_of n spare capacity s r 1 id m.1 v (with_pop stage v) at (refl, refl, refl, refl, refl) (knows_pop words_of spare capacity f r.book id v k stage (mine, le_refl found, (λ past. absurd (omega arith)), λ exact. absurd (omega arith))), (refl, refl))
 
   -- a pop's load of the write position
-  pub sees_some : (p : ℕ) → v.pop ≡ popping.SawRead p → Allows H slots id m 0 (λ x. x) (tells saw_some (step slots 0 0 0 none) m)
-  sees_some p is s r wide at small =
+  pub sees_some : (p : ℕ) → v.pop ≡ popping.SawRead p → v.capacity ≡ capacity → Allows H slots id m 0 (λ x. x) (tells saw_some (step slots 0 0 0 none) m)
+  sees_some p is cap s r wide at small =
       let found : ℕ = get_or s.words 0 0 in
       let f = face (capacity + spare) n s.words in
       let k = r.seats id v at in
@@ -76,12 +78,12 @@ module _ {T : Type 0} (words_of : T → List ℕ) (n : ℕ) (spare capacity : �
       let low = mine.1 in
       let behind = r.fits.behind in
       dite (ℕ_discrete p found)
-      (λ empty. (
+      (λ empty. let front : p ≡ f.read = omega arith in (
         with_pop popping.Ready v,
         keeps,
         tt,
-        looks words_of n spare capacity s r 0 id m.1 (with_pop popping.Ready v) (knows_pop words_of spare capacity f r.book id v k popping.Ready mine.0),
-        ((λ q e. let same : p ≡ q = ap pops.position (sym is ∙ e) in ((λ ne. absurd (ne (sym same ∙ empty))), λ _. refl)), refl),
+        looks words_of n spare capacity s r 0 id m.1 v (with_pop popping.Ready v) at (refl, refl, refl, refl, refl) (knows_pop words_of spare capacity f r.book id v k popping.Ready mine.0),
+        ((λ q e. let same : p ≡ q = ap pops.position (sym is ∙ e) in ((λ ne. absurd (ne (sym same ∙ empty))), λ _. (refl, λ is. let t = completes words_of n spare capacity s r id v at cap is in emptied v t.0 (t.1 ∙ (sym empty ∙ (front ∙ sym t.2)))))), refl),
       ))
       (λ ne.
       let stage : PopStage T = popping.SawSome p in
@@ -89,7 +91,7 @@ module _ {T : Type 0} (words_of : T → List ℕ) (n : ℕ) (spare capacity : �
         with_pop stage v,
         keeps,
         tt,
-        looks words_of n spare capacity s r 0 id m.1 (with_pop stage v) (knows_pop words_of spare capacity f r.book id v k stage (mine.0, low, waits)),
+        looks words_of n spare capacity s r 0 id m.1 v (with_pop stage v) at (refl, refl, refl, refl, refl) (knows_pop words_of spare capacity f r.book id v k stage (mine.0, low, waits)),
         ((λ q e. let same : p ≡ q = ap pops.position (sym is ∙ e) in ((λ _. (ap (λ z. with_pop (popping.SawSome z) v) same, (let end = r.fits.small in omega arith))), λ empty. absurd (ne (same ∙ empty)))), refl),
       ))
 
@@ -108,7 +110,7 @@ module _ {T : Type 0} (words_of : T → List ℕ) (n : ℕ) (spare capacity : �
         with_pop stage v,
         keeps,
         tt,
-        looks words_of n spare capacity s r word id m.1 (with_pop stage v) (knows_pop words_of spare capacity f r.book id v k stage (mine.0, mine.1, mine.2, value)),
+        looks words_of n spare capacity s r word id m.1 v (with_pop stage v) at (refl, refl, refl, refl, refl) (knows_pop words_of spare capacity f r.book id v k stage (mine.0, mine.1, mine.2, value)),
         ((λ q e. ap (λ z. with_pop (popping.Copied z (found ∷ [])) v) (ap pops.position (sym is ∙ e))), refl),
       )
 
@@ -121,7 +123,7 @@ module _ {T : Type 0} (words_of : T → List ℕ) (n : ℕ) (spare capacity : �
         with_push pushing.Ready v,
         keeps,
         tt,
-        looks words_of n spare capacity s r word id m.1 (with_push pushing.Ready v) (knows_push words_of spare capacity f r.book id v k pushing.Ready (mine.0, mine.1)),
+        looks words_of n spare capacity s r word id m.1 v (with_push pushing.Ready v) at (refl, refl, refl, refl, refl) (knows_push words_of spare capacity f r.book id v k pushing.Ready (mine.0, mine.1)),
         (
           (refl, λ q xs e. ap (λ z. get_or s.words z 0) there ∙ (mine.2 0 one ∙ ap (λ zs. get_or zs 0 0) (ap pushes.words_so_far (sym is ∙ e)))),
           refl,
@@ -200,9 +202,9 @@ module _ {T : Type 0} (words_of : T → List ℕ) (n : ℕ) (spare capacity : �
     once_more = all_pairs_push (λ (y z : ℕ × T). y.0 ≢ z.0) v.taken (r₀, r.book.log r₀) (r.seats id v at).taken_once (λ i d lt e. let h = below i d lt in absurd (omega arith))
 
   -- a push's exchange of the read position
-  pub takes_back : ((y : T) → length (words_of y) ≡ n) → 0 < capacity → (r₀ : ℕ) → v.push ≡ pushing.Full r₀
+  pub takes_back : v.capacity ≡ capacity → ((y : T) → length (words_of y) ≡ n) → 0 < capacity → (r₀ : ℕ) → v.push ≡ pushing.Full r₀
       → Allows H slots id m 1 (λ y. either (y == r₀) (r₀ + 1) y) (tells (took_back words_of) (step slots 1 r₀ (r₀ + 1) none) m)
-  takes_back sized some_room r₀ is s r wide at small = exchanged (get_or s.words 1 0) r₀ (r₀ + 1) (Shows s 1 (tells (took_back words_of) (step slots 1 r₀ (r₀ + 1) none) m (get_or s.words 1 0))) taken moved
+  takes_back cap sized some_room r₀ is s r wide at small = exchanged (get_or s.words 1 0) r₀ (r₀ + 1) (Shows s 1 (tells (took_back words_of) (step slots 1 r₀ (r₀ + 1) none) m (get_or s.words 1 0))) taken moved
     where
       mine : KnowsPush words_of spare capacity (face (capacity + spare) n s.words) r.book id (pushing.Full r₀)
       mine = subst (KnowsPush words_of spare capacity (face (capacity + spare) n s.words) r.book id) is (r.seats id v at).push
@@ -216,7 +218,7 @@ module _ {T : Type 0} (words_of : T → List ℕ) (n : ℕ) (spare capacity : �
             with_push pushing.Ready v,
             keeps,
             tt,
-            looks words_of n spare capacity s r 1 id m.1 (with_push pushing.Ready v) (knows_push words_of spare capacity f r.book id v (r.seats id v at) pushing.Ready (mine.0, few)),
+            looks words_of n spare capacity s r 1 id m.1 v (with_push pushing.Ready v) at (refl, refl, refl, refl, refl) (knows_push words_of spare capacity f r.book id v (r.seats id v at) pushing.Ready (mine.0, few)),
             ((λ q e. let same : r₀ ≡ q = ap pushes.read_before (sym is ∙ e) in record { size = refl; taken = λ hit. absurd (ne (hit ∙ sym same)); moved = λ _. refl }), refl),
           )
 
@@ -259,14 +261,15 @@ module _ {T : Type 0} (words_of : T → List ℕ) (n : ℕ) (spare capacity : �
             keeps,
             tt,
             steps words_of n spare capacity s r (set s.words 1 (r₀ + 1)) id next c' (length-set s.words 1 (r₀ + 1)) fits' knows
-                (λ j ne. record { onwards = on j; push = λ h. absurd (ne (h.1 ∙ sym mine.0.1)); pop = pop j }),
+                (λ j ne. record { onwards = on j; push = λ h. absurd (ne (h.1 ∙ sym mine.0.1)); pop = pop j })
+                v at refl refl (history_takes f' g' r.book c' s.views id v next at refl refl (shared words_of n spare capacity s r id v at cap) r₀ x refl refl here up same (put_same r.book.taker r₀ id) (put_other r.book.taker r₀ id) (λ q. refl) r.history),
             ((λ q e. subst (TookBack words_of v (get_or s.words 1 0) next) (ap pushes.read_before (sym is ∙ e)) told), refl),
           )
 
   -- a pop's exchange of the read position
-  pub takes_front : (p word : ℕ) → v.pop ≡ popping.Copied p (word ∷ [])
+  pub takes_front : v.capacity ≡ capacity → (p word : ℕ) → v.pop ≡ popping.Copied p (word ∷ [])
       → Allows H slots id m 1 (λ y. either (y == p) (p + 1) y) (tells (took_front words_of) (step slots 1 p (p + 1) none) m)
-  takes_front p word is s r wide at small = exchanged (get_or s.words 1 0) p (p + 1) (Shows s 1 (tells (took_front words_of) (step slots 1 p (p + 1) none) m (get_or s.words 1 0))) taken moved
+  takes_front cap p word is s r wide at small = exchanged (get_or s.words 1 0) p (p + 1) (Shows s 1 (tells (took_front words_of) (step slots 1 p (p + 1) none) m (get_or s.words 1 0))) taken moved
     where
       mine : KnowsPop words_of spare capacity (face (capacity + spare) n s.words) r.book id (popping.Copied p (word ∷ []))
       mine = subst (KnowsPop words_of spare capacity (face (capacity + spare) n s.words) r.book id) is (r.seats id v at).pop
@@ -282,7 +285,7 @@ module _ {T : Type 0} (words_of : T → List ℕ) (n : ℕ) (spare capacity : �
             with_pop stage v,
             keeps,
             tt,
-            looks words_of n spare capacity s r 1 id m.1 (with_pop stage v) (knows_pop words_of spare capacity f' r.book id v (r.seats id v at) stage (mine.0, le_refl found, mine.2)),
+            looks words_of n spare capacity s r 1 id m.1 v (with_pop stage v) at (refl, refl, refl, refl, refl) (knows_pop words_of spare capacity f' r.book id v (r.seats id v at) stage (mine.0, le_refl found, mine.2)),
             ((λ q w e. let same : p ≡ q = ap pops.position (sym is ∙ e) in record { size = refl; taken = λ hit. absurd (ne (hit ∙ sym same)); moved = λ _. (refl, below) }), refl),
           )
 
@@ -323,6 +326,7 @@ module _ {T : Type 0} (words_of : T → List ℕ) (n : ℕ) (spare capacity : �
             keeps,
             tt,
             steps words_of n spare capacity s r (set s.words 1 (p + 1)) id next c' (length-set s.words 1 (p + 1)) fits' knows
-                (λ j ne. record { onwards = on j; push = leaves j; pop = λ h. absurd (ne (h.1 ∙ sym mine.0.1)) }),
+                (λ j ne. record { onwards = on j; push = leaves j; pop = λ h. absurd (ne (h.1 ∙ sym mine.0.1)) })
+                v at refl refl (history_takes f' g' r.book c' s.views id v next at refl refl (shared words_of n spare capacity s r id v at cap) p x refl refl here up (now₀ s r at p here waits next) (put_same r.book.taker p id) (put_other r.book.taker p id) (λ q. refl) r.history),
             ((λ q w e. subst (λ (z : ℕ × ℕ). TookFront words_of v (get_or s.words 1 0) next z.0 z.1) (λ i. (ap pops.position (sym is ∙ e) i, ap (λ z. get_or (pops.words_copied z) 0 0) (sym is ∙ e) i)) told), refl),
           )

@@ -12,10 +12,12 @@ use Rattle.steps.specs.declared.ask.After.{After}
 use Rattle.steps.specs.declared.ask.After.TheVariants.{GoOn, Done}
 use Rattle.steps.specs.declared.queues.ring.Pop.{Pop}
 use Rattle.steps.specs.declared.queues.ring.PopStage as pops
+use Rattle.lock_free_sp.specs.declared.ring.rule.Origin.{Origin}
 use Rattle.lock_free_sp.specs.declared.ring.view.View.{View}
 use Rattle.lock_free_sp.specs.declared.ring.view.PopStage.TheVariants as popping
 use Rattle.lock_free_sp.specs.Driver.{Told, Next, KeepsRule, Owes}
-use Rattle.lock_free_sp.specs.Ring.Views.{with_pop, popped}
+use Rattle.lock_free_sp.specs.Ring.Views.{with_pop, popped, IsWhole}
+use Rattle.lock_free_sp.specs.Ring.Between.{Emptied}
 use Rattle.lock_free_sp.specs.Ring.Calls.{HasPopped, WasEmpty}
 use Rattle.lock_free_sp.specs.Ring.Kept.{Kept}
 use Rattle.lock_free_sp.specs.Ring.Tells.{place, saw_read, SawValue, saw_value, loaded, Taken, taken_at, tells}
@@ -70,6 +72,7 @@ module _ {T R : Type 0} (words_of : T → List ℕ) (value_of : List ℕ → T) 
                 empty = λ q last.
                     let follows = at.4.2 q last in
                     subst (All (λ (y : ℕ × T). y.0 ≤ q)) known (All-weaker (λ (y : ℕ × T). y.0 < p) (λ (y : ℕ × T). y.0 ≤ q) (λ y low. omega arith) v.published (h.none e).1);
+                whole = subst (λ (z : View T). IsWhole z → Emptied z) at.4.0 (h.none e).2;
               } in
               by_either (λ a. Goes base a room w) c.capacity 0 k p (Done false) (GoOn (at_pop c (pops.TheVariants.LoadsCell p (cell_word c.capacity n p) 0)))
               (λ e. empty (omega arith))
@@ -151,10 +154,10 @@ module _ {T R : Type 0} (words_of : T → List ℕ) (value_of : List ℕ → T) 
     stage_owes base (pops.TheVariants.StoresRead p) at = stores_read base p at
 
   abbrev Keeps : ℕ → Type 0
-  Keeps spare = KeepsRule (λ (v : View T). v.capacity) (PopAt words_of n words_in) (PopEnds value_of n words_in) (λ (key : ℕ). n * (key + spare) + 4) (λ key. key) (λ key. Kept words_of n spare key) pop_want (λ c k. pop_after n c k) (pop_kept with_word)
+  Keeps spare = KeepsRule (λ (v : View T). v.capacity) (PopAt words_of n words_in) (PopEnds value_of n words_in) (λ (key : Origin). n * (key.capacity + spare) + 4) (λ key. key.capacity) (λ key. Kept words_of n spare key.capacity) pop_want (λ c k. pop_after n c k) (pop_kept with_word)
 
   exactly : Keeps 0
-  exactly base v c m key words slots id size cap at = stage_owes v c m key words slots id size cap base c.stage at
+  exactly base v c m key words slots id size cap at = stage_owes v c m key.capacity words slots id size cap base c.stage at
 
   pub pop_keeps : (spare : ℕ) → spare ≡ 0 → Keeps spare
   pop_keeps spare exact = subst Keeps (sym exact) exactly

@@ -11,7 +11,9 @@ use Rattle.lock_free_sp.specs.Ring.Views.{with_push, pushed}
 use Rattle.lock_free_sp.specs.Ring.Kept.{Book, Kept, Fits, KnowsPush, Knows, IsPublished, IsTaken, Produces, face}
 use Rattle.lock_free_sp.specs.Ring.Tells.{tells, PublishedOver, published_over}
 use Rattle.lock_free_sp.proofs.Rules.Ring.Pushes as pushes
-use Rattle.lock_free_sp.proofs.Rules.Ring.Stays.{put, put_same, put_other, same_some, Onwards, LeavesPop, pop_stays, len_stays, last_pop_stays, published_stays, taken_stays, sound, St, steps, cells_stay}
+use Rattle.lock_free_sp.proofs.Shares.{put, put_same, put_other}
+use Rattle.lock_free_sp.proofs.Rules.Ring.Histories.{history_publishes}
+use Rattle.lock_free_sp.proofs.Rules.Ring.Stays.{shared, same_some, Onwards, LeavesPop, pop_stays, len_stays, last_pop_stays, published_stays, taken_stays, sound, St, steps, cells_stay}
 use mathlib.Core.Logic.{dite}
 use mathlib.Core.Option.{none}
 use native.Mathlib.Decide.{ℕ_discrete}
@@ -125,7 +127,8 @@ module _ {T : Type 0} (words_of : T → List ℕ) (n : ℕ) (spare capacity : �
             keeps,
             tt,
             steps words_of n spare capacity s r ws' id next c (length-set s.words 0 (p + 1)) fits knows
-                (λ j ne. record { onwards = onwards j; push = λ h. absurd (ne (h.1 ∙ sym mine.0.1)); pop = pop j }),
+                (λ j ne. record { onwards = onwards j; push = λ h. absurd (ne (h.1 ∙ sym mine.0.1)); pop = pop j })
+                v at refl refl (history_publishes f g b c s.views id v next at refl refl (shared words_of n spare capacity s r id v at cap) p x refl refl (omega arith) write now₀ now₁ (put_same b.publisher p id) (put_other b.publisher p id) (λ q. refl) r.history),
             (
               (λ q r₁ y e.
                   let same : words_of x ≡ words_of y = ap pushes.words_so_far (sym is ∙ e) in

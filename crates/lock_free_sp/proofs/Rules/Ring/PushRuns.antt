@@ -12,6 +12,7 @@ use Rattle.steps.specs.declared.ask.After.{After}
 use Rattle.steps.specs.declared.ask.After.TheVariants.{GoOn, Done}
 use Rattle.steps.specs.declared.queues.ring.Push.{Push}
 use Rattle.steps.specs.declared.queues.ring.PushStage as pushes
+use Rattle.lock_free_sp.specs.declared.ring.rule.Origin.{Origin}
 use Rattle.lock_free_sp.specs.declared.ring.view.View.{View}
 use Rattle.lock_free_sp.specs.declared.ring.view.PushStage.TheVariants as pushing
 use Rattle.lock_free_sp.specs.Driver.{Told, Next, KeepsRule, Owes}
@@ -150,10 +151,10 @@ module _ {T : Type 0} (words_of : T → List ℕ) (value_of : List ℕ → T) (n
     stage_owes base (pushes.TheVariants.StoresWrite p) at = stores_write base p at
 
   abbrev Keeps : T → ℕ → Type 0
-  Keeps x spare = KeepsRule (λ (v : View T). v.capacity) (PushAt words_of n x) (PushEnds x) (λ (key : ℕ). n * (key + spare) + 4) (λ key. key) (λ key. Kept words_of n spare key) (λ c. push_want words_of c x) (λ c k. push_after n c k) (λ c m k. m)
+  Keeps x spare = KeepsRule (λ (v : View T). v.capacity) (PushAt words_of n x) (PushEnds x) (λ (key : Origin). n * (key.capacity + spare) + 4) (λ key. key.capacity) (λ key. Kept words_of n spare key.capacity) (λ c. push_want words_of c x) (λ c k. push_after n c k) (λ c m k. m)
 
   exactly : (x : T) → Keeps x 0
-  exactly x base v c m key words slots id size cap at = stage_owes v c x key words slots id size cap base c.stage at
+  exactly x base v c m key words slots id size cap at = stage_owes v c x key.capacity words slots id size cap base c.stage at
 
   pub push_keeps : (spare : ℕ) → spare ≡ 0 → (x : T) → Keeps x spare
   push_keeps spare exact x = subst (Keeps x) (sym exact) (exactly x)

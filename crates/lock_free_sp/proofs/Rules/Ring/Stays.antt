@@ -1,15 +1,16 @@
 -- What a seat knows stays so while another seat steps, and what stays of the rule at a step.
-use Rattle.std.proofs.Common.{◌≡◌, ◌≢◌, ℕ, ◌+◌, ◌<◌, ◌≤◌, ⊎_elim, if◌then◌else◌, eqb, eq-eqb, ne_eqb, List, length, get_or, set, sym, refl, ap, subst, ◌∙◌, arith, le_refl, get_or-set_other}
+use Rattle.std.proofs.Common.{◌≡◌, ◌≢◌, ℕ, ◌+◌, ◌^◌, ◌<◌, ◌≤◌, ⊎_elim, List, length, get_or, set, sym, refl, ap, subst, ◌∙◌, arith, le_refl, get_or-set_other}
 use Rattle.std.specs.Prelude.{Option, Some, None}
 use Rattle.std.specs.List.{All}
 use Rattle.std.proofs.lemmas.List.Elements.{All-weaker}
 use mathlib.Core.Logic.{dite}
 use mathlib.Core.Option.{some}
-use native.Mathlib.Decide.{dec_lt}
+use native.Mathlib.Decide.{dec_lt, ℕ_discrete}
 use lib.ListN.{get_elem?}
 use lib.Seq.{set-get_or}
 use Rattle.atomic_table.specs.Table.{State, keeps, stepped}
 use Rattle.atomic_table.proofs.Lists.{at_set}
+use Rattle.lock_free_sp.specs.declared.share.Share.{Share}
 use Rattle.lock_free_sp.specs.declared.ring.view.PushStage.{PushStage}
 use Rattle.lock_free_sp.specs.declared.ring.view.PushStage.TheVariants as pushing
 use Rattle.lock_free_sp.specs.declared.ring.view.PopStage.{PopStage}
@@ -17,21 +18,12 @@ use Rattle.lock_free_sp.specs.declared.ring.view.PopStage.TheVariants as popping
 use Rattle.lock_free_sp.specs.declared.ring.view.LenStage.{LenStage}
 use Rattle.lock_free_sp.specs.declared.ring.view.LenStage.TheVariants as lengths
 use Rattle.lock_free_sp.specs.declared.ring.view.View.{View}
-use Rattle.lock_free_sp.specs.Ring.Views.{with_push, with_pop, with_len}
-use Rattle.lock_free_sp.specs.Ring.Between.{Sound, InOrder}
-use Rattle.lock_free_sp.specs.Ring.Kept.{Face, Book, face, Produces, Consumes, KnowsPush, KnowsPop, KnowsLen, IsPublished, IsTaken, Knows, Fits, Kept}
+use Rattle.lock_free_sp.specs.Ring.Views.{with_push, with_pop, with_len, IsWhole}
+use Rattle.lock_free_sp.specs.Ring.Between.{Sound, InOrder, Complete}
+use Rattle.lock_free_sp.specs.Ring.Kept.{Face, Book, face, Produces, Consumes, KnowsPush, KnowsPop, KnowsLen, IsPublished, IsTaken, Knows, Fits, History, Kept}
+use Rattle.lock_free_sp.proofs.Shares.{every, shares_stay}
+use Rattle.lock_free_sp.proofs.Rules.Ring.Histories.{IsLike, history_same, complete_at}
 use Rattle.lock_free_sp.specs.Ring.Tells.{place}
-
--- ---- a function that is changed at one number
-
-abbrev pub put : {A : Type 0} → (ℕ → A) → ℕ → A → ℕ → A
-put f i x j = if eqb j i then x else f j
-
-pub put_same : {A : Type 0} (f : ℕ → A) (i : ℕ) (x : A) → put f i x i ≡ x
-put_same f i x = ap (λ b. if b then x else f i) (eq-eqb i i refl)
-
-pub put_other : {A : Type 0} (f : ℕ → A) (i : ℕ) (x : A) (j : ℕ) → j ≢ i → put f i x j ≡ f j
-put_other f i x j ne = ap (λ b. if b then x else f j) (ne_eqb j i ne)
 
 abbrev number : Option ℕ → ℕ
 number None = 0
@@ -219,16 +211,21 @@ module _ {T : Type 0} (words_of : T → List ℕ) (n : ℕ) (spare capacity : �
   pub steps : (s : St) (r : Kept words_of n spare capacity s) (ws : List ℕ) (id : ℕ) (w : View T) (c : Book T) → length ws ≡ length s.words
       → Fits words_of n spare capacity (face (capacity + spare) n ws) c.log → Knows words_of spare capacity (face (capacity + spare) n ws) c id w
       → ((j : ℕ) → j ≢ id → Passes words_of spare capacity (face (capacity + spare) n s.words) (face (capacity + spare) n ws) r.book c j)
+      → (v : View T) → get_elem? s.views id ≡ some v → w.share ≡ v.share → w.capacity ≡ v.capacity → History (face (capacity + spare) n ws) c (set s.views id w)
       → Kept words_of n spare capacity record { words = ws; homes = s.homes; views = set s.views id w }
-  steps s r ws id w c long fits mine others =
+  steps s r ws id w c long fits mine others v at share size history =
       record {
         book = c;
+        modest = r.modest;
         wide = long ∙ r.wide;
         fits = fits;
         seats = λ j v e. ⊎_elim
             (λ (t : (j ≡ id) × (w ≡ v)). subst (λ (x : ℕ × View T). Knows words_of spare capacity (face (capacity + spare) n ws) c x.0 x.1) (λ i. (sym t.0 i, t.1 i)) mine)
             (λ (t : (j ≢ id) × (get_elem? s.views j ≡ some v)). stays words_of spare capacity (face (capacity + spare) n s.words) (face (capacity + spare) n ws) r.book c j (others j t.0) v (r.seats j v t.1))
             (at_set s.views id j w v e);
+        shares = shares_stay (λ u. u.share) s.views id v w at share r.shares;
+        history = history;
+        bare = every (λ j u. u.share.part ≡ 0 → u.capacity ≡ 2 ^ 32) s.views id w (λ j u ne e. r.bare j u e) (λ none. size ∙ r.bare id v at (sym (ap (λ (z : Share). z.part) share) ∙ none));
       }
 
   -- nothing that a seat sees changes
@@ -244,12 +241,27 @@ module _ {T : Type 0} (words_of : T → List ℕ) (n : ℕ) (spare capacity : �
       }
 
   -- a step that changes no word
-  pub looks : (s : St) (r : Kept words_of n spare capacity s) (word id : ℕ) (held : List (ℕ × Unit {0})) (w : View T) → Knows words_of spare capacity (face (capacity + spare) n s.words) r.book id w
+  pub looks : (s : St) (r : Kept words_of n spare capacity s) (word id : ℕ) (held : List (ℕ × Unit {0})) (v w : View T) → get_elem? s.views id ≡ some v → IsLike w v → Knows words_of spare capacity (face (capacity + spare) n s.words) r.book id w
       → Kept words_of n spare capacity (stepped s word (get_or s.words word 0) id held w keeps)
-  looks s r word id held w mine =
+  looks s r word id held v w at like mine =
       subst (λ (ws : List ℕ). Kept words_of n spare capacity record { words = ws; homes = s.homes; views = set s.views id w }) (sym (set-get_or s.words word 0))
-      (steps s r s.words id w r.book refl r.fits mine (λ j other. record { onwards = onwards_same (face (capacity + spare) n s.words) r.book j r.fits.behind; push = λ k. (k, refl, λ p i. refl); pop = λ k. (k, (λ moved. absurd (omega arith)), λ _. refl) }))
+      (steps s r s.words id w r.book refl r.fits mine (λ j other. record { onwards = onwards_same (face (capacity + spare) n s.words) r.book j r.fits.behind; push = λ k. (k, refl, λ p i. refl); pop = λ k. (k, (λ moved. absurd (omega arith)), λ _. refl) }) v at like.0 like.1
+      (history_same (face (capacity + spare) n s.words) (face (capacity + spare) n s.words) r.book r.book s.views id v w at like.0 like.2 like.3 like.4 refl refl (λ p. refl) (λ p. refl) r.history))
 
   -- a step that changes one of the first four words leaves the cells
   pub cells_stay : (ws : List ℕ) (word x : ℕ) → word < 4 → (p i : ℕ) → (face (capacity + spare) n (set ws word x)).cell p i ≡ (face (capacity + spare) n ws).cell p i
   cells_stay ws word x low p i = get_or-set_other ws word (place (capacity + spare) n p i) x 0 (λ e. absurd (omega arith))
+
+  -- who steps has a share
+  pub shared : (s : St) (r : Kept words_of n spare capacity s) (id : ℕ) (v : View T) → get_elem? s.views id ≡ some v → v.capacity ≡ capacity → 0 < v.share.part
+  shared s r id v at cap = dite (ℕ_discrete v.share.part 0) (λ none. let few = r.modest in let much = r.bare id v at none in absurd (omega arith)) (λ ne. omega arith)
+
+  -- who steps and has the whole right knows all
+  pub completes : (s : St) (r : Kept words_of n spare capacity s) (id : ℕ) (v : View T) → get_elem? s.views id ≡ some v → v.capacity ≡ capacity → IsWhole v
+      → (c : Complete v) × (c.write ≡ get_or s.words 0 0) × (c.read ≡ get_or s.words 1 0)
+  completes s r id v at cap =
+      let f = face (capacity + spare) n s.words in
+      let k = r.seats id v at in
+      complete_at f r.book s.views id v at (shared s r id v at cap) r.fits.behind
+      (All-weaker (IsPublished words_of spare capacity f r.book id) (λ x. x.0 < f.write) (λ x h. h.0) v.published k.published)
+      (All-weaker (IsTaken words_of spare capacity f r.book id) (λ x. x.0 < f.read) (λ x h. h.0) v.taken k.taken) r.shares r.history

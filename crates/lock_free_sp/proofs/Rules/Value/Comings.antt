@@ -1,18 +1,19 @@
 -- How a value's table opens, and how its seats come and go.
-use Rattle.std.proofs.Common.{◌≡◌, ◌≢◌, ℕ, zero, suc, ◌+◌, ◌*◌, ◌^◌, ◌<◌, ◌≤◌, ⊎_elim, List, [], ◌∷◌, ◌++◌, length, get_or, set, eqb, eq-eqb, ne_eqb, sym, refl, ap, subst, ◌∙◌, arith, le_refl}
-use Rattle.std.specs.Prelude.{if◌then◌else◌}
-use Rattle.std.specs.List.{All}
+use Rattle.std.proofs.Common.{◌≡◌, ◌≢◌, ℕ, zero, suc, ◌+◌, ◌*◌, ◌^◌, ◌<◌, ◌≤◌, ⊎_elim, inl, List, [], ◌∷◌, ◌++◌, length, get_or, set, sym, refl, ap, subst, ◌∙◌, arith, le_refl}
+use Rattle.std.specs.List.{All, AllPairs}
 use Rattle.std.proofs.lemmas.List.Elements.{All-nil, All-push, All-append, All-weaker}
 use Rattle.atomic_table.specs.Table.{Splits, Joins, opening}
 use Rattle.atomic_table.proofs.Lists.{at_set, at_snoc}
 use Rattle.lock_free_sp.specs.declared.value.view.View.{View}
 use Rattle.lock_free_sp.specs.Ring.Between.{Agree}
-use Rattle.lock_free_sp.specs.Value.Views.{blank, opened, joined}
+use Rattle.lock_free_sp.specs.Value.Views.{blank, opened, halved, half, joined, sharing}
 use Rattle.lock_free_sp.specs.Value.Between.{Sound, Ruled}
-use Rattle.lock_free_sp.specs.Value.Kept.{Face, Book, Kept, Knows, IsStored, IsLoaded, face}
+use Rattle.lock_free_sp.specs.Value.Kept.{Face, Book, Kept, KnowsStore, KnowsLoad, Knows, IsStored, IsLoaded, face}
 use Rattle.lock_free_sp.specs.Value.Tells.{place}
 use Rattle.lock_free_sp.proofs.Rules.Ring.Lists.{all_left, all_right, pairs_append, pairs_across}
 use Rattle.lock_free_sp.proofs.Rules.Ring.Roles.{none_some}
+use Rattle.lock_free_sp.proofs.Shares.{given, given_over, given_not, every, alone, shares_alone, shares_split, shares_join, recorded_alone}
+use Rattle.lock_free_sp.proofs.Rules.Value.Histories.{some_share, history_split, history_join}
 use Rattle.lock_free_sp.proofs.Rules.Value.Stays.{Passes, stays, St}
 use mathlib.Core.Option.{some, some-injective, some-ne-none}
 use lib.ListN.{get_elem?}
@@ -42,6 +43,18 @@ module _ {T : Type 0} (words_of : T → List ℕ) (f : Face) (b : Book T) (j : �
         stored_once = λ i k d lt within. absurd (omega arith);
       }
 
+  -- a view that differs in its share alone knows the same
+  pub knows_like : (v w : View T) → (w.store ≡ v.store) × (w.last_store ≡ v.last_store) × (w.load ≡ v.load) × (w.stored ≡ v.stored) × (w.loaded ≡ v.loaded) → Knows words_of f b j v → Knows words_of f b j w
+  knows_like v w e k =
+      record {
+        store = subst (KnowsStore f b j) (sym e.0) k.store;
+        last_store = λ p is. k.last_store p (sym e.1 ∙ is);
+        load = subst (KnowsLoad words_of f b) (sym e.2) k.load;
+        stored = subst (All (IsStored f b j)) (sym e.3) k.stored;
+        loaded = subst (All (IsLoaded f b j)) (sym e.4) k.loaded;
+        stored_once = subst (AllPairs (λ (x y : ℕ × T). x.0 ≢ y.0)) (sym e.3) k.stored_once;
+      }
+
 module _ {T : Type 0} (words_of : T → List ℕ) (n : ℕ) where
   abbrev H : St words_of n → Type 0
   H = Kept words_of n
@@ -55,6 +68,19 @@ module _ {T : Type 0} (words_of : T → List ℕ) (n : ℕ) where
         wide = wide;
         fits = record { some = omega arith; small = omega arith; cells = λ i near. ap (λ z. get_or ws (place n z i) 0) now ∙ cells i near };
         seats = seats;
+        shares = shares_alone (λ u. u.share) (opened p x) refl;
+        history = record {
+          opening = p;
+          keeper = 0;
+          behind = omega arith;
+          place = alone (λ j v. 0 < v.share.part → v.opening ≡ p) (opened p x) (λ _. refl);
+          stored = recorded_alone (λ u. u.share) (λ u. u.stored) (p + 1) ((face n ws).version + 1) (λ q. 0) (opened p x) refl (omega arith);
+          opened = record {
+            idle = alone (λ j v. v.share.part ≡ 0 → v.loaded ≡ []) (opened p x) (λ none. absurd (omega arith));
+            since = alone (λ j v. All (λ (y : ℕ × T). p ≤ y.0) v.loaded) (opened p x) (All-push (λ (y : ℕ × T). p ≤ y.0) [] (p, x) (All-nil (λ (y : ℕ × T). p ≤ y.0)) (omega arith));
+            known = λ q from lt. (opened p x, refl, inl (omega arith));
+          };
+        };
       }
     where
       book : Book T
@@ -64,33 +90,26 @@ module _ {T : Type 0} (words_of : T → List ℕ) (n : ℕ) where
       seats zero v e = subst (Knows words_of (face n ws) book zero) (some-injective (opened p x) v e) (knows_opening words_of (face n ws) book zero p x (omega arith) refl)
       seats (suc j) v e = absurd (some-ne-none v (sym e))
 
-  -- a new seat knows nothing, and the old one what it knew
-  pub splits : (id : ℕ) (v : View T) → Splits H id v v blank
+  -- a new seat knows nothing, and the old one what it knew, with half the share each
+  pub splits : (id : ℕ) (v : View T) → Splits H id v (halved v) (half v)
   splits id v s r at =
       let f = face n s.words in
+      let kept : (j : ℕ) (u : View T) → get_elem? (set s.views id (halved v)) j ≡ some u → Knows words_of f r.book j u =
+      every (λ j u. Knows words_of f r.book j u) s.views id (halved v) (λ j u ne e. r.seats j u e) (knows_like words_of f r.book id v (halved v) (refl, refl, refl, refl, refl) (r.seats id v at)) in
       record {
         book = r.book;
         wide = r.wide;
         fits = r.fits;
-        seats = λ j u e. ⊎_elim
-            (λ h. ⊎_elim (λ (t : (j ≡ id) × (v ≡ u)). r.seats j u (ap (get_elem? s.views) t.0 ∙ (at ∙ ap (λ (z : View T). some z) t.1))) (λ t. r.seats j u t.1) (at_set s.views id j v u h))
-            (λ (is : blank ≡ u). subst (Knows words_of f r.book j) is (knows_nothing words_of f r.book j))
-            (at_snoc (set s.views id v) blank u j e);
+        seats = λ j u e. ⊎_elim (λ h. kept j u h)
+            (λ (is : half v ≡ u). subst (Knows words_of f r.book j) is (knows_like words_of f r.book j blank (half v) (refl, refl, refl, refl, refl) (knows_nothing words_of f r.book j)))
+            (at_snoc (set s.views id (halved v)) (half v) u j e);
+        shares = shares_split (λ u. u.share) s.views id v (halved v) (half v) at refl refl r.shares;
+        history = history_split f r.book s.views id v at r.history;
       }
 
-  -- what another seat stored is this seat's
-  abbrev given : (ℕ → ℕ) → ℕ → ℕ → ℕ → ℕ
-  given by other id p = if eqb (by p) other then id else by p
-
-  given_over : (by : ℕ → ℕ) (other id p : ℕ) → by p ≡ other → given by other id p ≡ id
-  given_over by other id p e = ap (λ t. if t then id else by p) (eq-eqb (by p) other e)
-
-  given_not : (by : ℕ → ℕ) (other id p j : ℕ) → j ≢ other → by p ≡ j → given by other id p ≡ j
-  given_not by other id p j ne e = ap (λ t. if t then id else by p) (ne_eqb (by p) other (λ h. ne (sym e ∙ h))) ∙ e
-
   -- a seat takes in what another knows, which is spent
-  pub joins : (id other : ℕ) (v w : View T) → Joins H id v other w (joined v w) blank
-  joins id other v w s r at apart at' =
+  pub joins : (id other : ℕ) (v w : View T) → sharing v ≡ 1 → Joins H id v other w (joined v w) blank
+  joins id other v w any s r at apart at' =
       let f = face n s.words in
       let b = r.book in
       let c : Book T = record b { storer = given b.storer other id } in
@@ -123,6 +142,8 @@ module _ {T : Type 0} (words_of : T → List ℕ) (n : ℕ) where
             (λ h. stays f f b c j words_of (passes j t.0) u (r.seats j u h.1))
             (at_set s.views id j (joined v w) u t.1))
             (at_set (set s.views id (joined v w)) other j blank u e);
+        shares = shares_join (λ u. u.share) s.views id other v w (joined v w) blank at apart was refl refl r.shares;
+        history = history_join f b s.views id other v w at apart was (some_share v any).0 r.shares r.history;
       }
 
 module _ {T : Type 0} where

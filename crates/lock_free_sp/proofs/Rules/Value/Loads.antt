@@ -7,10 +7,11 @@ use Rattle.atomic_table.proofs.Lists.{exchanged}
 use Rattle.lock_free_sp.specs.declared.value.view.LoadStage.{LoadStage}
 use Rattle.lock_free_sp.specs.declared.value.view.LoadStage.TheVariants as loading
 use Rattle.lock_free_sp.specs.declared.value.view.View.{View}
-use Rattle.lock_free_sp.specs.Value.Views.{with_load, loaded_at}
+use Rattle.lock_free_sp.specs.Value.Views.{with_load, loaded_at, sharing}
 use Rattle.lock_free_sp.specs.Value.Kept.{Kept, KnowsLoad, Knows, IsLoaded, face}
 use Rattle.lock_free_sp.specs.Value.Tells.{tells, place, with_copied, load_started, word_copied, Settled, load_settled, learned}
-use Rattle.lock_free_sp.proofs.Rules.Value.Stays.{knows_load, up_to, sound, St, looks}
+use Rattle.lock_free_sp.proofs.Rules.Value.Histories.{some_share, history_loads, complete}
+use Rattle.lock_free_sp.proofs.Rules.Value.Stays.{looks_more, knows_load, up_to, sound, St, looks}
 use mathlib.Core.Logic.{dite}
 use mathlib.Core.Option.{none}
 use native.Mathlib.Decide.{ℕ_discrete}
@@ -43,7 +44,7 @@ module _ {T : Type 0} (words_of : T → List ℕ) (n : ℕ) (slots id : ℕ) (m 
   pub starts : v.load ≡ loading.Idle → Allows H slots id m 0 (λ x. x) (tells load_started (step slots 0 0 0 none) m)
   starts idle s r wide at small =
       let stage : LoadStage = loading.Copying (get_or s.words 0 0) [] in
-      (with_load stage v, keeps, tt, looks words_of n s r 0 id m.1 (with_load stage v) (knows_load words_of (face n s.words) r.book id v (r.seats id v at) stage (begun s r)), ((refl, r.fits.some), refl))
+      (with_load stage v, keeps, tt, looks words_of n s r 0 id m.1 v (with_load stage v) at (refl, refl, refl, refl) (knows_load words_of (face n s.words) r.book id v (r.seats id v at) stage (begun s r)), ((refl, r.fits.some), refl))
 
   -- the load of a word of the cell
   pub copies_word : (word p : ℕ) (ws : List ℕ) → v.load ≡ loading.Copying p ws → length ws < n → word ≡ place n p (length ws)
@@ -64,13 +65,13 @@ module _ {T : Type 0} (words_of : T → List ℕ) (n : ℕ) (slots id : ℕ) (m 
       (λ last. ap (λ z. get_or (words_of (b.log p)) z 0) last ∙ (here e ∙ sym (get_or_push ws found 0 i (sym last))))
       (λ ne. let before : i < length ws = omega arith in mine.2 e i before ∙ sym (get_or_append_left ws (found ∷ []) 0 i before)) in
       let knows : KnowsLoad words_of f b stage = (mine.0, mine.1, more) in
-      (next, keeps, tt, looks words_of n s r word id m.1 next (knows_load words_of f b id v k (with_copied found v.load) (subst (KnowsLoad words_of f b) (sym same) knows)), (refl, refl))
+      (next, keeps, tt, looks words_of n s r word id m.1 v next at (refl, refl, refl, refl) (knows_load words_of f b id v k (with_copied found v.load) (subst (KnowsLoad words_of f b) (sym same) knows)), (refl, refl))
 
   -- the exchange of the version with itself
   pub settles : (value_of : List ℕ → T) → ((y : T) → value_of (words_of y) ≡ y) → ((y : T) → length (words_of y) ≡ n)
-      → (p : ℕ) (ws : List ℕ) → v.load ≡ loading.Copying p ws → length ws ≡ n
+      → sharing v ≡ 1 → (p : ℕ) (ws : List ℕ) → v.load ≡ loading.Copying p ws → length ws ≡ n
       → Allows H slots id m 0 (λ y. either (y == p) p y) (tells (load_settled value_of n) (step slots 0 p p none) m)
-  settles value_of given_back sized p ws is long s r wide at small = exchanged (get_or s.words 0 0) p p (Shows s (tells (load_settled value_of n) (step slots 0 p p none) m (get_or s.words 0 0))) loaded moved
+  settles value_of given_back sized any p ws is long s r wide at small = exchanged (get_or s.words 0 0) p p (Shows s (tells (load_settled value_of n) (step slots 0 p p none) m (get_or s.words 0 0))) loaded moved
     where
       mine : KnowsLoad words_of (face n s.words) r.book (loading.Copying p ws)
       mine = subst (KnowsLoad words_of (face n s.words) r.book) is (r.seats id v at).load
@@ -82,7 +83,7 @@ module _ {T : Type 0} (words_of : T → List ℕ) (n : ℕ) (slots id : ℕ) (m 
       moved ne =
           let stage : LoadStage = loading.Copying (get_or s.words 0 0) [] in
           let next : View T = with_load stage v in
-          (next, keeps, tt, looks words_of n s r 0 id m.1 next (knows_load words_of (face n s.words) r.book id v (r.seats id v at) stage (begun s r)), (told next (record { loaded = λ hit. absurd (ne hit); moved = λ _. (refl, r.fits.some) }), refl))
+          (next, keeps, tt, looks words_of n s r 0 id m.1 v next at (refl, refl, refl, refl) (knows_load words_of (face n s.words) r.book id v (r.seats id v at) stage (begun s r)), (told next (record { loaded = λ hit. absurd (ne hit); moved = λ _. (refl, r.fits.some) }), refl))
 
       loaded : get_or s.words 0 0 ≡ p → Shows s (tells (load_settled value_of n) (step slots 0 p p none) m (get_or s.words 0 0)) p
       loaded here =
@@ -105,12 +106,12 @@ module _ {T : Type 0} (words_of : T → List ℕ) (n : ℕ) (slots id : ℕ) (m 
             next,
             keeps,
             tt,
-            subst (λ z. H (stepped s 0 z id m.1 next keeps)) here (looks words_of n s r 0 id m.1 next knows),
+            subst (λ z. H (stepped s 0 z id m.1 next keeps)) here (looks_more words_of n s r 0 id m.1 v next at refl (history_loads f f b b s.views id v next at refl refl (some_share v any).0 p (value_of ws) refl refl here refl (λ q. refl) r.history) knows),
             (told next (record { loaded = λ _. (refl, up_to words_of f b id v k p here, sound words_of f b id next knows); moved = λ ne. absurd (ne here) }), refl),
           )
 
   -- a look at what the seat knows
-  pub learns : (word : ℕ) → Allows H slots id m word (λ x. x) (tells learned (step slots word 0 0 none) m)
-  learns word s r wide at small =
+  pub learns : (word : ℕ) → sharing v ≡ 1 → Allows H slots id m word (λ x. x) (tells learned (step slots word 0 0 none) m)
+  learns word any s r wide at small =
       let k = r.seats id v at in
-      (v, keeps, tt, looks words_of n s r word id m.1 v k, ((refl, sound words_of (face n s.words) r.book id v k), refl))
+      (v, keeps, tt, looks words_of n s r word id m.1 v v at (refl, refl, refl, refl) k, ((refl, sound words_of (face n s.words) r.book id v k, complete (face n s.words) r.book s.views id v at (some_share v any).0 (up_to words_of (face n s.words) r.book id v k (face n s.words).version refl).0 (up_to words_of (face n s.words) r.book id v k (face n s.words).version refl).1 r.shares r.history), refl))

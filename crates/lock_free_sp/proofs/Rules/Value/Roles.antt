@@ -8,6 +8,7 @@ use Rattle.lock_free_sp.specs.Value.Views.{with_producer, without_producer}
 use Rattle.lock_free_sp.specs.Value.Kept.{Book, Kept, Fits, KnowsStore, Knows, face}
 use Rattle.lock_free_sp.specs.Value.Tells.{tells, took_producer, left_producer}
 use Rattle.lock_free_sp.proofs.Rules.Ring.Roles.{none_some}
+use Rattle.lock_free_sp.proofs.Rules.Value.Histories.{history_same}
 use Rattle.lock_free_sp.proofs.Rules.Value.Stays.{Onwards, load_stays, stored_stays, loaded_stays, St, steps, looks, cells_stay}
 use mathlib.Core.Option.{none}
 use prog.Atomic.{either}
@@ -41,7 +42,7 @@ module _ {T : Type 0} (words_of : T → List ℕ) (n : ℕ) (slots id : ℕ) (m 
   takes_producer s r wide at small = exchanged (get_or s.words 1 0) 1 0 (Shows s (tells took_producer (step slots 1 1 0 none) m (get_or s.words 1 0))) taken refused
     where
       refused : (get_or s.words 1 0) ≢ 1 → Shows s (tells took_producer (step slots 1 1 0 none) m (get_or s.words 1 0)) (get_or s.words 1 0)
-      refused ne = (v, keeps, tt, looks words_of n s r 1 id m.1 v (r.seats id v at), (((λ e. absurd (ne e)), λ _. refl), refl))
+      refused ne = (v, keeps, tt, looks words_of n s r 1 id m.1 v v at (refl, refl, refl, refl) (r.seats id v at), (((λ e. absurd (ne e)), λ _. refl), refl))
 
       taken : (get_or s.words 1 0) ≡ 1 → Shows s (tells took_producer (step slots 1 1 0 none) m (get_or s.words 1 0)) 0
       taken free =
@@ -67,7 +68,8 @@ module _ {T : Type 0} (words_of : T → List ℕ) (n : ℕ) (slots id : ℕ) (m 
             keeps,
             tt,
             steps words_of n s r (set s.words 1 0) id next c (length-set s.words 1 0) (moved s r 0 e₀) knows
-                (λ j ne. record { onwards = on j; store = λ h. let none = h.0 in let one : f.producer ≡ 1 = free in absurd (omega arith) }),
+                (λ j ne. record { onwards = on j; store = λ h. let none = h.0 in let one : f.producer ≡ 1 = free in absurd (omega arith) })
+                v at refl (history_same f g b c s.views id v next at refl refl refl refl e₀ (λ q. refl) r.history),
             (((λ _. refl), λ ne. absurd (ne free)), refl),
           )
 
@@ -93,6 +95,7 @@ module _ {T : Type 0} (words_of : T → List ℕ) (n : ℕ) (slots id : ℕ) (m 
         next,
         keeps,
         tt,
-        steps words_of n s r (set s.words 1 1) id next b (length-set s.words 1 1) (moved s r 1 e₀) knows (λ j ne. record { onwards = on j; store = λ h. absurd (ne (h.1 ∙ sym mine.1)) }),
+        steps words_of n s r (set s.words 1 1) id next b (length-set s.words 1 1) (moved s r 1 e₀) knows (λ j ne. record { onwards = on j; store = λ h. absurd (ne (h.1 ∙ sym mine.1)) })
+            v at refl (history_same f g b b s.views id v next at refl refl refl refl e₀ (λ q. refl) r.history),
         (refl, refl),
       )

@@ -15,7 +15,9 @@ use Rattle.lock_free_sp.specs.declared.value.view.LoadStage.TheVariants as loadi
 use Rattle.lock_free_sp.specs.declared.value.view.View.{View}
 use Rattle.lock_free_sp.specs.Value.Views.{with_store, with_load}
 use Rattle.lock_free_sp.specs.Value.Between.{UpTo, Sound}
-use Rattle.lock_free_sp.specs.Value.Kept.{Face, Book, face, Produces, KnowsStore, KnowsLoad, IsStored, IsLoaded, Knows, Fits, Kept}
+use Rattle.lock_free_sp.specs.Value.Kept.{Face, Book, face, Produces, KnowsStore, KnowsLoad, IsStored, IsLoaded, Knows, Fits, History, Kept}
+use Rattle.lock_free_sp.proofs.Shares.{shares_stay}
+use Rattle.lock_free_sp.proofs.Rules.Value.Histories.{IsLike, history_same}
 use Rattle.lock_free_sp.specs.Value.Tells.{place}
 use Rattle.lock_free_sp.proofs.Rules.Ring.Lists.{other_place, place_within}
 
@@ -134,8 +136,9 @@ module _ {T : Type 0} (words_of : T → List ℕ) (n : ℕ) where
   pub steps : (s : St) (r : Kept words_of n s) (ws : List ℕ) (id : ℕ) (w : View T) (c : Book T) → length ws ≡ length s.words
       → Fits words_of n (face n ws) c.log → Knows words_of (face n ws) c id w
       → ((j : ℕ) → j ≢ id → Passes (face n s.words) (face n ws) r.book c j)
+      → (v : View T) → get_elem? s.views id ≡ some v → w.share ≡ v.share → History (face n ws) c (set s.views id w)
       → Kept words_of n record { words = ws; homes = s.homes; views = set s.views id w }
-  steps s r ws id w c long fits mine others =
+  steps s r ws id w c long fits mine others v at share history =
       record {
         book = c;
         wide = long ∙ r.wide;
@@ -144,6 +147,8 @@ module _ {T : Type 0} (words_of : T → List ℕ) (n : ℕ) where
             (λ (t : (j ≡ id) × (w ≡ v)). subst (λ (x : ℕ × View T). Knows words_of (face n ws) c x.0 x.1) (λ i. (sym t.0 i, t.1 i)) mine)
             (λ (t : (j ≢ id) × (get_elem? s.views j ≡ some v)). stays (face n s.words) (face n ws) r.book c j words_of (others j t.0) v (r.seats j v t.1))
             (at_set s.views id j w v e);
+        shares = shares_stay (λ u. u.share) s.views id v w at share r.shares;
+        history = history;
       }
 
   -- nothing that a seat sees changes
@@ -155,11 +160,17 @@ module _ {T : Type 0} (words_of : T → List ℕ) (n : ℕ) where
       }
 
   -- a step that changes no word
-  pub looks : (s : St) (r : Kept words_of n s) (word id : ℕ) (held : List (ℕ × Unit {0})) (w : View T) → Knows words_of (face n s.words) r.book id w
+  pub looks_more : (s : St) (r : Kept words_of n s) (word id : ℕ) (held : List (ℕ × Unit {0})) (v w : View T) → get_elem? s.views id ≡ some v → w.share ≡ v.share → History (face n s.words) r.book (set s.views id w) → Knows words_of (face n s.words) r.book id w
       → Kept words_of n (stepped s word (get_or s.words word 0) id held w keeps)
-  looks s r word id held w mine =
+  looks_more s r word id held v w at share history mine =
       subst (λ (ws : List ℕ). Kept words_of n record { words = ws; homes = s.homes; views = set s.views id w }) (sym (set-get_or s.words word 0))
-      (steps s r s.words id w r.book refl r.fits mine (λ j other. passes_same (face n s.words) r.book j))
+      (steps s r s.words id w r.book refl r.fits mine (λ j other. passes_same (face n s.words) r.book j) v at share history)
+
+  -- and nothing of what the seat has stored and loaded
+  pub looks : (s : St) (r : Kept words_of n s) (word id : ℕ) (held : List (ℕ × Unit {0})) (v w : View T) → get_elem? s.views id ≡ some v → IsLike w v → Knows words_of (face n s.words) r.book id w
+      → Kept words_of n (stepped s word (get_or s.words word 0) id held w keeps)
+  looks s r word id held v w at like =
+      looks_more s r word id held v w at like.0 (history_same (face n s.words) (face n s.words) r.book r.book s.views id v w at like.0 like.1 like.2 like.3 refl (λ p. refl) r.history)
 
   -- a step that changes one of the first two words leaves the cells
   pub cells_stay : (ws : List ℕ) (word x : ℕ) → word < 2 → (p i : ℕ) → (face n (set ws word x)).cell p i ≡ (face n ws).cell p i

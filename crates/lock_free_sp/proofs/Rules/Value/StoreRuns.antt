@@ -16,22 +16,24 @@ use Rattle.lock_free_sp.specs.Driver.{Next, Told, Owes, KeepsRule}
 use Rattle.lock_free_sp.specs.Value.Between.{Below}
 use Rattle.lock_free_sp.specs.Value.Kept.{Kept}
 use Rattle.lock_free_sp.specs.Value.Tells.{place, with_word, saw_version, word_stored, Published, store_published}
-use Rattle.lock_free_sp.specs.Value.Views.{with_store, stored_at}
+use Rattle.lock_free_sp.specs.Value.Views.{with_store, stored_at, sharing}
 use Rattle.lock_free_sp.specs.Value.Stages.{StoreAt, StoreEnds}
 use Rattle.lock_free_sp.proofs.Driving.{weaker}
 use Rattle.lock_free_sp.proofs.Rules.Value.Stays.{cell_within}
 use Rattle.lock_free_sp.proofs.Rules.Value.Stores.{sees_version, stores_word, publishes}
+use mathlib.Core.Logic.{dite}
+use native.Mathlib.Decide.{ℕ_discrete}
 
 module _ {T : Type 0} (words_of : T → List ℕ) (value_of : List ℕ → T) (n : ℕ) (given_back : (y : T) → value_of (words_of y) ≡ y) (sized : (y : T) → length (words_of y) ≡ n) (some : 1 ≤ n) (few : n ≤ 128) where
-  module _ (x : T) (v : View T) (c : calls.Store T) (words slots id : ℕ) (wide : words ≡ n * 2 + 2) where
+  module _ (x : T) (v : View T) (c : calls.Store T) (words slots id : ℕ) (wide : words ≡ n * 2 + 2) (any : sharing v ≡ 1) where
     abbrev Tell : stores.StoreStage → View T → ℕ → View T → Type 0
-    Tell stage = Told (λ w. 0) (StoreAt words_of n x) (StoreEnds x) (store_after n) (λ d m k. m) (at_store c stage) tt
+    Tell stage = Told sharing (StoreAt words_of n x) (StoreEnds x) (store_after n) (λ d m k. m) (at_store c stage) tt
 
     abbrev Owe : stores.StoreStage → Type 0
     Owe stage = Owes (Kept words_of n) words slots id (Tell stage) (store_want words_of (at_store c stage) x) (v, [])
 
     abbrev Goes : View T → View T → After (calls.Store T) Bool → Type 0
-    Goes base w a = Next (λ z. 0) (StoreAt words_of n x) (StoreEnds x) base a tt w
+    Goes base w a = Next sharing (StoreAt words_of n x) (StoreEnds x) base a tt w
 
     abbrev At : View T → stores.StoreStage → Type 0
     At base stage = StoreAt words_of n x base v (at_store c stage) tt
@@ -41,7 +43,7 @@ module _ {T : Type 0} (words_of : T → List ℕ) (value_of : List ℕ → T) (n
         let ready : v.store ≡ storing.Ready = ap (λ (z : View T). z.store) at₀.1 ∙ at₀.0 in
         weaker (Kept words_of n) words slots id saw_version (Tell stores.TheVariants.LoadsVersion) 0 Load (v, [])
         (λ k small w h. (
-          refl,
+          dite (ℕ_discrete k (2 ^ 64 - 1)) (λ e. ap sharing (h.0 e)) (λ ne. ap sharing (h.1 ne)),
           λ base at. by_eq (Goes base w) k (2 ^ 64 - 1) (Done false) (GoOn (at_store c (stores.TheVariants.StoresCell (cell_word n k) 0)))
               (λ e. record { same = h.0 e ∙ at.1; end = λ q last. sym (h.2 q (ap (λ (z : View T). z.last_store) at.1 ∙ last)) ∙ e })
               (λ ne.
@@ -66,7 +68,7 @@ module _ {T : Type 0} (words_of : T → List ℕ) (value_of : List ℕ → T) (n
         let new : ℕ = slice_index (words_of x) i in
         weaker (Kept words_of n) words slots id word_stored (Tell (stores.TheVariants.StoresCell cell i)) word (Store new) (v, [])
         (λ k small w h. (
-          refl,
+          ap sharing h,
           λ base at.
               let p : ℕ = at.1.0 in
               let is' : v.store ≡ storing.Storing p ws = ap (λ (z : View T). z.store) at.1.1 in
@@ -87,7 +89,7 @@ module _ {T : Type 0} (words_of : T → List ℕ) (value_of : List ℕ → T) (n
         let is : v.store ≡ storing.Storing at₀.1.0 (words_of x) = ap (λ (z : View T). z.store) at₀.1.1 in
         weaker (Kept words_of n) words slots id (store_published words_of) (Tell stores.TheVariants.AddsVersion) 0 (Add 1) (v, [])
         (λ k small w told. (
-          refl,
+          ap sharing (told at₀.1.0 x is).view,
           λ base at.
               let p : ℕ = at.1.0 in
               let h : Published v w p x = told p x (ap (λ (z : View T). z.store) at.1.1) in
@@ -99,12 +101,12 @@ module _ {T : Type 0} (words_of : T → List ℕ) (value_of : List ℕ → T) (n
                 sound = h.sound;
               },
         ))
-        (omega arith, publishes words_of n slots id (v, []) value_of given_back sized at₀.1.0 x is)
+        (omega arith, publishes words_of n slots id (v, []) value_of given_back sized any at₀.1.0 x is)
 
     stage_owes : (base : View T) (stage : stores.StoreStage) → At base stage → Owe stage
     stage_owes base stores.TheVariants.LoadsVersion at = loads_version base at
     stage_owes base (stores.TheVariants.StoresCell cell i) at = stores_cell base cell i at
     stage_owes base stores.TheVariants.AddsVersion at = adds_version base at
 
-  pub store_rule : (x : T) → KeepsRule (λ w. 0) (StoreAt words_of n x) (StoreEnds x) (λ (key : Opening T). n * 2 + 2) (λ key. 0) (λ key. Kept words_of n) (λ c. store_want words_of c x) (store_after n) (λ c m k. m)
-  store_rule x base v c room key words slots id wide known at = stage_owes x v c words slots id wide base c.stage at
+  pub store_rule : (x : T) → KeepsRule sharing (StoreAt words_of n x) (StoreEnds x) (λ (key : Opening T). n * 2 + 2) (λ key. 1) (λ key. Kept words_of n) (λ c. store_want words_of c x) (store_after n) (λ c m k. m)
+  store_rule x base v c room key words slots id wide known at = stage_owes x v c words slots id wide known base c.stage at

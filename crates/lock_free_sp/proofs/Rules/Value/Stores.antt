@@ -8,10 +8,12 @@ use Rattle.atomic_table.specs.Table.{Me, Allows, step, keeps}
 use Rattle.lock_free_sp.specs.declared.value.view.StoreStage.{StoreStage}
 use Rattle.lock_free_sp.specs.declared.value.view.StoreStage.TheVariants as storing
 use Rattle.lock_free_sp.specs.declared.value.view.View.{View}
-use Rattle.lock_free_sp.specs.Value.Views.{with_store, stored_at}
+use Rattle.lock_free_sp.specs.Value.Views.{with_store, stored_at, sharing}
 use Rattle.lock_free_sp.specs.Value.Kept.{Book, Kept, Fits, KnowsStore, Knows, IsStored, IsLoaded, Produces, face}
 use Rattle.lock_free_sp.specs.Value.Tells.{tells, place, with_word, saw_version, word_stored, Published, store_published}
-use Rattle.lock_free_sp.proofs.Rules.Ring.Stays.{put, put_same, put_other, same_some}
+use Rattle.lock_free_sp.proofs.Shares.{put, put_same, put_other}
+use Rattle.lock_free_sp.proofs.Rules.Ring.Stays.{same_some}
+use Rattle.lock_free_sp.proofs.Rules.Value.Histories.{some_share, history_same, history_stores}
 use Rattle.lock_free_sp.proofs.Rules.Value.Stays.{cells_apart, cell_within, Onwards, load_stays, stored_stays, loaded_stays, knows_store, sound, St, steps, looks, cells_stay}
 use mathlib.Core.Logic.{dite}
 use mathlib.Core.Option.{none}
@@ -42,10 +44,10 @@ module _ {T : Type 0} (words_of : T → List ℕ) (n : ℕ) (slots id : ℕ) (m 
       let k = r.seats id v at in
       let mine = subst (KnowsStore f r.book id) ready k.store in
       dite (ℕ_discrete found (2 ^ 64 - 1))
-      (λ end. (v, keeps, tt, looks words_of n s r 0 id m.1 v k, (((λ _. refl), (λ ne. absurd (ne end)), λ q e. (k.last_store q e).1), refl)))
+      (λ end. (v, keeps, tt, looks words_of n s r 0 id m.1 v v at (refl, refl, refl, refl) k, (((λ _. refl), (λ ne. absurd (ne end)), λ q e. (k.last_store q e).1), refl)))
       (λ ne.
       let stage : StoreStage = storing.Storing found [] in
-      (with_store stage v, keeps, tt, looks words_of n s r 0 id m.1 (with_store stage v) (knows_store words_of f r.book id v k stage (mine, refl, ne, λ i lt. absurd (omega arith))), (((λ end. absurd (ne end)), (λ _. refl), λ q e. (k.last_store q e).1), refl)))
+      (with_store stage v, keeps, tt, looks words_of n s r 0 id m.1 v (with_store stage v) at (refl, refl, refl, refl) (knows_store words_of f r.book id v k stage (mine, refl, ne, λ i lt. absurd (omega arith))), (((λ end. absurd (ne end)), (λ _. refl), λ q e. (k.last_store q e).1), refl)))
 
   -- the store of a word into the cell of the next version
   pub stores_word : (p x word : ℕ) (ws : List ℕ) → v.store ≡ storing.Storing p ws → length ws < n → word ≡ place n (p + 1) (length ws)
@@ -97,15 +99,16 @@ module _ {T : Type 0} (words_of : T → List ℕ) (n : ℕ) (slots id : ℕ) (m 
               loaded = loaded_stays f g b b id (onwards id) v.loaded k.loaded;
               stored_once = k.stored_once;
             })
-            (λ j ne. record { onwards = onwards j; store = λ h. absurd (ne (h.1 ∙ sym mine.0.1)) }),
+            (λ j ne. record { onwards = onwards j; store = λ h. absurd (ne (h.1 ∙ sym mine.0.1)) })
+            v at refl (history_same f g b b s.views id v next at refl refl refl refl e₀ (λ q. refl) r.history),
         (refl, refl),
       )
 
   -- the addition to the version
   pub publishes : (value_of : List ℕ → T) → ((y : T) → value_of (words_of y) ≡ y) → ((y : T) → length (words_of y) ≡ n)
-      → (p : ℕ) (x : T) → v.store ≡ storing.Storing p (words_of x)
+      → sharing v ≡ 1 → (p : ℕ) (x : T) → v.store ≡ storing.Storing p (words_of x)
       → Allows H slots id m 0 (λ y. (y + 1) % 2 ^ 64) (tells (store_published words_of) (step slots 0 1 0 none) m)
-  publishes value_of given_back sized p x is s r wide at small =
+  publishes value_of given_back sized any p x is s r wide at small =
       let found : ℕ = get_or s.words 0 0 in
       let ws' : List ℕ = set s.words 0 ((found + 1) % 2 ^ 64) in
       let f = face n s.words in
@@ -155,7 +158,8 @@ module _ {T : Type 0} (words_of : T → List ℕ) (n : ℕ) (slots id : ℕ) (m 
         keeps,
         tt,
         steps words_of n s r ws' id next c (length-set s.words 0 ((found + 1) % 2 ^ 64)) fits knows
-            (λ j ne. record { onwards = onwards j; store = λ h. absurd (ne (h.1 ∙ sym mine.0.1)) }),
+            (λ j ne. record { onwards = onwards j; store = λ h. absurd (ne (h.1 ∙ sym mine.0.1)) })
+            v at refl (history_stores f g b c s.views id v next at refl refl (some_share v any).0 (p + 1) x refl refl (ap (λ z. z + 1) now) e₀ (put_same b.storer (p + 1) id) (put_other b.storer (p + 1) id) r.history),
         (
           (λ q y e.
               let same : words_of x ≡ words_of y = ap words_so_far (sym is ∙ e) in

@@ -1,7 +1,7 @@
 //! How a role is taken, and given back.
 ghost use Rattle.std.specs.Prelude.{◌≡◌, IfOk, IfErr};
-ghost use Rattle.lock_free_sp.specs.Ring.Views.{joined, with_producer, without_producer, with_consumer, without_consumer};
-ghost use Rattle.lock_free_sp.specs.Ring.Between.{Sound, Ruled, InOrder, IfExact};
+ghost use Rattle.lock_free_sp.specs.Ring.Views.{joined, IsWhole, with_producer, without_producer, with_consumer, without_consumer};
+ghost use Rattle.lock_free_sp.specs.Ring.Between.{Sound, Ruled, InOrder, IfExact, Complete};
 ghost use Rattle.lock_free_sp.specs.Ends.{view, queue_of, IsPassOf, producer_view, producer_queue, consumer_view, consumer_queue};
 
 use super::{Consumer, Pass, Producer, Ring};
@@ -43,13 +43,14 @@ impl<E: Spare, T: Words> Ring<E, T, RingRule<E, T>> {
 }
 
 impl<'a, E: Spare, T: Words> Producer<'a, E, T> {
-    /// Takes in what a pass of the queue knows. This project's own.
+    /// Takes in what a pass of the queue knows, and its share. This project's own.
     pub fn join(&mut self, other: Pass<E, T>)
         requires { queue_of other ≡ producer_queue self.old }
         ensures queue { producer_queue self.new ≡ producer_queue self.old }
         ensures view { producer_view self.new ≡ joined (producer_view self.old) (view other) }
         ensures rule { Ruled (producer_view self.old) (view other) }
         ensures sound { Sound (producer_view self.new) }
+        ensures whole { IsWhole (producer_view self.new) → Complete (producer_view self.new) }
     {
         let Pass { token } = other;
         self.token.join(token);
@@ -67,7 +68,7 @@ impl<'a, E: Spare, T: Words> Producer<'a, E, T> {
 }
 
 impl<'a, E: Spare, T: Words> Consumer<'a, E, T> {
-    /// Takes in what a pass of the queue knows. This project's own.
+    /// Takes in what a pass of the queue knows, and its share. This project's own.
     pub fn join(&mut self, other: Pass<E, T>)
         requires { queue_of other ≡ consumer_queue self.old }
         ensures queue { consumer_queue self.new ≡ consumer_queue self.old }
@@ -77,6 +78,7 @@ impl<'a, E: Spare, T: Words> Consumer<'a, E, T> {
         ensures joined { IfExact E.SPARE
             (InOrder (consumer_view self.new) (consumer_view self.new)) }
         ensures sound { Sound (consumer_view self.new) }
+        ensures whole { IsWhole (consumer_view self.new) → Complete (consumer_view self.new) }
     {
         let Pass { token } = other;
         self.token.join(token);

@@ -2,7 +2,7 @@
 ghost use Rattle.std.specs.Prelude.{◌≡◌, ◌⊎◌, ◌-◌, ◌^◌, None, Some, IfOk, IfErr, OnOk};
 ghost use Rattle.steps.specs.Enums.{capacity_refusal};
 ghost use Rattle.steps.specs.declared.enums.UniqueIndexCreationError.TheVariants.{NoMemory};
-ghost use Rattle.lock_free_sp.specs.Ring.Views.{blank};
+ghost use Rattle.lock_free_sp.specs.Ring.Views.{opened};
 ghost use Rattle.lock_free_sp.specs.Ends.{capacity_of, view, IsPassOf};
 
 use super::{FixedSize, Pass, Ring};
@@ -20,7 +20,7 @@ impl<E: Spare, T: Words> Ring<E, T, RingRule<E, T>> {
         capacity: usize,
         position: u64,
     ) -> Result<(Ring<E, T, RingRule<E, T>>, Pass<E, T>), UniqueIndexCreationError>
-        ensures pass { IfOk result (λ r. IsPassOf r.0 r.1 × (view r.1 ≡ blank capacity)) }
+        ensures pass { IfOk result (λ r. IsPassOf r.0 r.1 × (view r.1 ≡ opened capacity position)) }
         ensures capacity { IfOk result (λ r. capacity_of r.0 ≡ capacity) }
         ensures admitted { OnOk result (capacity_refusal 0 (2 ^ 32 - 1) capacity ≡ None) }
         ensures refused { IfErr result (λ e. (capacity_refusal 0 (2 ^ 32 - 1) capacity ≡ Some e)
@@ -52,7 +52,8 @@ impl<E: Spare, T: Words, const CAPACITY: usize> FixedSize<E, T, RingRule<E, T>, 
         alloc: Global,
         position: u64,
     ) -> Result<(FixedSize<E, T, RingRule<E, T>, CAPACITY>, Pass<E, T>), UniqueIndexCreationError>
-        ensures pass { IfOk result (λ r. IsPassOf (ring_of r.0) r.1 × (view r.1 ≡ blank CAPACITY)) }
+        ensures pass { IfOk result
+            (λ r. IsPassOf (ring_of r.0) r.1 × (view r.1 ≡ opened CAPACITY position)) }
         ensures admitted { OnOk result (capacity_refusal 0 (2 ^ 32 - 1) CAPACITY ≡ None) }
         ensures refused { IfErr result (λ e. (capacity_refusal 0 (2 ^ 32 - 1) CAPACITY ≡ Some e)
             ⊎ (capacity_refusal 0 (2 ^ 32 - 1) CAPACITY ≡ None) × (e ≡ NoMemory)) }

@@ -1,8 +1,8 @@
 //! The calls of an unrestricted atomic value.
-ghost use Rattle.std.specs.Prelude.{◌≡◌, ◌≤◌, true, false, IsTrue, IsFalse, IfOk, IfErr, IfSome};
+ghost use Rattle.std.specs.Prelude.{◌≡◌, ◌≤◌, true, false, IsTrue, IsFalse, IfOk, IfErr, IfSome, IfNone};
 ghost use Rattle.steps.specs.declared.enums.UniqueIndexCreationError.TheVariants.{NoMemory};
-ghost use Rattle.lock_free_sp.specs.Value.Views.{blank, opened, joined, with_producer, without_producer};
-ghost use Rattle.lock_free_sp.specs.Value.Between.{Sound, Ruled};
+ghost use Rattle.lock_free_sp.specs.Value.Views.{opened, halved, half, joined, IsWhole, with_producer, without_producer};
+ghost use Rattle.lock_free_sp.specs.Value.Between.{Sound, Ruled, Complete};
 ghost use Rattle.lock_free_sp.specs.Value.Calls.{HasStored, WasAtEnd, HasLoaded};
 ghost use Rattle.lock_free_sp.specs.UnrestrictedAtomic.{view, value_of_pass, IsPassOf, producer_view, value_of_producer};
 
@@ -14,7 +14,8 @@ use steps::enums::UniqueIndexCreationError;
 use steps::words::Words;
 
 impl<T: Words> UnrestrictedAtomic<T> {
-    /// A value at version 1, and its first pass, which knows this value and version as if it had loaded them.
+    /// A value at version 1, and its first pass, which knows this value and version as if it had loaded them,
+    /// and has the whole right to know.
     ///
     /// Refused is memory alone (`NoMemory`). After `UnrestrictedAtomic::new` of the Rust crate.
     pub fn new(
@@ -71,28 +72,43 @@ impl<T: Words> UnrestrictedAtomic<T> {
 }
 
 impl<T: Words> Pass<T> {
-    /// A new pass of the same value that knows nothing; this one keeps all that it knows. None, and nothing changes,
-    /// where no further pass can be counted (no clause says when). This project's own.
+    /// A new pass of the same value that knows nothing; this one keeps all that it knows. Each has half of this one's
+    /// share of the right to know the whole. None, and nothing changes, where no further pass can be counted (no clause
+    /// says when). This project's own.
     pub fn split(&mut self) -> Option<Pass<T>>
         ensures value { value_of_pass self.new ≡ value_of_pass self.old }
-        ensures view { view self.new ≡ view self.old }
+        ensures view { IfSome result (λ p. view self.new ≡ halved (view self.old)) }
         ensures new { IfSome result
-            (λ p. (value_of_pass p ≡ value_of_pass self.old) × (view p ≡ blank)) }
+            (λ p. (value_of_pass p ≡ value_of_pass self.old) × (view p ≡ half (view self.old))) }
+        ensures none { IfNone result (view self.new ≡ view self.old) }
     {
         let token = self.token.split()?;
         Some(Pass { token })
     }
 
-    /// Takes in what the other pass of the value knows. This project's own.
+    /// Takes in what the other pass of the value knows, and its share. Who then has the whole right knows all that was
+    /// stored. This project's own.
     pub fn join(&mut self, other: Pass<T>)
         requires { value_of_pass other ≡ value_of_pass self.old }
         ensures value { value_of_pass self.new ≡ value_of_pass self.old }
         ensures view { view self.new ≡ joined (view self.old) (view other) }
         ensures rule { Ruled (view self.old) (view other) }
         ensures sound { Sound (view self.new) }
+        ensures whole { IsWhole (view self.new) → Complete (view self.new) }
     {
         let Pass { token } = other;
         self.token.join(token);
+    }
+
+    /// A look at what this pass knows, by one load: who has the whole right knows all that was stored. This project's
+    /// own.
+    pub fn look(&mut self)
+        ensures value { value_of_pass self.new ≡ value_of_pass self.old }
+        ensures view { view self.new ≡ view self.old }
+        ensures sound { Sound (view self.new) }
+        ensures whole { IsWhole (view self.new) → Complete (view self.new) }
+    {
+        self.token.look();
     }
 }
 
@@ -108,13 +124,14 @@ impl<'a, T: Words> Producer<'a, T> {
         self.token.store(&value)
     }
 
-    /// Takes in what a pass of the value knows. This project's own.
+    /// Takes in what a pass of the value knows, and its share. This project's own.
     pub fn join(&mut self, other: Pass<T>)
         requires { value_of_pass other ≡ value_of_producer self.old }
         ensures value { value_of_producer self.new ≡ value_of_producer self.old }
         ensures view { producer_view self.new ≡ joined (producer_view self.old) (view other) }
         ensures rule { Ruled (producer_view self.old) (view other) }
         ensures sound { Sound (producer_view self.new) }
+        ensures whole { IsWhole (producer_view self.new) → Complete (producer_view self.new) }
     {
         let Pass { token } = other;
         self.token.join(token);

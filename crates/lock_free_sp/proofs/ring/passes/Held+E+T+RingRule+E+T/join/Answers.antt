@@ -6,7 +6,7 @@ use Rattle.lock_free_sp.proofs.Rules.Ring.Comings.{joins, ruled, ordered}
 use Rattle.lock_free_sp.proofs.ring.passes.Held+E+T+RingRule+E+T.join.Goals as goal
 
 pub join_seat-requires : goal.join_seat-requires
-join_seat-requires g c = (search rules, search rules, search rules, search rules, joins _ _ _ _ _ _ _ _)
+join_seat-requires g c = (search rules, search rules, search rules, search rules, joins _ _ _ _ _ _ _ _ (search rules))
 
 pub load-requires : goal.load-requires
 load-requires g c = (search rules, search rules, learns _ _ _ _ _ _ _ _ (search rules))

@@ -1,0 +1,44 @@
+//! What follows for who has the whole right to know, for clients. These functions do nothing: the contract of each is a
+//! law, whose proof is a lemma that a client's proof can cite.
+ghost use Rattle.std.specs.Prelude.{◌≡◌, ◌⊎◌, ◌<◌, ℕ, length, take, All};
+ghost use Rattle.std.specs.List.{Contains};
+ghost use Rattle.lock_free_sp.specs.declared.share.Share.{Share};
+ghost use Rattle.lock_free_sp.specs.declared.ring.view.View.{View};
+ghost use Rattle.lock_free_sp.specs.declared.value.view.View as value;
+ghost use Rattle.lock_free_sp.specs.Shares.{IsAll, rest, pieces, added};
+ghost use Rattle.lock_free_sp.specs.Orders.{values_in_order};
+ghost use Rattle.lock_free_sp.specs.Ring.Between.{Sound, Complete, Emptied};
+ghost use Rattle.lock_free_sp.specs.Value.Between as values;
+
+/// Of a queue: the values that were taken, in the order of their positions, are a beginning of those that were
+/// published, in the order of theirs. The lemma is `taken_is_beginning` of `proofs/Whole.antt`.
+pub fn taken_is_beginning<T>()
+    ensures { (v : View T) → Sound v → Complete v
+        → values_in_order v.taken ≡ take (length v.taken) (values_in_order v.published) }
+{}
+
+/// Of a queue: they are all of them where nothing waits. The lemma is `emptied_is_all` of `proofs/Whole.antt`.
+pub fn emptied_is_all<T>()
+    ensures { (v : View T) → Sound v → Complete v → Emptied v
+        → values_in_order v.taken ≡ values_in_order v.published }
+{}
+
+/// Of a queue: they are all of them where as many were taken as were published. The lemma is `taken_is_all` of
+/// `proofs/Whole.antt`.
+pub fn taken_is_all<T>()
+    ensures { (v : View T) → Sound v → Complete v → length v.taken ≡ length v.published
+        → values_in_order v.taken ≡ values_in_order v.published }
+{}
+
+/// Of a value: each that was loaded was stored at its version, or has the opening one. The lemma is
+/// `stored_or_opening` of `proofs/WholeValue.antt`.
+pub fn stored_or_opening<T>()
+    ensures { (v : value.View T) → values.Sound v → values.Complete v
+        → All (λ x. (x.0 ≡ v.opening) ⊎ Contains v.stored x) v.loaded }
+{}
+
+/// Of any number of passes: where a whole share is split n times, and all that was split off is joined again, it is
+/// whole. The lemma is `any_number` of `proofs/Fractions.antt`, beside those on parts that need no such order.
+pub fn any_number()
+    ensures { (n : ℕ) (s : Share) → 0 < s.parts → IsAll s → IsAll (added (rest n s) (pieces n s)) }
+{}
