@@ -1,1 +1,2 @@
-pub mod TwoNumbers
+pub mod Rules
+pub mod Sets

@@ -1,11 +1,8 @@
 //! Lock-free containers for zero-copy middleware, after the Rust crate iceoryx2-bb-lock-free, with its module paths.
 #![tactic(auto)]
 
-#[cfg(test)]
-mod examples;
 pub mod mpmc;
-#[cfg(test)]
-mod tests;
+mod unique;
 
 pub use lock_free_sp::{spmc, spsc};
 pub use steps::words;

@@ -1,3 +1,7 @@
 //! Many producers and many consumers.
 
+pub mod bit_set;
+pub mod counting_bit_set;
+pub mod sets;
+pub mod unique_index_set;
 pub mod unique_index_set_enums;

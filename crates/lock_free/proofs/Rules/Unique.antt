@@ -1,0 +1,10 @@
+pub mod Words
+pub mod Lists
+pub mod Stays
+pub mod Heads
+pub mod Flags
+pub mod LookRuns
+pub mod AcquireRuns
+pub mod ReleaseRuns
+pub mod Comings
+pub mod Idles

@@ -1,0 +1,92 @@
+//! A value whose type has a fact: each one that is popped or loaded has it too.
+ghost use Rattle.std.specs.Prelude.{◌≤◌, IfSome};
+ghost use Rattle.lock_free.specs.UnrestrictedAtomic.{IsPassOf};
+
+use lock_free::spmc::unrestricted_atomic;
+use lock_free::spmc::unrestricted_atomic::UnrestrictedAtomic;
+use lock_free::spsc::queue;
+use lock_free::spsc::queue::Queue;
+use lock_free::words::Words;
+use std::sync::Wait;
+use std::test::Fail;
+
+/// A number of at most 100.
+#[derive(Clone, Copy, PartialEq)]
+struct Percent {
+    value: u8,
+    ghost small: { value ≤ 100 },
+}
+
+/// One word, of which `of_words` reads what is above 100 as 100.
+impl Words for Percent {
+    ghost use Rattle.std.specs.Prelude.{ℕ, refl, [], ◌∷◌, ◌≤◌, min, slice_index};
+    ghost use Rattle.std.proofs.Common.{rules};
+    ghost use Rattle.std.proofs.Math.Bridge.{le_prop};
+    ghost use Rattle.std.proofs.Math.Nat.{min-le_right, min-eq_left};
+    ghost use Rattle.lock_free.specs.Facts.{made_of_equal};
+
+    const WORDS: usize = 1;
+
+    ghost WORDS = { 1 };
+
+    ghost words_of = { λ x. x.value ∷ [] };
+
+    ghost value_of = { λ words. record { value = min (slice_index words 0) 100; small = min-le_right (slice_index words 0) 100 } };
+
+    ghost some = { Prim.search rules };
+
+    ghost few = { Prim.search rules };
+
+    ghost sized = { λ x. refl };
+
+    ghost given_back = { λ x. made_of_equal {P = λ n. n ≤ 100} (λ _. le_prop) (λ n h. record { value = n; small = h }) (min-le_right x.value 100) x.small (min-eq_left x.small) };
+
+    fn word(&self, at: usize) -> u64 {
+        self.value as u64
+    }
+
+    fn of_words(words: &[u64]) -> Percent {
+        Percent {
+            value: words[0].min(100) as u8,
+        }
+    }
+}
+
+/// Pops a number, which is at most 100 whoever pushed it.
+fn pop_percent(consumer: &mut queue::Consumer<'_, Percent>) -> Option<u8>
+    ensures { IfSome result (λ n. n ≤ 100) }
+{
+    let percent = consumer.pop()?;
+    Some(percent.value)
+}
+
+/// Loads a number, of a version not below any that the pass knows. It is at most 100, whoever stored it.
+fn load_percent(
+    rt: &impl Wait,
+    value: &UnrestrictedAtomic<Percent>,
+    pass: &mut unrestricted_atomic::Pass<Percent>,
+) -> u8
+    requires { IsPassOf value.now pass.old }
+    ensures { result ≤ 100 }
+{
+    value.load(rt, pass).value
+}
+
+#[test]
+fn a_percent_through_a_queue(rt: HostRuntime) -> Result<(), Fail> {
+    let (queue, pass) = Queue::<Percent, 2>::new(rt.alloc())?;
+    let mut producer = queue.acquire_producer(pass).map_err(|_| "taken")?;
+    assert!(rt; producer.push(&Percent { value: 40 }));
+    let mut consumer = queue
+        .acquire_consumer(producer.release())
+        .map_err(|_| "taken")?;
+    assert_eq!(rt; pop_percent(&mut consumer), Some(40));
+    Ok(())
+}
+
+#[test]
+fn a_percent_that_is_stored(rt: HostRuntime) -> Result<(), Fail> {
+    let (value, mut pass) = UnrestrictedAtomic::new(rt.alloc(), Percent { value: 40 })?;
+    assert_eq!(rt; load_percent(&rt, &value, &mut pass), 40);
+    Ok(())
+}
