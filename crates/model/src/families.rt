@@ -9,6 +9,8 @@ use crate::event::{Answer, Event, Start};
 use crate::party::Latest;
 use crate::turn::{Kind, Refusal};
 use atomic::calls::AtomicFlight;
+use indices::calls::IndexFlight;
+use indices::holders::Holders;
 use queues::calls::QueueFlight;
 use queues::{QueueKind, Roles};
 use std::alloc::{AllocError, Global};
@@ -16,6 +18,7 @@ use steps::ask::Want;
 use steps::words::Words;
 
 pub mod atomic;
+pub mod indices;
 pub mod queues;
 
 /// The most events that a step of a call writes, apart from the end of its call.
@@ -26,14 +29,17 @@ pub const MOST_EFFECTS: usize = queues::effects::MOST_EFFECTS;
 pub enum Flight<T> {
     Queues(QueueFlight<T>),
     Atomic(AtomicFlight<T>),
+    Indices(IndexFlight),
 }
 
 /// What a family needs to know beside its words.
-#[derive(Clone, Copy)]
+#[derive(Drop)]
 pub enum Kept {
     Queues(Roles),
     /// Who holds the producer's role of the single value.
     Atomic(Option<u32>),
+    /// Who holds which index of the unique index set.
+    Indices(Holders),
 }
 
 /// What the step of one party has to know of the others: the party and the value of a push that acts where this step
@@ -57,6 +63,7 @@ pub fn capacities(kind: Kind) -> (u64, u64)
         Kind::Overflow => queues::opening::CAPACITIES,
         Kind::Queue => queues::opening::CAPACITIES,
         Kind::Atomic => atomic::opening::CAPACITIES,
+        Kind::Indices => indices::opening::CAPACITIES,
     }
 }
 
@@ -68,13 +75,14 @@ pub fn opening<T: Words>(
 ) -> Result<(Vec<u64>, Kept), AllocError>
     ensures words { IfOk result
         (λ opened. opened.0.items ≡ (opening_of kind).words ⟦<T as Coded>⟧.coding.size capacity) }
-    ensures kept { IfOk result (λ opened. opened.1 ≡ (opening_of kind).kept) }
+    ensures kept { IfOk result (λ opened. opened.1 ≡ (opening_of kind).kept capacity) }
 {
     match kind {
         Kind::IndexQueue => queues::opening::open::<T>(alloc, QueueKind::IndexQueue, capacity),
         Kind::Overflow => queues::opening::open::<T>(alloc, QueueKind::Overflow, capacity),
         Kind::Queue => queues::opening::open::<T>(alloc, QueueKind::Queue, capacity),
         Kind::Atomic => atomic::opening::open::<T>(alloc),
+        Kind::Indices => indices::opening::open(alloc, capacity),
     }
 }
 
@@ -101,6 +109,10 @@ pub fn begin<T: Words>(
             let flight = atomic::opening::begin(kind, *producer, number, start)?;
             Ok(Flight::Atomic(flight))
         }
+        (Start::Indices(start), Kept::Indices(holders)) => {
+            let flight = indices::opening::begin(kind, capacity, holders, number, start)?;
+            Ok(Flight::Indices(flight))
+        }
         _ => Err(Refusal::WrongCall),
     }
 }
@@ -123,6 +135,7 @@ impl<T: Words> Flight<T> {
         match self {
             Flight::Queues(flight) => flight.want(),
             Flight::Atomic(flight) => flight.want(),
+            Flight::Indices(flight) => flight.want(),
         }
     }
 
@@ -167,6 +180,9 @@ impl<T: Words> Flight<T> {
             }
             (Flight::Atomic(flight), Start::Atomic(start), Kept::Atomic(producer)) => {
                 flight.go_on(number, start, answer, producer, events)
+            }
+            (Flight::Indices(flight), Start::Indices(_), Kept::Indices(holders)) => {
+                flight.go_on(number, answer, holders, events)
             }
             _ => Went {
                 back: false,
