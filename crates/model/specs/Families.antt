@@ -101,6 +101,7 @@ module _ {T : Type 0} where
   abbrev pub most_effects_of : Flight T → ℕ
   most_effects_of (flights.TheVariants.Queues flight) = queue_steps.most_effects flight
   most_effects_of (flights.TheVariants.Atomic flight) = atomic_steps.most_effects flight
+  most_effects_of (flights.TheVariants.Indices flight) = index_steps.most_effects flight
 
   -- What the step of a call comes to, in these words and from this old value of its word. Where the
   -- name, the call and what is kept are not of one family, nothing happens.

@@ -154,6 +154,7 @@ impl<T: Words> Flight<T> {
         match self {
             Flight::Queues(_) => queues::effects::MOST_EFFECTS,
             Flight::Atomic(_) => atomic::effects::MOST_EFFECTS,
+            Flight::Indices(_) => indices::effects::MOST_EFFECTS,
         }
     }
 
