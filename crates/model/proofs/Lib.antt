@@ -11,4 +11,5 @@ pub mod Small
 pub mod Turns
 pub mod Values
 pub mod Worked
+pub mod WorkedIndices
 pub mod WorkedValue

@@ -1,5 +1,6 @@
 pub mod Atomic
 pub mod Grammar
+pub mod Indices
 pub mod Output
 pub mod Print
 pub mod Queues

@@ -4,6 +4,7 @@
 mod atomic;
 pub mod error;
 mod grammar;
+mod indices;
 mod input;
 mod line;
 mod output;

@@ -101,6 +101,7 @@ impl Line {
         match start {
             Start::Queues(start) => self.push_queue_call(start),
             Start::Atomic(start) => self.push_value_call(start),
+            Start::Indices(start) => self.push_index_call(start),
         }
     }
 
@@ -124,6 +125,9 @@ impl Line {
             }
             Answer::Number(number) => self.push_number(u128::from(number)),
             Answer::Loaded(value) => self.push_number(value),
+            Answer::Index(index) => self.push_number(u128::from(index)),
+            Answer::NoIndex(failure) => self.push_failure(failure),
+            Answer::State(state) => self.push_state(state),
         }
     }
 
@@ -158,6 +162,20 @@ impl Line {
                 line.push_number(u128::from(party));
                 line.push(" handed_out ");
                 line.push_item(item);
+            }
+            Event::Claimed(party, index) => {
+                line.push_number(u128::from(party));
+                line.push(" claimed ");
+                line.push_number(u128::from(index));
+            }
+            Event::Freed(party, index) => {
+                line.push_number(u128::from(party));
+                line.push(" freed ");
+                line.push_number(u128::from(index));
+            }
+            Event::Locked(party) => {
+                line.push_number(u128::from(party));
+                line.push(" locked");
             }
             Event::Acted(party, start, answer) => {
                 line.push_number(u128::from(party));
