@@ -5,6 +5,7 @@ use std::test::Fail;
 
 mod atomic;
 mod failures;
+mod indices;
 mod memory;
 mod size;
 mod values;

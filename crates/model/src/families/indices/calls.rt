@@ -7,7 +7,7 @@ use crate::event::Answer;
 use steps::ask::Want;
 use steps::indices::enums::{ReleaseMode, UniqueIndexSetAcquireFailure};
 use steps::indices::looks::{BorrowedIndices, IsLocked};
-use steps::indices::unique::{Acquire, AcquireStage, DefaultMode, LockMode, Release};
+use steps::indices::unique::{Acquire, DefaultMode, LockMode, Release};
 use steps::routine::Running;
 
 /// A call of the unique index set under way.
@@ -35,10 +35,7 @@ pub fn acquire(capacity: u32) -> IndexFlight
     ensures { result ≡ acquire_of capacity }
 {
     IndexFlight::Acquire(Running {
-        call: Acquire {
-            capacity,
-            stage: AcquireStage::LoadsHead,
-        },
+        call: Acquire::new(capacity),
         given: (),
         room: (),
     })
