@@ -1,0 +1,115 @@
+-- The words of a unique index set, and who holds what; and what each operation on a word does to both. The next indices
+-- only propose, so nothing is said of them. No event and no party is in it.
+use Rattle.std.proofs.Common.{◌≡◌, ◌≢◌, ℕ, ◌+◌, ◌-◌, ◌/◌, ◌%◌, ◌^◌, ◌<◌, ◌≤◌, ◌==◌, ⊎_elim, Bool, true, false, true≢false, not, cond, if◌then◌else◌, bit_and, bit_or, Option, Some, None, is_some, List, length, get_or, set, refl, sym, ap, subst, ◌∙◌, arith, eq-eqb, ne_eqb, length-set, get_or-set_same, get_or-set_other}
+use Rattle.std.proofs.lemmas.Bool.{cases_eq, cases_lt}
+use Rattle.steps.specs.Indices.Head.{next_word, flag_word, flag, has_flag, borrowed, locked}
+use Rattle.steps.specs.Indices.Unique.{head_taken, head_given_back, head_locked}
+use Rattle.steps.proofs.Flags.Words.{with_stands, with_leaves, without_clear, without_leaves}
+use Rattle.index_laws.proofs.Count.{Tally, counts_all, counts_none, is_open, tally_up, tally_down, tally_shut, taken_number, given_number, locked_number, less_number}
+use Rattle.index_laws.proofs.Sums.{sum_below, sum_same, sum_moved, sum_one, sum_all}
+
+-- ---- the words
+
+-- the head, the next indices and the flags
+abbrev pub size : ℕ → ℕ
+size capacity = 1 + capacity + (capacity + 63) / 64
+
+abbrev pub head_of : List ℕ → ℕ
+head_of words = get_or words 0 0
+
+abbrev pub counted_in : List ℕ → ℕ
+counted_in words = borrowed (head_of words)
+
+-- ---- who holds what
+
+abbrev pub put : (ℕ → Option ℕ) → ℕ → Option ℕ → ℕ → Option ℕ
+put holder i o j = if j == i then o else holder j
+
+pub put_same : (holder : ℕ → Option ℕ) (i : ℕ) (o : Option ℕ) → put holder i o i ≡ o
+put_same holder i o = ap (λ b. if b then o else holder i) (eq-eqb i i refl)
+
+pub put_other : (holder : ℕ → Option ℕ) (i : ℕ) (o : Option ℕ) (j : ℕ) → j ≢ i → put holder i o j ≡ holder j
+put_other holder i o j ne = ap (λ b. if b then o else holder j) (ne_eqb j i ne)
+
+abbrev pub one_held : Option ℕ → ℕ
+one_held None = 0
+one_held (Some p) = 1
+
+-- how many indices below n are held
+abbrev pub held : (ℕ → Option ℕ) → ℕ → ℕ
+held holder n = sum_below (λ i. one_held (holder i)) n
+
+module _ (holder : ℕ → Option ℕ) (n i : ℕ) (o : Option ℕ) (below : i < n) where
+  pub held_put : held (put holder i o) n + one_held (holder i) ≡ held holder n + one_held o
+  held_put =
+      sum_moved (λ j. one_held (put holder i o j)) (λ j. one_held (holder j)) n i below (λ j ne. ap one_held (put_other holder i o j ne))
+      ∙ ap (λ z. held holder n + one_held z) (put_same holder i o)
+
+pub none_held : (o : Option ℕ) → one_held o ≤ 0 → o ≡ None
+none_held None h = refl
+none_held (Some p) h = absurd (omega arith)
+
+pub one_is : (o : Option ℕ) → is_some o ≡ true → one_held o ≡ 1
+one_is None e = absurd (true≢false (sym e))
+one_is (Some p) e = refl
+
+pub not_held : (o : Option ℕ) → is_some o ≡ false → o ≡ None
+not_held None e = refl
+not_held (Some p) e = absurd (true≢false e)
+
+module _ (c : ℕ) where
+  -- ---- the flags
+
+  pub flag_within : (i : ℕ) → i < c → flag_word c i < size c
+  flag_within i below = omega arith
+
+  abbrev pub is_claimed : List ℕ → ℕ → Bool
+  is_claimed words i = has_flag (get_or words (flag_word c i) 0) i
+
+  module _ (words : List ℕ) where
+    -- a word that is none of flags changes
+    pub claims_stay : (n x j : ℕ) → n ≤ c → is_claimed (set words n x) j ≡ is_claimed words j
+    claims_stay n x j low = ap (λ z. has_flag z j) (get_or-set_other words n (flag_word c j) x 0 (λ e. absurd (omega arith)))
+
+    -- a word of flags changes, and the flags of others in it stay
+    pub claim_stays : (i x j : ℕ) → flag_word c i < length words → (i / 64 ≡ j / 64 → has_flag x j ≡ has_flag (get_or words (flag_word c i) 0) j) → is_claimed (set words (flag_word c i) x) j ≡ is_claimed words j
+    claim_stays i x j within same = ⊎_elim one_word other (cases_eq (i / 64) (j / 64))
+      where
+        one_word : i / 64 ≡ j / 64 → is_claimed (set words (flag_word c i) x) j ≡ is_claimed words j
+        one_word e =
+            let here : flag_word c j ≡ flag_word c i = omega arith in
+            ap (λ z. has_flag (get_or (set words (flag_word c i) x) z 0) j) here
+            ∙ (ap (λ z. has_flag z j) (get_or-set_same words (flag_word c i) x 0 within) ∙ (same e ∙ ap (λ z. has_flag (get_or words z 0) j) (sym here)))
+
+        other : i / 64 ≢ j / 64 → is_claimed (set words (flag_word c i) x) j ≡ is_claimed words j
+        other ne = ap (λ z. has_flag z j) (get_or-set_other words (flag_word c i) (flag_word c j) x 0 (λ e. ne (omega arith)))
+
+    pub head_stays : (n x : ℕ) → 1 ≤ n → head_of (set words n x) ≡ head_of words
+    head_stays n x high = get_or-set_other words n 0 x 0 (λ e. absurd (omega arith))
+
+    module _ (i : ℕ) (within : flag_word c i < length words) where
+      abbrev word : ℕ
+      word = get_or words (flag_word c i) 0
+
+      pub claim_sets : is_claimed (set words (flag_word c i) (bit_or word (flag i))) i ≡ true
+      claim_sets = ap (λ z. has_flag z i) (get_or-set_same words (flag_word c i) (bit_or word (flag i)) 0 within) ∙ with_stands word i
+
+      pub claim_leaves : (j : ℕ) → j ≢ i → is_claimed (set words (flag_word c i) (bit_or word (flag i))) j ≡ is_claimed words j
+      claim_leaves j ne = claim_stays i (bit_or word (flag i)) j within (λ same. with_leaves word i j (λ e. ne (omega arith)))
+
+      pub clear_clears : is_claimed (set words (flag_word c i) (bit_and word (2 ^ 64 - 1 - flag i))) i ≡ false
+      clear_clears = ap (λ z. has_flag z i) (get_or-set_same words (flag_word c i) (bit_and word (2 ^ 64 - 1 - flag i)) 0 within) ∙ without_clear word i
+
+      pub clear_leaves : (j : ℕ) → j ≢ i → is_claimed (set words (flag_word c i) (bit_and word (2 ^ 64 - 1 - flag i))) j ≡ is_claimed words j
+      clear_leaves j ne = claim_stays i (bit_and word (2 ^ 64 - 1 - flag i)) j within (λ same. without_leaves word i j (λ e. ne (omega arith)))
+
+  -- ---- what holds of both
+
+  -- so many calls take an index or give one back
+  pub record Good (words : List ℕ) (holder : ℕ → Option ℕ) (busy : ℕ) : Type 0 where
+    pub some : 1 ≤ c
+    pub few : c < locked
+    pub wide : length words ≡ size c
+    pub flags : (i : ℕ) → i < c → is_claimed words i ≡ is_some (holder i)
+    pub past : (i : ℕ) → c ≤ i → holder i ≡ None
+    pub tally : Tally c (counted_in words) (held holder c + busy)

@@ -1,0 +1,4 @@
+pub mod Core
+pub mod Count
+pub mod Moves
+pub mod Sums
