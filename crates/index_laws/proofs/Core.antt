@@ -1,6 +1,6 @@
 -- The words of a unique index set, and who holds what; and what each operation on a word does to both. The next indices
 -- only propose, so nothing is said of them. No event and no party is in it.
-use Rattle.std.proofs.Common.{◌≡◌, ◌≢◌, ℕ, ◌+◌, ◌-◌, ◌/◌, ◌%◌, ◌^◌, ◌<◌, ◌≤◌, ◌==◌, ⊎_elim, Bool, true, false, true≢false, not, cond, if◌then◌else◌, bit_and, bit_or, Option, Some, None, is_some, List, length, get_or, set, refl, sym, ap, subst, ◌∙◌, arith, eq-eqb, ne_eqb, length-set, get_or-set_same, get_or-set_other}
+use Rattle.std.proofs.Common.{◌≡◌, ◌≢◌, ℕ, ◌+◌, ◌-◌, ◌/◌, ◌%◌, ◌^◌, ◌<◌, ◌≤◌, ◌==◌, ⊎_elim, Bool, true, false, true≢false, not, cond, bit_and, bit_or, Option, Some, None, is_some, List, length, get_or, set, refl, sym, ap, subst, ◌∙◌, arith, eq-eqb, ne_eqb, length-set, get_or-set_same, get_or-set_other}
 use Rattle.std.proofs.lemmas.Bool.{cases_eq, cases_lt}
 use Rattle.steps.specs.Indices.Head.{next_word, flag_word, flag, has_flag, borrowed, locked}
 use Rattle.steps.specs.Indices.Unique.{head_taken, head_given_back, head_locked}
@@ -22,40 +22,34 @@ counted_in words = borrowed (head_of words)
 
 -- ---- who holds what
 
-abbrev pub put : (ℕ → Option ℕ) → ℕ → Option ℕ → ℕ → Option ℕ
-put holder i o j = if j == i then o else holder j
-
-pub put_same : (holder : ℕ → Option ℕ) (i : ℕ) (o : Option ℕ) → put holder i o i ≡ o
-put_same holder i o = ap (λ b. if b then o else holder i) (eq-eqb i i refl)
-
-pub put_other : (holder : ℕ → Option ℕ) (i : ℕ) (o : Option ℕ) (j : ℕ) → j ≢ i → put holder i o j ≡ holder j
-put_other holder i o j ne = ap (λ b. if b then o else holder j) (ne_eqb j i ne)
+abbrev pub holder : List (Option ℕ) → ℕ → Option ℕ
+holder holders i = get_or holders i None
 
 abbrev pub one_held : Option ℕ → ℕ
 one_held None = 0
 one_held (Some p) = 1
 
 -- how many indices below n are held
-abbrev pub held : (ℕ → Option ℕ) → ℕ → ℕ
-held holder n = sum_below (λ i. one_held (holder i)) n
+abbrev pub held_below : List (Option ℕ) → ℕ → ℕ
+held_below holders n = sum_below (λ i. one_held (holder holders i)) n
 
-module _ (holder : ℕ → Option ℕ) (n i : ℕ) (o : Option ℕ) (below : i < n) where
-  pub held_put : held (put holder i o) n + one_held (holder i) ≡ held holder n + one_held o
-  held_put =
-      sum_moved (λ j. one_held (put holder i o j)) (λ j. one_held (holder j)) n i below (λ j ne. ap one_held (put_other holder i o j ne))
-      ∙ ap (λ z. held holder n + one_held z) (put_same holder i o)
+pub held_below_set : (holders : List (Option ℕ)) (n i : ℕ) (o : Option ℕ) → i < n → length holders ≡ n → held_below (set holders i o) n + one_held (holder holders i) ≡ held_below holders n + one_held o
+held_below_set holders n i o below long =
+    let here : one_held (holder (set holders i o) i) ≡ one_held o = ap one_held (get_or-set_same holders i o None (omega arith)) in
+    let moved = sum_moved (λ j. one_held (holder (set holders i o) j)) (λ j. one_held (holder holders j)) n i below (λ j ne. ap one_held (get_or-set_other holders i j o None ne)) in
+    omega arith
 
-pub none_held : (o : Option ℕ) → one_held o ≤ 0 → o ≡ None
-none_held None h = refl
-none_held (Some p) h = absurd (omega arith)
+pub none_if_zero : (o : Option ℕ) → one_held o ≤ 0 → o ≡ None
+none_if_zero None h = refl
+none_if_zero (Some p) h = absurd (omega arith)
 
-pub one_is : (o : Option ℕ) → is_some o ≡ true → one_held o ≡ 1
-one_is None e = absurd (true≢false (sym e))
-one_is (Some p) e = refl
+pub one_if_some : (o : Option ℕ) → is_some o ≡ true → one_held o ≡ 1
+one_if_some None e = absurd (true≢false (sym e))
+one_if_some (Some p) e = refl
 
-pub not_held : (o : Option ℕ) → is_some o ≡ false → o ≡ None
-not_held None e = refl
-not_held (Some p) e = absurd (true≢false e)
+pub none_if_not : (o : Option ℕ) → is_some o ≡ false → o ≡ None
+none_if_not None e = refl
+none_if_not (Some p) e = absurd (true≢false e)
 
 module _ (c : ℕ) where
   -- ---- the flags
@@ -106,10 +100,10 @@ module _ (c : ℕ) where
   -- ---- what holds of both
 
   -- so many calls take an index or give one back
-  pub record Good (words : List ℕ) (holder : ℕ → Option ℕ) (busy : ℕ) : Type 0 where
+  pub record Good (words : List ℕ) (holders : List (Option ℕ)) (busy : ℕ) : Type 0 where
     pub some : 1 ≤ c
     pub few : c < locked
     pub wide : length words ≡ size c
-    pub flags : (i : ℕ) → i < c → is_claimed words i ≡ is_some (holder i)
-    pub past : (i : ℕ) → c ≤ i → holder i ≡ None
-    pub tally : Tally c (counted_in words) (held holder c + busy)
+    pub long : length holders ≡ c
+    pub flags : (i : ℕ) → i < c → is_claimed words i ≡ is_some (holder holders i)
+    pub tally : Tally c (counted_in words) (held_below holders c + busy)

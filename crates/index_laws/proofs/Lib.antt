@@ -1,4 +1,11 @@
+pub mod Acquires
 pub mod Core
 pub mod Count
+pub mod Invariant
+pub mod Knows
+pub mod Looks
 pub mod Moves
+pub mod Releases
+pub mod Stages
 pub mod Sums
+pub mod Totals

@@ -88,3 +88,22 @@ module _ (f : ℕ → ℕ) where
 
       whole : suc m ≤ n → f m + sum_below f m ≡ sum_below f n
       whole more = let same : n ≡ suc m = omega arith in rw same refl
+
+module _ (f g h : ℕ → ℕ) (less : (i : ℕ) → h i ≤ f i + g i) where
+  all_over : (n : ℕ) → sum_below h n ≤ sum_below f n + sum_below g n
+  all_over zero = omega arith
+  all_over (suc n) = let here = less n in let rest = all_over n in omega arith
+
+  -- each counts by h for no more than by f and g together, and p for as much less as it does
+  pub sum_over : (n p : ℕ) → p < n → sum_below h n + (f p + g p) ≤ sum_below f n + sum_below g n + h p
+  sum_over zero p below = absurd (omega arith)
+  sum_over (suc n) p below = ⊎_elim (before (sum_over n p)) here (cases_lt p n)
+    where
+      before : (p < n → sum_below h n + (f p + g p) ≤ sum_below f n + sum_below g n + h p) → p < n → h n + sum_below h n + (f p + g p) ≤ f n + sum_below f n + (g n + sum_below g n) + h p
+      before over lower = let rest = over lower in let one = less n in omega arith
+
+      here : n ≤ p → h n + sum_below h n + (f p + g p) ≤ f n + sum_below f n + (g n + sum_below g n) + h p
+      here more =
+          let same : p ≡ n = omega arith in
+          let rest = all_over n in
+          rw same (omega arith)
