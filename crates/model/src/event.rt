@@ -1,6 +1,8 @@
 //! Calls by their names and arguments, their answers, and what a run writes down.
 use crate::families::atomic::AtomicStart;
+use crate::families::indices::IndexStart;
 use crate::families::queues::QueueStart;
+use steps::indices::enums::{ReleaseState, UniqueIndexSetAcquireFailure};
 
 /// A value of a queue.
 #[derive(Debug, Clone, Copy, PartialEq, Eq)]
@@ -18,6 +20,8 @@ pub enum Start<T> {
     Queues(QueueStart<T>),
     /// A call of the single value, or on its producer's role.
     Atomic(AtomicStart<T>),
+    /// A call of the unique index set.
+    Indices(IndexStart),
 }
 
 /// What a call answers.
@@ -25,9 +29,10 @@ pub enum Start<T> {
 pub enum Answer<T> {
     /// Of giving a role back.
     Done,
-    /// Of a push of the bounded queue, of a store, of acquiring a role, and of asking whether a queue is empty or full.
+    /// Of a push of the bounded queue, of a store, of acquiring a role, and of asking whether a queue is empty or full, or
+    /// a set locked.
     Truth(bool),
-    /// Of asking how many values wait.
+    /// Of asking how many values wait, or how many indices are borrowed.
     Number(u64),
     /// Of a pop, or of a push of the overflowing queue, that has no value.
     PoppedNone,
@@ -37,6 +42,12 @@ pub enum Answer<T> {
     Popped(T),
     /// The value that a load answers.
     Loaded(T),
+    /// The index that an acquire hands out.
+    Index(u32),
+    /// Why an acquire hands out none.
+    NoIndex(UniqueIndexSetAcquireFailure),
+    /// Whether a release has locked the set.
+    State(ReleaseState),
 }
 
 /// What a run writes down. The number is the party's.
@@ -48,6 +59,12 @@ pub enum Event<T> {
     Published(u32, Item<T>),
     /// The read position went on, by a pop or by a push of the overflowing queue: the value was the oldest that waited.
     HandedOut(u32, Item<T>),
+    /// An acquire took the claim flag of this index: from here on the party holds it.
+    Claimed(u32, u32),
+    /// A release cleared the claim flag of this index: from here on nobody holds it.
+    Freed(u32, u32),
+    /// A release gave the last index back and locked the set.
+    Locked(u32),
     /// The linearization point of the call, with its answer. It can come in the turn of another party.
     Acted(u32, Start<T>, Answer<T>),
     /// The call is done, in this turn.
