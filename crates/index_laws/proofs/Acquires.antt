@@ -73,7 +73,7 @@ module _ {T : Type 0} (scene : Scene T) (inv : Inv scene) where
     fails : (failure : UniqueIndexSetAcquireFailure) → AnswersRight c events (Finished p (Indices Acquire) (NoIndex failure)) → Does stage ask back (Done (Err failure))
     fails failure right =
         ends scene inv Acquire (acquire_at c stage) (NoIndex failure) (Some ask) back (λ busy' e. good_then busy' (omega arith))
-        (λ h t g t' g' a b. same_tally h h (t - 1) t' g g' refl (omega arith) (omega arith)) refl right (ap (λ w. says_locked (head_of w)) same) tt (omega arith) paid
+        (λ h t g t' g' a b. same_tally h h (t - 1) t' g g' refl (omega arith) (omega arith)) refl right (ap (λ w. says_locked (head_of w)) same) tt (omega arith) (omega arith)
 
     goes_to : (stage' : AcquireStage) → acquire_counts stage' ≡ 0 → AcquireAt c stage' → steps + 1 ≤ acquire_number c stage' (backs_then scene back) → AcquireKnows c (words_after ws (Some ask)) (since_then scene (Some ask)) (changes_then scene (Some ask)) (backs_then scene back) stage'
         → Does stage ask back (GoOn (at_acquire (call_at stage) stage'))

@@ -127,7 +127,7 @@ release_number releases.TheVariants.Subtracts backs = 4
 
 abbrev pub number_of : ℕ → IndexFlight → ℕ → ℕ
 number_of c (Acquire run) backs = acquire_number c run.call.stage backs
-number_of c (ReleaseDefault run) backs = release_number run.call.stage backs
+number_of c (ReleaseDefault run) backs = release_number run.call.stage 0
 number_of c (ReleaseLock run) backs = release_number run.call.stage backs
 number_of c (BorrowedIndices run) backs = 0
 number_of c (IsLocked run) backs = 0

@@ -24,7 +24,7 @@ borrowed_at = BorrowedIndices (record { call = record {}; given = tt; room = tt 
 abbrev pub locked_at : IndexFlight
 locked_at = IsLocked (record { call = record {}; given = tt; room = tt })
 
-module _ {T : Type 0} (scene : Scene T) (inv : Inv scene) (straight : scene.backs ≡ 0) (low : scene.since ≤ scene.changes) (s : scene.steps ≤ 0) where
+module _ {T : Type 0} (scene : Scene T) (inv : Inv scene) (straight : scene.backs ≡ 0) (s : scene.steps ≤ 0) where
   open scene use {capacity as c, party as p, steps, backs, since, changes, latest, events}
 
   abbrev ws : List ℕ

@@ -128,7 +128,7 @@ module _ {T : Type 0} (scene : Scene T) (inv : Inv scene) (index : ℕ) (below :
     default_works : 1 ≤ busy scene
     default_works = let mine = busy_here scene (default stage) here in omega arith
 
-  module _ (straight : backs ≡ 0) (low : since ≤ changes) where
+  module _ (straight : backs ≡ 0) where
     default_clears : holder hs index ≡ Some p → steps ≤ 0 → StepOf scene started (default releases.TheVariants.ClearsFlag)
     default_clears holds s =
         frees_index scene inv index Default (default releases.TheVariants.ClearsFlag) (default releases.TheVariants.LoadsHead) (Some clear) below holds (λ busy' e. good_freed holds busy' (omega arith)) refl refl refl refl refl clear_head (omega arith) (omega arith) (refl, refl, below, tt) (omega arith)
@@ -137,11 +137,11 @@ module _ {T : Type 0} (scene : Scene T) (inv : Inv scene) (index : ℕ) (below :
     default_loads s =
         goes_on scene inv started (default releases.TheVariants.LoadsHead) (default (releases.TheVariants.StoresNext (head_of ws))) (Some loads) false (λ busy' e. good_same loads busy' loads_same (omega arith)) refl refl refl (ap (λ w. says_locked (head_of w)) loads_same) (omega arith) (omega arith) (refl, refl, below, tt) (omega arith)
 
-    default_stores : (head : ℕ) → steps ≤ 2 + backs * 2 → StepOf scene started (default (releases.TheVariants.StoresNext head))
+    default_stores : (head : ℕ) → steps ≤ 2 → StepOf scene started (default (releases.TheVariants.StoresNext head))
     default_stores head s =
         goes_on scene inv started (default (releases.TheVariants.StoresNext head)) (default (releases.TheVariants.ExchangesHead head)) (Some (store head)) false (λ busy' e. good_stored head busy' (omega arith)) refl refl refl (ap says_locked (store_head head)) (omega arith) (omega arith) (refl, refl, below, tt) (omega arith)
 
-    default_exchanges : (head : ℕ) → IsHere scene (default (releases.TheVariants.ExchangesHead head)) → steps ≤ 3 + backs * 2 → StepOf scene started (default (releases.TheVariants.ExchangesHead head))
+    default_exchanges : (head : ℕ) → IsHere scene (default (releases.TheVariants.ExchangesHead head)) → steps ≤ 3 → StepOf scene started (default (releases.TheVariants.ExchangesHead head))
     default_exchanges head here s = go (head_of ws == head) refl
       where
         stage : IndexFlight
@@ -169,7 +169,7 @@ module _ {T : Type 0} (scene : Scene T) (inv : Inv scene) (index : ℕ) (below :
         let x : ℕ = (head_of ws + (2 ^ 64 - 1)) % 2 ^ 64 in
         ends scene inv started (default releases.TheVariants.Subtracts) (State Unlocked) (Some subtract) false (λ busy' e. subtracts c ws hs busy' (one_less busy' (omega arith))) told refl tt (still_open works subtract x refl (less_number (head_of ws) (counted works).0)) (omega arith) (omega arith) (omega arith)
 
-    pub default_step : (stage : ReleaseStage) → IsHere scene (default stage) → ReleaseAt hs p index stage → steps ≤ release_number stage backs → StepOf scene started (default stage)
+    pub default_step : (stage : ReleaseStage) → IsHere scene (default stage) → ReleaseAt hs p index stage → steps ≤ release_number stage 0 → StepOf scene started (default stage)
     default_step releases.TheVariants.ClearsFlag here at s = default_clears at s
     default_step releases.TheVariants.LoadsHead here at s = default_loads s
     default_step (releases.TheVariants.StoresNext head) here at s = default_stores head s
@@ -229,6 +229,7 @@ module _ {T : Type 0} (scene : Scene T) (inv : Inv scene) (index : ℕ) (below :
         let same = is.0 in
         let some = (counted works).0 in
         let all = all_in_use scene exchanging here in
+        let known = paid in
         ends scene inv started_lock exchanging (State Unlocked) (Some (exchange true head)) false (λ busy' e. good_given (exchange true head) new busy' (omega arith)) told refl (rw inv.holds.tally (omega arith)) (given_open works (exchange true head) new) tt (omega arith) (omega arith)
 
     -- the head has moved

@@ -221,7 +221,7 @@ module _ {T : Type 0} (scene : Scene T) where
         → says_locked (head_of (words_after words ask)) ≡ says_locked (head_of words)
         → GoesStraight {T = T} (Indices start) (backs_then back)
         → scene.steps + step_count ask ≤ most_steps c start (backs_then back)
-        → IsPaid scene.since scene.changes (backs_then back)
+        → backs_then back ≤ changes_then ask - since_then ask
         → Leaves holders (Finished p (Indices start) answer ∷ []) start flight ask back (Done answer)
     ends start flight answer ask back good told done right lock straight steps paid =
         record {
@@ -235,7 +235,7 @@ module _ {T : Type 0} (scene : Scene T) where
           own = (refl, tt);
           stands = ((refl, done), tt);
           here = record { answer = answer; wrote = flight_wrote p flight; span = refl; steps = steps };
-          knows = omega arith;
+          knows = paid;
           seen = is_seen words ask scene.changes;
           keeps = λ q ne index h. h;
         }
