@@ -1,5 +1,5 @@
 -- The steps of an acquire.
-use Rattle.std.proofs.Common.{◌≡◌, ◌≢◌, ℕ, ◌+◌, ◌-◌, ◌*◌, ◌/◌, ◌%◌, ◌^◌, ◌<◌, ◌≤◌, ◌==◌, ◌&&◌, ⊎_elim, inl, inr, if◌then◌else◌, nat_lt, Bool, true, false, not, bit_or, Option, Some, List, [], ◌∷◌, get_or, set, refl, sym, ap, subst, ◌∙◌, arith}
+use Rattle.std.proofs.Common.{◌≡◌, ◌≢◌, ℕ, ◌+◌, ◌-◌, ◌*◌, ◌%◌, ◌^◌, ◌<◌, ◌≤◌, ◌==◌, ⊎_elim, inl, inr, nat_lt, Bool, true, false, bit_or, Option, Some, List, get_or, set, refl, sym, ap, subst, ◌∙◌, arith}
 use Rattle.std.specs.Prelude.{max, Ok, Err}
 use Rattle.std.proofs.lemmas.Bool.{cases_lt}
 use Rattle.std.proofs.lemmas.Bool.Decides.{nat_tests}
@@ -14,23 +14,21 @@ use Rattle.steps.specs.declared.indices.unique.Acquire as calls
 use Rattle.steps.specs.declared.indices.unique.AcquireStage.{AcquireStage}
 use Rattle.steps.specs.declared.indices.unique.AcquireStage as acquires
 use Rattle.steps.specs.Indices.Head.{next_word, flag_word, flag, has_flag, proposed, borrowed, locked, says_locked}
-use Rattle.steps.specs.Indices.Unique.{Acquired, at_acquire, acquire_sees, head_taken, first_claim, scanned_next}
+use Rattle.steps.specs.Indices.Unique.{Acquired, at_acquire, acquire_sees, head_taken, first_claim}
 use Rattle.steps.specs.Picks.{by_test, by_eq}
 use Rattle.steps.specs.Routine.{went_on}
 use Rattle.model.specs.Step.{as_call}
-use Rattle.model.specs.declared.event.Answer.{Answer}
 use Rattle.model.specs.declared.event.Answer.TheVariants.{Index, NoIndex}
 use Rattle.model.specs.declared.event.Event.TheVariants.{Finished}
 use Rattle.model.specs.declared.event.Start.TheVariants.{Indices}
 use Rattle.model.specs.declared.families.indices.IndexStart.TheVariants.{Acquire}
-use Rattle.model.specs.declared.families.indices.calls.IndexFlight.{IndexFlight}
 use Rattle.model.specs.declared.families.indices.calls.IndexFlight.TheVariants as flights
 use Rattle.model.specs.Families.Indices.Calls.{acquire_answer, after, goes_back}
 use Rattle.model.specs.Families.Indices.Promises.{AnswersRight}
 use Rattle.model.specs.Families.Indices.Reading.{tally_of, in_use}
 use Rattle.model.specs.Families.Queues.Calls.{as_it_is}
 use Rattle.model.specs.Turns.{words_after}
-use Rattle.index_laws.proofs.Core.{head_of, counted_in, holder, is_claimed, head_stays, Good}
+use Rattle.index_laws.proofs.Core.{head_of, counted_in, is_claimed, head_stays, Good}
 use Rattle.index_laws.proofs.Invariant.{Scene, Inv}
 use Rattle.index_laws.proofs.Knows.{acquire_at, acquire_number, acquire_counts, AcquireAt, AcquireKnows, IsOpen, IsPaid, PaidUnless, AllClaimed}
 use Rattle.index_laws.proofs.Moves.{takes, counts_right, unlocked_for, some_free, was_free, still_claimed, claims, claims_again}

@@ -1,12 +1,11 @@
 -- The words of a unique index set, and who holds what; and what each operation on a word does to both. The next indices
 -- only propose, so nothing is said of them. No event and no party is in it.
-use Rattle.std.proofs.Common.{◌≡◌, ◌≢◌, ℕ, ◌+◌, ◌-◌, ◌/◌, ◌%◌, ◌^◌, ◌<◌, ◌≤◌, ◌==◌, ⊎_elim, Bool, true, false, true≢false, not, cond, bit_and, bit_or, Option, Some, None, is_some, List, length, get_or, set, refl, sym, ap, subst, ◌∙◌, arith, eq-eqb, ne_eqb, length-set, get_or-set_same, get_or-set_other}
-use Rattle.std.proofs.lemmas.Bool.{cases_eq, cases_lt}
-use Rattle.steps.specs.Indices.Head.{next_word, flag_word, flag, has_flag, borrowed, locked}
-use Rattle.steps.specs.Indices.Unique.{head_taken, head_given_back, head_locked}
+use Rattle.std.proofs.Common.{◌≡◌, ◌≢◌, ℕ, ◌+◌, ◌-◌, ◌/◌, ◌^◌, ◌<◌, ◌≤◌, ⊎_elim, Bool, true, false, true≢false, bit_and, bit_or, Option, Some, None, is_some, List, length, get_or, set, refl, sym, ap, ◌∙◌, arith, get_or-set_same, get_or-set_other}
+use Rattle.std.proofs.lemmas.Bool.{cases_eq}
+use Rattle.steps.specs.Indices.Head.{flag_word, flag, has_flag, borrowed, locked}
 use Rattle.steps.proofs.Flags.Words.{with_stands, with_leaves, without_clear, without_leaves}
-use Rattle.index_laws.proofs.Count.{Tally, counts_all, counts_none, is_open, tally_up, tally_down, tally_shut, taken_number, given_number, locked_number, less_number}
-use Rattle.index_laws.proofs.Sums.{sum_below, sum_same, sum_moved, sum_one, sum_all}
+use Rattle.index_laws.proofs.Count.{Tally}
+use Rattle.index_laws.proofs.Sums.{sum_below, sum_moved}
 
 -- ---- the words
 

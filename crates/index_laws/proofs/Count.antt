@@ -1,6 +1,6 @@
 -- The number in the head of a unique index set, beside what it counts: the indices that are held, and the calls that take
 -- one or give one back. No event and no party is in it.
-use Rattle.std.proofs.Common.{◌≡◌, ◌≢◌, ℕ, ◌+◌, ◌-◌, ◌*◌, ◌/◌, ◌%◌, ◌^◌, ◌<◌, ◌≤◌, ◌⊎◌, ⊎_elim, inl, inr, ◌∙◌, arith}
+use Rattle.std.proofs.Common.{◌≡◌, ◌≢◌, ℕ, ◌+◌, ◌-◌, ◌%◌, ◌^◌, ◌<◌, ◌≤◌, ◌⊎◌, ⊎_elim, inl, inr, arith}
 use Rattle.steps.specs.declared.indices.head.HeadDetails.{HeadDetails}
 use Rattle.steps.specs.Indices.Head.{aba, borrowed, locked, head_word}
 use Rattle.steps.specs.Indices.Unique.{head_taken, head_given_back, head_locked}

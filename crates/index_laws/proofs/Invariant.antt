@@ -1,6 +1,6 @@
 -- What holds of the machine of a unique index set between any two turns beside what the frame says of every machine, and
 -- what a turn must show to keep it.
-use Rattle.std.proofs.Common.{◌≡◌, ◌≢◌, ℕ, ◌+◌, ◌-◌, ◌^◌, ◌<◌, ◌≤◌, ⊎_elim, if◌then◌else◌, Bool, true, false, nat_lt, Option, Some, None, List, [], ◌∷◌, ◌++◌, fold, refl, sym, ap, subst, ◌∙◌, arith}
+use Rattle.std.proofs.Common.{◌≡◌, ◌≢◌, ℕ, ◌+◌, ◌<◌, ◌≤◌, ⊎_elim, if◌then◌else◌, Bool, true, false, nat_lt, Option, Some, None, List, [], ◌++◌, fold, refl, sym, ap, subst, ◌∙◌, arith}
 use Rattle.std.proofs.lemmas.Bool.{cases_eq}
 use Rattle.std.proofs.lemmas.Bool.Decides.{nat_tests}
 use Rattle.std.proofs.lemmas.List.Sums.{fold-append}
@@ -12,7 +12,6 @@ use Rattle.model.specs.declared.families.Flight.{Flight}
 use Rattle.model.specs.declared.families.Flight as flights
 use Rattle.model.specs.declared.families.Kept.{Kept}
 use Rattle.model.specs.declared.families.Kept as kepts
-use Rattle.model.specs.declared.families.indices.IndexStart.{IndexStart}
 use Rattle.model.specs.declared.families.indices.calls.IndexFlight.{IndexFlight}
 use Rattle.model.specs.declared.party.Party.{Party}
 use Rattle.model.specs.declared.turn.Kind as kinds

@@ -1,10 +1,10 @@
 -- What each step of a call makes of the words, of who holds what, and of how many calls take an index or give one back.
-use Rattle.std.proofs.Common.{◌≡◌, ◌≢◌, ℕ, ◌+◌, ◌-◌, ◌/◌, ◌%◌, ◌^◌, ◌<◌, ◌≤◌, ⊎_elim, Bool, true, false, true≢false, bit_and, bit_or, Option, Some, None, is_some, List, length, get_or, set, refl, sym, ap, subst, ◌∙◌, arith, length-set, get_or-set_same, get_or-set_other}
+use Rattle.std.proofs.Common.{◌≡◌, ◌≢◌, ℕ, ◌+◌, ◌-◌, ◌%◌, ◌^◌, ◌<◌, ◌≤◌, ⊎_elim, true, false, bit_and, bit_or, Option, Some, None, is_some, List, length, get_or, set, sym, ap, subst, ◌∙◌, arith, length-set, get_or-set_same, get_or-set_other}
 use Rattle.std.proofs.lemmas.Bool.{cases_eq, cases_lt}
 use Rattle.std.proofs.lemmas.List.{get_or_past}
 use Rattle.steps.specs.Indices.Head.{flag_word, flag, borrowed, locked}
 use Rattle.steps.specs.Indices.Unique.{head_taken, head_given_back, head_locked}
-use Rattle.index_laws.proofs.Core.{size, head_of, counted_in, holder, one_held, held_below, held_below_set, none_if_zero, one_if_some, none_if_not, flag_within, is_claimed, claims_stay, claim_sets, claim_leaves, clear_clears, clear_leaves, head_stays, Good}
+use Rattle.index_laws.proofs.Core.{head_of, counted_in, holder, one_held, held_below, held_below_set, none_if_zero, one_if_some, none_if_not, flag_within, is_claimed, claims_stay, claim_sets, claim_leaves, clear_clears, clear_leaves, head_stays, Good}
 use Rattle.index_laws.proofs.Count.{Tally, counts_all, counts_none, is_open, tally_up, tally_down, tally_shut, taken_number, given_number, locked_number, less_number}
 use Rattle.index_laws.proofs.Sums.{sum_one, sum_all}
 

@@ -1,6 +1,6 @@
 -- What a step of a call of the unique index set has to show, and the shapes that a step has: a call goes on, frees its
 -- index, claims one, locks the set, or ends without any of these.
-use Rattle.std.proofs.Common.{◌≡◌, ◌≢◌, ℕ, ◌+◌, ◌-◌, ◌^◌, ◌<◌, ◌≤◌, ◌==◌, ⊎_elim, inl, inr, if◌then◌else◌, Bool, true, false, true≢false, Option, Some, None, List, [], ◌∷◌, ◌++◌, length, get_or, set, fold, refl, sym, ap, subst, ◌∙◌, arith, eq-eqb, ne_eqb, get_or-set_same, get_or-set_other}
+use Rattle.std.proofs.Common.{◌≡◌, ◌≢◌, ℕ, ◌+◌, ◌-◌, ◌<◌, ◌≤◌, ◌==◌, ⊎_elim, inl, inr, if◌then◌else◌, Bool, true, false, Option, Some, None, List, [], ◌∷◌, ◌++◌, length, get_or, set, fold, refl, sym, ap, ◌∙◌, arith, eq-eqb, ne_eqb, get_or-set_same, get_or-set_other}
 use Rattle.std.proofs.lemmas.Bool.{cases_eq}
 use Rattle.std.proofs.lemmas.Bool.Decides.{nat_tests}
 use Rattle.std.proofs.lemmas.List.Sums.{fold-append}
@@ -29,7 +29,7 @@ use Rattle.model.specs.Families.{ask_of}
 use Rattle.model.specs.Families.Indices.Bounds.{most_steps}
 use Rattle.model.specs.Families.Indices.Calls.{want, after, goes_back}
 use Rattle.model.specs.Families.Indices.Promises.{AnswersRight, GoesStraight}
-use Rattle.model.specs.Families.Indices.Reading.{Tally, tally_after, tally_of, in_use, locked_after, is_locked}
+use Rattle.model.specs.Families.Indices.Reading.{Tally, tally_after, locked_after}
 use Rattle.model.specs.Families.Indices.Spans.{deeds, done_by}
 use Rattle.model.specs.Families.Indices.Steps.{frees, effects, holders_after}
 use Rattle.model.specs.Parties.{party_of, doing_of, flight_of}
@@ -38,9 +38,8 @@ use Rattle.model.specs.Step.{as_call, answer_in}
 use Rattle.model.specs.Turns.{one_if, old_of, words_after, change_of, step_count, party_after, ending_of}
 use Rattle.model.proofs.Turns.{kept_words}
 use Rattle.index_laws.proofs.Core.{head_of, counted_in, holder, one_held, held_below, held_below_set, Good}
-use Rattle.index_laws.proofs.Invariant.{Scene, Inv, Shows, of_any, all_counted, all_taking, all_giving, tally_with}
+use Rattle.index_laws.proofs.Invariant.{Scene, Inv, Shows, of_any, all_counted, all_taking, all_giving}
 use Rattle.index_laws.proofs.Knows.{counts, takes, gives, flight_wrote, number_of, At, FlightKnows, IsPaid, IsSeen, counts_less}
-use Rattle.index_laws.proofs.Moves.{counts_right, none_out, unlocked_for}
 use Rattle.index_laws.proofs.Sums.{sum_one, sum_over}
 use Rattle.index_laws.proofs.Totals.{weight_of, weight_at}
 

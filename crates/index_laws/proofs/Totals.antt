@@ -1,12 +1,10 @@
 -- What the calls under way count for, party by party: in the head, as acquires, and as releases that have freed.
-use Rattle.std.proofs.Common.{◌≡◌, ◌≢◌, ℕ, zero, suc, ◌+◌, ◌<◌, ◌≤◌, ⊎_elim, Option, Some, None, List, refl, sym, ap, subst, ◌∙◌, arith}
-use Rattle.std.proofs.lemmas.Bool.{cases_eq, cases_lt}
+use Rattle.std.proofs.Common.{◌≡◌, ◌≢◌, ℕ, ◌+◌, ◌<◌, ◌≤◌, Option, Some, None, List, ap, arith}
 use Rattle.model.specs.declared.families.Flight.{Flight}
-use Rattle.model.specs.declared.party.Doing.{Doing}
 use Rattle.model.specs.declared.party.Party.{Party}
 use Rattle.model.specs.Parties.{party_of, put, doing_of, flight_of}
 use Rattle.model.proofs.Parties.{party_put_same, party_put_other}
-use Rattle.index_laws.proofs.Sums.{sum_below, sum_same, sum_moved, sum_one, sum_longer, sum_none, sum_over}
+use Rattle.index_laws.proofs.Sums.{sum_below, sum_moved, sum_longer}
 
 module _ {T : Type 0} (weight : Flight T → ℕ) where
   abbrev pub weight_of : Option (Flight T) → ℕ
