@@ -16,7 +16,7 @@ use Rattle.model.specs.declared.families.queues.QueueKind as queue_kinds
 use Rattle.model.specs.declared.party.Party.{Party}
 use Rattle.model.specs.declared.turn.Kind.{Kind}
 use Rattle.model.specs.declared.turn.Kind as kinds
-use Rattle.model.specs.declared.turn.Kind.TheVariants.{IndexQueue, Overflow, Queue, Bits, Counts}
+use Rattle.model.specs.declared.turn.Kind.TheVariants.{IndexQueue, Overflow, Queue}
 use Rattle.model.specs.declared.turn.Refusal.{Refusal}
 use Rattle.model.specs.declared.turn.Refusal.TheVariants.{WrongCall}
 use Rattle.model.specs.Coding.{Coding}
@@ -42,8 +42,8 @@ opening_of IndexQueue = queue_opening.opening queue_kinds.TheVariants.IndexQueue
 opening_of Overflow = queue_opening.opening queue_kinds.TheVariants.Overflow
 opening_of Queue = queue_opening.opening queue_kinds.TheVariants.Queue
 opening_of kinds.TheVariants.Atomic = atomic_opening.opening
-opening_of Bits = bits_opening.bits_opening
-opening_of Counts = bits_opening.counts_opening
+opening_of kinds.TheVariants.Bits = bits_opening.bits_opening
+opening_of kinds.TheVariants.Counts = bits_opening.counts_opening
 
 -- ---- a call begins
 

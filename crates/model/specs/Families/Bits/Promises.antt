@@ -1,5 +1,5 @@
 -- What holds of the machine of a bit set, and of one of a counting bit set, after any turns.
-use Rattle.std.specs.Prelude.{◌≡◌, ◌≤◌, ◌<◌, ℕ, ◌+◌, true, false, List, [], ◌∷◌, ◌++◌, length, slice_index}
+use Rattle.std.specs.Prelude.{◌≡◌, ◌≤◌, ◌<◌, ℕ, ◌+◌, true, false, Option, List, [], ◌∷◌, ◌++◌, length, slice_index}
 use Rattle.steps.specs.declared.ask.Ask.{Ask}
 use Rattle.steps.specs.Bits.Words.{stands}
 use Rattle.model.specs.declared.event.Answer.{Answer}

@@ -2,7 +2,8 @@
 ghost use Rattle.std.specs.Prelude.{◌≡◌, ◌+◌, ◌≤◌, ◌++◌, map, vec_len, vec_capacity};
 ghost use Rattle.steps.specs.Ask.{CameTo};
 ghost use Rattle.steps.specs.Bits.Places.{first_place};
-ghost use Rattle.model.specs.Families.Bits.Steps.{most_effects, clear_events, effects_of, step};
+ghost use Rattle.model.specs.Families.Bits.Calls.{after, goes_back};
+ghost use Rattle.model.specs.Families.Bits.Steps.{most_effects, clear_events, effects_of};
 
 use super::calls::BitsFlight;
 use crate::event::Event;
@@ -86,9 +87,9 @@ impl BitsFlight {
     /// Lets the call go on from an answer, where it lies, with what its step writes down.
     pub fn go_on<T>(&mut self, number: u32, answer: u64, events: &mut Vec<Event<T>>) -> Went<T>
         requires { vec_len events.old + most_effects self.old ≤ vec_capacity events.old }
-        ensures after { CameTo result.done self.new (step number self.old answer).after }
-        ensures back { result.back ≡ (step number self.old answer).back }
-        ensures wrote { events.new.items ≡ events.old.items ++ (step number self.old answer).wrote }
+        ensures after { CameTo result.done self.new (after self.old answer) }
+        ensures back { result.back ≡ goes_back self.old answer }
+        ensures wrote { events.new.items ≡ events.old.items ++ effects_of number self.old answer }
         ensures few { vec_len events.new ≤ vec_len events.old + most_effects self.old }
         ensures room { vec_capacity events.new ≡ vec_capacity events.old }
     {

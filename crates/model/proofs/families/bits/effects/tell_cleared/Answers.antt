@@ -1,4 +1,5 @@
 use Rattle.std.proofs.Common.{◌≡◌, ◌+◌, ◌++◌, ◌∷◌, [], true, false, sym, ap, ◌∙◌, append_assoc, arith}
+use Rattle.std.specs.Prelude.{vec_len, vec_capacity}
 use Rattle.model.specs.declared.event.Event.TheVariants.{Cleared}
 use Rattle.model.proofs.Places.{clears_so_far, stood_more, clear_more}
 use Rattle.model.proofs.families.bits.effects.tell_cleared.Goals as goal
@@ -16,10 +17,16 @@ bits-preserved g c =
       | then-has_flag w ↦
           let stood = sym c.has_flag.ensures ∙ w.if-has_flag.true in
           let now = ap (λ v. v.items) w.events-is ∙ (w.push_reserved.ensures.items ∙ (ap (λ xs. xs ++ Cleared number (first + bit) ∷ []) c.bits.invariant.0 ∙ (append_assoc c.args.events.now.items (clears_so_far number found first bit) (Cleared number (first + bit) ∷ []) ∙ ap (λ xs. c.args.events.now.items ++ xs) (sym (stood_more number found first bit stood))))) in
+          let long = ap (λ v. vec_len v) w.events-is in
+          let room = ap (λ v. vec_capacity v) w.events-is in
+          let longer = w.push_reserved.ensures.len in
+          let kept = w.push_reserved.ensures.capacity in
           (now, omega arith, omega arith)
       | else-has_flag w ↦
           let clear = sym c.has_flag.ensures ∙ w.if-has_flag.false in
           let now = ap (λ v. v.items) w.events-is ∙ (c.bits.invariant.0 ∙ ap (λ xs. c.args.events.now.items ++ xs) (sym (clear_more number found first bit clear))) in
+          let long = ap (λ v. vec_len v) w.events-is in
+          let room = ap (λ v. vec_capacity v) w.events-is in
           (now, omega arith, omega arith)
     ]
 
