@@ -89,6 +89,11 @@ module _ {T : Type 0} where
       queue_steps.beside roles words latest p
   beside_of words kept latest p = None
 
+  -- how many events a step of the call writes at most, apart from the end of the call
+  abbrev pub most_effects_of : Flight T → ℕ
+  most_effects_of (flights.TheVariants.Queues flight) = queue_steps.most_effects flight
+  most_effects_of (flights.TheVariants.Atomic flight) = atomic_steps.most_effects flight
+
   -- What the step of a call comes to, in these words and from this old value of its word. Where the
   -- name, the call and what is kept are not of one family, nothing happens.
   abbrev pub step_of : Coding T → List ℕ → Option (ℕ × ℕ) → ℕ → Start T → Flight T → ℕ → Kept

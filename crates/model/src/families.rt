@@ -1,7 +1,7 @@
 //! The families of calls. Each has a room of its own, and here one line where a machine passes on to it.
 ghost use Rattle.std.specs.Prelude.{◌≡◌, ◌+◌, ◌≤◌, ◌++◌, None, Some, OnOk, IfOk, IfErr, vec_len, vec_capacity};
 ghost use Rattle.steps.specs.Ask.{CameTo};
-ghost use Rattle.model.specs.Families.{opening_of, first_of, begin_rows, want_of, is_question, beside_of, step_of};
+ghost use Rattle.model.specs.Families.{opening_of, first_of, begin_rows, want_of, is_question, beside_of, most_effects_of, step_of};
 ghost use Rattle.model.specs.Rows.{first_row};
 
 use crate::coding::Coded;
@@ -17,9 +17,6 @@ use steps::words::Words;
 
 pub mod atomic;
 pub mod queues;
-
-/// The most events that a step of a call writes, apart from the end of its call.
-pub const MOST_EFFECTS: usize = queues::effects::MOST_EFFECTS;
 
 /// A call under way in a machine.
 #[derive(Drop)]
@@ -136,6 +133,17 @@ impl<T: Words> Flight<T> {
         }
     }
 
+    /// The most events that a step of the call writes, apart from the end of the call.
+    pub fn most_effects(&self) -> usize
+        ensures most { result ≡ most_effects_of self.now }
+        ensures few { result ≤ 64 }
+    {
+        match self {
+            Flight::Queues(_) => queues::effects::MOST_EFFECTS,
+            Flight::Atomic(_) => atomic::effects::MOST_EFFECTS,
+        }
+    }
+
     /// Lets the call go on from an answer, where it lies, and writes down what its step does, in the room that was kept
     /// for it. The words are those before the step.
     pub fn go_on(
@@ -148,7 +156,7 @@ impl<T: Words> Flight<T> {
         kept: &mut Kept,
         events: &mut Vec<Event<T>>,
     ) -> Went<T>
-        requires { vec_len events.old + MOST_EFFECTS ≤ vec_capacity events.old }
+        requires { vec_len events.old + most_effects_of self.old ≤ vec_capacity events.old }
         ensures after { CameTo result.done self.new (step_of ⟦<T as Coded>⟧.coding words.now.items beside
             number start.now self.old answer kept.old).after }
         ensures back { result.back ≡ (step_of ⟦<T as Coded>⟧.coding words.now.items beside
@@ -158,7 +166,7 @@ impl<T: Words> Flight<T> {
         ensures wrote { events.new.items ≡ events.old.items
             ++ (step_of ⟦<T as Coded>⟧.coding words.now.items beside
             number start.now self.old answer kept.old).wrote }
-        ensures few { vec_len events.new ≤ vec_len events.old + MOST_EFFECTS }
+        ensures few { vec_len events.new ≤ vec_len events.old + most_effects_of self.old }
         ensures room { vec_capacity events.new ≡ vec_capacity events.old }
     {
         match (self, start, kept) {
