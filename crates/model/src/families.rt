@@ -9,6 +9,7 @@ use crate::event::{Answer, Event, Start};
 use crate::party::Latest;
 use crate::turn::{Kind, Refusal};
 use atomic::calls::AtomicFlight;
+use bits::calls::BitsFlight;
 use queues::calls::QueueFlight;
 use queues::{QueueKind, Roles};
 use std::alloc::{AllocError, Global};
@@ -16,6 +17,7 @@ use steps::ask::Want;
 use steps::words::Words;
 
 pub mod atomic;
+pub mod bits;
 pub mod queues;
 
 /// A call under way in a machine.
@@ -23,6 +25,7 @@ pub mod queues;
 pub enum Flight<T> {
     Queues(QueueFlight<T>),
     Atomic(AtomicFlight<T>),
+    Bits(BitsFlight),
 }
 
 /// What a family needs to know beside its words.
@@ -31,6 +34,8 @@ pub enum Kept {
     Queues(Roles),
     /// Who holds the producer's role of the single value.
     Atomic(Option<u32>),
+    /// The words are all.
+    Nothing,
 }
 
 /// What the step of one party has to know of the others: the party and the value of a push that acts where this step
@@ -54,6 +59,8 @@ pub fn capacities(kind: Kind) -> (u64, u64)
         Kind::Overflow => queues::opening::CAPACITIES,
         Kind::Queue => queues::opening::CAPACITIES,
         Kind::Atomic => atomic::opening::CAPACITIES,
+        Kind::Bits => bits::opening::CAPACITIES,
+        Kind::Counts => bits::opening::CAPACITIES,
     }
 }
 
@@ -72,6 +79,8 @@ pub fn opening<T: Words>(
         Kind::Overflow => queues::opening::open::<T>(alloc, QueueKind::Overflow, capacity),
         Kind::Queue => queues::opening::open::<T>(alloc, QueueKind::Queue, capacity),
         Kind::Atomic => atomic::opening::open::<T>(alloc),
+        Kind::Bits => bits::opening::open_bits(alloc, capacity),
+        Kind::Counts => bits::opening::open_counts(alloc, capacity),
     }
 }
 
@@ -98,6 +107,10 @@ pub fn begin<T: Words>(
             let flight = atomic::opening::begin(kind, *producer, number, start)?;
             Ok(Flight::Atomic(flight))
         }
+        (Start::Bits(start), Kept::Nothing) => {
+            let flight = bits::opening::begin(kind, capacity, *start)?;
+            Ok(Flight::Bits(flight))
+        }
         _ => Err(Refusal::WrongCall),
     }
 }
@@ -120,6 +133,7 @@ impl<T: Words> Flight<T> {
         match self {
             Flight::Queues(flight) => flight.want(),
             Flight::Atomic(flight) => flight.want(),
+            Flight::Bits(flight) => flight.want(),
         }
     }
 
@@ -141,6 +155,7 @@ impl<T: Words> Flight<T> {
         match self {
             Flight::Queues(_) => queues::effects::MOST_EFFECTS,
             Flight::Atomic(_) => atomic::effects::MOST_EFFECTS,
+            Flight::Bits(flight) => flight.most_effects(),
         }
     }
 
@@ -175,6 +190,9 @@ impl<T: Words> Flight<T> {
             }
             (Flight::Atomic(flight), Start::Atomic(start), Kept::Atomic(producer)) => {
                 flight.go_on(number, start, answer, producer, events)
+            }
+            (Flight::Bits(flight), Start::Bits(_), Kept::Nothing) => {
+                flight.go_on(number, answer, events)
             }
             _ => Went {
                 back: false,

@@ -17,10 +17,14 @@ pub enum Kind {
     Queue,
     /// The single value.
     Atomic,
+    /// The bit set.
+    Bits,
+    /// The counting bit set.
+    Counts,
 }
 
-/// Why a machine of this kind is not made with this capacity, or None. A queue has from 0 to 2^32 - 1, and the
-/// single value 1.
+/// Why a machine of this kind is not made with this capacity, or None. A queue and a set have from 0 to 2^32 - 1, and
+/// the single value 1.
 pub fn capacity_error(kind: Kind, capacity: usize) -> Option<UniqueIndexCreationError>
     ensures { result ≡ capacity_error kind capacity }
 {
