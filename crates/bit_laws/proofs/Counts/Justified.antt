@@ -27,6 +27,7 @@ use Rattle.model.specs.Parties.{party_of}
 use Rattle.model.specs.Promises.{IsTurnBy}
 use Rattle.model.specs.Promises.Families.{promise_of}
 use Rattle.model.specs.Promises.Turns.{IsEffectOf, IsEndOf, WritesInOrder}
+use Rattle.model.specs.Reading.{span_of}
 use Rattle.model.specs.Turns.{old_of, ending_of, events_of_step, after_turn}
 use Rattle.model.specs.World.{Trace}
 use Rattle.model.proofs.Frame as frame
@@ -35,22 +36,22 @@ use Rattle.bit_laws.proofs.Counts.Invariant.{Counts, Fit, CallAt, wrote_in, fami
 use Rattle.bit_laws.proofs.Counts.Kept.{kept}
 use Rattle.bit_laws.proofs.Counts.Sound.{stands_at, asks_nothing, reached_sound}
 
+take_effects : (T : Type 0) (p place old : ℕ) → AllByRecursion (IsEffectOf {T = T} (Next p)) (take_events p place old)
+take_effects T p place old = go (old == 0) refl
+  where
+    go : (b : Bool) → (old == 0) ≡ b → AllByRecursion (IsEffectOf {T = T} (Next p)) (take_events p place old)
+    go true t = rw t tt
+    go false t = rw t (refl, tt)
+
+are_effects : (T : Type 0) (c p old : ℕ) (wrote : List (Event T)) (start : BitsStart) (flight : BitsFlight) → CallAt c wrote start flight → AllByRecursion (IsEffectOf {T = T} (Next p)) (effects_of p flight old)
+are_effects T c p old wrote (Set place) (Count run) at = (refl, tt)
+are_effects T c p old wrote ResetAll (TakeAll run) at = take_effects T p run.call.word old
+are_effects T c p old wrote start flight at = absurd at
+
 module _ {T : Type 0} where
   ends_end : (p : ℕ) (start : Start T) (outcome : Option (Answer T)) → AllByRecursion (IsEndOf (Next p)) (ending_of p start outcome)
   ends_end p start None = tt
   ends_end p start (Some answer) = (refl, tt)
-
-  take_effects : (p place old : ℕ) → AllByRecursion (IsEffectOf {T = T} (Next p)) (take_events p place old)
-  take_effects p place old = go (old == 0) refl
-    where
-      go : (b : Bool) → (old == 0) ≡ b → AllByRecursion (IsEffectOf {T = T} (Next p)) (take_events p place old)
-      go true t = rw t tt
-      go false t = rw t (refl, tt)
-
-  are_effects : (c p old : ℕ) (wrote : List (Event T)) (start : BitsStart) (flight : BitsFlight) → CallAt c wrote start flight → AllByRecursion (IsEffectOf {T = T} (Next p)) (effects_of p flight old)
-  are_effects c p old wrote (Set place) (Count run) at = (refl, tt)
-  are_effects c p old wrote ResetAll (TakeAll run) at = take_effects p run.call.word old
-  are_effects c p old wrote start flight at = absurd at
 
   module _ (code : Coding T) (c : ℕ) (t : Trace T) (s : frame.Sound (family code c) t) (p : ℕ) (x : Party T) (since : ℕ) where
     -- the events of its step where what is kept and the call's name are these
@@ -68,7 +69,7 @@ module _ {T : Type 0} where
           acts = [];
           ends = ends;
           is = ap (λ es. t.events ++ (es ++ ends)) (sym (append-nil effects));
-          are_effects = are_effects c p old (wrote_in _) start flight at;
+          are_effects = are_effects T c p old (wrote_in (span_of p s.state.events)) start flight at;
           are_acts = tt;
           are_ends = ends_end p (Bits start) _;
           right = tt;
