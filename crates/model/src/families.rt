@@ -9,6 +9,7 @@ use crate::event::{Answer, Event, Start};
 use crate::party::Latest;
 use crate::turn::{Kind, Refusal};
 use atomic::calls::AtomicFlight;
+use bits::calls::BitsFlight;
 use indices::calls::IndexFlight;
 use indices::holders::Holders;
 use queues::calls::QueueFlight;
@@ -18,6 +19,7 @@ use steps::ask::Want;
 use steps::words::Words;
 
 pub mod atomic;
+pub mod bits;
 pub mod indices;
 pub mod queues;
 
@@ -26,6 +28,7 @@ pub mod queues;
 pub enum Flight<T> {
     Queues(QueueFlight<T>),
     Atomic(AtomicFlight<T>),
+    Bits(BitsFlight),
     Indices(IndexFlight),
 }
 
@@ -35,6 +38,8 @@ pub enum Kept {
     Queues(Roles),
     /// Who holds the producer's role of the single value.
     Atomic(Option<u32>),
+    /// The words are all.
+    Nothing,
     /// Who holds which index of the unique index set.
     Indices(Holders),
 }
@@ -60,6 +65,8 @@ pub fn capacities(kind: Kind) -> (u64, u64)
         Kind::Overflow => queues::opening::CAPACITIES,
         Kind::Queue => queues::opening::CAPACITIES,
         Kind::Atomic => atomic::opening::CAPACITIES,
+        Kind::Bits => bits::opening::CAPACITIES,
+        Kind::Counts => bits::opening::CAPACITIES,
         Kind::Indices => indices::opening::CAPACITIES,
     }
 }
@@ -79,6 +86,8 @@ pub fn opening<T: Words>(
         Kind::Overflow => queues::opening::open::<T>(alloc, QueueKind::Overflow, capacity),
         Kind::Queue => queues::opening::open::<T>(alloc, QueueKind::Queue, capacity),
         Kind::Atomic => atomic::opening::open::<T>(alloc),
+        Kind::Bits => bits::opening::open_bits(alloc, capacity),
+        Kind::Counts => bits::opening::open_counts(alloc, capacity),
         Kind::Indices => indices::opening::open(alloc, capacity),
     }
 }
@@ -106,6 +115,10 @@ pub fn begin<T: Words>(
             let flight = atomic::opening::begin(kind, *producer, number, start)?;
             Ok(Flight::Atomic(flight))
         }
+        (Start::Bits(start), Kept::Nothing) => {
+            let flight = bits::opening::begin(kind, capacity, *start)?;
+            Ok(Flight::Bits(flight))
+        }
         (Start::Indices(start), Kept::Indices(holders)) => {
             let flight = indices::opening::begin(kind, capacity, holders, number, start)?;
             Ok(Flight::Indices(flight))
@@ -132,6 +145,7 @@ impl<T: Words> Flight<T> {
         match self {
             Flight::Queues(flight) => flight.want(),
             Flight::Atomic(flight) => flight.want(),
+            Flight::Bits(flight) => flight.want(),
             Flight::Indices(flight) => flight.want(),
         }
     }
@@ -154,6 +168,7 @@ impl<T: Words> Flight<T> {
         match self {
             Flight::Queues(_) => queues::effects::MOST_EFFECTS,
             Flight::Atomic(_) => atomic::effects::MOST_EFFECTS,
+            Flight::Bits(flight) => flight.most_effects(),
             Flight::Indices(_) => indices::effects::MOST_EFFECTS,
         }
     }
@@ -189,6 +204,9 @@ impl<T: Words> Flight<T> {
             }
             (Flight::Atomic(flight), Start::Atomic(start), Kept::Atomic(producer)) => {
                 flight.go_on(number, start, answer, producer, events)
+            }
+            (Flight::Bits(flight), Start::Bits(_), Kept::Nothing) => {
+                flight.go_on(number, answer, events)
             }
             (Flight::Indices(flight), Start::Indices(_), Kept::Indices(holders)) => {
                 flight.go_on(number, answer, holders, events)

@@ -1,4 +1,5 @@
 pub mod Atomic
+pub mod Bits
 pub mod Grammar
 pub mod Indices
 pub mod Output

@@ -2,6 +2,7 @@
 #![tactic(auto)]
 
 mod atomic;
+mod bits;
 pub mod error;
 mod grammar;
 mod indices;

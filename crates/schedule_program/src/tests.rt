@@ -4,6 +4,7 @@ use std::alloc::{AllocError, Global};
 use std::test::Fail;
 
 mod atomic;
+mod bits;
 mod failures;
 mod indices;
 mod memory;
