@@ -70,7 +70,7 @@ module _ {T : Type 0} where
   bounds : (code : Coding T) (c : ℕ) → frame.Bounds (family code c)
   bounds code c = record { most = at_most; paid = paid }
     where
-      at_most : (s : Value) (p backs : ℕ) (start : Start T) (flight : Flight T) → (family code c).At s p start flight → (family code c).number flight backs ≤ most code.size start backs
+      at_most : (s : Value) (p backs : ℕ) (start : Start T) (flight : Flight T) → (family code c).At s p start flight → (family code c).number flight backs ≤ most c code.size start backs
       at_most s p backs (Atomic start) (flights.TheVariants.Atomic flight) h = steps_most code s.holder s.core p backs start flight h
       at_most s p backs start flight h = absurd h
 
@@ -119,7 +119,7 @@ module _ {T : Type 0} where
       let size : w.coding.size ≡ code.size = ap (λ (z : Coding T). z.size) s.coding in
       record {
         spans = s.inv.spans;
-        progress = λ p. subst (λ n. Progresses promise n (span_of p t.events) (progress_in w p)) (sym size) (frame.progresses (family code w.capacity) (bounds code w.capacity) s.state p t.events w.changes (party_of p w.latest) (span_of p t.events) (s.inv.calls p) (s.inv.knows p));
+        progress = λ p. subst (λ n. Progresses promise w.capacity n (span_of p t.events) (progress_in w p)) (sym size) (frame.progresses (family code w.capacity) (bounds code w.capacity) s.state p t.events w.changes (party_of p w.latest) (span_of p t.events) (s.inv.calls p) (s.inv.knows p));
         promised = value_kept code w.capacity t s.coding s;
       }
 

@@ -8,7 +8,7 @@ ghost use Rattle.machine.specs.Parts.{state_of, trace_of, going_refusal, IsGoing
 
 use model::coding::Coded;
 use model::event::{Event, Start};
-use model::families::{self, Beside, Kept, MOST_EFFECTS};
+use model::families::{self, Beside, Kept};
 use model::party::{Doing, Latest, Party, flight_of};
 use model::turn::{Kind, Refusal, Turn, capacity_error};
 use model::words;
@@ -85,7 +85,7 @@ fn go_on<T: Words>(
         (Want::Nothing, None) => (None, 0),
         _ => return Err(Refusal::Undecided),
     };
-    let Ok(()) = events.reserve(MOST_EFFECTS + 1) else {
+    let Ok(()) = events.reserve(flight.most_effects() + 1) else {
         return Err(Refusal::NoMemory);
     };
     let change = words::change(words, ask);

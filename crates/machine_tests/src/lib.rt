@@ -4,6 +4,10 @@
 #[cfg(test)]
 mod atomic;
 #[cfg(test)]
+mod bits;
+#[cfg(test)]
+mod indices;
+#[cfg(test)]
 mod rows;
 #[cfg(test)]
 mod runs;

@@ -56,7 +56,7 @@ module _ {T : Type 0} (F : Family T) where
     pub answer : Answer T
     pub wrote : List (Event T)
     pub span : seen ≡ Ended x.start answer wrote
-    pub steps : x.steps ≤ F.promise.most_steps F.coding.size x.start x.backs
+    pub steps : x.steps ≤ F.promise.most_steps F.capacity F.coding.size x.start x.backs
 
   abbrev pub FitsDoing : F.State → ℕ → Party T → Doing T → Span T → Type 0
   FitsDoing s p x (Going flight since) span = IsUnderWay s p x flight span
@@ -285,14 +285,14 @@ module _ {T : Type 0} (F : Family T) where
 
   -- what a family says of the counts of a call under way
   pub record Bounds : Type 0 where
-    pub most : (s : F.State) (p backs : ℕ) (start : Start T) (flight : Flight T) → F.At s p start flight → F.number flight backs ≤ F.promise.most_steps F.coding.size start backs
+    pub most : (s : F.State) (p backs : ℕ) (start : Start T) (flight : Flight T) → F.At s p start flight → F.number flight backs ≤ F.promise.most_steps F.capacity F.coding.size start backs
     pub paid : (s : F.State) (p : ℕ) (events : List (Event T)) (since changes backs : ℕ) (flight : Flight T) → F.Knows s p events since changes backs flight → backs ≤ changes - since
 
-  pub progresses : Bounds → (s : F.State) (p : ℕ) (events : List (Event T)) (changes : ℕ) (o : Option (Party T)) (seen : Span T) → Fits s p o seen → KnowsParty s p events changes o → Progresses F.promise F.coding.size seen (progress_after changes o)
-  progresses bounds s p events changes None seen h knows = subst (λ a. Progresses {T = T} F.promise F.coding.size a None) (sym h) tt
+  pub progresses : Bounds → (s : F.State) (p : ℕ) (events : List (Event T)) (changes : ℕ) (o : Option (Party T)) (seen : Span T) → Fits s p o seen → KnowsParty s p events changes o → Progresses F.promise F.capacity F.coding.size seen (progress_after changes o)
+  progresses bounds s p events changes None seen h knows = subst (λ a. Progresses {T = T} F.promise F.capacity F.coding.size a None) (sym h) tt
   progresses bounds s p events changes (Some x) seen h knows = go x.doing refl h knows
     where
-      go : (doing : Doing T) → x.doing ≡ doing → FitsDoing s p x doing seen → KnowsDoing s p events changes x.backs doing → Progresses F.promise F.coding.size seen (progress_after changes (Some x))
+      go : (doing : Doing T) → x.doing ≡ doing → FitsDoing s p x doing seen → KnowsDoing s p events changes x.backs doing → Progresses F.promise F.capacity F.coding.size seen (progress_after changes (Some x))
       go (Going flight since) e h knows =
           let most = bounds.most s p x.backs x.start flight h.at in
           let steps = h.steps in

@@ -3,6 +3,7 @@ pub mod Frame
 pub mod Moments
 pub mod Orders
 pub mod Parties
+pub mod Places
 pub mod Reached
 pub mod Readings
 pub mod Replays
@@ -11,4 +12,5 @@ pub mod Small
 pub mod Turns
 pub mod Values
 pub mod Worked
+pub mod WorkedIndices
 pub mod WorkedValue

@@ -47,7 +47,7 @@ unchanged_words words (Some ask) e =
     (change_is (get_or (words_after words (Some ask)) ask.word 0 == get_or words ask.word 0)).0 (grind (arith, nat_tests))
 
 -- a word that keeps its value leaves all of them
-kept_words : (words : List ℕ) (at value : ℕ) → get_or (set words at value) at 0 ≡ get_or words at 0 → set words at value ≡ words
+pub kept_words : (words : List ℕ) (at value : ℕ) → get_or (set words at value) at 0 ≡ get_or words at 0 → set words at value ≡ words
 kept_words words at value e = ⊎_elim within past (cases_lt at (length words))
   where
     within : at < length words → set words at value ≡ words

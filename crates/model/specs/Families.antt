@@ -23,10 +23,18 @@ use Rattle.model.specs.Coding.{Coding}
 use Rattle.model.specs.Opening.{Opening}
 use Rattle.model.specs.Step.{Beginning, Going, Step, as_step}
 pub mod Atomic
+pub mod Bits
+pub mod Indices
 pub mod Queues
 use Rattle.model.specs.Families.Atomic.Calls as atomic_calls
 use Rattle.model.specs.Families.Atomic.Opening as atomic_opening
 use Rattle.model.specs.Families.Atomic.Steps as atomic_steps
+use Rattle.model.specs.Families.Bits.Calls as bits_calls
+use Rattle.model.specs.Families.Bits.Opening as bits_opening
+use Rattle.model.specs.Families.Bits.Steps as bits_steps
+use Rattle.model.specs.Families.Indices.Calls as index_calls
+use Rattle.model.specs.Families.Indices.Opening as index_opening
+use Rattle.model.specs.Families.Indices.Steps as index_steps
 use Rattle.model.specs.Families.Queues.Calls as queue_calls
 use Rattle.model.specs.Families.Queues.Opening as queue_opening
 use Rattle.model.specs.Families.Queues.Steps as queue_steps
@@ -38,6 +46,9 @@ opening_of IndexQueue = queue_opening.opening queue_kinds.TheVariants.IndexQueue
 opening_of Overflow = queue_opening.opening queue_kinds.TheVariants.Overflow
 opening_of Queue = queue_opening.opening queue_kinds.TheVariants.Queue
 opening_of kinds.TheVariants.Atomic = atomic_opening.opening
+opening_of kinds.TheVariants.Bits = bits_opening.bits_opening
+opening_of kinds.TheVariants.Counts = bits_opening.counts_opening
+opening_of kinds.TheVariants.Indices = index_opening.opening
 
 -- ---- a call begins
 
@@ -46,6 +57,9 @@ module _ {T : Type 0} where
   begin_of kind capacity (starts.TheVariants.Queues start) =
       queue_opening.begin kind capacity start
   begin_of kind capacity (starts.TheVariants.Atomic start) = atomic_opening.begin kind start
+  begin_of kind capacity (starts.TheVariants.Bits start) = bits_opening.begin kind capacity start
+  begin_of kind capacity (starts.TheVariants.Indices start) =
+      index_opening.begin kind capacity start
 
   -- the call that begins, or None where the kind has no such call
   abbrev pub first_of : Kind → ℕ → Start T → Option (Flight T)
@@ -74,6 +88,8 @@ module _ {T : Type 0} where
   abbrev pub going_of : Coding T → Flight T → Going (Flight T) T
   going_of code (flights.TheVariants.Queues flight) = queue_calls.going code flight
   going_of code (flights.TheVariants.Atomic flight) = atomic_calls.going code flight
+  going_of code (flights.TheVariants.Bits flight) = bits_calls.going flight
+  going_of code (flights.TheVariants.Indices flight) = index_calls.going flight
 
   -- what a call under way wants next
   abbrev pub want_of : Coding T → Flight T → Want (Unit {0})
@@ -89,6 +105,13 @@ module _ {T : Type 0} where
       queue_steps.beside roles words latest p
   beside_of words kept latest p = None
 
+  -- how many events a step of the call writes at most, apart from the end of the call
+  abbrev pub most_effects_of : Flight T → ℕ
+  most_effects_of (flights.TheVariants.Queues flight) = queue_steps.most_effects flight
+  most_effects_of (flights.TheVariants.Atomic flight) = atomic_steps.most_effects flight
+  most_effects_of (flights.TheVariants.Bits flight) = bits_steps.most_effects flight
+  most_effects_of (flights.TheVariants.Indices flight) = index_steps.most_effects flight
+
   -- What the step of a call comes to, in these words and from this old value of its word. Where the
   -- name, the call and what is kept are not of one family, nothing happens.
   abbrev pub step_of : Coding T → List ℕ → Option (ℕ × ℕ) → ℕ → Start T → Flight T → ℕ → Kept
@@ -101,5 +124,13 @@ module _ {T : Type 0} where
       old (kepts.TheVariants.Atomic producer) =
       as_step flights.TheVariants.Atomic kepts.TheVariants.Atomic
       (atomic_steps.step code p start flight old producer)
+  step_of code words beside p (starts.TheVariants.Bits start) (flights.TheVariants.Bits flight) old
+      kepts.TheVariants.Nothing =
+      as_step flights.TheVariants.Bits (λ _. kepts.TheVariants.Nothing)
+      (bits_steps.step p flight old)
+  step_of code words beside p (starts.TheVariants.Indices start) (flights.TheVariants.Indices flight)
+      old (kepts.TheVariants.Indices holders) =
+      as_step flights.TheVariants.Indices kepts.TheVariants.Indices
+      (index_steps.step p flight old holders)
   step_of code words beside p start flight old kept =
       record { after = GoOn flight; back = false; wrote = []; kept = kept }

@@ -6,4 +6,4 @@ pub record Opening : Type 0 where
   pub least : ℕ  -- its least capacity
   pub greatest : ℕ
   pub words : ℕ → ℕ → List ℕ  -- its words, by the number of words of a value and by the capacity
-  pub kept : Kept  -- what its family keeps beside them
+  pub kept : ℕ → Kept  -- what its family keeps beside them, by the capacity

@@ -41,7 +41,8 @@ module _ {T : Type 0} where
   pub record IsKeptBy (promise : Promise T) (t : Trace T) : Type 0 where
     pub spans : Each (StandsRight promise t.world.capacity) t.events
     pub progress : (p : ℕ)
-        → Progresses promise t.world.coding.size (span_of p t.events) (progress_in t.world p)
+        → Progresses promise t.world.capacity t.world.coding.size (span_of p t.events)
+        (progress_in t.world p)
     pub promised : promise.holds t
 
   abbrev pub IsKept : Trace T → Type 0

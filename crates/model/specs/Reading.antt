@@ -4,7 +4,7 @@ use Rattle.std.specs.List.{flat_map}
 use Rattle.model.specs.declared.event.Start.{Start}
 use Rattle.model.specs.declared.event.Answer.{Answer}
 use Rattle.model.specs.declared.event.Event.{Event}
-use Rattle.model.specs.declared.event.Event.TheVariants.{Begun, Published, HandedOut, Acted, Finished}
+use Rattle.model.specs.declared.event.Event.TheVariants.{Begun, Published, HandedOut, Set, Cleared, Counted, TakenOut, Claimed, Freed, Locked, Acted, Finished}
 
 module _ {T : Type 0} where
   -- P holds of each event and of what stands before it
@@ -29,6 +29,13 @@ module _ {T : Type 0} where
   owner (Begun p start) = p
   owner (Published p item) = p
   owner (HandedOut p item) = p
+  owner (Set p bit) = p
+  owner (Cleared p bit) = p
+  owner (Counted p place) = p
+  owner (TakenOut p place number) = p
+  owner (Claimed p index) = p
+  owner (Freed p index) = p
+  owner (Locked p) = p
   owner (Acted p start answer) = p
   owner (Finished p start answer) = p
 

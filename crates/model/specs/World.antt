@@ -84,7 +84,7 @@ module _ {T : Type 0} where
               capacity = capacity;
               parties = parties;
               words = (opening_of kind).words code.size capacity;
-              kept = (opening_of kind).kept;
+              kept = (opening_of kind).kept capacity;
               latest = [];
               changes = 0;
               turns = 0;

@@ -1,6 +1,9 @@
 //! Calls by their names and arguments, their answers, and what a run writes down.
 use crate::families::atomic::AtomicStart;
+use crate::families::bits::BitsStart;
+use crate::families::indices::IndexStart;
 use crate::families::queues::QueueStart;
+use steps::indices::enums::{ReleaseState, UniqueIndexSetAcquireFailure};
 
 /// A value of a queue.
 #[derive(Debug, Clone, Copy, PartialEq, Eq)]
@@ -18,16 +21,21 @@ pub enum Start<T> {
     Queues(QueueStart<T>),
     /// A call of the single value, or on its producer's role.
     Atomic(AtomicStart<T>),
+    /// A call of a bit set or of a counting bit set.
+    Bits(BitsStart),
+    /// A call of the unique index set.
+    Indices(IndexStart),
 }
 
 /// What a call answers.
 #[derive(Debug, Clone, Copy, PartialEq, Eq)]
 pub enum Answer<T> {
-    /// Of giving a role back.
+    /// Of giving a role back, and of resetting all bits or counts.
     Done,
-    /// Of a push of the bounded queue, of a store, of acquiring a role, and of asking whether a queue is empty or full.
+    /// Of a push of the bounded queue, of a store, of acquiring a role, of asking whether a queue is empty or full or a set
+    /// of indices locked, and of setting a bit.
     Truth(bool),
-    /// Of asking how many values wait.
+    /// Of asking how many values wait or how many indices are borrowed, and the count of a place before it was set.
     Number(u64),
     /// Of a pop, or of a push of the overflowing queue, that has no value.
     PoppedNone,
@@ -37,6 +45,16 @@ pub enum Answer<T> {
     Popped(T),
     /// The value that a load answers.
     Loaded(T),
+    /// Of resetting the next bit where none was found to stand.
+    ResetNone,
+    /// The bit that was reset.
+    Reset(u64),
+    /// The index that an acquire hands out.
+    Index(u32),
+    /// Why an acquire hands out none.
+    NoIndex(UniqueIndexSetAcquireFailure),
+    /// Whether a release has locked the set.
+    State(ReleaseState),
 }
 
 /// What a run writes down. The number is the party's.
@@ -48,6 +66,20 @@ pub enum Event<T> {
     Published(u32, Item<T>),
     /// The read position went on, by a pop or by a push of the overflowing queue: the value was the oldest that waited.
     HandedOut(u32, Item<T>),
+    /// The call set this bit.
+    Set(u32, u64),
+    /// The call cleared this bit.
+    Cleared(u32, u64),
+    /// The call added 1 to the count of this place.
+    Counted(u32, u64),
+    /// The call took this number, which is above 0, out of the count of this place.
+    TakenOut(u32, u64, u64),
+    /// An acquire took the claim flag of this index: from here on the party holds it.
+    Claimed(u32, u32),
+    /// A release cleared the claim flag of this index: from here on nobody holds it.
+    Freed(u32, u32),
+    /// A release gave the last index back and locked the set.
+    Locked(u32),
     /// The linearization point of the call, with its answer. It can come in the turn of another party.
     Acted(u32, Start<T>, Answer<T>),
     /// The call is done, in this turn.

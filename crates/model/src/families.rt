@@ -1,7 +1,7 @@
 //! The families of calls. Each has a room of its own, and here one line where a machine passes on to it.
 ghost use Rattle.std.specs.Prelude.{◌≡◌, ◌+◌, ◌≤◌, ◌++◌, None, Some, OnOk, IfOk, IfErr, vec_len, vec_capacity};
 ghost use Rattle.steps.specs.Ask.{CameTo};
-ghost use Rattle.model.specs.Families.{opening_of, first_of, begin_rows, want_of, is_question, beside_of, step_of};
+ghost use Rattle.model.specs.Families.{opening_of, first_of, begin_rows, want_of, is_question, beside_of, most_effects_of, step_of};
 ghost use Rattle.model.specs.Rows.{first_row};
 
 use crate::coding::Coded;
@@ -9,6 +9,9 @@ use crate::event::{Answer, Event, Start};
 use crate::party::Latest;
 use crate::turn::{Kind, Refusal};
 use atomic::calls::AtomicFlight;
+use bits::calls::BitsFlight;
+use indices::calls::IndexFlight;
+use indices::holders::Holders;
 use queues::calls::QueueFlight;
 use queues::{QueueKind, Roles};
 use std::alloc::{AllocError, Global};
@@ -16,24 +19,29 @@ use steps::ask::Want;
 use steps::words::Words;
 
 pub mod atomic;
+pub mod bits;
+pub mod indices;
 pub mod queues;
-
-/// The most events that a step of a call writes, apart from the end of its call.
-pub const MOST_EFFECTS: usize = queues::effects::MOST_EFFECTS;
 
 /// A call under way in a machine.
 #[derive(Drop)]
 pub enum Flight<T> {
     Queues(QueueFlight<T>),
     Atomic(AtomicFlight<T>),
+    Bits(BitsFlight),
+    Indices(IndexFlight),
 }
 
 /// What a family needs to know beside its words.
-#[derive(Clone, Copy)]
+#[derive(Drop)]
 pub enum Kept {
     Queues(Roles),
     /// Who holds the producer's role of the single value.
     Atomic(Option<u32>),
+    /// The words are all.
+    Nothing,
+    /// Who holds which index of the unique index set.
+    Indices(Holders),
 }
 
 /// What the step of one party has to know of the others: the party and the value of a push that acts where this step
@@ -57,6 +65,9 @@ pub fn capacities(kind: Kind) -> (u64, u64)
         Kind::Overflow => queues::opening::CAPACITIES,
         Kind::Queue => queues::opening::CAPACITIES,
         Kind::Atomic => atomic::opening::CAPACITIES,
+        Kind::Bits => bits::opening::CAPACITIES,
+        Kind::Counts => bits::opening::CAPACITIES,
+        Kind::Indices => indices::opening::CAPACITIES,
     }
 }
 
@@ -68,13 +79,16 @@ pub fn opening<T: Words>(
 ) -> Result<(Vec<u64>, Kept), AllocError>
     ensures words { IfOk result
         (λ opened. opened.0.items ≡ (opening_of kind).words ⟦<T as Coded>⟧.coding.size capacity) }
-    ensures kept { IfOk result (λ opened. opened.1 ≡ (opening_of kind).kept) }
+    ensures kept { IfOk result (λ opened. opened.1 ≡ (opening_of kind).kept capacity) }
 {
     match kind {
         Kind::IndexQueue => queues::opening::open::<T>(alloc, QueueKind::IndexQueue, capacity),
         Kind::Overflow => queues::opening::open::<T>(alloc, QueueKind::Overflow, capacity),
         Kind::Queue => queues::opening::open::<T>(alloc, QueueKind::Queue, capacity),
         Kind::Atomic => atomic::opening::open::<T>(alloc),
+        Kind::Bits => bits::opening::open_bits(alloc, capacity),
+        Kind::Counts => bits::opening::open_counts(alloc, capacity),
+        Kind::Indices => indices::opening::open(alloc, capacity),
     }
 }
 
@@ -101,6 +115,14 @@ pub fn begin<T: Words>(
             let flight = atomic::opening::begin(kind, *producer, number, start)?;
             Ok(Flight::Atomic(flight))
         }
+        (Start::Bits(start), Kept::Nothing) => {
+            let flight = bits::opening::begin(kind, capacity, *start)?;
+            Ok(Flight::Bits(flight))
+        }
+        (Start::Indices(start), Kept::Indices(holders)) => {
+            let flight = indices::opening::begin(kind, capacity, holders, number, start)?;
+            Ok(Flight::Indices(flight))
+        }
         _ => Err(Refusal::WrongCall),
     }
 }
@@ -123,6 +145,8 @@ impl<T: Words> Flight<T> {
         match self {
             Flight::Queues(flight) => flight.want(),
             Flight::Atomic(flight) => flight.want(),
+            Flight::Bits(flight) => flight.want(),
+            Flight::Indices(flight) => flight.want(),
         }
     }
 
@@ -133,6 +157,19 @@ impl<T: Words> Flight<T> {
         match self.want() {
             Want::Question(_) => true,
             _ => false,
+        }
+    }
+
+    /// The most events that a step of the call writes, apart from the end of the call.
+    pub fn most_effects(&self) -> usize
+        ensures most { result ≡ most_effects_of self.now }
+        ensures few { result ≤ 64 }
+    {
+        match self {
+            Flight::Queues(_) => queues::effects::MOST_EFFECTS,
+            Flight::Atomic(_) => atomic::effects::MOST_EFFECTS,
+            Flight::Bits(flight) => flight.most_effects(),
+            Flight::Indices(_) => indices::effects::MOST_EFFECTS,
         }
     }
 
@@ -148,7 +185,7 @@ impl<T: Words> Flight<T> {
         kept: &mut Kept,
         events: &mut Vec<Event<T>>,
     ) -> Went<T>
-        requires { vec_len events.old + MOST_EFFECTS ≤ vec_capacity events.old }
+        requires { vec_len events.old + most_effects_of self.old ≤ vec_capacity events.old }
         ensures after { CameTo result.done self.new (step_of ⟦<T as Coded>⟧.coding words.now.items beside
             number start.now self.old answer kept.old).after }
         ensures back { result.back ≡ (step_of ⟦<T as Coded>⟧.coding words.now.items beside
@@ -158,7 +195,7 @@ impl<T: Words> Flight<T> {
         ensures wrote { events.new.items ≡ events.old.items
             ++ (step_of ⟦<T as Coded>⟧.coding words.now.items beside
             number start.now self.old answer kept.old).wrote }
-        ensures few { vec_len events.new ≤ vec_len events.old + MOST_EFFECTS }
+        ensures few { vec_len events.new ≤ vec_len events.old + most_effects_of self.old }
         ensures room { vec_capacity events.new ≡ vec_capacity events.old }
     {
         match (self, start, kept) {
@@ -167,6 +204,12 @@ impl<T: Words> Flight<T> {
             }
             (Flight::Atomic(flight), Start::Atomic(start), Kept::Atomic(producer)) => {
                 flight.go_on(number, start, answer, producer, events)
+            }
+            (Flight::Bits(flight), Start::Bits(_), Kept::Nothing) => {
+                flight.go_on(number, answer, events)
+            }
+            (Flight::Indices(flight), Start::Indices(_), Kept::Indices(holders)) => {
+                flight.go_on(number, answer, holders, events)
             }
             _ => Went {
                 back: false,

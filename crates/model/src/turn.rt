@@ -17,10 +17,16 @@ pub enum Kind {
     Queue,
     /// The single value.
     Atomic,
+    /// The bit set.
+    Bits,
+    /// The counting bit set.
+    Counts,
+    /// The unique index set.
+    Indices,
 }
 
-/// Why a machine of this kind is not made with this capacity, or None. A queue has from 0 to 2^32 - 1, and the
-/// single value 1.
+/// Why a machine of this kind is not made with this capacity, or None. A queue and a set of bits or counts have from 0
+/// to 2^32 - 1, the single value 1, and the unique index set from 1 to 2^24 - 2.
 pub fn capacity_error(kind: Kind, capacity: usize) -> Option<UniqueIndexCreationError>
     ensures { result ≡ capacity_error kind capacity }
 {

@@ -2,7 +2,7 @@
 use Rattle.std.specs.Prelude.{ℕ, ◌-◌, ◌^◌, ◌==◌, Bool, true, false, List, [], ◌∷◌, Result, Ok, Err, if◌then◌else◌, bytes_eq, codes}
 use Rattle.model.specs.declared.event.Start.{Start}
 use Rattle.model.specs.declared.turn.Kind.{Kind}
-use Rattle.model.specs.declared.turn.Kind.TheVariants.{IndexQueue, Overflow, Queue, Atomic}
+use Rattle.model.specs.declared.turn.Kind.TheVariants.{IndexQueue, Overflow, Queue, Atomic, Bits, Counts, Indices}
 use Rattle.model.specs.declared.turn.Turn.TheVariants.{Begin, Next, Decide, Die}
 use Rattle.schedule.specs.declared.error.Cause.{Cause}
 use Rattle.schedule.specs.declared.error.Cause.TheVariants.{BadValue, UnknownKind, UnknownTurn}
@@ -10,6 +10,8 @@ use Rattle.schedule.specs.declared.grammar.Command.{Command}
 use Rattle.schedule.specs.declared.grammar.Command.TheVariants.{Once, Times}
 use Rattle.schedule.specs.declared.grammar.Setup.{Setup}
 use Rattle.schedule.specs.Atomic as atomic
+use Rattle.schedule.specs.Bits as bits
+use Rattle.schedule.specs.Indices as indices
 use Rattle.schedule.specs.Queues as queues
 unfoldable pub use Rattle.schedule.specs.Reading.{Gives, ◌>>=◌, next_word, ended, number_at}
 use Rattle.schedule.specs.Text.{number_of}
@@ -22,6 +24,9 @@ kind_of name =
     else if bytes_eq name (codes "overflow") then Ok Overflow
     else if bytes_eq name (codes "queue") then Ok Queue
     else if bytes_eq name (codes "atomic") then Ok Atomic
+    else if bytes_eq name (codes "bits") then Ok Bits
+    else if bytes_eq name (codes "counts") then Ok Counts
+    else if bytes_eq name (codes "indices") then Ok Indices
     else Err UnknownKind
 
 -- a kind, a capacity and how many parties
@@ -42,6 +47,9 @@ call_of IndexQueue name ws = queues.index_queue_call name ws
 call_of Overflow name ws = queues.index_queue_call name ws
 call_of Queue name ws = queues.value_queue_call name ws
 call_of Atomic name ws = atomic.value_call name ws
+call_of Bits name ws = bits.bit_set_call name ws
+call_of Counts name ws = bits.counting_bit_set_call name ws
+call_of Indices name ws = indices.index_call name ws
 
 -- ---- turns
 

@@ -5,7 +5,7 @@ ghost use Rattle.schedule.specs.Grammar.{Gives, next_word, ended, number_at, kin
 
 use crate::error::Cause;
 use crate::text::{Rest, number_of, words};
-use crate::{atomic, queues};
+use crate::{atomic, bits, indices, queues};
 use machine::event::Start;
 use machine::turn::{Kind, Turn};
 use steps::enums::OwnerId;
@@ -76,6 +76,12 @@ fn kind_of(name: &[u8]) -> Result<Kind, Cause>
         Ok(Kind::Queue)
     } else if name == b"atomic".as_slice() {
         Ok(Kind::Atomic)
+    } else if name == b"bits".as_slice() {
+        Ok(Kind::Bits)
+    } else if name == b"counts".as_slice() {
+        Ok(Kind::Counts)
+    } else if name == b"indices".as_slice() {
+        Ok(Kind::Indices)
     } else {
         Err(Cause::UnknownKind)
     }
@@ -109,6 +115,9 @@ fn call_of<'a>(kind: Kind, name: &[u8], words: Rest<'a>) -> Result<(Start<u128>,
         Kind::Overflow => queues::index_queue_call(name, words),
         Kind::Queue => queues::value_queue_call(name, words),
         Kind::Atomic => atomic::value_call(name, words),
+        Kind::Bits => bits::bit_set_call(name, words),
+        Kind::Counts => bits::counting_bit_set_call(name, words),
+        Kind::Indices => indices::index_call(name, words),
     }
 }
 

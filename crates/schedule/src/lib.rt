@@ -2,8 +2,10 @@
 #![tactic(auto)]
 
 mod atomic;
+mod bits;
 pub mod error;
 mod grammar;
+mod indices;
 mod input;
 mod line;
 mod output;

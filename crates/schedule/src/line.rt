@@ -101,6 +101,8 @@ impl Line {
         match start {
             Start::Queues(start) => self.push_queue_call(start),
             Start::Atomic(start) => self.push_value_call(start),
+            Start::Bits(start) => self.push_bits_call(start),
+            Start::Indices(start) => self.push_index_call(start),
         }
     }
 
@@ -124,6 +126,14 @@ impl Line {
             }
             Answer::Number(number) => self.push_number(u128::from(number)),
             Answer::Loaded(value) => self.push_number(value),
+            Answer::ResetNone => self.push("none"),
+            Answer::Reset(bit) => {
+                self.push("some ");
+                self.push_number(u128::from(bit));
+            }
+            Answer::Index(index) => self.push_number(u128::from(index)),
+            Answer::NoIndex(failure) => self.push_failure(failure),
+            Answer::State(state) => self.push_state(state),
         }
     }
 
@@ -158,6 +168,42 @@ impl Line {
                 line.push_number(u128::from(party));
                 line.push(" handed_out ");
                 line.push_item(item);
+            }
+            Event::Set(party, bit) => {
+                line.push_number(u128::from(party));
+                line.push(" set ");
+                line.push_number(u128::from(bit));
+            }
+            Event::Cleared(party, bit) => {
+                line.push_number(u128::from(party));
+                line.push(" cleared ");
+                line.push_number(u128::from(bit));
+            }
+            Event::Counted(party, place) => {
+                line.push_number(u128::from(party));
+                line.push(" counted ");
+                line.push_number(u128::from(place));
+            }
+            Event::TakenOut(party, place, count) => {
+                line.push_number(u128::from(party));
+                line.push(" taken_out ");
+                line.push_number(u128::from(place));
+                line.push(" ");
+                line.push_number(u128::from(count));
+            }
+            Event::Claimed(party, index) => {
+                line.push_number(u128::from(party));
+                line.push(" claimed ");
+                line.push_number(u128::from(index));
+            }
+            Event::Freed(party, index) => {
+                line.push_number(u128::from(party));
+                line.push(" freed ");
+                line.push_number(u128::from(index));
+            }
+            Event::Locked(party) => {
+                line.push_number(u128::from(party));
+                line.push(" locked");
             }
             Event::Acted(party, start, answer) => {
                 line.push_number(u128::from(party));

@@ -4,7 +4,9 @@ use std::alloc::{AllocError, Global};
 use std::test::Fail;
 
 mod atomic;
+mod bits;
 mod failures;
+mod indices;
 mod memory;
 mod size;
 mod values;

@@ -1,8 +1,10 @@
 -- What the structure of each kind promises: one line a kind, which passes on to the room of its family.
 use Rattle.model.specs.declared.families.queues.QueueKind as queue_kinds
 use Rattle.model.specs.declared.turn.Kind.{Kind}
-use Rattle.model.specs.declared.turn.Kind.TheVariants.{IndexQueue, Overflow, Queue, Atomic}
+use Rattle.model.specs.declared.turn.Kind.TheVariants.{IndexQueue, Overflow, Queue, Atomic, Bits, Counts, Indices}
 use Rattle.model.specs.Families.Atomic.Promises as atomic
+use Rattle.model.specs.Families.Bits.Promises as bits
+use Rattle.model.specs.Families.Indices.Promises as indices
 use Rattle.model.specs.Families.Queues.Promises as queues
 use Rattle.model.specs.Promise.{Promise}
 
@@ -11,3 +13,6 @@ promise_of IndexQueue = queues.promise queue_kinds.TheVariants.IndexQueue
 promise_of Overflow = queues.promise queue_kinds.TheVariants.Overflow
 promise_of Queue = queues.promise queue_kinds.TheVariants.Queue
 promise_of Atomic = atomic.promise
+promise_of Bits = bits.bits_promise
+promise_of Counts = bits.counts_promise
+promise_of Indices = indices.promise

@@ -335,7 +335,7 @@ empty_core en kd c = record { write = 0; read = 0; waiting = []; cells = replica
 abbrev empty_queue : {T : Type 0} → Coding T → (kd : QueueKind) → ℕ → Queue (Val T kd)
 empty_queue en kd c = record { roles = record { producer = None; consumer = None }; core = empty_core en kd c }
 
-opening_fits : {T : Type 0} → (en : Coding T) (kd : QueueKind) (c : ℕ) → Fit (opening_of (machine_kind kd)).kept ((opening_of (machine_kind kd)).words en.size c) (empty_queue en kd c)
+opening_fits : {T : Type 0} → (en : Coding T) (kd : QueueKind) (c : ℕ) → Fit ((opening_of (machine_kind kd)).kept c) ((opening_of (machine_kind kd)).words en.size c) (empty_queue en kd c)
 opening_fits en IndexQueue c = (refl, refl)
 opening_fits en kinds.TheVariants.Overflow c = (refl, refl)
 opening_fits en kinds.TheVariants.Queue c = (refl, refl)

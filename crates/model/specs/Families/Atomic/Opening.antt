@@ -27,7 +27,7 @@ opening =
       least = 1;
       greatest = 1;
       words = λ size capacity. opening_words size;
-      kept = kepts.TheVariants.Atomic None;
+      kept = λ capacity. kepts.TheVariants.Atomic None;
     }
 
 -- whether a machine of a kind has the single value

@@ -76,9 +76,9 @@ module _ {T : Type 0} where
   wrote capacity (Atomic start) answer events = moments events ≡ moments_of start answer
   wrote capacity start answer events = ⊥
 
-  abbrev pub most : ℕ → Start T → ℕ → ℕ
-  most size (Atomic start) backs = most_steps size start backs
-  most size start backs = 0
+  abbrev pub most : ℕ → ℕ → Start T → ℕ → ℕ
+  most capacity size (Atomic start) backs = most_steps size start backs
+  most capacity size start backs = 0
 
   abbrev pub promise : Promise T
   promise =

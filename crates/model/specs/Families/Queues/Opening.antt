@@ -42,7 +42,7 @@ opening kind =
       least = 0;
       greatest = 2 ^ 32 - 1;
       words = λ size capacity. opening_words size kind capacity;
-      kept = kepts.TheVariants.Queues (record { producer = None; consumer = None });
+      kept = λ capacity. kepts.TheVariants.Queues (record { producer = None; consumer = None });
     }
 
 abbrev pub holds : Option ℕ → ℕ → Bool

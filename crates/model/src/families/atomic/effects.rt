@@ -10,6 +10,9 @@ use crate::event::{Answer, Event, Start};
 use crate::families::Went;
 use steps::words::Words;
 
+/// The most events that a step writes: an act.
+pub const MOST_EFFECTS: usize = 1;
+
 /// Writes down the act of a call, where it is done and acts.
 fn tell<T: Copy>(
     events: &mut Vec<Event<T>>,
@@ -59,7 +62,7 @@ impl<T: Words> AtomicFlight<T> {
         producer: &mut Option<u32>,
         events: &mut Vec<Event<T>>,
     ) -> Went<T>
-        requires { vec_len events.old + 1 ≤ vec_capacity events.old }
+        requires { vec_len events.old + MOST_EFFECTS ≤ vec_capacity events.old }
         ensures after { CameTo result.done self.new
             (step ⟦<T as Coded>⟧.coding number start.now self.old answer producer.old).after }
         ensures back { result.back
@@ -68,7 +71,7 @@ impl<T: Words> AtomicFlight<T> {
             ≡ (step ⟦<T as Coded>⟧.coding number start.now self.old answer producer.old).kept }
         ensures wrote { events.new.items ≡ events.old.items
             ++ (step ⟦<T as Coded>⟧.coding number start.now self.old answer producer.old).wrote }
-        ensures few { vec_len events.new ≤ vec_len events.old + 1 }
+        ensures few { vec_len events.new ≤ vec_len events.old + MOST_EFFECTS }
         ensures room { vec_capacity events.new ≡ vec_capacity events.old }
     {
         let back = self.goes_back(answer);

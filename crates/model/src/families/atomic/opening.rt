@@ -20,7 +20,7 @@ pub const CAPACITIES: (u64, u64) = (1, 1);
 pub fn open<T: Words>(alloc: Global) -> Result<(Vec<u64>, Kept), AllocError>
     ensures words { IfOk result
         (λ opened. opened.0.items ≡ opening.words ⟦<T as Coded>⟧.coding.size 1) }
-    ensures kept { IfOk result (λ opened. opened.1 ≡ opening.kept) }
+    ensures kept { IfOk result (λ opened. opened.1 ≡ opening.kept 1) }
 {
     let words = 2 + T::WORDS * 2;
     let mut opened = Vec::with_capacity(alloc, words)?;

@@ -45,7 +45,7 @@ pub fn open<T: Words>(
 ) -> Result<(Vec<u64>, Kept), AllocError>
     ensures words { IfOk result
         (λ opened. opened.0.items ≡ (opening kind).words ⟦<T as Coded>⟧.coding.size capacity) }
-    ensures kept { IfOk result (λ opened. opened.1 ≡ (opening kind).kept) }
+    ensures kept { IfOk result (λ opened. opened.1 ≡ (opening kind).kept capacity) }
 {
     let cells = words_of_cell::<T>(kind) * cells_of(kind, capacity);
     let mut words = Vec::with_capacity(alloc, 4 + cells)?;

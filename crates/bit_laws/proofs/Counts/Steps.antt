@@ -1,0 +1,121 @@
+-- What each step of a call shows: a set adds 1 to its count, and a reset of all swaps the next count with 0.
+use Rattle.std.proofs.Common.{◌≡◌, ◌≢◌, ℕ, ◌+◌, ◌-◌, ◌%◌, ◌^◌, ◌<◌, ◌≤◌, ◌==◌, nat_lt, Bool, true, false, cond, Option, Some, None, List, [], ◌∷◌, ◌++◌, length, get_or, set, refl, sym, ap, subst, ◌∙◌, append-nil, arith, length-set, get_or-set_same, get_or-set_other}
+use Rattle.std.proofs.lemmas.Bool.Decides.{nat_tests}
+use Rattle.steps.specs.declared.ask.Ask.{Ask}
+use Rattle.steps.specs.declared.ask.Op.TheVariants.{Add, Swap}
+use Rattle.steps.specs.declared.ask.After.{After}
+use Rattle.steps.specs.declared.ask.After.TheVariants.{GoOn, Done}
+use Rattle.steps.specs.declared.bits.reset_all.ResetAll as steps
+use Rattle.steps.specs.declared.copied.OneWord.{OneWord}
+use Rattle.model.specs.declared.event.Answer.{Answer}
+use Rattle.model.specs.declared.event.Answer as answers
+use Rattle.model.specs.declared.event.Event.{Event}
+use Rattle.model.specs.declared.event.Event.TheVariants.{Counted, TakenOut, Finished}
+use Rattle.model.specs.declared.event.Start.TheVariants.{Bits}
+use Rattle.model.specs.declared.families.Flight.{Flight}
+use Rattle.model.specs.declared.families.Flight as flights
+use Rattle.model.specs.declared.families.Kept as kepts
+use Rattle.model.specs.declared.families.bits.BitsStart.{BitsStart}
+use Rattle.model.specs.declared.families.bits.BitsStart.TheVariants.{Set, ResetAll}
+use Rattle.model.specs.declared.families.bits.calls.BitsFlight.{BitsFlight}
+use Rattle.model.specs.declared.families.bits.calls.BitsFlight.TheVariants.{Count, TakeAll}
+use Rattle.model.specs.declared.party.Party.{Party}
+use Rattle.model.specs.Coding.{Coding}
+use Rattle.model.specs.Families.{ask_of}
+use Rattle.model.specs.Families.Bits.Calls.{want, after, add_one}
+use Rattle.model.specs.Families.Bits.Promises.{AnswersCount}
+use Rattle.model.specs.Families.Bits.Reading.{counts, takes, count_at}
+use Rattle.model.specs.Families.Bits.Steps.{effects_of, take_events}
+use Rattle.model.specs.Moments.{SinceBegin}
+use Rattle.model.specs.Reading.{Open, span_of}
+use Rattle.model.specs.Step.{as_call, answer_in}
+use Rattle.model.specs.Turns.{old_of, words_after, change_of, step_count, doing_after, ending_of}
+use Rattle.model.proofs.Frame as frame
+use Rattle.bit_laws.proofs.Counts.Core.{TakenBelow, since_more, taken_next, counts_more}
+use Rattle.bit_laws.proofs.Counts.Invariant.{Counts, Holds, Shows, wrote_in, family}
+
+module _ {T : Type 0} where
+  -- a call of the set as one of any family
+  abbrev pub any_call : After BitsFlight (Answer T) → After (Flight T) (Answer T)
+  any_call after = as_call flights.TheVariants.Bits (λ answer. answer) after
+
+module _ {T : Type 0} (code : Coding T) (c : ℕ) (s : Counts T) (events : List (Event T)) (turns p : ℕ) (latest : List (ℕ × Party T)) (changes since steps backs : ℕ) where
+  abbrev ws : List ℕ
+  ws = s.words
+
+  -- the party after a step that does this operation
+  abbrev pub party_then : BitsStart → Option Ask → After BitsFlight (Answer T) → Party T
+  party_then start ask after =
+      record {
+        start = Bits start;
+        steps = steps + step_count ask;
+        backs = backs + 0;
+        doing = doing_after (changes + change_of ws ask) (since + change_of ws ask) (any_call after);
+      }
+
+  abbrev pub events_then : BitsStart → List (Event T) → After BitsFlight (Answer T) → List (Event T)
+  events_then start wrote after = wrote ++ ending_of p (Bits start) (answer_in (any_call after))
+
+  -- a step that shows what it has to
+  abbrev pub StepShows : List (Event T) → BitsStart → Option Ask → After BitsFlight (Answer T) → List (Event T) → Type 0
+  StepShows before start ask after wrote =
+      Shows code c s events turns p latest changes (words_after ws ask) (Open (Bits start) before) (party_then start ask after) (events_then start wrote after) (changes + change_of ws ask)
+
+  module _ (small : turns < 2 ^ 64 - 2) (holds : Holds c ws events turns) where
+    -- ---- a set
+
+    pub set_shows : (place : ℕ) → place < c → steps ≤ 0 → backs ≡ 0
+        → StepShows [] (Set place) (Some (record { word = place; op = Add 1 })) (Done (answers.TheVariants.Number (get_or ws place 0))) (Counted p place ∷ [])
+    set_shows place below s b =
+        let low = holds.low place in
+        let sized = holds.sized in
+        let within : place < length ws = omega arith in
+        let next : (get_or ws place 0 + 1) % 2 ^ 64 ≡ get_or ws place 0 + 1 = omega arith in
+        record {
+          sized = length-set ws place ((get_or ws place 0 + 1) % 2 ^ 64);
+          moved = moved within next;
+          within = past;
+          low = not_far within next;
+          right = (tt, (record { before = events; is = refl; count = now }, tt));
+          own = (refl, (refl, tt));
+          stands = ((refl, refl), ((refl, (refl, one)), tt));
+          here = record { answer = answers.TheVariants.Number (get_or ws place 0); wrote = Counted p place ∷ []; span = refl; steps = omega arith };
+          knows = omega arith;
+        }
+      where
+        one : counts {T = T} place (Counted p place ∷ []) ≡ 1
+        one = let t : (place == place) ≡ true = grind (arith, nat_tests) in rw t refl
+
+        now : get_or ws place 0 ≡ count_at place events
+        now = let h = holds.conserved place in omega arith
+
+        past : (b : ℕ) → c ≤ b → counts {T = T} b (Counted p place ∷ Finished p (Bits (Set place)) (answers.TheVariants.Number (get_or ws place 0)) ∷ []) ≡ 0
+        past b h = let t : (place == b) ≡ false = grind (arith, nat_tests) in rw t refl
+
+        moved : place < length ws → (get_or ws place 0 + 1) % 2 ^ 64 ≡ get_or ws place 0 + 1 → (b : ℕ) → counts {T = T} b (Counted p place ∷ Finished p (Bits (Set place)) (answers.TheVariants.Number (get_or ws place 0)) ∷ []) + get_or ws b 0 ≡ 0 + get_or (set ws place ((get_or ws place 0 + 1) % 2 ^ 64)) b 0
+        moved within next b = go (place == b) refl
+          where
+            go : (t : Bool) → (place == b) ≡ t → counts {T = T} b (Counted p place ∷ Finished p (Bits (Set place)) (answers.TheVariants.Number (get_or ws place 0)) ∷ []) + get_or ws b 0 ≡ 0 + get_or (set ws place ((get_or ws place 0 + 1) % 2 ^ 64)) b 0
+            go true t =
+                let same : place ≡ b = grind (arith, nat_tests) in
+                let here = get_or-set_same ws place ((get_or ws place 0 + 1) % 2 ^ 64) 0 within in
+                rw t (rw (sym same) (omega arith))
+            go false t =
+                let other : b ≢ place = grind (arith, nat_tests) in
+                let there = get_or-set_other ws place b ((get_or ws place 0 + 1) % 2 ^ 64) 0 other in
+                rw t (omega arith)
+
+        not_far : place < length ws → (get_or ws place 0 + 1) % 2 ^ 64 ≡ get_or ws place 0 + 1 → (b : ℕ) → get_or (set ws place ((get_or ws place 0 + 1) % 2 ^ 64)) b 0 ≤ turns + 1
+        not_far within next b = go (b == place) refl
+          where
+            go : (t : Bool) → (b == place) ≡ t → get_or (set ws place ((get_or ws place 0 + 1) % 2 ^ 64)) b 0 ≤ turns + 1
+            go true t =
+                let same : b ≡ place = grind (arith, nat_tests) in
+                let here = get_or-set_same ws place ((get_or ws place 0 + 1) % 2 ^ 64) 0 within in
+                let low = holds.low place in
+                rw same (omega arith)
+            go false t =
+                let other : b ≢ place = grind (arith, nat_tests) in
+                let there = get_or-set_other ws place b ((get_or ws place 0 + 1) % 2 ^ 64) 0 other in
+                let low = holds.low b in
+                omega arith

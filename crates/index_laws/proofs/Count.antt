@@ -1,0 +1,67 @@
+-- The number in the head of a unique index set, beside what it counts: the indices that are held, and the calls that take
+-- one or give one back. No event and no party is in it.
+use Rattle.std.proofs.Common.{◌≡◌, ◌≢◌, ℕ, ◌+◌, ◌-◌, ◌%◌, ◌^◌, ◌<◌, ◌≤◌, ◌⊎◌, ⊎_elim, inl, inr, arith}
+use Rattle.steps.specs.declared.indices.head.HeadDetails.{HeadDetails}
+use Rattle.steps.specs.Indices.Head.{aba, borrowed, locked, head_word}
+use Rattle.steps.specs.Indices.Unique.{head_taken, head_given_back, head_locked}
+
+-- ---- the heads that calls write
+
+-- the number of a head that says this
+number_of : (d : HeadDetails) → borrowed (head_word d) ≡ d.borrowed_indices % 2 ^ 24
+number_of d = omega arith
+
+pub taken_number : (head next : ℕ) → borrowed head < locked → borrowed (head_taken head next) ≡ borrowed head + 1
+taken_number head next less =
+    let is = number_of (record { head = next; aba = (aba head + 1) % 2 ^ 16; borrowed_indices = borrowed head + 1 }) in
+    omega arith
+
+pub given_number : (head index : ℕ) → 1 ≤ borrowed head → borrowed (head_given_back head index) + 1 ≡ borrowed head
+given_number head index some =
+    let is = number_of (record { head = index; aba = (aba head + 1) % 2 ^ 16; borrowed_indices = (borrowed head + (2 ^ 32 - 1)) % 2 ^ 32 }) in
+    omega arith
+
+pub locked_number : (head index : ℕ) → borrowed (head_locked head index) ≡ locked
+locked_number head index =
+    number_of (record { head = index; aba = (aba head + 1) % 2 ^ 16; borrowed_indices = locked })
+
+pub less_number : (head : ℕ) → 1 ≤ borrowed head → borrowed ((head + (2 ^ 64 - 1)) % 2 ^ 64) + 1 ≡ borrowed head
+less_number head some = omega arith
+
+-- ---- what it counts
+
+-- so many are counted, or the set is locked and there is none
+abbrev pub Tally : ℕ → ℕ → ℕ → Type 0
+Tally capacity counted total =
+    ((counted ≡ total) × (total ≤ capacity)) ⊎ ((counted ≡ locked) × (total ≡ 0))
+
+module _ (c counted total : ℕ) (few : c < locked) (h : Tally c counted total) where
+  pub counts_all : counted ≢ locked → (counted ≡ total) × (total ≤ c)
+  counts_all unlocked = ⊎_elim (λ x. x) (λ x. absurd (unlocked x.0)) h
+
+  pub counts_none : counted ≡ locked → total ≡ 0
+  counts_none shut = ⊎_elim (λ x. let same = x.0 in let most = x.1 in absurd (omega arith)) (λ x. x.1) h
+
+  -- while something is counted, the set is not locked
+  pub is_open : 1 ≤ total → counted ≢ locked
+  is_open some shut = let none = counts_none shut in absurd (omega arith)
+
+  pub tally_up : (counted' : ℕ) → counted ≢ locked → counted ≢ c → counted' ≡ counted + 1 → Tally c counted' (total + 1)
+  tally_up counted' unlocked less is =
+      let all = counts_all unlocked in
+      let same = all.0 in
+      let most = all.1 in
+      inl (omega arith, omega arith)
+
+  pub tally_down : (counted' total' : ℕ) → total ≡ total' + 1 → counted' + 1 ≡ counted → Tally c counted' total'
+  tally_down counted' total' less is =
+      let all = counts_all (is_open (omega arith)) in
+      let same = all.0 in
+      let most = all.1 in
+      inl (omega arith, omega arith)
+
+  pub tally_shut : (counted' total' : ℕ) → total ≡ total' + 1 → counted ≡ 1 → counted' ≡ locked → Tally c counted' total'
+  tally_shut counted' total' less one is =
+      let all = counts_all (is_open (omega arith)) in
+      let same = all.0 in
+      inr (is, omega arith)

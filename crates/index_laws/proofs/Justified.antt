@@ -1,0 +1,108 @@
+-- What a turn writes down: what the step did to the set, then the end. No call of the set acts.
+use Rattle.std.proofs.Common.{◌≡◌, ℕ, Option, Some, None, List, [], ◌++◌, refl, sym, ap, subst, append-nil}
+use Rattle.std.specs.List.{AllByRecursion}
+use Rattle.steps.specs.declared.indices.enums.ReleaseState.TheVariants.{Locked}
+use Rattle.model.specs.declared.event.Answer.{Answer}
+use Rattle.model.specs.declared.event.Answer.TheVariants.{Index, State}
+use Rattle.model.specs.declared.event.Start.{Start}
+use Rattle.model.specs.declared.event.Start.TheVariants.{Indices}
+use Rattle.model.specs.declared.families.Flight.{Flight}
+use Rattle.model.specs.declared.families.Flight as flights
+use Rattle.model.specs.declared.families.Kept.{Kept}
+use Rattle.model.specs.declared.families.Kept as kepts
+use Rattle.model.specs.declared.party.Doing.TheVariants.{Going}
+use Rattle.model.specs.declared.party.Party.{Party}
+use Rattle.model.specs.declared.turn.Kind as kinds
+use Rattle.model.specs.declared.turn.Turn.{Turn}
+use Rattle.model.specs.declared.turn.Turn.TheVariants.{Next}
+use Rattle.model.specs.Coding.{Coding}
+use Rattle.model.specs.Families.{want_of, after_of, ask_of, beside_of, step_of}
+use Rattle.model.specs.Families.Indices.Calls.{after}
+use Rattle.model.specs.Families.Indices.Promises.{promise}
+use Rattle.model.specs.Families.Indices.Steps.{effects, ended, wrote}
+use Rattle.model.specs.Parties.{party_of}
+use Rattle.model.specs.Promises.{IsTurnBy}
+use Rattle.model.specs.Promises.Families.{promise_of}
+use Rattle.model.specs.Promises.Turns.{IsParty, IsEffectOf, IsEndOf, WritesInOrder}
+use Rattle.model.specs.Step.{answer_in}
+use Rattle.model.specs.Turns.{old_of, ending_of, events_of_step, after_turn}
+use Rattle.model.specs.World.{Trace}
+use Rattle.model.proofs.Frame as frame
+use Rattle.model.proofs.Orders.{Orders, Keeps, turn_is}
+use Rattle.index_laws.proofs.Invariant.{IndexSet, Fit, family}
+use Rattle.index_laws.proofs.Kept.{kept}
+use Rattle.index_laws.proofs.Sound.{kept_is, stands_at, asks_nothing, reached_sound}
+
+module _ {T : Type 0} (turn : Turn T) (p : ℕ) (mine : IsParty turn p) where
+  ends_end : (start : Start T) (outcome : Option (Answer T)) → AllByRecursion (IsEndOf turn) (ending_of p start outcome)
+  ends_end start None = tt
+  ends_end start (Some answer) = (mine, tt)
+
+  all_ended : (outcome : Option (Answer T)) → AllByRecursion (IsEffectOf turn) (ended p outcome)
+  all_ended None = tt
+  all_ended (Some (Index index)) = (mine, tt)
+  all_ended (Some (State Locked)) = (mine, tt)
+  all_ended (Some answer) = tt
+
+  all_effects : (freed : Option ℕ) (outcome : Option (Answer T)) → AllByRecursion (IsEffectOf turn) (effects p freed outcome)
+  all_effects (Some index) outcome = (mine, tt)
+  all_effects None outcome = all_ended outcome
+
+-- ---- every turn
+
+module _ {T : Type 0} (code : Coding T) (c : ℕ) (t : Trace T) (p : ℕ) (s : frame.Sound (family code c) t) (x : Party T) (since : ℕ) where
+  -- the events of its step where the words, what is kept, and the call's name are these
+  abbrev InOrder : List ℕ → Kept → Start T → Flight T → Type 0
+  InOrder words kept start flight =
+      WritesInOrder promise t (Next p) (t.events ++ events_of_step p start (step_of t.world.coding words (beside_of words kept t.world.latest p) p start flight (old_of words (ask_of (want_of t.world.coding flight))) kept))
+
+  in_order : (words : List ℕ) (start : Start T) (flight : Flight T) → (family code c).At s.state p start flight → InOrder words (kepts.TheVariants.Indices s.state.holders) start flight
+  in_order words (Indices start) (flights.TheVariants.Indices flight) at =
+      let old = old_of words (ask_of (want_of t.world.coding (flights.TheVariants.Indices flight))) in
+      let outcome : Option (Answer T) = answer_in (after_of t.world.coding (flights.TheVariants.Indices flight) old) in
+      let done = wrote {T = T} p flight old in
+      let ends = ending_of p (Indices start) outcome in
+      record {
+        effects = done;
+        acts = [];
+        ends = ends;
+        is = ap (λ es. t.events ++ (es ++ ends)) (sym (append-nil done));
+        are_effects = all_effects (Next p) p refl _ (answer_in (after {T = T} flight old));
+        are_acts = tt;
+        are_ends = ends_end (Next p) p refl (Indices start) outcome;
+        right = tt;
+      }
+  in_order words start flight at = absurd at
+
+  step_in_order : (flight : Flight T) → party_of p t.world.latest ≡ Some x → x.doing ≡ Going flight since → InOrder t.world.words t.world.kept x.start flight
+  step_in_order flight found doing =
+      let is = kept_is t.world.kept t.world.words s.state s.fit in
+      subst (λ kept. InOrder t.world.words kept x.start flight) (sym is.0)
+      (in_order t.world.words x.start flight (stands_at code c t s p x flight since found doing))
+
+-- a call of the set goes on as its table says
+told : {T : Type 0} (code z : Coding T) (c : ℕ) (words : List ℕ) (beside : Option (ℕ × ℕ)) (s : IndexSet) (p : ℕ) (start : Start T) (flight : Flight T) (answer : ℕ) (kept : Kept) → Fit kept words s → (family code c).At s p start flight
+    → (step_of z words beside p start flight answer kept).after ≡ after_of z flight answer
+told y z c words beside s p (Indices start) (flights.TheVariants.Indices flight) answer (kepts.TheVariants.Indices holders) fit at = refl
+told y z c words beside s p (Indices start) (flights.TheVariants.Indices flight) answer held fit at = absurd fit
+told y z c words beside s p start flight answer held fit at = absurd at
+
+module _ {T : Type 0} where
+  orders : (code : Coding T) (c : ℕ) → Orders (family code c)
+  orders code c =
+      record {
+        step = λ t p x flight since s small found doing. step_in_order code c t p s x since flight found doing;
+        decision = λ t p x flight since said s small found doing asks. asks_nothing code c t s p x flight since found doing asks;
+        after = λ t p x flight since answer s found doing.
+            told code t.world.coding c t.world.words (beside_of t.world.words t.world.kept t.world.latest p) s.state p x.start flight answer t.world.kept s.fit (stands_at code c t s p x flight since found doing);
+      }
+
+  -- what is proved of every run of the unique index set
+  pub index_keeps : Keeps T kinds.TheVariants.Indices
+  index_keeps =
+      record {
+        kept = λ t is r. kept t is r;
+        turn = λ t turn is e r.
+            subst (λ P. IsTurnBy P t turn (after_turn t turn)) (sym (ap (promise_of {T = T}) is))
+            (turn_is (family t.world.coding t.world.capacity) (orders t.world.coding t.world.capacity) t turn e r (reached_sound t is r));
+      }

@@ -1,0 +1,342 @@
+-- Every turn keeps what holds of the machine of a unique index set: the laws of the family.
+use Rattle.std.proofs.Common.{◌≡◌, ℕ, ◌+◌, ◌<◌, ◌≤◌, ◌==◌, inl, nat_le, Bool, true, false, not, Option, Some, None, List, [], ◌∷◌, replicate, refl, sym, ap, subst, ◌∙◌, arith}
+use Rattle.std.proofs.lemmas.Bool.Decides.{nat_tests}
+use Rattle.steps.specs.declared.ask.Ask.{Ask}
+use Rattle.steps.specs.declared.indices.enums.ReleaseMode.TheVariants.{LockIfLastIndex, Default}
+use Rattle.steps.specs.declared.indices.unique.AcquireStage.{AcquireStage}
+use Rattle.steps.specs.declared.indices.unique.AcquireStage as acquires
+use Rattle.steps.specs.declared.indices.unique.ReleaseStage.{ReleaseStage}
+use Rattle.steps.specs.declared.indices.unique.ReleaseStage as releases
+use Rattle.steps.specs.Indices.Head.{locked}
+use Rattle.model.specs.declared.event.Event.TheVariants.{Begun}
+use Rattle.model.specs.declared.event.Start.{Start}
+use Rattle.model.specs.declared.event.Start.TheVariants.{Indices}
+use Rattle.model.specs.declared.families.Flight.{Flight}
+use Rattle.model.specs.declared.families.Flight as flights
+use Rattle.model.specs.declared.families.Kept.{Kept}
+use Rattle.model.specs.declared.families.Kept as kepts
+use Rattle.model.specs.declared.families.indices.IndexStart.{IndexStart}
+use Rattle.model.specs.declared.families.indices.IndexStart as starts
+use Rattle.model.specs.declared.families.indices.calls.IndexFlight.{IndexFlight}
+use Rattle.model.specs.declared.families.indices.calls.IndexFlight as calls
+use Rattle.model.specs.declared.party.Doing.TheVariants.{Going}
+use Rattle.model.specs.declared.party.Party.{Party}
+use Rattle.model.specs.declared.turn.Kind as kinds
+use Rattle.model.specs.declared.turn.Refusal.TheVariants.{BadIndex, NotHeld}
+use Rattle.model.specs.Coding.{Coding}
+use Rattle.model.specs.Families.{first_of, want_of, ask_of, is_question, beside_of, step_of}
+use Rattle.model.specs.Families.Indices.Calls.{first, want}
+use Rattle.model.specs.Families.Indices.Opening.{opening_words, call_rows, kept_rows}
+use Rattle.model.specs.Families.Indices.Promises.{GoesStraight}
+use Rattle.model.specs.Families.Indices.Reading.{tally_after}
+use Rattle.model.specs.Families.Queues.Opening.{holds}
+use Rattle.model.specs.Parties.{party_of, doing_of, flight_of}
+use Rattle.model.specs.Reading.{Open, span_of}
+use Rattle.model.specs.Rows.{first_row}
+use Rattle.model.specs.Turns.{one_if, old_of, words_after, change_of, step_count, doing_after, party_at_begin, events_of_step, IsReached}
+use Rattle.model.specs.World.{Trace, opening, capacity_error}
+use Rattle.model.proofs.Frame as frame
+use Rattle.model.proofs.Readings.{Each-nil}
+use Rattle.model.proofs.Rows.{row_passed, MayBegin}
+use Rattle.index_laws.proofs.Acquires.{acquire_step}
+use Rattle.index_laws.proofs.Core.{holder, held_below, Good}
+use Rattle.index_laws.proofs.Invariant.{IndexSet, Fit, Scene, Inv, Shows, family, seats_with, owes, holds_more}
+use Rattle.index_laws.proofs.Knows.{acquire_at, default_at, lock_at, counts, takes, gives, flight_wrote, number_of, At, FlightKnows}
+use Rattle.index_laws.proofs.Looks.{counts_step, looks_step}
+use Rattle.index_laws.proofs.Opening.{nobody_holds, none_held, opening_good, admitted_is}
+use Rattle.index_laws.proofs.Releases.{default_step, lock_step}
+use Rattle.index_laws.proofs.Stages.{IsHere, StepOf, same_tally}
+
+holds_is : (o : Option ℕ) (p : ℕ) → not (holds o p) ≡ false → o ≡ Some p
+holds_is None p e = absurd (cc)
+holds_is (Some q) p e = go (q == p) refl e
+  where
+    go : (b : Bool) → (q == p) ≡ b → not b ≡ false → Some q ≡ Some p
+    go true t e = let same : q ≡ p = grind (arith, nat_tests) in ap Some same
+    go false t e = absurd (cc)
+
+pub kept_is : (kept : Kept) (words : List ℕ) (s : IndexSet) → Fit kept words s → (kept ≡ kepts.TheVariants.Indices s.holders) × (words ≡ s.words)
+kept_is (kepts.TheVariants.Indices holders) words s fit = (ap (λ o. kepts.TheVariants.Indices o) fit.1, fit.0)
+kept_is kept words s fit = absurd fit
+
+-- a seat more
+fit_seats : (kept : Kept) (words : List ℕ) (s : IndexSet) (seats : ℕ) → Fit kept words s → Fit kept words (record { words = s.words; holders = s.holders; seats = seats })
+fit_seats (kepts.TheVariants.Indices holders) words s seats fit = fit
+fit_seats kept words s seats fit = absurd fit
+
+-- ---- one step of a call
+
+module _ {T : Type 0} (scene : Scene T) (inv : Inv scene) where
+  open scene use {capacity as c, party as p}
+
+  abbrev hs : List (Option ℕ)
+  hs = scene.set.holders
+
+  -- the call has this capacity and this index
+  acquire_moves : (n : ℕ) (stage : AcquireStage) → n ≡ c → (IsHere scene (acquire_at c stage) → StepOf scene starts.TheVariants.Acquire (acquire_at c stage)) → IsHere scene (acquire_at n stage) → StepOf scene starts.TheVariants.Acquire (acquire_at n stage)
+  acquire_moves n stage e moves =
+      subst (λ m. IsHere scene (acquire_at m stage) → StepOf scene starts.TheVariants.Acquire (acquire_at m stage)) (sym e) moves
+
+  default_moves : (n i index : ℕ) (stage : ReleaseStage) → n ≡ c → i ≡ index → (IsHere scene (default_at c index stage) → StepOf scene (starts.TheVariants.Release index Default) (default_at c index stage)) → IsHere scene (default_at n i stage) → StepOf scene (starts.TheVariants.Release index Default) (default_at n i stage)
+  default_moves n i index stage e f moves =
+      subst (λ m. IsHere scene (default_at m i stage) → StepOf scene (starts.TheVariants.Release index Default) (default_at m i stage)) (sym e)
+      (subst (λ j. IsHere scene (default_at c j stage) → StepOf scene (starts.TheVariants.Release index Default) (default_at c j stage)) (sym f) moves)
+
+  lock_moves : (n i index : ℕ) (stage : ReleaseStage) → n ≡ c → i ≡ index → (IsHere scene (lock_at c index stage) → StepOf scene (starts.TheVariants.Release index LockIfLastIndex) (lock_at c index stage)) → IsHere scene (lock_at n i stage) → StepOf scene (starts.TheVariants.Release index LockIfLastIndex) (lock_at n i stage)
+  lock_moves n i index stage e f moves =
+      subst (λ m. IsHere scene (lock_at m i stage) → StepOf scene (starts.TheVariants.Release index LockIfLastIndex) (lock_at m i stage)) (sym e)
+      (subst (λ j. IsHere scene (lock_at c j stage) → StepOf scene (starts.TheVariants.Release index LockIfLastIndex) (lock_at c j stage)) (sym f) moves)
+
+  pub step_moves : (start : IndexStart) (flight : IndexFlight) → IsHere scene flight → At c hs p start flight → scene.steps ≤ number_of c flight scene.backs → FlightKnows c scene.set.words scene.since scene.changes scene.backs flight → StepOf scene start flight
+  step_moves starts.TheVariants.Acquire (calls.TheVariants.Acquire run) here at s k =
+      acquire_moves run.call.capacity run.call.stage at.0 (λ h. acquire_step scene inv run.call.stage h at.1 k s) here
+  step_moves (starts.TheVariants.Release index Default) (calls.TheVariants.ReleaseDefault run) here at s k =
+      default_moves run.call.capacity run.given index run.call.stage at.0 at.1 (λ h. default_step scene inv index at.2 k run.call.stage h at.3 s) here
+  step_moves (starts.TheVariants.Release index LockIfLastIndex) (calls.TheVariants.ReleaseLock run) here at s k =
+      lock_moves run.call.capacity run.given index run.call.stage at.0 at.1 (λ h. lock_step scene inv index at.2 run.call.stage h at.3 k s) here
+  step_moves starts.TheVariants.BorrowedIndices (calls.TheVariants.BorrowedIndices run) here at s k = counts_step scene inv k s here
+  step_moves starts.TheVariants.IsLocked (calls.TheVariants.IsLocked run) here at s k = looks_step scene inv k s
+  step_moves start flight here at s k = absurd at
+
+-- ---- what the first stage of a call knows
+
+record IsFirst (T : Type 0) (c : ℕ) (words : List ℕ) (holders : List (Option ℕ)) (p changes : ℕ) (start : IndexStart) (flight : IndexFlight) : Type 0 where
+  pub at : At c holders p start flight
+  pub knows : FlightKnows c words changes changes 0 flight
+  pub light : counts flight ≡ 0
+  pub wrote : flight_wrote {T = T} p flight ≡ []
+  pub straight : GoesStraight {T = T} (Indices start) 0
+  pub told : (h t g t' g' : ℕ) → t' + 0 ≡ t + takes flight → g' + 0 ≡ g + gives flight → tally_after {T = T} (record { held = h; taking = t; giving = g }) (Begun p (Indices start)) ≡ record { held = h; taking = t'; giving = g' }
+
+-- a release that is not refused is of an index that the party holds
+release_passed : (c : ℕ) (holders : List (Option ℕ)) (p index : ℕ) → first_row ((nat_le c index, BadIndex) ∷ (not (holds (holder holders index) p), NotHeld) ∷ []) ≡ None → (index < c) × (holder holders index ≡ Some p)
+release_passed c holders p index r =
+    let low = row_passed (nat_le c index) BadIndex (first_row ((not (holds (holder holders index) p), NotHeld) ∷ [])) r in
+    let mine = row_passed (not (holds (holder holders index) p)) NotHeld None low.1 in
+    let t : nat_le c index ≡ false = low.0 in
+    (grind (arith, nat_tests), holds_is (holder holders index) p mine.0)
+
+first_is : {T : Type 0} (c : ℕ) (words : List ℕ) (holders : List (Option ℕ)) (p changes : ℕ) (start : IndexStart) → first_row (call_rows c holders p start) ≡ None → IsFirst T c words holders p changes start (first c start)
+first_is c words holders p changes starts.TheVariants.Acquire r =
+    record { at = (refl, tt); knows = omega arith; light = refl; wrote = refl; straight = tt; told = λ h t g t' g' a b. same_tally h h (t + 1) t' g g' refl (omega arith) (omega arith) }
+first_is c words holders p changes (starts.TheVariants.Release index Default) r =
+    let passed = release_passed c holders p index r in
+    record { at = (refl, refl, passed.0, passed.1); knows = refl; light = refl; wrote = refl; straight = refl; told = λ h t g t' g' a b. same_tally h h t t' g g' refl (omega arith) (omega arith) }
+first_is c words holders p changes (starts.TheVariants.Release index LockIfLastIndex) r =
+    let passed = release_passed c holders p index r in
+    record { at = (refl, refl, passed.0, passed.1); knows = omega arith; light = refl; wrote = refl; straight = tt; told = λ h t g t' g' a b. same_tally h h t t' g g' refl (omega arith) (omega arith) }
+first_is c words holders p changes starts.TheVariants.BorrowedIndices r =
+    record { at = tt; knows = refl; light = refl; wrote = refl; straight = tt; told = λ h t g t' g' a b. same_tally h h t t' g g' refl (omega arith) (omega arith) }
+first_is c words holders p changes starts.TheVariants.IsLocked r =
+    record { at = tt; knows = refl; light = refl; wrote = refl; straight = tt; told = λ h t g t' g' a b. same_tally h h t t' g g' refl (omega arith) (omega arith) }
+
+-- a call that begins on the set is one of its own
+abbrev IsOwn : {T : Type 0} → ℕ → Start T → Flight T → Type 0
+IsOwn c (Indices start) (flights.TheVariants.Indices flight) = first c start ≡ flight
+IsOwn c start flight = ⊥
+
+begins_own : {T : Type 0} (c : ℕ) (start : Start T) (flight : Flight T) → first_of kinds.TheVariants.Indices c start ≡ Some flight → IsOwn c start flight
+begins_own c (Indices start) (flights.TheVariants.Indices flight) e = cc
+begins_own c (Indices start) flight e = absurd (cc)
+begins_own c start flight e = absurd (cc)
+
+-- no call of the set asks a question
+acquire_asks_none : (c : ℕ) (stage : AcquireStage) → is_question (want (acquire_at c stage)) ≡ false
+acquire_asks_none c acquires.TheVariants.LoadsHead = refl
+acquire_asks_none c (acquires.TheVariants.LoadsNext head) = refl
+acquire_asks_none c (acquires.TheVariants.ExchangesHead head next) = refl
+acquire_asks_none c (acquires.TheVariants.Claims index) = refl
+acquire_asks_none c (acquires.TheVariants.Scans index) = refl
+
+default_asks_none : (c index : ℕ) (stage : ReleaseStage) → is_question (want (default_at c index stage)) ≡ false
+default_asks_none c index releases.TheVariants.ClearsFlag = refl
+default_asks_none c index releases.TheVariants.LoadsHead = refl
+default_asks_none c index (releases.TheVariants.StoresNext head) = refl
+default_asks_none c index (releases.TheVariants.ExchangesHead head) = refl
+default_asks_none c index releases.TheVariants.Subtracts = refl
+
+lock_asks_none : (c index : ℕ) (stage : ReleaseStage) → is_question (want (lock_at c index stage)) ≡ false
+lock_asks_none c index releases.TheVariants.ClearsFlag = refl
+lock_asks_none c index releases.TheVariants.LoadsHead = refl
+lock_asks_none c index (releases.TheVariants.StoresNext head) = refl
+lock_asks_none c index (releases.TheVariants.ExchangesHead head) = refl
+lock_asks_none c index releases.TheVariants.Subtracts = refl
+
+never_asks : (flight : IndexFlight) → is_question (want flight) ≡ false
+never_asks (calls.TheVariants.Acquire run) = acquire_asks_none run.call.capacity run.call.stage
+never_asks (calls.TheVariants.ReleaseDefault run) = default_asks_none run.call.capacity run.given run.call.stage
+never_asks (calls.TheVariants.ReleaseLock run) = lock_asks_none run.call.capacity run.given run.call.stage
+never_asks (calls.TheVariants.BorrowedIndices run) = refl
+never_asks (calls.TheVariants.IsLocked run) = refl
+
+never_due : {A T : Type 0} → (code z : Coding T) (c : ℕ) (s : IndexSet) (p : ℕ) (start : Start T) (flight : Flight T) → (family code c).At s p start flight → is_question (want_of z flight) ≡ true → A
+never_due code z c s p (Indices start) (flights.TheVariants.Indices flight) at e = let none = never_asks flight in absurd (cc)
+never_due code z c s p start flight at e = absurd at
+
+-- ---- the laws of the family
+
+module _ {T : Type 0} (code : Coding T) (c : ℕ) (t : Trace T) (s : frame.Sound (family code c) t) (p : ℕ) where
+  -- a party's call under way stands where the set has such a call
+  pub stands_at : (x : Party T) (flight : Flight T) (since : ℕ) → party_of p t.world.latest ≡ Some x → x.doing ≡ Going flight since → (family code c).At s.state p x.start flight
+  stands_at x flight since found doing =
+      let fits = subst (λ o. frame.Fits (family code c) s.state p o (span_of p t.events)) found (s.inv.calls p) in
+      (frame.under_way (family code c) s.state p x x.doing flight since (span_of p t.events) doing fits).at
+
+  pub asks_nothing : {A : Type 0} → (x : Party T) (flight : Flight T) (since : ℕ) → party_of p t.world.latest ≡ Some x → x.doing ≡ Going flight since → is_question (want_of t.world.coding flight) ≡ true → A
+  asks_nothing x flight since found doing asks =
+      never_due code t.world.coding c s.state p x.start flight (stands_at x flight since found doing) asks
+
+  abbrev pub scene_of : Party T → ℕ → Scene T
+  scene_of x since =
+      record {
+        coding = code;
+        capacity = c;
+        set = s.state;
+        party = p;
+        steps = x.steps;
+        backs = x.backs;
+        since = since;
+        changes = t.world.changes;
+        latest = t.world.latest;
+        events = t.events;
+      }
+
+  pub inv_of : (x : Party T) (since : ℕ) → Inv (scene_of x since)
+  inv_of x since = record { holds = s.holds; frame = s.inv }
+
+  -- the party has this call under way
+  abbrev IsUnder : Flight T → Type 0
+  IsUnder flight = flight_of (doing_of (party_of p t.world.latest)) ≡ Some flight
+
+  pub is_under : (x : Party T) (flight : Flight T) (since : ℕ) → party_of p t.world.latest ≡ Some x → x.doing ≡ Going flight since → IsUnder flight
+  is_under x flight since found doing =
+      ap (λ o. flight_of (doing_of o)) found ∙ ap (λ d. flight_of (Some d)) doing
+
+  pub is_here : (x : Party T) (flight : IndexFlight) (since : ℕ) → party_of p t.world.latest ≡ Some x → IsUnder (flights.TheVariants.Indices flight) → IsHere (scene_of x since) flight
+  is_here x flight since found under = record { seat = s.holds.bounded p x found; under = under }
+
+  module _ (x : Party T) (since : ℕ) (found : party_of p t.world.latest ≡ Some x) where
+    abbrev asks : Coding T → Flight T → Option Ask
+    asks z flight = ask_of (want_of z flight)
+
+    -- what its step comes to where the words, what is kept, and the call's name are these
+    abbrev ComesTo : Coding T → List ℕ → Kept → Start T → Flight T → Type 0
+    ComesTo z words kept start flight =
+        frame.Comes (family code c) t p (step_of z words (beside_of words kept t.world.latest p) p start flight (old_of words (asks z flight)) kept).kept (words_after words (asks z flight))
+        (record {
+          start = start;
+          steps = x.steps + step_count (asks z flight);
+          backs = x.backs + one_if (step_of z words (beside_of words kept t.world.latest p) p start flight (old_of words (asks z flight)) kept).back;
+          doing = doing_after (t.world.changes + change_of words (asks z flight)) (since + change_of words (asks z flight)) (step_of z words (beside_of words kept t.world.latest p) p start flight (old_of words (asks z flight)) kept).after;
+        })
+        (events_of_step p start (step_of z words (beside_of words kept t.world.latest p) p start flight (old_of words (asks z flight)) kept))
+        (t.world.changes + change_of words (asks z flight))
+
+    comes : (start : Start T) (flight : Flight T) → (family code c).At s.state p start flight → x.steps ≤ (family code c).number flight x.backs → (family code c).Knows s.state p t.events since t.world.changes x.backs flight → span_of p t.events ≡ Open start ((family code c).written s.state p flight) → IsUnder flight
+        → ComesTo code s.state.words (kepts.TheVariants.Indices s.state.holders) start flight
+    comes (Indices start) (flights.TheVariants.Indices flight) at steps knows seen under =
+        let moves = step_moves (scene_of x since) (inv_of x since) start flight (is_here x flight since found under) at steps knows in
+        let from = Open (Indices start) (flight_wrote {T = T} p flight) in
+        record {
+          state = _;
+          fit = (refl, refl);
+          holds = holds_more (scene_of x since) _ _ (Some (flights.TheVariants.Indices flight)) from _ _ _ moves under s.holds;
+          owes = owes (scene_of x since) _ _ (Some (flights.TheVariants.Indices flight)) from _ _ _ moves seen (inv_of x since);
+        }
+    comes start flight at steps knows seen under = absurd at
+
+    pub step_comes : (flight : Flight T) → x.doing ≡ Going flight since → frame.ComesByStep (family code c) t p x flight since (asks t.world.coding flight) (old_of t.world.words (asks t.world.coding flight))
+    step_comes flight doing =
+        let fits = subst (λ o. frame.Fits (family code c) s.state p o (span_of p t.events)) found (s.inv.calls p) in
+        let here = frame.under_way (family code c) s.state p x x.doing flight since (span_of p t.events) doing fits in
+        let knows = frame.knows_now (family code c) s.state p t.events t.world.changes (party_of p t.world.latest) x flight since found doing (s.inv.knows p) in
+        let is = kept_is t.world.kept t.world.words s.state s.fit in
+        subst (λ z. ComesTo z t.world.words t.world.kept x.start flight) (sym s.coding)
+        (subst (λ ws. ComesTo code ws t.world.kept x.start flight) (sym is.1)
+        (subst (λ kept. ComesTo code s.state.words kept x.start flight) (sym is.0) (comes x.start flight here.at here.steps knows here.span (is_under x flight since found doing))))
+
+  -- ---- a call begins
+
+  begins : (start : IndexStart) (flight : IndexFlight) → IsFirst T c s.state.words s.state.holders p t.world.changes start flight → MayBegin t.world p (Indices start)
+      → frame.Comes (family code c) t p t.world.kept t.world.words (party_at_begin (Indices start) (flights.TheVariants.Indices flight) t.world.changes) (Begun p (Indices start) ∷ []) t.world.changes
+  begins start flight known may =
+      let y : Party T = party_at_begin (Indices start) (flights.TheVariants.Indices flight) t.world.changes in
+      let scene = scene_of y t.world.changes in
+      let light = known.light in
+      let shows : Shows scene s.state.words s.state.holders None (span_of p t.events) y (Begun p (Indices start) ∷ []) t.world.changes =
+      record {
+        right = (tt, tt);
+        answers = (tt, tt);
+        good = λ busy' e. subst (λ n. Good c s.state.words s.state.holders n) (omega arith) s.holds.good;
+        tally = λ taking' giving' a b. known.told _ _ _ taking' giving' a b;
+        holders = λ i. refl;
+        lock = refl;
+        straight = known.straight;
+        own = (refl, tt);
+        stands = (frame.shut (family code c) s.state p (party_of p t.world.latest) (span_of p t.events) may.free (s.inv.calls p), tt);
+        here = record { span = ap (λ es. Open (Indices start) es) (sym known.wrote); steps = omega arith; at = known.at };
+        knows = known.knows;
+        seen = inl (refl, refl);
+        keeps = λ q ne index h. h;
+      }
+      in
+      record {
+        state = record { words = s.state.words; holders = s.state.holders; seats = seats_with s.state.seats p };
+        fit = fit_seats t.world.kept t.world.words s.state (seats_with s.state.seats p) s.fit;
+        holds = holds_more scene s.state.words s.state.holders None (span_of p t.events) y (Begun p (Indices start) ∷ []) t.world.changes shows may.free s.holds;
+        owes = owes scene s.state.words s.state.holders None (span_of p t.events) y (Begun p (Indices start) ∷ []) t.world.changes shows refl (inv_of y t.world.changes);
+      }
+
+  pub begin_comes : (start : Start T) (flight : Flight T) → MayBegin t.world p start → first_of t.world.kind t.world.capacity start ≡ Some flight
+      → frame.Comes (family code c) t p t.world.kept t.world.words (party_at_begin start flight t.world.changes) (Begun p start ∷ []) t.world.changes
+  begin_comes (Indices start) (flights.TheVariants.Indices flight) may e =
+      let is = kept_is t.world.kept t.world.words s.state s.fit in
+      let rows : first_row (kept_rows t.world.capacity start (kepts.TheVariants.Indices s.state.holders) p) ≡ None = subst (λ kept. first_row (kept_rows t.world.capacity start kept p) ≡ None) is.0 may.rows in
+      let passed : first_row (call_rows c s.state.holders p start) ≡ None = subst (λ n. first_row (call_rows n s.state.holders p start) ≡ None) s.capacity rows in
+      let named : first_of {T = T} kinds.TheVariants.Indices t.world.capacity (Indices start) ≡ Some (flights.TheVariants.Indices flight) = subst (λ kind. first_of {T = T} kind t.world.capacity (Indices start) ≡ Some (flights.TheVariants.Indices flight)) s.kind e in
+      let own : first c start ≡ flight = subst (λ n. first n start ≡ flight) s.capacity (begins_own t.world.capacity (Indices start) (flights.TheVariants.Indices flight) named) in
+      begins start flight (subst (λ f. IsFirst T c s.state.words s.state.holders p t.world.changes start f) own (first_is c s.state.words s.state.holders p t.world.changes start passed)) may
+  begin_comes start flight may e =
+      let named : first_of kinds.TheVariants.Indices t.world.capacity start ≡ Some flight = subst (λ kind. first_of kind t.world.capacity start ≡ Some flight) s.kind e in
+      absurd (begins_own t.world.capacity start flight named)
+
+module _ {T : Type 0} where
+  laws : (code : Coding T) (c : ℕ) → frame.Laws (family code c)
+  laws code c =
+      record {
+        step = λ t p x flight since s small found doing. step_comes code c t s p x since found flight doing;
+        decision = λ t p x flight since said s small found doing asks. asks_nothing code c t s p x flight since found doing asks;
+        begin = λ t p start flight s may e. begin_comes code c t s p start flight may e;
+      }
+
+  opening_sound : (code : Coding T) (c parties : ℕ) → 1 ≤ c → c < locked → frame.Sound (family code c) (opening code kinds.TheVariants.Indices c parties)
+  opening_sound code c parties some few =
+      let good = opening_good c some few in
+      record {
+        coding = refl;
+        kind = refl;
+        capacity = refl;
+        state = record { words = opening_words c; holders = replicate c None; seats = 0 };
+        fit = (refl, refl);
+        holds =
+            record {
+              bounded = λ p x found. absurd (cc);
+              good = good;
+              tally = same_tally 0 (held_below (replicate c None) c) 0 0 0 0 (sym (none_held c)) refl refl;
+              holders = λ i. sym (nobody_holds c i);
+              lock = refl;
+              straight = λ p x found. absurd (cc);
+              holds = Each-nil _;
+              answers = Each-nil _;
+            };
+        inv = record { spans = Each-nil _; calls = λ p. refl; knows = λ p. tt };
+      }
+
+  pub reached_sound : (t : Trace T) → t.world.kind ≡ kinds.TheVariants.Indices → IsReached t → frame.Sound (family t.world.coding t.world.capacity) t
+  reached_sound t is r =
+      let w = t.world in
+      let may = admitted_is w.capacity (subst (λ kind. capacity_error kind w.capacity ≡ None) is r.admitted) in
+      let first = opening_sound w.coding w.capacity w.parties may.0 may.1 in
+      frame.reached_sound (family w.coding w.capacity) (laws w.coding w.capacity) t
+      (subst (λ kind. frame.Sound (family w.coding w.capacity) (opening w.coding kind w.capacity w.parties)) (sym is) first)
+      r

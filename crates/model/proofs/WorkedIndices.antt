@@ -1,0 +1,195 @@
+-- The definitions of the unique index set at worked runs, and at histories that they refuse.
+use Rattle.std.proofs.Common.{◌≡◌, ℕ, ◌+◌, ◌*◌, ◌^◌, true, false, Option, Some, None, List, [], ◌∷◌, length, get_or, refl, ap, arith}
+use Rattle.steps.specs.declared.indices.enums.ReleaseMode.TheVariants.{LockIfLastIndex, Default}
+use Rattle.steps.specs.declared.indices.enums.ReleaseState as states
+use Rattle.steps.specs.declared.indices.enums.UniqueIndexSetAcquireFailure as failures
+use Rattle.model.specs.declared.event.Answer.{Answer}
+use Rattle.model.specs.declared.event.Answer.TheVariants.{Index, NoIndex, State, Number, Truth}
+use Rattle.model.specs.declared.event.Event.{Event}
+use Rattle.model.specs.declared.event.Event.TheVariants.{Begun, Claimed, Freed, Locked, Finished}
+use Rattle.model.specs.declared.event.Start.{Start}
+use Rattle.model.specs.declared.event.Start.TheVariants.{Indices}
+use Rattle.model.specs.declared.families.Kept.TheVariants as kepts
+use Rattle.model.specs.declared.families.indices.IndexStart.TheVariants.{Acquire, Release, BorrowedIndices, IsLocked}
+use Rattle.model.specs.declared.turn.Kind as kinds
+use Rattle.model.specs.declared.turn.Refusal.TheVariants.{BadIndex, NotHeld, WrongCall}
+use Rattle.model.specs.declared.turn.Turn.{Turn}
+use Rattle.model.specs.declared.turn.Turn.TheVariants.{Begin, Next}
+use Rattle.model.specs.Coding.{one_word}
+use Rattle.model.specs.Families.Indices.Promises.{HoldsRight, AnswersRight}
+use Rattle.model.specs.Families.Indices.Reading.{holder_of, tally_of, in_use}
+use Rattle.model.specs.Families.Indices.Spans.{Deeds}
+use Rattle.model.specs.Promises.Families.{promise_of}
+use Rattle.model.specs.Promises.Spans.{Stands}
+use Rattle.model.specs.Reading.{Open}
+use Rattle.model.specs.Refusals.{refusal_of}
+use Rattle.model.specs.Turns.{run}
+use Rattle.model.specs.World.{Trace, opening, progress_in}
+
+abbrev acquire : Start ℕ
+acquire = Indices Acquire
+
+abbrev release : ℕ → Start ℕ
+release index = Indices (Release index Default)
+
+abbrev release_or_lock : ℕ → Start ℕ
+release_or_lock index = Indices (Release index LockIfLastIndex)
+
+abbrev opened : ℕ → Trace ℕ
+opened capacity = opening one_word kinds.TheVariants.Indices capacity 2
+
+-- ---- a release that falls back: another party has exchanged the head, so it subtracts
+
+abbrev falls_back : List (Turn ℕ)
+falls_back =
+    Begin 0 acquire
+    ∷ Next 0
+    ∷ Next 0
+    ∷ Next 0
+    ∷ Next 0
+    ∷ Begin 0 (release 0)
+    ∷ Next 0
+    ∷ Next 0
+    ∷ Next 0
+    ∷ Begin 1 acquire
+    ∷ Next 1
+    ∷ Next 1
+    ∷ Next 1
+    ∷ Next 1
+    ∷ Next 0
+    ∷ Next 0
+    ∷ Begin 1 acquire
+    ∷ Next 1
+    ∷ Next 1
+    ∷ Next 1
+    ∷ []
+
+abbrev told : List (Event ℕ)
+told =
+    Begun 0 acquire
+    ∷ Claimed 0 0
+    ∷ Finished 0 acquire (Index 0)
+    ∷ Begun 0 (release 0)
+    ∷ Freed 0 0
+    ∷ Begun 1 acquire
+    ∷ Claimed 1 1
+    ∷ Finished 1 acquire (Index 1)
+    ∷ Finished 0 (release 0) (State states.TheVariants.Unlocked)
+    ∷ Begun 1 acquire
+    ∷ Claimed 1 0
+    ∷ Finished 1 acquire (Index 0)
+    ∷ []
+
+pub falls_back_events : (run falls_back (opened 2)).events ≡ told
+falls_back_events = refl
+
+-- the head, with two exchanges more and two borrowed; the next indices, of which that of 0 was
+-- written by the release; both flags
+pub falls_back_words : (run falls_back (opened 2)).world.words ≡ (2 * 2 ^ 40 + 3 * 2 ^ 24 + 2) ∷ 1 ∷ 2 ∷ 3 ∷ []
+falls_back_words = refl
+
+pub falls_back_counts : progress_in (run falls_back (opened 2)).world 0
+    ≡ Some (record { steps = 5; backs = 0; others = 2; finished = true })
+falls_back_counts = refl
+
+pub falls_back_kept : (run falls_back (opened 2)).world.kept ≡ kepts.Indices (Some 1 ∷ Some 1 ∷ [])
+falls_back_kept = refl
+
+pub falls_back_holders : (holder_of 0 told ≡ Some 1) × (holder_of 1 told ≡ Some 1) × (holder_of 2 told ≡ None)
+falls_back_holders = (refl, refl, refl)
+
+pub falls_back_tally : tally_of told ≡ record { held = 2; taking = 0; giving = 0 }
+falls_back_tally = refl
+
+-- ---- a lock
+
+abbrev locks : List (Turn ℕ)
+locks =
+    Begin 0 acquire
+    ∷ Next 0
+    ∷ Next 0
+    ∷ Next 0
+    ∷ Next 0
+    ∷ Begin 0 (release_or_lock 0)
+    ∷ Next 0
+    ∷ Next 0
+    ∷ Next 0
+    ∷ Next 0
+    ∷ Begin 0 acquire
+    ∷ Next 0
+    ∷ Begin 1 (Indices BorrowedIndices)
+    ∷ Next 1
+    ∷ Begin 0 (Indices IsLocked)
+    ∷ Next 0
+    ∷ []
+
+pub locks_events : (run locks (opened 3)).events
+    ≡ Begun 0 acquire
+    ∷ Claimed 0 0
+    ∷ Finished 0 acquire (Index 0)
+    ∷ Begun 0 (release_or_lock 0)
+    ∷ Freed 0 0
+    ∷ Locked 0
+    ∷ Finished 0 (release_or_lock 0) (State states.TheVariants.Locked)
+    ∷ Begun 0 acquire
+    ∷ Finished 0 acquire (NoIndex failures.TheVariants.IsLocked)
+    ∷ Begun 1 (Indices BorrowedIndices)
+    ∷ Finished 1 (Indices BorrowedIndices) (Number 0)
+    ∷ Begun 0 (Indices IsLocked)
+    ∷ Finished 0 (Indices IsLocked) (Truth true)
+    ∷ []
+locks_events = refl
+
+-- ---- words and refusals
+
+pub words_of_100 : length (opened 100).world.words ≡ 103
+words_of_100 = refl
+
+pub not_held : refusal_of (opened 2).world (Begin 0 (release 0)) ≡ Some NotHeld
+not_held = refl
+
+pub not_held_by_it : refusal_of (run falls_back (opened 2)).world (Begin 0 (release 0)) ≡ Some NotHeld
+not_held_by_it = refl
+
+pub past_the_capacity : refusal_of (opened 2).world (Begin 0 (release 2)) ≡ Some BadIndex
+past_the_capacity = refl
+
+pub no_call_of_a_queue : refusal_of (opening {T = ℕ} one_word kinds.TheVariants.Queue 2 2).world (Begin 0 acquire) ≡ Some WrongCall
+no_call_of_a_queue = refl
+
+-- ---- what they refuse
+
+abbrev held : List (Event ℕ)
+held = Claimed 0 1 ∷ []
+
+-- an index that is claimed twice
+no_second_holder : HoldsRight 2 held (Claimed 1 1) → ⊥
+no_second_holder h = let held = h.1 in cc
+
+-- a lock while an index is held
+no_lock_over_a_holder : HoldsRight 2 held (Locked 1) → ⊥
+no_lock_over_a_holder h = let free = h.0 1 in cc
+
+-- OutOfIndices of a set that nobody uses
+no_empty_set : AnswersRight 1 (Begun 0 acquire ∷ []) (Finished 0 acquire (NoIndex failures.TheVariants.OutOfIndices)) → ⊥
+no_empty_set h = omega arith
+
+-- a release that says that it has not locked, though nothing else is in use
+no_missed_lock : AnswersRight 1 (Claimed 0 0 ∷ Begun 0 (release_or_lock 0) ∷ Freed 0 0 ∷ []) (Finished 0 (release_or_lock 0) (State states.TheVariants.Unlocked)) → ⊥
+no_missed_lock h = omega arith
+
+abbrev freed_in : Option Deeds → List ℕ
+freed_in None = []
+freed_in (Some d) = d.freed
+
+abbrev claimed_in : Option Deeds → ℕ
+claimed_in None = 0
+claimed_in (Some d) = get_or d.claimed 0 0
+
+-- a release that ends and has freed nothing
+no_silent_release : Stands (promise_of kinds.TheVariants.Indices) 1 (Finished 0 (release 0) (State states.TheVariants.Unlocked)) (Open (release 0) []) → ⊥
+no_silent_release h = let none = ap freed_in h.1 in cc
+
+-- an acquire that ends with an index and has claimed another
+no_other_index : Stands (promise_of kinds.TheVariants.Indices) 2 (Finished 0 acquire (Index 0)) (Open acquire (Claimed 0 1 ∷ [])) → ⊥
+no_other_index h = let other = ap claimed_in h.1 in omega arith

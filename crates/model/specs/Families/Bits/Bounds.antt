@@ -1,0 +1,18 @@
+-- How many steps a call of the bit sets takes.
+use Rattle.std.specs.Prelude.{ℕ, ◌+◌}
+use Rattle.steps.specs.Bits.Words.{elements}
+use Rattle.model.specs.declared.families.bits.BitsStart.{BitsStart}
+use Rattle.model.specs.declared.families.bits.BitsStart.TheVariants.{Set, ResetNext, ResetAll}
+
+-- how many steps the call of a bit set takes at most at this capacity, where it has begun a
+-- loop's turn again so often
+abbrev pub most_bits_steps : ℕ → BitsStart → ℕ → ℕ
+most_bits_steps capacity (Set bit) backs = 2 + backs
+most_bits_steps capacity ResetNext backs = 3 + capacity + backs
+most_bits_steps capacity ResetAll backs = elements capacity
+
+-- the call of a counting bit set; none turns back
+abbrev pub most_counts_steps : ℕ → BitsStart → ℕ
+most_counts_steps capacity (Set place) = 1
+most_counts_steps capacity ResetNext = 0
+most_counts_steps capacity ResetAll = capacity

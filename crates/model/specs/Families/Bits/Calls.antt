@@ -1,0 +1,90 @@
+-- The calls of the bit sets: which a kind has, and how one under way goes on.
+use Rattle.std.specs.Prelude.{ℕ, Bool, false, Option, Some, None}
+use Rattle.steps.specs.declared.ask.Want.{Want}
+use Rattle.steps.specs.declared.ask.After.{After}
+use Rattle.steps.specs.declared.bits.counting_bit_set.Set as counting
+use Rattle.steps.specs.declared.copied.OneWord.{OneWord}
+use Rattle.steps.specs.Bits.BitSet.{first_set, set_want, set_after, set_turns_back, first_reset, reset_want, reset_after, reset_turns_back}
+use Rattle.steps.specs.Bits.Counts as counts
+use Rattle.steps.specs.Bits.ResetAll.{all_bits, all_counts, reset_all_want, reset_all_after, reset_all_kept}
+use Rattle.steps.specs.Routine.{went_on}
+use Rattle.model.specs.declared.event.Answer.{Answer}
+use Rattle.model.specs.declared.event.Answer as answers
+use Rattle.model.specs.declared.families.Flight.{Flight}
+use Rattle.model.specs.declared.families.Flight as flights
+use Rattle.model.specs.declared.families.bits.BitsStart.{BitsStart}
+use Rattle.model.specs.declared.families.bits.BitsStart as starts
+use Rattle.model.specs.declared.families.bits.calls.BitsFlight.{BitsFlight}
+use Rattle.model.specs.declared.families.bits.calls.BitsFlight.TheVariants.{Set, ResetNext, ResetAll, Count, TakeAll}
+use Rattle.model.specs.declared.turn.Kind.{Kind}
+use Rattle.model.specs.declared.turn.Kind.TheVariants.{Bits, Counts}
+use Rattle.model.specs.Families.Queues.Calls.{as_it_is, fresh}
+use Rattle.model.specs.Step.{Going, as_call}
+
+-- ---- the calls that begin
+
+abbrev pub add_one : counting.Set
+add_one = record {}
+
+-- the call that begins, or None where the kind has no such call
+abbrev pub first : Kind → ℕ → BitsStart → Option BitsFlight
+first Bits capacity (starts.TheVariants.Set bit) =
+    Some (Set (record { call = first_set; given = bit; room = tt }))
+first Bits capacity starts.TheVariants.ResetNext =
+    Some (ResetNext (record { call = first_reset capacity; given = tt; room = tt }))
+first Bits capacity starts.TheVariants.ResetAll =
+    Some (ResetAll (record { call = all_bits capacity; given = tt; room = fresh }))
+first Counts capacity (starts.TheVariants.Set place) =
+    Some (Count (record { call = add_one; given = place; room = tt }))
+first Counts capacity starts.TheVariants.ResetAll =
+    Some (TakeAll (record { call = all_counts capacity; given = tt; room = fresh }))
+first kind capacity start = None
+
+-- ---- the calls under way
+
+-- what a call under way wants next
+abbrev pub want : BitsFlight → Want (Unit {0})
+want (Set run) = set_want run.call run.given
+want (ResetNext run) = reset_want run.call
+want (ResetAll run) = reset_all_want run.call
+want (Count run) = counts.set_want run.call run.given
+want (TakeAll run) = reset_all_want run.call
+
+-- whether the call begins a turn of its loop again once it is handed this old value
+abbrev pub goes_back : BitsFlight → ℕ → Bool
+goes_back (Set run) old = set_turns_back run.call.stage old
+goes_back (ResetNext run) old = reset_turns_back run.call.stage old
+goes_back (ResetAll run) old = false
+goes_back (Count run) old = false
+goes_back (TakeAll run) old = false
+
+module _ {T : Type 0} where
+  abbrev pub reset_answer : Option ℕ → Answer T
+  reset_answer None = answers.TheVariants.ResetNone
+  reset_answer (Some bit) = answers.TheVariants.Reset bit
+
+  -- how it goes on from the old value of its word
+  abbrev pub after : BitsFlight → ℕ → After BitsFlight (Answer T)
+  after (Set run) old =
+      as_call Set answers.TheVariants.Truth
+      (went_on as_it_is run.given run.room (set_after run.call run.given old))
+  after (ResetNext run) old =
+      as_call ResetNext reset_answer
+      (went_on as_it_is run.given run.room (reset_after run.call old))
+  after (ResetAll run) old =
+      as_call ResetAll (λ _. answers.TheVariants.Done)
+      (went_on as_it_is run.given (reset_all_kept run.room old) (reset_all_after run.call old))
+  after (Count run) old =
+      as_call Count answers.TheVariants.Number
+      (went_on as_it_is run.given run.room (counts.set_after run.call old))
+  after (TakeAll run) old =
+      as_call TakeAll (λ _. answers.TheVariants.Done)
+      (went_on as_it_is run.given (reset_all_kept run.room old) (reset_all_after run.call old))
+
+  -- the family's call under way, as one of a machine
+  abbrev pub going : BitsFlight → Going (Flight T) T
+  going flight =
+      record {
+        want = want flight;
+        after = λ old. as_call flights.TheVariants.Bits (λ answer. answer) (after flight old);
+      }

@@ -1,0 +1,59 @@
+-- The words of the bit sets at their opening, and which call begins.
+use Rattle.std.specs.Prelude.{ℕ, ◌+◌, ◌-◌, ◌^◌, Bool, true, false, Option, option_map, List, [], ◌∷◌, replicate, nat_le}
+use Rattle.steps.specs.Bits.Words.{elements}
+use Rattle.model.specs.declared.families.Flight.{Flight}
+use Rattle.model.specs.declared.families.Flight as flights
+use Rattle.model.specs.declared.families.Kept.{Kept}
+use Rattle.model.specs.declared.families.Kept as kepts
+use Rattle.model.specs.declared.families.bits.BitsStart.{BitsStart}
+use Rattle.model.specs.declared.families.bits.BitsStart.TheVariants.{Set, ResetNext, ResetAll}
+use Rattle.model.specs.declared.turn.Kind.{Kind}
+use Rattle.model.specs.declared.turn.Refusal.{Refusal}
+use Rattle.model.specs.declared.turn.Refusal.TheVariants.{WrongCall, BadIndex}
+use Rattle.model.specs.Families.Bits.Calls.{first}
+use Rattle.model.specs.Opening.{Opening}
+use Rattle.model.specs.Step.{Beginning}
+
+-- the reset position, and then the elements; no bit stands
+abbrev pub bits_words : ℕ → List ℕ
+bits_words capacity = replicate (1 + elements capacity) 0
+
+-- a count for each place
+abbrev pub counts_words : ℕ → List ℕ
+counts_words capacity = replicate capacity 0
+
+abbrev pub opening_with : (ℕ → List ℕ) → Opening
+opening_with words =
+    record {
+      least = 0;
+      greatest = 2 ^ 32 - 1;
+      words = λ size capacity. words capacity;
+      kept = λ capacity. kepts.TheVariants.Nothing;
+    }
+
+abbrev pub bits_opening : Opening
+bits_opening = opening_with bits_words
+
+abbrev pub counts_opening : Opening
+counts_opening = opening_with counts_words
+
+-- the call is about a place past the capacity
+abbrev pub is_past : ℕ → BitsStart → Bool
+is_past capacity (Set place) = nat_le capacity place
+is_past capacity ResetNext = false
+is_past capacity ResetAll = false
+
+-- what is tested of a party that is to begin a call
+abbrev pub call_rows : ℕ → BitsStart → List (Bool × Refusal)
+call_rows capacity start = (is_past capacity start, BadIndex) ∷ []
+
+abbrev pub kept_rows : ℕ → BitsStart → Kept → ℕ → List (Bool × Refusal)
+kept_rows capacity start kepts.TheVariants.Nothing p = call_rows capacity start
+kept_rows capacity start kept p = (true, WrongCall) ∷ []
+
+abbrev pub begin : {T : Type 0} → Kind → ℕ → BitsStart → Beginning (Flight T) Kept
+begin kind capacity start =
+    record {
+      call = option_map flights.TheVariants.Bits (first kind capacity start);
+      rows = kept_rows capacity start;
+    }

@@ -1,0 +1,153 @@
+-- What holds of the machine of a bit set, and of one of a counting bit set, after any turns.
+use Rattle.std.specs.Prelude.{◌≡◌, ◌≤◌, ◌<◌, ℕ, ◌+◌, true, false, Option, List, [], ◌∷◌, ◌++◌, length, slice_index}
+use Rattle.steps.specs.declared.ask.Ask.{Ask}
+use Rattle.steps.specs.Bits.Words.{stands}
+use Rattle.model.specs.declared.event.Answer.{Answer}
+use Rattle.model.specs.declared.event.Answer.TheVariants.{Done, Truth, Number, ResetNone, Reset}
+use Rattle.model.specs.declared.event.Event.{Event}
+use Rattle.model.specs.declared.event.Event as events
+use Rattle.model.specs.declared.event.Event.TheVariants.{Cleared, Counted, TakenOut, Finished}
+use Rattle.model.specs.declared.event.Start.{Start}
+use Rattle.model.specs.declared.event.Start.TheVariants.{Bits}
+use Rattle.model.specs.declared.families.bits.BitsStart.TheVariants.{Set, ResetNext, ResetAll}
+use Rattle.model.specs.Families.Bits.Bounds.{most_bits_steps, most_counts_steps}
+use Rattle.model.specs.Families.Bits.Reading.{sets, clears, counts, takes, standing, count_at}
+use Rattle.model.specs.Moments.{HeldOnce, SinceBegin}
+use Rattle.model.specs.Promise.{Promise}
+use Rattle.model.specs.Reading.{Each, Span, Never, Open, Ended}
+use Rattle.model.specs.Turns.{one_if}
+use Rattle.model.specs.World.{Trace}
+
+module _ {T : Type 0} where
+  -- nobody acts: no call is said to act at one moment
+  abbrev pub acts_never : Trace T → Option Ask → (ℕ → Type 0) → Event T → Type 0
+  acts_never old ask IsTurnOf e = ⊥
+
+  -- ---- a bit set
+
+  -- each bit that stood when the party's call began has been cleared since, by whomever
+  abbrev pub HasCleared : ℕ → List (Event T) → List (Event T) → Type 0
+  HasCleared capacity before since =
+      (b : ℕ) → b < capacity → standing b before ≡ 1 → 1 ≤ clears b since
+
+  -- A set answers false only if the bit stood at a moment of the call, and a reset of the next
+  -- one None only if each bit was clear at some moment of it. A reset of all clears what stood.
+  abbrev pub BitsAnswerRight : ℕ → List (Event T) → Event T → Type 0
+  BitsAnswerRight capacity before (Finished p (Bits (Set bit)) (Truth false)) =
+      HeldOnce p (λ part. standing bit part ≡ 1) before
+  BitsAnswerRight capacity before (Finished p (Bits ResetNext) ResetNone) =
+      (b : ℕ) → b < capacity → HeldOnce p (λ part. standing b part ≡ 0) before
+  BitsAnswerRight capacity before (Finished p (Bits ResetAll) answer) =
+      SinceBegin p (HasCleared capacity) before
+  BitsAnswerRight capacity before e = Unit {0}
+
+  -- each bit was set as often as it was cleared, and once more if it stands
+  pub record IsBitSet (t : Trace T) : Type 0 where
+    pub conserved : (b : ℕ) → sets b t.events ≡ clears b t.events + one_if (stands t.world.words b)
+    pub within : (b : ℕ) → t.world.capacity ≤ b → sets b t.events ≡ 0
+    pub answers : Each (BitsAnswerRight t.world.capacity) t.events
+
+  abbrev pub MaySet : ℕ → Start T → List (Event T) → Type 0
+  MaySet bit (Bits (Set b)) wrote = (b ≡ bit) × (wrote ≡ [])
+  MaySet bit start wrote = ⊥
+
+  -- a reset of all clears its bits ascending
+  abbrev pub MayClear : ℕ → Start T → List (Event T) → Type 0
+  MayClear bit (Bits ResetNext) wrote = wrote ≡ []
+  MayClear bit (Bits ResetAll) wrote = (b : ℕ) → bit ≤ b → clears b wrote ≡ 0
+  MayClear bit start wrote = ⊥
+
+  abbrev pub bits_stand : Event T → Span T → Type 0
+  bits_stand (events.TheVariants.Set p bit) (Open start wrote) = MaySet bit start wrote
+  bits_stand (Cleared p bit) (Open start wrote) = MayClear bit start wrote
+  bits_stand e span = ⊥
+
+  -- a set that answers true has set its bit, and one that answers false nothing; a reset of the
+  -- next one has cleared the bit that it answers, or nothing
+  abbrev pub BitsWrote : ℕ → Start T → Answer T → List (Event T) → Type 0
+  BitsWrote capacity (Bits (Set bit)) (Truth true) wrote =
+      (length wrote ≡ 1) × (sets bit wrote ≡ 1)
+  BitsWrote capacity (Bits (Set bit)) (Truth false) wrote = wrote ≡ []
+  BitsWrote capacity (Bits ResetNext) (Reset bit) wrote =
+      (length wrote ≡ 1) × (clears bit wrote ≡ 1)
+  BitsWrote capacity (Bits ResetNext) ResetNone wrote = wrote ≡ []
+  BitsWrote capacity (Bits ResetAll) Done wrote = Unit {0}
+  BitsWrote capacity start answer wrote = ⊥
+
+  abbrev pub most_of_bits : ℕ → ℕ → Start T → ℕ → ℕ
+  most_of_bits capacity size (Bits start) backs = most_bits_steps capacity start backs
+  most_of_bits capacity size start backs = 0
+
+  abbrev pub bits_promise : Promise T
+  bits_promise =
+      record {
+        may_stand = bits_stand;
+        wrote = BitsWrote;
+        most_steps = most_of_bits;
+        acts_right = acts_never;
+        holds = IsBitSet;
+      }
+
+  -- ---- a counting bit set
+
+  -- something has been taken out of each place that counted above 0 when the party's call
+  -- began, by whomever
+  abbrev pub HasTaken : ℕ → List (Event T) → List (Event T) → Type 0
+  HasTaken capacity before since =
+      (b : ℕ) → b < capacity → 1 ≤ count_at b before → 1 ≤ takes b since
+
+  -- a set answers the count of its place just before it was counted
+  pub record AnswersCount (p place number : ℕ) (events : List (Event T)) : Type 0 where
+    pub before : List (Event T)
+    pub is : events ≡ before ++ Counted p place ∷ []
+    pub count : number ≡ count_at place before
+
+  -- A reset of all takes out what counted.
+  abbrev pub CountsAnswerRight : ℕ → List (Event T) → Event T → Type 0
+  CountsAnswerRight capacity before (Finished p (Bits (Set place)) (Number number)) =
+      AnswersCount p place number before
+  CountsAnswerRight capacity before (Finished p (Bits ResetAll) answer) =
+      SinceBegin p (HasTaken capacity) before
+  CountsAnswerRight capacity before e = Unit {0}
+
+  -- each place was counted as often as was taken out of it in all, and as its count says
+  pub record IsCountingSet (t : Trace T) : Type 0 where
+    pub conserved : (b : ℕ) → counts b t.events ≡ takes b t.events + slice_index t.world.words b
+    pub within : (b : ℕ) → t.world.capacity ≤ b → counts b t.events ≡ 0
+    pub answers : Each (CountsAnswerRight t.world.capacity) t.events
+
+  abbrev pub MayCount : ℕ → Start T → List (Event T) → Type 0
+  MayCount place (Bits (Set b)) wrote = (b ≡ place) × (wrote ≡ [])
+  MayCount place start wrote = ⊥
+
+  -- a reset of all takes out what is above 0, ascending
+  abbrev pub MayTake : ℕ → ℕ → Start T → List (Event T) → Type 0
+  MayTake place number (Bits ResetAll) wrote =
+      (1 ≤ number) × ((b : ℕ) → place ≤ b → takes b wrote ≡ 0)
+  MayTake place number start wrote = ⊥
+
+  abbrev pub counts_stand : Event T → Span T → Type 0
+  counts_stand (Counted p place) (Open start wrote) = MayCount place start wrote
+  counts_stand (TakenOut p place number) (Open start wrote) = MayTake place number start wrote
+  counts_stand e span = ⊥
+
+  -- a set has counted its place once
+  abbrev pub CountsWrote : ℕ → Start T → Answer T → List (Event T) → Type 0
+  CountsWrote capacity (Bits (Set place)) (Number number) wrote =
+      (length wrote ≡ 1) × (counts place wrote ≡ 1)
+  CountsWrote capacity (Bits ResetAll) Done wrote = Unit {0}
+  CountsWrote capacity start answer wrote = ⊥
+
+  abbrev pub most_of_counts : ℕ → ℕ → Start T → ℕ → ℕ
+  most_of_counts capacity size (Bits start) backs = most_counts_steps capacity start
+  most_of_counts capacity size start backs = 0
+
+  abbrev pub counts_promise : Promise T
+  counts_promise =
+      record {
+        may_stand = counts_stand;
+        wrote = CountsWrote;
+        most_steps = most_of_counts;
+        acts_right = acts_never;
+        holds = IsCountingSet;
+      }

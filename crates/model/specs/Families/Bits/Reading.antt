@@ -1,0 +1,44 @@
+-- How the events of the bit sets are read.
+use Rattle.std.specs.Prelude.{ℕ, ◌-◌, ◌==◌, Bool, false, List, if◌then◌else◌}
+use Rattle.std.specs.List.{count_by, sum_by}
+use Rattle.model.specs.declared.event.Event.{Event}
+use Rattle.model.specs.declared.event.Event.TheVariants.{Set, Cleared, Counted, TakenOut}
+
+module _ {T : Type 0} where
+  abbrev pub is_set_of : ℕ → Event T → Bool
+  is_set_of bit (Set p b) = b == bit
+  is_set_of bit e = false
+
+  abbrev pub is_clear_of : ℕ → Event T → Bool
+  is_clear_of bit (Cleared p b) = b == bit
+  is_clear_of bit e = false
+
+  abbrev pub is_count_of : ℕ → Event T → Bool
+  is_count_of place (Counted p b) = b == place
+  is_count_of place e = false
+
+  abbrev pub take_of : ℕ → Event T → ℕ
+  take_of place (TakenOut p b number) = if b == place then number else 0
+  take_of place e = 0
+
+  -- how often the bit was set, and how often it was cleared
+  abbrev pub sets : ℕ → List (Event T) → ℕ
+  sets bit events = count_by (is_set_of bit) events
+
+  abbrev pub clears : ℕ → List (Event T) → ℕ
+  clears bit events = count_by (is_clear_of bit) events
+
+  -- how often the place was counted, and what was taken out of it in all
+  abbrev pub counts : ℕ → List (Event T) → ℕ
+  counts place events = count_by (is_count_of place) events
+
+  abbrev pub takes : ℕ → List (Event T) → ℕ
+  takes place events = sum_by (take_of place) events
+
+  -- 1 where the bit stands after these events, else 0
+  abbrev pub standing : ℕ → List (Event T) → ℕ
+  standing bit events = sets bit events - clears bit events
+
+  -- the count of the place after these events
+  abbrev pub count_at : ℕ → List (Event T) → ℕ
+  count_at place events = counts place events - takes place events

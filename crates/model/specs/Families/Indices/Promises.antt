@@ -1,0 +1,114 @@
+-- What holds of the machine of the unique index set, after any turns.
+use Rattle.std.specs.Prelude.{◌≡◌, ◌≢◌, ℕ, ◌+◌, ◌-◌, ◌<◌, ◌≤◌, true, false, Option, Some, None, is_some, List, slice_index, slice_index_or}
+use Rattle.steps.specs.declared.ask.Ask.{Ask}
+use Rattle.steps.specs.declared.indices.enums.ReleaseMode.TheVariants.{LockIfLastIndex, Default}
+use Rattle.steps.specs.declared.indices.enums.ReleaseState as states
+use Rattle.steps.specs.declared.indices.enums.UniqueIndexSetAcquireFailure as failures
+use Rattle.steps.specs.Indices.Head.{flag_word, has_flag, says_locked}
+use Rattle.model.specs.declared.event.Answer.{Answer}
+use Rattle.model.specs.declared.event.Answer.TheVariants.{NoIndex, State, Number, Truth}
+use Rattle.model.specs.declared.event.Event.{Event}
+use Rattle.model.specs.declared.event.Event.TheVariants.{Claimed, Freed, Locked, Finished}
+use Rattle.model.specs.declared.event.Start.{Start}
+use Rattle.model.specs.declared.event.Start.TheVariants.{Indices}
+use Rattle.model.specs.declared.families.Kept.{Kept}
+use Rattle.model.specs.declared.families.Kept as kepts
+use Rattle.model.specs.declared.families.indices.IndexStart.TheVariants.{Acquire, Release, BorrowedIndices, IsLocked}
+use Rattle.model.specs.declared.party.Party.{Party}
+use Rattle.model.specs.Families.Indices.Bounds.{most_steps}
+use Rattle.model.specs.Families.Indices.Reading.{holder_of, is_locked, tally_of, in_use}
+use Rattle.model.specs.Families.Indices.Spans.{deeds, done_by, may_stand}
+use Rattle.model.specs.Parties.{party_of}
+use Rattle.model.specs.Promise.{Promise}
+use Rattle.model.specs.Reading.{Each}
+use Rattle.model.specs.World.{Trace}
+
+module _ {T : Type 0} where
+  -- ---- holders and the lock
+
+  -- An index of the set is claimed where it has no holder and the set is not locked, and is freed
+  -- by its holder. The lock comes once, where no index has a holder.
+  abbrev pub HoldsRight : ℕ → List (Event T) → Event T → Type 0
+  HoldsRight capacity before (Claimed p index) =
+      (index < capacity) × (holder_of index before ≡ None) × (is_locked before ≡ false)
+  HoldsRight capacity before (Freed p index) = holder_of index before ≡ Some p
+  HoldsRight capacity before (Locked p) =
+      ((index : ℕ) → holder_of index before ≡ None) × (is_locked before ≡ false)
+  HoldsRight capacity before e = Unit {0}
+
+  -- ---- answers
+
+  -- Between the indices that are held and those in use lies what borrowed_indices answers, and 0
+  -- once the set is locked.
+  abbrev pub CountsRight : List (Event T) → ℕ → Type 0
+  CountsRight before number =
+      (is_locked before ≡ true → number ≡ 0)
+      × (is_locked before ≡ false →
+      ((tally_of before).held ≤ number) × (number ≤ in_use (tally_of before)))
+
+  -- What an answer says of the set as it was at the last step of the call. An acquire fails by
+  -- OutOfIndices only where without it as many indices are in use as there are, and a release
+  -- that may lock does not only where without it some index is in use.
+  abbrev pub AnswersRight : ℕ → List (Event T) → Event T → Type 0
+  AnswersRight capacity before (Finished p (Indices Acquire) (NoIndex failures.TheVariants.IsLocked)) =
+      is_locked before ≡ true
+  AnswersRight capacity before (Finished p (Indices Acquire) (NoIndex failures.TheVariants.OutOfIndices)) =
+      capacity + 1 ≤ in_use (tally_of before)
+  AnswersRight capacity before (Finished p (Indices (Release index mode)) (State states.TheVariants.Locked)) =
+      is_locked before ≡ true
+  AnswersRight capacity before (Finished p (Indices (Release index LockIfLastIndex)) (State states.TheVariants.Unlocked)) =
+      2 ≤ in_use (tally_of before)
+  AnswersRight capacity before (Finished p (Indices BorrowedIndices) (Number number)) =
+      CountsRight before number
+  AnswersRight capacity before (Finished p (Indices IsLocked) (Truth locked)) =
+      locked ≡ is_locked before
+  AnswersRight capacity before e = Unit {0}
+
+  -- ---- what the words say, and what is kept beside them
+
+  -- the machine lets that party give an index back which holds it by the events
+  abbrev pub KeepsHolders : Kept → List (Event T) → Type 0
+  KeepsHolders (kepts.TheVariants.Indices holders) events =
+      (index : ℕ) → slice_index_or holders index None ≡ holder_of index events
+  KeepsHolders kept events = ⊥
+
+  -- a release in mode Default does not turn back
+  abbrev pub GoesStraight : Start T → ℕ → Type 0
+  GoesStraight (Indices (Release index Default)) backs = backs ≡ 0
+  GoesStraight start backs = Unit {0}
+
+  -- the flags of those indices stand that have a holder, and the head says whether the set is locked
+  pub record IsIndexSet (t : Trace T) : Type 0 where
+    pub holds : Each (HoldsRight t.world.capacity) t.events
+    pub answers : Each (AnswersRight t.world.capacity) t.events
+    pub flags : (index : ℕ) → index < t.world.capacity
+        → has_flag (slice_index t.world.words (flag_word t.world.capacity index)) index
+        ≡ is_some (holder_of index t.events)
+    pub lock : says_locked (slice_index t.world.words 0) ≡ is_locked t.events
+    pub holders : KeepsHolders t.world.kept t.events
+    pub straight : (p : ℕ) (x : Party T) → party_of p t.world.latest ≡ Some x
+        → GoesStraight x.start x.backs
+
+  -- ---- the promise
+
+  abbrev pub wrote : ℕ → Start T → Answer T → List (Event T) → Type 0
+  wrote capacity (Indices start) answer events = done_by start answer ≡ Some (deeds events)
+  wrote capacity start answer events = ⊥
+
+  abbrev pub most : ℕ → ℕ → Start T → ℕ → ℕ
+  most capacity size (Indices start) backs = most_steps capacity start backs
+  most capacity size start backs = 0
+
+  -- no call of the set acts
+  abbrev pub ActsRight : Trace T → Option Ask → (ℕ → Type 0) → Event T → Type 0
+  ActsRight old ask IsTurnOf e = ⊥
+
+  abbrev pub promise : Promise T
+  promise =
+      record {
+        may_stand = may_stand;
+        wrote = wrote;
+        most_steps = most;
+        acts_right = ActsRight;
+        holds = IsIndexSet;
+      }

@@ -1,0 +1,18 @@
+//! The unique index set, which hands indices out and takes them back: its calls by name, and what stands in the files
+//! beside this one.
+pub mod calls;
+pub mod effects;
+pub mod holders;
+pub mod opening;
+
+use steps::indices::enums::ReleaseMode;
+
+/// A call of the unique index set by its name and arguments.
+#[derive(Debug, Clone, Copy, PartialEq, Eq)]
+pub enum IndexStart {
+    Acquire,
+    /// Only the holder of the index releases it.
+    Release(u64, ReleaseMode),
+    BorrowedIndices,
+    IsLocked,
+}

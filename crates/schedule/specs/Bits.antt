@@ -1,0 +1,47 @@
+-- The calls of the bit sets and of the counting bit sets, as a schedule names them and as they print.
+use Rattle.std.specs.Prelude.{ℕ, ◌-◌, ◌^◌, List, ◌++◌, Result, Ok, Err, if◌then◌else◌, bytes_eq, codes, decimal}
+use Rattle.model.specs.declared.event.Start.{Start}
+use Rattle.model.specs.declared.event.Start as starts
+use Rattle.model.specs.declared.families.bits.BitsStart.{BitsStart}
+use Rattle.model.specs.declared.families.bits.BitsStart.TheVariants.{Set, ResetNext, ResetAll}
+use Rattle.schedule.specs.declared.error.Cause.{Cause}
+use Rattle.schedule.specs.declared.error.Cause.TheVariants.{UnknownCall}
+use Rattle.schedule.specs.Reading.{◌>>=◌, number_at}
+
+-- ---- how they are read
+
+unfoldable pub set : List (List ℕ) → Result (BitsStart × List (List ℕ)) Cause
+set ws = do
+  place ← number_at (2 ^ 64 - 1) ws
+  Ok (Set place.0, place.1)
+
+-- the calls of both
+unfoldable pub any_set_call : List ℕ → List (List ℕ) → Result (BitsStart × List (List ℕ)) Cause
+any_set_call name ws =
+    if bytes_eq name (codes "set") then set ws
+    else if bytes_eq name (codes "reset_all") then Ok (ResetAll, ws)
+    else Err UnknownCall
+
+abbrev pub any_bit_set_call : List ℕ → List (List ℕ) → Result (BitsStart × List (List ℕ)) Cause
+any_bit_set_call name ws =
+    if bytes_eq name (codes "reset_next") then Ok (ResetNext, ws) else any_set_call name ws
+
+-- the calls of a bit set
+unfoldable pub bit_set_call : List ℕ → List (List ℕ) → Result (Start ℕ × List (List ℕ)) Cause
+bit_set_call name ws = do
+  call ← any_bit_set_call name ws
+  Ok (starts.TheVariants.Bits call.0, call.1)
+
+-- the calls of a counting bit set
+unfoldable pub counting_bit_set_call : List ℕ → List (List ℕ)
+    → Result (Start ℕ × List (List ℕ)) Cause
+counting_bit_set_call name ws = do
+  call ← any_set_call name ws
+  Ok (starts.TheVariants.Bits call.0, call.1)
+
+-- ---- how they print
+
+abbrev pub bits_call_text : BitsStart → List ℕ
+bits_call_text (Set place) = codes "set " ++ decimal place
+bits_call_text ResetNext = codes "reset_next"
+bits_call_text ResetAll = codes "reset_all"

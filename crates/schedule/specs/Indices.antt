@@ -1,0 +1,65 @@
+-- The calls of the unique index set, as a schedule names them and as they print.
+use Rattle.std.specs.Prelude.{ℕ, ◌-◌, ◌^◌, List, ◌++◌, Result, Ok, Err, if◌then◌else◌, bytes_eq, codes, decimal}
+use Rattle.steps.specs.declared.indices.enums.ReleaseMode.{ReleaseMode}
+use Rattle.steps.specs.declared.indices.enums.ReleaseMode.TheVariants.{LockIfLastIndex, Default}
+use Rattle.steps.specs.declared.indices.enums.ReleaseState.{ReleaseState}
+use Rattle.steps.specs.declared.indices.enums.ReleaseState as states
+use Rattle.steps.specs.declared.indices.enums.UniqueIndexSetAcquireFailure.{UniqueIndexSetAcquireFailure}
+use Rattle.steps.specs.declared.indices.enums.UniqueIndexSetAcquireFailure as failures
+use Rattle.model.specs.declared.event.Start.{Start}
+use Rattle.model.specs.declared.event.Start.TheVariants.{Indices}
+use Rattle.model.specs.declared.families.indices.IndexStart.{IndexStart}
+use Rattle.model.specs.declared.families.indices.IndexStart.TheVariants.{Acquire, Release, BorrowedIndices, IsLocked}
+use Rattle.schedule.specs.declared.error.Cause.{Cause}
+use Rattle.schedule.specs.declared.error.Cause.TheVariants.{BadValue, UnknownCall}
+use Rattle.schedule.specs.Reading.{◌>>=◌, next_word, number_at}
+
+-- ---- how they are read
+
+abbrev pub mode_of : List ℕ → Result ReleaseMode Cause
+mode_of word =
+    if bytes_eq word (codes "default") then Ok Default
+    else if bytes_eq word (codes "lock") then Ok LockIfLastIndex
+    else Err BadValue
+
+unfoldable pub release : List (List ℕ) → Result (IndexStart × List (List ℕ)) Cause
+release ws = do
+  index ← number_at (2 ^ 64 - 1) ws
+  word ← next_word index.1
+  mode ← mode_of word.0
+  Ok (Release index.0 mode, word.1)
+
+unfoldable pub any_index_call : List ℕ → List (List ℕ) → Result (IndexStart × List (List ℕ)) Cause
+any_index_call name ws =
+    if bytes_eq name (codes "acquire") then Ok (Acquire, ws)
+    else if bytes_eq name (codes "release") then release ws
+    else if bytes_eq name (codes "borrowed_indices") then Ok (BorrowedIndices, ws)
+    else if bytes_eq name (codes "is_locked") then Ok (IsLocked, ws)
+    else Err UnknownCall
+
+-- the calls of the unique index set
+unfoldable pub index_call : List ℕ → List (List ℕ) → Result (Start ℕ × List (List ℕ)) Cause
+index_call name ws = do
+  call ← any_index_call name ws
+  Ok (Indices call.0, call.1)
+
+-- ---- how they print
+
+abbrev pub mode_text : ReleaseMode → List ℕ
+mode_text Default = codes "default"
+mode_text LockIfLastIndex = codes "lock"
+
+abbrev pub index_call_text : IndexStart → List ℕ
+index_call_text Acquire = codes "acquire"
+index_call_text (Release index mode) =
+    codes "release " ++ decimal index ++ codes " " ++ mode_text mode
+index_call_text BorrowedIndices = codes "borrowed_indices"
+index_call_text IsLocked = codes "is_locked"
+
+abbrev pub failure_text : UniqueIndexSetAcquireFailure → List ℕ
+failure_text failures.TheVariants.OutOfIndices = codes "OutOfIndices"
+failure_text failures.TheVariants.IsLocked = codes "IsLocked"
+
+abbrev pub state_text : ReleaseState → List ℕ
+state_text states.TheVariants.Locked = codes "Locked"
+state_text states.TheVariants.Unlocked = codes "Unlocked"

@@ -1,0 +1,86 @@
+//! The calls of the bit sets and of the counting bit sets, as a schedule names them and as they print.
+ghost use Rattle.std.specs.Prelude.{◌≡◌, ◌+◌, ◌≤◌, ◌++◌, length};
+ghost use Rattle.schedule.specs.Text.{words_left};
+ghost use Rattle.schedule.specs.Grammar.{Gives};
+ghost use Rattle.schedule.specs.Bits.{set, any_set_call, any_bit_set_call, bit_set_call, counting_bit_set_call, bits_call_text};
+
+use crate::error::Cause;
+use crate::grammar::number_at;
+use crate::line::Line;
+use crate::text::Rest;
+use machine::event::Start;
+use machine::families::bits::BitsStart;
+
+#[tactic(auto, unfolding(crate::specs::Bits::set))]
+fn set(words: Rest<'_>) -> Result<(BitsStart, Rest<'_>), Cause>
+    ensures { Gives (λ x. (x.0, words_left x.1)) result (set (words_left words.entry)) }
+{
+    let (place, rest) = number_at(u128::from(u64::MAX), words)?;
+    Ok((BitsStart::Set(place as u64), rest))
+}
+
+#[tactic(auto, unfolding(crate::specs::Bits::any_set_call))]
+fn any_set_call<'a>(name: &[u8], words: Rest<'a>) -> Result<(BitsStart, Rest<'a>), Cause>
+    ensures { Gives (λ x. (x.0, words_left x.1)) result
+        (any_set_call name.now (words_left words.entry)) }
+{
+    if name == b"set".as_slice() {
+        set(words)
+    } else if name == b"reset_all".as_slice() {
+        Ok((BitsStart::ResetAll, words))
+    } else {
+        Err(Cause::UnknownCall)
+    }
+}
+
+fn any_bit_set_call<'a>(name: &[u8], words: Rest<'a>) -> Result<(BitsStart, Rest<'a>), Cause>
+    ensures { Gives (λ x. (x.0, words_left x.1)) result
+        (any_bit_set_call name.now (words_left words.entry)) }
+{
+    if name == b"reset_next".as_slice() {
+        Ok((BitsStart::ResetNext, words))
+    } else {
+        any_set_call(name, words)
+    }
+}
+
+/// A call of a bit set.
+#[tactic(auto, unfolding(crate::specs::Bits::bit_set_call))]
+pub fn bit_set_call<'a>(name: &[u8], words: Rest<'a>) -> Result<(Start<u128>, Rest<'a>), Cause>
+    ensures { Gives (λ x. (x.0, words_left x.1)) result
+        (bit_set_call name.now (words_left words.entry)) }
+{
+    let (start, rest) = any_bit_set_call(name, words)?;
+    Ok((Start::Bits(start), rest))
+}
+
+/// A call of a counting bit set.
+#[tactic(auto, unfolding(crate::specs::Bits::counting_bit_set_call))]
+pub fn counting_bit_set_call<'a>(
+    name: &[u8],
+    words: Rest<'a>,
+) -> Result<(Start<u128>, Rest<'a>), Cause>
+    ensures { Gives (λ x. (x.0, words_left x.1)) result
+        (counting_bit_set_call name.now (words_left words.entry)) }
+{
+    let (start, rest) = any_set_call(name, words)?;
+    Ok((Start::Bits(start), rest))
+}
+
+impl Line {
+    /// Writes the call with its arguments.
+    pub fn push_bits_call(&mut self, start: BitsStart)
+        requires { length self.old + 80 ≤ 256 }
+        ensures text { self.new ≡ self.old ++ bits_call_text start }
+        ensures short { length self.new ≤ length self.old + 80 }
+    {
+        match start {
+            BitsStart::Set(place) => {
+                self.push("set ");
+                self.push_number(u128::from(place));
+            }
+            BitsStart::ResetNext => self.push("reset_next"),
+            BitsStart::ResetAll => self.push("reset_all"),
+        }
+    }
+}

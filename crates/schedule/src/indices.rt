@@ -1,0 +1,119 @@
+//! The calls of the unique index set, as a schedule names them and as they print.
+ghost use Rattle.std.specs.Prelude.{◌≡◌, ◌+◌, ◌≤◌, ◌++◌, length};
+ghost use Rattle.schedule.specs.Text.{words_left};
+ghost use Rattle.schedule.specs.Grammar.{Gives};
+ghost use Rattle.schedule.specs.Indices.{mode_of, release, any_index_call, index_call, mode_text, index_call_text, failure_text, state_text};
+
+use crate::error::Cause;
+use crate::grammar::{next_word, number_at};
+use crate::line::Line;
+use crate::text::Rest;
+use machine::event::Start;
+use machine::families::indices::IndexStart;
+use steps::indices::enums::{ReleaseMode, ReleaseState, UniqueIndexSetAcquireFailure};
+
+fn mode_of(word: &[u8]) -> Result<ReleaseMode, Cause>
+    ensures { Gives (λ mode. mode) result (mode_of word.now) }
+{
+    if word == b"default".as_slice() {
+        Ok(ReleaseMode::Default)
+    } else if word == b"lock".as_slice() {
+        Ok(ReleaseMode::LockIfLastIndex)
+    } else {
+        Err(Cause::BadValue)
+    }
+}
+
+#[tactic(auto, unfolding(crate::specs::Indices::release))]
+fn release(words: Rest<'_>) -> Result<(IndexStart, Rest<'_>), Cause>
+    ensures { Gives (λ x. (x.0, words_left x.1)) result (release (words_left words.entry)) }
+{
+    let (index, rest) = number_at(u128::from(u64::MAX), words)?;
+    let (word, rest) = next_word(rest)?;
+    let mode = mode_of(word)?;
+    Ok((IndexStart::Release(index as u64, mode), rest))
+}
+
+#[tactic(auto, unfolding(crate::specs::Indices::any_index_call))]
+fn any_index_call<'a>(name: &[u8], words: Rest<'a>) -> Result<(IndexStart, Rest<'a>), Cause>
+    ensures { Gives (λ x. (x.0, words_left x.1)) result
+        (any_index_call name.now (words_left words.entry)) }
+{
+    if name == b"acquire".as_slice() {
+        Ok((IndexStart::Acquire, words))
+    } else if name == b"release".as_slice() {
+        release(words)
+    } else if name == b"borrowed_indices".as_slice() {
+        Ok((IndexStart::BorrowedIndices, words))
+    } else if name == b"is_locked".as_slice() {
+        Ok((IndexStart::IsLocked, words))
+    } else {
+        Err(Cause::UnknownCall)
+    }
+}
+
+/// A call of the unique index set.
+#[tactic(auto, unfolding(crate::specs::Indices::index_call))]
+pub fn index_call<'a>(name: &[u8], words: Rest<'a>) -> Result<(Start<u128>, Rest<'a>), Cause>
+    ensures { Gives (λ x. (x.0, words_left x.1)) result
+        (index_call name.now (words_left words.entry)) }
+{
+    let (start, rest) = any_index_call(name, words)?;
+    Ok((Start::Indices(start), rest))
+}
+
+impl Line {
+    fn push_mode(&mut self, mode: ReleaseMode)
+        requires { length self.old + 7 ≤ 256 }
+        ensures text { self.new ≡ self.old ++ mode_text mode }
+        ensures short { length self.new ≤ length self.old + 7 }
+    {
+        match mode {
+            ReleaseMode::Default => self.push("default"),
+            ReleaseMode::LockIfLastIndex => self.push("lock"),
+        }
+    }
+
+    /// Writes the call with its arguments.
+    pub fn push_index_call(&mut self, start: IndexStart)
+        requires { length self.old + 80 ≤ 256 }
+        ensures text { self.new ≡ self.old ++ index_call_text start }
+        ensures short { length self.new ≤ length self.old + 80 }
+    {
+        match start {
+            IndexStart::Acquire => self.push("acquire"),
+            IndexStart::Release(index, mode) => {
+                self.push("release ");
+                self.push_number(u128::from(index));
+                self.push(" ");
+                self.push_mode(mode);
+            }
+            IndexStart::BorrowedIndices => self.push("borrowed_indices"),
+            IndexStart::IsLocked => self.push("is_locked"),
+        }
+    }
+
+    /// Writes why an acquire hands out no index.
+    pub fn push_failure(&mut self, failure: UniqueIndexSetAcquireFailure)
+        requires { length self.old + 12 ≤ 256 }
+        ensures text { self.new ≡ self.old ++ failure_text failure }
+        ensures short { length self.new ≤ length self.old + 12 }
+    {
+        match failure {
+            UniqueIndexSetAcquireFailure::OutOfIndices => self.push("OutOfIndices"),
+            UniqueIndexSetAcquireFailure::IsLocked => self.push("IsLocked"),
+        }
+    }
+
+    /// Writes whether a release has locked the set.
+    pub fn push_state(&mut self, state: ReleaseState)
+        requires { length self.old + 8 ≤ 256 }
+        ensures text { self.new ≡ self.old ++ state_text state }
+        ensures short { length self.new ≤ length self.old + 8 }
+    {
+        match state {
+            ReleaseState::Locked => self.push("Locked"),
+            ReleaseState::Unlocked => self.push("Unlocked"),
+        }
+    }
+}
