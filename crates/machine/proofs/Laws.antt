@@ -1,9 +1,11 @@
 -- What is proved of every run, one line a kind.
 use Rattle.model.specs.declared.turn.Kind.{Kind}
-use Rattle.model.specs.declared.turn.Kind.TheVariants.{IndexQueue, Overflow, Queue, Atomic}
+use Rattle.model.specs.declared.turn.Kind.TheVariants.{IndexQueue, Overflow, Queue, Atomic, Bits, Counts}
 use Rattle.model.specs.declared.families.queues.QueueKind as queue_kinds
 use Rattle.model.proofs.Orders.{Keeps}
 use Rattle.atomic_laws.proofs.Justified.{value_keeps}
+use Rattle.bit_laws.proofs.Bits.Justified.{bits_keep}
+use Rattle.bit_laws.proofs.Counts.Justified.{counts_keep}
 use Rattle.queue_laws.proofs.Queues.Justified.{queue_keeps}
 
 pub laws_of : {T : Type 0} (kind : Kind) → Keeps T kind
@@ -11,3 +13,5 @@ laws_of IndexQueue = queue_keeps queue_kinds.TheVariants.IndexQueue
 laws_of Overflow = queue_keeps queue_kinds.TheVariants.Overflow
 laws_of Queue = queue_keeps queue_kinds.TheVariants.Queue
 laws_of Atomic = value_keeps
+laws_of Bits = bits_keep
+laws_of Counts = counts_keep

@@ -1,6 +1,6 @@
 -- What holds of a bit set's machine between any two turns beside what the frame says of every machine, and what a turn must
 -- show to keep it.
-use Rattle.std.proofs.Common.{◌≡◌, ◌≢◌, ℕ, ◌+◌, ◌-◌, ◌<◌, ◌≤◌, ⊎_elim, Some, List, [], ◌∷◌, ◌++◌, fold, length, get_or, refl, sym, ap, subst, ◌∙◌, append_assoc, arith}
+use Rattle.std.proofs.Common.{◌≡◌, ◌≢◌, ℕ, ◌+◌, ◌≤◌, ⊎_elim, Some, List, [], ◌∷◌, ◌++◌, fold, length, get_or, sym, ap, subst, ◌∙◌, append_assoc, arith}
 use Rattle.std.proofs.lemmas.Bool.{cases_eq}
 use Rattle.steps.specs.declared.bits.bit_set.SetStage.{SetStage}
 use Rattle.steps.specs.declared.bits.bit_set.SetStage as setting
@@ -23,15 +23,15 @@ use Rattle.model.specs.declared.turn.Kind as kinds
 use Rattle.model.specs.Coding.{Coding}
 use Rattle.model.specs.Families.Bits.Promises.{BitsAnswerRight, bits_promise}
 use Rattle.model.specs.Families.Bits.Reading.{sets, clears, standing}
-use Rattle.model.specs.Moments.{BeginsNone, HeldOnce, SinceBegin}
+use Rattle.model.specs.Moments.{BeginsNone}
 use Rattle.model.specs.Promises.Spans.{Stands}
-use Rattle.model.specs.Reading.{Each, Span, Open, own_after, span_of}
+use Rattle.model.specs.Reading.{Each, Span, own_after, span_of}
 use Rattle.model.specs.Turns.{one_if}
 use Rattle.model.proofs.Frame as frame
 use Rattle.model.proofs.Frame.{Family}
 use Rattle.model.proofs.Moments.{others_begin_none, begins_none_more, held_later}
 use Rattle.model.proofs.Readings.{AreRight, Each-append, AreOwn, AllFollow, span_of-other}
-use Rattle.bit_laws.proofs.Bits.Core.{ClearedBelow, cleared_still, sets_more, clears_more}
+use Rattle.bit_laws.proofs.Bits.Core.{cleared_still, sets_more, clears_more}
 use Rattle.bit_laws.proofs.Bits.Knows.{CallAt, KnowsCall, KnowsSet, KnowsNext, Paid, Passed, wrote_in, call_wrote, number_of}
 
 -- ---- what the machine holds
@@ -53,9 +53,9 @@ module _ (words words' : List ℕ) (changes changes' : ℕ) (pays : Pays words w
       let up = pays.up in (
         omega arith,
         λ ne. ⊎_elim
-        (λ same. let more = h.1 (λ e. ne (same ∙ e)) in omega arith)
-        (λ other. let more = pays.changed element other in omega arith)
-        (cases_eq (get_or words' element 0) (get_or words element 0)),
+            (λ same. let more = h.1 (λ e. ne (same ∙ e)) in omega arith)
+            (λ other. let more = pays.changed element other in omega arith)
+            (cases_eq (get_or words' element 0) (get_or words element 0)),
       )
 
   set_still : (since backs bit : ℕ) (stage : SetStage) → KnowsSet words since changes backs bit stage → KnowsSet words' since changes' backs bit stage

@@ -1,5 +1,5 @@
 -- The steps of a reset of the next bit.
-use Rattle.std.proofs.Common.{◌≡◌, ◌≢◌, ℕ, ◌+◌, ◌-◌, ◌<◌, ◌≤◌, ◌==◌, nat_lt, Bool, true, false, cond, ⊎_elim, Option, Some, None, List, [], ◌∷◌, ◌++◌, length, get_or, set, refl, sym, ap, subst, ◌∙◌, arith}
+use Rattle.std.proofs.Common.{◌≡◌, ◌≢◌, ℕ, ◌+◌, ◌-◌, ◌<◌, ◌≤◌, ◌==◌, nat_lt, Bool, true, false, ⊎_elim, Option, Some, List, [], ◌∷◌, ◌++◌, length, get_or, set, refl, sym, ap, subst, ◌∙◌, arith}
 use Rattle.std.proofs.lemmas.Bool.{cases_lt}
 use Rattle.std.proofs.lemmas.Bool.Decides.{nat_tests}
 use Rattle.steps.specs.declared.ask.Ask.{Ask}
@@ -9,7 +9,7 @@ use Rattle.steps.specs.declared.ask.After.TheVariants.{GoOn, Done}
 use Rattle.steps.specs.declared.bits.bit_set.ResetNextStage.{ResetNextStage}
 use Rattle.steps.specs.declared.bits.bit_set.ResetNextStage as resetting
 use Rattle.steps.specs.Bits.BitSet.{place_after, at_most}
-use Rattle.steps.specs.Bits.Words.{element_of, elements, has_flag, without_flag, stands}
+use Rattle.steps.specs.Bits.Words.{element_of, has_flag, without_flag, stands}
 use Rattle.steps.specs.Queues.Ring.{after_position}
 use Rattle.steps.proofs.Flags.Words.{cleared_clear, cleared_leaves, stands_elsewhere, elements_after}
 use Rattle.model.specs.declared.event.Answer.{Answer}
@@ -25,10 +25,10 @@ use Rattle.model.specs.Families.Bits.Calls.{after, goes_back}
 use Rattle.model.specs.Families.Bits.Reading.{clears, standing}
 use Rattle.model.specs.Families.Bits.Steps.{effects_of}
 use Rattle.model.specs.Moments.{HeldOnce}
-use Rattle.model.specs.Turns.{one_if, words_after, change_of}
+use Rattle.model.specs.Turns.{one_if, words_after}
 use Rattle.model.proofs.Moments.{held_now, held_later}
 use Rattle.bit_laws.proofs.Bits.Invariant.{BitSet, Holds}
-use Rattle.bit_laws.proofs.Bits.Knows.{NextStands, KnowsNext, Passed, next_at, next_number}
+use Rattle.bit_laws.proofs.Bits.Knows.{NextStands, KnowsNext, Passed, next_at, next_number, next_wrote}
 use Rattle.bit_laws.proofs.Bits.Sets.{element_near}
 use Rattle.bit_laws.proofs.Bits.Steps.{StepShows, ShowsStep, same_bits, goes_on, ends, pays_by, as_long, by_parts}
 use Rattle.bit_laws.proofs.Words.{load_leaves, failed_leaves, done_writes}
@@ -266,3 +266,10 @@ module _ {T : Type 0} (code : Coding T) (c : ℕ) (s : BitSet T) (events : List 
     where
       one : clears {T = T} place (Cleared p place ∷ []) ≡ 1
       one = let t : (place == place) ≡ true = grind (arith, nat_tests) in rw t refl
+
+  pub next_step : (stage : ResetNextStage) → NextStands c stage → KnowsNext c p events s.words since changes backs stage → steps ≤ next_number c stage backs → DoesOf (next_wrote p stage) stage
+  next_step resetting.TheVariants.LoadsPosition at knows few = loads_position knows few
+  next_step (resetting.TheVariants.LoadsElement start passed) at knows few = loads start passed at.0 at.1 knows.1 knows.0 few
+  next_step (resetting.TheVariants.ExchangesElement start passed found) at knows few =
+      exchanges_it start passed at.0 at.1 knows.1 found at.2 knows.0.0 knows.0.1 few
+  next_step (resetting.TheVariants.StoresPosition place) at knows few = stores place knows few

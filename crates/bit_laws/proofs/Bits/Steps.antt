@@ -1,5 +1,5 @@
 -- What a step of a call of the bit set has to show: the common cases.
-use Rattle.std.proofs.Common.{◌≡◌, ◌≢◌, ℕ, ◌+◌, ◌-◌, ◌<◌, ◌≤◌, Bool, true, false, Option, Some, None, List, [], ◌∷◌, ◌++◌, length, get_or, set, refl, sym, ap, subst, ◌∙◌, append-nil, arith, length-set}
+use Rattle.std.proofs.Common.{◌≡◌, ℕ, ◌+◌, ◌≤◌, Bool, Option, Some, None, List, [], ◌++◌, length, refl, sym, ap, subst, arith, length-set}
 use Rattle.steps.specs.declared.ask.Ask.{Ask}
 use Rattle.steps.specs.declared.ask.After.{After}
 use Rattle.steps.specs.declared.ask.After.TheVariants.{GoOn, Done}
@@ -22,7 +22,7 @@ use Rattle.model.specs.Families.Bits.Steps.{effects_of}
 use Rattle.model.specs.Reading.{Open, span_of}
 use Rattle.model.specs.Step.{as_call, answer_in}
 use Rattle.model.specs.Turns.{one_if, old_of, words_after, change_of, step_count, doing_after, ending_of}
-use Rattle.bit_laws.proofs.Bits.Invariant.{BitSet, Holds, Shows, Pays, family}
+use Rattle.bit_laws.proofs.Bits.Invariant.{BitSet, Shows, Pays}
 use Rattle.bit_laws.proofs.Bits.Knows.{CallAt, KnowsCall, wrote_in, call_wrote, number_of}
 use Rattle.bit_laws.proofs.Words.{change_one}
 
