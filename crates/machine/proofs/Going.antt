@@ -68,6 +68,13 @@ begin_passes w p start small within free rows =
     let there : nat_le w.parties p ≡ false = grind (arith, nat_tests) in
     rw (early, there, free) rows
 
+-- and is refused where one of them applies
+pub begin_refuses : {T : Type 0} (w : World T) (p : ℕ) (start : Start T) (row : Refusal) → w.turns < 2 ^ 64 - 2 → p < w.parties → is_some (flight_in w p) ≡ false → first_row (begin_rows w.kind w.capacity w.kept p start) ≡ Some row → refusal_of w (Begin p start) ≡ Some row
+begin_refuses w p start row small within free rows =
+    let early : nat_le (2 ^ 64 - 2) w.turns ≡ false = grind (arith, nat_tests) in
+    let there : nat_le w.parties p ≡ false = grind (arith, nat_tests) in
+    rw (early, there, free) rows
+
 -- no call under way was found
 pub none_found : {A : Type 0} (o : Option (Bor A)) (found : Option A) → option_copied o ≡ found → false ≡ is_some o → is_some found ≡ false
 none_found None found is e = ap is_some (sym is)
