@@ -1,7 +1,6 @@
 -- What a turn writes down: what it counted or took out, then the end. Nobody acts.
-use Rattle.std.proofs.Common.{◌≡◌, ℕ, ◌-◌, ◌^◌, ◌<◌, ◌==◌, Bool, true, false, Option, Some, None, List, [], ◌∷◌, ◌++◌, refl, sym, ap, subst, ◌∙◌, append-nil}
+use Rattle.std.proofs.Common.{◌≡◌, ℕ, ◌==◌, Bool, true, false, Option, Some, None, List, [], ◌++◌, refl, sym, ap, subst, append-nil}
 use Rattle.std.specs.List.{AllByRecursion}
-use Rattle.steps.specs.declared.ask.Ask.{Ask}
 use Rattle.model.specs.declared.event.Answer.{Answer}
 use Rattle.model.specs.declared.event.Event.{Event}
 use Rattle.model.specs.declared.event.Start.{Start}
@@ -17,7 +16,6 @@ use Rattle.model.specs.declared.families.bits.calls.BitsFlight.TheVariants.{Coun
 use Rattle.model.specs.declared.party.Doing.TheVariants.{Going}
 use Rattle.model.specs.declared.party.Party.{Party}
 use Rattle.model.specs.declared.turn.Kind as kinds
-use Rattle.model.specs.declared.turn.Turn.{Turn}
 use Rattle.model.specs.declared.turn.Turn.TheVariants.{Next}
 use Rattle.model.specs.Coding.{Coding}
 use Rattle.model.specs.Families.{want_of, after_of, ask_of, beside_of, step_of}
@@ -32,7 +30,7 @@ use Rattle.model.specs.Turns.{old_of, ending_of, events_of_step, after_turn}
 use Rattle.model.specs.World.{Trace}
 use Rattle.model.proofs.Frame as frame
 use Rattle.model.proofs.Orders.{Orders, Keeps, turn_is}
-use Rattle.bit_laws.proofs.Counts.Invariant.{Counts, Fit, CallAt, wrote_in, family}
+use Rattle.bit_laws.proofs.Counts.Invariant.{CallAt, wrote_in, family}
 use Rattle.bit_laws.proofs.Counts.Kept.{kept}
 use Rattle.bit_laws.proofs.Counts.Sound.{stands_at, asks_nothing, reached_sound}
 
