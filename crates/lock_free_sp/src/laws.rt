@@ -5,7 +5,7 @@ ghost use Rattle.std.specs.List.{Contains};
 ghost use Rattle.lock_free_sp.specs.declared.share.Share.{Share};
 ghost use Rattle.lock_free_sp.specs.declared.ring.view.View.{View};
 ghost use Rattle.lock_free_sp.specs.declared.value.view.View as value;
-ghost use Rattle.lock_free_sp.specs.Shares.{IsAll, rest, pieces, added};
+ghost use Rattle.lock_free_sp.specs.Shares.{At, IsAll, rest, pieces, added};
 ghost use Rattle.lock_free_sp.specs.Orders.{values_in_order};
 ghost use Rattle.lock_free_sp.specs.Ring.Between.{Sound, Complete, Emptied};
 ghost use Rattle.lock_free_sp.specs.Value.Between as values;
@@ -35,6 +35,13 @@ pub fn taken_is_all<T>()
 pub fn stored_or_opening<T>()
     ensures { (v : value.View T) → values.Sound v → values.Complete v
         → All (λ x. (x.0 ≡ v.opening) ⊎ Contains v.stored x) v.loaded }
+{}
+
+/// Of a value: what is loaded at a version that is not below any that is known is of the newest. The lemma is `highest`
+/// of `proofs/WholeValue.antt`.
+pub fn loaded_is_newest<T>()
+    ensures { (v : value.View T) → values.Sound v → (c : values.Complete v)
+        → (p : ℕ) → values.UpTo p v → At p v.loaded → p ≡ c.newest }
 {}
 
 /// Of any number of passes: where a whole share is split n times, and all that was split off is joined again, it is

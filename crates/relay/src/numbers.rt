@@ -1,10 +1,10 @@
 //! Numbers from one thread to another, through an index queue.
 ghost use Rattle.std.specs.Prelude.{◌≡◌, IfOk, IsTrue, length, take};
-ghost use Rattle.lock_free_sp.specs.Ends.{view, queue_of, IsPassOf};
+ghost use Rattle.lock_free.specs.Ends.{view, queue_of, IsPassOf};
 ghost use Rattle.relay.specs.Rows.{HasSent, HasReceived};
 
 use crate::error::RelayError;
-use lock_free_sp::spsc::index_queue::{IndexQueue, Pass};
+use lock_free::spsc::index_queue::{IndexQueue, Pass};
 use std::alloc::Global;
 use std::sync::Wait;
 use std::thread;

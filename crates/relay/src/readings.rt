@@ -1,16 +1,16 @@
 //! A value of several words that one thread keeps up to date for another.
 ghost use Rattle.std.specs.Prelude.{◌≡◌, IfOk, ◌∷◌, All};
 ghost use Rattle.std.specs.List.{Contains};
-ghost use Rattle.lock_free_sp.specs.UnrestrictedAtomic.{view, value_of_pass, IsPassOf};
+ghost use Rattle.lock_free.specs.UnrestrictedAtomic.{view, value_of_pass, IsPassOf};
 ghost use Rattle.relay.specs.Readings.{HasWritten, HasRead, last_of};
 
 use crate::error::RelayError;
-use lock_free_sp::spmc::unrestricted_atomic::{Pass, UnrestrictedAtomic};
+use lock_free::spmc::unrestricted_atomic::{Pass, UnrestrictedAtomic};
+use lock_free::words::Words;
 use std::alloc::Global;
 use std::sync::Wait;
 use std::thread;
 use std::thread::Threads;
-use steps::words::Words;
 
 /// What a sensor measured.
 #[derive(Clone, Copy)]

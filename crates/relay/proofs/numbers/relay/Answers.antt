@@ -1,7 +1,7 @@
 use Rattle.std.proofs.Common.{rules, ap, subst, sym, ◌≡◌, ◌∙◌, take}
-use Rattle.lock_free_sp.specs.Ends.{view}
-use Rattle.lock_free_sp.specs.Ring.Views.{opened, halved, half, IsWhole}
-use Rattle.lock_free_sp.specs.Ring.Between.{Emptied}
+use Rattle.lock_free.specs.Ends.{view}
+use Rattle.lock_free.specs.Ring.Views.{opened, halved, half, IsWhole}
+use Rattle.lock_free.specs.Ring.Between.{Emptied}
 use Rattle.relay.specs.Rows.{HasSent, HasReceived}
 use Rattle.relay.proofs.Rows.{came, came_all}
 use Rattle.relay.proofs.numbers.relay.Goals as goal

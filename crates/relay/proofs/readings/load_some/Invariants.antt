@@ -1,5 +1,5 @@
 use Rattle.std.proofs.Common.{◌≡◌}
-use Rattle.lock_free_sp.specs.UnrestrictedAtomic.{view, value_of_pass}
+use Rattle.lock_free.specs.UnrestrictedAtomic.{view, value_of_pass}
 use Rattle.relay.specs.Readings.{HasRead}
 use Rattle.relay.proofs.readings.load_some.Given as goal
 
