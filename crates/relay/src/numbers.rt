@@ -93,9 +93,7 @@ pub fn relay<R: Threads + Wait + Sync>(
     ensures all { IfOk result (λ r. IsTrue r.emptied → r.numbers.items ≡ numbers.now) }
 {
     let (queue, mut mine) = IndexQueue::new(alloc, 4)?;
-    let Some(other) = mine.split() else {
-        return Err(RelayError::NoPass);
-    };
+    let other = mine.split().ok_or(RelayError::NoPass)?;
     let shared = &queue;
     let (sent, received) = thread::join(
         rt,
@@ -108,17 +106,12 @@ pub fn relay<R: Threads + Wait + Sync>(
         numbers: came,
     } = received?;
     pass.join(other);
-    let Ok(mut consumer) = shared.acquire_consumer(pass) else {
-        return Err(RelayError::Taken);
-    };
-    match consumer.pop() {
-        None => Ok(Relayed {
-            numbers: came,
-            emptied: true,
-        }),
-        Some(_) => Ok(Relayed {
-            numbers: came,
-            emptied: false,
-        }),
-    }
+    let mut consumer = shared
+        .acquire_consumer(pass)
+        .map_err(|_| RelayError::Taken)?;
+    let emptied = consumer.pop().is_none();
+    Ok(Relayed {
+        numbers: came,
+        emptied,
+    })
 }
