@@ -82,7 +82,8 @@ pub struct Relayed {
 }
 
 /// Sends the numbers from one thread to another, which takes so many of them. What comes is a beginning of them, in
-/// their order, and all of them where nothing waits at the end.
+/// their order, and all of them where nothing waits at the end. Where more are asked for than there are, it waits for
+/// good.
 pub fn relay<R: Threads + Wait + Sync>(
     rt: &R,
     alloc: Global,

@@ -1,4 +1,3 @@
 //! The worked pieces of CALLING.md.
 mod percent;
 mod roles;
-mod two_numbers;
