@@ -4,6 +4,7 @@ pub use Rattle.lock_free_sp.specs.Ring
 pub use Rattle.lock_free_sp.specs.Value
 pub use Rattle.lock_free_sp.specs.UnrestrictedAtomic
 pub use Rattle.lock_free_sp.specs.Shares
+pub use Rattle.lock_free_sp.specs.Parts
 pub use Rattle.lock_free_sp.specs.Orders
 pub use Rattle.steps.specs.Enums
 -- The types that they speak of.
