@@ -1,2 +1,9 @@
+-- For clients: what follows for who has the whole share, and what their proofs are made of.
+pub use Rattle.lock_free_sp.proofs.Whole
+pub use Rattle.lock_free_sp.proofs.WholeValue
+pub use Rattle.lock_free_sp.proofs.Fractions
+pub use Rattle.lock_free_sp.proofs.Orders
+pub use Rattle.lock_free_sp.proofs.Shares
+pub use Rattle.lock_free_sp.proofs.Rules.Ring.Lists
 pub mod Rules
 pub mod Sets

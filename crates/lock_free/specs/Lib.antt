@@ -3,10 +3,14 @@ pub use Rattle.lock_free_sp.specs.Ends
 pub use Rattle.lock_free_sp.specs.Ring
 pub use Rattle.lock_free_sp.specs.Value
 pub use Rattle.lock_free_sp.specs.UnrestrictedAtomic
+pub use Rattle.lock_free_sp.specs.Shares
+pub use Rattle.lock_free_sp.specs.Parts
+pub use Rattle.lock_free_sp.specs.Orders
 pub use Rattle.steps.specs.Enums
 -- The types that they speak of.
 pub use Rattle.lock_free_sp.specs.declared.ring.view as QueueView
 pub use Rattle.lock_free_sp.specs.declared.value.view as ValueView
+pub use Rattle.lock_free_sp.specs.declared.share.Share
 pub use Rattle.steps.specs.declared.enums.UniqueIndexCreationError
 pub use Rattle.steps.specs.declared.indices.enums.ReleaseState
 pub use Rattle.steps.specs.declared.indices.enums.UniqueIndexSetAcquireFailure

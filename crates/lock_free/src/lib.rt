@@ -4,5 +4,5 @@
 pub mod mpmc;
 mod unique;
 
-pub use lock_free_sp::{spmc, spsc};
+pub use lock_free_sp::{laws, spmc, spsc};
 pub use steps::words;

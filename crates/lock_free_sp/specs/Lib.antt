@@ -1,6 +1,7 @@
 pub mod Driver
 pub mod Seats
 pub mod Shares
+pub mod Parts
 pub mod Orders
 pub mod Ring
 pub mod Ends

@@ -1,11 +1,12 @@
 //! What follows for who has the whole right to know, for clients. These functions do nothing: the contract of each is a
 //! law, whose proof is a lemma that a client's proof can cite.
-ghost use Rattle.std.specs.Prelude.{◌≡◌, ◌⊎◌, ◌<◌, ℕ, length, take, All};
-ghost use Rattle.std.specs.List.{Contains};
+ghost use Rattle.std.specs.Prelude.{◌≡◌, ◌⊎◌, ◌<◌, ℕ, List, ◌∷◌, length, take, All};
+ghost use Rattle.std.specs.List.{Contains, sum};
 ghost use Rattle.lock_free_sp.specs.declared.share.Share.{Share};
 ghost use Rattle.lock_free_sp.specs.declared.ring.view.View.{View};
 ghost use Rattle.lock_free_sp.specs.declared.value.view.View as value;
-ghost use Rattle.lock_free_sp.specs.Shares.{IsAll, rest, pieces, added};
+ghost use Rattle.lock_free_sp.specs.Shares.{At, IsAll, rest, pieces, added};
+ghost use Rattle.lock_free_sp.specs.Parts.{AreParts};
 ghost use Rattle.lock_free_sp.specs.Orders.{values_in_order};
 ghost use Rattle.lock_free_sp.specs.Ring.Between.{Sound, Complete, Emptied};
 ghost use Rattle.lock_free_sp.specs.Value.Between as values;
@@ -37,8 +38,22 @@ pub fn stored_or_opening<T>()
         → All (λ x. (x.0 ≡ v.opening) ⊎ Contains v.stored x) v.loaded }
 {}
 
-/// Of any number of passes: where a whole share is split n times, and all that was split off is joined again, it is
-/// whole. The lemma is `any_number` of `proofs/Fractions.antt`, beside those on parts that need no such order.
+/// Of a value: what is loaded at a version that is not below any that is known is of the newest. The lemma is `highest`
+/// of `proofs/WholeValue.antt`.
+pub fn loaded_is_newest<T>()
+    ensures { (v : value.View T) → values.Sound v → (c : values.Complete v)
+        → (p : ℕ) → values.UpTo p v → At p v.loaded → p ≡ c.newest }
+{}
+
+/// Of any number of passes: where a whole share is split n times, and all that was split off is joined again, the last
+/// first, it is whole. The lemma is `any_number` of `proofs/Fractions.antt`.
 pub fn any_number()
     ensures { (n : ℕ) (s : Share) → 0 < s.parts → IsAll s → IsAll (added (rest n s) (pieces n s)) }
+{}
+
+/// Of any number of passes, in any order: shares that have all parts of one whole are all of it, joined one after the
+/// other. The lemma is `any_order` of `proofs/Fractions.antt`, beside those on the parts of a half and of a sum.
+pub fn any_order()
+    ensures { (whole : ℕ) (ks : List ℕ) (s : Share) (ts : List Share) → 0 < whole
+        → AreParts whole ks (s ∷ ts) → sum ks ≡ whole → IsAll (added s ts) }
 {}

@@ -4,15 +4,15 @@ use Rattle.std.specs.Prelude.{Option, Some, None}
 use Rattle.std.specs.List.{All}
 use Rattle.std.proofs.lemmas.List.{length-take-le, take_more, take_all}
 use Rattle.std.proofs.lemmas.List.Elements.{All-nil, All-cons, All-weaker}
-use Rattle.lock_free_sp.specs.declared.share.Share.{Share}
-use Rattle.lock_free_sp.specs.declared.ring.view.View.{View}
-use Rattle.lock_free_sp.specs.Shares.{all_shares, half_of, both_of, IsAll}
-use Rattle.lock_free_sp.specs.Orders.{by_position, values_in_order}
-use Rattle.lock_free_sp.specs.Ring.Views.{opened, halved, half, joined, with_producer, without_producer, with_consumer, without_consumer, IsWhole}
-use Rattle.lock_free_sp.specs.Ring.Between.{Sound, Complete, Emptied}
-use Rattle.lock_free_sp.specs.Ring.Calls.{HasPushed, HasPopped}
-use Rattle.lock_free_sp.proofs.Orders.{Rising, in_order_already}
-use Rattle.lock_free_sp.proofs.Whole.{taken_is_beginning, emptied_is_all}
+use Rattle.lock_free.specs.Share.{Share}
+use Rattle.lock_free.specs.QueueView.View.{View}
+use Rattle.lock_free.specs.Shares.{all_shares, half_of, both_of, IsAll}
+use Rattle.lock_free.specs.Orders.{by_position, values_in_order}
+use Rattle.lock_free.specs.Ring.Views.{opened, halved, half, joined, with_producer, without_producer, with_consumer, without_consumer, IsWhole}
+use Rattle.lock_free.specs.Ring.Between.{Sound, Complete, Emptied}
+use Rattle.lock_free.specs.Ring.Calls.{HasPushed, HasPopped}
+use Rattle.lock_free.proofs.Orders.{Rising, in_order_already}
+use Rattle.lock_free.proofs.Whole.{taken_is_beginning, emptied_is_all}
 use Rattle.relay.specs.Rows.{row, HasSent, HasReceived}
 
 -- ---- rows

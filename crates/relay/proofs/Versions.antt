@@ -4,15 +4,15 @@ use Rattle.std.specs.List.{All, AllPairs, Contains}
 use Rattle.std.proofs.lemmas.List.{length-take-le, take_more, take_all, length-map, get_or-map, map-append, get_or_append_left, get_or_push}
 use Rattle.std.proofs.lemmas.List.Elements.{All-nil, All-cons, All-head, All-push}
 use Rattle.std.proofs.lemmas.List.Quantifiers.{all_pairs_push}
-use Rattle.lock_free_sp.specs.declared.share.Share.{Share}
-use Rattle.lock_free_sp.specs.declared.value.view.View.{View}
-use Rattle.lock_free_sp.specs.Shares.{At, both_of, IsAll}
-use Rattle.lock_free_sp.specs.Value.Views.{opened, halved, half, joined, with_producer, without_producer, loaded_at, IsWhole}
-use Rattle.lock_free_sp.specs.Value.Between.{Sound, Complete, UpTo}
-use Rattle.lock_free_sp.specs.Value.Calls.{HasStored, HasLoaded}
-use Rattle.lock_free_sp.proofs.Shares.{at_left, at_right, at_all}
-use Rattle.lock_free_sp.proofs.WholeValue.{stored_or_opening, highest}
-use Rattle.lock_free_sp.proofs.Rules.Ring.Lists.{all_right}
+use Rattle.lock_free.specs.Share.{Share}
+use Rattle.lock_free.specs.ValueView.View.{View}
+use Rattle.lock_free.specs.Shares.{At, both_of, IsAll}
+use Rattle.lock_free.specs.Value.Views.{opened, halved, half, joined, with_producer, without_producer, loaded_at, IsWhole}
+use Rattle.lock_free.specs.Value.Between.{Sound, Complete, UpTo}
+use Rattle.lock_free.specs.Value.Calls.{HasStored, HasLoaded}
+use Rattle.lock_free.proofs.Shares.{at_left, at_right, at_all}
+use Rattle.lock_free.proofs.WholeValue.{stored_or_opening, highest}
+use Rattle.lock_free.proofs.Lists.{all_right}
 use Rattle.relay.specs.Readings.{last_of, HasWritten, HasRead}
 use mathlib.Core.Logic.{dite}
 use native.Mathlib.Decide.{dec_lt}

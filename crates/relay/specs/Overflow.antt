@@ -1,8 +1,8 @@
 -- What a thread has added to what its pass knew of an overflowing queue.
 use Rattle.std.specs.Prelude.{◌≡◌, ◌⊎◌, ℕ, ◌<◌, List, [], ◌∷◌, ◌++◌, map, All, AllPairs}
-use Rattle.lock_free_sp.specs.declared.ring.view.View.{View}
-use Rattle.lock_free_sp.specs.Ring.Views.{IsWhole}
-use Rattle.lock_free_sp.specs.Ring.Between.{Emptied}
+use Rattle.lock_free.specs.QueueView.View.{View}
+use Rattle.lock_free.specs.Ring.Views.{IsWhole}
+use Rattle.lock_free.specs.Ring.Between.{Emptied}
 use Rattle.relay.specs.Rows.{row}
 
 -- each of the last list stands in one of the first two, and both stand in its order
@@ -20,11 +20,18 @@ pub record Piled (xs : List ℕ) (old new : List (ℕ × ℕ)) : Type 0 where
   pub rising : AllPairs (λ (x y : ℕ × ℕ). x.0 < y.0) pairs
   pub above : All (λ (x : ℕ × ℕ). All (λ (y : ℕ × ℕ). x.0 < y.0) pairs) old
 
--- it has pushed these numbers, one right after the other, and got those back
+-- it has pushed these numbers, one right after the other, and got those back; where the queue took
+-- none, before the first that it took or after the last, it got back what it pushed
 pub record HasPushedAll (xs back : List ℕ) (v w : View ℕ) : Type 0 where
+  pub before : List ℕ
+  pub pushed : List ℕ
+  pub after : List ℕ
+  pub older : List ℕ
+  pub numbers : xs ≡ before ++ (pushed ++ after)
+  pub returned : back ≡ before ++ (older ++ after)
   pub from : ℕ
-  pub published : w.published ≡ v.published ++ row from xs
-  pub taken : Piled back v.taken w.taken
+  pub published : w.published ≡ v.published ++ row from pushed
+  pub taken : Piled older v.taken w.taken
   pub share : w.share ≡ v.share
   pub capacity : w.capacity ≡ v.capacity
 

@@ -1,6 +1,6 @@
 -- What a thread has added to what its pass knew of a value: those stored, and those loaded.
 use Rattle.std.specs.Prelude.{◌≡◌, ℕ, ◌<◌, List, [], ◌∷◌, ◌++◌, map, AllPairs}
-use Rattle.lock_free_sp.specs.declared.value.view.View.{View}
+use Rattle.lock_free.specs.ValueView.View.{View}
 
 module _ {T : Type 0} where
   -- the last of the values, or the first where there are no more

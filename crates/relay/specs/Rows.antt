@@ -1,6 +1,6 @@
 -- What a thread has added to what its pass knew: numbers at consecutive positions.
 use Rattle.std.specs.Prelude.{◌≡◌, ℕ, suc, List, [], ◌∷◌, ◌++◌}
-use Rattle.lock_free_sp.specs.declared.ring.view.View.{View}
+use Rattle.lock_free.specs.QueueView.View.{View}
 
 -- the numbers at consecutive positions, from p on
 abbrev pub row : ℕ → List ℕ → List (ℕ × ℕ)

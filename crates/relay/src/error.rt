@@ -1,5 +1,5 @@
 //! Why something does not come through.
-use steps::enums::UniqueIndexCreationError;
+use lock_free::mpmc::unique_index_set_enums::UniqueIndexCreationError;
 use thiserror::Error;
 
 #[derive(Debug, Drop, Error)]
@@ -14,6 +14,4 @@ pub enum RelayError {
     Taken,
     #[error("no further version")]
     AtEnd,
-    #[error("a number came back as it was pushed")]
-    Returned,
 }

@@ -1,10 +1,10 @@
 //! Numbers from one thread to another, through an index queue.
 ghost use Rattle.std.specs.Prelude.{◌≡◌, IfOk, IsTrue, length, take};
-ghost use Rattle.lock_free_sp.specs.Ends.{view, queue_of, IsPassOf};
+ghost use Rattle.lock_free.specs.Ends.{view, queue_of, IsPassOf};
 ghost use Rattle.relay.specs.Rows.{HasSent, HasReceived};
 
 use crate::error::RelayError;
-use lock_free_sp::spsc::index_queue::{IndexQueue, Pass};
+use lock_free::spsc::index_queue::{IndexQueue, Pass};
 use std::alloc::Global;
 use std::sync::Wait;
 use std::thread;
@@ -82,7 +82,8 @@ pub struct Relayed {
 }
 
 /// Sends the numbers from one thread to another, which takes so many of them. What comes is a beginning of them, in
-/// their order, and all of them where nothing waits at the end.
+/// their order, and all of them where nothing waits at the end. Where more are asked for than there are, it waits for
+/// good.
 pub fn relay<R: Threads + Wait + Sync>(
     rt: &R,
     alloc: Global,
@@ -93,9 +94,7 @@ pub fn relay<R: Threads + Wait + Sync>(
     ensures all { IfOk result (λ r. IsTrue r.emptied → r.numbers.items ≡ numbers.now) }
 {
     let (queue, mut mine) = IndexQueue::new(alloc, 4)?;
-    let Some(other) = mine.split() else {
-        return Err(RelayError::NoPass);
-    };
+    let other = mine.split().ok_or(RelayError::NoPass)?;
     let shared = &queue;
     let (sent, received) = thread::join(
         rt,
@@ -108,17 +107,12 @@ pub fn relay<R: Threads + Wait + Sync>(
         numbers: came,
     } = received?;
     pass.join(other);
-    let Ok(mut consumer) = shared.acquire_consumer(pass) else {
-        return Err(RelayError::Taken);
-    };
-    match consumer.pop() {
-        None => Ok(Relayed {
-            numbers: came,
-            emptied: true,
-        }),
-        Some(_) => Ok(Relayed {
-            numbers: came,
-            emptied: false,
-        }),
-    }
+    let mut consumer = shared
+        .acquire_consumer(pass)
+        .map_err(|_| RelayError::Taken)?;
+    let emptied = consumer.pop().is_none();
+    Ok(Relayed {
+        numbers: came,
+        emptied,
+    })
 }

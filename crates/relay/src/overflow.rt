@@ -1,10 +1,10 @@
 //! Numbers from one thread to another, through a queue that hands its oldest number back where it is full.
 ghost use Rattle.std.specs.Prelude.{◌≡◌, IfOk};
-ghost use Rattle.lock_free_sp.specs.Ends.{view, queue_of, IsPassOf, consumer_view, consumer_queue};
+ghost use Rattle.lock_free.specs.Ends.{view, queue_of, IsPassOf, consumer_view, consumer_queue};
 ghost use Rattle.relay.specs.Overflow.{HasPushedAll, HasTaken, HasDrained, Merges};
 
 use crate::error::RelayError;
-use lock_free_sp::spsc::safely_overflowing_index_queue::{
+use lock_free::spsc::safely_overflowing_index_queue::{
     Consumer, Pass, SafelyOverflowingIndexQueue,
 };
 use std::alloc::Global;
@@ -19,8 +19,7 @@ struct Pushed {
     handed_back: Vec<u64>,
 }
 
-/// Pushes all numbers. A number that comes back right away as it was pushed is refused: whether it is an older one
-/// that equals it cannot be told.
+/// Pushes all numbers.
 fn push_all(
     alloc: Global,
     queue: &SafelyOverflowingIndexQueue,
@@ -37,12 +36,8 @@ fn push_all(
     };
     let mut handed_back = Vec::new(alloc);
     for next in 0..numbers.len() {
-        let number = numbers[next];
-        match producer.push(number) {
+        match producer.push(numbers[next]) {
             Some(back) => {
-                if back == number {
-                    return Err(RelayError::Returned);
-                }
                 if handed_back.push(back).is_err() {
                     return Err(RelayError::NoMemory);
                 }

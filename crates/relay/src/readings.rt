@@ -1,16 +1,16 @@
 //! A value of several words that one thread keeps up to date for another.
-ghost use Rattle.std.specs.Prelude.{◌≡◌, IfOk, ◌∷◌, All};
+ghost use Rattle.std.specs.Prelude.{◌≡◌, IfOk, ◌∷◌, All, length};
 ghost use Rattle.std.specs.List.{Contains};
-ghost use Rattle.lock_free_sp.specs.UnrestrictedAtomic.{view, value_of_pass, IsPassOf};
+ghost use Rattle.lock_free.specs.UnrestrictedAtomic.{view, value_of_pass, IsPassOf};
 ghost use Rattle.relay.specs.Readings.{HasWritten, HasRead, last_of};
 
 use crate::error::RelayError;
-use lock_free_sp::spmc::unrestricted_atomic::{Pass, UnrestrictedAtomic};
+use lock_free::spmc::unrestricted_atomic::{Pass, UnrestrictedAtomic};
+use lock_free::words::Words;
 use std::alloc::Global;
 use std::sync::Wait;
 use std::thread;
 use std::thread::Threads;
-use steps::words::Words;
 
 /// What a sensor measured.
 #[derive(Clone, Copy)]
@@ -96,10 +96,11 @@ fn load_some(
     requires { IsPassOf value.now pass }
     ensures value { IfOk result (λ r. value_of_pass r.pass ≡ value_of_pass pass) }
     ensures read { IfOk result (λ r. HasRead r.readings.items (view pass) (view r.pass)) }
+    ensures count { IfOk result (λ r. length r.readings.items ≡ count) }
 {
     let mut pass = pass;
     let mut readings = Vec::new(alloc);
-    for _ in 0..count {
+    for _done in 0..count {
         let reading = value.load(rt, &mut pass);
         if readings.push(reading).is_err() {
             return Err(RelayError::NoMemory);
@@ -125,6 +126,7 @@ pub fn show<R: Threads + Wait + Sync>(
     count: usize,
 ) -> Result<Shown, RelayError>
     ensures seen { IfOk result (λ r. All (Contains (first ∷ readings.now)) r.seen.items) }
+    ensures count { IfOk result (λ r. length r.seen.items ≡ count) }
     ensures last { IfOk result (λ r. r.last ≡ last_of first readings.now) }
 {
     let (value, mut mine) = UnrestrictedAtomic::new(alloc, first)?;

@@ -8,6 +8,7 @@ mod long_values;
 mod overflowing;
 mod queue;
 mod rounds;
+mod scripts;
 mod threads;
 mod users;
 mod value;

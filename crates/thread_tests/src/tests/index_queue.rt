@@ -1,5 +1,6 @@
 //! The index queue: real calls, alone and between threads.
 use super::rounds::{both_ends, fills_and_empties, hands_over};
+use super::scripts::{LAST_POSITION, SCRIPTS};
 use super::users::{Call, play};
 use lock_free::mpmc::unique_index_set_enums::UniqueIndexCreationError;
 use lock_free::spsc::index_queue::{Consumer, FixedSizeIndexQueue, IndexQueue, Producer};
@@ -19,24 +20,8 @@ const PUSH_AND_POP: [Call<u64>; 8] = [
     Call::Pop(None),
 ];
 
-/// At capacity 0 a queue is full and empty.
-const FULL_AND_EMPTY: [Call<u64>; 6] = [
-    Call::AskProducer(true),
-    Call::Push(1, Some(1)),
-    Call::ReleaseProducer,
-    Call::AskConsumer(true),
-    Call::Pop(None),
-    Call::Len(0),
-];
-
-const LENGTHS_AT_1: [Call<u64>; 4] = [
-    Call::AskProducer(true),
-    Call::Len(0),
-    Call::Push(7, None),
-    Call::Len(1),
-];
-
-const LENGTHS_AT_2: [Call<u64>; 6] = [
+/// At capacity 2; the first four at capacity 1 too.
+const LENGTHS: [Call<u64>; 6] = [
     Call::AskProducer(true),
     Call::Len(0),
     Call::Push(7, None),
@@ -45,69 +30,26 @@ const LENGTHS_AT_2: [Call<u64>; 6] = [
     Call::Len(2),
 ];
 
-/// A role is taken once, and a guard that is released or dropped gives it back.
-const ROLES: [Call<u64>; 13] = [
-    Call::AskProducer(true),
-    Call::AskProducer(false),
-    Call::AskConsumer(true),
-    Call::AskConsumer(false),
-    Call::ReleaseProducer,
-    Call::AskProducer(true),
-    Call::Push(7, None),
-    Call::Pop(Some(7)),
-    Call::DropConsumer,
-    Call::ReleaseProducer,
-    Call::AskConsumer(true),
-    Call::Pop(None),
-    Call::DropConsumer,
-];
-
-/// A producer that is dropped gives its role back.
-const DROPPED_PRODUCER: [Call<u64>; 10] = [
+/// A guard that is dropped gives its role back.
+const DROPPED_GUARDS: [Call<u64>; 13] = [
     Call::AskProducer(true),
     Call::Push(1, None),
     Call::DropProducer,
     Call::AskProducer(true),
     Call::Push(2, None),
     Call::Push(3, Some(3)),
-    Call::ReleaseProducer,
-    Call::AskConsumer(true),
-    Call::Pop(Some(1)),
-    Call::Pop(Some(2)),
-];
-
-/// A consumer that is dropped gives its role back.
-const DROPPED_CONSUMER: [Call<u64>; 8] = [
-    Call::AskProducer(true),
-    Call::Push(1, None),
     Call::AskConsumer(true),
     Call::Pop(Some(1)),
     Call::DropConsumer,
-    Call::Push(2, None),
+    Call::Push(4, None),
     Call::AskConsumer(true),
     Call::Pop(Some(2)),
-];
-
-/// From the position below the last one: the last write position takes nothing.
-const LAST_POSITION: [Call<u64>; 7] = [
-    Call::AskProducer(true),
-    Call::Push(1, None),
-    Call::Push(2, Some(2)),
-    Call::ReleaseProducer,
-    Call::AskConsumer(true),
-    Call::Pop(Some(1)),
-    Call::Pop(None),
+    Call::Pop(Some(4)),
 ];
 
 #[test]
 fn calls_in_turn(rt: HostRuntime) -> Result<(), Fail> {
-    let scripts: [(&str, usize, &[Call<u64>]); 4] = [
-        ("FULL_AND_EMPTY", 0, &FULL_AND_EMPTY),
-        ("LENGTHS_AT_2", 2, &LENGTHS_AT_2),
-        ("ROLES", 2, &ROLES),
-        ("DROPPED_PRODUCER", 2, &DROPPED_PRODUCER),
-    ];
-    for (name, capacity, calls) in scripts {
+    for (name, capacity, calls) in SCRIPTS {
         let (queue, pass) = IndexQueue::new(rt.alloc(), capacity)?;
         assert!(rt; queue.capacity() == capacity);
         play(&rt, &queue, pass, name, calls);
@@ -132,8 +74,9 @@ fn plays<const CAPACITY: usize>(
 #[test]
 fn calls_in_turn_by_type(rt: HostRuntime) -> Result<(), Fail> {
     plays::<128>(&rt, rt.alloc(), "PUSH_AND_POP", &PUSH_AND_POP)?;
-    plays::<1>(&rt, rt.alloc(), "LENGTHS_AT_1", &LENGTHS_AT_1)?;
-    plays::<2>(&rt, rt.alloc(), "DROPPED_CONSUMER", &DROPPED_CONSUMER)?;
+    plays::<1>(&rt, rt.alloc(), "LENGTHS", &LENGTHS[..4])?;
+    plays::<2>(&rt, rt.alloc(), "LENGTHS", &LENGTHS)?;
+    plays::<2>(&rt, rt.alloc(), "DROPPED_GUARDS", &DROPPED_GUARDS)?;
     let (queue, _) = FixedSizeIndexQueue::<128>::new(rt.alloc())?;
     assert!(rt; queue.capacity() == 128);
     Ok(())

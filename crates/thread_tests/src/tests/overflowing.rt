@@ -1,5 +1,6 @@
 //! The overflowing queue: real calls, alone and between threads.
 use super::rounds::{both_ends, fills_and_empties};
+use super::scripts::{LAST_POSITION, SCRIPTS};
 use super::users::{Call, play};
 use lock_free::mpmc::unique_index_set_enums::UniqueIndexCreationError;
 use lock_free::spsc::safely_overflowing_index_queue::{
@@ -28,43 +29,6 @@ const OLDEST_BACK: [Call<u64>; 12] = [
     Call::Len(0),
 ];
 
-/// At capacity 0 a queue hands each number back.
-const EACH_BACK: [Call<u64>; 6] = [
-    Call::AskProducer(true),
-    Call::Push(7, Some(7)),
-    Call::ReleaseProducer,
-    Call::AskConsumer(true),
-    Call::Pop(None),
-    Call::Len(0),
-];
-
-/// From the position below the last one: the last write position takes nothing.
-const LAST_POSITION: [Call<u64>; 7] = [
-    Call::AskProducer(true),
-    Call::Push(1, None),
-    Call::Push(2, Some(2)),
-    Call::ReleaseProducer,
-    Call::AskConsumer(true),
-    Call::Pop(Some(1)),
-    Call::Pop(None),
-];
-
-/// A role is taken once, and a guard that is released or dropped gives it back.
-const ROLES: [Call<u64>; 12] = [
-    Call::AskProducer(true),
-    Call::AskProducer(false),
-    Call::AskConsumer(true),
-    Call::AskConsumer(false),
-    Call::ReleaseProducer,
-    Call::AskProducer(true),
-    Call::Push(7, None),
-    Call::Pop(Some(7)),
-    Call::DropConsumer,
-    Call::ReleaseProducer,
-    Call::AskConsumer(true),
-    Call::Pop(None),
-];
-
 /// At capacity 1: guards that are dropped give their roles back.
 const DROPPED_GUARDS: [Call<u64>; 11] = [
     Call::AskProducer(true),
@@ -82,15 +46,11 @@ const DROPPED_GUARDS: [Call<u64>; 11] = [
 
 #[test]
 fn calls_in_turn(rt: HostRuntime) -> Result<(), Fail> {
-    let scripts: [(&str, usize, &[Call<u64>]); 2] = [
-        ("EACH_BACK", 0, &EACH_BACK),
-        ("ROLES", 2, &ROLES),
-    ];
-    for (name, capacity, calls) in scripts {
+    for (name, capacity, calls) in SCRIPTS {
         let (queue, pass) = SafelyOverflowingIndexQueue::new(rt.alloc(), capacity)?;
         play(&rt, &queue, pass, name, calls);
     }
-    let (queue, pass) = SafelyOverflowingIndexQueue::new_at(rt.alloc(), 1, u64::MAX - 1)?;
+    let (queue, pass) = SafelyOverflowingIndexQueue::new_at(rt.alloc(), 2, u64::MAX - 1)?;
     play(&rt, &queue, pass, "LAST_POSITION", &LAST_POSITION);
     Ok(())
 }

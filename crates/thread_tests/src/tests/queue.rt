@@ -1,7 +1,7 @@
 //! The queue of values: real calls, alone and between threads.
+use super::long_values::Sixteen;
 use super::rounds::{fills_and_empties, hands_over};
 use super::users::{Call, play};
-use crate::examples::reading::Reading;
 use lock_free::mpmc::unique_index_set_enums::UniqueIndexCreationError;
 use lock_free::spsc::queue::Queue;
 use lock_free::words::Words;
@@ -10,20 +10,12 @@ use std::process::Abort;
 use std::sync::Wait;
 use std::test::Fail;
 
-const FIRST: Reading = Reading {
-    sensor: 0x0123_4567_89ab_cdef,
-    time: 0,
-    level: 0xffff_ffff_ffff_ffff,
-};
+const FIRST: Sixteen = Sixteen(0x0123_4567_89ab_cdef, 0, 0xffff_ffff_ffff_ffff, 4);
 
-const SECOND: Reading = Reading {
-    sensor: 1,
-    time: 2,
-    level: 3,
-};
+const SECOND: Sixteen = Sixteen(1, 2, 3, 5);
 
-/// At capacity 2: values of three words come unchanged.
-const THREE_WORDS: [Call<Reading>; 17] = [
+/// At capacity 2: values of 16 words come unchanged.
+const SIXTEEN_WORDS: [Call<Sixteen>; 17] = [
     Call::AskProducer(true),
     Call::AskConsumer(true),
     Call::Pop(None),
@@ -65,7 +57,7 @@ const LENGTHS: [Call<u128>; 13] = [
 ];
 
 /// At capacity 0 a queue is full and empty.
-const FULL_AND_EMPTY: [Call<Reading>; 6] = [
+const FULL_AND_EMPTY: [Call<Sixteen>; 6] = [
     Call::AskProducer(true),
     Call::Push(FIRST, Some(FIRST)),
     Call::ReleaseProducer,
@@ -100,7 +92,7 @@ const PASS_TO_GUARD: [Call<u32>; 8] = [
 ];
 
 /// At capacity 2: a guard that is dropped gives its role back.
-const DROPPED_GUARDS: [Call<Reading>; 12] = [
+const DROPPED_GUARDS: [Call<Sixteen>; 12] = [
     Call::AskProducer(true),
     Call::Push(FIRST, None),
     Call::DropProducer,
@@ -116,7 +108,7 @@ const DROPPED_GUARDS: [Call<Reading>; 12] = [
 ];
 
 /// At capacity 2, from the position below the last one: the last write position takes nothing.
-const LAST_POSITION: [Call<Reading>; 8] = [
+const LAST_POSITION: [Call<Sixteen>; 8] = [
     Call::AskProducer(true),
     Call::Push(FIRST, None),
     Call::Push(SECOND, Some(SECOND)),
@@ -142,18 +134,18 @@ fn plays<T: Words + PartialEq + Drop, const CAPACITY: usize>(
 #[test]
 fn calls_in_turn(rt: HostRuntime) -> Result<(), Fail> {
     let alloc = rt.alloc();
-    plays::<Reading, 2>(&rt, alloc, "THREE_WORDS", &THREE_WORDS)?;
+    plays::<Sixteen, 2>(&rt, alloc, "SIXTEEN_WORDS", &SIXTEEN_WORDS)?;
     plays::<u128, 2>(&rt, alloc, "LENGTHS", &LENGTHS)?;
-    plays::<Reading, 0>(&rt, alloc, "FULL_AND_EMPTY", &FULL_AND_EMPTY)?;
+    plays::<Sixteen, 0>(&rt, alloc, "FULL_AND_EMPTY", &FULL_AND_EMPTY)?;
     plays::<u32, 2>(&rt, alloc, "ROLES", &ROLES)?;
     plays::<u32, 1>(&rt, alloc, "PASS_TO_GUARD", &PASS_TO_GUARD)?;
-    plays::<Reading, 2>(&rt, alloc, "DROPPED_GUARDS", &DROPPED_GUARDS)?;
+    plays::<Sixteen, 2>(&rt, alloc, "DROPPED_GUARDS", &DROPPED_GUARDS)?;
     Ok(())
 }
 
 #[test]
 fn the_last_write_position_takes_nothing(rt: HostRuntime) -> Result<(), Fail> {
-    let (queue, pass) = Queue::<Reading, 2>::new_at(rt.alloc(), u64::MAX - 1)?;
+    let (queue, pass) = Queue::<Sixteen, 2>::new_at(rt.alloc(), u64::MAX - 1)?;
     play(&rt, &queue, pass, "LAST_POSITION", &LAST_POSITION);
     Ok(())
 }
@@ -161,8 +153,8 @@ fn the_last_write_position_takes_nothing(rt: HostRuntime) -> Result<(), Fail> {
 #[test]
 fn capacities(rt: HostRuntime) -> Result<(), Fail> {
     let above = UniqueIndexCreationError::ProvidedCapacityGreaterThanMaxCapacity;
-    assert!(rt; Queue::<Reading, 4294967296>::new(rt.alloc()).err() == Some(above));
-    let (none, _) = Queue::<Reading, 0>::new(rt.alloc())?;
+    assert!(rt; Queue::<Sixteen, 4294967296>::new(rt.alloc()).err() == Some(above));
+    let (none, _) = Queue::<Sixteen, 0>::new(rt.alloc())?;
     assert!(rt; none.capacity() == 0);
     let (two, _) = Queue::<u128, 2>::new(rt.alloc())?;
     assert!(rt; two.capacity() == 2);

@@ -1,5 +1,5 @@
 //! What may cross threads.
-use crate::examples::reading::Reading;
+use super::long_values::Sixteen;
 use lock_free::spmc::unrestricted_atomic;
 use lock_free::spmc::unrestricted_atomic::UnrestrictedAtomic;
 use lock_free::spsc::index_queue::{FixedSizeIndexQueue, IndexQueue};
@@ -29,11 +29,11 @@ fn what_crosses_threads(rt: HostRuntime) {
     may_be_sent::<overflowing::Pass>();
     may_be_sent::<overflowing::Producer<'_>>();
     may_be_sent::<overflowing::Consumer<'_>>();
-    may_be_sent::<Queue<Reading, 8>>();
-    may_be_shared::<Queue<Reading, 8>>();
-    may_be_sent::<queue::Pass<Reading>>();
-    may_be_sent::<queue::Producer<'_, Reading>>();
-    may_be_sent::<queue::Consumer<'_, Reading>>();
+    may_be_sent::<Queue<Sixteen, 8>>();
+    may_be_shared::<Queue<Sixteen, 8>>();
+    may_be_sent::<queue::Pass<Sixteen>>();
+    may_be_sent::<queue::Producer<'_, Sixteen>>();
+    may_be_sent::<queue::Consumer<'_, Sixteen>>();
     may_be_sent::<UnrestrictedAtomic<(u64, u64)>>();
     may_be_shared::<UnrestrictedAtomic<(u64, u64)>>();
     may_be_sent::<unrestricted_atomic::Pass<(u64, u64)>>();

@@ -194,7 +194,7 @@ impl<'a, E: Kind<T>, T: Words + PartialEq + Drop> Users<'a, E, T> {
     }
 }
 
-/// Whether as many values wait.
+/// Whether as many values wait, by all three calls.
 fn has<E: Spare, T: Words>(
     rt: &impl Wait,
     queue: &Ring<E, T, RingRule<E, T>>,
@@ -204,48 +204,10 @@ fn has<E: Spare, T: Words>(
     requires { IsPassOf queue.now pass.old }
     ensures { queue_of pass.new ≡ queue_of pass.old }
 {
-    let by_len = has_by_len(rt, queue, pass, waiting);
-    let by_ends = is_empty_right(rt, queue, pass, waiting)
-        & is_full_right(rt, queue, pass, waiting);
-    by_len & by_ends
-}
-
-fn has_by_len<E: Spare, T: Words>(
-    rt: &impl Wait,
-    queue: &Ring<E, T, RingRule<E, T>>,
-    pass: &mut Pass<E, T>,
-    waiting: usize,
-) -> bool
-    requires { IsPassOf queue.now pass.old }
-    ensures { queue_of pass.new ≡ queue_of pass.old }
-{
-    queue.len(rt, pass) == waiting
-}
-
-/// Whether a queue with as many values is empty just where it says so.
-fn is_empty_right<E: Spare, T: Words>(
-    rt: &impl Wait,
-    queue: &Ring<E, T, RingRule<E, T>>,
-    pass: &mut Pass<E, T>,
-    waiting: usize,
-) -> bool
-    requires { IsPassOf queue.now pass.old }
-    ensures { queue_of pass.new ≡ queue_of pass.old }
-{
-    queue.is_empty(rt, pass) == (waiting == 0)
-}
-
-/// Whether a queue with as many values is full just where it says so.
-fn is_full_right<E: Spare, T: Words>(
-    rt: &impl Wait,
-    queue: &Ring<E, T, RingRule<E, T>>,
-    pass: &mut Pass<E, T>,
-    waiting: usize,
-) -> bool
-    requires { IsPassOf queue.now pass.old }
-    ensures { queue_of pass.new ≡ queue_of pass.old }
-{
-    queue.is_full(rt, pass) == (waiting == queue.capacity())
+    let number = queue.len(rt, pass);
+    let is_empty = queue.is_empty(rt, pass);
+    let is_full = queue.is_full(rt, pass);
+    (number, is_empty, is_full) == (waiting, waiting == 0, waiting == queue.capacity())
 }
 
 /// Makes these calls, each of which has to answer so.

@@ -1,5 +1,5 @@
 use Rattle.std.proofs.Common.{◌≡◌, ◌≤◌, length}
-use Rattle.lock_free_sp.specs.Ends.{view, queue_of, consumer_view, consumer_queue}
+use Rattle.lock_free.specs.Ends.{view, queue_of, consumer_view, consumer_queue}
 use Rattle.relay.proofs.Rows.{Receiving}
 use Rattle.relay.proofs.numbers.receive.Given as goal
 

@@ -1,5 +1,5 @@
 use Rattle.std.proofs.Common.{rules, arith, refl}
-use Rattle.lock_free_sp.specs.Ends.{view, producer_view}
+use Rattle.lock_free.specs.Ends.{view, producer_view}
 use Rattle.relay.proofs.Rows.{sends, sent_all}
 use Rattle.relay.proofs.numbers.send.Goals as goal
 

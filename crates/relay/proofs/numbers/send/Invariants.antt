@@ -1,5 +1,5 @@
 use Rattle.std.proofs.Common.{◌≡◌, ◌≤◌, length, take}
-use Rattle.lock_free_sp.specs.Ends.{view, queue_of, producer_view, producer_queue}
+use Rattle.lock_free.specs.Ends.{view, queue_of, producer_view, producer_queue}
 use Rattle.relay.proofs.Rows.{Sending}
 use Rattle.relay.proofs.numbers.send.Given as goal
 

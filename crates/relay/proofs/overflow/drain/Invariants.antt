@@ -1,5 +1,5 @@
 use Rattle.std.proofs.Common.{◌≡◌, ℕ, List, ◌++◌}
-use Rattle.lock_free_sp.specs.Ends.{consumer_view, consumer_queue}
+use Rattle.lock_free.specs.Ends.{consumer_view, consumer_queue}
 use Rattle.relay.specs.Overflow.{HasTaken}
 use Rattle.relay.proofs.overflow.drain.Given as goal
 

@@ -1,6 +1,6 @@
 use Rattle.std.proofs.Common.{rules, arith}
-use Rattle.lock_free_sp.specs.Ends.{view, consumer_view}
-use Rattle.lock_free_sp.specs.Ring.Views.{opened, halved, half}
+use Rattle.lock_free.specs.Ends.{view, consumer_view}
+use Rattle.lock_free.specs.Ring.Views.{opened, halved, half}
 use Rattle.relay.specs.Overflow.{HasPushedAll, HasTaken, HasDrained}
 use Rattle.relay.proofs.Merging.{overflowed}
 use Rattle.relay.proofs.overflow.overflow.Goals as goal

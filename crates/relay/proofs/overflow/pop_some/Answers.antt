@@ -1,6 +1,6 @@
 use Rattle.std.proofs.Common.{rules, arith, subst, sym, ◌≡◌, List, [], ◌∷◌, ◌++◌}
 use Rattle.std.proofs.lemmas.Grind.{common_steps}
-use Rattle.lock_free_sp.specs.Ends.{view, consumer_view}
+use Rattle.lock_free.specs.Ends.{view, consumer_view}
 use Rattle.relay.specs.Overflow.{HasTaken}
 use Rattle.relay.proofs.Merging.{takes_one, takes_same}
 use Rattle.relay.proofs.overflow.pop_some.Goals as goal

@@ -1,5 +1,5 @@
 use Rattle.std.proofs.Common.{◌≡◌}
-use Rattle.lock_free_sp.specs.Ends.{view, queue_of, consumer_view, consumer_queue}
+use Rattle.lock_free.specs.Ends.{view, queue_of, consumer_view, consumer_queue}
 use Rattle.relay.specs.Overflow.{HasTaken}
 use Rattle.relay.proofs.overflow.pop_some.Given as goal
 

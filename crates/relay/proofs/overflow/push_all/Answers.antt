@@ -1,8 +1,13 @@
 use Rattle.std.proofs.Common.{rules, arith, ap, subst, sym, refl, ◌≡◌, ◌+◌, List, [], ◌∷◌, ◌++◌, take}
+use Rattle.std.specs.Prelude.{Option, Some, unwrap_or}
 use Rattle.std.proofs.lemmas.Grind.{common_steps}
-use Rattle.lock_free_sp.specs.Ends.{view, producer_view}
-use Rattle.relay.proofs.Merging.{Pushing, pushes_one, replaces_one, pushed_all}
+use Rattle.lock_free.specs.Ends.{view, producer_view}
+use Rattle.relay.proofs.Merging.{Pushing, pushing_none, pushes_one, returns_one, pushed_all}
 use Rattle.relay.proofs.overflow.push_all.Goals as goal
+
+pub loop-next-init : goal.loop-next-init
+loop-next-init c =
+    (search rules, refl, subst (λ z. Pushing [] z (view c.args.pass) (producer_view c.in-Ok.producer)) (sym c.new-handed_back.ensures.items) (pushing_none c.args.numbers.now (view c.args.pass) (producer_view c.in-Ok.producer) c.in-Ok.ensures.acquired.1))
 
 pub loop-next-preserved : goal.loop-next-preserved
 loop-next-preserved c =
@@ -10,7 +15,8 @@ loop-next-preserved c =
       search rules,
       search rules,
       subst (λ z. Pushing (take (c.loop-next.next + 1) c.args.numbers.now) z (view c.args.pass) (producer_view c.push.new.self)) (sym items)
-          (replaces_one c.args.numbers.now c.loop-next.next _ c.loop-next.handed_back.items (view c.args.pass) (producer_view c.loop-next.producer) (producer_view c.push.new.self) (search rules) refl c.loop-next.invariant.2 c.in-Some.back (search rules) c.in-Some.ensures.handed_back),
+          (returns_one c.args.numbers.now c.loop-next.next _ c.loop-next.handed_back.items (view c.args.pass) (producer_view c.loop-next.producer) (producer_view c.push.new.self) (search rules) refl c.loop-next.invariant.2 c.in-Some.back c.in-Some.ensures.handed_back
+          (λ shut. search rules)),
     )
 
 pub returns-clause-pushed : goal.returns-clause-pushed
@@ -19,4 +25,4 @@ returns-clause-pushed c =
 
 pub loop-next-preserved-in-None : goal.loop-next-preserved-in-None
 loop-next-preserved-in-None c =
-    (search rules, search rules, pushes_one c.args.numbers.now c.loop-next.next _ c.loop-next.handed_back.items (view c.args.pass) (producer_view c.loop-next.producer) (producer_view c.push.new.self) (search rules) refl c.loop-next.invariant.2 c.in-None.ensures.added)
+    (search rules, search rules, pushes_one c.args.numbers.now c.loop-next.next _ c.loop-next.handed_back.items (view c.args.pass) (producer_view c.loop-next.producer) (producer_view c.push.new.self) (search rules) refl c.loop-next.invariant.2 c.in-None.ensures.added (λ shut. search rules))

@@ -1,6 +1,6 @@
 use Rattle.std.proofs.Common.{rules}
-use Rattle.lock_free_sp.specs.UnrestrictedAtomic.{view}
-use Rattle.lock_free_sp.specs.Value.Views.{opened, halved, half}
+use Rattle.lock_free.specs.UnrestrictedAtomic.{view}
+use Rattle.lock_free.specs.Value.Views.{opened, halved, half}
 use Rattle.relay.specs.Readings.{HasWritten, HasRead}
 use Rattle.relay.proofs.Versions.{all_seen, last_is}
 use Rattle.relay.proofs.readings.show.Goals as goal

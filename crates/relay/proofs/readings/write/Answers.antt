@@ -1,5 +1,5 @@
 use Rattle.std.proofs.Common.{rules, arith, refl}
-use Rattle.lock_free_sp.specs.UnrestrictedAtomic.{view, producer_view}
+use Rattle.lock_free.specs.UnrestrictedAtomic.{view, producer_view}
 use Rattle.relay.proofs.Versions.{writes}
 use Rattle.relay.proofs.readings.write.Goals as goal
 
