@@ -1,4 +1,5 @@
--- The definitions at a worked run of the queue of values, whose numbers have two words, the high one first.
+-- The definitions at a worked run of the queue of values, whose numbers have two words, the high one first, and at
+-- histories that they refuse.
 use Rattle.std.proofs.Common.{◌≡◌, ℕ, true, List, [], ◌∷◌, ◌++◌, refl}
 use Rattle.model.specs.declared.event.Item.TheVariants.{Value}
 use Rattle.model.specs.declared.event.Start.TheVariants.{Queues}
@@ -9,7 +10,7 @@ use Rattle.model.specs.declared.families.queues.QueueStart.TheVariants.{Push, Po
 use Rattle.model.specs.declared.families.queues.QueueKind.TheVariants.{Queue}
 use Rattle.model.specs.declared.turn.Kind as any_kinds
 use Rattle.model.specs.declared.turn.Turn.{Turn}
-use Rattle.model.specs.Families.Queues.Book.{waiting_in}
+use Rattle.model.specs.Families.Queues.Book.{waiting_in, IsBook}
 use Rattle.model.specs.Families.Queues.Objects.{bounded_list}
 use Rattle.model.specs.Objects.{IsLegal}
 use Rattle.model.specs.Reading.{moments}
@@ -62,3 +63,16 @@ pop_told =
 
 pub pop_reads_both : (ran two_words any_kinds.TheVariants.Queue 1 2 (turns ++ pop_turns)).events ≡ told ++ pop_told
 pop_reads_both = refl
+
+-- ---- what they refuse
+
+-- a pop that hands its value out before it moves the read position
+pub no_early_pop : IsBook two_words Queue (record { world = (ran two_words any_kinds.TheVariants.Queue 1 2 turns).world; events = told ++ Begun 1 (Queues Pop) ∷ HandedOut 1 (Value 18446744073709551618) ∷ [] }) → ⊥
+no_early_pop book = let read = book.read in cc
+
+-- a push that publishes before it moves the write position
+abbrev half_pushed : List (Turn ℕ)
+half_pushed = roles ++ begins 0 (Queues (Push 18446744073709551618)) 3
+
+pub no_early_push : IsBook two_words Queue (record { world = (ran two_words any_kinds.TheVariants.Queue 1 2 half_pushed).world; events = roles_told ++ Begun 0 (Queues (Push 18446744073709551618)) ∷ Published 0 (Value 18446744073709551618) ∷ [] }) → ⊥
+no_early_push book = let write = book.write in cc

@@ -1,5 +1,7 @@
 -- The definitions of the single value at a worked run, and at histories that they refuse.
-use Rattle.std.proofs.Common.{◌≡◌, ℕ, true, Some, List, [], ◌∷◌, ◌++◌, refl}
+use Rattle.std.proofs.Common.{◌≡◌, ◌<◌, ℕ, true, Option, Some, None, List, [], ◌∷◌, ◌++◌, refl, ap, arith}
+use Rattle.steps.specs.declared.ask.Ask.{Ask}
+use Rattle.steps.specs.declared.ask.Op as ops
 use Rattle.model.specs.declared.event.Start.TheVariants.{Atomic}
 use Rattle.model.specs.declared.event.Answer.TheVariants.{Truth, Loaded}
 use Rattle.model.specs.declared.event.Event.{Event}
@@ -7,12 +9,12 @@ use Rattle.model.specs.declared.event.Event.TheVariants.{Begun, Acted, Finished}
 use Rattle.model.specs.declared.families.atomic.AtomicStart.TheVariants.{AcquireProducer, Store, Load}
 use Rattle.model.specs.declared.turn.Kind as kinds
 use Rattle.model.specs.declared.turn.Turn.{Turn}
-use Rattle.model.specs.Families.Atomic.Promises.{value_of_zeros, value_in}
+use Rattle.model.specs.Families.Atomic.Promises.{value_of_zeros, value_in, ActsRight, IsValue}
 use Rattle.model.specs.Objects.{IsLegal}
 use Rattle.model.specs.Promises.Families.{promise_of}
 use Rattle.model.specs.Promises.Spans.{Stands}
 use Rattle.model.specs.Reading.{moments, Open}
-use Rattle.model.specs.World.{progress_in}
+use Rattle.model.specs.World.{Trace, progress_in}
 use Rattle.model.proofs.Runs.{two_words, nexts, begins, ran}
 
 abbrev first : ℕ
@@ -69,3 +71,24 @@ no_torn_load e = cc
 -- a load that ends and has not acted
 no_silent_load : Stands (promise_of kinds.TheVariants.Atomic) 1 (Finished 1 (Atomic Load) (Loaded second)) (Open (Atomic Load) []) → ⊥
 no_silent_load h = let none = h.1 in cc
+
+-- a store that acts as it stores a word, and a load that acts as it loads one
+abbrev word_of : Option Ask → ℕ
+word_of None = 9
+word_of (Some ask) = ask.word
+
+not_first : (n : ℕ) → 0 < n → n ≡ 0 → ⊥
+not_first n some e = absurd (omega arith)
+
+pub no_early_store : (t : Trace ℕ) → ActsRight t (Some (record { word = 4; op = ops.TheVariants.Store 1 })) (λ q. q ≡ 0) (Acted 0 (Atomic (Store first)) (Truth true)) → ⊥
+no_early_store t h = not_first 4 (omega arith) (ap word_of h.1)
+
+pub no_unchecked_load : (t : Trace ℕ) → ActsRight t (Some (record { word = 3; op = ops.TheVariants.Load })) (λ q. q ≡ 1) (Acted 1 (Atomic Load) (Loaded 0)) → ⊥
+no_unchecked_load t h = not_first 3 (omega arith) (ap word_of h.1)
+
+-- a store has stored its words, and the events say that it has acted
+abbrev stored : Trace ℕ
+stored = ran two_words kinds.TheVariants.Atomic 1 2 (begins 0 (Atomic AcquireProducer) 1 ++ begins 0 (Atomic (Store first)) 3)
+
+pub no_act_before_the_add : IsValue (record { world = stored.world; events = stored.events ++ Acted 0 (Atomic (Store first)) (Truth true) ∷ [] }) → ⊥
+no_act_before_the_add h = let cell = h.cell in cc
