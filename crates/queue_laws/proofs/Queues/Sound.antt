@@ -311,7 +311,7 @@ opening_fits en IndexQueue c = (refl, refl)
 opening_fits en kinds.TheVariants.Overflow c = (refl, refl)
 opening_fits en kinds.TheVariants.Queue c = (refl, refl)
 
-cell_size : {T : Type 0} → (en : Coding T) (kd : QueueKind) → words_of_cell en.size kd ≡ (encoded en kd).size
+pub cell_size : {T : Type 0} → (en : Coding T) (kd : QueueKind) → words_of_cell en.size kd ≡ (encoded en kd).size
 cell_size en IndexQueue = refl
 cell_size en kinds.TheVariants.Overflow = refl
 cell_size en kinds.TheVariants.Queue = refl
