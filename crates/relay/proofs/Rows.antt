@@ -1,13 +1,13 @@
 -- Numbers at consecutive positions, and what is known of them once the passes are joined.
-use Rattle.std.proofs.Common.{◌≡◌, ℕ, zero, suc, ◌+◌, ◌*◌, ◌<◌, ◌≤◌, List, [], ◌∷◌, ◌++◌, length, map, get_or, take, sym, refl, ap, subst, ◌∙◌, arith, append-nil, append_assoc, length-append}
+use Rattle.std.proofs.Common.{◌≡◌, ℕ, suc, ◌+◌, ◌<◌, ◌≤◌, List, [], ◌∷◌, ◌++◌, length, map, get_or, take, sym, refl, ap, subst, ◌∙◌, arith, append-nil, append_assoc, length-append}
 use Rattle.std.specs.Prelude.{Option, Some, None}
 use Rattle.std.specs.List.{All}
-use Rattle.std.proofs.lemmas.List.{length-take-le, take_more, take_all}
-use Rattle.std.proofs.lemmas.List.Elements.{All-nil, All-cons, All-weaker}
+use Rattle.std.proofs.lemmas.List.{take_more, take_all}
+use Rattle.std.proofs.lemmas.List.Elements.{All-nil, All-cons}
 use Rattle.lock_free.specs.Share.{Share}
 use Rattle.lock_free.specs.QueueView.View.{View}
-use Rattle.lock_free.specs.Shares.{all_shares, half_of, both_of, IsAll}
-use Rattle.lock_free.specs.Orders.{by_position, values_in_order}
+use Rattle.lock_free.specs.Shares.{both_of, IsAll}
+use Rattle.lock_free.specs.Orders.{values_in_order}
 use Rattle.lock_free.specs.Ring.Views.{opened, halved, half, joined, with_producer, without_producer, with_consumer, without_consumer, IsWhole}
 use Rattle.lock_free.specs.Ring.Between.{Sound, Complete, Emptied}
 use Rattle.lock_free.specs.Ring.Calls.{HasPushed, HasPopped}

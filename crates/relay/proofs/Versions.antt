@@ -1,7 +1,7 @@
 -- Values that were stored and loaded, and what is known of them once the passes are joined.
-use Rattle.std.proofs.Common.{◌≡◌, ℕ, zero, suc, ◌+◌, ◌*◌, ◌<◌, ◌≤◌, ◌⊎◌, inl, inr, ⊎_elim, List, [], ◌∷◌, ◌++◌, length, map, get_or, take, sym, refl, ap, subst, ◌∙◌, arith, append-nil, append_assoc, length-append}
+use Rattle.std.proofs.Common.{◌≡◌, ℕ, suc, ◌+◌, ◌<◌, ◌≤◌, inl, inr, ⊎_elim, List, [], ◌∷◌, ◌++◌, length, map, get_or, take, sym, refl, ap, subst, ◌∙◌, arith, append-nil, append_assoc, length-append}
 use Rattle.std.specs.List.{All, AllPairs, Contains}
-use Rattle.std.proofs.lemmas.List.{length-take-le, take_more, take_all, length-map, get_or-map, map-append, get_or_append_left, get_or_push}
+use Rattle.std.proofs.lemmas.List.{take_more, take_all, length-map, get_or-map, map-append, get_or_append_left, get_or_push}
 use Rattle.std.proofs.lemmas.List.Elements.{All-nil, All-cons, All-head, All-push}
 use Rattle.std.proofs.lemmas.List.Quantifiers.{all_pairs_push}
 use Rattle.lock_free.specs.Share.{Share}
@@ -10,7 +10,7 @@ use Rattle.lock_free.specs.Shares.{At, both_of, IsAll}
 use Rattle.lock_free.specs.Value.Views.{opened, halved, half, joined, with_producer, without_producer, loaded_at, IsWhole}
 use Rattle.lock_free.specs.Value.Between.{Sound, Complete, UpTo}
 use Rattle.lock_free.specs.Value.Calls.{HasStored, HasLoaded}
-use Rattle.lock_free.proofs.Shares.{at_left, at_right, at_all}
+use Rattle.lock_free.proofs.Shares.{at_right, at_all}
 use Rattle.lock_free.proofs.WholeValue.{stored_or_opening, highest}
 use Rattle.lock_free.proofs.Lists.{all_right}
 use Rattle.relay.specs.Readings.{last_of, HasWritten, HasRead}

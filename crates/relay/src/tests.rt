@@ -24,6 +24,14 @@ fn none_is_lost_where_the_queue_overflows(rt: HostRuntime) -> Result<(), Fail> {
 }
 
 #[test]
+fn equal_numbers_overflow_too(rt: HostRuntime) -> Result<(), Fail> {
+    let came = overflow(&rt, rt.alloc(), &[5, 5, 5, 5, 5, 5], 0)?;
+    assert_eq!(rt; came.popped.len(), 4);
+    assert_eq!(rt; came.handed_back.len(), 2);
+    Ok(())
+}
+
+#[test]
 fn the_last_reading_comes(rt: HostRuntime) -> Result<(), Fail> {
     let shown = show(
         &rt,

@@ -1,4 +1,4 @@
-use Rattle.std.proofs.Common.{rules, arith, ap, subst, sym, ◌≡◌, List, [], ◌∷◌, ◌++◌, length, length-append}
+use Rattle.std.proofs.Common.{rules, arith, ap, subst, sym, ◌≡◌, [], ◌∷◌, ◌++◌, length, length-append}
 use Rattle.std.proofs.lemmas.Grind.{common_steps}
 use Rattle.lock_free.specs.Ends.{view, consumer_view}
 use Rattle.relay.proofs.Rows.{Receiving, gets}

@@ -1,4 +1,4 @@
-use Rattle.std.proofs.Common.{rules, ap, subst, sym, ◌≡◌, ◌∙◌, take}
+use Rattle.std.proofs.Common.{rules, ap, subst, ◌≡◌, ◌∙◌, take}
 use Rattle.lock_free.specs.Ends.{view, consumer_view}
 use Rattle.lock_free.specs.Ring.Views.{opened, halved, half, with_consumer, IsWhole}
 use Rattle.lock_free.specs.Ring.Between.{Emptied}

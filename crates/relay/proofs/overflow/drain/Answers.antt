@@ -1,6 +1,5 @@
-use Rattle.std.proofs.Common.{rules, arith, ap, subst, sym, ◌≡◌, ◌∙◌, List, [], ◌∷◌, ◌++◌, append_assoc}
+use Rattle.std.proofs.Common.{rules, arith, ap, ◌≡◌, ◌∙◌, [], ◌∷◌, ◌++◌, append_assoc}
 use Rattle.std.proofs.lemmas.Grind.{common_steps}
-use Rattle.lock_free.specs.Ends.{consumer_view}
 use Rattle.relay.proofs.Merging.{takes_one, drained}
 use Rattle.relay.proofs.overflow.drain.Goals as goal
 

@@ -1,4 +1,4 @@
-use Rattle.std.proofs.Common.{rules, arith, subst, sym, ◌≡◌, List, [], ◌∷◌, ◌++◌}
+use Rattle.std.proofs.Common.{rules, arith, subst, sym, ◌≡◌, [], ◌∷◌, ◌++◌}
 use Rattle.std.proofs.lemmas.Grind.{common_steps}
 use Rattle.lock_free.specs.Ends.{view, consumer_view}
 use Rattle.relay.specs.Overflow.{HasTaken}

@@ -1,5 +1,4 @@
-use Rattle.std.proofs.Common.{rules, arith, ap, subst, sym, refl, ◌≡◌, ◌+◌, List, [], ◌∷◌, ◌++◌, take}
-use Rattle.std.specs.Prelude.{Option, Some, unwrap_or}
+use Rattle.std.proofs.Common.{rules, arith, subst, sym, refl, ◌≡◌, ◌+◌, [], ◌∷◌, ◌++◌, take}
 use Rattle.std.proofs.lemmas.Grind.{common_steps}
 use Rattle.lock_free.specs.Ends.{view, producer_view}
 use Rattle.relay.proofs.Merging.{Pushing, pushing_none, pushes_one, returns_one, pushed_all}

@@ -1,4 +1,4 @@
-use Rattle.std.proofs.Common.{◌≡◌, ◌≤◌, length, take}
+use Rattle.std.proofs.Common.{◌≡◌, length, take}
 use Rattle.lock_free.specs.Ends.{view, queue_of, producer_view, producer_queue}
 use Rattle.relay.proofs.Merging.{Pushing}
 use Rattle.relay.proofs.overflow.push_all.Given as goal
