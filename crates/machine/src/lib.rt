@@ -47,7 +47,8 @@ impl<T: Words> Machine<T> {
     ghost use Rattle.model.specs.Promises.Turns.{IsOneTurnLater, WritesOneWord, GoesOn, CountsTurn, CountsOthers};
 
     /// A structure that is empty, or has the value that words of zeros make, with its roles free, and this many
-    /// parties, numbered from 0. Room for a party is made as it first begins a call.
+    /// parties, numbered from 0. Of a unique index set no index is held. Room for a party is made as it first begins a
+    /// call.
     ///
     /// Refused are, in this order, a capacity above the greatest of the kind, one below the least, and memory.
     pub fn new(
@@ -69,9 +70,10 @@ impl<T: Words> Machine<T> {
     /// One turn. A refused turn changes nothing.
     ///
     /// The refusals are tested in this order: `AtEnd` after 2^64 - 2 turns, `NoParty` for a number that is not below
-    /// the number of parties; for `Begin` then `Busy`, `WrongCall` and `NoRole`; for `Next` `Idle` and `Undecided`
-    /// where a decision is due; for `Decide` `Idle` and `Undecided` where none is due; for `Die` `WrongCall`; last
-    /// `NoMemory`, where there is no room for the events or for a new party.
+    /// the number of parties; for `Begin` then `Busy`, `WrongCall`, `BadIndex` for a bit or index that is not below the
+    /// capacity, `NoRole`, and `NotHeld` for a release of an index that the party does not hold; for `Next` `Idle` and
+    /// `Undecided` where a decision is due; for `Decide` `Idle` and `Undecided` where none is due; for `Die`
+    /// `WrongCall`; last `NoMemory`, where there is no room for the events or for a new party.
     pub fn step(&mut self, turn: Turn<T>) -> Result<(), Refusal>
         ensures allowed { OnOk result
             (refusal_of (world_in ⟦<T as Coded>⟧.coding self.old) turn ≡ None) }
@@ -137,7 +139,8 @@ impl<T: Words> Machine<T> {
     /// queue has one more than its capacity. Of the single value: the version, the producer's role, and two cells of
     /// `T::WORDS` words each, of which the one with the number (version - 1) mod 2 has the value that stands. Of a bit
     /// set: the reset position, and then one word for each 64 places begun, in which place b is bit b mod 64 of the word
-    /// 1 + b / 64. Of a counting bit set: the count of each place.
+    /// 1 + b / 64. Of a counting bit set: the count of each place. Of the unique index set: the
+    /// head, the next index of each index, and the claim flags, 64 to a word.
     pub fn words(&self) -> &[u64]
         ensures { result.now ≡ self.now.words }
     {

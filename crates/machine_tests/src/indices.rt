@@ -255,7 +255,10 @@ fn a_head_that_comes_round(rt: HostRuntime) -> Result<(), Fail> {
     let progress = machine.under_way(0);
     assert!(rt; progress.is_some_and(|made| made.steps == 4 && made.backs == 0));
     // What the head proposes now is held by the party itself, so the next index is found by a scan.
-    let proposed = machine.words().first().map(|word| HeadDetails::from(*word).head);
+    let proposed = machine
+        .words()
+        .first()
+        .map(|word| HeadDetails::from(*word).head);
     assert!(rt; proposed == Some(2));
     go(&mut machine, Turn::Begin(1, ACQUIRE))?;
     goes(&mut machine, 1, 5)?;

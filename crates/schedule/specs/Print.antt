@@ -2,6 +2,7 @@
 use Rattle.std.specs.Prelude.{ℕ, Bool, true, false, List, [], ◌++◌, Result, Ok, Err, codes, decimal}
 use Rattle.std.specs.List.{flat_map}
 use Rattle.model.specs.declared.event.Answer.{Answer}
+use Rattle.model.specs.declared.event.Answer as answers
 use Rattle.model.specs.declared.event.Answer.TheVariants.{Done, Truth, Number, PoppedNone, PoppedIndex, Popped, Loaded, ResetNone, Reset, NoIndex, State}
 use Rattle.model.specs.declared.event.Event.{Event}
 use Rattle.model.specs.declared.event.Event.TheVariants.{Begun, Published, HandedOut, Set, Cleared, Counted, TakenOut, Claimed, Freed, Locked, Acted, Finished}
@@ -13,7 +14,6 @@ use Rattle.model.specs.declared.turn.Refusal.{Refusal}
 use Rattle.model.specs.declared.turn.Refusal.TheVariants as refusals
 use Rattle.schedule.specs.Atomic.{value_call_text}
 use Rattle.schedule.specs.Bits.{bits_call_text, taken_text}
-use Rattle.model.specs.declared.event.Answer as answers
 use Rattle.schedule.specs.Indices.{index_call_text, failure_text, state_text}
 use Rattle.schedule.specs.Queues.{queue_call_text}
 use Rattle.schedule.specs.declared.error.Cause.{Cause}

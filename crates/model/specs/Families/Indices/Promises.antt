@@ -2,8 +2,8 @@
 use Rattle.std.specs.Prelude.{◌≡◌, ◌≢◌, ℕ, ◌+◌, ◌-◌, ◌<◌, ◌≤◌, true, false, Option, Some, None, is_some, List, slice_index, slice_index_or}
 use Rattle.steps.specs.declared.ask.Ask.{Ask}
 use Rattle.steps.specs.declared.indices.enums.ReleaseMode.TheVariants.{LockIfLastIndex, Default}
-use Rattle.steps.specs.declared.indices.enums.ReleaseState as states
-use Rattle.steps.specs.declared.indices.enums.UniqueIndexSetAcquireFailure as failures
+use Rattle.steps.specs.declared.indices.enums.ReleaseState.TheVariants as states
+use Rattle.steps.specs.declared.indices.enums.UniqueIndexSetAcquireFailure.TheVariants as failures
 use Rattle.steps.specs.Indices.Head.{flag_word, has_flag, says_locked}
 use Rattle.model.specs.declared.event.Answer.{Answer}
 use Rattle.model.specs.declared.event.Answer.TheVariants.{NoIndex, State, Number, Truth}
@@ -50,13 +50,14 @@ module _ {T : Type 0} where
   -- OutOfIndices only where without it as many indices are in use as there are, and a release
   -- that may lock does not only where without it some index is in use.
   abbrev pub AnswersRight : ℕ → List (Event T) → Event T → Type 0
-  AnswersRight capacity before (Finished p (Indices Acquire) (NoIndex failures.TheVariants.IsLocked)) =
+  AnswersRight capacity before (Finished p (Indices Acquire) (NoIndex failures.IsLocked)) =
       is_locked before ≡ true
-  AnswersRight capacity before (Finished p (Indices Acquire) (NoIndex failures.TheVariants.OutOfIndices)) =
+  AnswersRight capacity before (Finished p (Indices Acquire) (NoIndex failures.OutOfIndices)) =
       capacity + 1 ≤ in_use (tally_of before)
-  AnswersRight capacity before (Finished p (Indices (Release index mode)) (State states.TheVariants.Locked)) =
+  AnswersRight capacity before (Finished p (Indices (Release index mode)) (State states.Locked)) =
       is_locked before ≡ true
-  AnswersRight capacity before (Finished p (Indices (Release index LockIfLastIndex)) (State states.TheVariants.Unlocked)) =
+  AnswersRight capacity before
+      (Finished p (Indices (Release index LockIfLastIndex)) (State states.Unlocked)) =
       2 ≤ in_use (tally_of before)
   AnswersRight capacity before (Finished p (Indices BorrowedIndices) (Number number)) =
       CountsRight before number
@@ -77,7 +78,8 @@ module _ {T : Type 0} where
   GoesStraight (Indices (Release index Default)) backs = backs ≡ 0
   GoesStraight start backs = Unit {0}
 
-  -- the flags of those indices stand that have a holder, and the head says whether the set is locked
+  -- the flags of those indices stand that have a holder, and the head says whether the set is
+  -- locked
   pub record IsIndexSet (t : Trace T) : Type 0 where
     pub holds : Each (HoldsRight t.world.capacity) t.events
     pub answers : Each (AnswersRight t.world.capacity) t.events
