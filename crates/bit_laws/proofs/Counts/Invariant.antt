@@ -19,12 +19,13 @@ use Rattle.model.specs.Families.Bits.Promises.{CountsAnswerRight, counts_promise
 use Rattle.model.specs.Families.Bits.Reading.{counts, takes}
 use Rattle.model.specs.Moments.{SinceBegin}
 use Rattle.model.specs.Promises.Spans.{Stands}
-use Rattle.model.specs.Reading.{Each, Span, Never, Open, Ended, own_after, span_of}
+use Rattle.model.specs.Reading.{Each, Span, own_after, span_of}
 use Rattle.model.proofs.Frame as frame
 use Rattle.model.proofs.Frame.{Family}
-use Rattle.model.proofs.Moments.{others_begin_none}
+use Rattle.model.proofs.Moments.{others_begin_none, since_more}
 use Rattle.model.proofs.Readings.{AreRight, Each-append, AreOwn, AllFollow, span_of-other}
-use Rattle.bit_laws.proofs.Counts.Core.{TakenBelow, taken_still, since_more, counts_more, takes_more}
+use Rattle.bit_laws.proofs.Counts.Core.{TakenBelow, taken_still, counts_more, takes_more}
+use Rattle.bit_laws.proofs.Spans.{wrote_in}
 
 -- ---- what the machine holds
 
@@ -45,12 +46,6 @@ module _ {T : Type 0} where
     pub answers : Each (CountsAnswerRight c) events
 
   -- ---- the calls
-
-  -- what the latest call has written
-  abbrev pub wrote_in : Span T → List (Event T)
-  wrote_in Never = []
-  wrote_in (Open start wrote) = wrote
-  wrote_in (Ended start answer wrote) = wrote
 
   -- a set is done in one step, with what it writes
   abbrev pub wrote_by : Flight T → Span T → List (Event T)

@@ -25,10 +25,12 @@ use Rattle.model.specs.Reading.{Open, own_after, span_of}
 use Rattle.model.specs.Turns.{old_of, change_of}
 use Rattle.model.specs.Families.Bits.Promises.{CountsAnswerRight, HasTaken, counts_promise}
 use Rattle.model.specs.Promises.Spans.{Stands}
+use Rattle.model.proofs.Moments.{since_more}
 use Rattle.model.proofs.Readings.{AreRight, AreOwn, AllFollow, span_of-own}
-use Rattle.bit_laws.proofs.Counts.Core.{TakenBelow, since_more, taken_next, counts_more, takes_more}
-use Rattle.bit_laws.proofs.Counts.Invariant.{Counts, Holds, Shows, wrote_in}
+use Rattle.bit_laws.proofs.Counts.Core.{TakenBelow, taken_next, counts_more, takes_more}
+use Rattle.bit_laws.proofs.Counts.Invariant.{Counts, Holds, Shows}
 use Rattle.bit_laws.proofs.Counts.Steps.{StepShows, party_then}
+use Rattle.bit_laws.proofs.Spans.{wrote_in}
 
 -- the call at this word, where so many are to be emptied and this was found last
 abbrev pub take_at : OneWord → ℕ → ℕ → BitsFlight

@@ -10,8 +10,6 @@ use Rattle.model.specs.declared.event.Answer as answers
 use Rattle.model.specs.declared.event.Event.{Event}
 use Rattle.model.specs.declared.event.Event.TheVariants.{Counted, Finished}
 use Rattle.model.specs.declared.event.Start.TheVariants.{Bits}
-use Rattle.model.specs.declared.families.Flight.{Flight}
-use Rattle.model.specs.declared.families.Flight as flights
 use Rattle.model.specs.declared.families.bits.BitsStart.{BitsStart}
 use Rattle.model.specs.declared.families.bits.BitsStart.TheVariants.{Set}
 use Rattle.model.specs.declared.families.bits.calls.BitsFlight.{BitsFlight}
@@ -20,14 +18,10 @@ use Rattle.model.specs.Coding.{Coding}
 use Rattle.model.specs.Families.Bits.Calls.{after}
 use Rattle.model.specs.Families.Bits.Reading.{counts, count_at}
 use Rattle.model.specs.Reading.{Open}
-use Rattle.model.specs.Step.{as_call, answer_in}
+use Rattle.model.specs.Step.{answer_in}
 use Rattle.model.specs.Turns.{words_after, change_of, step_count, doing_after, ending_of}
 use Rattle.bit_laws.proofs.Counts.Invariant.{Counts, Holds, Shows}
-
-module _ {T : Type 0} where
-  -- a call of the set as one of any family
-  abbrev pub any_call : After BitsFlight (Answer T) → After (Flight T) (Answer T)
-  any_call after = as_call flights.TheVariants.Bits (λ answer. answer) after
+use Rattle.bit_laws.proofs.Spans.{any_call}
 
 module _ {T : Type 0} (code : Coding T) (c : ℕ) (s : Counts T) (events : List (Event T)) (turns p : ℕ) (latest : List (ℕ × Party T)) (changes since steps backs : ℕ) where
   abbrev ws : List ℕ
