@@ -1,11 +1,9 @@
 -- What a turn writes down: the act, then the end. A store acts as it adds 1 to the version, a load as it finds the version
 -- unchanged, with the value that stands.
-use Rattle.std.proofs.Common.{◌≡◌, ℕ, ◌+◌, ◌-◌, ◌^◌, ◌<◌, ◌≤◌, ◌==◌, Bool, true, false, nat_lt, Option, Some, None, List, [], ◌∷◌, ◌++◌, get_or, refl, sym, ap, subst, ◌∙◌, arith}
+use Rattle.std.proofs.Common.{◌≡◌, ℕ, ◌+◌, ◌-◌, ◌^◌, ◌<◌, ◌==◌, Bool, true, false, nat_lt, Option, Some, None, List, [], get_or, refl, sym, ap, subst, ◌∙◌, arith}
 use Rattle.std.proofs.lemmas.Bool.Decides.{nat_tests}
 use Rattle.std.specs.List.{AllByRecursion}
 use Rattle.steps.specs.declared.ask.Ask.{Ask}
-use Rattle.steps.specs.declared.ask.After.{After}
-use Rattle.steps.specs.declared.ask.After.TheVariants.{GoOn, Done}
 use Rattle.steps.specs.declared.atomic.StoreStage.{StoreStage}
 use Rattle.steps.specs.declared.atomic.StoreStage as storing
 use Rattle.steps.specs.declared.atomic.LoadStage.{LoadStage}
@@ -14,7 +12,6 @@ use Rattle.steps.specs.declared.copied.Kept as rooms
 use Rattle.model.specs.declared.event.Answer.{Answer}
 use Rattle.model.specs.declared.event.Answer as answers
 use Rattle.model.specs.declared.event.Event.{Event}
-use Rattle.model.specs.declared.event.Event.TheVariants.{Acted}
 use Rattle.model.specs.declared.event.Start.{Start}
 use Rattle.model.specs.declared.event.Start.TheVariants.{Atomic}
 use Rattle.model.specs.declared.families.Flight.{Flight}
@@ -31,33 +28,29 @@ use Rattle.model.specs.declared.turn.Kind as kinds
 use Rattle.model.specs.declared.turn.Turn.{Turn}
 use Rattle.model.specs.declared.turn.Turn.TheVariants.{Next}
 use Rattle.model.specs.Coding.{Coding}
-use Rattle.model.specs.Families.{want_of, after_of, ask_of, beside_of, step_of}
+use Rattle.model.specs.Families.{after_of, ask_of, beside_of, step_of}
 use Rattle.model.specs.Families.Atomic.Calls.{want, after}
-use Rattle.model.specs.Families.Atomic.Promises.{AnswersRight, check_of_version, add_to_version, promise}
+use Rattle.model.specs.Families.Atomic.Promises.{AnswersRight, check_of_version, promise}
 use Rattle.model.specs.Families.Atomic.Steps.{acted}
-use Rattle.model.specs.Parties.{party_of, doing_of, flight_of}
+use Rattle.model.specs.Parties.{party_of}
 use Rattle.model.specs.Promises.{IsTurnBy}
 use Rattle.model.specs.Promises.Families.{promise_of}
-use Rattle.model.specs.Promises.Turns.{ask_in, IsParty, IsAct, IsEndOf, ActsRight, WritesInOrder}
-use Rattle.model.specs.Reading.{span_of}
+use Rattle.model.specs.Promises.Turns.{ask_in, IsParty, IsAct, ActsRight}
 use Rattle.model.specs.Step.{answer_in}
-use Rattle.model.specs.Turns.{old_of, ending_of, events_of_step, after_turn}
+use Rattle.model.specs.Turns.{old_of, ending_of, after_turn}
 use Rattle.model.specs.World.{Trace}
 use Rattle.model.proofs.Frame as frame
-use Rattle.model.proofs.Orders.{Orders, Keeps, turn_is}
+use Rattle.model.proofs.Orders.{Orders, Keeps, ends_end, turn_is}
 use Rattle.model.proofs.Readings.{AreRight}
+use Rattle.model.proofs.Scenes.{StandsThere, stands_there, InOrder, in_order_from}
 use Rattle.atomic_laws.proofs.Core.{Core, layout}
 use Rattle.atomic_laws.proofs.Invariant.{Value, Fit, family}
 use Rattle.atomic_laws.proofs.Kept.{kept}
 use Rattle.atomic_laws.proofs.Knows.{At, store_at, load_at}
-use Rattle.atomic_laws.proofs.Sound.{kept_is, step_moves, scene_of, inv_of, stands_at, asks_nothing, reached_sound}
+use Rattle.atomic_laws.proofs.Sound.{kept_is, step_moves, scene_of, inv_of, asks_nothing, reached_sound}
 use Rattle.atomic_laws.proofs.Stages.{told_after, any_call}
 
 module _ {T : Type 0} where
-  ends_end : (turn : Turn T) (p : ℕ) (start : Start T) (outcome : Option (Answer T)) → IsParty turn p → AllByRecursion (IsEndOf turn) (ending_of p start outcome)
-  ends_end turn p start None mine = tt
-  ends_end turn p start (Some answer) mine = (mine, tt)
-
   store_acts : (p : ℕ) (value : T) (outcome : Option (Answer T)) → AllByRecursion IsAct (acted p (Store value) outcome)
   store_acts p value None = tt
   store_acts p value (Some (answers.TheVariants.Truth true)) = (tt, tt)
@@ -127,21 +120,15 @@ module _ {T : Type 0} (t : Trace T) (turn : Turn T) (p : ℕ) (mine : IsParty tu
 -- ---- every turn
 
 module _ {T : Type 0} (code : Coding T) (c : ℕ) (t : Trace T) (p : ℕ) (s : frame.Sound (family code c) t) (small : t.world.turns < 2 ^ 64 - 2) (x : Party T) (since : ℕ) where
-  -- the events of its step where the words, what is kept, and the call's name are these
-  abbrev InOrder : List ℕ → Kept → Start T → Flight T → Type 0
-  InOrder words kept start flight =
-      WritesInOrder promise t (Next p) (t.events ++ events_of_step p start (step_of t.world.coding words (beside_of words kept t.world.latest p) p start flight (old_of words (ask_of (want_of t.world.coding flight))) kept))
-
-  in_order : (start : Start T) (flight : Flight T) → t.world.words ≡ layout s.state.holder s.state.core → (family code c).At s.state p start flight → x.steps ≤ (family code c).number flight x.backs → (family code c).Knows s.state p t.events since t.world.changes x.backs flight
-      → flight_of (doing_of (party_of p t.world.latest)) ≡ Some flight → InOrder (layout s.state.holder s.state.core) (kepts.TheVariants.Atomic s.state.holder) start flight
-  in_order (Atomic start) (flights.TheVariants.Atomic flight) is at steps knows found =
+  in_order : (start : Start T) (flight : Flight T) → t.world.words ≡ layout s.state.holder s.state.core → StandsThere (family code c) t s p x since start flight → InOrder t p promise t.world.coding (layout s.state.holder s.state.core) (kepts.TheVariants.Atomic s.state.holder) start flight
+  in_order (Atomic start) (flights.TheVariants.Atomic flight) is here =
       let words = layout s.state.holder s.state.core in
-      let moves = step_moves (scene_of code c t s p x since) small (inv_of code c t s p x since) start flight at steps knows in
+      let moves = step_moves (scene_of code c t s p x since) small (inv_of code c t s p x since) start flight here.at here.steps here.knows in
       let z = t.world.coding in
       let old = old_of words (ask_of (want z flight)) in
       let outcome : Option (Answer T) = answer_in (after z flight old) in
       let ends : List (Event T) = ending_of p (Atomic start) (answer_in (any_call (after z flight old))) in
-      let asks : ask_in t.world (Next p) ≡ ask_of (want z flight) = rw found refl in
+      let asks : ask_in t.world (Next p) ≡ ask_of (want z flight) = rw here.found refl in
       let handed : old ≡ old_of t.world.words (ask_in t.world (Next p)) = rw (is, asks) refl in
       record {
         effects = [];
@@ -151,21 +138,15 @@ module _ {T : Type 0} (code : Coding T) (c : ℕ) (t : Trace T) (p : ℕ) (s : f
         are_effects = tt;
         are_acts = all_act p start outcome;
         are_ends = ends_end (Next p) p (Atomic start) (answer_in (any_call (after z flight old))) refl;
-        right = step_right t (Next p) p refl s.state.holder s.state.core code start flight old at asks handed
+        right = step_right t (Next p) p refl s.state.holder s.state.core code start flight old here.at asks handed
             (subst (λ (y : Coding T). AreRight (AnswersRight y) t.events (told_after p start (after y flight (old_of words (ask_of (want y flight)))))) (sym s.coding) moves.2.right);
       }
-  in_order start flight is at steps knows found = absurd at
+  in_order start flight is here = absurd here.at
 
-  step_in_order : (flight : Flight T) → party_of p t.world.latest ≡ Some x → x.doing ≡ Going flight since → InOrder t.world.words t.world.kept x.start flight
+  step_in_order : (flight : Flight T) → party_of p t.world.latest ≡ Some x → x.doing ≡ Going flight since → InOrder t p promise t.world.coding t.world.words t.world.kept x.start flight
   step_in_order flight found doing =
-      let fam = family code c in
-      let fits = subst (λ o. frame.Fits fam s.state p o (span_of p t.events)) found (s.inv.calls p) in
-      let here = frame.under_way fam s.state p x x.doing flight since (span_of p t.events) doing fits in
-      let knows = frame.knows_now fam s.state p t.events t.world.changes (party_of p t.world.latest) x flight since found doing (s.inv.knows p) in
-      let goes : flight_of (doing_of (party_of p t.world.latest)) ≡ Some flight = ap (λ o. flight_of (doing_of o)) found ∙ ap (λ d. flight_of (Some d)) doing in
       let is = kept_is t.world.kept t.world.words s.state s.fit in
-      subst (λ ws. InOrder ws t.world.kept x.start flight) (sym is.1)
-      (subst (λ kept. InOrder (layout s.state.holder s.state.core) kept x.start flight) (sym is.0) (in_order x.start flight is.1 here.at here.steps knows goes))
+      in_order_from t p promise t.world.coding (layout s.state.holder s.state.core) (kepts.TheVariants.Atomic s.state.holder) x.start flight is.1 is.0 (in_order x.start flight is.1 (stands_there (family code c) t s p x since flight found doing))
 
 -- a call of a value goes on as its table says
 told : {T : Type 0} (code z : Coding T) (c : ℕ) (words : List ℕ) (beside : Option (ℕ × ℕ)) (s : Value) (p : ℕ) (start : Start T) (flight : Flight T) (answer : ℕ) (kept : Kept) → Fit kept words s → (family code c).At s p start flight
@@ -181,7 +162,7 @@ module _ {T : Type 0} where
         step = λ t p x flight since s small found doing. step_in_order code c t p s small x since flight found doing;
         decision = λ t p x flight since said s small found doing asks. asks_nothing code c t s p x flight since found doing asks;
         after = λ t p x flight since answer s found doing.
-            told code t.world.coding c t.world.words (beside_of t.world.words t.world.kept t.world.latest p) s.state p x.start flight answer t.world.kept s.fit (stands_at code c t s p x flight since found doing);
+            told code t.world.coding c t.world.words (beside_of t.world.words t.world.kept t.world.latest p) s.state p x.start flight answer t.world.kept s.fit (stands_there (family code c) t s p x since flight found doing).at;
       }
 
   -- what is proved of every run of the single value

@@ -1,8 +1,7 @@
 -- Every turn keeps what holds of a value's machine: the laws of the family.
-use Rattle.std.proofs.Common.{◌≡◌, ℕ, ◌+◌, ◌-◌, ◌*◌, ◌^◌, ◌<◌, ◌≤◌, ◌==◌, Bool, true, false, not, Option, Some, None, option_map, List, [], ◌∷◌, ◌++◌, replicate, get_or, refl, sym, ap, subst, ◌∙◌, arith}
+use Rattle.std.proofs.Common.{◌≡◌, ℕ, ◌-◌, ◌*◌, ◌^◌, ◌<◌, ◌≤◌, ◌==◌, Bool, true, false, not, Option, Some, None, List, [], ◌∷◌, replicate, refl, sym, ap, subst, ◌∙◌, arith}
 use Rattle.std.proofs.lemmas.Bool.Decides.{nat_tests}
 use Rattle.std.proofs.lemmas.List.{length-replicate}
-use Rattle.steps.specs.declared.ask.Ask.{Ask}
 use Rattle.steps.specs.declared.atomic.StoreStage.{StoreStage}
 use Rattle.steps.specs.declared.atomic.StoreStage as storing
 use Rattle.steps.specs.declared.atomic.LoadStage.{LoadStage}
@@ -24,21 +23,22 @@ use Rattle.model.specs.declared.party.Party.{Party}
 use Rattle.model.specs.declared.turn.Kind as kinds
 use Rattle.model.specs.declared.turn.Refusal.TheVariants.{NoRole}
 use Rattle.model.specs.Coding.{Coding, IsCoding}
-use Rattle.model.specs.Families.{first_of, want_of, ask_of, is_question, beside_of, step_of}
-use Rattle.model.specs.Families.Atomic.Calls.{first, want, fresh}
+use Rattle.model.specs.Families.{first_of, want_of, is_question}
+use Rattle.model.specs.Families.Atomic.Calls.{first, want}
 use Rattle.model.specs.Families.Atomic.Opening.{lacks_role, kept_rows}
 use Rattle.model.specs.Families.Queues.Opening.{holds}
 use Rattle.model.specs.Parties.{party_of}
 use Rattle.model.specs.Reading.{Open, span_of}
 use Rattle.model.specs.Rows.{first_row}
-use Rattle.model.specs.Turns.{one_if, old_of, words_after, change_of, step_count, doing_after, party_at_begin, events_of_step, IsReached}
+use Rattle.model.specs.Turns.{old_of, party_at_begin, IsReached}
 use Rattle.model.specs.World.{Trace, opening}
 use Rattle.model.proofs.Frame as frame
 use Rattle.model.proofs.Readings.{Each-nil}
 use Rattle.model.proofs.Rows.{row_passed, MayBegin}
+use Rattle.model.proofs.Scenes.{asked, StandsThere, stands_there, ComesFrom, comes_from}
 use Rattle.atomic_laws.proofs.Core.{Core, layout, zeros}
 use Rattle.atomic_laws.proofs.Invariant.{Value, Fit, Scene, Inv, Shows, family, owes, holds_more}
-use Rattle.atomic_laws.proofs.Knows.{At, KnowsFlight, KnowsStore, KnowsLoad, number_of, store_at, load_at}
+use Rattle.atomic_laws.proofs.Knows.{At, KnowsFlight, number_of, store_at, load_at}
 use Rattle.atomic_laws.proofs.Loads.{load_step}
 use Rattle.atomic_laws.proofs.Roles.{acquires, releases}
 use Rattle.atomic_laws.proofs.Stages.{StepOf}
@@ -117,15 +117,9 @@ never_due code z c s p start flight at e = absurd at
 -- ---- the laws of the family
 
 module _ {T : Type 0} (code : Coding T) (c : ℕ) (t : Trace T) (s : frame.Sound (family code c) t) (p : ℕ) where
-  -- a party's call under way stands where the value has such a call
-  pub stands_at : (x : Party T) (flight : Flight T) (since : ℕ) → party_of p t.world.latest ≡ Some x → x.doing ≡ Going flight since → (family code c).At s.state p x.start flight
-  stands_at x flight since found doing =
-      let fits = subst (λ o. frame.Fits (family code c) s.state p o (span_of p t.events)) found (s.inv.calls p) in
-      (frame.under_way (family code c) s.state p x x.doing flight since (span_of p t.events) doing fits).at
-
   pub asks_nothing : {A : Type 0} → (x : Party T) (flight : Flight T) (since : ℕ) → party_of p t.world.latest ≡ Some x → x.doing ≡ Going flight since → is_question (want_of t.world.coding flight) ≡ true → A
   asks_nothing x flight since found doing asks =
-      never_due code t.world.coding c s.state p x.start flight (stands_at x flight since found doing) asks
+      never_due code t.world.coding c s.state p x.start flight (stands_there (family code c) t s p x since flight found doing).at asks
 
   abbrev pub scene_of : Party T → ℕ → Scene T
   scene_of x since =
@@ -148,43 +142,22 @@ module _ {T : Type 0} (code : Coding T) (c : ℕ) (t : Trace T) (s : frame.Sound
   inv_of x since = record { value = s.holds; frame = s.inv }
 
   module _ (small : t.world.turns < 2 ^ 64 - 2) (x : Party T) (since : ℕ) where
-    abbrev asks : Coding T → Flight T → Option Ask
-    asks z flight = ask_of (want_of z flight)
-
     -- what its step comes to where the words, what is kept, and the call's name are these
-    abbrev ComesTo : Coding T → List ℕ → Kept → Start T → Flight T → Type 0
-    ComesTo z words kept start flight =
-        frame.Comes (family code c) t p (step_of z words (beside_of words kept t.world.latest p) p start flight (old_of words (asks z flight)) kept).kept (words_after words (asks z flight))
-        (record {
-          start = start;
-          steps = x.steps + step_count (asks z flight);
-          backs = x.backs + one_if (step_of z words (beside_of words kept t.world.latest p) p start flight (old_of words (asks z flight)) kept).back;
-          doing = doing_after (t.world.changes + change_of words (asks z flight)) (since + change_of words (asks z flight)) (step_of z words (beside_of words kept t.world.latest p) p start flight (old_of words (asks z flight)) kept).after;
-        })
-        (events_of_step p start (step_of z words (beside_of words kept t.world.latest p) p start flight (old_of words (asks z flight)) kept))
-        (t.world.changes + change_of words (asks z flight))
-
-    comes : (start : Start T) (flight : Flight T) → (family code c).At s.state p start flight → x.steps ≤ (family code c).number flight x.backs → (family code c).Knows s.state p t.events since t.world.changes x.backs flight → span_of p t.events ≡ Open start []
-        → ComesTo code (layout s.state.holder s.state.core) (kepts.TheVariants.Atomic s.state.holder) start flight
-    comes (Atomic start) (flights.TheVariants.Atomic flight) at steps knows seen =
-        let moves = step_moves (scene_of x since) small (inv_of x since) start flight at steps knows in
+    comes : (start : Start T) (flight : Flight T) → StandsThere (family code c) t s p x since start flight → ComesFrom (family code c) t s p x since code (layout s.state.holder s.state.core) (kepts.TheVariants.Atomic s.state.holder) start flight
+    comes (Atomic start) (flights.TheVariants.Atomic flight) here =
+        let moves = step_moves (scene_of x since) small (inv_of x since) start flight here.at here.steps here.knows in
         record {
           state = record { holder = _; core = moves.0 };
           fit = (moves.1, refl);
           holds = holds_more (scene_of x since) _ moves.0 (Open (Atomic start) []) _ _ _ moves.2 s.holds;
-          owes = owes (scene_of x since) _ moves.0 (Open (Atomic start) []) _ _ _ moves.2 seen (inv_of x since);
+          owes = owes (scene_of x since) _ moves.0 (Open (Atomic start) []) _ _ _ moves.2 here.span (inv_of x since);
         }
-    comes start flight at steps knows seen = absurd at
+    comes start flight here = absurd here.at
 
-    pub step_comes : (flight : Flight T) → party_of p t.world.latest ≡ Some x → x.doing ≡ Going flight since → frame.ComesByStep (family code c) t p x flight since (asks t.world.coding flight) (old_of t.world.words (asks t.world.coding flight))
+    pub step_comes : (flight : Flight T) → party_of p t.world.latest ≡ Some x → x.doing ≡ Going flight since → frame.ComesByStep (family code c) t p x flight since (asked t.world.coding flight) (old_of t.world.words (asked t.world.coding flight))
     step_comes flight found doing =
-        let fits = subst (λ o. frame.Fits (family code c) s.state p o (span_of p t.events)) found (s.inv.calls p) in
-        let here = frame.under_way (family code c) s.state p x x.doing flight since (span_of p t.events) doing fits in
-        let knows = frame.knows_now (family code c) s.state p t.events t.world.changes (party_of p t.world.latest) x flight since found doing (s.inv.knows p) in
         let is = kept_is t.world.kept t.world.words s.state s.fit in
-        subst (λ z. ComesTo z t.world.words t.world.kept x.start flight) (sym s.coding)
-        (subst (λ ws. ComesTo code ws t.world.kept x.start flight) (sym is.1)
-        (subst (λ kept. ComesTo code (layout s.state.holder s.state.core) kept x.start flight) (sym is.0) (comes x.start flight here.at here.steps knows here.span)))
+        comes_from (family code c) t s p x since (layout s.state.holder s.state.core) (kepts.TheVariants.Atomic s.state.holder) flight is.1 is.0 (comes x.start flight (stands_there (family code c) t s p x since flight found doing))
 
   -- ---- a call begins
 

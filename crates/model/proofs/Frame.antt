@@ -30,6 +30,10 @@ use Rattle.model.proofs.Reached.{kept_by_runs}
 use Rattle.model.proofs.Readings.{AreRight, Each-append, AreOwn, AllFollow, span_of-own, span_of-other, spans_right}
 use Rattle.model.proofs.Rows.{may_begin, may_next, may_decide, must_be_due, never_dies, MayBegin, MayGoOn}
 
+pub is_true : (b : Bool) → not b ≡ false → b ≡ true
+is_true true e = refl
+is_true false e = absurd (cc)
+
 -- what a family gives
 pub record Family (T : Type 0) : Type 1 where
   pub coding : Coding T
@@ -266,10 +270,6 @@ module _ {T : Type 0} (F : Family T) where
           holds = comes.holds;
           inv = advance s.state comes.state p (party_at_begin start flight w.changes) w.latest t.events (Begun p start ∷ []) w.changes w.changes s.inv comes.owes;
         }
-
-    is_true : (b : Bool) → not b ≡ false → b ≡ true
-    is_true true e = refl
-    is_true false e = absurd (cc)
 
     pub turn_sound : (t : Trace T) (turn : Turn T) → refusal_of t.world turn ≡ None → Sound t → Sound (after_turn t turn)
     turn_sound t (Begin p start) e s = begin_sound t p start (may_begin t.world p start e) s (first_of t.world.kind t.world.capacity start) refl

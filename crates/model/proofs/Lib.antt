@@ -7,6 +7,8 @@ pub mod Reached
 pub mod Readings
 pub mod Replays
 pub mod Rows
+pub mod Runs
+pub mod Scenes
 pub mod Small
 pub mod Turns
 pub mod Values

@@ -1,5 +1,8 @@
 -- Every turn of a reached machine of any family is as its own words say.
-use Rattle.std.proofs.Common.{◌≡◌, ℕ, ◌-◌, ◌^◌, ◌<◌, Bool, true, false, not, Option, Some, None, List, [], ◌∷◌, ◌++◌, refl, sym, ap, subst, ◌∙◌, append-nil}
+use Rattle.std.proofs.Common.{◌≡◌, ℕ, ◌-◌, ◌^◌, ◌<◌, Bool, true, Option, Some, None, List, [], ◌∷◌, ◌++◌, refl, sym, ap, subst, ◌∙◌, append-nil}
+use Rattle.std.specs.List.{AllByRecursion}
+use Rattle.model.specs.declared.event.Answer.{Answer}
+use Rattle.model.specs.declared.event.Start.{Start}
 use Rattle.model.specs.declared.families.Flight.{Flight}
 use Rattle.model.specs.declared.party.Doing.{Doing}
 use Rattle.model.specs.declared.party.Doing.TheVariants.{Going, Over}
@@ -10,19 +13,20 @@ use Rattle.model.specs.declared.turn.Turn.TheVariants.{Begin, Next, Decide, Die}
 use Rattle.model.specs.Families.{want_of, after_of, ask_of, is_question}
 use Rattle.model.specs.Parties.{party_of, doing_of, flight_of}
 use Rattle.model.specs.Promises.{IsTurnBy, IsTurn, AreTurns, IsKept}
-use Rattle.model.specs.Promises.Turns.{WritesInOrder, WritesDown}
+use Rattle.model.specs.Promises.Turns.{IsParty, IsEndOf, WritesInOrder, WritesDown}
 use Rattle.model.specs.Refusals.{refusal_of, is_due}
-use Rattle.model.specs.Turns.{old_of, ask_of_doing, number_of, step_in, events_of_step, events_of_answer, events_of_next, events_of_decision, after_turn, AreAllowed, IsReached}
+use Rattle.model.specs.Turns.{old_of, ask_of_doing, number_of, step_in, events_of_step, events_of_answer, events_of_next, events_of_decision, after_turn, ending_of, AreAllowed, IsReached}
 use Rattle.model.specs.World.{Trace, flight_in}
-use Rattle.model.proofs.Frame.{Family, Sound}
+use Rattle.model.proofs.Frame.{Family, Sound, is_true}
 use Rattle.model.proofs.Reached.{reached_more}
 use Rattle.model.proofs.Rows.{may_next, may_decide, must_be_due}
 use Rattle.model.proofs.Small.{reached_small}
 use Rattle.model.proofs.Turns.{one_turn_later, writes_one_word, goes_on, counts_turn, counts_others}
 
-is_true : (b : Bool) → not b ≡ false → b ≡ true
-is_true true e = refl
-is_true false e = absurd (cc)
+-- the end of a call is its party's own
+pub ends_end : {T : Type 0} (turn : Turn T) (p : ℕ) (start : Start T) (outcome : Option (Answer T)) → IsParty turn p → AllByRecursion (IsEndOf turn) (ending_of p start outcome)
+ends_end turn p start None mine = tt
+ends_end turn p start (Some answer) mine = (mine, tt)
 
 module _ {T : Type 0} (F : Family T) where
   -- what a family owes of a step and of a decision: the order of what is written down, and that the call goes on as its table says

@@ -7,11 +7,10 @@ use Rattle.model.specs.declared.event.Answer.TheVariants.{Truth, Number, PoppedN
 use Rattle.model.specs.declared.event.Event.{Event}
 use Rattle.model.specs.declared.event.Event.TheVariants.{Begun, Published, HandedOut, Acted, Finished}
 use Rattle.model.specs.declared.families.Kept as kepts
-use Rattle.model.specs.declared.families.queues.QueueStart.TheVariants.{AcquireProducer, AcquireConsumer, PushIndex, Pop, Len}
+use Rattle.model.specs.declared.families.queues.QueueStart.TheVariants.{AcquireProducer, PushIndex, Pop, Len}
 use Rattle.model.specs.declared.families.queues.QueueKind as kinds
 use Rattle.model.specs.declared.turn.Kind.TheVariants.{IndexQueue, Overflow}
 use Rattle.model.specs.declared.turn.Turn.{Turn}
-use Rattle.model.specs.declared.turn.Turn.TheVariants.{Begin, Next}
 use Rattle.model.specs.Families.Queues.Book.{AnswersRight}
 use Rattle.model.specs.Coding.{one_word}
 use Rattle.model.specs.Families.Queues.Lengths.{TellsLength}
@@ -24,34 +23,19 @@ use Rattle.model.specs.Families.Queues.Promises.{wrote}
 use Rattle.model.specs.Promises.Families.{promise_of}
 use Rattle.model.specs.Promises.Spans.{Stands}
 use Rattle.model.specs.Reading.{acts, moments, Open}
-use Rattle.model.specs.Turns.{run}
-use Rattle.model.specs.World.{opening, progress_in}
+use Rattle.model.specs.World.{progress_in}
+use Rattle.model.proofs.Runs.{nexts, begins, roles, roles_told, ran}
 
 -- a push stops before it publishes, a pop answers None, and then the push goes on
 abbrev turns : List (Turn ℕ)
 turns =
-    Begin 0 (Queues AcquireProducer)
-    ∷ Next 0
-    ∷ Begin 1 (Queues AcquireConsumer)
-    ∷ Next 1
-    ∷ Begin 0 (Queues (PushIndex 5))
-    ∷ Next 0
-    ∷ Next 0
-    ∷ Next 0
-    ∷ Begin 1 (Queues Pop)
-    ∷ Next 1
-    ∷ Next 1
-    ∷ Next 1
-    ∷ Next 0
-    ∷ []
+    roles
+    ++ (begins 0 (Queues (PushIndex 5)) 3 ++ (begins 1 (Queues Pop) 3 ++ nexts 0 1))
 
 abbrev told : List (Event ℕ)
 told =
-    Begun 0 (Queues AcquireProducer)
-    ∷ Finished 0 (Queues AcquireProducer) (Truth true)
-    ∷ Begun 1 (Queues AcquireConsumer)
-    ∷ Finished 1 (Queues AcquireConsumer) (Truth true)
-    ∷ Begun 0 (Queues (PushIndex 5))
+    roles_told
+    ++ Begun 0 (Queues (PushIndex 5))
     ∷ Begun 1 (Queues Pop)
     ∷ Acted 1 (Queues Pop) PoppedNone
     ∷ Finished 1 (Queues Pop) PoppedNone
@@ -60,10 +44,10 @@ told =
     ∷ Finished 0 (Queues (PushIndex 5)) (Truth true)
     ∷ []
 
-pub stopped_push : (run turns (opening one_word IndexQueue 1 2)).events ≡ told
+pub stopped_push : (ran one_word IndexQueue 1 2 turns).events ≡ told
 stopped_push = refl
 
-pub stopped_push_words : (run turns (opening one_word IndexQueue 1 2)).world.words ≡ 1 ∷ 0 ∷ 0 ∷ 0 ∷ 5 ∷ []
+pub stopped_push_words : (ran one_word IndexQueue 1 2 turns).world.words ≡ 1 ∷ 0 ∷ 0 ∷ 0 ∷ 5 ∷ []
 stopped_push_words = refl
 
 pub one_waits : waiting told ≡ Index 5 ∷ []
@@ -75,22 +59,8 @@ pop_before_push = refl
 -- a length loads both positions, a push moves one, and the length begins again
 abbrev length_turns : List (Turn ℕ)
 length_turns =
-    Begin 0 (Queues AcquireProducer)
-    ∷ Next 0
-    ∷ Begin 1 (Queues Len)
-    ∷ Next 1
-    ∷ Next 1
-    ∷ Begin 0 (Queues (PushIndex 5))
-    ∷ Next 0
-    ∷ Next 0
-    ∷ Next 0
-    ∷ Next 0
-    ∷ Next 1
-    ∷ Next 1
-    ∷ Next 1
-    ∷ Next 1
-    ∷ Next 1
-    ∷ []
+    begins 0 (Queues AcquireProducer) 1
+    ++ (begins 1 (Queues Len) 2 ++ (begins 0 (Queues (PushIndex 5)) 4 ++ nexts 1 5))
 
 abbrev length_told : List (Event ℕ)
 length_told =
@@ -103,10 +73,10 @@ length_told =
     ∷ Finished 0 (Queues (PushIndex 5)) (Truth true)
     ∷ []
 
-pub length_again : (run length_turns (opening one_word IndexQueue 1 2)).events ≡ length_told ++ Finished 1 (Queues Len) (Number 1) ∷ []
+pub length_again : (ran one_word IndexQueue 1 2 length_turns).events ≡ length_told ++ Finished 1 (Queues Len) (Number 1) ∷ []
 length_again = refl
 
-pub length_counts : progress_in (run length_turns (opening one_word IndexQueue 1 2)).world 1 ≡ Some (record { steps = 7; backs = 1; others = 2; finished = true })
+pub length_counts : progress_in (ran one_word IndexQueue 1 2 length_turns).world 1 ≡ Some (record { steps = 7; backs = 1; others = 2; finished = true })
 length_counts = refl
 
 pub one_waited : TellsLength 1 length_told (Finished 1 (Queues Len) (Number 1))
@@ -132,25 +102,12 @@ none_waited =
 
 -- roles as above, and 1 is pushed into a queue of capacity 1
 abbrev holding_one : List (Turn ℕ)
-holding_one =
-    Begin 0 (Queues AcquireProducer)
-    ∷ Next 0
-    ∷ Begin 1 (Queues AcquireConsumer)
-    ∷ Next 1
-    ∷ Begin 0 (Queues (PushIndex 1))
-    ∷ Next 0
-    ∷ Next 0
-    ∷ Next 0
-    ∷ Next 0
-    ∷ []
+holding_one = roles ++ begins 0 (Queues (PushIndex 1)) 4
 
 abbrev holding_one_told : List (Event ℕ)
 holding_one_told =
-    Begun 0 (Queues AcquireProducer)
-    ∷ Finished 0 (Queues AcquireProducer) (Truth true)
-    ∷ Begun 1 (Queues AcquireConsumer)
-    ∷ Finished 1 (Queues AcquireConsumer) (Truth true)
-    ∷ Begun 0 (Queues (PushIndex 1))
+    roles_told
+    ++ Begun 0 (Queues (PushIndex 1))
     ∷ Published 0 (Index 1)
     ∷ Acted 0 (Queues (PushIndex 1)) PoppedNone
     ∷ Finished 0 (Queues (PushIndex 1)) PoppedNone
@@ -159,23 +116,8 @@ holding_one_told =
 -- a push has published over the full queue, a length counts both values, and a pop makes the push act
 abbrev room_turns : List (Turn ℕ)
 room_turns =
-    Begin 0 (Queues (PushIndex 2))
-    ∷ Next 0
-    ∷ Next 0
-    ∷ Next 0
-    ∷ Next 0
-    ∷ Begin 2 (Queues Len)
-    ∷ Next 2
-    ∷ Next 2
-    ∷ Next 2
-    ∷ Next 2
-    ∷ Begin 1 (Queues Pop)
-    ∷ Next 1
-    ∷ Next 1
-    ∷ Next 1
-    ∷ Next 1
-    ∷ Next 0
-    ∷ []
+    begins 0 (Queues (PushIndex 2)) 4
+    ++ (begins 2 (Queues Len) 4 ++ (begins 1 (Queues Pop) 4 ++ nexts 0 1))
 
 abbrev room_told : List (Event ℕ)
 room_told =
@@ -191,7 +133,7 @@ room_told =
     ∷ Finished 0 (Queues (PushIndex 2)) PoppedNone
     ∷ []
 
-pub pop_makes_room : (run (holding_one ++ room_turns) (opening one_word Overflow 1 3)).events ≡ holding_one_told ++ room_told
+pub pop_makes_room : (ran one_word Overflow 1 3 (holding_one ++ room_turns)).events ≡ holding_one_told ++ room_told
 pop_makes_room = refl
 
 pub room_is_legal : IsLegal (overflowing_list 1) (moments (holding_one_told ++ room_told))
@@ -199,22 +141,7 @@ room_is_legal = refl
 
 -- a pop has loaded the cell, a push takes that value out, and the pop reads again
 abbrev again_turns : List (Turn ℕ)
-again_turns =
-    Begin 1 (Queues Pop)
-    ∷ Next 1
-    ∷ Next 1
-    ∷ Next 1
-    ∷ Begin 0 (Queues (PushIndex 2))
-    ∷ Next 0
-    ∷ Next 0
-    ∷ Next 0
-    ∷ Next 0
-    ∷ Next 0
-    ∷ Next 0
-    ∷ Next 1
-    ∷ Next 1
-    ∷ Next 1
-    ∷ []
+again_turns = begins 1 (Queues Pop) 3 ++ (begins 0 (Queues (PushIndex 2)) 6 ++ nexts 1 3)
 
 abbrev again_told : List (Event ℕ)
 again_told =
@@ -229,10 +156,10 @@ again_told =
     ∷ Finished 1 (Queues Pop) (PoppedIndex 2)
     ∷ []
 
-pub pop_reads_again : (run (holding_one ++ again_turns) (opening one_word Overflow 1 3)).events ≡ holding_one_told ++ again_told
+pub pop_reads_again : (ran one_word Overflow 1 3 (holding_one ++ again_turns)).events ≡ holding_one_told ++ again_told
 pop_reads_again = refl
 
-pub pop_counts : progress_in (run (holding_one ++ again_turns) (opening one_word Overflow 1 3)).world 1 ≡ Some (record { steps = 6; backs = 1; others = 3; finished = true })
+pub pop_counts : progress_in (ran one_word Overflow 1 3 (holding_one ++ again_turns)).world 1 ≡ Some (record { steps = 6; backs = 1; others = 3; finished = true })
 pop_counts = refl
 
 pub again_is_legal : IsLegal (overflowing_list 1) (moments (holding_one_told ++ again_told))

@@ -1,6 +1,7 @@
 -- The definitions of the single value at a worked run, and at histories that they refuse.
-use Rattle.std.proofs.Common.{◌≡◌, ℕ, true, Some, List, [], ◌∷◌, refl}
-use Rattle.steps.specs.Words.{words_of_u128, value_of_u128}
+use Rattle.std.proofs.Common.{◌≡◌, ◌<◌, ℕ, true, Option, Some, None, List, [], ◌∷◌, ◌++◌, refl, ap, arith}
+use Rattle.steps.specs.declared.ask.Ask.{Ask}
+use Rattle.steps.specs.declared.ask.Op as ops
 use Rattle.model.specs.declared.event.Start.TheVariants.{Atomic}
 use Rattle.model.specs.declared.event.Answer.TheVariants.{Truth, Loaded}
 use Rattle.model.specs.declared.event.Event.{Event}
@@ -8,19 +9,13 @@ use Rattle.model.specs.declared.event.Event.TheVariants.{Begun, Acted, Finished}
 use Rattle.model.specs.declared.families.atomic.AtomicStart.TheVariants.{AcquireProducer, Store, Load}
 use Rattle.model.specs.declared.turn.Kind as kinds
 use Rattle.model.specs.declared.turn.Turn.{Turn}
-use Rattle.model.specs.declared.turn.Turn.TheVariants.{Begin, Next}
-use Rattle.model.specs.Coding.{Coding, coding_of}
-use Rattle.model.specs.Families.Atomic.Promises.{value_of_zeros, value_in}
+use Rattle.model.specs.Families.Atomic.Promises.{value_of_zeros, value_in, ActsRight, IsValue}
 use Rattle.model.specs.Objects.{IsLegal}
 use Rattle.model.specs.Promises.Families.{promise_of}
 use Rattle.model.specs.Promises.Spans.{Stands}
 use Rattle.model.specs.Reading.{moments, Open}
-use Rattle.model.specs.Turns.{run}
-use Rattle.model.specs.World.{opening, progress_in}
-
--- two words each
-abbrev code : Coding ℕ
-code = coding_of 2 words_of_u128 value_of_u128
+use Rattle.model.specs.World.{Trace, progress_in}
+use Rattle.model.proofs.Runs.{two_words, nexts, begins, ran}
 
 abbrev first : ℕ
 first = 18446744073709551618
@@ -31,27 +26,9 @@ second = 55340232221128654852
 -- a load stops within the cell, two stores are made, and then the load goes on
 abbrev turns : List (Turn ℕ)
 turns =
-    Begin 0 (Atomic AcquireProducer)
-    ∷ Next 0
-    ∷ Begin 1 (Atomic Load)
-    ∷ Next 1
-    ∷ Next 1
-    ∷ Begin 0 (Atomic (Store first))
-    ∷ Next 0
-    ∷ Next 0
-    ∷ Next 0
-    ∷ Next 0
-    ∷ Begin 0 (Atomic (Store second))
-    ∷ Next 0
-    ∷ Next 0
-    ∷ Next 0
-    ∷ Next 0
-    ∷ Next 1
-    ∷ Next 1
-    ∷ Next 1
-    ∷ Next 1
-    ∷ Next 1
-    ∷ []
+    begins 0 (Atomic AcquireProducer) 1
+    ++ (begins 1 (Atomic Load) 2
+    ++ (begins 0 (Atomic (Store first)) 4 ++ (begins 0 (Atomic (Store second)) 4 ++ nexts 1 5)))
 
 abbrev told : List (Event ℕ)
 told =
@@ -68,29 +45,50 @@ told =
     ∷ Finished 1 (Atomic Load) (Loaded second)
     ∷ []
 
-pub stopped_load : (run turns (opening code kinds.TheVariants.Atomic 1 2)).events ≡ told
+pub stopped_load : (ran two_words kinds.TheVariants.Atomic 1 2 turns).events ≡ told
 stopped_load = refl
 
-pub stopped_load_words : (run turns (opening code kinds.TheVariants.Atomic 1 2)).world.words ≡ 3 ∷ 0 ∷ 3 ∷ 4 ∷ 1 ∷ 2 ∷ []
+pub stopped_load_words : (ran two_words kinds.TheVariants.Atomic 1 2 turns).world.words ≡ 3 ∷ 0 ∷ 3 ∷ 4 ∷ 1 ∷ 2 ∷ []
 stopped_load_words = refl
 
 -- it turned back once
-pub stopped_load_counts : progress_in (run turns (opening code kinds.TheVariants.Atomic 1 2)).world 1
+pub stopped_load_counts : progress_in (ran two_words kinds.TheVariants.Atomic 1 2 turns).world 1
     ≡ Some (record { steps = 7; backs = 1; others = 6; finished = true })
 stopped_load_counts = refl
 
-pub load_after_stores : IsLegal (value_of_zeros code) (moments told)
+pub load_after_stores : IsLegal (value_of_zeros two_words) (moments told)
 load_after_stores = refl
 
-pub stands : value_in code told ≡ second
+pub stands : value_in two_words told ≡ second
 stands = refl
 
 -- ---- what they refuse
 
 -- the half of one value and the half of another
-no_torn_load : IsLegal (value_of_zeros code) ((Atomic (Store first), Truth true) ∷ (Atomic Load, Loaded 2) ∷ []) → ⊥
+no_torn_load : IsLegal (value_of_zeros two_words) ((Atomic (Store first), Truth true) ∷ (Atomic Load, Loaded 2) ∷ []) → ⊥
 no_torn_load e = cc
 
 -- a load that ends and has not acted
 no_silent_load : Stands (promise_of kinds.TheVariants.Atomic) 1 (Finished 1 (Atomic Load) (Loaded second)) (Open (Atomic Load) []) → ⊥
 no_silent_load h = let none = h.1 in cc
+
+-- a store that acts as it stores a word, and a load that acts as it loads one
+abbrev word_of : Option Ask → ℕ
+word_of None = 9
+word_of (Some ask) = ask.word
+
+not_first : (n : ℕ) → 0 < n → n ≡ 0 → ⊥
+not_first n some e = absurd (omega arith)
+
+pub no_early_store : (t : Trace ℕ) → ActsRight t (Some (record { word = 4; op = ops.TheVariants.Store 1 })) (λ q. q ≡ 0) (Acted 0 (Atomic (Store first)) (Truth true)) → ⊥
+no_early_store t h = not_first 4 (omega arith) (ap word_of h.1)
+
+pub no_unchecked_load : (t : Trace ℕ) → ActsRight t (Some (record { word = 3; op = ops.TheVariants.Load })) (λ q. q ≡ 1) (Acted 1 (Atomic Load) (Loaded 0)) → ⊥
+no_unchecked_load t h = not_first 3 (omega arith) (ap word_of h.1)
+
+-- a store has stored its words, and the events say that it has acted
+abbrev stored : Trace ℕ
+stored = ran two_words kinds.TheVariants.Atomic 1 2 (begins 0 (Atomic AcquireProducer) 1 ++ begins 0 (Atomic (Store first)) 3)
+
+pub no_act_before_the_add : IsValue (record { world = stored.world; events = stored.events ++ Acted 0 (Atomic (Store first)) (Truth true) ∷ [] }) → ⊥
+no_act_before_the_add h = let cell = h.cell in cc

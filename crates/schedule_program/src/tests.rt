@@ -25,7 +25,17 @@ pub fn runs_so(alloc: Global, input: &[u8], output: &[u8], told: &[u8], exit: u8
 }
 
 /// A schedule, its output, what is told and the exit status.
-type Run = (&'static [u8], &'static [u8], &'static [u8], u8);
+pub type Run = (&'static [u8], &'static [u8], &'static [u8], u8);
+
+/// The place of the first schedule that runs otherwise.
+pub fn first_wrong(alloc: Global, runs: &[Run]) -> Option<usize> {
+    for (at, (input, output, told, exit)) in runs.iter().enumerate() {
+        if !runs_so(alloc, input, output, told, *exit) {
+            return Some(at);
+        }
+    }
+    None
+}
 
 const RUNS: [Run; 10] = [
     (STOPPED_PUSH, STOPPED_PUSH_OUTPUT, b"", 0),
@@ -181,9 +191,7 @@ const REFUSED_TURNS: [(&[u8], &[u8]); 8] = [
 
 #[test]
 fn whole_runs(rt: HostRuntime) {
-    for (at, (input, output, told, exit)) in RUNS.iter().enumerate() {
-        assert!(rt; runs_so(rt.alloc(), input, output, told, *exit), "run {at}");
-    }
+    assert_eq!(rt; first_wrong(rt.alloc(), &RUNS), None);
     // The last line may lack its line feed.
     let unended = &STOPPED_PUSH[..STOPPED_PUSH.len() - 1];
     assert!(rt; runs_so(rt.alloc(), unended, STOPPED_PUSH_OUTPUT, b"", 0));

@@ -1,5 +1,5 @@
 -- The store of the next write position by a push of the overflowing queue.
-use Rattle.std.proofs.Common.{◌≡◌, ◌≢◌, ℕ, ◌+◌, ◌-◌, ◌^◌, ◌<◌, ◌≤◌, ◌==◌, Bool, true, false, Option, Some, None, option_map, List, [], ◌∷◌, ◌++◌, length, map, refl, sym, ap, subst, ◌∙◌, arith, length-append}
+use Rattle.std.proofs.Common.{◌≡◌, ◌≢◌, ℕ, ◌+◌, ◌-◌, ◌^◌, ◌<◌, ◌≤◌, ◌==◌, Bool, true, false, Option, Some, None, List, [], ◌∷◌, ◌++◌, length, map, refl, sym, ap, subst, ◌∙◌, arith, length-append}
 use Rattle.std.proofs.lemmas.Bool.Decides.{nat_tests}
 use Rattle.std.proofs.lemmas.List.{map-append}
 use Rattle.steps.specs.declared.ask.Ask.{Ask}
@@ -26,19 +26,19 @@ use Rattle.model.specs.declared.families.queues.QueueKind as kinds
 use Rattle.model.specs.Coding.{Coding}
 use Rattle.model.specs.Families.Queues.Objects.{answer_of_item}
 use Rattle.model.specs.Families.Queues.Calls.{write_word, after, words_of_index}
-use Rattle.model.specs.Families.Queues.Steps.{pending_at, pending, effect_of}
-use Rattle.model.specs.Parties.{party_of, put, doing_of, flight_of}
+use Rattle.model.specs.Families.Queues.Steps.{pending, effect_of}
+use Rattle.model.specs.Parties.{put}
 use Rattle.model.specs.Turns.{words_after, change_of}
 use Rattle.queue_laws.proofs.Queues.Invariant.{Scene, Inv}
 use Rattle.queue_laws.proofs.Overflow.Core.{one_passes, push_room, push_waits}
 use Rattle.queue_laws.proofs.Queues.Core as core
-use Rattle.queue_laws.proofs.Queues.Core.{Core, Holds, Good, filled, taken, fills, one_filled, publishes, takes, word_at, set_at}
+use Rattle.queue_laws.proofs.Queues.Core.{Core, Holds, Good, publishes}
 use Rattle.queue_laws.proofs.Overflow.Knows.{overflow_push_at}
 use Rattle.queue_laws.proofs.Queues.Knows.{free, layout, Hangs}
 use Rattle.queue_laws.proofs.Queues.Invariant.{Inv}
 use Rattle.queue_laws.proofs.Queues.Keeping.{clash, kept}
-use Rattle.queue_laws.proofs.Queues.Pending.{pending_here, few_wait, none_hangs}
-use Rattle.queue_laws.proofs.Queues.Stages.{party_then, DoesStep, Moves, MovesOf}
+use Rattle.queue_laws.proofs.Queues.Pending.{pending_after, none_hangs}
+use Rattle.queue_laws.proofs.Queues.Stages.{party_then, DoesStep}
 use Rattle.queue_laws.proofs.Overflow.Keeping.{publish_keeps_pop}
 
 module _ {T : Type 0} (en : Coding T) (scene : Scene T kinds.TheVariants.Overflow) (inv : Inv en kinds.TheVariants.Overflow scene) (small : scene.turns < 2 ^ 64 - 2) (v : ℕ) (room : OneWord) (holds : scene.roles.producer ≡ Some scene.party) (b : scene.backs ≡ 0) where
@@ -50,30 +50,9 @@ module _ {T : Type 0} (en : Coding T) (scene : Scene T kinds.TheVariants.Overflo
   abbrev Does : List (Event T) → Option Ask → After (QueueFlight T) (Answer T) → Effect T → Type 0
   Does wrote ask after effect = DoesStep en kinds.TheVariants.Overflow scene wrote (PushIndex v) ask false after effect
 
-  abbrev Moved : overflow_pushes.PushStage → Type 0
-  Moved stage = MovesOf en kinds.TheVariants.Overflow scene (PushIndex v) (at stage)
-
-  abbrev MovesBy : Option Ask → After (QueueFlight T) (Answer T) → Effect T → Type 0
-  MovesBy ask after effect = Moves en kinds.TheVariants.Overflow scene (PushIndex v) ask false after effect
-
-  abbrev IsCalm : Type 0
-  IsCalm = pending_at k.read (flight_of (doing_of (party_of p latest))) ≡ None
-
   -- the party after a step of this operation
   abbrev after_it : Option Ask → After (QueueFlight T) (Answer T) → Party T
   after_it ask after = party_then en kinds.TheVariants.Overflow scene (PushIndex v) ask false after
-
-  calm_none : (position : ℕ) → pending_at position (flight_of (doing_of (party_of p latest))) ≡ None → pending position ro.producer latest ≡ None
-  calm_none position calm = subst (λ o. pending position o latest ≡ None) (sym holds) (ap (option_map (λ (n : ℕ). (p, n))) calm)
-
-  few : IsCalm → length k.waiting ≤ c
-  few calm = few_wait en kinds.TheVariants.Overflow c k (pending k.read ro.producer latest) (calm_none k.read calm) inv.queue.good inv.queue.hangs
-
-  -- which push is pending once this party has moved
-  pending_after : (position : ℕ) (y : Party T) → pending position ro.producer (put p y latest) ≡ option_map (λ (n : ℕ). (p, n)) (pending_at position (flight_of (Some y.doing)))
-  pending_after position y =
-      subst (λ o. pending position o (put p y latest) ≡ option_map (λ (n : ℕ). (p, n)) (pending_at position (flight_of (Some y.doing)))) (sym holds)
-      (pending_here position p y latest)
 
   -- ---- the store of the next write position
 
@@ -120,7 +99,7 @@ module _ {T : Type 0} (en : Coding T) (scene : Scene T kinds.TheVariants.Overflo
             right = (tt, (tt, (tt, tt)));
             lengths = (tt, (tt, (tt, tt)));
             good = good_publish;
-            hangs = none_hangs T kinds.TheVariants.Overflow c after_publish (pending k.read ro.producer (put p (after_it next_write (Done PoppedNone)) latest)) (pending_after k.read (after_it next_write (Done PoppedNone))) (omega arith);
+            hangs = none_hangs T kinds.TheVariants.Overflow c after_publish (pending k.read ro.producer (put p (after_it next_write (Done PoppedNone)) latest)) (pending_after k.read p ro.producer holds (after_it next_write (Done PoppedNone)) latest) (omega arith);
             out = omega arith;
             book = joined;
             goes = list.0;
@@ -148,7 +127,7 @@ module _ {T : Type 0} (en : Coding T) (scene : Scene T kinds.TheVariants.Overflo
         let reached = inv.queue.reached in
         let t : (read == k.read) ≡ true = grind (arith, nat_tests) in
         let hung : pending k.read ro.producer (put p (after_it next_write (GoOn (at (overflow_pushes.TheVariants.MovesRead read)))) latest) ≡ Some (p, v) =
-        pending_after k.read (after_it next_write (GoOn (at (overflow_pushes.TheVariants.MovesRead read)))) ∙ (rw t refl)
+        pending_after k.read p ro.producer holds (after_it next_write (GoOn (at (overflow_pushes.TheVariants.MovesRead read)))) latest ∙ (rw t refl)
         in
         let many : length k.waiting ≡ c = omega arith in (
           after_publish,
@@ -187,7 +166,7 @@ module _ {T : Type 0} (en : Coding T) (scene : Scene T kinds.TheVariants.Overflo
         let longer = length-append k.waiting (v ∷ []) in
         let t : (read == k.read) ≡ false = grind (arith, nat_tests) in
         let calm : pending k.read ro.producer (put p (after_it next_write (GoOn (at (overflow_pushes.TheVariants.MovesRead read)))) latest) ≡ None =
-        pending_after k.read (after_it next_write (GoOn (at (overflow_pushes.TheVariants.MovesRead read)))) ∙ (rw t refl)
+        pending_after k.read p ro.producer holds (after_it next_write (GoOn (at (overflow_pushes.TheVariants.MovesRead read)))) latest ∙ (rw t refl)
         in (
           after_publish,
           words_publish,

@@ -40,7 +40,7 @@ use Rattle.queue_laws.proofs.Overflow.Knows.{overflow_push_at, KnowsOverflowPush
 use Rattle.queue_laws.proofs.Queues.Knows.{free, layout, has_written}
 use Rattle.queue_laws.proofs.Queues.Invariant.{Inv}
 use Rattle.queue_laws.proofs.Queues.Keeping.{clash, kept}
-use Rattle.queue_laws.proofs.Queues.Pending.{pending_here, few_wait, none_hangs}
+use Rattle.queue_laws.proofs.Queues.Pending.{pending_after, few_wait, none_hangs}
 use Rattle.queue_laws.proofs.Queues.Stages.{party_then, DoesStep, Moves, MovesOf, still_hangs, quiet, alone}
 use Rattle.queue_laws.proofs.Overflow.Publishes.{stores_write}
 use Rattle.queue_laws.proofs.Overflow.Keeping.{fill_keeps_pop, take_keeps_pop}
@@ -72,12 +72,6 @@ module _ {T : Type 0} (en : Coding T) (scene : Scene T kinds.TheVariants.Overflo
 
   few : IsCalm → length k.waiting ≤ c
   few calm = few_wait en kinds.TheVariants.Overflow c k (pending k.read ro.producer latest) (calm_none k.read calm) inv.queue.good inv.queue.hangs
-
-  -- which push is pending once this party has moved
-  pending_after : (position : ℕ) (y : Party T) → pending position ro.producer (put p y latest) ≡ option_map (λ (n : ℕ). (p, n)) (pending_at position (flight_of (Some y.doing)))
-  pending_after position y =
-      subst (λ o. pending position o (put p y latest) ≡ option_map (λ (n : ℕ). (p, n)) (pending_at position (flight_of (Some y.doing)))) (sym holds)
-      (pending_here position p y latest)
 
   hands_back : c ≡ 0 → steps ≤ 0 → IsCalm → Does [] None (Done (PoppedIndex v)) Acts
   hands_back none s calm = (
@@ -180,7 +174,7 @@ module _ {T : Type 0} (en : Coding T) (scene : Scene T kinds.TheVariants.Overflo
           right = (tt, (tt, tt));
           lengths = (tt, (tt, tt));
           good = takes 1 words_of_index (c + 1) k (get_or k.cells (k.read % (c + 1)) 0) rest first g;
-          hangs = none_hangs T kinds.TheVariants.Overflow c (taken 1 words_of_index (c + 1) k rest) (pending (k.read + 1) ro.producer (put p (after_it ask after) latest)) (pending_after (k.read + 1) (after_it ask after)) (omega arith);
+          hangs = none_hangs T kinds.TheVariants.Overflow c (taken 1 words_of_index (c + 1) k rest) (pending (k.read + 1) ro.producer (put p (after_it ask after) latest)) (pending_after (k.read + 1) p ro.producer holds (after_it ask after) latest) (omega arith);
           out = omega arith;
           book = append-nil (map Index k.waiting) ∙ ap (map Index) first;
           goes = list.0;

@@ -1,7 +1,7 @@
 -- What a turn writes down: what its step did to the queue, then the acts, then the end. A push that answers false, and a
 -- pop that answers None, did so in its own turn, as it loaded the other position; without capacity, an overflowing queue's
 -- pop loads none.
-use Rattle.std.proofs.Common.{◌≡◌, ℕ, zero, suc, ◌-◌, ◌^◌, ◌<◌, ◌==◌, ◌||◌, Bool, true, false, cond, Option, Some, None, List, [], ◌∷◌, ◌++◌, get_or, refl, sym, ap, subst, ◌∙◌, append-nil, ◌≤◌, arith}
+use Rattle.std.proofs.Common.{◌≡◌, ℕ, zero, suc, ◌-◌, ◌^◌, ◌<◌, ◌==◌, ◌||◌, Bool, true, false, cond, Option, Some, None, List, [], ◌∷◌, ◌++◌, get_or, refl, sym, ap, subst, ◌∙◌, arith}
 use Rattle.std.specs.List.{AllByRecursion}
 use Rattle.steps.specs.declared.ask.Ask.{Ask}
 use Rattle.steps.specs.declared.ask.After.{After}
@@ -39,34 +39,33 @@ use Rattle.model.specs.declared.families.queues.calls.QueueFlight.TheVariants.{R
 use Rattle.model.specs.declared.families.queues.calls.RingCall as rings
 use Rattle.model.specs.declared.families.queues.effects.Effect.{Effect}
 use Rattle.model.specs.declared.families.queues.effects.Effect.TheVariants.{Quiet, Acts, Publishes, PublishesAndActs, HandsOut, TakesOut, MakesRoom}
-use Rattle.model.specs.declared.party.Doing.{Doing}
-use Rattle.model.specs.declared.party.Doing.TheVariants.{Going, Over}
+use Rattle.model.specs.declared.party.Doing.TheVariants.{Going}
 use Rattle.model.specs.declared.party.Party.{Party}
 use Rattle.model.specs.declared.families.queues.QueueKind.{QueueKind}
 use Rattle.model.specs.declared.families.queues.QueueKind as kinds
 use Rattle.model.specs.declared.turn.Turn.{Turn}
-use Rattle.model.specs.declared.turn.Turn.TheVariants.{Begin, Next, Decide, Die}
+use Rattle.model.specs.declared.turn.Turn.TheVariants.{Next}
 use Rattle.model.specs.Coding.{Coding, IsCoding}
-use Rattle.model.specs.Families.{want_of, after_of, ask_of, beside_of, step_of}
+use Rattle.model.specs.Families.{after_of, ask_of, beside_of, step_of}
 use Rattle.model.specs.Families.Queues.Book.{AnswersRight}
 use Rattle.model.specs.Families.Queues.Calls.{want, after, popped}
 use Rattle.model.specs.Families.Queues.Promises.{load_of_write, load_of_read, finding_none, promise}
 use Rattle.model.specs.Families.Queues.Steps.{beside, takes_effect, effect_of, acts_if_done, effects_of}
-use Rattle.model.specs.Parties.{party_of, doing_of, flight_of}
+use Rattle.model.specs.Parties.{party_of}
 use Rattle.model.specs.Promises.{IsTurnBy}
-use Rattle.model.specs.Promises.Turns.{ask_in, IsParty, IsEffectOf, IsAct, IsEndOf, ActsRight, WritesInOrder, WritesDown}
-use Rattle.model.specs.Reading.{Open, span_of}
+use Rattle.model.specs.Promises.Turns.{ask_in, IsParty, IsEffectOf, IsAct, ActsRight}
 use Rattle.model.specs.Step.{as_call, answer_in}
-use Rattle.model.specs.Turns.{old_of, ask_of_doing, ending_of, events_of_step, events_of_answer, events_of_next, after_turn, AreAllowed, IsReached}
-use Rattle.model.specs.World.{Trace, flight_in}
+use Rattle.model.specs.Turns.{old_of, ending_of, after_turn}
+use Rattle.model.specs.World.{Trace}
 use Rattle.model.proofs.Frame as frame
-use Rattle.model.proofs.Orders.{Orders, Keeps, turn_is}
+use Rattle.model.proofs.Orders.{Orders, Keeps, ends_end, turn_is}
 use Rattle.model.proofs.Readings.{AreRight}
+use Rattle.model.proofs.Scenes.{StandsThere, stands_there, InOrder, in_order_from}
 use Rattle.queue_laws.proofs.Overflow.Knows.{overflow_pop_at, KnowsOverflowPop, OverflowAt}
 use Rattle.queue_laws.proofs.Queues.Core.{Core}
 use Rattle.queue_laws.proofs.Queues.Invariant.{Queue, Fit, machine_kind, family}
-use Rattle.queue_laws.proofs.Queues.Knows.{layout, IndexAt, ValueAt, OverAt, At}
-use Rattle.queue_laws.proofs.Queues.Sound.{kept_is, step_moves, scene_of, inv_of, stands_at, asks_nothing, reached_sound}
+use Rattle.queue_laws.proofs.Queues.Knows.{layout, IndexAt, ValueAt, At}
+use Rattle.queue_laws.proofs.Queues.Sound.{kept_is, step_moves, scene_of, inv_of, asks_nothing, reached_sound}
 use Rattle.queue_laws.proofs.Queues.Kept.{kept, promised_by}
 use Rattle.queue_laws.proofs.Queues.Stages.{told_after, any_call}
 use Rattle.queue_laws.proofs.Queues.Values.{Val, encoded, item}
@@ -140,10 +139,6 @@ module _ {T : Type 0} where
   all_act p start (TakesOut index) outcome = (tt, tt)
   all_act p start (MakesRoom item q pushed) outcome =
       joined IsAct (acts_if_done p start outcome) (Acted q (Queues (PushIndex pushed)) answers.TheVariants.PoppedNone ∷ []) (acts_act p start outcome) (tt, tt)
-
-  ends_end : (turn : Turn T) (p : ℕ) (start : Start T) (outcome : Option (Answer T)) → IsParty turn p → AllByRecursion (IsEndOf turn) (ending_of p start outcome)
-  ends_end turn p start None mine = tt
-  ends_end turn p start (Some answer) mine = (mine, tt)
 
 -- ---- what an act tells
 
@@ -317,24 +312,18 @@ module _ {T : Type 0} (own : QueueKind) (t : Trace T) (turn : Turn T) (p : ℕ) 
 -- ---- every turn
 
 module _ {T : Type 0} (en : Coding T) (law : IsCoding en) (kd : QueueKind) (c : ℕ) (t : Trace T) (p : ℕ) (s : frame.Sound (family en kd c) t) (small : t.world.turns < 2 ^ 64 - 2) (x : Party T) (since : ℕ) where
-  -- the events of its step where the values are written so, the words, what is kept, and the call's name are these
-  abbrev InOrder : Coding T → List ℕ → Kept → Start T → Flight T → Type 0
-  InOrder z words kept start flight =
-      WritesInOrder (promise kd) t (Next p) (t.events ++ events_of_step p start (step_of z words (beside_of words kept t.world.latest p) p start flight (old_of words (ask_of (want_of z flight))) kept))
-
-  in_order : (start : Start T) (flight : Flight T) → t.world.coding ≡ en → t.world.capacity ≡ c → (family en kd c).At s.state p start flight → x.steps ≤ (family {T = T} en kd c).number flight x.backs → (family en kd c).Knows s.state p t.events since t.world.changes x.backs flight
-      → flight_of (doing_of (party_of p t.world.latest)) ≡ Some flight → span_of p t.events ≡ Open start ((family en kd c).written s.state p flight) → InOrder t.world.coding (layout s.state.roles s.state.core) (kepts.TheVariants.Queues s.state.roles) start flight
-  in_order (Queues start) (flights.TheVariants.Queues flight) same_coding same_capacity at steps knows found seen =
+  in_order : (start : Start T) (flight : Flight T) → t.world.coding ≡ en → t.world.capacity ≡ c → StandsThere (family en kd c) t s p x since start flight → InOrder t p (promise kd) t.world.coding (layout s.state.roles s.state.core) (kepts.TheVariants.Queues s.state.roles) start flight
+  in_order (Queues start) (flights.TheVariants.Queues flight) same_coding same_capacity here =
       let scene = scene_of en law kd c t s small p x since in
       let words = layout s.state.roles s.state.core in
-      let moves = step_moves en law kd scene small (inv_of en law kd c t s small p x since) start flight at steps knows (found, seen) in
+      let moves = step_moves en law kd scene small (inv_of en law kd c t s small p x since) start flight here.at here.steps here.knows (here.found, here.span) in
       let z = t.world.coding in
       let old = old_of words (ask_of (want z flight)) in
       let waits = beside s.state.roles words t.world.latest p in
       let effect : Effect T = effect_of z words waits flight old in
       let outcome : Option (Answer T) = answer_in (after z flight old) in
       let ends : List (Event T) = ending_of p (Queues start) (answer_in (any_call (after z flight old))) in
-      let asks : ask_in t.world (Next p) ≡ ask_of (want z flight) = rw found refl in
+      let asks : ask_in t.world (Next p) ≡ ask_of (want z flight) = rw here.found refl in
       record {
         effects = did p effect;
         acts = acts_of p start effect outcome;
@@ -344,23 +333,17 @@ module _ {T : Type 0} (en : Coding T) (law : IsCoding en) (kd : QueueKind) (c : 
         are_acts = all_act p start effect outcome;
         are_ends = ends_end (Next p) p (Queues start) (answer_in (any_call (after z flight old))) refl;
         right = step_right kd t (Next p) p refl words waits kd refl s.state.roles s.state.core start flight old
-            (subst (λ y. At y kd t.world.capacity s.state.roles s.state.core p start flight) (sym same_coding) (subst (λ n. At en kd n s.state.roles s.state.core p start flight) (sym same_capacity) at))
+            (subst (λ y. At y kd t.world.capacity s.state.roles s.state.core p start flight) (sym same_coding) (subst (λ n. At en kd n s.state.roles s.state.core p start flight) (sym same_capacity) here.at))
             asks
             (subst (λ n. AreRight (AnswersRight n) t.events (told_after p start effect (after z flight old))) (sym same_capacity)
             (subst (λ (y : Coding T). AreRight (AnswersRight c) t.events (told_after p start (effect_of y words waits flight (old_of words (ask_of (want y flight)))) (after y flight (old_of words (ask_of (want y flight)))))) (sym same_coding) moves.2.right));
       }
-  in_order start flight same_coding same_capacity at steps knows found seen = absurd at
+  in_order start flight same_coding same_capacity here = absurd here.at
 
-  step_in_order : (flight : Flight T) → party_of p t.world.latest ≡ Some x → x.doing ≡ Going flight since → InOrder t.world.coding t.world.words t.world.kept x.start flight
+  step_in_order : (flight : Flight T) → party_of p t.world.latest ≡ Some x → x.doing ≡ Going flight since → InOrder t p (promise kd) t.world.coding t.world.words t.world.kept x.start flight
   step_in_order flight found doing =
-      let fam = family {T = T} en kd c in
-      let fits = subst (λ o. frame.Fits fam s.state p o (span_of p t.events)) found (s.inv.calls p) in
-      let here = frame.under_way fam s.state p x x.doing flight since (span_of p t.events) doing fits in
-      let knows = frame.knows_now fam s.state p t.events t.world.changes (party_of p t.world.latest) x flight since found doing (s.inv.knows p) in
-      let goes : flight_of (doing_of (party_of p t.world.latest)) ≡ Some flight = ap (λ o. flight_of (doing_of o)) found ∙ ap (λ d. flight_of (Some d)) doing in
       let is = kept_is t.world.kept t.world.words s.state s.fit in
-      subst (λ ws. InOrder t.world.coding ws t.world.kept x.start flight) (sym is.1)
-      (subst (λ kept. InOrder t.world.coding (layout s.state.roles s.state.core) kept x.start flight) (sym is.0) (in_order x.start flight s.coding s.capacity here.at here.steps knows goes here.span))
+      in_order_from t p (promise kd) t.world.coding (layout s.state.roles s.state.core) (kepts.TheVariants.Queues s.state.roles) x.start flight is.1 is.0 (in_order x.start flight s.coding s.capacity (stands_there (family en kd c) t s p x since flight found doing))
 
 -- a call of a queue goes on as its table says
 told : {T : Type 0} (en z : Coding T) (kd : QueueKind) (c : ℕ) (words : List ℕ) (waits : Option (ℕ × ℕ)) (s : Queue (Val T kd)) (p : ℕ) (start : Start T) (flight : Flight T) (answer : ℕ) (kept : Kept) → Fit kept words s → (family en kd c).At s p start flight
@@ -376,7 +359,7 @@ module _ {T : Type 0} where
         step = λ t p x flight since s small found doing. step_in_order en law kd c t p s small x since flight found doing;
         decision = λ t p x flight since said s small found doing asks. asks_nothing en kd c t p x flight since s found doing asks;
         after = λ t p x flight since answer s found doing.
-            told en t.world.coding kd c t.world.words (beside_of t.world.words t.world.kept t.world.latest p) s.state p x.start flight answer t.world.kept s.fit (stands_at en kd c t p x flight since s found doing);
+            told en t.world.coding kd c t.world.words (beside_of t.world.words t.world.kept t.world.latest p) s.state p x.start flight answer t.world.kept s.fit (stands_there (family en kd c) t s p x since flight found doing).at;
       }
 
   -- what is proved of every run of a queue

@@ -38,27 +38,26 @@ use Rattle.model.specs.declared.families.queues.QueueKind as kinds
 use Rattle.model.specs.Coding.{Coding, IsCoding, one_word}
 use Rattle.model.specs.Families.Queues.Book.{item_at, cell_of, stored, waiting_in}
 use Rattle.model.specs.Families.Queues.Bounds.{most_steps}
-use Rattle.model.specs.Families.Queues.Opening.{cells_of, words_of_cell}
+use Rattle.model.specs.Families.Queues.Opening.{cells_of}
 use Rattle.model.specs.Parties.{party_of}
 use Rattle.model.specs.Families.Queues.Promises.{IsQueue, most, promise}
 use Rattle.model.specs.Families.Queues.Roles.{KeepsHolders}
 use Rattle.model.specs.Families.Queues.Reading.{published, handed_out}
 use Rattle.model.specs.Promises.{IsKeptBy, IsKept}
 use Rattle.model.specs.Promises.Families.{promise_of}
-use Rattle.model.specs.Promises.Bounds.{Progresses}
 use Rattle.model.specs.Reading.{span_of}
 use Rattle.model.specs.Turns.{IsReached}
 use Rattle.model.specs.World.{Trace}
 use Rattle.queue_laws.proofs.Queues.Core.{Core, Good, take_all, at_below, word_at}
 use Rattle.queue_laws.proofs.Ring.Knows.{KnowsPush, KnowsPop, push_number, pop_number, ring_number, PushAt, PopAt}
 use Rattle.queue_laws.proofs.Overflow.Knows.{overflow_push_number, overflow_pop_number, KnowsBacks, OverflowAt}
-use Rattle.queue_laws.proofs.Queues.Knows.{free, layout, in_one, in_cell, listed, len_number, number_of, IsPaid, KnowsLen, KnowsFlight, RoleAt, LengthAt, IndexAt, ValueAt, OverAt, At}
+use Rattle.queue_laws.proofs.Queues.Knows.{free, layout, in_one, in_cell, listed, len_number, number_of, IsPaid, KnowsLen, KnowsFlight, RoleAt, LengthAt, IndexAt, ValueAt, At}
 use Rattle.model.proofs.Frame as frame
 use Rattle.queue_laws.proofs.Queues.Invariant.{Queue, machine_kind, family, waiting_is}
 use Rattle.queue_laws.proofs.Queues.Stages.{cell_place}
 use Rattle.queue_laws.proofs.Queues.Values.{Val, encoded, item}
 use Rattle.queue_laws.proofs.Ring.Pops.{same_words}
-use Rattle.queue_laws.proofs.Queues.Sound.{kept_is, reached_sound}
+use Rattle.queue_laws.proofs.Queues.Sound.{kept_is, cell_size, reached_sound}
 
 -- ---- how many steps a call has taken
 
@@ -215,11 +214,6 @@ module _ {T : Type 0} (en : Coding T) where
       let rest = stored_is law kd c words (position + 1) xs (λ i v e. let same : position + 1 + i ≡ position + suc i = omega arith in rw same (held (suc i) v e)) in
       rw (first, rest) refl
 
-  cell_size : (kd : QueueKind) → words_of_cell en.size kd ≡ (encoded en kd).size
-  cell_size IndexQueue = refl
-  cell_size kinds.TheVariants.Overflow = refl
-  cell_size kinds.TheVariants.Queue = refl
-
   stored_waiting : IsCoding en → (kd : QueueKind) (c : ℕ) (ro : Roles) (k : Core (Val T kd)) → Good (encoded en kd).size (encoded en kd).words_of (cells_of kd c) k → waiting_in en kd c (layout ro k) ≡ map (item kd) k.waiting
   stored_waiting law kd c ro k g =
       let write = g.write in
@@ -238,7 +232,7 @@ module _ {T : Type 0} (en : Coding T) where
           let below = at_below size (encoded en kd).words_of n k.waiting i v e in
           let few = g.few in
           let some : 0 < n = omega arith in
-          let first : cell_of en kd c (k.read + i) ≡ 4 + size * ((k.read + i) % n) = ap (λ m. cell_word n m (k.read + i)) (cell_size kd) ∙ cell_place size n (k.read + i) some in
+          let first : cell_of en kd c (k.read + i) ≡ 4 + size * ((k.read + i) % n) = ap (λ m. cell_word n m (k.read + i)) (cell_size en kd) ∙ cell_place size n (k.read + i) some in
           let low : (k.read + i) % n < n = omega arith in
           let step : size * ((k.read + i) % n + 1) ≤ size * n = mul-le-mul_left size (omega arith) in
           let all = g.cells in

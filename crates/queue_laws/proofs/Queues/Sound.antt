@@ -3,7 +3,6 @@ use Rattle.std.proofs.Common.{◌≡◌, ℕ, ◌+◌, ◌-◌, ◌*◌, ◌^◌
 use Rattle.std.proofs.lemmas.Bool.Decides.{nat_tests}
 use Rattle.std.proofs.lemmas.List.{length-replicate}
 use Rattle.std.proofs.Math.Seq.{take-nil}
-use Rattle.steps.specs.declared.ask.Ask.{Ask}
 use Rattle.steps.specs.declared.copied.Kept as cells
 use Rattle.steps.specs.declared.copied.OneWord.{OneWord}
 use Rattle.steps.specs.declared.queues.lengths.Len.{Len}
@@ -33,7 +32,7 @@ use Rattle.model.specs.declared.families.queues.QueueKind.TheVariants.{IndexQueu
 use Rattle.model.specs.declared.families.queues.QueueKind as kinds
 use Rattle.model.specs.declared.turn.Refusal.TheVariants.{NoRole}
 use Rattle.model.specs.Coding.{Coding, IsCoding, one_word}
-use Rattle.model.specs.Families.{opening_of, first_of, want_of, ask_of, is_question, beside_of, step_of}
+use Rattle.model.specs.Families.{opening_of, first_of, want_of, ask_of, is_question}
 use Rattle.model.specs.Families.Queues.Calls.{acquire_of, release_of, first}
 use Rattle.model.specs.Families.Queues.Objects.{list_of}
 use Rattle.model.specs.Families.Queues.Opening.{cells_of, words_of_cell, lacks_role, call_of, kept_rows}
@@ -41,13 +40,14 @@ use Rattle.model.specs.Families.Queues.Steps.{pending_at, pending}
 use Rattle.model.specs.Parties.{party_of, put, doing_of, flight_of}
 use Rattle.model.specs.Reading.{Open, span_of}
 use Rattle.model.specs.Rows.{first_row}
-use Rattle.model.specs.Turns.{one_if, old_of, words_after, change_of, step_count, doing_after, party_at_begin, events_of_step, IsReached}
+use Rattle.model.specs.Turns.{old_of, party_at_begin, IsReached}
 use Rattle.steps.specs.declared.enums.UniqueIndexCreationError.{UniqueIndexCreationError}
 use Rattle.steps.specs.declared.enums.UniqueIndexCreationError.TheVariants.{ProvidedCapacityGreaterThanMaxCapacity}
 use Rattle.model.specs.World.{Trace, opening, capacity_error}
 use Rattle.model.proofs.Frame as frame
 use Rattle.model.proofs.Readings.{Each-nil}
 use Rattle.model.proofs.Rows.{row_passed, MayBegin}
+use Rattle.model.proofs.Scenes.{asked, StandsThere, stands_there, ComesFrom, comes_from}
 use Rattle.queue_laws.proofs.Overflow.Knows.{overflow_push_at, overflow_pop_at, OverflowAt}
 use Rattle.queue_laws.proofs.Overflow.Pops.{overflow_pop_step}
 use Rattle.queue_laws.proofs.Overflow.Pushes.{overflow_push_step}
@@ -221,44 +221,22 @@ module _ {T : Type 0} (en : Coding T) (law : IsCoding en) (kd : QueueKind) (c : 
   inv_of x since = record { queue = s.holds; frame = s.inv }
 
   module _ (x : Party T) (since : ℕ) where
-    abbrev asks : Coding T → Flight T → Option Ask
-    asks z flight = ask_of (want_of z flight)
-
     -- what its step comes to where the words, what is kept, and the call's name are these
-    abbrev ComesTo : Coding T → List ℕ → Kept → Start T → Flight T → Type 0
-    ComesTo z words kept start flight =
-        frame.Comes (family en kd c) t p (step_of z words (beside_of words kept t.world.latest p) p start flight (old_of words (asks z flight)) kept).kept (words_after words (asks z flight))
-        (record {
-          start = start;
-          steps = x.steps + step_count (asks z flight);
-          backs = x.backs + one_if (step_of z words (beside_of words kept t.world.latest p) p start flight (old_of words (asks z flight)) kept).back;
-          doing = doing_after (t.world.changes + change_of words (asks z flight)) (since + change_of words (asks z flight)) (step_of z words (beside_of words kept t.world.latest p) p start flight (old_of words (asks z flight)) kept).after;
-        })
-        (events_of_step p start (step_of z words (beside_of words kept t.world.latest p) p start flight (old_of words (asks z flight)) kept))
-        (t.world.changes + change_of words (asks z flight))
-
-    comes : (start : Start T) (flight : Flight T) → (family en kd c).At s.state p start flight → x.steps ≤ (family {T = T} en kd c).number flight x.backs → (family en kd c).Knows s.state p t.events since t.world.changes x.backs flight
-        → flight_of (doing_of (party_of p t.world.latest)) ≡ Some flight → span_of p t.events ≡ Open start ((family en kd c).written s.state p flight) → ComesTo en (layout s.state.roles s.state.core) (kepts.TheVariants.Queues s.state.roles) start flight
-    comes (Queues start) (flights.TheVariants.Queues flight) at steps knows found seen =
-        let moves = step_moves en law kd (scene_of x since) small (inv_of x since) start flight at steps knows (found, seen) in
+    comes : (start : Start T) (flight : Flight T) → StandsThere (family en kd c) t s p x since start flight → ComesFrom (family en kd c) t s p x since en (layout s.state.roles s.state.core) (kepts.TheVariants.Queues s.state.roles) start flight
+    comes (Queues start) (flights.TheVariants.Queues flight) here =
+        let moves = step_moves en law kd (scene_of x since) small (inv_of x since) start flight here.at here.steps here.knows (here.found, here.span) in
         record {
           state = record { roles = _; core = moves.0 };
           fit = (moves.1, refl);
           holds = holds_more en kd (scene_of x since) _ moves.0 _ _ _ s.holds moves.2;
           owes = moves.3;
         }
-    comes start flight at steps knows found seen = absurd at
+    comes start flight here = absurd here.at
 
-    pub step_comes : (flight : Flight T) → party_of p t.world.latest ≡ Some x → x.doing ≡ Going flight since → frame.ComesByStep (family en kd c) t p x flight since (asks t.world.coding flight) (old_of t.world.words (asks t.world.coding flight))
+    pub step_comes : (flight : Flight T) → party_of p t.world.latest ≡ Some x → x.doing ≡ Going flight since → frame.ComesByStep (family en kd c) t p x flight since (asked t.world.coding flight) (old_of t.world.words (asked t.world.coding flight))
     step_comes flight found doing =
-        let fits = subst (λ o. frame.Fits (family en kd c) s.state p o (span_of p t.events)) found (s.inv.calls p) in
-        let here = frame.under_way (family en kd c) s.state p x x.doing flight since (span_of p t.events) doing fits in
-        let knows = frame.knows_now (family en kd c) s.state p t.events t.world.changes (party_of p t.world.latest) x flight since found doing (s.inv.knows p) in
-        let goes : flight_of (doing_of (party_of p t.world.latest)) ≡ Some flight = ap (λ o. flight_of (doing_of o)) found ∙ ap (λ d. flight_of (Some d)) doing in
         let is = kept_is t.world.kept t.world.words s.state s.fit in
-        subst (λ z. ComesTo z t.world.words t.world.kept x.start flight) (sym s.coding)
-        (subst (λ ws. ComesTo en ws t.world.kept x.start flight) (sym is.1)
-        (subst (λ kept. ComesTo en (layout s.state.roles s.state.core) kept x.start flight) (sym is.0) (comes x.start flight here.at here.steps knows goes here.span)))
+        comes_from (family en kd c) t s p x since (layout s.state.roles s.state.core) (kepts.TheVariants.Queues s.state.roles) flight is.1 is.0 (comes x.start flight (stands_there (family en kd c) t s p x since flight found doing))
 
   -- ---- a call begins
 
@@ -317,17 +295,10 @@ never_due : {T A : Type 0} → (en z : Coding T) (kd : QueueKind) (c : ℕ) (s :
 never_due en z kd c s p (Queues start) (flights.TheVariants.Queues flight) at e = let none = never_asks z flight in absurd (cc)
 never_due en z kd c s p start flight at e = absurd at
 
--- a party's call under way stands where the queue has such a call
-pub stands_at : {T : Type 0} (en : Coding T) (kd : QueueKind) (c : ℕ) (t : Trace T) (p : ℕ) (x : Party T) (flight : Flight T) (since : ℕ) (s : frame.Sound (family en kd c) t) → party_of p t.world.latest ≡ Some x → x.doing ≡ Going flight since
-    → (family en kd c).At s.state p x.start flight
-stands_at en kd c t p x flight since s found doing =
-    let fits = subst (λ o. frame.Fits (family en kd c) s.state p o (span_of p t.events)) found (s.inv.calls p) in
-    (frame.under_way (family en kd c) s.state p x x.doing flight since (span_of p t.events) doing fits).at
-
 pub asks_nothing : {T A : Type 0} → (en : Coding T) (kd : QueueKind) (c : ℕ) (t : Trace T) (p : ℕ) (x : Party T) (flight : Flight T) (since : ℕ) (s : frame.Sound (family en kd c) t) → party_of p t.world.latest ≡ Some x → x.doing ≡ Going flight since
     → is_question (want_of t.world.coding flight) ≡ true → A
 asks_nothing en kd c t p x flight since s found doing asks =
-    never_due en t.world.coding kd c s.state p x.start flight (stands_at en kd c t p x flight since s found doing) asks
+    never_due en t.world.coding kd c s.state p x.start flight (stands_there (family en kd c) t s p x since flight found doing).at asks
 
 abbrev empty_core : {T : Type 0} → Coding T → (kd : QueueKind) → ℕ → Core (Val T kd)
 empty_core en kd c = record { write = 0; read = 0; waiting = []; cells = replicate (words_of_cell en.size kd * cells_of kd c) 0 }
@@ -340,7 +311,7 @@ opening_fits en IndexQueue c = (refl, refl)
 opening_fits en kinds.TheVariants.Overflow c = (refl, refl)
 opening_fits en kinds.TheVariants.Queue c = (refl, refl)
 
-cell_size : {T : Type 0} → (en : Coding T) (kd : QueueKind) → words_of_cell en.size kd ≡ (encoded en kd).size
+pub cell_size : {T : Type 0} → (en : Coding T) (kd : QueueKind) → words_of_cell en.size kd ≡ (encoded en kd).size
 cell_size en IndexQueue = refl
 cell_size en kinds.TheVariants.Overflow = refl
 cell_size en kinds.TheVariants.Queue = refl

@@ -1,5 +1,5 @@
 //! The queue of values, whose numbers have two words.
-use super::{Run, runs_so};
+use super::{Run, first_wrong};
 
 const RUNS: [Run; 3] = [
     // A push stops inside its cell: a pop finds nothing, and once the push has gone on, the value counts.
@@ -26,7 +26,5 @@ const RUNS: [Run; 3] = [
 
 #[test]
 fn values_of_two_words(rt: HostRuntime) {
-    for (at, (input, output, told, exit)) in RUNS.iter().enumerate() {
-        assert!(rt; runs_so(rt.alloc(), input, output, told, *exit), "{at}");
-    }
+    assert_eq!(rt; first_wrong(rt.alloc(), &RUNS), None);
 }

@@ -1,0 +1,77 @@
+-- From a machine of any family between two turns to the step of one call that is under way: where the call stands there,
+-- and that its step may be looked at from the words, and what is kept beside them, that the family's state holds.
+use Rattle.std.proofs.Common.{◌≡◌, ℕ, ◌+◌, ◌≤◌, Option, Some, List, ◌++◌, sym, ap, subst, ◌∙◌}
+use Rattle.steps.specs.declared.ask.Ask.{Ask}
+use Rattle.model.specs.declared.event.Start.{Start}
+use Rattle.model.specs.declared.families.Flight.{Flight}
+use Rattle.model.specs.declared.families.Kept.{Kept}
+use Rattle.model.specs.declared.party.Doing.TheVariants.{Going}
+use Rattle.model.specs.declared.party.Party.{Party}
+use Rattle.model.specs.declared.turn.Turn.TheVariants.{Next}
+use Rattle.model.specs.Coding.{Coding}
+use Rattle.model.specs.Families.{want_of, ask_of, beside_of, step_of}
+use Rattle.model.specs.Parties.{party_of, doing_of, flight_of}
+use Rattle.model.specs.Promise.{Promise}
+use Rattle.model.specs.Promises.Turns.{WritesInOrder}
+use Rattle.model.specs.Reading.{Open, span_of}
+use Rattle.model.specs.Step.{Step}
+use Rattle.model.specs.Turns.{old_of, words_after, change_of, step_count, party_after, events_of_step}
+use Rattle.model.specs.World.{Trace}
+use Rattle.model.proofs.Frame.{Family, Sound, Comes, ComesByStep, Fits, under_way, knows_now}
+
+module _ {T : Type 0} where
+  abbrev pub asked : Coding T → Flight T → Option Ask
+  asked z flight = ask_of (want_of z flight)
+
+  module _ (t : Trace T) (p : ℕ) where
+    -- the party's step where values are written so, these are the words, this is kept, and the call has this name
+    abbrev pub step_from : Coding T → List ℕ → Kept → Start T → Flight T → Step (Flight T) Kept T
+    step_from z words kept start flight =
+        step_of z words (beside_of words kept t.world.latest p) p start flight (old_of words (asked z flight)) kept
+
+    -- what it writes down is in order
+    abbrev pub InOrder : Promise T → Coding T → List ℕ → Kept → Start T → Flight T → Type 0
+    InOrder promise z words kept start flight =
+        WritesInOrder promise t (Next p) (t.events ++ events_of_step p start (step_from z words kept start flight))
+
+    pub in_order_from : (promise : Promise T) (z : Coding T) (words : List ℕ) (kept : Kept) (start : Start T) (flight : Flight T) → t.world.words ≡ words → t.world.kept ≡ kept → InOrder promise z words kept start flight
+        → InOrder promise z t.world.words t.world.kept start flight
+    in_order_from promise z words kept start flight same_words same_kept h =
+        subst (λ ws. InOrder promise z ws t.world.kept start flight) (sym same_words)
+        (subst (λ k. InOrder promise z words k start flight) (sym same_kept) h)
+
+  module _ (F : Family T) (t : Trace T) (s : Sound F t) (p : ℕ) (x : Party T) (since : ℕ) where
+    -- a call of this name is under way
+    pub record StandsThere (start : Start T) (flight : Flight T) : Type 0 where
+      pub found : flight_of (doing_of (party_of p t.world.latest)) ≡ Some flight
+      pub span : span_of p t.events ≡ Open start (F.written s.state p flight)
+      pub steps : x.steps ≤ F.number flight x.backs
+      pub at : F.At s.state p start flight
+      pub knows : F.Knows s.state p t.events since t.world.changes x.backs flight
+
+    pub stands_there : (flight : Flight T) → party_of p t.world.latest ≡ Some x → x.doing ≡ Going flight since → StandsThere x.start flight
+    stands_there flight found doing =
+        let fits = subst (λ o. Fits F s.state p o (span_of p t.events)) found (s.inv.calls p) in
+        let here = under_way F s.state p x x.doing flight since (span_of p t.events) doing fits in
+        record {
+          found = ap (λ o. flight_of (doing_of o)) found ∙ ap (λ d. flight_of (Some d)) doing;
+          span = here.span;
+          steps = here.steps;
+          at = here.at;
+          knows = knows_now F s.state p t.events t.world.changes (party_of p t.world.latest) x flight since found doing (s.inv.knows p);
+        }
+
+    -- what the step comes to
+    abbrev pub ComesFrom : Coding T → List ℕ → Kept → Start T → Flight T → Type 0
+    ComesFrom z words kept start flight =
+        Comes F t p (step_from t p z words kept start flight).kept (words_after words (asked z flight))
+        (party_after (record x { start = start }) since t.world.changes (step_count (asked z flight)) (change_of words (asked z flight)) (step_from t p z words kept start flight))
+        (events_of_step p start (step_from t p z words kept start flight))
+        (t.world.changes + change_of words (asked z flight))
+
+    pub comes_from : (words : List ℕ) (kept : Kept) (flight : Flight T) → t.world.words ≡ words → t.world.kept ≡ kept → ComesFrom F.coding words kept x.start flight
+        → ComesByStep F t p x flight since (asked t.world.coding flight) (old_of t.world.words (asked t.world.coding flight))
+    comes_from words kept flight same_words same_kept h =
+        subst (λ z. ComesFrom z t.world.words t.world.kept x.start flight) (sym s.coding)
+        (subst (λ ws. ComesFrom F.coding ws t.world.kept x.start flight) (sym same_words)
+        (subst (λ k. ComesFrom F.coding words k x.start flight) (sym same_kept) h))
