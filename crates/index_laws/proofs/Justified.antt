@@ -23,21 +23,18 @@ use Rattle.model.specs.Families.Indices.Steps.{effects, ended, wrote}
 use Rattle.model.specs.Parties.{party_of}
 use Rattle.model.specs.Promises.{IsTurnBy}
 use Rattle.model.specs.Promises.Families.{promise_of}
-use Rattle.model.specs.Promises.Turns.{IsParty, IsEffectOf, IsEndOf, WritesInOrder}
+use Rattle.model.specs.Promises.Turns.{IsParty, IsEffectOf}
 use Rattle.model.specs.Step.{answer_in}
-use Rattle.model.specs.Turns.{old_of, ending_of, events_of_step, after_turn}
+use Rattle.model.specs.Turns.{old_of, ending_of, after_turn}
 use Rattle.model.specs.World.{Trace}
 use Rattle.model.proofs.Frame as frame
-use Rattle.model.proofs.Orders.{Orders, Keeps, turn_is}
+use Rattle.model.proofs.Orders.{Orders, Keeps, ends_end, turn_is}
+use Rattle.model.proofs.Scenes.{stands_there, InOrder, in_order_from}
 use Rattle.index_laws.proofs.Invariant.{IndexSet, Fit, family}
 use Rattle.index_laws.proofs.Kept.{kept}
-use Rattle.index_laws.proofs.Sound.{kept_is, stands_at, asks_nothing, reached_sound}
+use Rattle.index_laws.proofs.Sound.{kept_is, asks_nothing, reached_sound}
 
 module _ {T : Type 0} (turn : Turn T) (p : ℕ) (mine : IsParty turn p) where
-  ends_end : (start : Start T) (outcome : Option (Answer T)) → AllByRecursion (IsEndOf turn) (ending_of p start outcome)
-  ends_end start None = tt
-  ends_end start (Some answer) = (mine, tt)
-
   all_ended : (outcome : Option (Answer T)) → AllByRecursion (IsEffectOf turn) (ended p outcome)
   all_ended None = tt
   all_ended (Some (Index index)) = (mine, tt)
@@ -51,12 +48,7 @@ module _ {T : Type 0} (turn : Turn T) (p : ℕ) (mine : IsParty turn p) where
 -- ---- every turn
 
 module _ {T : Type 0} (code : Coding T) (c : ℕ) (t : Trace T) (p : ℕ) (s : frame.Sound (family code c) t) (x : Party T) (since : ℕ) where
-  -- the events of its step where the words, what is kept, and the call's name are these
-  abbrev InOrder : List ℕ → Kept → Start T → Flight T → Type 0
-  InOrder words kept start flight =
-      WritesInOrder promise t (Next p) (t.events ++ events_of_step p start (step_of t.world.coding words (beside_of words kept t.world.latest p) p start flight (old_of words (ask_of (want_of t.world.coding flight))) kept))
-
-  in_order : (words : List ℕ) (start : Start T) (flight : Flight T) → (family code c).At s.state p start flight → InOrder words (kepts.TheVariants.Indices s.state.holders) start flight
+  in_order : (words : List ℕ) (start : Start T) (flight : Flight T) → (family code c).At s.state p start flight → InOrder t p promise t.world.coding words (kepts.TheVariants.Indices s.state.holders) start flight
   in_order words (Indices start) (flights.TheVariants.Indices flight) at =
       let old = old_of words (ask_of (want_of t.world.coding (flights.TheVariants.Indices flight))) in
       let outcome : Option (Answer T) = answer_in (after_of t.world.coding (flights.TheVariants.Indices flight) old) in
@@ -69,16 +61,15 @@ module _ {T : Type 0} (code : Coding T) (c : ℕ) (t : Trace T) (p : ℕ) (s : f
         is = ap (λ es. t.events ++ (es ++ ends)) (sym (append-nil done));
         are_effects = all_effects (Next p) p refl _ (answer_in (after {T = T} flight old));
         are_acts = tt;
-        are_ends = ends_end (Next p) p refl (Indices start) outcome;
+        are_ends = ends_end (Next p) p (Indices start) outcome refl;
         right = tt;
       }
   in_order words start flight at = absurd at
 
-  step_in_order : (flight : Flight T) → party_of p t.world.latest ≡ Some x → x.doing ≡ Going flight since → InOrder t.world.words t.world.kept x.start flight
+  step_in_order : (flight : Flight T) → party_of p t.world.latest ≡ Some x → x.doing ≡ Going flight since → InOrder t p promise t.world.coding t.world.words t.world.kept x.start flight
   step_in_order flight found doing =
       let is = kept_is t.world.kept t.world.words s.state s.fit in
-      subst (λ kept. InOrder t.world.words kept x.start flight) (sym is.0)
-      (in_order t.world.words x.start flight (stands_at code c t s p x flight since found doing))
+      in_order_from t p promise t.world.coding t.world.words (kepts.TheVariants.Indices s.state.holders) x.start flight refl is.0 (in_order t.world.words x.start flight (stands_there (family code c) t s p x since flight found doing).at)
 
 -- a call of the set goes on as its table says
 told : {T : Type 0} (code z : Coding T) (c : ℕ) (words : List ℕ) (beside : Option (ℕ × ℕ)) (s : IndexSet) (p : ℕ) (start : Start T) (flight : Flight T) (answer : ℕ) (kept : Kept) → Fit kept words s → (family code c).At s p start flight
@@ -94,7 +85,7 @@ module _ {T : Type 0} where
         step = λ t p x flight since s small found doing. step_in_order code c t p s x since flight found doing;
         decision = λ t p x flight since said s small found doing asks. asks_nothing code c t s p x flight since found doing asks;
         after = λ t p x flight since answer s found doing.
-            told code t.world.coding c t.world.words (beside_of t.world.words t.world.kept t.world.latest p) s.state p x.start flight answer t.world.kept s.fit (stands_at code c t s p x flight since found doing);
+            told code t.world.coding c t.world.words (beside_of t.world.words t.world.kept t.world.latest p) s.state p x.start flight answer t.world.kept s.fit (stands_there (family code c) t s p x since flight found doing).at;
       }
 
   -- what is proved of every run of the unique index set

@@ -1,7 +1,6 @@
 -- Every turn keeps what holds of the machine of a unique index set: the laws of the family.
-use Rattle.std.proofs.Common.{◌≡◌, ℕ, ◌+◌, ◌<◌, ◌≤◌, ◌==◌, inl, nat_le, Bool, true, false, not, Option, Some, None, List, [], ◌∷◌, replicate, refl, sym, ap, subst, ◌∙◌, arith}
+use Rattle.std.proofs.Common.{◌≡◌, ℕ, ◌+◌, ◌<◌, ◌≤◌, ◌==◌, inl, nat_le, Bool, true, false, not, Option, Some, None, List, [], ◌∷◌, replicate, refl, sym, ap, subst, arith}
 use Rattle.std.proofs.lemmas.Bool.Decides.{nat_tests}
-use Rattle.steps.specs.declared.ask.Ask.{Ask}
 use Rattle.steps.specs.declared.indices.enums.ReleaseMode.TheVariants.{LockIfLastIndex, Default}
 use Rattle.steps.specs.declared.indices.unique.AcquireStage.{AcquireStage}
 use Rattle.steps.specs.declared.indices.unique.AcquireStage as acquires
@@ -24,7 +23,7 @@ use Rattle.model.specs.declared.party.Party.{Party}
 use Rattle.model.specs.declared.turn.Kind as kinds
 use Rattle.model.specs.declared.turn.Refusal.TheVariants.{BadIndex, NotHeld}
 use Rattle.model.specs.Coding.{Coding}
-use Rattle.model.specs.Families.{first_of, want_of, ask_of, is_question, beside_of, step_of}
+use Rattle.model.specs.Families.{first_of, want_of, is_question}
 use Rattle.model.specs.Families.Indices.Calls.{first, want}
 use Rattle.model.specs.Families.Indices.Opening.{opening_words, call_rows, kept_rows}
 use Rattle.model.specs.Families.Indices.Promises.{GoesStraight}
@@ -33,11 +32,12 @@ use Rattle.model.specs.Families.Queues.Opening.{holds}
 use Rattle.model.specs.Parties.{party_of, doing_of, flight_of}
 use Rattle.model.specs.Reading.{Open, span_of}
 use Rattle.model.specs.Rows.{first_row}
-use Rattle.model.specs.Turns.{one_if, old_of, words_after, change_of, step_count, doing_after, party_at_begin, events_of_step, IsReached}
+use Rattle.model.specs.Turns.{old_of, party_at_begin, IsReached}
 use Rattle.model.specs.World.{Trace, opening, capacity_error}
 use Rattle.model.proofs.Frame as frame
 use Rattle.model.proofs.Readings.{Each-nil}
 use Rattle.model.proofs.Rows.{row_passed, MayBegin}
+use Rattle.model.proofs.Scenes.{asked, StandsThere, stands_there, ComesFrom, comes_from}
 use Rattle.index_laws.proofs.Acquires.{acquire_step}
 use Rattle.index_laws.proofs.Core.{holder, held_below, Good}
 use Rattle.index_laws.proofs.Invariant.{IndexSet, Fit, Scene, Inv, Shows, family, seats_with, owes, holds_more}
@@ -176,15 +176,9 @@ never_due code z c s p start flight at e = absurd at
 -- ---- the laws of the family
 
 module _ {T : Type 0} (code : Coding T) (c : ℕ) (t : Trace T) (s : frame.Sound (family code c) t) (p : ℕ) where
-  -- a party's call under way stands where the set has such a call
-  pub stands_at : (x : Party T) (flight : Flight T) (since : ℕ) → party_of p t.world.latest ≡ Some x → x.doing ≡ Going flight since → (family code c).At s.state p x.start flight
-  stands_at x flight since found doing =
-      let fits = subst (λ o. frame.Fits (family code c) s.state p o (span_of p t.events)) found (s.inv.calls p) in
-      (frame.under_way (family code c) s.state p x x.doing flight since (span_of p t.events) doing fits).at
-
   pub asks_nothing : {A : Type 0} → (x : Party T) (flight : Flight T) (since : ℕ) → party_of p t.world.latest ≡ Some x → x.doing ≡ Going flight since → is_question (want_of t.world.coding flight) ≡ true → A
   asks_nothing x flight since found doing asks =
-      never_due code t.world.coding c s.state p x.start flight (stands_at x flight since found doing) asks
+      never_due code t.world.coding c s.state p x.start flight (stands_there (family code c) t s p x since flight found doing).at asks
 
   abbrev pub scene_of : Party T → ℕ → Scene T
   scene_of x since =
@@ -208,52 +202,27 @@ module _ {T : Type 0} (code : Coding T) (c : ℕ) (t : Trace T) (s : frame.Sound
   abbrev IsUnder : Flight T → Type 0
   IsUnder flight = flight_of (doing_of (party_of p t.world.latest)) ≡ Some flight
 
-  pub is_under : (x : Party T) (flight : Flight T) (since : ℕ) → party_of p t.world.latest ≡ Some x → x.doing ≡ Going flight since → IsUnder flight
-  is_under x flight since found doing =
-      ap (λ o. flight_of (doing_of o)) found ∙ ap (λ d. flight_of (Some d)) doing
-
   pub is_here : (x : Party T) (flight : IndexFlight) (since : ℕ) → party_of p t.world.latest ≡ Some x → IsUnder (flights.TheVariants.Indices flight) → IsHere (scene_of x since) flight
   is_here x flight since found under = record { seat = s.holds.bounded p x found; under = under }
 
   module _ (x : Party T) (since : ℕ) (found : party_of p t.world.latest ≡ Some x) where
-    abbrev asks : Coding T → Flight T → Option Ask
-    asks z flight = ask_of (want_of z flight)
-
     -- what its step comes to where the words, what is kept, and the call's name are these
-    abbrev ComesTo : Coding T → List ℕ → Kept → Start T → Flight T → Type 0
-    ComesTo z words kept start flight =
-        frame.Comes (family code c) t p (step_of z words (beside_of words kept t.world.latest p) p start flight (old_of words (asks z flight)) kept).kept (words_after words (asks z flight))
-        (record {
-          start = start;
-          steps = x.steps + step_count (asks z flight);
-          backs = x.backs + one_if (step_of z words (beside_of words kept t.world.latest p) p start flight (old_of words (asks z flight)) kept).back;
-          doing = doing_after (t.world.changes + change_of words (asks z flight)) (since + change_of words (asks z flight)) (step_of z words (beside_of words kept t.world.latest p) p start flight (old_of words (asks z flight)) kept).after;
-        })
-        (events_of_step p start (step_of z words (beside_of words kept t.world.latest p) p start flight (old_of words (asks z flight)) kept))
-        (t.world.changes + change_of words (asks z flight))
-
-    comes : (start : Start T) (flight : Flight T) → (family code c).At s.state p start flight → x.steps ≤ (family code c).number flight x.backs → (family code c).Knows s.state p t.events since t.world.changes x.backs flight → span_of p t.events ≡ Open start ((family code c).written s.state p flight) → IsUnder flight
-        → ComesTo code s.state.words (kepts.TheVariants.Indices s.state.holders) start flight
-    comes (Indices start) (flights.TheVariants.Indices flight) at steps knows seen under =
-        let moves = step_moves (scene_of x since) (inv_of x since) start flight (is_here x flight since found under) at steps knows in
+    comes : (start : Start T) (flight : Flight T) → StandsThere (family code c) t s p x since start flight → ComesFrom (family code c) t s p x since code s.state.words (kepts.TheVariants.Indices s.state.holders) start flight
+    comes (Indices start) (flights.TheVariants.Indices flight) here =
+        let moves = step_moves (scene_of x since) (inv_of x since) start flight (is_here x flight since found here.found) here.at here.steps here.knows in
         let from = Open (Indices start) (flight_wrote {T = T} p flight) in
         record {
           state = _;
           fit = (refl, refl);
-          holds = holds_more (scene_of x since) _ _ (Some (flights.TheVariants.Indices flight)) from _ _ _ moves under s.holds;
-          owes = owes (scene_of x since) _ _ (Some (flights.TheVariants.Indices flight)) from _ _ _ moves seen (inv_of x since);
+          holds = holds_more (scene_of x since) _ _ (Some (flights.TheVariants.Indices flight)) from _ _ _ moves here.found s.holds;
+          owes = owes (scene_of x since) _ _ (Some (flights.TheVariants.Indices flight)) from _ _ _ moves here.span (inv_of x since);
         }
-    comes start flight at steps knows seen under = absurd at
+    comes start flight here = absurd here.at
 
-    pub step_comes : (flight : Flight T) → x.doing ≡ Going flight since → frame.ComesByStep (family code c) t p x flight since (asks t.world.coding flight) (old_of t.world.words (asks t.world.coding flight))
+    pub step_comes : (flight : Flight T) → x.doing ≡ Going flight since → frame.ComesByStep (family code c) t p x flight since (asked t.world.coding flight) (old_of t.world.words (asked t.world.coding flight))
     step_comes flight doing =
-        let fits = subst (λ o. frame.Fits (family code c) s.state p o (span_of p t.events)) found (s.inv.calls p) in
-        let here = frame.under_way (family code c) s.state p x x.doing flight since (span_of p t.events) doing fits in
-        let knows = frame.knows_now (family code c) s.state p t.events t.world.changes (party_of p t.world.latest) x flight since found doing (s.inv.knows p) in
         let is = kept_is t.world.kept t.world.words s.state s.fit in
-        subst (λ z. ComesTo z t.world.words t.world.kept x.start flight) (sym s.coding)
-        (subst (λ ws. ComesTo code ws t.world.kept x.start flight) (sym is.1)
-        (subst (λ kept. ComesTo code s.state.words kept x.start flight) (sym is.0) (comes x.start flight here.at here.steps knows here.span (is_under x flight since found doing))))
+        comes_from (family code c) t s p x since s.state.words (kepts.TheVariants.Indices s.state.holders) flight is.1 is.0 (comes x.start flight (stands_there (family code c) t s p x since flight found doing))
 
   -- ---- a call begins
 
