@@ -1,5 +1,5 @@
 //! Drives the calls of `steps` on the words of a table. Nothing else touches a word, but making
-//! a table, splitting a seat and joining two.
+//! a table, splitting a seat, joining two and a look.
 pub mod drive;
 pub mod rule;
 pub mod seated;

@@ -13,7 +13,7 @@ mod threads;
 mod users;
 mod value;
 
-/// The first piece of README.md as it stands there, but for its imports.
+/// The first test under `Single calls` in README.md, as it stands there but for its imports.
 #[test]
 fn readme_queue(rt: HostRuntime) -> Result<(), Fail> {
     let (queue, mut pass) = FixedSizeIndexQueue::<128>::new(rt.alloc())?;
@@ -25,7 +25,7 @@ fn readme_queue(rt: HostRuntime) -> Result<(), Fail> {
     Ok(())
 }
 
-/// The second piece of README.md, likewise.
+/// The second one, likewise.
 #[test]
 fn readme_value(rt: HostRuntime) -> Result<(), Fail> {
     let (value, mut pass) = UnrestrictedAtomic::new(rt.alloc(), 7u64)?;
