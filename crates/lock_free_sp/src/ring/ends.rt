@@ -61,7 +61,7 @@ pub struct Consumer<'a, E: Spare, T: Words> {
 }
 
 impl<'a, E: Spare, T: Words> Drop for Producer<'a, E, T> {
-    /// Gives the role back.
+    /// Gives the role back. One atomic step.
     fn drop(self) {
         let Self { ring: _, mut token } = self;
         token.leave_producer();
@@ -69,7 +69,7 @@ impl<'a, E: Spare, T: Words> Drop for Producer<'a, E, T> {
 }
 
 impl<'a, E: Spare, T: Words> Drop for Consumer<'a, E, T> {
-    /// Gives the role back.
+    /// Gives the role back. One atomic step.
     fn drop(self) {
         let Self { ring: _, mut token } = self;
         token.leave_consumer();

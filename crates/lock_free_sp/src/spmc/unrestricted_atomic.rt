@@ -39,7 +39,7 @@ pub struct Producer<'a, T: Words> {
 }
 
 impl<'a, T: Words> Drop for Producer<'a, T> {
-    /// Gives the role back.
+    /// Gives the role back. One atomic step.
     fn drop(self) {
         let Self {
             value: _,

@@ -91,7 +91,7 @@ impl<const CAPACITY: usize> FixedSizeIndexQueue<CAPACITY> {
 
 impl<'a> Producer<'a> {
     /// Appends a number: true, or false where the queue is full or its write position at u64::MAX, and then nothing
-    /// changes. After `Producer::push` of the Rust crate.
+    /// changes. At most 4 atomic steps. After `Producer::push` of the Rust crate.
     pub fn push(&mut self, value: u64) -> bool
         ensures queue { producer_queue self.new ≡ producer_queue self.old }
         ensures pushed { IsTrue result
@@ -103,8 +103,8 @@ impl<'a> Producer<'a> {
 }
 
 impl<'a> Consumer<'a> {
-    /// Takes the oldest number, or None where the queue is empty, and then nothing changes. After `Consumer::pop` of
-    /// the Rust crate.
+    /// Takes the oldest number, or None where the queue is empty, and then nothing changes. At most 4 atomic steps.
+    /// After `Consumer::pop` of the Rust crate.
     pub fn pop(&mut self) -> Option<u64>
         ensures queue { consumer_queue self.new ≡ consumer_queue self.old }
         ensures popped { IfSome result

@@ -60,7 +60,7 @@ impl<T: Words, const CAPACITY: usize> Queue<T, CAPACITY> {
 
 impl<'a, T: Words> Producer<'a, T> {
     /// Appends a value: true, or false where the queue is full or its write position at u64::MAX, and then nothing
-    /// changes. After `Producer::push` of the Rust crate.
+    /// changes. At most 3 + `T::WORDS` atomic steps. After `Producer::push` of the Rust crate.
     pub fn push(&mut self, value: &T) -> bool
         ensures queue { producer_queue self.new ≡ producer_queue self.old }
         ensures pushed { IsTrue result
@@ -72,8 +72,8 @@ impl<'a, T: Words> Producer<'a, T> {
 }
 
 impl<'a, T: Words> Consumer<'a, T> {
-    /// Takes the oldest value, or None where the queue is empty, and then nothing changes. After `Consumer::pop` of the
-    /// Rust crate.
+    /// Takes the oldest value, or None where the queue is empty, and then nothing changes. At most 3 + `T::WORDS` atomic
+    /// steps. After `Consumer::pop` of the Rust crate.
     pub fn pop(&mut self) -> Option<T>
         ensures queue { consumer_queue self.new ≡ consumer_queue self.old }
         ensures popped { IfSome result

@@ -94,8 +94,8 @@ impl<const CAPACITY: usize> FixedSizeSafelyOverflowingIndexQueue<CAPACITY> {
 
 impl<'a> Producer<'a> {
     /// Appends a number: None, or the oldest number where the queue is full, so that at most the capacity waits. The
-    /// number itself comes back, and nothing changes, without capacity or where the write position is u64::MAX. After
-    /// `Producer::push` of the Rust crate.
+    /// number itself comes back, and nothing changes, without capacity or where the write position is u64::MAX. At most
+    /// 6 atomic steps. After `Producer::push` of the Rust crate.
     pub fn push(&mut self, value: u64) -> Option<u64>
         ensures queue { producer_queue self.new ≡ producer_queue self.old }
         ensures added { IfNone result
@@ -111,8 +111,9 @@ impl<'a> Producer<'a> {
 }
 
 impl<'a> Consumer<'a> {
-    /// Takes the oldest number, or None where the queue is empty, and then nothing changes. After `Consumer::pop` of
-    /// the Rust crate.
+    /// Takes the oldest number, or None where the queue is empty, and then nothing changes. At most 4 atomic steps, and
+    /// 2 more for each time that a push moved the read position between its load and the exchange. After
+    /// `Consumer::pop` of the Rust crate.
     pub fn pop(&mut self, rt: &impl Wait) -> Option<u64>
         ensures queue { consumer_queue self.new ≡ consumer_queue self.old }
         ensures popped { IfSome result

@@ -9,8 +9,8 @@ use crate::ring::rule::{RingRule, Spare};
 use steps::words::Words;
 
 impl<E: Spare, T: Words> Ring<E, T, RingRule<E, T>> {
-    /// Takes the producer's role, or hands the pass back as it was where another has it. After `acquire_producer` of
-    /// the Rust crate.
+    /// Takes the producer's role, or hands the pass back as it was where another has it. One atomic step. After
+    /// `acquire_producer` of the Rust crate.
     pub fn acquire_producer(&self, pass: Pass<E, T>) -> Result<Producer<'_, E, T>, Pass<E, T>>
         requires { IsPassOf self.now pass }
         ensures acquired { IfOk result (λ p. (producer_queue p ≡ queue_of pass)
@@ -25,8 +25,8 @@ impl<E: Spare, T: Words> Ring<E, T, RingRule<E, T>> {
         }
     }
 
-    /// Takes the consumer's role, or hands the pass back as it was where another has it. After `acquire_consumer` of
-    /// the Rust crate.
+    /// Takes the consumer's role, or hands the pass back as it was where another has it. One atomic step. After
+    /// `acquire_consumer` of the Rust crate.
     pub fn acquire_consumer(&self, pass: Pass<E, T>) -> Result<Consumer<'_, E, T>, Pass<E, T>>
         requires { IsPassOf self.now pass }
         ensures acquired { IfOk result (λ c. (consumer_queue c ≡ queue_of pass)
@@ -43,7 +43,7 @@ impl<E: Spare, T: Words> Ring<E, T, RingRule<E, T>> {
 }
 
 impl<'a, E: Spare, T: Words> Producer<'a, E, T> {
-    /// Takes in what a pass of the queue knows, and its share. This project's own.
+    /// Takes in what a pass of the queue knows, and its share. Two loads. This project's own.
     pub fn join(&mut self, other: Pass<E, T>)
         requires { queue_of other ≡ producer_queue self.old }
         ensures queue { producer_queue self.new ≡ producer_queue self.old }
@@ -56,7 +56,7 @@ impl<'a, E: Spare, T: Words> Producer<'a, E, T> {
         self.token.join(token);
     }
 
-    /// Gives the role back and hands the pass out. This project's own, beside the drop.
+    /// Gives the role back and hands the pass out. One atomic step. This project's own, beside the drop.
     pub fn release(self) -> Pass<E, T>
         ensures queue { queue_of result ≡ producer_queue self.entry }
         ensures view { view result ≡ without_producer (producer_view self.entry) }
@@ -68,7 +68,7 @@ impl<'a, E: Spare, T: Words> Producer<'a, E, T> {
 }
 
 impl<'a, E: Spare, T: Words> Consumer<'a, E, T> {
-    /// Takes in what a pass of the queue knows, and its share. This project's own.
+    /// Takes in what a pass of the queue knows, and its share. Two loads. This project's own.
     pub fn join(&mut self, other: Pass<E, T>)
         requires { queue_of other ≡ consumer_queue self.old }
         ensures queue { consumer_queue self.new ≡ consumer_queue self.old }
@@ -84,7 +84,7 @@ impl<'a, E: Spare, T: Words> Consumer<'a, E, T> {
         self.token.join(token);
     }
 
-    /// Gives the role back and hands the pass out. This project's own, beside the drop.
+    /// Gives the role back and hands the pass out. One atomic step. This project's own, beside the drop.
     pub fn release(self) -> Pass<E, T>
         ensures queue { queue_of result ≡ consumer_queue self.entry }
         ensures view { view result ≡ without_consumer (consumer_view self.entry) }

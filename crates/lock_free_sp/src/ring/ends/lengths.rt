@@ -11,7 +11,8 @@ use steps::words::Words;
 impl<E: Spare, T: Words> Ring<E, T, RingRule<E, T>> {
     /// A number of values that wait: the distance between a read position above all that the pass knows to be taken and
     /// a write position above all that it knows to be published; at most the capacity, in the overflowing queue one
-    /// more. That it is the number of those that wait is tested. After `len` of the Rust crate.
+    /// more. That it is the number of those that wait is tested. Four atomic steps, and at most 4 more for each time that
+    /// a position moved between two of its loads. After `len` of the Rust crate.
     pub fn len(&self, rt: &impl Wait, pass: &mut Pass<E, T>) -> usize
         requires { IsPassOf self.now pass.old }
         ensures queue { queue_of pass.new ≡ queue_of pass.old }
@@ -22,7 +23,7 @@ impl<E: Spare, T: Words> Ring<E, T, RingRule<E, T>> {
         pass.token.len(rt) as usize
     }
 
-    /// Whether a number as `len` answers is 0. After `is_empty` of the Rust crate.
+    /// Whether a number as `len` answers is 0. As many atomic steps. After `is_empty` of the Rust crate.
     pub fn is_empty(&self, rt: &impl Wait, pass: &mut Pass<E, T>) -> bool
         requires { IsPassOf self.now pass.old }
         ensures queue { queue_of pass.new ≡ queue_of pass.old }
@@ -32,7 +33,8 @@ impl<E: Spare, T: Words> Ring<E, T, RingRule<E, T>> {
         pass.token.len(rt) == 0
     }
 
-    /// Whether a number as `len` answers is the capacity, and no more. After `is_full` of the Rust crate.
+    /// Whether a number as `len` answers is the capacity, and no more. As many atomic steps. After `is_full` of the Rust
+    /// crate.
     pub fn is_full(&self, rt: &impl Wait, pass: &mut Pass<E, T>) -> bool
         requires { IsPassOf self.now pass.old }
         ensures queue { queue_of pass.new ≡ queue_of pass.old }

@@ -11,7 +11,7 @@ use steps::words::Words;
 impl<E: Spare, T: Words> Pass<E, T> {
     /// A new pass of the same queue that knows nothing; this one keeps all that it knows. Each has half of this one's
     /// share of the right to know the whole. None, and nothing changes, where no further pass can be counted (no clause
-    /// says when). This project's own.
+    /// says when). One load. This project's own.
     pub fn split(&mut self) -> Option<Pass<E, T>>
         ensures queue { queue_of self.new ≡ queue_of self.old }
         ensures view { IfSome result (λ p. view self.new ≡ halved (view self.old)) }
@@ -24,7 +24,7 @@ impl<E: Spare, T: Words> Pass<E, T> {
     }
 
     /// Takes in what the other pass of the queue knows, and its share. Who then has the whole right knows all that was
-    /// published and taken. This project's own.
+    /// published and taken. Two loads. This project's own.
     pub fn join(&mut self, other: Pass<E, T>)
         requires { queue_of other ≡ queue_of self.old }
         ensures queue { queue_of self.new ≡ queue_of self.old }

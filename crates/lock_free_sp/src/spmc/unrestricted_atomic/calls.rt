@@ -44,8 +44,8 @@ impl<T: Words> UnrestrictedAtomic<T> {
         }
     }
 
-    /// Takes the producer's role, or hands the pass back as it was where another has it. After `acquire_producer` of
-    /// the Rust crate.
+    /// Takes the producer's role, or hands the pass back as it was where another has it. One atomic step. After
+    /// `acquire_producer` of the Rust crate.
     pub fn acquire_producer(&self, pass: Pass<T>) -> Result<Producer<'_, T>, Pass<T>>
         requires { IsPassOf self.now pass }
         ensures acquired { IfOk result (λ p. (value_of_producer p ≡ value_of_pass pass)
@@ -61,7 +61,9 @@ impl<T: Words> UnrestrictedAtomic<T> {
         }
     }
 
-    /// The value at a version that is not below any that the pass knows. After `load` of the Rust crate.
+    /// The value at a version that is not below any that the pass knows. At most 2 + `T::WORDS` atomic steps, and
+    /// 1 + `T::WORDS` more for each time that the version moved between its load and the exchange. After `load` of the
+    /// Rust crate.
     pub fn load(&self, rt: &impl Wait, pass: &mut Pass<T>) -> T
         requires { IsPassOf self.now pass.old }
         ensures value { value_of_pass pass.new ≡ value_of_pass pass.old }
@@ -74,7 +76,7 @@ impl<T: Words> UnrestrictedAtomic<T> {
 impl<T: Words> Pass<T> {
     /// A new pass of the same value that knows nothing; this one keeps all that it knows. Each has half of this one's
     /// share of the right to know the whole. None, and nothing changes, where no further pass can be counted (no clause
-    /// says when). This project's own.
+    /// says when). One load. This project's own.
     pub fn split(&mut self) -> Option<Pass<T>>
         ensures value { value_of_pass self.new ≡ value_of_pass self.old }
         ensures view { IfSome result (λ p. view self.new ≡ halved (view self.old)) }
@@ -87,7 +89,7 @@ impl<T: Words> Pass<T> {
     }
 
     /// Takes in what the other pass of the value knows, and its share. Who then has the whole right knows all that was
-    /// stored. This project's own.
+    /// stored. Two loads. This project's own.
     pub fn join(&mut self, other: Pass<T>)
         requires { value_of_pass other ≡ value_of_pass self.old }
         ensures value { value_of_pass self.new ≡ value_of_pass self.old }
@@ -113,8 +115,8 @@ impl<T: Words> Pass<T> {
 }
 
 impl<'a, T: Words> Producer<'a, T> {
-    /// Stores a value: true, or false where the version is u64::MAX, and then nothing changes. After `Producer::store`
-    /// of the Rust crate.
+    /// Stores a value: true, or false where the version is u64::MAX, and then nothing changes. At most 2 + `T::WORDS`
+    /// atomic steps. After `Producer::store` of the Rust crate.
     pub fn store(&mut self, value: T) -> bool
         ensures value { value_of_producer self.new ≡ value_of_producer self.old }
         ensures stored { IsTrue result
@@ -124,7 +126,7 @@ impl<'a, T: Words> Producer<'a, T> {
         self.token.store(&value)
     }
 
-    /// Takes in what a pass of the value knows, and its share. This project's own.
+    /// Takes in what a pass of the value knows, and its share. Two loads. This project's own.
     pub fn join(&mut self, other: Pass<T>)
         requires { value_of_pass other ≡ value_of_producer self.old }
         ensures value { value_of_producer self.new ≡ value_of_producer self.old }
@@ -137,7 +139,7 @@ impl<'a, T: Words> Producer<'a, T> {
         self.token.join(token);
     }
 
-    /// Gives the role back and hands the pass out. This project's own, beside the drop.
+    /// Gives the role back and hands the pass out. One atomic step. This project's own, beside the drop.
     pub fn release(self) -> Pass<T>
         ensures value { value_of_pass result ≡ value_of_producer self.entry }
         ensures view { view result ≡ without_producer (producer_view self.entry) }
