@@ -12,4 +12,5 @@ pub mod Small
 pub mod Turns
 pub mod Values
 pub mod Worked
+pub mod WorkedBits
 pub mod WorkedValue
