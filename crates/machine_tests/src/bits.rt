@@ -204,8 +204,14 @@ fn refusals_of_places(rt: HostRuntime) -> Result<(), Fail> {
         assert!(rt; go(&mut machine, Turn::Begin(0, pop)) == Err(Refusal::WrongCall));
         for place in [70, u64::MAX] {
             let set = Start::Bits(BitsStart::Set(place));
-            assert!(rt; go(&mut machine, Turn::Begin(0, set)) == Err(Refusal::BadIndex), "{place}");
-            assert!(rt; go(&mut machine, Turn::Begin(2, set)) == Err(Refusal::NoParty), "{place}");
+            assert!(rt;
+                go(&mut machine, Turn::Begin(0, set)) == Err(Refusal::BadIndex),
+                "{place}"
+            );
+            assert!(rt;
+                go(&mut machine, Turn::Begin(2, set)) == Err(Refusal::NoParty),
+                "{place}"
+            );
         }
         // A call under way is tested before the place, and the place that is last is none past the capacity.
         does(&mut machine, 0, BitsStart::Set(69), 0)?;
@@ -222,12 +228,7 @@ fn refusals_of_places(rt: HostRuntime) -> Result<(), Fail> {
 }
 
 /// A machine of 5,000 places, each set so often.
-fn all_set(
-    alloc: Global,
-    kind: Kind,
-    times: u64,
-    turns: u64,
-) -> Result<Machine<u128>, Fail> {
+fn all_set(alloc: Global, kind: Kind, times: u64, turns: u64) -> Result<Machine<u128>, Fail> {
     let mut machine = made(alloc, kind, 5000, 1)?;
     for _ in 0..times {
         for place in 0..5000 {
@@ -247,7 +248,11 @@ fn five_thousand_flags(rt: HostRuntime) -> Result<(), Fail> {
     assert_eq!(rt; machine.events().last(), Some(&last));
     for place in 0..5000 {
         let at = before.saturating_add(1).saturating_add(place as usize);
-        assert_eq!(rt; machine.events().get(at), Some(&Event::Cleared(0, place)), "{place}");
+        assert_eq!(rt;
+            machine.events().get(at),
+            Some(&Event::Cleared(0, place)),
+            "{place}"
+        );
     }
     does(&mut machine, 0, BitsStart::ResetNext, 5001)?;
     let none = Event::Finished(0, Start::Bits(BitsStart::ResetNext), Answer::ResetNone);
@@ -263,7 +268,11 @@ fn five_thousand_counts(rt: HostRuntime) -> Result<(), Fail> {
     assert!(rt; machine.events().len() == before.saturating_add(5002));
     for place in 0..5000 {
         let at = before.saturating_add(1).saturating_add(place as usize);
-        assert_eq!(rt; machine.events().get(at), Some(&Event::TakenOut(0, place, 2)), "{place}");
+        assert_eq!(rt;
+            machine.events().get(at),
+            Some(&Event::TakenOut(0, place, 2)),
+            "{place}"
+        );
     }
     assert!(rt; machine.words().iter().all(|count| *count == 0));
     Ok(())
