@@ -1,3 +1,4 @@
 pub mod Bits
 pub mod Counts
+pub mod Spans
 pub mod Words

@@ -1,10 +1,16 @@
 -- What an operation does to a word, and which words change by it. The flags of a word stand in `steps`.
-use Rattle.std.proofs.Common.{◌≡◌, ◌≢◌, ℕ, ◌==◌, Bool, true, false, cond, Option, Some, None, List, get_or, set, refl, sym, ap, ◌∙◌, arith, get_or-set_other}
+use Rattle.std.proofs.Common.{◌≡◌, ◌≢◌, ℕ, zero, suc, ◌==◌, Bool, true, false, cond, Option, Some, None, List, get_or, set, replicate, refl, sym, ap, ◌∙◌, arith, get_or-set_other}
 use Rattle.std.proofs.lemmas.Bool.Decides.{nat_tests}
 use Rattle.std.proofs.lemmas.List.{set-get_or}
 use Rattle.steps.specs.declared.ask.Ask.{Ask}
 use Rattle.steps.specs.declared.ask.Op.TheVariants.{Load, Exchange}
 use Rattle.model.specs.Turns.{words_after, change_of}
+
+-- the same number is read everywhere
+pub zeros : (n i d : ℕ) → get_or (replicate n d) i d ≡ d
+zeros zero i d = refl
+zeros (suc n) zero d = refl
+zeros (suc n) (suc i) d = zeros n i d
 
 abbrev one_unless : Bool → ℕ
 one_unless b = cond b 0 1

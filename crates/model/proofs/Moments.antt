@@ -1,12 +1,14 @@
--- A moment of a call, once it has come, stays one of its moments until the party begins another call.
-use Rattle.std.proofs.Common.{◌≢◌, ℕ, List, [], ◌∷◌, ◌++◌, sym, ap, ◌∙◌, append_assoc, append-nil}
+-- A moment of a call, once it has come, stays one of its moments until the party begins another call; so does what came
+-- since it began.
+use Rattle.std.proofs.Common.{◌≢◌, ℕ, List, [], ◌∷◌, ◌++◌, refl, sym, ap, ◌∙◌, append_assoc, append-nil}
 use Rattle.model.specs.declared.event.Event.{Event}
 use Rattle.model.specs.declared.event.Event.TheVariants.{Begun}
-use Rattle.model.specs.Moments.{BeginsNone, HeldOnce}
+use Rattle.model.specs.declared.event.Start.{Start}
+use Rattle.model.specs.Moments.{BeginsNone, HeldOnce, SinceBegin}
 use Rattle.model.proofs.Readings.{AreOwn}
 
 module _ {T : Type 0} where
-  pub begins_none_more : (p : ℕ) (es more : List (Event T)) → BeginsNone p es → BeginsNone p more → BeginsNone p (es ++ more)
+  begins_none_more : (p : ℕ) (es more : List (Event T)) → BeginsNone p es → BeginsNone p more → BeginsNone p (es ++ more)
   begins_none_more p [] more h m = m
   begins_none_more p (Begun q start ∷ es) more h m = (h.0, begins_none_more p es more h.1 m)
   begins_none_more p (e ∷ es) more h m = begins_none_more p es more h m
@@ -33,3 +35,20 @@ module _ {T : Type 0} where
   -- what follows from what held, held as well
   pub held_so : (p : ℕ) (P Q : List (Event T) → Type 0) (events : List (Event T)) → ((part : List (Event T)) → P part → Q part) → HeldOnce p P events → HeldOnce p Q events
   held_so p P Q events f h = record { part = h.part; rest = h.rest; is = h.is; within = h.within; held = f h.part h.held }
+
+  -- ---- since the latest call began
+
+  pub since_more : (p : ℕ) (P Q : List (Event T) → List (Event T) → Type 0) (events es : List (Event T)) → BeginsNone p es → (h : SinceBegin p P events) → Q h.before (h.since ++ es) → SinceBegin p Q (events ++ es)
+  since_more p P Q events es none h holds =
+      record {
+        before = h.before;
+        start = h.start;
+        since = h.since ++ es;
+        is = ap (λ xs. xs ++ es) h.is ∙ append_assoc h.before (Begun p h.start ∷ h.since) es;
+        within = begins_none_more p h.since es h.within none;
+        holds = holds;
+      }
+
+  pub since_now : (p : ℕ) (P : List (Event T) → List (Event T) → Type 0) (events : List (Event T)) (start : Start T) → P events [] → SinceBegin p P (events ++ Begun p start ∷ [])
+  since_now p P events start holds =
+      record { before = events; start = start; since = []; is = refl; within = tt; holds = holds }

@@ -2,6 +2,7 @@
 use Rattle.std.proofs.Common.{◌≡◌, ℕ, false, List, [], ◌∷◌, Ok, Err, refl, true, codes}
 use Rattle.std.specs.Fmt.{digits}
 use Rattle.schedule.specs.declared.error.Cause.TheVariants as causes
+use Rattle.schedule.specs.Bits.{set, any_set_call, bit_set_call, counting_bit_set_call}
 use Rattle.schedule.specs.Queues.{push_index, push_value, item_call, any_call, queue_call}
 use Rattle.schedule.specs.Grammar.{number_at, setup_of, begin_of, next_of, turn_of, death_of, command_of}
 use Rattle.schedule.specs.Print.{event_text, refusal_text}
@@ -27,6 +28,24 @@ lengths : output [] (codes "index_queue 1 2\n0 begin acquire_producer\n0 next\n0
     ≡ printed_whole (codes "0 begun acquire_producer\n0 finished acquire_producer -> true\n0 begun push 5\n1 begun len\n1 finished len -> 0\n0 published 5\n0 acted push 5 -> true\n0 finished push 5 -> true\n1 begun is_full\n1 finished is_full -> true\n")
 unfolding output_of_lines machine_of setup_of number_at lines_from command_of turn_of begin_of queue_call any_call item_call push_index next_of nexts outcome event_text digits
 lengths = refl
+
+-- two flags are set, and a reset of all clears both in one turn
+two_flags : output [] (codes "bits 8 1\n0 begin set 1\n0 next 9\n0 begin set 3\n0 next 9\n0 begin reset_all\n0 next 9\n")
+    ≡ printed_whole (codes "0 begun set 1\n0 set 1\n0 finished set 1 -> true\n0 begun set 3\n0 set 3\n0 finished set 3 -> true\n0 begun reset_all\n0 cleared 1\n0 cleared 3\n0 finished reset_all -> done\n")
+unfolding output_of_lines machine_of setup_of number_at lines_from command_of turn_of begin_of bit_set_call any_set_call set next_of nexts outcome event_text digits
+two_flags = refl
+
+-- a set that finds its element changed by a neighbour goes back
+set_goes_back : output [] (codes "bits 70 2\n0 begin set 3\n0 next\n1 begin set 40\n1 next 9\n0 next\n0 next\n")
+    ≡ printed_whole (codes "0 begun set 3\n1 begun set 40\n1 set 40\n1 finished set 40 -> true\n0 set 3\n0 finished set 3 -> true\n")
+unfolding output_of_lines machine_of setup_of number_at lines_from command_of turn_of begin_of bit_set_call any_set_call set next_of nexts outcome event_text digits
+set_goes_back = refl
+
+-- a place is counted twice and taken out
+two_counts : output [] (codes "counts 2 1\n0 begin set 1\n0 next\n0 begin set 1\n0 next\n0 begin reset_all\n0 next 9\n0 begin set 2\n")
+    ≡ printed_whole (codes "0 begun set 1\n0 counted 1\n0 finished set 1 -> 0\n0 begun set 1\n0 counted 1\n0 finished set 1 -> 1\n0 begun reset_all\n0 taken_out 1 2\n0 finished reset_all -> done\nrefused BadIndex\n")
+unfolding output_of_lines machine_of setup_of number_at lines_from command_of turn_of begin_of counting_bit_set_call any_set_call set next_of nexts outcome event_text refusal_text digits
+two_counts = refl
 
 -- memory refused to the second turn
 short_turn : output (false ∷ true ∷ []) (codes "index_queue 1 1\n0 begin acquire_producer\n0 next\n0 next")

@@ -45,3 +45,7 @@ abbrev pub bits_call_text : BitsStart → List ℕ
 bits_call_text (Set place) = codes "set " ++ decimal place
 bits_call_text ResetNext = codes "reset_next"
 bits_call_text ResetAll = codes "reset_all"
+
+-- a place and what was taken out of it
+abbrev pub taken_text : ℕ → ℕ → List ℕ
+taken_text place count = decimal place ++ codes " " ++ decimal count

@@ -13,7 +13,7 @@ use Rattle.model.specs.declared.event.Start.TheVariants.{Queues, Atomic, Bits, I
 use Rattle.model.specs.declared.turn.Refusal.{Refusal}
 use Rattle.model.specs.declared.turn.Refusal.TheVariants as refusals
 use Rattle.schedule.specs.Atomic.{value_call_text}
-use Rattle.schedule.specs.Bits.{bits_call_text}
+use Rattle.schedule.specs.Bits.{bits_call_text, taken_text}
 use Rattle.schedule.specs.Indices.{index_call_text, failure_text, state_text}
 use Rattle.schedule.specs.Queues.{queue_call_text}
 use Rattle.schedule.specs.declared.error.Cause.{Cause}
@@ -68,7 +68,7 @@ event_text (Cleared party bit) = decimal party ++ codes " cleared " ++ decimal b
 event_text (Counted party place) =
     decimal party ++ codes " counted " ++ decimal place ++ codes "\n"
 event_text (TakenOut party place count) =
-    decimal party ++ codes " taken_out " ++ decimal place ++ codes " " ++ decimal count ++ codes "\n"
+    decimal party ++ codes " taken_out " ++ taken_text place count ++ codes "\n"
 event_text (Claimed party index) =
     decimal party ++ codes " claimed " ++ decimal index ++ codes "\n"
 event_text (Freed party index) =

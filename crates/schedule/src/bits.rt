@@ -2,7 +2,7 @@
 ghost use Rattle.std.specs.Prelude.{◌≡◌, ◌+◌, ◌≤◌, ◌++◌, length};
 ghost use Rattle.schedule.specs.Text.{words_left};
 ghost use Rattle.schedule.specs.Grammar.{Gives};
-ghost use Rattle.schedule.specs.Bits.{set, any_set_call, any_bit_set_call, bit_set_call, counting_bit_set_call, bits_call_text};
+ghost use Rattle.schedule.specs.Bits.{set, any_set_call, any_bit_set_call, bit_set_call, counting_bit_set_call, bits_call_text, taken_text};
 
 use crate::error::Cause;
 use crate::grammar::number_at;
@@ -82,5 +82,16 @@ impl Line {
             BitsStart::ResetNext => self.push("reset_next"),
             BitsStart::ResetAll => self.push("reset_all"),
         }
+    }
+
+    /// Writes a place and what was taken out of it.
+    pub fn push_taken(&mut self, place: u64, count: u64)
+        requires { length self.old + 80 ≤ 256 }
+        ensures text { self.new ≡ self.old ++ taken_text place count }
+        ensures short { length self.new ≤ length self.old + 80 }
+    {
+        self.push_number(u128::from(place));
+        self.push(" ");
+        self.push_number(u128::from(count));
     }
 }

@@ -187,9 +187,7 @@ impl Line {
             Event::TakenOut(party, place, count) => {
                 line.push_number(u128::from(party));
                 line.push(" taken_out ");
-                line.push_number(u128::from(place));
-                line.push(" ");
-                line.push_number(u128::from(count));
+                line.push_taken(place, count);
             }
             Event::Claimed(party, index) => {
                 line.push_number(u128::from(party));

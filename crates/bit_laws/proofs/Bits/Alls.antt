@@ -1,5 +1,5 @@
 -- The steps of a reset of all bits: it swaps the next element with 0.
-use Rattle.std.proofs.Common.{◌≡◌, ◌≢◌, ℕ, ◌+◌, ◌-◌, ◌<◌, ◌≤◌, nat_lt, Bool, true, false, cond, ⊎_elim, Option, Some, None, List, [], ◌∷◌, ◌++◌, fold, length, get_or, set, refl, sym, ap, subst, ◌∙◌, append_assoc, append-nil, arith, length-set}
+use Rattle.std.proofs.Common.{◌≡◌, ◌≢◌, ℕ, ◌+◌, ◌-◌, ◌<◌, ◌≤◌, nat_lt, Bool, true, false, cond, ⊎_elim, Option, Some, None, List, [], ◌∷◌, ◌++◌, fold, length, get_or, set, refl, sym, ap, subst, ◌∙◌, append-nil, arith, length-set}
 use Rattle.std.proofs.lemmas.Bool.{cases_eq, cases_lt}
 use Rattle.std.proofs.lemmas.Bool.Decides.{nat_tests}
 use Rattle.std.proofs.lemmas.List.Sums.{fold-append}
@@ -15,7 +15,7 @@ use Rattle.steps.proofs.Flags.Words.{stands_elsewhere, swapped_clear}
 use Rattle.model.specs.declared.event.Answer.{Answer}
 use Rattle.model.specs.declared.event.Answer as answers
 use Rattle.model.specs.declared.event.Event.{Event}
-use Rattle.model.specs.declared.event.Event.TheVariants.{Begun, Finished}
+use Rattle.model.specs.declared.event.Event.TheVariants.{Finished}
 use Rattle.model.specs.declared.event.Start.TheVariants.{Bits}
 use Rattle.model.specs.declared.families.bits.BitsStart.TheVariants.{ResetAll}
 use Rattle.model.specs.declared.families.bits.calls.BitsFlight.{BitsFlight}
@@ -28,13 +28,13 @@ use Rattle.model.specs.Moments.{SinceBegin}
 use Rattle.model.specs.Promises.Spans.{Stands}
 use Rattle.model.specs.Reading.{Open, own_after, span_of}
 use Rattle.model.specs.Turns.{one_if, change_of}
-use Rattle.model.proofs.Moments.{begins_none_more}
+use Rattle.model.proofs.Moments.{since_more}
 use Rattle.model.proofs.Readings.{AllFollow, span_of-own}
 use Rattle.bit_laws.proofs.Bits.Core.{ClearedBelow, cleared_still, cleared_by, sets_more, clears_more}
 use Rattle.bit_laws.proofs.Bits.Invariant.{BitSet, Holds, Shows}
-use Rattle.bit_laws.proofs.Bits.Knows.{wrote_in}
 use Rattle.bit_laws.proofs.Bits.Lists.{own_more, right_more, follow_more, places_rise, all_cleared, all_own, begin_none, all_right, sets_none, clears_named, all_stand, all_written, no_places}
 use Rattle.bit_laws.proofs.Bits.Steps.{StepShows, ShowsStep, party_then, pays_by}
+use Rattle.bit_laws.proofs.Spans.{wrote_in}
 
 -- the call at this word, where it ends there and this was found last
 abbrev pub all_at : OneWord → ℕ → ℕ → BitsFlight
@@ -123,15 +123,7 @@ module _ {T : Type 0} (code : Coding T) (c : ℕ) (s : BitSet T) (events : List 
         (cases_lt (element_of b) word)
 
     cleared_more : SinceBegin p (ClearedBelow (word + 1)) (events ++ fx)
-    cleared_more =
-        record {
-          before = cleared.before;
-          start = cleared.start;
-          since = cleared.since ++ fx;
-          is = ap (λ xs. xs ++ fx) cleared.is ∙ append_assoc cleared.before (Begun p cleared.start ∷ cleared.since) fx;
-          within = begins_none_more p cleared.since fx cleared.within (begin_none T p places);
-          holds = cleared_next;
-        }
+    cleared_more = since_more p (ClearedBelow word) (ClearedBelow (word + 1)) events fx (begin_none T p places) cleared cleared_next
 
   -- at the end all are behind
   all_behind : (events' : List (Event T)) (end : ℕ) → 1 + elements c ≤ end → SinceBegin p (ClearedBelow end) events' → SinceBegin p (HasCleared c) events'

@@ -1,6 +1,6 @@
 -- What holds of a bit set's machine between any two turns beside what the frame says of every machine, and what a turn must
 -- show to keep it.
-use Rattle.std.proofs.Common.{◌≡◌, ◌≢◌, ℕ, ◌+◌, ◌≤◌, ⊎_elim, Some, List, [], ◌∷◌, ◌++◌, fold, length, get_or, sym, ap, subst, ◌∙◌, append_assoc, arith}
+use Rattle.std.proofs.Common.{◌≡◌, ◌≢◌, ℕ, ◌+◌, ◌≤◌, ⊎_elim, Some, List, [], ◌++◌, fold, length, get_or, sym, ap, subst, ◌∙◌, arith}
 use Rattle.std.proofs.lemmas.Bool.{cases_eq}
 use Rattle.steps.specs.declared.bits.bit_set.SetStage.{SetStage}
 use Rattle.steps.specs.declared.bits.bit_set.SetStage as setting
@@ -9,7 +9,6 @@ use Rattle.steps.specs.declared.bits.bit_set.ResetNextStage as resetting
 use Rattle.steps.specs.Bits.BitSet.{place_after}
 use Rattle.steps.specs.Bits.Words.{element_of, elements, stands}
 use Rattle.model.specs.declared.event.Event.{Event}
-use Rattle.model.specs.declared.event.Event.TheVariants.{Begun}
 use Rattle.model.specs.declared.event.Start.{Start}
 use Rattle.model.specs.declared.event.Start.TheVariants.{Bits}
 use Rattle.model.specs.declared.families.Flight.{Flight}
@@ -29,10 +28,11 @@ use Rattle.model.specs.Reading.{Each, Span, own_after, span_of}
 use Rattle.model.specs.Turns.{one_if}
 use Rattle.model.proofs.Frame as frame
 use Rattle.model.proofs.Frame.{Family}
-use Rattle.model.proofs.Moments.{others_begin_none, begins_none_more, held_later}
+use Rattle.model.proofs.Moments.{others_begin_none, held_later, since_more}
 use Rattle.model.proofs.Readings.{AreRight, Each-append, AreOwn, AllFollow, span_of-other}
-use Rattle.bit_laws.proofs.Bits.Core.{cleared_still, sets_more, clears_more}
-use Rattle.bit_laws.proofs.Bits.Knows.{CallAt, KnowsCall, KnowsSet, KnowsNext, Paid, Passed, wrote_in, call_wrote, number_of}
+use Rattle.bit_laws.proofs.Bits.Core.{ClearedBelow, cleared_still, sets_more, clears_more}
+use Rattle.bit_laws.proofs.Bits.Knows.{CallAt, KnowsCall, KnowsSet, KnowsNext, Paid, Passed, call_wrote, number_of}
+use Rattle.bit_laws.proofs.Spans.{wrote_in}
 
 -- ---- what the machine holds
 
@@ -129,17 +129,7 @@ module _ {T : Type 0} where
       call_still since backs (Set run) h = set_still words words' changes changes' pays since backs run.given run.call.stage h
       call_still since backs (ResetNext run) h = next_still run.call.capacity since backs run.call.stage h
       call_still since backs (ResetAll run) h =
-          let all = h.1 in (
-            h.0,
-            record {
-              before = all.before;
-              start = all.start;
-              since = all.since ++ es;
-              is = ap (λ xs. xs ++ es) all.is ∙ append_assoc all.before (Begun p all.start ∷ all.since) es;
-              within = begins_none_more p all.since es all.within none;
-              holds = cleared_still run.call.word all.before all.since es all.holds;
-            },
-          )
+          (h.0, since_more p (ClearedBelow run.call.word) (ClearedBelow run.call.word) events es none h.1 (cleared_still run.call.word h.1.before h.1.since es h.1.holds))
       call_still since backs flight h = absurd h
 
       pub flight_still : (since backs : ℕ) (flight : Flight T) → KnowsFlight p events words since changes backs flight → KnowsFlight p (events ++ es) words' since changes' backs flight

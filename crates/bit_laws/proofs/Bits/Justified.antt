@@ -1,12 +1,11 @@
 -- What a turn writes down: what it set or cleared, then the end. Nobody acts.
-use Rattle.std.proofs.Common.{◌≡◌, ℕ, ◌==◌, Bool, true, false, Option, Some, None, List, [], ◌∷◌, ◌++◌, refl, sym, ap, subst, append-nil}
+use Rattle.std.proofs.Common.{◌≡◌, ℕ, ◌==◌, Bool, true, false, Some, List, [], ◌∷◌, ◌++◌, refl, sym, ap, subst, append-nil}
 use Rattle.std.specs.List.{AllByRecursion}
 use Rattle.steps.specs.declared.bits.bit_set.SetStage.{SetStage}
 use Rattle.steps.specs.declared.bits.bit_set.SetStage as setting
 use Rattle.steps.specs.declared.bits.bit_set.ResetNextStage.{ResetNextStage}
 use Rattle.steps.specs.declared.bits.bit_set.ResetNextStage as resetting
 use Rattle.steps.specs.Bits.Places.{places_in}
-use Rattle.model.specs.declared.event.Answer.{Answer}
 use Rattle.model.specs.declared.event.Event.{Event}
 use Rattle.model.specs.declared.event.Start.{Start}
 use Rattle.model.specs.declared.event.Start.TheVariants.{Bits}
@@ -30,16 +29,17 @@ use Rattle.model.specs.Parties.{party_of}
 use Rattle.model.specs.Promises.{IsTurnBy}
 use Rattle.model.specs.Promises.Families.{promise_of}
 use Rattle.model.specs.Reading.{span_of}
-use Rattle.model.specs.Promises.Turns.{IsEffectOf, IsEndOf, WritesInOrder}
+use Rattle.model.specs.Promises.Turns.{IsEffectOf, WritesInOrder}
 use Rattle.model.specs.Turns.{old_of, ending_of, events_of_step, after_turn}
 use Rattle.model.specs.World.{Trace}
 use Rattle.model.proofs.Frame as frame
 use Rattle.model.proofs.Orders.{Orders, Keeps, turn_is}
 use Rattle.bit_laws.proofs.Bits.Invariant.{family}
-use Rattle.bit_laws.proofs.Bits.Knows.{CallAt, wrote_in}
+use Rattle.bit_laws.proofs.Bits.Knows.{CallAt}
 use Rattle.bit_laws.proofs.Bits.Kept.{kept}
 use Rattle.bit_laws.proofs.Bits.Lists.{all_cleared}
 use Rattle.bit_laws.proofs.Bits.Sound.{stands_at, asks_nothing, reached_sound}
+use Rattle.bit_laws.proofs.Spans.{wrote_in, ends_end}
 
 module _ (T : Type 0) where
   set_effects : (p bit old : ℕ) (stage : SetStage) → AllByRecursion (IsEffectOf {T = T} (Next p)) (set_events p bit stage old)
@@ -65,10 +65,6 @@ module _ (T : Type 0) where
   all_effects p (b ∷ bs) = (refl, all_effects p bs)
 
 module _ {T : Type 0} where
-  ends_end : (p : ℕ) (start : Start T) (outcome : Option (Answer T)) → AllByRecursion (IsEndOf (Next p)) (ending_of p start outcome)
-  ends_end p start None = tt
-  ends_end p start (Some answer) = (refl, tt)
-
   are_effects : (c p old : ℕ) (wrote : List (Event T)) (start : BitsStart) (flight : BitsFlight) → CallAt c wrote start flight → AllByRecursion (IsEffectOf {T = T} (Next p)) (effects_of p flight old)
   are_effects c p old wrote (starts.TheVariants.Set bit) (calls.TheVariants.Set run) at = set_effects T p run.given old run.call.stage
   are_effects c p old wrote starts.TheVariants.ResetNext (calls.TheVariants.ResetNext run) at = next_effects T p run.call.capacity old run.call.stage

@@ -28,8 +28,9 @@ use Rattle.model.specs.Turns.{one_if, IsReached}
 use Rattle.model.specs.World.{Trace, progress_in}
 use Rattle.model.proofs.Frame as frame
 use Rattle.bit_laws.proofs.Bits.Invariant.{BitSet, family}
-use Rattle.bit_laws.proofs.Bits.Knows.{CallAt, NextStands, KnowsCall, KnowsSet, KnowsNext, wrote_in, number_of, set_number, next_number}
+use Rattle.bit_laws.proofs.Bits.Knows.{CallAt, NextStands, KnowsCall, KnowsSet, KnowsNext, number_of, set_number, next_number}
 use Rattle.bit_laws.proofs.Bits.Sound.{reached_sound}
+use Rattle.bit_laws.proofs.Spans.{wrote_in}
 
 -- ---- how many steps a call has taken
 

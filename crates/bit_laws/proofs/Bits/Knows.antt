@@ -14,8 +14,9 @@ use Rattle.model.specs.declared.families.bits.calls.BitsFlight.{BitsFlight}
 use Rattle.model.specs.declared.families.bits.calls.BitsFlight.TheVariants.{Set, ResetNext, ResetAll}
 use Rattle.model.specs.Families.Bits.Reading.{clears, standing}
 use Rattle.model.specs.Moments.{HeldOnce, SinceBegin}
-use Rattle.model.specs.Reading.{Span, Never, Open, Ended}
+use Rattle.model.specs.Reading.{Span}
 use Rattle.bit_laws.proofs.Bits.Core.{ClearedBelow}
+use Rattle.bit_laws.proofs.Spans.{wrote_in}
 
 -- ---- the calls by their stages
 
@@ -74,12 +75,6 @@ KnowsSet words since changes backs bit (setting.TheVariants.ExchangesElement fou
     Paid words since changes backs (element_of bit) found
 
 module _ {T : Type 0} where
-  -- what the latest call has written
-  abbrev pub wrote_in : Span T → List (Event T)
-  wrote_in Never = []
-  wrote_in (Open start wrote) = wrote
-  wrote_in (Ended start answer wrote) = wrote
-
   -- a set is done with what it writes, and a reset of the next bit has the position to store
   abbrev pub next_wrote : ℕ → ResetNextStage → List (Event T)
   next_wrote p resetting.TheVariants.LoadsPosition = []

@@ -154,7 +154,7 @@ module _ {T : Type 0} (code : Coding T) (c : ℕ) (s : BitSet T) (events : List 
             subst (λ n. HeldOnce p (λ part. standing (place_after c start n) part ≡ 0) events) same (held_now p (λ part. standing place part ≡ 0) events (omega arith))
 
     -- what the test comes to
-    module _ (stage : ResetNextStage) (back : Bool) (a : Ask) (same : words_after s.words (Some a) ≡ s.words) (paid : backs + one_if back + since ≤ changes) (few : steps + 1 ≤ 2 + passed + (backs + one_if back)) where
+    module _ (back : Bool) (a : Ask) (same : words_after s.words (Some a) ≡ s.words) (paid : backs + one_if back + since ≤ changes) (few : steps + 1 ≤ 2 + passed + (backs + one_if back)) where
       stood : has_flag word place ≡ true → Does [] (Some a) back (GoOn (next_at c (resetting.TheVariants.ExchangesElement start passed word))) []
       stood t = exchanges a back same paid start low passed word held few below refl t
 
@@ -180,13 +180,13 @@ module _ {T : Type 0} (code : Coding T) (c : ℕ) (s : BitSet T) (events : List 
         same = load_leaves s.words element
 
         go : (t : Bool) → has_flag word place ≡ t → (u : Bool) → nat_lt (passed + 1) c ≡ u → DoesOf [] stage
-        go true t u e = parts (GoOn (next_at c (resetting.TheVariants.ExchangesElement start passed word))) (rw t refl) (stood stage false loads_it same (omega arith) (omega arith) t)
+        go true t u e = parts (GoOn (next_at c (resetting.TheVariants.ExchangesElement start passed word))) (rw t refl) (stood false loads_it same (omega arith) (omega arith) t)
         go false t true u =
             parts (GoOn (next_at c (resetting.TheVariants.LoadsElement start (passed + 1)))) (rw (t, u) refl)
-            (goes_further stage false loads_it same (omega arith) (omega arith) t (grind (arith, nat_tests)))
+            (goes_further false loads_it same (omega arith) (omega arith) t (grind (arith, nat_tests)))
         go false t false u =
             let last : c ≤ passed + 1 = grind (arith, nat_tests) in
-            parts (Done answers.TheVariants.ResetNone) (rw (t, u) refl) (finds_none stage false loads_it same (omega arith) (omega arith) t (omega arith))
+            parts (Done answers.TheVariants.ResetNone) (rw (t, u) refl) (finds_none false loads_it same (omega arith) (omega arith) t (omega arith))
 
     abbrev exchanging : ℕ → Ask
     exchanging found = record { word = element; op = Exchange found (without_flag found place) }
@@ -244,18 +244,18 @@ module _ {T : Type 0} (code : Coding T) (c : ℕ) (s : BitSet T) (events : List 
             let ne : word ≢ found = grind (arith, nat_tests) in
             let again = more ne in
             parts true (GoOn (next_at c (resetting.TheVariants.ExchangesElement start passed word))) [] (rw t refl) (rw (t, u) refl) (rw t refl)
-            (stood stage true (exchanging found) (failed t) (omega arith) (omega arith) u)
+            (stood true (exchanging found) (failed t) (omega arith) (omega arith) u)
         go false t false u true v =
             let ne : word ≢ found = grind (arith, nat_tests) in
             let again = more ne in
             parts true (GoOn (next_at c (resetting.TheVariants.LoadsElement start (passed + 1)))) [] (rw t refl) (rw (t, u, v) refl) (rw t refl)
-            (goes_further stage true (exchanging found) (failed t) (omega arith) (omega arith) u (grind (arith, nat_tests)))
+            (goes_further true (exchanging found) (failed t) (omega arith) (omega arith) u (grind (arith, nat_tests)))
         go false t false u false v =
             let ne : word ≢ found = grind (arith, nat_tests) in
             let again = more ne in
             let last : c ≤ passed + 1 = grind (arith, nat_tests) in
             parts true (Done answers.TheVariants.ResetNone) [] (rw t refl) (rw (t, u, v) refl) (rw t refl)
-            (finds_none stage true (exchanging found) (failed t) (omega arith) (omega arith) u (omega arith))
+            (finds_none true (exchanging found) (failed t) (omega arith) (omega arith) u (omega arith))
 
   -- ---- the position after the place
 

@@ -1,5 +1,5 @@
 -- Every turn keeps what holds of a bit set's machine: the laws of the family.
-use Rattle.std.proofs.Common.{◌≡◌, ℕ, zero, suc, ◌+◌, ◌-◌, ◌^◌, ◌<◌, ◌≤◌, nat_lt, nat_le, Bool, true, false, Option, Some, None, List, [], ◌∷◌, ◌++◌, get_or, replicate, refl, sym, ap, subst, ◌∙◌, arith}
+use Rattle.std.proofs.Common.{◌≡◌, ℕ, ◌+◌, ◌-◌, ◌^◌, ◌<◌, ◌≤◌, nat_lt, nat_le, Bool, true, false, Option, Some, None, List, [], ◌∷◌, ◌++◌, replicate, refl, sym, ap, subst, ◌∙◌, arith}
 use Rattle.std.proofs.lemmas.Bool.Decides.{nat_tests}
 use Rattle.std.proofs.lemmas.List.{length-replicate}
 use Rattle.steps.specs.declared.ask.Ask.{Ask}
@@ -38,20 +38,18 @@ use Rattle.model.specs.Rows.{first_row}
 use Rattle.model.specs.Turns.{one_if, old_of, words_after, change_of, step_count, doing_after, party_at_begin, events_of_step, IsReached}
 use Rattle.model.specs.World.{Trace, opening}
 use Rattle.model.proofs.Frame as frame
+use Rattle.model.proofs.Moments.{since_now}
 use Rattle.model.proofs.Readings.{Each-nil, span_of-own}
 use Rattle.model.proofs.Rows.{row_passed, MayBegin}
 use Rattle.bit_laws.proofs.Bits.Alls.{all_at, reset_all_step}
+use Rattle.bit_laws.proofs.Bits.Core.{ClearedBelow}
 use Rattle.bit_laws.proofs.Bits.Invariant.{BitSet, Holds, Shows, wrote_by, family, holds_more, owes}
-use Rattle.bit_laws.proofs.Bits.Knows.{CallAt, KnowsCall, KnowsSet, KnowsNext, wrote_in, call_wrote, number_of, next_number, set_at, next_at}
+use Rattle.bit_laws.proofs.Bits.Knows.{CallAt, KnowsCall, KnowsSet, KnowsNext, call_wrote, number_of, next_number, set_at, next_at}
 use Rattle.bit_laws.proofs.Bits.Nexts.{next_step}
 use Rattle.bit_laws.proofs.Bits.Sets.{set_step}
 use Rattle.bit_laws.proofs.Bits.Steps.{ShowsStep}
-
--- the same number is read everywhere
-zeros : (n i d : ℕ) → get_or (replicate n d) i d ≡ d
-zeros zero i d = refl
-zeros (suc n) zero d = refl
-zeros (suc n) (suc i) d = zeros n i d
+use Rattle.bit_laws.proofs.Words.{zeros}
+use Rattle.bit_laws.proofs.Spans.{wrote_in}
 
 -- at the opening no bit stands
 opens_clear : (c b : ℕ) → stands (replicate (1 + elements c) 0) b ≡ false
@@ -187,17 +185,7 @@ module _ {T : Type 0} where
     all_is =
         record {
           at = (refl, omega arith, omega arith, λ b past. refl);
-          knows = (
-            refl,
-            record {
-              before = t.events;
-              start = Bits starts.TheVariants.ResetAll;
-              since = [];
-              is = refl;
-              within = tt;
-              holds = λ b below stood. absurd (omega arith);
-            },
-          );
+          knows = (refl, since_now p (ClearedBelow 1) t.events (Bits starts.TheVariants.ResetAll) (λ b below stood. absurd (omega arith)));
           none = refl;
           wrote = refl;
         }

@@ -8,8 +8,6 @@ use Rattle.model.specs.declared.event.Answer.{Answer}
 use Rattle.model.specs.declared.event.Event.{Event}
 use Rattle.model.specs.declared.event.Event.TheVariants.{Finished}
 use Rattle.model.specs.declared.event.Start.TheVariants.{Bits}
-use Rattle.model.specs.declared.families.Flight.{Flight}
-use Rattle.model.specs.declared.families.Flight as flights
 use Rattle.model.specs.declared.families.bits.BitsStart.{BitsStart}
 use Rattle.model.specs.declared.families.bits.calls.BitsFlight.{BitsFlight}
 use Rattle.model.specs.declared.party.Party.{Party}
@@ -20,11 +18,12 @@ use Rattle.model.specs.Families.Bits.Calls.{want, after, goes_back}
 use Rattle.model.specs.Families.Bits.Promises.{BitsAnswerRight, BitsWrote}
 use Rattle.model.specs.Families.Bits.Steps.{effects_of}
 use Rattle.model.specs.Reading.{Open, span_of}
-use Rattle.model.specs.Step.{as_call, answer_in}
+use Rattle.model.specs.Step.{answer_in}
 use Rattle.model.specs.Turns.{one_if, old_of, words_after, change_of, step_count, doing_after, ending_of}
 use Rattle.bit_laws.proofs.Bits.Invariant.{BitSet, Shows, Pays}
-use Rattle.bit_laws.proofs.Bits.Knows.{CallAt, KnowsCall, wrote_in, call_wrote, number_of}
+use Rattle.bit_laws.proofs.Bits.Knows.{CallAt, KnowsCall, call_wrote, number_of}
 use Rattle.bit_laws.proofs.Words.{change_one}
+use Rattle.bit_laws.proofs.Spans.{any_call, wrote_in}
 
 -- the words of any operation are paid
 pub pays_by : (words : List ℕ) (ask : Option Ask) (changes : ℕ) → Pays words (words_after words ask) changes (changes + change_of words ask)
@@ -36,15 +35,7 @@ pub as_long : (words : List ℕ) (ask : Option Ask) → length (words_after word
 as_long words None = refl
 as_long words (Some ask) = length-set words ask.word _
 
-module _ {T : Type 0} where
-  -- a call of the set as one of any family
-  abbrev pub any_call : After BitsFlight (Answer T) → After (Flight T) (Answer T)
-  any_call after = as_call flights.TheVariants.Bits (λ answer. answer) after
-
 module _ {T : Type 0} (code : Coding T) (c : ℕ) (s : BitSet T) (events : List (Event T)) (p : ℕ) (latest : List (ℕ × Party T)) (changes since steps backs : ℕ) where
-  ws : List ℕ
-  ws = s.words
-
   -- the party after a step that does this operation
   abbrev pub party_then : BitsStart → Option Ask → Bool → After BitsFlight (Answer T) → Party T
   party_then start ask back after =

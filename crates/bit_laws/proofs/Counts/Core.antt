@@ -1,19 +1,11 @@
 -- What the events say of each count, and what came since a party's latest call began.
-use Rattle.std.proofs.Common.{◌≡◌, ◌≢◌, ℕ, zero, suc, ◌+◌, ◌-◌, ◌==◌, ◌<◌, ◌≤◌, Bool, true, false, cond, List, [], ◌∷◌, ◌++◌, replicate, get_or, refl, sym, ap, subst, ◌∙◌, append_assoc, arith}
+use Rattle.std.proofs.Common.{◌≡◌, ℕ, ◌+◌, ◌==◌, ◌<◌, ◌≤◌, Bool, true, false, cond, List, [], ◌∷◌, ◌++◌, refl, sym, ap, ◌∙◌, append_assoc, arith}
 use Rattle.std.proofs.lemmas.Bool.Decides.{nat_tests}
 use Rattle.std.proofs.lemmas.List.Sums.{sum_by-append}
 use Rattle.model.specs.declared.event.Event.{Event}
 use Rattle.model.specs.declared.event.Event.TheVariants.{Begun}
 use Rattle.model.specs.declared.event.Start.{Start}
 use Rattle.model.specs.Families.Bits.Reading.{is_count_of, take_of, counts, takes, count_at}
-use Rattle.model.specs.Moments.{BeginsNone, SinceBegin}
-use Rattle.model.proofs.Moments.{begins_none_more}
-
--- the same number is read everywhere
-pub zeros : (n i d : ℕ) → get_or (replicate n d) i d ≡ d
-zeros zero i d = refl
-zeros (suc n) zero d = refl
-zeros (suc n) (suc i) d = zeros n i d
 
 module _ {T : Type 0} where
   pub counts_more : (place : ℕ) (xs ys : List (Event T)) → counts place (xs ++ ys) ≡ counts place xs + counts place ys
@@ -21,23 +13,6 @@ module _ {T : Type 0} where
 
   pub takes_more : (place : ℕ) (xs ys : List (Event T)) → takes place (xs ++ ys) ≡ takes place xs + takes place ys
   takes_more place xs ys = sum_by-append (take_of place) xs ys
-
-  -- ---- since the latest call began
-
-  pub since_more : (p : ℕ) (P Q : List (Event T) → List (Event T) → Type 0) (events es : List (Event T)) → BeginsNone p es → (h : SinceBegin p P events) → Q h.before (h.since ++ es) → SinceBegin p Q (events ++ es)
-  since_more p P Q events es none h holds =
-      record {
-        before = h.before;
-        start = h.start;
-        since = h.since ++ es;
-        is = ap (λ xs. xs ++ es) h.is ∙ append_assoc h.before (Begun p h.start ∷ h.since) es;
-        within = begins_none_more p h.since es h.within none;
-        holds = holds;
-      }
-
-  pub since_now : (p : ℕ) (P : List (Event T) → List (Event T) → Type 0) (events : List (Event T)) (start : Start T) → P events [] → SinceBegin p P (events ++ Begun p start ∷ [])
-  since_now p P events start holds =
-      record { before = events; start = start; since = []; is = refl; within = tt; holds = holds }
 
   -- ---- what has been taken out since
 

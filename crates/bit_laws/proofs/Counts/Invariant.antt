@@ -1,6 +1,6 @@
 -- What holds of a counting bit set's machine between any two turns beside what the frame says of every machine, and what a
 -- turn must show to keep it.
-use Rattle.std.proofs.Common.{◌≡◌, ◌≢◌, ℕ, ◌+◌, ◌-◌, ◌<◌, ◌≤◌, Option, Some, None, List, [], ◌∷◌, ◌++◌, fold, length, get_or, refl, sym, ap, subst, ◌∙◌, arith}
+use Rattle.std.proofs.Common.{◌≡◌, ◌≢◌, ℕ, ◌+◌, ◌<◌, ◌≤◌, Some, List, [], ◌++◌, fold, length, get_or, sym, ap, subst, ◌∙◌, arith}
 use Rattle.model.specs.declared.event.Event.{Event}
 use Rattle.model.specs.declared.event.Start.{Start}
 use Rattle.model.specs.declared.event.Start.TheVariants.{Bits}
@@ -17,14 +17,15 @@ use Rattle.model.specs.declared.turn.Kind as kinds
 use Rattle.model.specs.Coding.{Coding}
 use Rattle.model.specs.Families.Bits.Promises.{CountsAnswerRight, counts_promise}
 use Rattle.model.specs.Families.Bits.Reading.{counts, takes}
-use Rattle.model.specs.Moments.{BeginsNone, SinceBegin}
+use Rattle.model.specs.Moments.{SinceBegin}
 use Rattle.model.specs.Promises.Spans.{Stands}
-use Rattle.model.specs.Reading.{Each, Span, Never, Open, Ended, own_after, span_of}
+use Rattle.model.specs.Reading.{Each, Span, own_after, span_of}
 use Rattle.model.proofs.Frame as frame
 use Rattle.model.proofs.Frame.{Family}
-use Rattle.model.proofs.Moments.{others_begin_none}
-use Rattle.model.proofs.Readings.{AreRight, Each-append, AreOwn, AllFollow, span_of-own, span_of-other}
-use Rattle.bit_laws.proofs.Counts.Core.{TakenBelow, taken_still, since_more, counts_more, takes_more}
+use Rattle.model.proofs.Moments.{others_begin_none, since_more}
+use Rattle.model.proofs.Readings.{AreRight, Each-append, AreOwn, AllFollow, span_of-other}
+use Rattle.bit_laws.proofs.Counts.Core.{TakenBelow, taken_still, counts_more, takes_more}
+use Rattle.bit_laws.proofs.Spans.{wrote_in}
 
 -- ---- what the machine holds
 
@@ -45,12 +46,6 @@ module _ {T : Type 0} where
     pub answers : Each (CountsAnswerRight c) events
 
   -- ---- the calls
-
-  -- what the latest call has written
-  abbrev pub wrote_in : Span T → List (Event T)
-  wrote_in Never = []
-  wrote_in (Open start wrote) = wrote
-  wrote_in (Ended start answer wrote) = wrote
 
   -- a set is done in one step, with what it writes
   abbrev pub wrote_by : Flight T → Span T → List (Event T)

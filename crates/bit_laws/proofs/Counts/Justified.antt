@@ -1,8 +1,6 @@
 -- What a turn writes down: what it counted or took out, then the end. Nobody acts.
-use Rattle.std.proofs.Common.{◌≡◌, ℕ, ◌-◌, ◌^◌, ◌<◌, ◌==◌, Bool, true, false, Option, Some, None, List, [], ◌∷◌, ◌++◌, refl, sym, ap, subst, ◌∙◌, append-nil}
+use Rattle.std.proofs.Common.{◌≡◌, ℕ, ◌==◌, Bool, true, false, Some, List, [], ◌++◌, refl, sym, ap, subst, append-nil}
 use Rattle.std.specs.List.{AllByRecursion}
-use Rattle.steps.specs.declared.ask.Ask.{Ask}
-use Rattle.model.specs.declared.event.Answer.{Answer}
 use Rattle.model.specs.declared.event.Event.{Event}
 use Rattle.model.specs.declared.event.Start.{Start}
 use Rattle.model.specs.declared.event.Start.TheVariants.{Bits}
@@ -17,7 +15,6 @@ use Rattle.model.specs.declared.families.bits.calls.BitsFlight.TheVariants.{Coun
 use Rattle.model.specs.declared.party.Doing.TheVariants.{Going}
 use Rattle.model.specs.declared.party.Party.{Party}
 use Rattle.model.specs.declared.turn.Kind as kinds
-use Rattle.model.specs.declared.turn.Turn.{Turn}
 use Rattle.model.specs.declared.turn.Turn.TheVariants.{Next}
 use Rattle.model.specs.Coding.{Coding}
 use Rattle.model.specs.Families.{want_of, after_of, ask_of, beside_of, step_of}
@@ -26,15 +23,16 @@ use Rattle.model.specs.Families.Bits.Steps.{take_events, effects_of}
 use Rattle.model.specs.Parties.{party_of}
 use Rattle.model.specs.Promises.{IsTurnBy}
 use Rattle.model.specs.Promises.Families.{promise_of}
-use Rattle.model.specs.Promises.Turns.{IsEffectOf, IsEndOf, WritesInOrder}
+use Rattle.model.specs.Promises.Turns.{IsEffectOf, WritesInOrder}
 use Rattle.model.specs.Reading.{span_of}
 use Rattle.model.specs.Turns.{old_of, ending_of, events_of_step, after_turn}
 use Rattle.model.specs.World.{Trace}
 use Rattle.model.proofs.Frame as frame
 use Rattle.model.proofs.Orders.{Orders, Keeps, turn_is}
-use Rattle.bit_laws.proofs.Counts.Invariant.{Counts, Fit, CallAt, wrote_in, family}
+use Rattle.bit_laws.proofs.Counts.Invariant.{CallAt, family}
 use Rattle.bit_laws.proofs.Counts.Kept.{kept}
 use Rattle.bit_laws.proofs.Counts.Sound.{stands_at, asks_nothing, reached_sound}
+use Rattle.bit_laws.proofs.Spans.{wrote_in, ends_end}
 
 take_effects : (T : Type 0) (p place old : ℕ) → AllByRecursion (IsEffectOf {T = T} (Next p)) (take_events p place old)
 take_effects T p place old = go (old == 0) refl
@@ -49,10 +47,6 @@ are_effects T c p old wrote ResetAll (TakeAll run) at = take_effects T p run.cal
 are_effects T c p old wrote start flight at = absurd at
 
 module _ {T : Type 0} where
-  ends_end : (p : ℕ) (start : Start T) (outcome : Option (Answer T)) → AllByRecursion (IsEndOf (Next p)) (ending_of p start outcome)
-  ends_end p start None = tt
-  ends_end p start (Some answer) = (refl, tt)
-
   module _ (code : Coding T) (c : ℕ) (t : Trace T) (s : frame.Sound (family code c) t) (p : ℕ) (x : Party T) (since : ℕ) where
     -- the events of its step where what is kept and the call's name are these
     abbrev InOrder : Kept → Start T → Flight T → Type 0

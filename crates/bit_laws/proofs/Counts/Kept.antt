@@ -1,5 +1,5 @@
 -- What the invariant says of the events, in the promises' words.
-use Rattle.std.proofs.Common.{◌≡◌, ℕ, ◌+◌, ◌-◌, ◌≤◌, List, sym, ap, subst, ◌∙◌, refl, get_or, arith}
+use Rattle.std.proofs.Common.{◌≡◌, ℕ, ◌+◌, ◌-◌, ◌≤◌, List, sym, ap, subst, refl, get_or, arith}
 use Rattle.model.specs.declared.event.Event.{Event}
 use Rattle.model.specs.declared.event.Start.{Start}
 use Rattle.model.specs.declared.event.Start.TheVariants.{Bits}
@@ -22,8 +22,9 @@ use Rattle.model.specs.Reading.{span_of}
 use Rattle.model.specs.Turns.{IsReached}
 use Rattle.model.specs.World.{Trace, progress_in}
 use Rattle.model.proofs.Frame as frame
-use Rattle.bit_laws.proofs.Counts.Invariant.{Counts, CallAt, KnowsCall, wrote_in, number_of, family}
+use Rattle.bit_laws.proofs.Counts.Invariant.{Counts, CallAt, KnowsCall, number_of, family}
 use Rattle.bit_laws.proofs.Counts.Sound.{reached_sound}
+use Rattle.bit_laws.proofs.Spans.{wrote_in}
 
 module _ {T : Type 0} where
   steps_most : (c : ℕ) (wrote : List (Event T)) (start : BitsStart) (flight : BitsFlight) → CallAt c wrote start flight → number_of {T = T} (flights.TheVariants.Bits flight) ≤ most_counts_steps c start

@@ -1,5 +1,5 @@
 -- What each step of a reset of all counts shows: it swaps the next count with 0.
-use Rattle.std.proofs.Common.{◌≡◌, ◌≢◌, ℕ, ◌+◌, ◌-◌, ◌^◌, ◌<◌, ◌≤◌, ◌==◌, nat_lt, Bool, true, false, cond, Option, Some, None, List, [], ◌∷◌, ◌++◌, fold, length, get_or, set, refl, sym, ap, subst, ◌∙◌, append-nil, arith, length-set, get_or-set_same, get_or-set_other}
+use Rattle.std.proofs.Common.{◌≡◌, ◌≢◌, ℕ, ◌+◌, ◌<◌, ◌≤◌, ◌==◌, nat_lt, Bool, true, false, cond, Option, Some, None, List, [], ◌∷◌, ◌++◌, fold, length, get_or, set, refl, sym, ap, subst, ◌∙◌, append-nil, arith, length-set, get_or-set_same, get_or-set_other}
 use Rattle.std.proofs.lemmas.Bool.Decides.{nat_tests}
 use Rattle.steps.specs.declared.ask.Ask.{Ask}
 use Rattle.steps.specs.declared.ask.Op.TheVariants.{Swap}
@@ -9,7 +9,7 @@ use Rattle.steps.specs.declared.copied.OneWord.{OneWord}
 use Rattle.model.specs.declared.event.Answer.{Answer}
 use Rattle.model.specs.declared.event.Answer as answers
 use Rattle.model.specs.declared.event.Event.{Event}
-use Rattle.model.specs.declared.event.Event.TheVariants.{TakenOut, Finished}
+use Rattle.model.specs.declared.event.Event.TheVariants.{TakenOut}
 use Rattle.model.specs.declared.event.Start.TheVariants.{Bits}
 use Rattle.model.specs.declared.families.bits.BitsStart.TheVariants.{ResetAll}
 use Rattle.model.specs.declared.families.bits.calls.BitsFlight.{BitsFlight}
@@ -25,10 +25,12 @@ use Rattle.model.specs.Reading.{Open, own_after, span_of}
 use Rattle.model.specs.Turns.{old_of, change_of}
 use Rattle.model.specs.Families.Bits.Promises.{CountsAnswerRight, HasTaken, counts_promise}
 use Rattle.model.specs.Promises.Spans.{Stands}
+use Rattle.model.proofs.Moments.{since_more}
 use Rattle.model.proofs.Readings.{AreRight, AreOwn, AllFollow, span_of-own}
-use Rattle.bit_laws.proofs.Counts.Core.{TakenBelow, since_more, taken_next, counts_more, takes_more}
-use Rattle.bit_laws.proofs.Counts.Invariant.{Counts, Holds, Shows, wrote_in}
+use Rattle.bit_laws.proofs.Counts.Core.{TakenBelow, taken_next, counts_more, takes_more}
+use Rattle.bit_laws.proofs.Counts.Invariant.{Counts, Holds, Shows}
 use Rattle.bit_laws.proofs.Counts.Steps.{StepShows, party_then}
+use Rattle.bit_laws.proofs.Spans.{wrote_in}
 
 -- the call at this word, where so many are to be emptied and this was found last
 abbrev pub take_at : OneWord → ℕ → ℕ → BitsFlight

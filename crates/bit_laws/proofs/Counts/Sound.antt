@@ -1,5 +1,5 @@
 -- Every turn keeps what holds of a counting bit set's machine: the laws of the family.
-use Rattle.std.proofs.Common.{◌≡◌, ℕ, ◌+◌, ◌-◌, ◌^◌, ◌<◌, ◌≤◌, ◌==◌, nat_lt, nat_le, Bool, true, false, Option, Some, None, option_map, List, [], ◌∷◌, ◌++◌, length, get_or, replicate, refl, sym, ap, subst, ◌∙◌, arith}
+use Rattle.std.proofs.Common.{◌≡◌, ℕ, ◌+◌, ◌-◌, ◌^◌, ◌<◌, ◌≤◌, nat_lt, nat_le, Bool, true, false, Option, Some, None, List, [], ◌∷◌, ◌++◌, replicate, refl, sym, ap, subst, ◌∙◌, arith}
 use Rattle.std.proofs.lemmas.Bool.Decides.{nat_tests}
 use Rattle.std.proofs.lemmas.List.{length-replicate}
 use Rattle.steps.specs.declared.ask.Ask.{Ask}
@@ -21,7 +21,7 @@ use Rattle.model.specs.declared.party.Doing.TheVariants.{Going}
 use Rattle.model.specs.declared.party.Party.{Party}
 use Rattle.model.specs.declared.turn.Kind as kinds
 use Rattle.model.specs.declared.turn.Refusal.TheVariants.{BadIndex}
-use Rattle.model.specs.Coding.{Coding, IsCoding}
+use Rattle.model.specs.Coding.{Coding}
 use Rattle.model.specs.Families.{first_of, want_of, ask_of, is_question, beside_of, step_of}
 use Rattle.model.specs.Families.Bits.Calls.{add_one, first, want, after, goes_back}
 use Rattle.model.specs.Families.Bits.Opening.{is_past, kept_rows}
@@ -34,12 +34,15 @@ use Rattle.model.specs.Rows.{first_row}
 use Rattle.model.specs.Turns.{one_if, old_of, words_after, change_of, step_count, doing_after, party_at_begin, events_of_step, IsReached}
 use Rattle.model.specs.World.{Trace, opening}
 use Rattle.model.proofs.Frame as frame
+use Rattle.model.proofs.Moments.{since_now}
 use Rattle.model.proofs.Readings.{Each-nil, span_of-own}
 use Rattle.model.proofs.Rows.{row_passed, MayBegin}
-use Rattle.bit_laws.proofs.Counts.Core.{zeros, TakenBelow, since_now}
-use Rattle.bit_laws.proofs.Counts.Invariant.{Counts, Fit, Holds, CallAt, KnowsCall, Shows, wrote_in, wrote_by, number_of, family, holds_more, owes}
+use Rattle.bit_laws.proofs.Counts.Core.{TakenBelow}
+use Rattle.bit_laws.proofs.Words.{zeros}
+use Rattle.bit_laws.proofs.Counts.Invariant.{Counts, Holds, CallAt, KnowsCall, Shows, wrote_by, number_of, family, holds_more, owes}
 use Rattle.bit_laws.proofs.Counts.Resets.{take_at, reset_step}
 use Rattle.bit_laws.proofs.Counts.Steps.{StepShows, set_shows}
+use Rattle.bit_laws.proofs.Spans.{wrote_in}
 
 -- no call of the set asks a question
 take_asks : (room : OneWord) (word end : ℕ) → is_question (want (take_at room word end)) ≡ false
@@ -238,14 +241,16 @@ module _ {T : Type 0} where
         capacity = refl;
         state = record { words = replicate c 0; events = [] };
         fit = (refl, refl);
-        holds =
-            (record {
-              sized = length-replicate c 0;
-              conserved = λ b. (let none = zeros c b 0 in omega arith);
-              within = λ b past. refl;
-              low = λ b. (let none = zeros c b 0 in omega arith);
-              answers = Each-nil _;
-            }, refl);
+        holds = (
+          record {
+            sized = length-replicate c 0;
+            conserved = λ b. (let none = zeros c b 0 in omega arith);
+            within = λ b past. refl;
+            low = λ b. (let none = zeros c b 0 in omega arith);
+            answers = Each-nil _;
+          },
+          refl,
+        );
         inv = record { spans = Each-nil _; calls = λ p. refl; knows = λ p. tt };
       }
 

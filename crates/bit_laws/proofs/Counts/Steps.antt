@@ -1,43 +1,27 @@
 -- What each step of a call shows: a set adds 1 to its count, and a reset of all swaps the next count with 0.
-use Rattle.std.proofs.Common.{◌≡◌, ◌≢◌, ℕ, ◌+◌, ◌-◌, ◌%◌, ◌^◌, ◌<◌, ◌≤◌, ◌==◌, nat_lt, Bool, true, false, cond, Option, Some, None, List, [], ◌∷◌, ◌++◌, length, get_or, set, refl, sym, ap, subst, ◌∙◌, append-nil, arith, length-set, get_or-set_same, get_or-set_other}
+use Rattle.std.proofs.Common.{◌≡◌, ◌≢◌, ℕ, ◌+◌, ◌-◌, ◌%◌, ◌^◌, ◌<◌, ◌≤◌, ◌==◌, Bool, true, false, Option, Some, List, [], ◌∷◌, ◌++◌, length, get_or, set, refl, sym, arith, length-set, get_or-set_same, get_or-set_other}
 use Rattle.std.proofs.lemmas.Bool.Decides.{nat_tests}
 use Rattle.steps.specs.declared.ask.Ask.{Ask}
-use Rattle.steps.specs.declared.ask.Op.TheVariants.{Add, Swap}
+use Rattle.steps.specs.declared.ask.Op.TheVariants.{Add}
 use Rattle.steps.specs.declared.ask.After.{After}
-use Rattle.steps.specs.declared.ask.After.TheVariants.{GoOn, Done}
-use Rattle.steps.specs.declared.bits.reset_all.ResetAll as steps
-use Rattle.steps.specs.declared.copied.OneWord.{OneWord}
+use Rattle.steps.specs.declared.ask.After.TheVariants.{Done}
 use Rattle.model.specs.declared.event.Answer.{Answer}
 use Rattle.model.specs.declared.event.Answer as answers
 use Rattle.model.specs.declared.event.Event.{Event}
-use Rattle.model.specs.declared.event.Event.TheVariants.{Counted, TakenOut, Finished}
+use Rattle.model.specs.declared.event.Event.TheVariants.{Counted, Finished}
 use Rattle.model.specs.declared.event.Start.TheVariants.{Bits}
-use Rattle.model.specs.declared.families.Flight.{Flight}
-use Rattle.model.specs.declared.families.Flight as flights
-use Rattle.model.specs.declared.families.Kept as kepts
 use Rattle.model.specs.declared.families.bits.BitsStart.{BitsStart}
-use Rattle.model.specs.declared.families.bits.BitsStart.TheVariants.{Set, ResetAll}
+use Rattle.model.specs.declared.families.bits.BitsStart.TheVariants.{Set}
 use Rattle.model.specs.declared.families.bits.calls.BitsFlight.{BitsFlight}
-use Rattle.model.specs.declared.families.bits.calls.BitsFlight.TheVariants.{Count, TakeAll}
 use Rattle.model.specs.declared.party.Party.{Party}
 use Rattle.model.specs.Coding.{Coding}
-use Rattle.model.specs.Families.{ask_of}
-use Rattle.model.specs.Families.Bits.Calls.{want, after, add_one}
-use Rattle.model.specs.Families.Bits.Promises.{AnswersCount}
-use Rattle.model.specs.Families.Bits.Reading.{counts, takes, count_at}
-use Rattle.model.specs.Families.Bits.Steps.{effects_of, take_events}
-use Rattle.model.specs.Moments.{SinceBegin}
-use Rattle.model.specs.Reading.{Open, span_of}
-use Rattle.model.specs.Step.{as_call, answer_in}
-use Rattle.model.specs.Turns.{old_of, words_after, change_of, step_count, doing_after, ending_of}
-use Rattle.model.proofs.Frame as frame
-use Rattle.bit_laws.proofs.Counts.Core.{TakenBelow, since_more, taken_next, counts_more}
-use Rattle.bit_laws.proofs.Counts.Invariant.{Counts, Holds, Shows, wrote_in, family}
-
-module _ {T : Type 0} where
-  -- a call of the set as one of any family
-  abbrev pub any_call : After BitsFlight (Answer T) → After (Flight T) (Answer T)
-  any_call after = as_call flights.TheVariants.Bits (λ answer. answer) after
+use Rattle.model.specs.Families.Bits.Calls.{after}
+use Rattle.model.specs.Families.Bits.Reading.{counts, count_at}
+use Rattle.model.specs.Reading.{Open}
+use Rattle.model.specs.Step.{answer_in}
+use Rattle.model.specs.Turns.{words_after, change_of, step_count, doing_after, ending_of}
+use Rattle.bit_laws.proofs.Counts.Invariant.{Counts, Holds, Shows}
+use Rattle.bit_laws.proofs.Spans.{any_call}
 
 module _ {T : Type 0} (code : Coding T) (c : ℕ) (s : Counts T) (events : List (Event T)) (turns p : ℕ) (latest : List (ℕ × Party T)) (changes since steps backs : ℕ) where
   abbrev ws : List ℕ

@@ -1,5 +1,5 @@
 -- The words of the bit sets at their opening, and which call begins.
-use Rattle.std.specs.Prelude.{ℕ, ◌+◌, ◌-◌, ◌^◌, Bool, true, false, Option, option_map, List, [], ◌∷◌, replicate, nat_le}
+use Rattle.std.specs.Prelude.{ℕ, ◌+◌, ◌-◌, ◌^◌, Bool, true, false, option_map, List, [], ◌∷◌, replicate, nat_le}
 use Rattle.steps.specs.Bits.Words.{elements}
 use Rattle.model.specs.declared.families.Flight.{Flight}
 use Rattle.model.specs.declared.families.Flight as flights

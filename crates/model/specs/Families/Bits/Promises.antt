@@ -14,7 +14,7 @@ use Rattle.model.specs.Families.Bits.Bounds.{most_bits_steps, most_counts_steps}
 use Rattle.model.specs.Families.Bits.Reading.{sets, clears, counts, takes, standing, count_at}
 use Rattle.model.specs.Moments.{HeldOnce, SinceBegin}
 use Rattle.model.specs.Promise.{Promise}
-use Rattle.model.specs.Reading.{Each, Span, Never, Open, Ended}
+use Rattle.model.specs.Reading.{Each, Span, Open}
 use Rattle.model.specs.Turns.{one_if}
 use Rattle.model.specs.World.{Trace}
 

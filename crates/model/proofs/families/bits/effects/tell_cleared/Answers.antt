@@ -1,4 +1,4 @@
-use Rattle.std.proofs.Common.{◌≡◌, ◌+◌, ◌++◌, ◌∷◌, [], true, false, sym, ap, ◌∙◌, append_assoc, arith}
+use Rattle.std.proofs.Common.{◌≡◌, ◌+◌, ◌++◌, ◌∷◌, [], sym, ap, ◌∙◌, append_assoc, arith}
 use Rattle.std.specs.Prelude.{vec_len, vec_capacity}
 use Rattle.model.specs.declared.event.Event.TheVariants.{Cleared}
 use Rattle.model.proofs.Places.{clears_so_far, stood_more, clear_more}
