@@ -139,8 +139,8 @@ impl<T: Words> Machine<T> {
     /// queue has one more than its capacity. Of the single value: the version, the producer's role, and two cells of
     /// `T::WORDS` words each, of which the one with the number (version - 1) mod 2 has the value that stands. Of a bit
     /// set: the reset position, and then one word for each 64 places begun, in which place b is bit b mod 64 of the word
-    /// 1 + b / 64. Of a counting bit set: the count of each place. Of the unique index set: the
-    /// head, the next index of each index, and the claim flags, 64 to a word.
+    /// 1 + b / 64. Of a counting bit set: the count of each place. Of the unique index set: the head, the next
+    /// index of each index, and the claim flags, 64 to a word.
     pub fn words(&self) -> &[u64]
         ensures { result.now ≡ self.now.words }
     {

@@ -14,5 +14,6 @@ pub mod Small
 pub mod Turns
 pub mod Values
 pub mod Worked
+pub mod WorkedBits
 pub mod WorkedIndices
 pub mod WorkedValue

@@ -38,7 +38,7 @@ pub enum Kept {
     Queues(Roles),
     /// Who holds the producer's role of the single value.
     Atomic(Option<u32>),
-    /// The words are all.
+    /// The words are all that the family needs.
     Nothing,
     /// Who holds which index of the unique index set.
     Indices(Holders),

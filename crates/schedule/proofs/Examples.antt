@@ -3,6 +3,7 @@ use Rattle.std.proofs.Common.{◌≡◌, ℕ, false, List, [], ◌∷◌, Ok, Er
 use Rattle.std.specs.Fmt.{digits}
 use Rattle.schedule.specs.declared.error.Cause.TheVariants as causes
 use Rattle.schedule.specs.Bits.{set, any_set_call, bit_set_call, counting_bit_set_call}
+use Rattle.schedule.specs.Indices.{release, any_index_call, index_call}
 use Rattle.schedule.specs.Queues.{push_index, push_value, item_call, any_call, queue_call}
 use Rattle.schedule.specs.Grammar.{number_at, setup_of, begin_of, next_of, turn_of, death_of, command_of}
 use Rattle.schedule.specs.Print.{event_text, refusal_text}
@@ -46,6 +47,12 @@ two_counts : output [] (codes "counts 2 1\n0 begin set 1\n0 next\n0 begin set 1\
     ≡ printed_whole (codes "0 begun set 1\n0 counted 1\n0 finished set 1 -> 0\n0 begun set 1\n0 counted 1\n0 finished set 1 -> 1\n0 begun reset_all\n0 taken_out 1 2\n0 finished reset_all -> done\nrefused BadIndex\n")
 unfolding output_of_lines machine_of setup_of number_at lines_from command_of turn_of begin_of counting_bit_set_call any_set_call set next_of nexts outcome event_text refusal_text digits
 two_counts = refl
+
+-- a release whose exchange fails subtracts
+falls_back : output [] (codes "indices 2 2\n0 begin acquire\n0 next 9\n0 begin release 0 default\n0 next 3\n1 begin acquire\n1 next 9\n0 next 2\n1 begin acquire\n1 next 9\n")
+    ≡ printed_whole (codes "0 begun acquire\n0 claimed 0\n0 finished acquire -> 0\n0 begun release 0 default\n0 freed 0\n1 begun acquire\n1 claimed 1\n1 finished acquire -> 1\n0 finished release 0 default -> Unlocked\n1 begun acquire\n1 claimed 0\n1 finished acquire -> 0\n")
+unfolding output_of_lines machine_of setup_of number_at lines_from command_of turn_of begin_of index_call any_index_call release next_of nexts outcome event_text digits
+falls_back = refl
 
 -- memory refused to the second turn
 short_turn : output (false ∷ true ∷ []) (codes "index_queue 1 1\n0 begin acquire_producer\n0 next\n0 next")

@@ -26,7 +26,8 @@ abbrev pub opening_words : ℕ → List ℕ
 opening_words capacity =
     0 ∷ range_with_len 1 capacity ++ replicate (flag_words capacity) 0
 
--- an index is a number of 24 bits, and two of those have another meaning; nobody holds one
+-- the number of borrowed indices has 24 bits, and the greatest says that the set is locked; nobody
+-- holds an index
 abbrev pub opening : Opening
 opening =
     record {

@@ -1,0 +1,264 @@
+-- The definitions of the bit sets at worked runs, and at histories that they refuse.
+use Rattle.std.proofs.Common.{◌≡◌, ℕ, ◌+◌, ◌^◌, true, false, Some, List, [], ◌∷◌, ◌++◌, length, refl, sym, ap, subst, ◌∙◌, arith}
+use Rattle.std.proofs.lemmas.List.Sums.{sum_by-append}
+use Rattle.std.specs.Prelude.{cond}
+use Rattle.model.specs.declared.event.Start.TheVariants.{Bits}
+use Rattle.model.specs.declared.event.Answer.TheVariants.{Done, Truth, Number, ResetNone, Reset}
+use Rattle.model.specs.declared.event.Event.{Event}
+use Rattle.model.specs.declared.event.Event as told
+use Rattle.model.specs.declared.event.Event.TheVariants.{Begun, Cleared, Counted, TakenOut, Finished}
+use Rattle.model.specs.declared.families.Kept as kepts
+use Rattle.model.specs.declared.families.bits.BitsStart.TheVariants.{Set, ResetNext, ResetAll}
+use Rattle.model.specs.declared.turn.Kind.{Kind}
+use Rattle.model.specs.declared.turn.Kind as kinds
+use Rattle.model.specs.declared.turn.Refusal.TheVariants.{WrongCall, BadIndex}
+use Rattle.model.specs.declared.turn.Turn.{Turn}
+use Rattle.model.specs.declared.turn.Turn.TheVariants.{Begin, Next}
+use Rattle.model.specs.Coding.{one_word}
+use Rattle.model.specs.Families.Bits.Promises.{IsBitSet, IsCountingSet, AnswersCount, HasCleared, HasTaken, BitsWrote, bits_stand, counts_stand}
+use Rattle.model.specs.Families.Bits.Reading.{is_set_of, sets, standing, count_at}
+use Rattle.model.specs.Moments.{HeldOnce}
+use Rattle.model.specs.Reading.{Open}
+use Rattle.model.specs.Refusals.{refusal_of}
+use Rattle.model.specs.Turns.{run}
+use Rattle.model.specs.World.{Trace, opening, progress_in}
+
+abbrev set_of : Kind → ℕ → List (Turn ℕ) → Trace ℕ
+set_of kind capacity turns = run turns (opening one_word kind capacity 2)
+
+-- ---- worked runs
+
+-- 64 bits to a word, after the reset position
+four_words : length (set_of kinds.TheVariants.Bits 130 []).world.words ≡ 4
+four_words = refl
+
+no_words : (set_of kinds.TheVariants.Counts 0 []).world.words ≡ []
+no_words = refl
+
+-- a set turns back where another bit of its element was set
+abbrev neighbours : Trace ℕ
+neighbours =
+    set_of kinds.TheVariants.Bits 70
+    (Begin 0 (Bits (Set 3))
+    ∷ Next 0
+    ∷ Begin 1 (Bits (Set 40))
+    ∷ Next 1
+    ∷ Next 1
+    ∷ Next 0
+    ∷ Next 0
+    ∷ [])
+
+neighbours_told : neighbours.events
+    ≡ Begun 0 (Bits (Set 3))
+    ∷ Begun 1 (Bits (Set 40))
+    ∷ told.TheVariants.Set 1 40
+    ∷ Finished 1 (Bits (Set 40)) (Truth true)
+    ∷ told.TheVariants.Set 0 3
+    ∷ Finished 0 (Bits (Set 3)) (Truth true)
+    ∷ []
+neighbours_told = refl
+
+neighbours_words : neighbours.world.words ≡ 0 ∷ (2 ^ 40 + 2 ^ 3) ∷ 0 ∷ []
+neighbours_words = refl
+
+neighbours_counted : progress_in neighbours.world 0 ≡ Some record { steps = 3; backs = 1; others = 1; finished = true }
+neighbours_counted = refl
+
+-- a reset of all clears two bits of one element in one turn
+abbrev cleared_twice : Trace ℕ
+cleared_twice =
+    set_of kinds.TheVariants.Bits 8
+    (Begin 0 (Bits (Set 3))
+    ∷ Next 0
+    ∷ Next 0
+    ∷ Begin 0 (Bits (Set 1))
+    ∷ Next 0
+    ∷ Next 0
+    ∷ Begin 0 (Bits ResetAll)
+    ∷ Next 0
+    ∷ [])
+
+cleared_twice_told : cleared_twice.events
+    ≡ Begun 0 (Bits (Set 3))
+    ∷ told.TheVariants.Set 0 3
+    ∷ Finished 0 (Bits (Set 3)) (Truth true)
+    ∷ Begun 0 (Bits (Set 1))
+    ∷ told.TheVariants.Set 0 1
+    ∷ Finished 0 (Bits (Set 1)) (Truth true)
+    ∷ Begun 0 (Bits ResetAll)
+    ∷ Cleared 0 1
+    ∷ Cleared 0 3
+    ∷ Finished 0 (Bits ResetAll) Done
+    ∷ []
+cleared_twice_told = refl
+
+-- a reset of the next bit goes round
+abbrev round : Trace ℕ
+round =
+    set_of kinds.TheVariants.Bits 2
+    (Begin 0 (Bits (Set 0))
+    ∷ Next 0
+    ∷ Next 0
+    ∷ Begin 0 (Bits ResetNext)
+    ∷ Next 0
+    ∷ Next 0
+    ∷ Next 0
+    ∷ Next 0
+    ∷ Begin 0 (Bits ResetNext)
+    ∷ Next 0
+    ∷ Next 0
+    ∷ Next 0
+    ∷ [])
+
+round_told : round.events
+    ≡ Begun 0 (Bits (Set 0))
+    ∷ told.TheVariants.Set 0 0
+    ∷ Finished 0 (Bits (Set 0)) (Truth true)
+    ∷ Begun 0 (Bits ResetNext)
+    ∷ Cleared 0 0
+    ∷ Finished 0 (Bits ResetNext) (Reset 0)
+    ∷ Begun 0 (Bits ResetNext)
+    ∷ Finished 0 (Bits ResetNext) ResetNone
+    ∷ []
+round_told = refl
+
+-- counts
+abbrev counted : Trace ℕ
+counted =
+    set_of kinds.TheVariants.Counts 2
+    (Begin 0 (Bits (Set 1))
+    ∷ Next 0
+    ∷ Begin 0 (Bits (Set 1))
+    ∷ Next 0
+    ∷ Begin 1 (Bits ResetAll)
+    ∷ Next 1
+    ∷ Next 1
+    ∷ [])
+
+counted_told : counted.events
+    ≡ Begun 0 (Bits (Set 1))
+    ∷ Counted 0 1
+    ∷ Finished 0 (Bits (Set 1)) (Number 0)
+    ∷ Begun 0 (Bits (Set 1))
+    ∷ Counted 0 1
+    ∷ Finished 0 (Bits (Set 1)) (Number 1)
+    ∷ Begun 1 (Bits ResetAll)
+    ∷ TakenOut 1 1 2
+    ∷ Finished 1 (Bits ResetAll) Done
+    ∷ []
+counted_told = refl
+
+-- a place past the capacity, and a call that counts have not
+past_the_capacity : refusal_of (set_of kinds.TheVariants.Bits 8 []).world (Begin 0 (Bits (Set 8))) ≡ Some BadIndex
+past_the_capacity = refl
+
+no_next_of_counts : refusal_of (set_of kinds.TheVariants.Counts 8 []).world (Begin 0 (Bits ResetNext)) ≡ Some WrongCall
+no_next_of_counts = refl
+
+-- ---- histories that are refused
+
+-- a machine of this kind and of two places, with these words and events
+abbrev with_events : Kind → List ℕ → List (Event ℕ) → Trace ℕ
+with_events kind words events =
+    record {
+      world =
+          record {
+            coding = one_word;
+            kind = kind;
+            capacity = 2;
+            parties = 2;
+            words = words;
+            kept = kepts.TheVariants.Nothing;
+            latest = [];
+            changes = 0;
+            turns = 0;
+          };
+      events = events;
+    }
+
+-- a bit that stands and that nobody set, and one that is lost
+stands_unset : IsBitSet (with_events kinds.TheVariants.Bits (0 ∷ 1 ∷ []) []) → ⊥
+stands_unset k = let e = k.conserved 0 in cc
+
+bit_lost : IsBitSet (with_events kinds.TheVariants.Bits (0 ∷ 0 ∷ []) (told.TheVariants.Set 0 1 ∷ [])) → ⊥
+bit_lost k = let e = k.conserved 1 in cc
+
+set_twice : IsBitSet (with_events kinds.TheVariants.Bits (0 ∷ 2 ∷ []) (told.TheVariants.Set 0 1 ∷ told.TheVariants.Set 1 1 ∷ [])) → ⊥
+set_twice k = let e = k.conserved 1 in cc
+
+set_past_the_capacity : IsBitSet (with_events kinds.TheVariants.Bits (0 ∷ 4 ∷ []) (told.TheVariants.Set 0 2 ∷ [])) → ⊥
+set_past_the_capacity k = let e = k.within 2 (omega arith) in cc
+
+-- a bit that was set in none of the events stood at no moment
+never_stood : (p b : ℕ) (events : List (Event ℕ)) → sets b events ≡ 0 → HeldOnce p (λ part. standing b part ≡ 1) events → ⊥
+never_stood p b events none h =
+    let both : sets b events ≡ sets b h.part + sets b h.rest = ap (sets b) h.is ∙ sum_by-append (λ e. cond (is_set_of b e) 1 0) h.part h.rest in
+    let stood = h.held in
+    absurd (omega arith)
+
+-- a set that answers false where its bit never stood
+abbrev false_set : List (Event ℕ)
+false_set =
+    Begun 0 (Bits (Set 1)) ∷ Finished 0 (Bits (Set 1)) (Truth false) ∷ []
+
+false_without_bit : IsBitSet (with_events kinds.TheVariants.Bits (0 ∷ 0 ∷ []) false_set) → ⊥
+false_without_bit k = never_stood 0 1 (Begun 0 (Bits (Set 1)) ∷ []) refl (k.answers (Begun 0 (Bits (Set 1)) ∷ []) [] _ refl)
+
+-- a set that answers true and sets nothing, or the bit beside its own
+true_without_event : BitsWrote {T = ℕ} 2 (Bits (Set 1)) (Truth true) [] → ⊥
+true_without_event w = let e = w.0 in cc
+
+other_bit : BitsWrote {T = ℕ} 2 (Bits (Set 1)) (Truth true) (told.TheVariants.Set 0 0 ∷ []) → ⊥
+other_bit w = let e = w.1 in cc
+
+-- a reset of the next bit that answers another one than it has cleared
+other_answer : BitsWrote {T = ℕ} 2 (Bits ResetNext) (Reset 1) (Cleared 0 0 ∷ []) → ⊥
+other_answer w = let e = w.1 in cc
+
+-- a reset of all that goes down, or clears a bit twice
+descends : bits_stand {T = ℕ} (Cleared 0 1) (Open (Bits ResetAll) (Cleared 0 3 ∷ [])) → ⊥
+descends stands = let e = stands 3 (omega arith) in cc
+
+clears_again : bits_stand {T = ℕ} (Cleared 0 1) (Open (Bits ResetAll) (Cleared 0 1 ∷ [])) → ⊥
+clears_again stands = let e = stands 1 (omega arith) in cc
+
+-- a bit that stood as the call began and that nobody has cleared since
+abbrev stays : List (Event ℕ) → List (Event ℕ) → Type 0
+stays before since = HasCleared 2 before since
+
+left_standing : stays (told.TheVariants.Set 0 1 ∷ []) [] → ⊥
+left_standing cleared = let e = cleared 1 (omega arith) refl in absurd (omega arith)
+
+-- a count that nobody counted, and one of which too much was taken out
+counts_uncounted : IsCountingSet (with_events kinds.TheVariants.Counts (1 ∷ 0 ∷ []) []) → ⊥
+counts_uncounted k = let e = k.conserved 0 in cc
+
+taken_too_much : IsCountingSet (with_events kinds.TheVariants.Counts (0 ∷ 0 ∷ []) (Counted 0 1 ∷ TakenOut 1 1 2 ∷ [])) → ⊥
+taken_too_much k = let e = k.conserved 1 in cc
+
+-- a set that answers the count after it
+abbrev late_count : List (Event ℕ)
+late_count =
+    Begun 0 (Bits (Set 1)) ∷ Counted 0 1 ∷ Finished 0 (Bits (Set 1)) (Number 1) ∷ []
+
+count_after : IsCountingSet (with_events kinds.TheVariants.Counts (0 ∷ 1 ∷ []) late_count) → ⊥
+count_after k = go right.before right.is right.count
+  where
+    right : AnswersCount {T = ℕ} 0 1 1 (Begun 0 (Bits (Set 1)) ∷ Counted 0 1 ∷ [])
+    right = k.answers (Begun 0 (Bits (Set 1)) ∷ Counted 0 1 ∷ []) [] _ refl
+
+    go : (before : List (Event ℕ)) → Begun 0 (Bits (Set 1)) ∷ Counted 0 1 ∷ [] ≡ before ++ Counted 0 1 ∷ [] → 1 ≡ count_at 1 before → ⊥
+    go [] is e = cc
+    go (a ∷ []) is e =
+        let same : Begun 0 (Bits (Set 1)) ≡ a = cc in
+        let none = subst (λ (x : Event ℕ). 1 ≡ count_at 1 (x ∷ [])) (sym same) e in
+        cc
+    go (a ∷ b ∷ []) is e = cc
+    go (a ∷ b ∷ c ∷ bs) is e = cc
+
+-- nothing is taken out of a count of 0
+taken_of_nothing : counts_stand {T = ℕ} (TakenOut 0 1 0) (Open (Bits ResetAll) []) → ⊥
+taken_of_nothing stands = let e = stands.0 in absurd (omega arith)
+
+left_counting : HasTaken {T = ℕ} 2 (Counted 0 1 ∷ []) [] → ⊥
+left_counting taken = let e = taken 1 (omega arith) (omega arith) in absurd (omega arith)
