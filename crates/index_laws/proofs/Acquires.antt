@@ -1,5 +1,5 @@
 -- The steps of an acquire.
-use Rattle.std.proofs.Common.{◌≡◌, ◌≢◌, ℕ, ◌+◌, ◌-◌, ◌*◌, ◌%◌, ◌^◌, ◌<◌, ◌≤◌, ◌==◌, ⊎_elim, inl, inr, nat_lt, Bool, true, false, bit_or, Option, Some, List, get_or, set, refl, sym, ap, subst, ◌∙◌, arith}
+use Rattle.std.proofs.Common.{◌≡◌, ◌≢◌, ℕ, ◌+◌, ◌-◌, ◌*◌, ◌%◌, ◌^◌, ◌<◌, ◌≤◌, ◌==◌, ⊎_elim, inl, nat_lt, Bool, true, false, bit_or, Option, Some, List, get_or, set, refl, sym, ap, subst, ◌∙◌, arith}
 use Rattle.std.specs.Prelude.{max, Ok, Err}
 use Rattle.std.proofs.lemmas.Bool.{cases_lt}
 use Rattle.std.proofs.lemmas.Bool.Decides.{nat_tests}
@@ -32,7 +32,7 @@ use Rattle.index_laws.proofs.Core.{head_of, counted_in, is_claimed, head_stays, 
 use Rattle.index_laws.proofs.Invariant.{Scene, Inv}
 use Rattle.index_laws.proofs.Knows.{acquire_at, acquire_number, acquire_counts, AcquireAt, AcquireKnows, IsOpen, IsPaid, PaidUnless, AllClaimed}
 use Rattle.index_laws.proofs.Moves.{takes, counts_right, unlocked_for, some_free, was_free, still_claimed, claims, claims_again}
-use Rattle.index_laws.proofs.Stages.{busy, IsHere, busy_here, all_in_use, Comes, StepOf, since_then, changes_then, backs_then, goes_on, ends, claims_index, same_tally, open_says}
+use Rattle.index_laws.proofs.Stages.{busy, IsHere, busy_here, all_in_use, Comes, StepOf, since_then, changes_then, backs_then, paid_of, unless_then, goes_on, ends, claims_index, same_tally, open_says}
 
 module _ {T : Type 0} (scene : Scene T) (inv : Inv scene) where
   open scene use {capacity as c, party as p, steps, backs, since, changes, latest, events}
@@ -45,14 +45,6 @@ module _ {T : Type 0} (scene : Scene T) (inv : Inv scene) where
 
   g : Good c ws hs (busy scene)
   g = inv.holds.good
-
-  -- ---- what is known of the counts after a step of its own
-
-  paid_of : (P : Type 0) → PaidUnless P since changes backs → IsPaid since changes backs
-  paid_of P h = ⊎_elim (λ k. k.1) (λ k. omega arith) h
-
-  unless_then : (ask : Option Ask) (P Q : Type 0) → (P → Q) → PaidUnless P since changes backs → PaidUnless Q (since_then scene ask) (changes_then scene ask) (backs_then scene false)
-  unless_then ask P Q follows h = ⊎_elim (λ k. let paid = k.1 in inl (follows k.0, omega arith)) (λ k. inr (omega arith)) h
 
   -- what the call comes to where it goes on so, or is done so
   abbrev Does : AcquireStage → Ask → Bool → After calls.Acquire Acquired → Type 0
@@ -82,7 +74,7 @@ module _ {T : Type 0} (scene : Scene T) (inv : Inv scene) where
     out_of : borrowed (head_of ws) ≢ locked → borrowed (head_of ws) ≡ c → c + 1 ≤ in_use (tally_of events)
     out_of unlocked full =
         let is = counts_right c ws hs (busy scene) g unlocked in
-        let counted = is.0 in
+        let number = is.0 in
         let all = all_in_use scene (acquire_at c stage) here in
         rw inv.holds.tally (omega arith)
 
@@ -117,7 +109,7 @@ module _ {T : Type 0} (scene : Scene T) (inv : Inv scene) where
       goes_on scene inv Acquire (acquire_at c (acquires.TheVariants.LoadsNext head)) (acquire_at c next) ask false
       (λ busy' e. subst (λ w. Good c w hs busy') (sym same) (let is : busy scene ≡ busy' = omega arith in subst (λ n. Good c ws hs n) is g))
       refl refl refl (ap (λ w. says_locked (head_of w)) same) tt (omega arith) (refl, at)
-      (unless_then ask (head_of ws ≡ head) (head_of (words_after ws ask) ≡ head) (λ e. ap head_of same ∙ e) knows)
+      (unless_then scene ask (head_of ws ≡ head) (head_of (words_after ws ask) ≡ head) (λ e. ap head_of same ∙ e) knows)
 
   -- ---- the exchange of the head
 
@@ -129,29 +121,29 @@ module _ {T : Type 0} (scene : Scene T) (inv : Inv scene) where
     exchange = record { word = 0; op = Exchange head (head_taken head next) }
 
     paid : IsPaid since changes backs
-    paid = paid_of (head_of ws ≡ head) knows
+    paid = paid_of scene (head_of ws ≡ head) knows
 
     module _ (is : head_of ws ≡ head) (new : words_after ws (Some exchange) ≡ set ws 0 (head_taken (head_of ws) next)) where
-      unlocked : counted_in ws ≢ locked
-      unlocked e = open_head.0 (ap borrowed (sym is) ∙ e)
+      not_locked : counted_in ws ≢ locked
+      not_locked e = open_head.0 (ap borrowed (sym is) ∙ e)
 
       good_taken : (busy' : ℕ) → busy' ≡ busy scene + 1 → Good c (words_after ws (Some exchange)) hs busy'
       good_taken busy' e =
           subst (λ n. Good c (words_after ws (Some exchange)) hs n) (sym e)
-          (subst (λ w. Good c w hs (busy scene + 1)) (sym new) (takes c ws hs (busy scene) next g unlocked (λ full. open_head.1 (ap borrowed (sym is) ∙ full))))
+          (subst (λ w. Good c w hs (busy scene + 1)) (sym new) (takes c ws hs (busy scene) next g not_locked (λ full. open_head.1 (ap borrowed (sym is) ∙ full))))
 
       lock_same : says_locked (head_of (words_after ws (Some exchange))) ≡ says_locked (head_of ws)
       lock_same =
           open_says (head_of (words_after ws (Some exchange))) (unlocked_for c (words_after ws (Some exchange)) hs (busy scene + 1) (good_taken (busy scene + 1) refl) (omega arith))
-          ∙ sym (open_says (head_of ws) unlocked)
+          ∙ sym (open_says (head_of ws) not_locked)
 
       goes_to_claim : (stage : AcquireStage) → acquire_counts stage ≡ 1 → AcquireAt c stage → steps + 1 ≤ acquire_number c stage (backs_then scene false) → AcquireKnows c (words_after ws (Some exchange)) (since_then scene (Some exchange)) (changes_then scene (Some exchange)) (backs_then scene false) stage
           → Does exchanging exchange false (GoOn (at_acquire (call_at exchanging) stage))
       goes_to_claim stage heavy at low known =
           goes_on scene inv Acquire (acquire_at c exchanging) (acquire_at c stage) (Some exchange) false (λ busy' e. good_taken busy' (omega arith)) refl refl refl lock_same tt low (refl, at) known
 
-      exchanged : Does exchanging exchange false (GoOn (at_acquire (call_at exchanging) (first_claim c head)))
-      exchanged =
+      exchange_succeeds : Does exchanging exchange false (GoOn (at_acquire (call_at exchanging) (first_claim c head)))
+      exchange_succeeds =
           by_test (λ stage. Does exchanging exchange false (GoOn (at_acquire (call_at exchanging) stage))) (nat_lt (proposed head) c) (acquires.TheVariants.Claims (proposed head)) (acquires.TheVariants.Scans 0)
           (λ own. let below : proposed head < c = grind (arith, nat_tests) in goes_to_claim (acquires.TheVariants.Claims (proposed head)) refl below (omega arith) (omega arith))
           (λ none. let some = g.some in goes_to_claim (acquires.TheVariants.Scans 0) refl (omega arith) (omega arith) (inl (λ i below. absurd (omega arith), omega arith)))
@@ -166,7 +158,7 @@ module _ {T : Type 0} (scene : Scene T) (inv : Inv scene) where
             let back : goes_back (acquire_at c exchanging) (head_of ws) ≡ false = rw t refl in
             let new : words_after ws (Some exchange) ≡ set ws 0 (head_taken (head_of ws) next) = rw t (ap (λ h. set ws 0 (head_taken h next)) (sym is)) in
             subst (λ a. Comes scene Acquire (acquire_at c exchanging) (Some exchange) (goes_back (acquire_at c exchanging) (head_of ws)) a) (sym goes)
-            (subst (λ b. Comes scene Acquire (acquire_at c exchanging) (Some exchange) b (GoOn (acquire_at c (first_claim c head)))) (sym back) (exchanged is new))
+            (subst (λ b. Comes scene Acquire (acquire_at c exchanging) (Some exchange) b (GoOn (acquire_at c (first_claim c head)))) (sym back) (exchange_succeeds is new))
         go false t =
             let other : head_of ws ≢ head = grind (arith, nat_tests) in
             let more : backs + since + 1 ≤ changes = ⊎_elim (λ k. absurd (other k.0)) (λ k. k) knows in
@@ -192,8 +184,8 @@ module _ {T : Type 0} (scene : Scene T) (inv : Inv scene) where
     head_same = head_stays c ws (flag_word c i) (bit_or old (flag i)) (omega arith)
 
     -- the flag was clear
-    claimed : has_flag old i ≡ false → steps + 1 ≤ 4 + c + backs_then scene false * max 2 c → Does stage claim false (Done (Ok i))
-    claimed clear low =
+    claim_succeeds : has_flag old i ≡ false → steps + 1 ≤ 4 + c + backs_then scene false * max 2 c → Does stage claim false (Done (Ok i))
+    claim_succeeds clear low =
         claims_index scene inv i (acquire_at c stage) (Some claim) below (was_free c ws hs i below (busy scene) clear g) (unlocked_for c ws hs (busy scene) g at_work)
         (λ busy' e. let is : busy scene ≡ busy' + 1 = omega arith in claims c ws hs i below p busy' clear (subst (λ n. Good c ws hs n) is g))
         refl refl refl head_same low paid
@@ -212,7 +204,7 @@ module _ {T : Type 0} (scene : Scene T) (inv : Inv scene) where
       let some = g.some in
       by_test (Does stage (claim stage i below here refl paid) false) (has_flag (get_or ws (flag_word c i) 0) i) (GoOn (at_acquire (call_at stage) (acquires.TheVariants.Scans 0))) (Done (Ok i))
       (λ stood. tries_on stage i below here refl paid stood false (acquires.TheVariants.Scans 0) refl (omega arith) (omega arith) (inl (λ j less. absurd (omega arith), omega arith)))
-      (λ clear. claimed stage i below here refl paid clear (omega arith))
+      (λ clear. claim_succeeds stage i below here refl paid clear (omega arith))
 
   module _ (i : ℕ) (below : i < c) (here : IsHere scene (acquire_at c (acquires.TheVariants.Scans i))) (knows : PaidUnless (AllClaimed c ws i) since changes backs) (s : steps ≤ 4 + i + backs * max 2 c) where
     abbrev scanning : AcquireStage
@@ -225,7 +217,7 @@ module _ {T : Type 0} (scene : Scene T) (inv : Inv scene) where
     flags_then = words_after ws (Some scan)
 
     scan_paid : IsPaid since changes backs
-    scan_paid = paid_of (AllClaimed c ws i) knows
+    scan_paid = paid_of scene (AllClaimed c ws i) knows
 
     one_more : is_claimed c ws i ≡ true → AllClaimed c ws i → AllClaimed c ws (i + 1)
     one_more stood all j less = ⊎_elim (λ before. all j before) (λ last. let same : j ≡ i = omega arith in ap (is_claimed c ws) same ∙ stood) (cases_lt j i)
@@ -233,7 +225,7 @@ module _ {T : Type 0} (scene : Scene T) (inv : Inv scene) where
     scans_on : is_claimed c ws i ≡ true → i + 1 < c → Does scanning scan false (GoOn (at_acquire (call_at scanning) (acquires.TheVariants.Scans (i + 1))))
     scans_on stood more =
         tries_on scanning i below here refl scan_paid stood false (acquires.TheVariants.Scans (i + 1)) refl more (omega arith)
-        (unless_then (Some scan) (AllClaimed c ws i) (AllClaimed c flags_then (i + 1)) (λ all j less. still_claimed c ws hs i below (busy scene) j g (one_more stood all j less)) knows)
+        (unless_then scene (Some scan) (AllClaimed c ws i) (AllClaimed c flags_then (i + 1)) (λ all j less. still_claimed c ws hs i below (busy scene) j g (one_more stood all j less)) knows)
 
     -- some flag was free at each moment, so another party has changed a word
     scans_again : is_claimed c ws i ≡ true → c ≤ i + 1 → Does scanning scan true (GoOn (at_acquire (call_at scanning) (acquires.TheVariants.Scans 0)))
@@ -263,7 +255,7 @@ module _ {T : Type 0} (scene : Scene T) (inv : Inv scene) where
             let goes : after {T = T} (acquire_at c scanning) (get_or ws (flag_word c i) 0) ≡ Done (Index i) = rw t refl in
             let back : goes_back (acquire_at c scanning) (get_or ws (flag_word c i) 0) ≡ false = rw t refl in
             subst (λ a. Comes scene Acquire (acquire_at c scanning) (Some scan) (goes_back (acquire_at c scanning) (get_or ws (flag_word c i) 0)) a) (sym goes)
-            (subst (λ b. Comes scene Acquire (acquire_at c scanning) (Some scan) b (Done (Index i))) (sym back) (claimed scanning i below here refl scan_paid t (omega arith)))
+            (subst (λ b. Comes scene Acquire (acquire_at c scanning) (Some scan) b (Done (Index i))) (sym back) (claim_succeeds scanning i below here refl scan_paid t (omega arith)))
 
   -- ---- any step
 

@@ -192,8 +192,8 @@ module _ {T : Type 0} where
           go None e = refl
           go (Some x) e = let below = h.bounded q x e in absurd (omega arith)
 
-      moved : (weight : IndexFlight → ℕ) → total (of_any weight) latest' seats' + weight_of (of_any weight) was ≡ total (of_any weight) latest set.seats + weight_of (of_any weight) (flight_of (Some y.doing))
-      moved weight =
+      weight_moves : (weight : IndexFlight → ℕ) → total (of_any weight) latest' seats' + weight_of (of_any weight) was ≡ total (of_any weight) latest set.seats + weight_of (of_any weight) (flight_of (Some y.doing))
+      weight_moves weight =
           let puts = total_put (of_any weight) latest p y seats' enough.1 in
           let grows = total_longer (of_any weight) latest set.seats seats' enough.0 no_call in
           let before : weight_at (of_any weight) latest p ≡ weight_of (of_any weight) was = ap (weight_of (of_any weight)) is in
@@ -216,10 +216,10 @@ module _ {T : Type 0} where
       holds_more =
           record {
             bounded = of_each (λ q x. q < seats') enough.1 (λ q x found. let below = h.bounded q x found in let low = enough.0 in omega arith);
-            good = s.good (all_counted latest' seats') (moved counts);
+            good = s.good (all_counted latest' seats') (weight_moves counts);
             tally =
                 fold-append tally_after (record { held = 0; taking = 0; giving = 0 }) events es
-                ∙ (ap (λ z. fold tally_after z es) h.tally ∙ s.tally (all_taking latest' seats') (all_giving latest' seats') (moved takes) (moved gives));
+                ∙ (ap (λ z. fold tally_after z es) h.tally ∙ s.tally (all_taking latest' seats') (all_giving latest' seats') (weight_moves takes) (weight_moves gives));
             holders = λ i. fold-append (holder_after i) None events es ∙ (ap (λ o. fold (holder_after i) o es) (h.holders i) ∙ s.holders i);
             lock = fold-append locked_after false events es ∙ (ap (λ b. fold locked_after b es) h.lock ∙ s.lock);
             straight = of_each (λ q x. GoesStraight x.start x.backs) s.straight h.straight;

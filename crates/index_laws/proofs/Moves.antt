@@ -5,7 +5,7 @@ use Rattle.std.proofs.lemmas.List.{get_or_past}
 use Rattle.steps.specs.Indices.Head.{flag_word, flag, borrowed, locked}
 use Rattle.steps.specs.Indices.Unique.{head_taken, head_given_back, head_locked}
 use Rattle.index_laws.proofs.Core.{head_of, counted_in, holder, one_held, held_below, held_below_set, none_if_zero, one_if_some, none_if_not, flag_within, is_claimed, claims_stay, claim_sets, claim_leaves, clear_clears, clear_leaves, head_stays, Good}
-use Rattle.index_laws.proofs.Count.{Tally, counts_all, counts_none, is_open, tally_up, tally_down, tally_shut, taken_number, given_number, locked_number, less_number}
+use Rattle.index_laws.proofs.Count.{Tally, counts_all, is_open, tally_up, tally_down, tally_shut, taken_number, given_number, locked_number, less_number}
 use Rattle.index_laws.proofs.Sums.{sum_one, sum_all}
 
 module _ (c : ℕ) (words : List ℕ) (holders : List (Option ℕ)) where
@@ -14,9 +14,6 @@ module _ (c : ℕ) (words : List ℕ) (holders : List (Option ℕ)) where
   module _ (busy : ℕ) (g : Good c words holders busy) where
     pub counts_right : counted_in words ≢ locked → (counted_in words ≡ held_below holders c + busy) × (held_below holders c + busy ≤ c)
     counts_right unlocked = counts_all c (counted_in words) (held_below holders c + busy) g.few g.tally unlocked
-
-    pub none_out : counted_in words ≡ locked → held_below holders c + busy ≡ 0
-    none_out shut = counts_none c (counted_in words) (held_below holders c + busy) g.few g.tally shut
 
     -- a call that takes an index or gives one back finds no lock
     pub unlocked_for : 1 ≤ busy → counted_in words ≢ locked

@@ -1,5 +1,5 @@
 -- The steps of a release, in both modes.
-use Rattle.std.proofs.Common.{◌≡◌, ◌≢◌, ℕ, ◌+◌, ◌-◌, ◌*◌, ◌%◌, ◌^◌, ◌<◌, ◌≤◌, ◌==◌, ⊎_elim, inl, inr, Bool, true, false, bit_and, Option, Some, None, List, get_or, set, refl, sym, ap, subst, ◌∙◌, arith, get_or-set_same}
+use Rattle.std.proofs.Common.{◌≡◌, ◌≢◌, ℕ, ◌+◌, ◌-◌, ◌*◌, ◌%◌, ◌^◌, ◌<◌, ◌≤◌, ◌==◌, ⊎_elim, inl, Bool, true, false, bit_and, Option, Some, None, List, get_or, set, refl, sym, ap, subst, ◌∙◌, arith, get_or-set_same}
 use Rattle.std.proofs.lemmas.Bool.Decides.{nat_tests}
 use Rattle.std.proofs.lemmas.List.{set-get_or}
 use Rattle.steps.specs.declared.ask.Ask.{Ask}
@@ -25,7 +25,7 @@ use Rattle.index_laws.proofs.Count.{given_number, locked_number, less_number}
 use Rattle.index_laws.proofs.Invariant.{Scene, Inv}
 use Rattle.index_laws.proofs.Knows.{default_at, lock_at, release_counts, release_number, ReleaseAt, LockKnows, IsPaid, PaidUnless}
 use Rattle.index_laws.proofs.Moves.{counts_right, unlocked_for, stores_next, some_counted, gives, subtracts, shuts, last_given, frees}
-use Rattle.index_laws.proofs.Stages.{busy, IsHere, busy_here, all_in_use, Comes, StepOf, since_then, changes_then, backs_then, goes_on, ends, frees_index, locks_set, same_tally, open_says}
+use Rattle.index_laws.proofs.Stages.{busy, IsHere, busy_here, all_in_use, Comes, StepOf, paid_of, unless_then, goes_on, ends, frees_index, locks_set, same_tally, open_says}
 
 module _ {T : Type 0} (scene : Scene T) (inv : Inv scene) (index : ℕ) (below : index < scene.capacity) where
   open scene use {capacity as c, party as p, steps, backs, since, changes, latest, events}
@@ -82,13 +82,10 @@ module _ {T : Type 0} (scene : Scene T) (inv : Inv scene) (index : ℕ) (below :
   good_given : (ask : Ask) → words_after ws (Some ask) ≡ set ws 0 (head_given_back (head_of ws) index) → (busy' : ℕ) → busy' + 1 ≡ busy scene → Good c (words_after ws (Some ask)) hs busy'
   good_given ask new busy' e = subst (λ w. Good c w hs busy') (sym new) (gives c ws hs busy' (one_less busy' e) index)
 
-  paid_of : (P : Type 0) → PaidUnless P since changes backs → IsPaid since changes backs
-  paid_of P h = ⊎_elim (λ k. k.1) (λ k. omega arith) h
-
   -- a release that has freed keeps the set from being locked
   module _ (at_work : 1 ≤ busy scene) where
-    unlocked : counted_in ws ≢ locked
-    unlocked = unlocked_for c ws hs (busy scene) g at_work
+    not_locked : counted_in ws ≢ locked
+    not_locked = unlocked_for c ws hs (busy scene) g at_work
 
     abbrev others : ℕ
     others = busy scene - 1
@@ -96,20 +93,20 @@ module _ {T : Type 0} (scene : Scene T) (inv : Inv scene) (index : ℕ) (below :
     is_others : others + 1 ≡ busy scene
     is_others = omega arith
 
-    counted : (1 ≤ counted_in ws) × (counted_in ws ≤ c)
-    counted = let h = some_counted c ws hs others (one_less others is_others) in (h.0, h.2)
+    some_number : (1 ≤ counted_in ws) × (counted_in ws ≤ c)
+    some_number = let h = some_counted c ws hs others (one_less others is_others) in (h.0, h.2)
 
     -- a head that counts one less is not locked either
     still_open : (ask : Ask) (x : ℕ) → words_after ws (Some ask) ≡ set ws 0 x → borrowed x + 1 ≡ counted_in ws → says_locked (head_of (words_after ws (Some ask))) ≡ says_locked (head_of ws)
     still_open ask x new less =
         let few = g.few in
         let wide = g.wide in
-        let most = counted.1 in
+        let most = some_number.1 in
         let is : head_of (words_after ws (Some ask)) ≡ x = ap head_of new ∙ get_or-set_same ws 0 x 0 (omega arith) in
-        ap says_locked is ∙ (open_says x (λ e. absurd (omega arith)) ∙ sym (open_says (head_of ws) unlocked))
+        ap says_locked is ∙ (open_says x (λ e. absurd (omega arith)) ∙ sym (open_says (head_of ws) not_locked))
 
     given_open : (ask : Ask) → words_after ws (Some ask) ≡ set ws 0 (head_given_back (head_of ws) index) → says_locked (head_of (words_after ws (Some ask))) ≡ says_locked (head_of ws)
-    given_open ask new = still_open ask (head_given_back (head_of ws) index) new (given_number (head_of ws) index counted.0)
+    given_open ask new = still_open ask (head_given_back (head_of ws) index) new (given_number (head_of ws) index some_number.0)
 
   -- one that gives back and is done counts no more
   told : (h t g t' g' : ℕ) → t' + 0 ≡ t + 0 → g' + 1 ≡ g + 0 → ◌≡◌ {A = Tally} (record { held = h; taking = t; giving = g - 1 }) (record { held = h; taking = t'; giving = g' })
@@ -166,7 +163,7 @@ module _ {T : Type 0} (scene : Scene T) (inv : Inv scene) (index : ℕ) (below :
     default_subtracts here s =
         let works = default_works releases.TheVariants.Subtracts here refl in
         let x : ℕ = (head_of ws + (2 ^ 64 - 1)) % 2 ^ 64 in
-        ends scene inv started (default releases.TheVariants.Subtracts) (State Unlocked) (Some subtract) false (λ busy' e. subtracts c ws hs busy' (one_less busy' (omega arith))) told refl tt (still_open works subtract x refl (less_number (head_of ws) (counted works).0)) (omega arith) (omega arith) (omega arith)
+        ends scene inv started (default releases.TheVariants.Subtracts) (State Unlocked) (Some subtract) false (λ busy' e. subtracts c ws hs busy' (one_less busy' (omega arith))) told refl tt (still_open works subtract x refl (less_number (head_of ws) (some_number works).0)) (omega arith) (omega arith) (omega arith)
 
     pub default_step : (stage : ReleaseStage) → IsHere scene (default stage) → ReleaseAt hs p index stage → steps ≤ release_number stage 0 → StepOf scene started (default stage)
     default_step releases.TheVariants.ClearsFlag here at s = default_clears at s
@@ -183,9 +180,6 @@ module _ {T : Type 0} (scene : Scene T) (inv : Inv scene) (index : ℕ) (below :
   abbrev started_lock : IndexStart
   started_lock = Release index LockIfLastIndex
 
-  unless_then : (ask : Option Ask) (P Q : Type 0) → (P → Q) → PaidUnless P since changes backs → PaidUnless Q (since_then scene ask) (changes_then scene ask) (backs_then scene false)
-  unless_then ask P Q follows h = ⊎_elim (λ k. let paid = k.1 in inl (follows k.0, omega arith)) (λ k. inr (omega arith)) h
-
   lock_clears : holder hs index ≡ Some p → IsPaid since changes backs → steps ≤ 0 → StepOf scene started_lock (locking releases.TheVariants.ClearsFlag)
   lock_clears holds paid s =
       frees_index scene inv index LockIfLastIndex (locking releases.TheVariants.ClearsFlag) (locking releases.TheVariants.LoadsHead) (Some clear) below holds (λ busy' e. good_freed holds busy' (omega arith)) refl refl refl refl refl clear_head tt (omega arith) (refl, refl, below, tt) (omega arith)
@@ -197,7 +191,7 @@ module _ {T : Type 0} (scene : Scene T) (inv : Inv scene) (index : ℕ) (below :
   lock_stores : (head : ℕ) → PaidUnless (head_of ws ≡ head) since changes backs → steps ≤ 2 + backs * 2 → StepOf scene started_lock (locking (releases.TheVariants.StoresNext head))
   lock_stores head knows s =
       goes_on scene inv started_lock (locking (releases.TheVariants.StoresNext head)) (locking (releases.TheVariants.ExchangesHead head)) (Some (store head)) false (λ busy' e. good_stored head busy' (omega arith)) refl refl refl (ap says_locked (store_head head)) tt (omega arith) (refl, refl, below, tt)
-      (unless_then (Some (store head)) (head_of ws ≡ head) (head_of (words_after ws (Some (store head))) ≡ head) (λ e. store_head head ∙ e) knows)
+      (unless_then scene (Some (store head)) (head_of ws ≡ head) (head_of (words_after ws (Some (store head))) ≡ head) (λ e. store_head head ∙ e) knows)
 
   module _ (head : ℕ) (here : IsHere scene (locking (releases.TheVariants.ExchangesHead head))) (knows : PaidUnless (head_of ws ≡ head) since changes backs) (s : steps ≤ 3 + backs * 2) where
     abbrev exchanging : IndexFlight
@@ -207,7 +201,7 @@ module _ {T : Type 0} (scene : Scene T) (inv : Inv scene) (index : ℕ) (below :
     works = let mine = busy_here scene exchanging here in omega arith
 
     paid : IsPaid since changes backs
-    paid = paid_of (head_of ws ≡ head) knows
+    paid = paid_of scene (head_of ws ≡ head) knows
 
     abbrev Does : Bool → After IndexFlight (Answer T) → Type 0
     Does back a = Comes scene started_lock exchanging (Some (exchange true head)) back a
@@ -217,16 +211,16 @@ module _ {T : Type 0} (scene : Scene T) (inv : Inv scene) (index : ℕ) (below :
     shuts_set new one =
         let wide = g.wide in
         let is : head_of (words_after ws (Some (exchange true head))) ≡ head_locked (head_of ws) index = ap head_of new ∙ get_or-set_same ws 0 (head_locked (head_of ws) index) 0 (omega arith) in
-        locks_set scene inv index exchanging (Some (exchange true head)) (last_given c ws hs (others works) (one_less (others works) (is_others works)) one) (unlocked works)
+        locks_set scene inv index exchanging (Some (exchange true head)) (last_given c ws hs (others works) (one_less (others works) (is_others works)) one) (not_locked works)
         (λ busy' e. subst (λ w. Good c w hs busy') (sym new) (shuts c ws hs busy' (one_less busy' (omega arith)) index one))
         refl refl refl (ap borrowed is ∙ locked_number (head_of ws) index) (omega arith) paid
 
     -- it does not: some other index is in use
     leaves_set : words_after ws (Some (exchange true head)) ≡ set ws 0 (head_given_back (head_of ws) index) → counted_in ws ≢ 1 → Does false (Done (State Unlocked))
     leaves_set new more =
-        let is = counts_right c ws hs (busy scene) g (unlocked works) in
+        let is = counts_right c ws hs (busy scene) g (not_locked works) in
         let same = is.0 in
-        let some = (counted works).0 in
+        let some = (some_number works).0 in
         let all = all_in_use scene exchanging here in
         let known = paid in
         ends scene inv started_lock exchanging (State Unlocked) (Some (exchange true head)) false (λ busy' e. good_given (exchange true head) new busy' (omega arith)) told refl (rw inv.holds.tally (omega arith)) (given_open works (exchange true head) new) tt (omega arith) (omega arith)

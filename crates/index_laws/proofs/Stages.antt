@@ -39,7 +39,7 @@ use Rattle.model.specs.Turns.{one_if, old_of, words_after, change_of, step_count
 use Rattle.model.proofs.Turns.{kept_words}
 use Rattle.index_laws.proofs.Core.{head_of, counted_in, holder, one_held, held_below, held_below_set, Good}
 use Rattle.index_laws.proofs.Invariant.{Scene, Inv, Shows, of_any, all_counted, all_taking, all_giving}
-use Rattle.index_laws.proofs.Knows.{counts, takes, gives, flight_wrote, number_of, At, FlightKnows, IsPaid, IsSeen, counts_less}
+use Rattle.index_laws.proofs.Knows.{counts, takes, gives, flight_wrote, number_of, At, FlightKnows, IsPaid, PaidUnless, IsSeen, counts_less}
 use Rattle.index_laws.proofs.Sums.{sum_one, sum_over}
 use Rattle.index_laws.proofs.Totals.{weight_of, weight_at}
 
@@ -156,6 +156,13 @@ module _ {T : Type 0} (scene : Scene T) where
 
   abbrev pub backs_then : Bool → ℕ
   backs_then back = scene.backs + one_if back
+
+  -- what is paid goes on to be so after a step of its own, which counts no change for it
+  pub paid_of : (P : Type 0) → PaidUnless P scene.since scene.changes scene.backs → IsPaid scene.since scene.changes scene.backs
+  paid_of P h = ⊎_elim (λ k. k.1) (λ k. omega arith) h
+
+  pub unless_then : (ask : Option Ask) (P Q : Type 0) → (P → Q) → PaidUnless P scene.since scene.changes scene.backs → PaidUnless Q (since_then ask) (changes_then ask) (backs_then false)
+  unless_then ask P Q follows h = ⊎_elim (λ k. let paid = k.1 in inl (follows k.0, omega arith)) (λ k. inr (omega arith)) h
 
   -- a step after which the call is this, which leaves these holders and writes these events
   abbrev pub Leaves : List (Option ℕ) → List (Event T) → IndexStart → IndexFlight → Option Ask → Bool → After IndexFlight (Answer T) → Type 0

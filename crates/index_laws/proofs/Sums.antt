@@ -7,13 +7,6 @@ sum_below f zero = 0
 sum_below f (suc n) = f n + sum_below f n
 
 module _ (f g : ℕ → ℕ) where
-  pub sum_le : (n : ℕ) → ((i : ℕ) → i < n → f i ≤ g i) → sum_below f n ≤ sum_below g n
-  sum_le zero less = omega arith
-  sum_le (suc n) less =
-      let here = less n (omega arith) in
-      let rest = sum_le n (λ i below. less i (omega arith)) in
-      omega arith
-
   pub sum_same : (n : ℕ) → ((i : ℕ) → i < n → f i ≡ g i) → sum_below f n ≡ sum_below g n
   sum_same zero same = refl
   sum_same (suc n) same =
@@ -40,14 +33,7 @@ module _ (f g : ℕ → ℕ) where
           omega arith
 
 module _ (f : ℕ → ℕ) where
-  -- each counts at most 1
-  pub sum_most : (n : ℕ) → ((i : ℕ) → i < n → f i ≤ 1) → sum_below f n ≤ n
-  sum_most zero one = omega arith
-  sum_most (suc n) one =
-      let here = one n (omega arith) in
-      let rest = sum_most n (λ i below. one i (omega arith)) in
-      omega arith
-
+  -- each counts 1
   pub sum_all : (n : ℕ) → ((i : ℕ) → i < n → f i ≡ 1) → sum_below f n ≡ n
   sum_all zero one = refl
   sum_all (suc n) one =
