@@ -1,9 +1,8 @@
 -- The definitions of the unique index set at worked runs, and at histories that they refuse.
-use Rattle.std.proofs.Common.{◌≡◌, ℕ, ◌+◌, ◌*◌, ◌^◌, true, false, Option, Some, None, List, [], ◌∷◌, length, get_or, refl, ap, arith}
+use Rattle.std.proofs.Common.{◌≡◌, ℕ, ◌+◌, ◌*◌, ◌^◌, true, Option, Some, None, List, [], ◌∷◌, length, get_or, refl, ap, arith}
 use Rattle.steps.specs.declared.indices.enums.ReleaseMode.TheVariants.{LockIfLastIndex, Default}
 use Rattle.steps.specs.declared.indices.enums.ReleaseState as states
 use Rattle.steps.specs.declared.indices.enums.UniqueIndexSetAcquireFailure as failures
-use Rattle.model.specs.declared.event.Answer.{Answer}
 use Rattle.model.specs.declared.event.Answer.TheVariants.{Index, NoIndex, State, Number, Truth}
 use Rattle.model.specs.declared.event.Event.{Event}
 use Rattle.model.specs.declared.event.Event.TheVariants.{Begun, Claimed, Freed, Locked, Finished}
@@ -17,7 +16,7 @@ use Rattle.model.specs.declared.turn.Turn.{Turn}
 use Rattle.model.specs.declared.turn.Turn.TheVariants.{Begin, Next}
 use Rattle.model.specs.Coding.{one_word}
 use Rattle.model.specs.Families.Indices.Promises.{HoldsRight, AnswersRight}
-use Rattle.model.specs.Families.Indices.Reading.{holder_of, tally_of, in_use}
+use Rattle.model.specs.Families.Indices.Reading.{holder_of, tally_of}
 use Rattle.model.specs.Families.Indices.Spans.{Deeds}
 use Rattle.model.specs.Promises.Families.{promise_of}
 use Rattle.model.specs.Promises.Spans.{Stands}
