@@ -69,7 +69,7 @@ fn bits(rt: HostRuntime) -> Result<(), Fail> {
     assert!(rt; !call.call.turns_back(1));
     assert_eq!(rt; whole(&rt, call, &mut words), Some((false, 1)));
     // A position above the capacity is taken as the capacity: the place after it is 0.
-    let mut words = [u64::MAX, 2];
+    let mut words = [5, 2];
     assert_eq!(rt;
         whole(&rt, bare(ResetNext::new(2)), &mut words),
         Some((Some(1), 5))
