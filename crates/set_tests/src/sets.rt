@@ -192,6 +192,34 @@ fn sets_alone(rt: HostRuntime) -> Result<(), Fail> {
     Ok(())
 }
 
+/// Where each element is full, its first and its last place are handed out too.
+#[test]
+fn sets_of_whole_words(rt: HostRuntime) -> Result<(), Fail> {
+    let (set, pass) = BitSet::new(rt.alloc(), 128)?;
+    let mut user = BitUser::new(&set, pass);
+    for place in [127, 0, 64, 63] {
+        assert!(rt; user.sets(&rt, place), "{place}");
+    }
+    assert_eq!(rt; user.empties(), (4, 63064127));
+    assert!(rt; user.does(&rt, Call::Set(127, true)));
+    assert!(rt; user.does(&rt, Call::Set(0, true)));
+    for place in [Some(0), Some(127), None] {
+        assert!(rt; user.does(&rt, Call::Next(place)));
+    }
+    let (set, pass) = BitSet::new(rt.alloc(), 64)?;
+    let mut user = BitUser::new(&set, pass);
+    assert!(rt; user.does(&rt, Call::Set(63, true)));
+    assert_eq!(rt; user.empties(), (1, 63));
+    let (set, pass) = CountingBitSet::new(rt.alloc(), 2)?;
+    let mut user = CountUser::new(&set, pass);
+    for (place, count) in [(1, 0), (0, 0), (1, 1)] {
+        assert_eq!(rt; user.counts(place), Some(count));
+    }
+    assert_eq!(rt; user.empties(), (3, 1));
+    assert_eq!(rt; user.counts(0), Some(0));
+    Ok(())
+}
+
 #[test]
 fn sets_of_no_place(rt: HostRuntime) -> Result<(), Fail> {
     let (set, pass) = BitSet::new(rt.alloc(), 0)?;

@@ -256,6 +256,19 @@ fn a_set_of_130(rt: HostRuntime) -> Result<(), Fail> {
     Ok(())
 }
 
+/// Each acquire takes four steps. Were an index proposed that is held, it would scan the flags: in all as many steps as
+/// no test has time for.
+#[test]
+fn a_set_of_a_million(rt: HostRuntime) -> Result<(), Fail> {
+    let (set, pass) = UniqueIndexSet::new(rt.alloc(), 1_000_000)?;
+    let mut user = User { set: &set, pass };
+    for index in 0..1_000_000 {
+        assert!(rt; user.takes(&rt, index));
+    }
+    assert!(rt; user.finds_none(&rt, 1_000_000));
+    Ok(())
+}
+
 /// Whether two users, each in a thread, are alone with what they have.
 fn two_turn<R: Wait + Threads + Sync>(
     rt: &R,

@@ -68,6 +68,13 @@ fn bits(rt: HostRuntime) -> Result<(), Fail> {
     assert!(rt; call.call.turns_back(3));
     assert!(rt; !call.call.turns_back(1));
     assert_eq!(rt; whole(&rt, call, &mut words), Some((false, 1)));
+    // A position above the capacity is taken as the capacity: the place after it is 0.
+    let mut words = [5, 2];
+    assert_eq!(rt;
+        whole(&rt, bare(ResetNext::new(2)), &mut words),
+        Some((Some(1), 5))
+    );
+    assert_eq!(rt; words, [2, 0]);
     let mut none = [7];
     assert_eq!(rt;
         whole(&rt, bare(ResetNext::new(0)), &mut none),

@@ -141,6 +141,44 @@ fn a_set_of_three(rt: HostRuntime) {
     assert_eq!(rt; words[4], 0b101);
 }
 
+fn head(head: u32, aba: u16, borrowed_indices: u32) -> HeadDetails {
+    HeadDetails {
+        head,
+        aba,
+        borrowed_indices,
+    }
+}
+
+/// Each exchange of the head counts up its aba, which wraps alone; a subtraction leaves it.
+#[test]
+fn heads_that_are_exchanged(rt: HostRuntime) -> Result<(), Fail> {
+    let mut words = [head(0, 65534, 0).value(), 1, 2, 0];
+    for (index, left) in [(0, head(1, 65535, 1)), (1, head(2, 0, 2))] {
+        let acquire = bare(Acquire::new(2));
+        assert_eq!(rt; whole(&rt, acquire, &mut words), Some((Ok(index), 4)));
+        assert_eq!(rt; HeadDetails::from(words[HEAD]), left);
+    }
+    let release = giving_back::<DefaultMode>(2, 0);
+    let unlocked = Some((ReleaseState::Unlocked, 4));
+    assert_eq!(rt; whole(&rt, release, &mut words), unlocked);
+    assert_eq!(rt; HeadDetails::from(words[HEAD]), head(0, 1, 1));
+    assert_eq!(rt; words[1], 2);
+    let release = giving_back::<DefaultMode>(2, 1);
+    let release = partly(&rt, release, 3, &mut words).ok_or("it ended")?;
+    words[HEAD] = head(0, 65535, 2).value();
+    let subtracted = Some((ReleaseState::Unlocked, 2));
+    assert_eq!(rt; whole(&rt, release, &mut words), subtracted);
+    assert_eq!(rt; HeadDetails::from(words[HEAD]), head(0, 65535, 1));
+    let release = giving_back::<LockMode>(2, 0);
+    let locked = Some((ReleaseState::Locked, 4));
+    assert_eq!(rt; whole(&rt, release, &mut words), locked);
+    assert_eq!(rt;
+        HeadDetails::from(words[HEAD]),
+        head(0, 0, LOCK_ACQUIRE)
+    );
+    Ok(())
+}
+
 #[test]
 fn calls_that_meet(rt: HostRuntime) -> Result<(), Fail> {
     // A release in mode Default whose exchange fails subtracts: 5 steps, and the index is found by a scan.
