@@ -172,10 +172,7 @@ fn heads_that_are_exchanged(rt: HostRuntime) -> Result<(), Fail> {
     let release = giving_back::<LockMode>(2, 0);
     let locked = Some((ReleaseState::Locked, 4));
     assert_eq!(rt; whole(&rt, release, &mut words), locked);
-    assert_eq!(rt;
-        HeadDetails::from(words[HEAD]),
-        head(0, 0, LOCK_ACQUIRE)
-    );
+    assert_eq!(rt; HeadDetails::from(words[HEAD]), head(0, 0, LOCK_ACQUIRE));
     Ok(())
 }
 
