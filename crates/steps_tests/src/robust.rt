@@ -16,7 +16,9 @@ use steps::indices::robust::release::{GiveBack, Release};
 use steps::routine::{Routine, Running};
 
 const OUT: UniqueIndexSetAcquireFailure = UniqueIndexSetAcquireFailure::OutOfIndices;
+
 const SHUT: UniqueIndexSetAcquireFailure = UniqueIndexSetAcquireFailure::IsLocked;
+
 const FOREIGN: RobustUniqueIndexSetReleaseError =
     RobustUniqueIndexSetReleaseError::IndexIsNotOwnedByProvidedOwner;
 
@@ -134,23 +136,50 @@ fn a_set_of_three(rt: HostRuntime) -> Result<(), Fail> {
     assert_eq!(rt; words, [1, 313, EMPTY, EMPTY]);
     assert_eq!(rt; whole(&rt, acquire(3, other), &mut words), Some((Ok(1), 5)));
     assert_eq!(rt; whole(&rt, acquire(3, owner), &mut words), Some((Ok(2), 6)));
-    assert_eq!(rt; whole(&rt, acquire(3, owner), &mut words), Some((Err(OUT), 5)));
+    assert_eq!(rt;
+        whole(&rt, acquire(3, owner), &mut words),
+        Some((Err(OUT), 5))
+    );
     assert_eq!(rt; words, [3, 313, 7, 313]);
-    assert_eq!(rt; whole(&rt, bare(BorrowedIndices::new(3)), &mut words), Some((3, 5)));
+    assert_eq!(rt;
+        whole(&rt, bare(BorrowedIndices::new(3)), &mut words),
+        Some((3, 5))
+    );
     assert_eq!(rt; words[COUNTER], 4);
-    assert_eq!(rt; (finds(&rt, 3, owner, &mut words), finds(&rt, 3, other, &mut words)), (2, 1));
+    assert_eq!(rt;
+        (
+            finds(&rt, 3, owner, &mut words),
+            finds(&rt, 3, other, &mut words)
+        ),
+        (2, 1)
+    );
     let middle = release(3, 1, other, ReleaseMode::LockIfLastIndex);
-    assert_eq!(rt; whole(&rt, middle, &mut words), Some((Ok(ReleaseState::Unlocked), 8)));
+    assert_eq!(rt;
+        whole(&rt, middle, &mut words),
+        Some((Ok(ReleaseState::Unlocked), 8))
+    );
     let twice = release(3, 1, other, ReleaseMode::Default);
     assert_eq!(rt; whole(&rt, twice, &mut words), Some((Err(FOREIGN), 1)));
     let last = release(3, 2, owner, ReleaseMode::Default);
-    assert_eq!(rt; whole(&rt, last, &mut words), Some((Ok(ReleaseState::Unlocked), 3)));
+    assert_eq!(rt;
+        whole(&rt, last, &mut words),
+        Some((Ok(ReleaseState::Unlocked), 3))
+    );
     assert_eq!(rt; whole(&rt, bare(IsLocked), &mut words), Some((false, 1)));
     let first = release(3, 0, owner, ReleaseMode::LockIfLastIndex);
-    assert_eq!(rt; whole(&rt, first, &mut words), Some((Ok(ReleaseState::Locked), 9)));
+    assert_eq!(rt;
+        whole(&rt, first, &mut words),
+        Some((Ok(ReleaseState::Locked), 9))
+    );
     assert_eq!(rt; words, [LOCKED, EMPTY, EMPTY, EMPTY]);
-    assert_eq!(rt; whole(&rt, acquire(3, owner), &mut words), Some((Err(SHUT), 1)));
-    assert_eq!(rt; whole(&rt, bare(BorrowedIndices::new(3)), &mut words), Some((0, 1)));
+    assert_eq!(rt;
+        whole(&rt, acquire(3, owner), &mut words),
+        Some((Err(SHUT), 1))
+    );
+    assert_eq!(rt;
+        whole(&rt, bare(BorrowedIndices::new(3)), &mut words),
+        Some((0, 1))
+    );
     assert_eq!(rt; whole(&rt, bare(IsLocked), &mut words), Some((true, 1)));
     Ok(())
 }
@@ -166,18 +195,30 @@ fn an_acquire_meets_the_lock_late(rt: HostRuntime) -> Result<(), Fail> {
     let locking = partly(&rt, locking, 5, &mut words).ok_or("it ended")?;
     let filling = partly(&rt, acquire(1, late), 2, &mut words).ok_or("it ended")?;
     assert_eq!(rt; words, [2, 7]);
-    assert_eq!(rt; whole(&rt, locking, &mut words), Some((Ok(ReleaseState::Locked), 2)));
+    assert_eq!(rt;
+        whole(&rt, locking, &mut words),
+        Some((Ok(ReleaseState::Locked), 2))
+    );
     assert_eq!(rt; whole(&rt, filling, &mut words), Some((Err(SHUT), 1)));
     assert_eq!(rt; words, [LOCKED, 7]);
     assert_eq!(rt; finds(&rt, 1, late, &mut words), 1);
-    assert_eq!(rt; whole(&rt, bare(BorrowedIndices::new(1)), &mut words), Some((0, 1)));
+    assert_eq!(rt;
+        whole(&rt, bare(BorrowedIndices::new(1)), &mut words),
+        Some((0, 1))
+    );
     // A release there empties the cell all the same, and its mode says which answer it gives.
     let freeing = release(1, 0, late, ReleaseMode::Default);
-    assert_eq!(rt; whole(&rt, freeing, &mut words), Some((Ok(ReleaseState::Unlocked), 2)));
+    assert_eq!(rt;
+        whole(&rt, freeing, &mut words),
+        Some((Ok(ReleaseState::Unlocked), 2))
+    );
     assert_eq!(rt; words, [LOCKED, EMPTY]);
     words = [LOCKED, 7];
     let freeing = release(1, 0, late, ReleaseMode::LockIfLastIndex);
-    assert_eq!(rt; whole(&rt, freeing, &mut words), Some((Ok(ReleaseState::Locked), 3)));
+    assert_eq!(rt;
+        whole(&rt, freeing, &mut words),
+        Some((Ok(ReleaseState::Locked), 3))
+    );
     Ok(())
 }
 
@@ -214,7 +255,10 @@ fn a_recovery(rt: HostRuntime) -> Result<(), Fail> {
     assert_eq!(rt; goes_on(&mut call, 9, &mut words), Came::AskedOf(dead, 2));
     assert_eq!(rt; call.go_on(1), None);
     assert_eq!(rt; call.call.frees(1), Some((dead, 2)));
-    assert_eq!(rt; goes_on(&mut call, 9, &mut words), Came::Ended(ReleaseState::Unlocked));
+    assert_eq!(rt;
+        goes_on(&mut call, 9, &mut words),
+        Came::Ended(ReleaseState::Unlocked)
+    );
     assert_eq!(rt; words, [5, EMPTY, 1, EMPTY]);
     assert_eq!(rt; finds(&rt, 3, dead, &mut words), 1);
     Ok(())
@@ -230,18 +274,27 @@ fn a_recovery_that_locks(rt: HostRuntime) -> Result<(), Fail> {
     // It goes on after its own lock, and the last load tells.
     assert_eq!(rt; goes_on(&mut call, 10, &mut words), Came::Goes);
     assert_eq!(rt; words[COUNTER], LOCKED);
-    assert_eq!(rt; goes_on(&mut call, 1, &mut words), Came::Ended(ReleaseState::Locked));
+    assert_eq!(rt;
+        goes_on(&mut call, 1, &mut words),
+        Came::Ended(ReleaseState::Locked)
+    );
     // It comes to no index of a locked set.
     words = [LOCKED, 7, 7, 7];
     let mut call = recover(3, ReleaseMode::Default);
-    assert_eq!(rt; goes_on(&mut call, 1, &mut words), Came::Ended(ReleaseState::Locked));
+    assert_eq!(rt;
+        goes_on(&mut call, 1, &mut words),
+        Came::Ended(ReleaseState::Locked)
+    );
     // One that meets the lock as it raises ends there, and asks no more.
     words = [3, 1, 1, 1];
     let mut call = recover(3, ReleaseMode::Default);
     assert_eq!(rt; goes_on(&mut call, 9, &mut words), Came::AskedOf(dead, 0));
     assert_eq!(rt; call.go_on(1), None);
     words[COUNTER] = LOCKED;
-    assert_eq!(rt; goes_on(&mut call, 2, &mut words), Came::Ended(ReleaseState::Locked));
+    assert_eq!(rt;
+        goes_on(&mut call, 2, &mut words),
+        Came::Ended(ReleaseState::Locked)
+    );
     // Where the index has another owner by then, it stays.
     words = [3, 1, EMPTY, EMPTY];
     let mut call = recover(3, ReleaseMode::LockIfLastIndex);
@@ -249,7 +302,10 @@ fn a_recovery_that_locks(rt: HostRuntime) -> Result<(), Fail> {
     assert_eq!(rt; call.go_on(1), None);
     words[cell_word(0)] = 2;
     assert_eq!(rt; call.call.frees(2), None);
-    assert_eq!(rt; goes_on(&mut call, 9, &mut words), Came::Ended(ReleaseState::Unlocked));
+    assert_eq!(rt;
+        goes_on(&mut call, 9, &mut words),
+        Came::Ended(ReleaseState::Unlocked)
+    );
     assert_eq!(rt; words, [3, 2, EMPTY, EMPTY]);
     Ok(())
 }
@@ -260,13 +316,25 @@ fn the_end_of_the_counter(rt: HostRuntime) -> Result<(), Fail> {
     let lock = ReleaseMode::LockIfLastIndex;
     let unlocked = Ok(ReleaseState::Unlocked);
     let mut words = [GREATEST, EMPTY, EMPTY];
-    assert_eq!(rt; whole(&rt, acquire(2, owner), &mut words), Some((Err(OUT), 1)));
-    assert_eq!(rt; whole(&rt, bare(BorrowedIndices::new(2)), &mut words), Some((0, 3)));
+    assert_eq!(rt;
+        whole(&rt, acquire(2, owner), &mut words),
+        Some((Err(OUT), 1))
+    );
+    assert_eq!(rt;
+        whole(&rt, bare(BorrowedIndices::new(2)), &mut words),
+        Some((0, 3))
+    );
     assert_eq!(rt; whole(&rt, bare(IsLocked), &mut words), Some((false, 1)));
     words = [GREATEST - 1, EMPTY, EMPTY];
     assert_eq!(rt; whole(&rt, acquire(2, owner), &mut words), Some((Ok(0), 4)));
-    assert_eq!(rt; whole(&rt, acquire(2, owner), &mut words), Some((Err(OUT), 1)));
-    assert_eq!(rt; whole(&rt, bare(BorrowedIndices::new(2)), &mut words), Some((1, 3)));
+    assert_eq!(rt;
+        whole(&rt, acquire(2, owner), &mut words),
+        Some((Err(OUT), 1))
+    );
+    assert_eq!(rt;
+        whole(&rt, bare(BorrowedIndices::new(2)), &mut words),
+        Some((1, 3))
+    );
     let giving = release(2, 0, owner, lock);
     assert_eq!(rt; whole(&rt, giving, &mut words), Some((unlocked, 5)));
     assert_eq!(rt; whole(&rt, bare(IsLocked), &mut words), Some((false, 1)));
@@ -278,7 +346,10 @@ fn the_end_of_the_counter(rt: HostRuntime) -> Result<(), Fail> {
     assert_eq!(rt; words, [GREATEST, EMPTY, EMPTY]);
     words = [GREATEST - 3, 1, EMPTY];
     let giving = release(2, 0, owner, lock);
-    assert_eq!(rt; whole(&rt, giving, &mut words), Some((Ok(ReleaseState::Locked), 8)));
+    assert_eq!(rt;
+        whole(&rt, giving, &mut words),
+        Some((Ok(ReleaseState::Locked), 8))
+    );
     // A recovery goes on at the end of the counter.
     words = [GREATEST, 1, 1];
     let mut call = recover(2, lock);
@@ -287,7 +358,10 @@ fn the_end_of_the_counter(rt: HostRuntime) -> Result<(), Fail> {
     assert_eq!(rt; goes_on(&mut call, 9, &mut words), Came::AskedOf(owner, 1));
     assert_eq!(rt; words, [GREATEST, EMPTY, 1]);
     assert_eq!(rt; call.go_on(0), None);
-    assert_eq!(rt; goes_on(&mut call, 9, &mut words), Came::Ended(ReleaseState::Unlocked));
+    assert_eq!(rt;
+        goes_on(&mut call, 9, &mut words),
+        Came::Ended(ReleaseState::Unlocked)
+    );
     Ok(())
 }
 
@@ -299,7 +373,10 @@ fn calls_that_meet(rt: HostRuntime) -> Result<(), Fail> {
     let mut words = [5, 2, 2];
     let call = partly(&rt, acquire(2, owner), 3, &mut words).ok_or("it ended")?;
     let giving = release(2, 1, other, ReleaseMode::Default);
-    assert_eq!(rt; whole(&rt, giving, &mut words), Some((Ok(ReleaseState::Unlocked), 3)));
+    assert_eq!(rt;
+        whole(&rt, giving, &mut words),
+        Some((Ok(ReleaseState::Unlocked), 3))
+    );
     assert!(rt; call.call.goes_back(words[COUNTER]));
     assert!(rt; !call.call.goes_back(5));
     assert_eq!(rt; whole(&rt, call, &mut words), Some((Ok(1), 5)));
@@ -314,7 +391,10 @@ fn calls_that_meet(rt: HostRuntime) -> Result<(), Fail> {
     // A count begins again.
     let call = partly(&rt, bare(BorrowedIndices::new(2)), 3, &mut words).ok_or("it ended")?;
     let giving = release(2, 0, owner, ReleaseMode::Default);
-    assert_eq!(rt; whole(&rt, giving, &mut words), Some((Ok(ReleaseState::Unlocked), 3)));
+    assert_eq!(rt;
+        whole(&rt, giving, &mut words),
+        Some((Ok(ReleaseState::Unlocked), 3))
+    );
     assert!(rt; call.call.goes_back(words[COUNTER]));
     assert_eq!(rt; whole(&rt, call, &mut words), Some((1, 5)));
     // A lock whose exchange fails counts again, and finds the index that was taken meanwhile.
@@ -323,7 +403,10 @@ fn calls_that_meet(rt: HostRuntime) -> Result<(), Fail> {
     let call = partly(&rt, call, 7, &mut words).ok_or("it ended")?;
     assert_eq!(rt; whole(&rt, acquire(2, other), &mut words), Some((Ok(0), 4)));
     assert!(rt; call.call.goes_back(words[COUNTER]));
-    assert_eq!(rt; whole(&rt, call, &mut words), Some((Ok(ReleaseState::Unlocked), 5)));
+    assert_eq!(rt;
+        whole(&rt, call, &mut words),
+        Some((Ok(ReleaseState::Unlocked), 5))
+    );
     assert_eq!(rt; words[cell_word(0)], 2);
     Ok(())
 }

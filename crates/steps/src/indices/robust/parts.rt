@@ -43,8 +43,15 @@ pub enum Raise {
 #[derive(Debug, Clone, Copy)]
 pub enum Count {
     LoadsCounter,
-    LoadsCell { counter: u64, index: u32, filled: usize },
-    ExchangesCounter { counter: u64, filled: usize },
+    LoadsCell {
+        counter: u64,
+        index: u32,
+        filled: usize,
+    },
+    ExchangesCounter {
+        counter: u64,
+        filled: usize,
+    },
 }
 
 /// How a count ends.

@@ -127,7 +127,9 @@ impl Routine for Recover {
 
     #[inline(always)]
     fn ask(self, _given: &ReleaseMode) -> Want<()> {
-        let (word, op) = match self.stage {
+        // A match on the field itself is more than the prover takes today, since a stage holds an owner.
+        let now = self.stage;
+        let (word, op) = match now {
             RecoverStage::LoadsCounter => (COUNTER, Op::Load),
             RecoverStage::LoadsCell { index } => (cell_word(index), Op::Load),
             RecoverStage::Asks { index, owner } => {
@@ -150,7 +152,8 @@ impl Routine for Recover {
         _room: &mut (),
         answer: u64,
     ) -> After<Recover, ReleaseState> {
-        let stage = match self.stage {
+        let now = self.stage;
+        let stage = match now {
             RecoverStage::LoadsCounter => {
                 if answer == LOCKED {
                     return After::Done(ReleaseState::Locked);

@@ -110,9 +110,9 @@ impl Routine for Release {
         let stage = match self.stage {
             ReleaseStage::EmptiesCell => {
                 if answer != given.owner.value() {
-                    return After::Done(
-                        Err(RobustUniqueIndexSetReleaseError::IndexIsNotOwnedByProvidedOwner),
-                    );
+                    return After::Done(Err(
+                        RobustUniqueIndexSetReleaseError::IndexIsNotOwnedByProvidedOwner,
+                    ));
                 }
                 ReleaseStage::Raises {
                     raise: Raise::LoadsCounter,
