@@ -68,6 +68,15 @@ enum Came<A> {
     Goes,
 }
 
+/// A call that asks this.
+fn asks<A: Drop>(question: Question<()>) -> Came<A> {
+    match question {
+        Question::Index(index) => Came::Asked(index),
+        Question::Owned(owner, index) => Came::AskedOf(owner, index),
+        Question::Value(index, ()) => Came::Asked(index),
+    }
+}
+
 /// Takes at most so many steps of the call, up to its end or a question.
 fn goes_on<C: Routine>(
     call: &mut Running<C, C::Given, C::Room>,
@@ -88,9 +97,7 @@ where
                     0
                 }
             }
-            Want::Question(Question::Index(index)) => return Came::Asked(index),
-            Want::Question(Question::Owned(owner, index)) => return Came::AskedOf(owner, index),
-            Want::Question(Question::Value(index, ())) => return Came::Asked(index),
+            Want::Question(question) => return asks(question),
             Want::Nothing => 0,
         };
         if let Some(answer) = call.go_on(answer) {
