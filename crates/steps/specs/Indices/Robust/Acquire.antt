@@ -23,7 +23,8 @@ first_acquire capacity =
 abbrev pub at_acquire : Acquire → acquires.AcquireStage → Acquire
 at_acquire call stage = record call { stage = stage }
 
--- load the counter; exchange the cells from empty to the owner; exchange the counter for itself; raise
+-- load the counter; exchange the cells from empty to the owner;
+-- exchange the counter for itself; raise
 abbrev pub acquire_asks : acquires.AcquireStage → ℕ → Want (Unit {0})
 acquire_asks acquires.TheVariants.LoadsCounter owner = load 0
 acquire_asks (acquires.TheVariants.FillsCell counter index) owner =

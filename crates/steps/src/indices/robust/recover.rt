@@ -10,7 +10,7 @@ use crate::routine::Routine;
 
 /// Frees the indices that it is told to free, in the mode that it is given: `Locked` where the set is locked, else
 /// `Unlocked`. At most 2 steps more than 4 times the capacity in mode `Default`; in mode `LockIfLastIndex` for each index
-/// as many more as the capacity and 3.
+/// as many more as the capacity and 3. Each turn back takes at most 1 more, or as many as the capacity and 3.
 ///
 /// It loads the counter. Where that says locked: `Locked`, and it comes to no index. Then for each index ascending: it
 /// loads the cell, and passes over an empty one. It asks about the owner found and the index; after a yes it exchanges
