@@ -1,3 +1,4 @@
 pub mod Head
+pub mod Robust
 pub mod Unique
 pub mod UniqueLaws

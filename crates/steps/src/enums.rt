@@ -79,3 +79,11 @@ impl OwnerId {
         self.number
     }
 }
+
+/// Whether a call that comes to several indices goes on to the next one. After the Rust crate's
+/// `CallbackProgression`.
+#[derive(Debug, Clone, Copy, PartialEq, Eq)]
+pub enum CallbackProgression {
+    Continue,
+    Stop,
+}

@@ -3,4 +3,5 @@ pub mod enums;
 pub mod head;
 pub mod layout;
 pub mod looks;
+pub mod robust;
 pub mod unique;

@@ -15,6 +15,8 @@ mod overflow;
 #[cfg(test)]
 mod queues;
 #[cfg(test)]
+mod robust;
+#[cfg(test)]
 mod rows;
 #[cfg(test)]
 mod small;

@@ -38,3 +38,10 @@ pub enum UniqueIndexSetAcquireFailure {
     #[error("the set is locked")]
     IsLocked,
 }
+
+/// Why a robust set has not taken an index back.
+#[derive(Debug, Clone, Copy, PartialEq, Eq, Error)]
+pub enum RobustUniqueIndexSetReleaseError {
+    #[error("the index is not that of the given owner")]
+    IndexIsNotOwnedByProvidedOwner,
+}

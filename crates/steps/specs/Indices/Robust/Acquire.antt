@@ -1,0 +1,82 @@
+-- The acquire of a robust set of indices, one step after another.
+use Rattle.std.specs.Prelude.{ℕ, ◌+◌, ◌==◌, Bool, false, not, Result, Ok, Err, if◌then◌else◌, nat_lt}
+use Rattle.steps.specs.Queues.Ring.{load}
+use Rattle.steps.specs.Indices.Robust.Parts.{cell_word, empty, locked, greatest, exchange, raise_want, raise_after, raise_goes_back}
+use Rattle.steps.specs.declared.ask.Want.{Want}
+use Rattle.steps.specs.declared.ask.After.{After}
+use Rattle.steps.specs.declared.ask.After.TheVariants.{GoOn, Done}
+use Rattle.steps.specs.declared.indices.enums.ReleaseState.{ReleaseState}
+use Rattle.steps.specs.declared.indices.enums.ReleaseState.TheVariants.{Locked, Unlocked}
+use Rattle.steps.specs.declared.indices.enums.UniqueIndexSetAcquireFailure.{UniqueIndexSetAcquireFailure}
+use Rattle.steps.specs.declared.indices.enums.UniqueIndexSetAcquireFailure.TheVariants as failures
+use Rattle.steps.specs.declared.indices.robust.parts.Raise as raises
+use Rattle.steps.specs.declared.indices.robust.acquire.Acquire.{Acquire}
+use Rattle.steps.specs.declared.indices.robust.acquire.AcquireStage as acquires
+
+abbrev pub Acquired : Type 0
+Acquired = Result ℕ UniqueIndexSetAcquireFailure
+
+abbrev pub first_acquire : ℕ → Acquire
+first_acquire capacity =
+    record { capacity = capacity; stage = acquires.TheVariants.LoadsCounter }
+
+abbrev pub at_acquire : Acquire → acquires.AcquireStage → Acquire
+at_acquire call stage = record call { stage = stage }
+
+-- load the counter; exchange the cells from empty to the owner;
+-- exchange the counter for itself; raise
+abbrev pub acquire_asks : acquires.AcquireStage → ℕ → Want (Unit {0})
+acquire_asks acquires.TheVariants.LoadsCounter owner = load 0
+acquire_asks (acquires.TheVariants.FillsCell counter index) owner =
+    exchange (cell_word index) empty owner
+acquire_asks (acquires.TheVariants.ChecksCounter counter) owner = exchange 0 counter counter
+acquire_asks (acquires.TheVariants.Raises index raise) owner = raise_want raise
+
+abbrev pub acquire_want : Acquire → ℕ → Want (Unit {0})
+acquire_want call owner = acquire_asks call.stage owner
+
+-- the next cell; after the last one the counter is checked
+abbrev pub acquire_tries : Acquire → ℕ → ℕ → After Acquire Acquired
+acquire_tries call counter index =
+    GoOn
+    (at_acquire call
+    (if nat_lt index call.capacity
+    then acquires.TheVariants.FillsCell counter index
+    else acquires.TheVariants.ChecksCounter counter))
+
+-- what a counter says
+abbrev pub acquire_sees : Acquire → ℕ → After Acquire Acquired
+acquire_sees call counter =
+    if counter == locked
+    then Done (Err failures.IsLocked)
+    else if counter == greatest
+    then Done (Err failures.OutOfIndices)
+    else acquire_tries call counter 0
+
+-- it answers the index, unless the set is locked by now
+abbrev pub acquire_raised : Acquire → ℕ → After raises.Raise ReleaseState → After Acquire Acquired
+acquire_raised call index (GoOn raise) =
+    GoOn (at_acquire call (acquires.TheVariants.Raises index raise))
+acquire_raised call index (Done Locked) = Done (Err failures.IsLocked)
+acquire_raised call index (Done Unlocked) = Done (Ok index)
+
+abbrev pub acquire_takes : Acquire → acquires.AcquireStage → ℕ → After Acquire Acquired
+acquire_takes call acquires.TheVariants.LoadsCounter old = acquire_sees call old
+acquire_takes call (acquires.TheVariants.FillsCell counter index) old =
+    if old == empty
+    then GoOn (at_acquire call (acquires.TheVariants.Raises index raises.TheVariants.LoadsCounter))
+    else acquire_tries call counter (index + 1)
+acquire_takes call (acquires.TheVariants.ChecksCounter counter) old =
+    if old == counter then Done (Err failures.OutOfIndices) else acquire_sees call old
+acquire_takes call (acquires.TheVariants.Raises index raise) old =
+    acquire_raised call index (raise_after raise old)
+
+abbrev pub acquire_after : Acquire → ℕ → After Acquire Acquired
+acquire_after call old = acquire_takes call call.stage old
+
+-- the counter has moved
+abbrev pub acquire_goes_back : acquires.AcquireStage → ℕ → Bool
+acquire_goes_back acquires.TheVariants.LoadsCounter old = false
+acquire_goes_back (acquires.TheVariants.FillsCell counter index) old = false
+acquire_goes_back (acquires.TheVariants.ChecksCounter counter) old = not (old == counter)
+acquire_goes_back (acquires.TheVariants.Raises index raise) old = raise_goes_back raise old

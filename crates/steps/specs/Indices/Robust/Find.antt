@@ -1,0 +1,50 @@
+-- The find of a robust set of indices, one step after another.
+use Rattle.std.specs.Prelude.{ℕ, ◌+◌, ◌-◌, ◌*◌, ◌==◌, if◌then◌else◌, nat_lt}
+use Rattle.steps.specs.Queues.Ring.{load}
+use Rattle.steps.specs.Indices.Robust.Parts.{cell_word, one_more}
+use Rattle.steps.specs.declared.ask.Question as questions
+use Rattle.steps.specs.declared.ask.Want.{Want}
+use Rattle.steps.specs.declared.ask.Want as wants
+use Rattle.steps.specs.declared.ask.After.{After}
+use Rattle.steps.specs.declared.ask.After.TheVariants.{GoOn, Done}
+use Rattle.steps.specs.declared.indices.robust.find.Find.{Find}
+use Rattle.steps.specs.declared.indices.robust.find.FindStage as finds
+
+abbrev pub at_find : Find → finds.FindStage → Find
+at_find call stage = record call { stage = stage }
+
+abbrev pub first_find : ℕ → Find
+first_find capacity = record { capacity = capacity; stage = finds.TheVariants.LoadsCell 0 0 }
+
+-- load the cells; ask about the index
+abbrev pub find_asks : finds.FindStage → Want (Unit {0})
+find_asks (finds.TheVariants.LoadsCell index found) = load (cell_word index)
+find_asks (finds.TheVariants.Asks index found) =
+    wants.TheVariants.Question (questions.TheVariants.Index index)
+
+abbrev pub find_want : Find → Want (Unit {0})
+find_want call = find_asks call.stage
+
+-- the next cell, if there is one
+abbrev pub find_comes_to : Find → ℕ → ℕ → After Find ℕ
+find_comes_to call index found =
+    if nat_lt index call.capacity
+    then GoOn (at_find call (finds.TheVariants.LoadsCell index found))
+    else Done found
+
+-- each index of the owner counts, also that on which it is told to stop
+abbrev pub find_takes : Find → finds.FindStage → ℕ → ℕ → After Find ℕ
+find_takes call (finds.TheVariants.LoadsCell index found) owner old =
+    if old == owner
+    then GoOn (at_find call (finds.TheVariants.Asks index (one_more found)))
+    else find_comes_to call (index + 1) found
+find_takes call (finds.TheVariants.Asks index found) owner old =
+    if old == 0 then Done found else find_comes_to call (index + 1) found
+
+abbrev pub find_after : Find → ℕ → ℕ → After Find ℕ
+find_after call owner old = find_takes call call.stage owner old
+
+-- it goes down at each step
+abbrev pub find_left : ℕ → finds.FindStage → ℕ
+find_left capacity (finds.TheVariants.LoadsCell index found) = 2 * (capacity - index) + 1
+find_left capacity (finds.TheVariants.Asks index found) = 2 * (capacity - index)

@@ -1,0 +1,219 @@
+//! The call that frees the indices of dead owners.
+ghost use Rattle.std.specs.Prelude.{◌≡◌};
+ghost use Rattle.steps.specs.Indices.Robust.Recover.{first_recover, recover_comes_to, recover_want, recover_after, recover_goes_back, recover_frees};
+
+use crate::ask::{After, Ask, Op, Question, Want};
+use crate::enums::OwnerId;
+use crate::indices::enums::{ReleaseMode, ReleaseState};
+use crate::indices::robust::parts::{COUNTER, EMPTY, LOCKED, Lock, Raise, cell_word};
+use crate::routine::Routine;
+
+/// Frees the indices that it is told to free, in the mode that it is given: `Locked` where the set is locked, else
+/// `Unlocked`. At most 2 steps more than 4 times the capacity in mode `Default`; in mode `LockIfLastIndex` for each index
+/// as many more as the capacity and 3. Each turn back takes at most 1 more, or as many as the capacity and 3.
+///
+/// It loads the counter. Where that says locked: `Locked`, and it comes to no index. Then for each index ascending: it
+/// loads the cell, and passes over an empty one. It asks about the owner found and the index; after a yes it exchanges
+/// the cell from that owner to empty. After a success it raises the counter, and where the set is locked it ends there
+/// with `Locked`; in mode `LockIfLastIndex` it locks the set where no cell has an owner, and goes on whatever that
+/// answers. At the end it loads the counter, which says `Locked` or `Unlocked`. That an owner whose index it frees is
+/// dead is the concern of whoever answers. After `recover` of the Rust crate's `RobustUniqueIndexSet`.
+#[derive(Debug, Clone, Copy)]
+pub struct Recover {
+    pub capacity: u32,
+    pub stage: RecoverStage,
+}
+
+/// What a recovery does next, the index that it has come to, and the owner that it has found there.
+#[derive(Debug, Clone, Copy)]
+pub enum RecoverStage {
+    LoadsCounter,
+    LoadsCell { index: u32 },
+    Asks { index: u32, owner: OwnerId },
+    EmptiesCell { index: u32, owner: OwnerId },
+    Raises { index: u32, raise: Raise },
+    Locks { index: u32, lock: Lock },
+    LoadsCounterAgain,
+}
+
+impl Recover {
+    /// A recovery that has taken no step.
+    #[inline(always)]
+    pub fn new(capacity: u32) -> Recover
+        ensures { result ≡ first_recover capacity }
+    {
+        Recover {
+            capacity,
+            stage: RecoverStage::LoadsCounter,
+        }
+    }
+
+    /// Goes on to this index, if there is one, or to the end.
+    #[inline(always)]
+    fn comes_to(self, index: u64) -> After<Recover, ReleaseState>
+        ensures { result ≡ recover_comes_to self index }
+    {
+        let stage = if index < self.capacity as u64 {
+            RecoverStage::LoadsCell {
+                index: index as u32,
+            }
+        } else {
+            RecoverStage::LoadsCounterAgain
+        };
+        After::GoOn(Recover {
+            capacity: self.capacity,
+            stage,
+        })
+    }
+
+    /// The owner and the index that it has freed where it is handed this answer.
+    #[inline(always)]
+    pub fn frees(&self, answer: u64) -> Option<(OwnerId, u32)>
+        ensures { result ≡ recover_frees self.now.stage answer }
+    {
+        match self.stage {
+            RecoverStage::EmptiesCell { index, owner } => {
+                if answer == owner.value() {
+                    Some((owner, index))
+                } else {
+                    None
+                }
+            }
+            _ => None,
+        }
+    }
+
+    /// Whether the call goes back in its raise or its lock once it is handed this answer, since the counter has moved.
+    pub fn goes_back(&self, answer: u64) -> bool
+        ensures { result ≡ recover_goes_back self.now.stage answer }
+    {
+        match self.stage {
+            RecoverStage::LoadsCounter => false,
+            RecoverStage::LoadsCell { .. } => false,
+            RecoverStage::Asks { .. } => false,
+            RecoverStage::EmptiesCell { .. } => false,
+            RecoverStage::Raises { raise, .. } => raise.goes_back(answer),
+            RecoverStage::Locks { lock, .. } => lock.goes_back(answer),
+            RecoverStage::LoadsCounterAgain => false,
+        }
+    }
+}
+
+impl Routine for Recover {
+    ghost use Rattle.steps.specs.Indices.Robust.Laws.{recover_tells};
+
+    type Given = ReleaseMode;
+
+    type Room = ();
+
+    type End = ReleaseState;
+
+    type Value = u64;
+
+    type Answer = ReleaseState;
+
+    ghost want_of = { λ c given. recover_want c };
+
+    ghost after = { recover_after };
+
+    ghost kept = { λ c room old. room };
+
+    ghost value_of = { λ given room. 0 };
+
+    ghost answer_of = { λ end given room. end };
+
+    ghost store_tells_nothing = { λ c given room m n t.
+        recover_tells c c.stage given room m n t };
+
+    #[inline(always)]
+    fn ask(self, _given: &ReleaseMode) -> Want<()> {
+        // A match on the field itself is more than the prover takes today, since a stage holds an owner.
+        let now = self.stage;
+        let (word, op) = match now {
+            RecoverStage::LoadsCounter => (COUNTER, Op::Load),
+            RecoverStage::LoadsCell { index } => (cell_word(index), Op::Load),
+            RecoverStage::Asks { index, owner } => {
+                return Want::Question(Question::Owned(owner, index as usize));
+            }
+            RecoverStage::EmptiesCell { index, owner } => {
+                (cell_word(index), Op::Exchange(owner.value(), EMPTY))
+            }
+            RecoverStage::Raises { raise, .. } => return raise.ask(),
+            RecoverStage::Locks { lock, .. } => return lock.ask(),
+            RecoverStage::LoadsCounterAgain => (COUNTER, Op::Load),
+        };
+        Want::Ask(Ask { word, op })
+    }
+
+    #[inline(always)]
+    fn take(
+        self,
+        given: &ReleaseMode,
+        _room: &mut (),
+        answer: u64,
+    ) -> After<Recover, ReleaseState> {
+        let now = self.stage;
+        let stage = match now {
+            RecoverStage::LoadsCounter => {
+                if answer == LOCKED {
+                    return After::Done(ReleaseState::Locked);
+                }
+                return self.comes_to(0);
+            }
+            RecoverStage::LoadsCell { index } => match OwnerId::new(answer) {
+                Ok(owner) => RecoverStage::Asks { index, owner },
+                Err(_) => return self.comes_to(index as u64 + 1),
+            },
+            RecoverStage::Asks { index, owner } => {
+                if answer == 0 {
+                    return self.comes_to(index as u64 + 1);
+                }
+                RecoverStage::EmptiesCell { index, owner }
+            }
+            RecoverStage::EmptiesCell { index, owner } => {
+                if answer != owner.value() {
+                    return self.comes_to(index as u64 + 1);
+                }
+                RecoverStage::Raises {
+                    index,
+                    raise: Raise::LoadsCounter,
+                }
+            }
+            RecoverStage::Raises { index, raise } => match raise.take(answer) {
+                After::GoOn(raise) => RecoverStage::Raises { index, raise },
+                After::Done(ReleaseState::Locked) => return After::Done(ReleaseState::Locked),
+                After::Done(ReleaseState::Unlocked) => match given {
+                    ReleaseMode::LockIfLastIndex => RecoverStage::Locks {
+                        index,
+                        lock: Lock::new(),
+                    },
+                    ReleaseMode::Default => return self.comes_to(index as u64 + 1),
+                },
+            },
+            RecoverStage::Locks { index, lock } => match lock.take(self.capacity, answer) {
+                After::GoOn(lock) => RecoverStage::Locks { index, lock },
+                After::Done(_) => return self.comes_to(index as u64 + 1),
+            },
+            RecoverStage::LoadsCounterAgain => {
+                return After::Done(if answer == LOCKED {
+                    ReleaseState::Locked
+                } else {
+                    ReleaseState::Unlocked
+                });
+            }
+        };
+        After::GoOn(Recover {
+            capacity: self.capacity,
+            stage,
+        })
+    }
+
+    fn value(_given: &ReleaseMode, _room: &()) -> u64 {
+        0
+    }
+
+    #[inline(always)]
+    fn answer(end: ReleaseState, _given: &ReleaseMode, _room: &()) -> ReleaseState {
+        end
+    }
+}
