@@ -1,18 +1,13 @@
--- A call of a bit set as one of any family, what its latest call has written, and how a turn ends.
-use Rattle.std.proofs.Common.{ℕ, Option, Some, None, List, [], refl}
-use Rattle.std.specs.List.{AllByRecursion}
+-- A call of a bit set as one of any family, and what a party's latest call has written.
+use Rattle.std.proofs.Common.{List, []}
 use Rattle.steps.specs.declared.ask.After.{After}
 use Rattle.model.specs.declared.event.Answer.{Answer}
 use Rattle.model.specs.declared.event.Event.{Event}
-use Rattle.model.specs.declared.event.Start.{Start}
 use Rattle.model.specs.declared.families.Flight.{Flight}
 use Rattle.model.specs.declared.families.Flight as flights
 use Rattle.model.specs.declared.families.bits.calls.BitsFlight.{BitsFlight}
-use Rattle.model.specs.declared.turn.Turn.TheVariants.{Next}
-use Rattle.model.specs.Promises.Turns.{IsEndOf}
 use Rattle.model.specs.Reading.{Span, Never, Open, Ended}
 use Rattle.model.specs.Step.{as_call}
-use Rattle.model.specs.Turns.{ending_of}
 
 module _ {T : Type 0} where
   abbrev pub any_call : After BitsFlight (Answer T) → After (Flight T) (Answer T)
@@ -22,7 +17,3 @@ module _ {T : Type 0} where
   wrote_in Never = []
   wrote_in (Open start wrote) = wrote
   wrote_in (Ended start answer wrote) = wrote
-
-  pub ends_end : (p : ℕ) (start : Start T) (outcome : Option (Answer T)) → AllByRecursion (IsEndOf (Next p)) (ending_of p start outcome)
-  ends_end p start None = tt
-  ends_end p start (Some answer) = (refl, tt)

@@ -20,7 +20,6 @@ use Rattle.model.specs.declared.event.Start.TheVariants.{Bits}
 use Rattle.model.specs.declared.families.bits.BitsStart.TheVariants.{ResetAll}
 use Rattle.model.specs.declared.families.bits.calls.BitsFlight.{BitsFlight}
 use Rattle.model.specs.declared.families.bits.calls.BitsFlight as calls
-use Rattle.model.specs.declared.party.Party.{Party}
 use Rattle.model.specs.Coding.{Coding}
 use Rattle.model.specs.Families.Bits.Promises.{BitsAnswerRight, HasCleared, bits_promise}
 use Rattle.model.specs.Families.Bits.Reading.{sets, clears}
@@ -31,9 +30,10 @@ use Rattle.model.specs.Turns.{one_if, change_of}
 use Rattle.model.proofs.Moments.{since_more}
 use Rattle.model.proofs.Readings.{AllFollow, span_of-own}
 use Rattle.bit_laws.proofs.Bits.Core.{ClearedBelow, cleared_still, cleared_by, sets_more, clears_more}
-use Rattle.bit_laws.proofs.Bits.Invariant.{BitSet, Holds, Shows}
+use Rattle.bit_laws.proofs.Bits.Invariant.{Holds, bit_set}
 use Rattle.bit_laws.proofs.Bits.Lists.{own_more, right_more, follow_more, places_rise, all_cleared, all_own, begin_none, all_right, sets_none, clears_named, all_stand, all_written, no_places}
-use Rattle.bit_laws.proofs.Bits.Steps.{StepShows, ShowsStep, party_then, pays_by}
+use Rattle.bit_laws.proofs.Bits.Steps.{no_change, pays_by}
+use Rattle.bit_laws.proofs.Family.{SetState, Shows, party_then, StepShows, ShowsStep}
 use Rattle.bit_laws.proofs.Spans.{wrote_in}
 
 -- the call at this word, where it ends there and this was found last
@@ -45,7 +45,7 @@ one_is : (t : Bool) → one_if t ≡ cond t 1 0
 one_is true = refl
 one_is false = refl
 
-module _ {T : Type 0} (code : Coding T) (c : ℕ) (s : BitSet T) (events : List (Event T)) (p : ℕ) (latest : List (ℕ × Party T)) (changes since steps backs : ℕ) (holds : Holds c s.words events) (wrote : List (Event T)) (is : span_of p events ≡ Open (Bits ResetAll) wrote) (word : ℕ) (some : 1 ≤ word) (none : (b : ℕ) → word ≤ element_of b → clears b wrote ≡ 0) (cleared : SinceBegin p (ClearedBelow word) events) (still : backs ≡ 0) (few : steps ≤ word - 1) where
+module _ {T : Type 0} (code : Coding T) (c : ℕ) (s : SetState T) (events : List (Event T)) (turns p changes since steps backs : ℕ) (holds : Holds c s.words events) (wrote : List (Event T)) (is : span_of p events ≡ Open (Bits ResetAll) wrote) (word : ℕ) (some : 1 ≤ word) (none : (b : ℕ) → word ≤ element_of b → clears b wrote ≡ 0) (cleared : SinceBegin p (ClearedBelow word) events) (still : backs ≡ 0) (few : steps ≤ word - 1) where
   abbrev found : ℕ
   found = get_or s.words word 0
 
@@ -62,7 +62,7 @@ module _ {T : Type 0} (code : Coding T) (c : ℕ) (s : BitSet T) (events : List 
   then = set s.words word 0
 
   abbrev Does : Option Ask → After BitsFlight (Answer T) → List (Event T) → Type 0
-  Does ask after es = StepShows code c s events p latest changes since steps backs wrote ResetAll ask false after es
+  Does ask after es = StepShows bit_set code c s events turns p changes since steps backs wrote ResetAll ask false after es
 
   -- ---- the bits
 
@@ -169,13 +169,15 @@ module _ {T : Type 0} (code : Coding T) (c : ℕ) (s : BitSet T) (events : List 
 
     swaps_on : word < length s.words → word + 1 < end → Does swaps next fx
     swaps_on near more =
-        subst (λ es. Shows code c s events p latest changes then (Open (Bits ResetAll) wrote) (party_then code c s events p latest changes since steps backs ResetAll swaps false next) es (changes + change_of s.words swaps)) (sym (append-nil fx))
+        subst (λ es. Shows bit_set code c s events turns p changes then (Open (Bits ResetAll) wrote) (party_then bit_set code c s events turns p changes since steps backs ResetAll swaps false next) es (changes + change_of s.words swaps)) (sym (append-nil fx))
         (record {
-          sized = length-set s.words word 0;
-          moved = λ b. subst (λ es. sets b es + one_if (stands s.words b) ≡ clears b es + one_if (stands then b)) (append-nil fx) (moved near [] (λ b. refl) (λ b. refl) b);
-          within = λ b past. sets_none T p b places;
-          pays = pays_by s.words swaps changes;
-          right = all_right T p c events places;
+          conserves = record {
+            sized = length-set s.words word 0;
+            moved = λ b. subst (λ es. sets b es + one_if (stands s.words b) ≡ clears b es + one_if (stands then b)) (append-nil fx) (moved near [] (λ b. refl) (λ b. refl) b);
+            within = λ b past. sets_none T p b places;
+            pays = pays_by s.words swaps changes;
+            right = all_right T p c events places;
+          };
           own = all_own T p places;
           stands = stand;
           here =
@@ -190,11 +192,13 @@ module _ {T : Type 0} (code : Coding T) (c : ℕ) (s : BitSet T) (events : List 
     swaps_last : word < length s.words → word + 1 ≡ end → Does swaps done fx
     swaps_last near at =
         record {
-          sized = length-set s.words word 0;
-          moved = moved near finish (λ b. refl) (λ b. refl);
-          within = λ b past. (let more = sets_more b fx finish in let none = sets_none T p b places in omega arith);
-          pays = pays_by s.words swaps changes;
-          right = right_more (BitsAnswerRight c) events fx finish (all_right T p c events places) (all_behind (events ++ fx) (word + 1) (omega arith) (cleared_more near), tt);
+          conserves = record {
+            sized = length-set s.words word 0;
+            moved = moved near finish (λ b. refl) (λ b. refl);
+            within = λ b past. (let more = sets_more b fx finish in let none = sets_none T p b places in omega arith);
+            pays = pays_by s.words swaps changes;
+            right = right_more (BitsAnswerRight c) events fx finish (all_right T p c events places) (all_behind (events ++ fx) (word + 1) (omega arith) (cleared_more near), tt);
+          };
           own = own_more p fx finish (all_own T p places) (refl, tt);
           stands = follow_more (Stands bits_promise c) (Open (Bits ResetAll) wrote) fx finish stand (subst (λ span. AllFollow (Stands bits_promise c) span finish) (sym written) ((refl, tt), tt));
           here =
@@ -211,21 +215,17 @@ module _ {T : Type 0} (code : Coding T) (c : ℕ) (s : BitSet T) (events : List 
     asks_nothing : word ≡ end → Does None done []
     asks_nothing at =
         record {
-          sized = refl;
-          moved = λ b. refl;
-          within = λ b past. refl;
-          pays = pays_by s.words None changes;
-          right = (all_behind events word (omega arith) cleared, tt);
+          conserves = no_change code c s events turns p changes since steps backs None finish (λ b. refl) (λ b. refl) (λ b. refl) (all_behind events word (omega arith) cleared, tt);
           own = (refl, tt);
           stands = ((refl, tt), tt);
           here = record { answer = answers.TheVariants.Done; wrote = wrote; span = refl; steps = omega arith };
           knows = omega arith;
         }
 
-    pub reset_all_step : word ≤ end → ShowsStep code c s events p latest changes since steps backs wrote ResetAll (all_at room word end)
+    pub reset_all_step : word ≤ end → ShowsStep bit_set code c s events turns p changes since steps backs wrote ResetAll (all_at room word end)
     reset_all_step below = go (nat_lt word end) refl (nat_lt (word + 1) end) refl
       where
-        go : (t : Bool) → nat_lt word end ≡ t → (u : Bool) → nat_lt (word + 1) end ≡ u → ShowsStep code c s events p latest changes since steps backs wrote ResetAll (all_at room word end)
+        go : (t : Bool) → nat_lt word end ≡ t → (u : Bool) → nat_lt (word + 1) end ≡ u → ShowsStep bit_set code c s events turns p changes since steps backs wrote ResetAll (all_at room word end)
         go true t true u =
             let more : word + 1 < end = grind (arith, nat_tests) in
             let sized = holds.sized in

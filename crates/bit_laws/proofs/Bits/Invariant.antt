@@ -1,6 +1,6 @@
--- What holds of a bit set's machine between any two turns beside what the frame says of every machine, and what a turn must
--- show to keep it.
-use Rattle.std.proofs.Common.{◌≡◌, ◌≢◌, ℕ, ◌+◌, ◌≤◌, ⊎_elim, Some, List, [], ◌++◌, fold, length, get_or, sym, ap, subst, ◌∙◌, arith}
+-- What holds of a bit set's machine between any two turns beside what the frame says of every machine, and what a turn does
+-- to its words that keeps it.
+use Rattle.std.proofs.Common.{◌≡◌, ◌≢◌, ℕ, ◌+◌, ◌≤◌, ⊎_elim, List, ◌++◌, length, get_or, refl, ◌∙◌, arith}
 use Rattle.std.proofs.lemmas.Bool.{cases_eq}
 use Rattle.steps.specs.declared.bits.bit_set.SetStage.{SetStage}
 use Rattle.steps.specs.declared.bits.bit_set.SetStage as setting
@@ -9,37 +9,21 @@ use Rattle.steps.specs.declared.bits.bit_set.ResetNextStage as resetting
 use Rattle.steps.specs.Bits.BitSet.{place_after}
 use Rattle.steps.specs.Bits.Words.{element_of, elements, stands}
 use Rattle.model.specs.declared.event.Event.{Event}
-use Rattle.model.specs.declared.event.Start.{Start}
-use Rattle.model.specs.declared.event.Start.TheVariants.{Bits}
-use Rattle.model.specs.declared.families.Flight.{Flight}
-use Rattle.model.specs.declared.families.Flight as flights
-use Rattle.model.specs.declared.families.Kept.{Kept}
-use Rattle.model.specs.declared.families.Kept as kepts
 use Rattle.model.specs.declared.families.bits.calls.BitsFlight.{BitsFlight}
 use Rattle.model.specs.declared.families.bits.calls.BitsFlight.TheVariants.{Set, ResetNext, ResetAll}
-use Rattle.model.specs.declared.party.Party.{Party}
 use Rattle.model.specs.declared.turn.Kind as kinds
-use Rattle.model.specs.Coding.{Coding}
 use Rattle.model.specs.Families.Bits.Promises.{BitsAnswerRight, bits_promise}
 use Rattle.model.specs.Families.Bits.Reading.{sets, clears, standing}
 use Rattle.model.specs.Moments.{BeginsNone}
-use Rattle.model.specs.Promises.Spans.{Stands}
-use Rattle.model.specs.Reading.{Each, Span, own_after, span_of}
+use Rattle.model.specs.Reading.{Each}
 use Rattle.model.specs.Turns.{one_if}
-use Rattle.model.proofs.Frame as frame
-use Rattle.model.proofs.Frame.{Family}
-use Rattle.model.proofs.Moments.{others_begin_none, held_later, since_more}
-use Rattle.model.proofs.Readings.{AreRight, Each-append, AreOwn, AllFollow, span_of-other}
+use Rattle.model.proofs.Moments.{held_later, since_more}
+use Rattle.model.proofs.Readings.{AreRight, Each-append}
 use Rattle.bit_laws.proofs.Bits.Core.{ClearedBelow, cleared_still, sets_more, clears_more}
 use Rattle.bit_laws.proofs.Bits.Knows.{CallAt, KnowsCall, KnowsSet, KnowsNext, Paid, Passed, call_wrote, number_of}
-use Rattle.bit_laws.proofs.Spans.{wrote_in}
+use Rattle.bit_laws.proofs.Family.{SetKind}
 
 -- ---- what the machine holds
-
--- the words, and the events of the run, in which a call under way has written its own
-pub record BitSet (T : Type 0) : Type 0 where
-  pub words : List ℕ
-  pub events : List (Event T)
 
 -- every word that has another value is paid by a change
 pub record Pays (words words' : List ℕ) (changes changes' : ℕ) : Type 0 where
@@ -63,49 +47,60 @@ module _ (words words' : List ℕ) (changes changes' : ℕ) (pays : Pays words w
   set_still since backs bit (setting.TheVariants.ExchangesElement found) h = paid_still since backs (element_of bit) found h
 
 module _ {T : Type 0} where
-  abbrev pub Fit : Kept → List ℕ → BitSet T → Type 0
-  Fit kept words s = (kept ≡ kepts.TheVariants.Nothing) × (words ≡ s.words)
-
   pub record Holds (c : ℕ) (words : List ℕ) (events : List (Event T)) : Type 0 where
     pub sized : length words ≡ 1 + elements c
     pub conserved : (b : ℕ) → sets b events ≡ clears b events + one_if (stands words b)
     pub within : (b : ℕ) → c ≤ b → sets b events ≡ 0
     pub answers : Each (BitsAnswerRight c) events
 
-  -- ---- the family of the bit sets
+  -- ---- what a turn conserves
 
-  abbrev pub wrote_by : ℕ → Flight T → Span T → List (Event T)
-  wrote_by p (flights.TheVariants.Bits flight) span = call_wrote p flight span
-  wrote_by p flight span = []
+  -- the words of a turn beside the bits of which its events tell
+  pub record Conserves (c : ℕ) (words : List ℕ) (events : List (Event T)) (changes : ℕ) (words' : List ℕ) (es : List (Event T)) (changes' : ℕ) : Type 0 where
+    pub sized : length words' ≡ length words
+    pub moved : (b : ℕ) → sets b es + one_if (stands words b) ≡ clears b es + one_if (stands words' b)
+    pub within : (b : ℕ) → c ≤ b → sets b es ≡ 0
+    pub pays : Pays words words' changes changes'
+    pub right : AreRight (BitsAnswerRight c) events es
 
-  abbrev pub number : Flight T → ℕ → ℕ
-  number (flights.TheVariants.Bits flight) backs = number_of flight backs
-  number flight backs = 0
+  -- so does a turn after which the same bits stand, and whose events tell of none
+  pub rest_conserves : (c : ℕ) (words : List ℕ) (events : List (Event T)) (changes : ℕ) (words' : List ℕ) (es : List (Event T)) (changes' : ℕ) → length words' ≡ length words → ((b : ℕ) → stands words' b ≡ stands words b) → ((b : ℕ) → sets b es ≡ 0) → ((b : ℕ) → clears b es ≡ 0)
+      → Pays words words' changes changes' → AreRight (BitsAnswerRight c) events es → Conserves c words events changes words' es changes'
+  rest_conserves c words events changes words' es changes' sized same no_sets no_clears pays right =
+      record { sized = sized; moved = λ b. rw (no_sets b, no_clears b, same b) refl; within = λ b past. no_sets b; pays = pays; right = right }
 
-  abbrev pub FlightAt : ℕ → List (Event T) → Start T → Flight T → Type 0
-  FlightAt c wrote (Bits start) (flights.TheVariants.Bits flight) = CallAt c wrote start flight
-  FlightAt c wrote start flight = ⊥
+  -- ---- the kind of the bit sets
 
-  abbrev pub KnowsFlight : ℕ → List (Event T) → List ℕ → ℕ → ℕ → ℕ → Flight T → Type 0
-  KnowsFlight p events words since changes backs (flights.TheVariants.Bits flight) =
-      KnowsCall p events words since changes backs flight
-  KnowsFlight p events words since changes backs flight = ⊥
-
-  abbrev pub family : Coding T → ℕ → Family T
-  family code c =
+  abbrev pub bit_set : SetKind T
+  bit_set =
       record {
-        coding = code;
         kind = kinds.TheVariants.Bits;
         promise = bits_promise;
-        capacity = c;
-        State = BitSet T;
-        Fit = Fit;
-        Holds = λ s latest events turns. Holds c s.words events × (s.events ≡ events);
-        written = λ s p flight. wrote_by p flight (span_of p s.events);
-        number = number;
-        At = λ s p start flight. FlightAt c (wrote_in (span_of p s.events)) start flight;
-        Knows = λ s p events since changes backs flight. KnowsFlight p events s.words since changes backs flight;
+        Holds = λ c words events turns. Holds c words events;
+        Conserves = λ c words events turns changes words' es changes'. Conserves c words events changes words' es changes';
+        wrote = call_wrote;
+        number = number_of;
+        At = CallAt;
+        Knows = KnowsCall;
       }
+
+  module _ (c : ℕ) (words : List ℕ) (events : List (Event T)) (changes : ℕ) (words' : List ℕ) (es : List (Event T)) (changes' : ℕ) (conserves : Conserves c words events changes words' es changes') where
+    pub holds_more : Holds c words events → Holds c words' (events ++ es)
+    holds_more h =
+        record {
+          sized = conserves.sized ∙ h.sized;
+          conserved = conserved;
+          within = λ b past. (let a = h.within b past in let e = conserves.within b past in let m = sets_more b events es in omega arith);
+          answers = Each-append (BitsAnswerRight c) events es h.answers conserves.right;
+        }
+      where
+        conserved : (b : ℕ) → sets b (events ++ es) ≡ clears b (events ++ es) + one_if (stands words' b)
+        conserved b =
+            let was = h.conserved b in
+            let moved = conserves.moved b in
+            let s = sets_more b events es in
+            let c = clears_more b events es in
+            omega arith
 
   -- ---- what a step of another party leaves
 
@@ -125,65 +120,9 @@ module _ {T : Type 0} where
           (paid, passed_still c start passed h.1)
       next_still c since backs (resetting.TheVariants.StoresPosition place) h = let up = pays.up in omega arith
 
-      call_still : (since backs : ℕ) (flight : BitsFlight) → KnowsCall p events words since changes backs flight → KnowsCall p (events ++ es) words' since changes' backs flight
+      pub call_still : (since backs : ℕ) (flight : BitsFlight) → KnowsCall p events words since changes backs flight → KnowsCall p (events ++ es) words' since changes' backs flight
       call_still since backs (Set run) h = set_still words words' changes changes' pays since backs run.given run.call.stage h
       call_still since backs (ResetNext run) h = next_still run.call.capacity since backs run.call.stage h
       call_still since backs (ResetAll run) h =
           (h.0, since_more p (ClearedBelow run.call.word) (ClearedBelow run.call.word) events es none h.1 (cleared_still run.call.word h.1.before h.1.since es h.1.holds))
       call_still since backs flight h = absurd h
-
-      pub flight_still : (since backs : ℕ) (flight : Flight T) → KnowsFlight p events words since changes backs flight → KnowsFlight p (events ++ es) words' since changes' backs flight
-      flight_still since backs (flights.TheVariants.Bits flight) h = call_still since backs flight h
-      flight_still since backs flight h = absurd h
-
-  -- ---- what a turn shows
-
-  module _ (code : Coding T) (c : ℕ) (s : BitSet T) (events : List (Event T)) (p : ℕ) (latest : List (ℕ × Party T)) (changes : ℕ) where
-    abbrev pub then_state : List ℕ → List (Event T) → BitSet T
-    then_state words es = record { words = words; events = events ++ es }
-
-    -- that leaves these words, where the party's span was this
-    pub record Shows (words : List ℕ) (from : Span T) (y : Party T) (es : List (Event T)) (changes' : ℕ) : Type 0 where
-      pub sized : length words ≡ length s.words
-      pub moved : (b : ℕ) → sets b es + one_if (stands s.words b) ≡ clears b es + one_if (stands words b)
-      pub within : (b : ℕ) → c ≤ b → sets b es ≡ 0
-      pub pays : Pays s.words words changes changes'
-      pub right : AreRight (BitsAnswerRight c) events es
-      pub own : AreOwn p es
-      pub stands : AllFollow (Stands bits_promise c) from es
-      pub here : frame.Fits (family code c) (then_state words es) p (Some y) (fold own_after from es)
-      pub knows : frame.KnowsDoing (family code c) (then_state words es) p (events ++ es) changes' y.backs y.doing
-
-    module _ (words : List ℕ) (from : Span T) (y : Party T) (es : List (Event T)) (changes' : ℕ) (shows : Shows words from y es changes') where
-      pub holds_more : Holds c s.words events → Holds c words (events ++ es)
-      holds_more h =
-          record {
-            sized = shows.sized ∙ h.sized;
-            conserved = conserved;
-            within = λ b past. (let a = h.within b past in let e = shows.within b past in let m = sets_more b events es in omega arith);
-            answers = Each-append (BitsAnswerRight c) events es h.answers shows.right;
-          }
-        where
-          conserved : (b : ℕ) → sets b (events ++ es) ≡ clears b (events ++ es) + one_if (stands words b)
-          conserved b =
-              let was = h.conserved b in
-              let moved = shows.moved b in
-              let s = sets_more b events es in
-              let c = clears_more b events es in
-              omega arith
-
-      -- the other parties' spans are as they were
-      span_still : (q : ℕ) → q ≢ p → s.events ≡ events → span_of q (events ++ es) ≡ span_of q s.events
-      span_still q ne same = span_of-other p q events es ne shows.own ∙ ap (λ xs. span_of q xs) (sym same)
-
-      pub owes : span_of p events ≡ from → s.events ≡ events → frame.Inv (family code c) s latest events changes → frame.Owes (family code c) (then_state words es) p y latest events es changes'
-      owes is same inv =
-          frame.owes (family code c) s (then_state words es) from p y latest events es changes changes' is inv
-          (record {
-            own = shows.own;
-            stands = shows.stands;
-            here = shows.here;
-            knows = shows.knows;
-            others = λ q ne start flight h. (subst (λ span. FlightAt c (wrote_in span) start flight) (sym (span_still q ne same)) h, ap (wrote_by q flight) (span_still q ne same));
-            others_know = λ q ne since backs flight h. flight_still s.words words changes changes' shows.pays q events es (others_begin_none q p es ne shows.own) since backs flight h;
-          })

@@ -19,7 +19,6 @@ use Rattle.model.specs.declared.event.Event.TheVariants.{Cleared}
 use Rattle.model.specs.declared.families.bits.BitsStart.{BitsStart}
 use Rattle.model.specs.declared.families.bits.BitsStart as starts
 use Rattle.model.specs.declared.families.bits.calls.BitsFlight.{BitsFlight}
-use Rattle.model.specs.declared.party.Party.{Party}
 use Rattle.model.specs.Coding.{Coding}
 use Rattle.model.specs.Families.Bits.Calls.{after, goes_back}
 use Rattle.model.specs.Families.Bits.Reading.{clears, standing}
@@ -27,10 +26,11 @@ use Rattle.model.specs.Families.Bits.Steps.{effects_of}
 use Rattle.model.specs.Moments.{HeldOnce}
 use Rattle.model.specs.Turns.{one_if, words_after}
 use Rattle.model.proofs.Moments.{held_now, held_later}
-use Rattle.bit_laws.proofs.Bits.Invariant.{BitSet, Holds}
+use Rattle.bit_laws.proofs.Bits.Invariant.{Holds, bit_set}
 use Rattle.bit_laws.proofs.Bits.Knows.{NextStands, KnowsNext, Passed, next_at, next_number, next_wrote}
 use Rattle.bit_laws.proofs.Bits.Sets.{element_near}
-use Rattle.bit_laws.proofs.Bits.Steps.{StepShows, ShowsStep, same_bits, goes_on, ends, pays_by, as_long, by_parts}
+use Rattle.bit_laws.proofs.Bits.Steps.{same_bits, goes_on, ends, pays_by, as_long, by_parts}
+use Rattle.bit_laws.proofs.Family.{SetState, StepShows, ShowsStep}
 use Rattle.bit_laws.proofs.Words.{load_leaves, failed_leaves, done_writes}
 
 -- ---- places one after another
@@ -65,15 +65,15 @@ start_near c position = go (nat_lt c position) refl
     go true t = rw t (omega arith)
     go false t = let low : position ≤ c = grind (arith, nat_tests) in rw t low
 
-module _ {T : Type 0} (code : Coding T) (c : ℕ) (s : BitSet T) (events : List (Event T)) (p : ℕ) (latest : List (ℕ × Party T)) (changes since steps backs : ℕ) (holds : Holds c s.words events) where
+module _ {T : Type 0} (code : Coding T) (c : ℕ) (s : SetState T) (events : List (Event T)) (turns p changes since steps backs : ℕ) (holds : Holds c s.words events) where
   abbrev next : BitsStart
   next = starts.TheVariants.ResetNext
 
   abbrev Does : List (Event T) → Option Ask → Bool → After BitsFlight (Answer T) → List (Event T) → Type 0
-  Does before ask back after fx = StepShows code c s events p latest changes since steps backs before next ask back after fx
+  Does before ask back after fx = StepShows bit_set code c s events turns p changes since steps backs before next ask back after fx
 
   abbrev DoesOf : List (Event T) → ResetNextStage → Type 0
-  DoesOf before stage = ShowsStep code c s events p latest changes since steps backs before next (next_at c stage)
+  DoesOf before stage = ShowsStep bit_set code c s events turns p changes since steps backs before next (next_at c stage)
 
   -- with nothing written
   passed_more : (start passed : ℕ) → Passed c p start passed events → Passed c p start passed (events ++ [])
@@ -85,12 +85,12 @@ module _ {T : Type 0} (code : Coding T) (c : ℕ) (s : BitSet T) (events : List 
   module _ (a : Ask) (back : Bool) (same : words_after s.words (Some a) ≡ s.words) (paid : backs + one_if back + since ≤ changes) (start : ℕ) (low : start ≤ c) where
     comes_on : (passed : ℕ) → Passed c p start passed events → steps + 1 ≤ 1 + passed + (backs + one_if back) → passed < c → Does [] (Some a) back (GoOn (next_at c (resetting.TheVariants.LoadsElement start passed))) []
     comes_on passed held few below =
-        goes_on code c s events p latest changes since steps backs next (Some a) back (next_at c (resetting.TheVariants.LoadsElement start passed)) (same_bits code c s events p latest changes since steps backs (Some a) same) few refl (refl, (low, below))
+        goes_on code c s events turns p changes since steps backs next (Some a) back (next_at c (resetting.TheVariants.LoadsElement start passed)) (same_bits code c s events turns p changes since steps backs (Some a) same) few refl (refl, (low, below))
         (omega arith, passed_more start passed held)
 
     comes_none : Passed c p start c events → steps + 1 ≤ 3 + c + (backs + one_if back) → Does [] (Some a) back (Done answers.TheVariants.ResetNone) []
     comes_none held few =
-        ends code c s events p latest changes since steps backs [] next (Some a) back answers.TheVariants.ResetNone (same_bits code c s events p latest changes since steps backs (Some a) same) all refl few paid
+        ends code c s events turns p changes since steps backs [] next (Some a) back answers.TheVariants.ResetNone (same_bits code c s events turns p changes since steps backs (Some a) same) all refl few paid
       where
         all : (b : ℕ) → b < c → HeldOnce p (λ part. standing b part ≡ 0) events
         all b below =
@@ -101,7 +101,7 @@ module _ {T : Type 0} (code : Coding T) (c : ℕ) (s : BitSet T) (events : List 
     exchanges : (passed found : ℕ) → Passed c p start passed events → steps + 1 ≤ 2 + passed + (backs + one_if back) → passed < c → get_or s.words (element_of (place_after c start passed)) 0 ≡ found → has_flag found (place_after c start passed) ≡ true
         → Does [] (Some a) back (GoOn (next_at c (resetting.TheVariants.ExchangesElement start passed found))) []
     exchanges passed found held few below is t =
-        goes_on code c s events p latest changes since steps backs next (Some a) back (next_at c (resetting.TheVariants.ExchangesElement start passed found)) (same_bits code c s events p latest changes since steps backs (Some a) same) few refl (refl, (low, below, t))
+        goes_on code c s events turns p changes since steps backs next (Some a) back (next_at c (resetting.TheVariants.ExchangesElement start passed found)) (same_bits code c s events turns p changes since steps backs (Some a) same) few refl (refl, (low, below, t))
         ((omega arith, λ ne. absurd (ne (ap (λ ws. get_or ws (element_of (place_after c start passed)) 0) same ∙ is))), passed_more start passed held)
 
   -- ---- the reset position
@@ -120,11 +120,11 @@ module _ {T : Type 0} (code : Coding T) (c : ℕ) (s : BitSet T) (events : List 
 
       go : (t : Bool) → nat_lt 0 c ≡ t → DoesOf [] resetting.TheVariants.LoadsPosition
       go true t =
-          by_parts code c s events p latest changes since steps backs [] next (next_at c resetting.TheVariants.LoadsPosition) false (GoOn (next_at c (resetting.TheVariants.LoadsElement start 0))) [] refl (rw t refl) refl
+          by_parts code c s events turns p changes since steps backs [] next (next_at c resetting.TheVariants.LoadsPosition) false (GoOn (next_at c (resetting.TheVariants.LoadsElement start 0))) [] refl (rw t refl) refl
           (comes_on loading false (load_leaves s.words 0) (omega arith) start low 0 (λ k below. absurd (omega arith)) (omega arith) (grind (arith, nat_tests)))
       go false t =
           let none : c ≡ 0 = grind (arith, nat_tests) in
-          by_parts code c s events p latest changes since steps backs [] next (next_at c resetting.TheVariants.LoadsPosition) false (Done answers.TheVariants.ResetNone) [] refl (rw t refl) refl
+          by_parts code c s events turns p changes since steps backs [] next (next_at c resetting.TheVariants.LoadsPosition) false (Done answers.TheVariants.ResetNone) [] refl (rw t refl) refl
           (comes_none loading false (load_leaves s.words 0) (omega arith) start low (λ k below. absurd (omega arith)) (omega arith))
 
   -- ---- an element
@@ -174,7 +174,7 @@ module _ {T : Type 0} (code : Coding T) (c : ℕ) (s : BitSet T) (events : List 
         stage = resetting.TheVariants.LoadsElement start passed
 
         parts : (then : After BitsFlight (Answer T)) → after (next_at c stage) word ≡ then → Does [] (Some loads_it) false then [] → DoesOf [] stage
-        parts then goes shows = by_parts code c s events p latest changes since steps backs [] next (next_at c stage) false then [] refl goes refl shows
+        parts then goes shows = by_parts code c s events turns p changes since steps backs [] next (next_at c stage) false then [] refl goes refl shows
 
         same : words_after s.words (Some loads_it) ≡ s.words
         same = load_leaves s.words element
@@ -195,11 +195,13 @@ module _ {T : Type 0} (code : Coding T) (c : ℕ) (s : BitSet T) (events : List 
     clears_it : (found : ℕ) → has_flag found place ≡ true → (word == found) ≡ true → backs + since ≤ changes → steps ≤ 2 + passed + backs → Does [] (Some (exchanging found)) false (GoOn (next_at c (resetting.TheVariants.StoresPosition place))) (Cleared p place ∷ [])
     clears_it found was t paid few =
         record {
-          sized = as_long s.words (Some (exchanging found));
-          moved = λ b. moved b (place == b) refl;
-          within = λ b past. refl;
-          pays = pays_by s.words (Some (exchanging found)) changes;
-          right = (tt, tt);
+          conserves = record {
+            sized = as_long s.words (Some (exchanging found));
+            moved = λ b. moved b (place == b) refl;
+            within = λ b past. refl;
+            pays = pays_by s.words (Some (exchanging found)) changes;
+            right = (tt, tt);
+          };
           own = (refl, tt);
           stands = (refl, tt);
           here = record { span = refl; steps = omega arith; at = (refl, place_near c start passed low below) };
@@ -233,7 +235,7 @@ module _ {T : Type 0} (code : Coding T) (c : ℕ) (s : BitSet T) (events : List 
         stage = resetting.TheVariants.ExchangesElement start passed found
 
         parts : (back : Bool) (then : After BitsFlight (Answer T)) (fx : List (Event T)) → goes_back (next_at c stage) word ≡ back → after (next_at c stage) word ≡ then → effects_of p (next_at c stage) word ≡ fx → Does [] (Some (exchanging found)) back then fx → DoesOf [] stage
-        parts back then fx turns goes tells shows = by_parts code c s events p latest changes since steps backs [] next (next_at c stage) back then fx turns goes tells shows
+        parts back then fx is_back goes tells shows = by_parts code c s events turns p changes since steps backs [] next (next_at c stage) back then fx is_back goes tells shows
 
         failed : (word == found) ≡ false → words_after s.words (Some (exchanging found)) ≡ s.words
         failed t = failed_leaves s.words element found (without_flag found place) t
@@ -261,7 +263,7 @@ module _ {T : Type 0} (code : Coding T) (c : ℕ) (s : BitSet T) (events : List 
 
   stores : (place : ℕ) → backs + since ≤ changes → steps ≤ 2 + c + backs → DoesOf (Cleared p place ∷ []) (resetting.TheVariants.StoresPosition place)
   stores place paid few =
-      ends code c s events p latest changes since steps backs (Cleared p place ∷ []) next (Some (record { word = 0; op = Store (after_position place) })) false (answers.TheVariants.Reset place)
+      ends code c s events turns p changes since steps backs (Cleared p place ∷ []) next (Some (record { word = 0; op = Store (after_position place) })) false (answers.TheVariants.Reset place)
       (λ b. stands_elsewhere s.words 0 (after_position place) b (λ e. elements_after b (sym e))) tt (refl, one) (omega arith) (omega arith)
     where
       one : clears {T = T} place (Cleared p place ∷ []) ≡ 1

@@ -17,23 +17,23 @@ use Rattle.model.specs.declared.event.Event.TheVariants.{Finished}
 use Rattle.model.specs.declared.event.Start.TheVariants.{Bits}
 use Rattle.model.specs.declared.families.bits.BitsStart as starts
 use Rattle.model.specs.declared.families.bits.calls.BitsFlight.{BitsFlight}
-use Rattle.model.specs.declared.party.Party.{Party}
 use Rattle.model.specs.Coding.{Coding}
 use Rattle.model.specs.Families.Bits.Calls.{after, goes_back}
 use Rattle.model.specs.Families.Bits.Reading.{sets, standing}
 use Rattle.model.specs.Families.Bits.Steps.{effects_of}
 use Rattle.model.specs.Turns.{one_if, words_after}
 use Rattle.model.proofs.Moments.{held_now}
-use Rattle.bit_laws.proofs.Bits.Invariant.{BitSet, Holds}
+use Rattle.bit_laws.proofs.Bits.Invariant.{Holds, bit_set}
 use Rattle.bit_laws.proofs.Bits.Knows.{SetStands, KnowsSet, set_at, set_number}
-use Rattle.bit_laws.proofs.Bits.Steps.{StepShows, ShowsStep, same_bits, goes_on, ends, pays_by, as_long, by_parts}
+use Rattle.bit_laws.proofs.Bits.Steps.{same_bits, goes_on, ends, pays_by, as_long, by_parts}
+use Rattle.bit_laws.proofs.Family.{SetState, StepShows, ShowsStep}
 use Rattle.bit_laws.proofs.Words.{load_leaves, failed_leaves, done_writes}
 
 -- a bit below the capacity has its element among the words
 pub element_near : (c bit : ℕ) (words : List ℕ) → length words ≡ 1 + elements c → bit < c → element_of bit < length words
 element_near c bit words sized below = omega arith
 
-module _ {T : Type 0} (code : Coding T) (c : ℕ) (s : BitSet T) (events : List (Event T)) (p : ℕ) (latest : List (ℕ × Party T)) (changes since steps backs : ℕ) (holds : Holds c s.words events) (bit : ℕ) (below : bit < c) where
+module _ {T : Type 0} (code : Coding T) (c : ℕ) (s : SetState T) (events : List (Event T)) (turns p changes since steps backs : ℕ) (holds : Holds c s.words events) (bit : ℕ) (below : bit < c) where
   abbrev element : ℕ
   element = element_of bit
 
@@ -41,10 +41,10 @@ module _ {T : Type 0} (code : Coding T) (c : ℕ) (s : BitSet T) (events : List 
   word = get_or s.words element 0
 
   abbrev Does : Option Ask → Bool → After BitsFlight (Answer T) → List (Event T) → Type 0
-  Does ask back after fx = StepShows code c s events p latest changes since steps backs [] (starts.TheVariants.Set bit) ask back after fx
+  Does ask back after fx = StepShows bit_set code c s events turns p changes since steps backs [] (starts.TheVariants.Set bit) ask back after fx
 
   abbrev DoesOf : SetStage → Type 0
-  DoesOf stage = ShowsStep code c s events p latest changes since steps backs [] (starts.TheVariants.Set bit) (set_at bit stage)
+  DoesOf stage = ShowsStep bit_set code c s events turns p changes since steps backs [] (starts.TheVariants.Set bit) (set_at bit stage)
 
   -- the bit that stands is seen in the events
   stood_now : has_flag word bit ≡ true → standing bit events ≡ 1
@@ -58,12 +58,12 @@ module _ {T : Type 0} (code : Coding T) (c : ℕ) (s : BitSet T) (events : List 
   module _ (a : Ask) (back : Bool) (same : words_after s.words (Some a) ≡ s.words) (paid : backs + one_if back + since ≤ changes) where
     stood : steps + 1 ≤ 2 + (backs + one_if back) → has_flag word bit ≡ true → Does (Some a) back (Done (answers.TheVariants.Truth false)) []
     stood few t =
-        ends code c s events p latest changes since steps backs [] (starts.TheVariants.Set bit) (Some a) back (answers.TheVariants.Truth false) (same_bits code c s events p latest changes since steps backs (Some a) same)
+        ends code c s events turns p changes since steps backs [] (starts.TheVariants.Set bit) (Some a) back (answers.TheVariants.Truth false) (same_bits code c s events turns p changes since steps backs (Some a) same)
         (held_now p (λ part. standing bit part ≡ 1) events (stood_now t)) refl few paid
 
     clear : steps + 1 ≤ 1 + (backs + one_if back) → has_flag word bit ≡ false → Does (Some a) back (GoOn (set_at bit (setting.TheVariants.ExchangesElement word))) []
     clear few t =
-        goes_on code c s events p latest changes since steps backs (starts.TheVariants.Set bit) (Some a) back (set_at bit (setting.TheVariants.ExchangesElement word)) (same_bits code c s events p latest changes since steps backs (Some a) same) few refl (refl, below, t)
+        goes_on code c s events turns p changes since steps backs (starts.TheVariants.Set bit) (Some a) back (set_at bit (setting.TheVariants.ExchangesElement word)) (same_bits code c s events turns p changes since steps backs (Some a) same) few refl (refl, below, t)
         (omega arith, λ ne. absurd (ne (ap (λ ws. get_or ws element 0) same)))
 
   -- ---- the steps
@@ -88,11 +88,13 @@ module _ {T : Type 0} (code : Coding T) (c : ℕ) (s : BitSet T) (events : List 
   sets_it : (found : ℕ) → has_flag found bit ≡ false → (word == found) ≡ true → backs + since ≤ changes → steps ≤ 1 + backs → Does (Some (exchanging found)) false (Done (answers.TheVariants.Truth true)) (told.TheVariants.Set p bit ∷ [])
   sets_it found was t paid few =
       record {
-        sized = as_long s.words (Some (exchanging found));
-        moved = λ b. moved b (bit == b) refl;
-        within = λ b past. (let t : (bit == b) ≡ false = grind (arith, nat_tests) in rw t refl);
-        pays = pays_by s.words (Some (exchanging found)) changes;
-        right = (tt, (tt, tt));
+        conserves = record {
+          sized = as_long s.words (Some (exchanging found));
+          moved = λ b. moved b (bit == b) refl;
+          within = λ b past. (let t : (bit == b) ≡ false = grind (arith, nat_tests) in rw t refl);
+          pays = pays_by s.words (Some (exchanging found)) changes;
+          right = (tt, (tt, tt));
+        };
         own = (refl, (refl, tt));
         stands = ((refl, refl), ((refl, (refl, one)), tt));
         here = record { answer = answers.TheVariants.Truth true; wrote = told.TheVariants.Set p bit ∷ []; span = refl; steps = omega arith };
@@ -132,7 +134,7 @@ module _ {T : Type 0} (code : Coding T) (c : ℕ) (s : BitSet T) (events : List 
       stage = setting.TheVariants.ExchangesElement found
 
       parts : (back : Bool) (then : After BitsFlight (Answer T)) (fx : List (Event T)) → goes_back (set_at bit stage) word ≡ back → after (set_at bit stage) word ≡ then → effects_of p (set_at bit stage) word ≡ fx → Does (Some (exchanging found)) back then fx → DoesOf stage
-      parts back then fx turns goes tells shows = by_parts code c s events p latest changes since steps backs [] (starts.TheVariants.Set bit) (set_at bit stage) back then fx turns goes tells shows
+      parts back then fx is_back goes tells shows = by_parts code c s events turns p changes since steps backs [] (starts.TheVariants.Set bit) (set_at bit stage) back then fx is_back goes tells shows
 
       go : (t : Bool) → (word == found) ≡ t → (u : Bool) → has_flag word bit ≡ u → DoesOf stage
       go true t u e = parts false (Done (answers.TheVariants.Truth true)) (told.TheVariants.Set p bit ∷ []) (rw t refl) (rw t refl) (rw t refl) (sets_it found was t paid few)

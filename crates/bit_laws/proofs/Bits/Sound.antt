@@ -1,8 +1,7 @@
--- Every turn keeps what holds of a bit set's machine: the laws of the family.
-use Rattle.std.proofs.Common.{◌≡◌, ℕ, ◌+◌, ◌-◌, ◌^◌, ◌<◌, ◌≤◌, nat_lt, nat_le, Bool, true, false, Option, Some, None, List, [], ◌∷◌, ◌++◌, replicate, refl, sym, ap, subst, ◌∙◌, arith}
+-- Where the machine of a bit set opens, where each of its calls begins, and what each step of them shows.
+use Rattle.std.proofs.Common.{◌≡◌, ℕ, ◌+◌, ◌<◌, ◌≤◌, nat_lt, nat_le, Bool, true, false, Some, List, [], ◌∷◌, replicate, refl, sym, ap, subst, ◌∙◌, arith}
 use Rattle.std.proofs.lemmas.Bool.Decides.{nat_tests}
 use Rattle.std.proofs.lemmas.List.{length-replicate}
-use Rattle.steps.specs.declared.ask.Ask.{Ask}
 use Rattle.steps.specs.declared.bits.bit_set.SetStage.{SetStage}
 use Rattle.steps.specs.declared.bits.bit_set.SetStage as setting
 use Rattle.steps.specs.declared.bits.bit_set.ResetNextStage.{ResetNextStage}
@@ -15,41 +14,29 @@ use Rattle.model.specs.declared.event.Event.TheVariants.{Begun}
 use Rattle.model.specs.declared.event.Start.{Start}
 use Rattle.model.specs.declared.event.Start.TheVariants.{Bits}
 use Rattle.model.specs.declared.families.Flight.{Flight}
-use Rattle.model.specs.declared.families.Flight as flights
-use Rattle.model.specs.declared.families.Kept.{Kept}
-use Rattle.model.specs.declared.families.Kept as kepts
 use Rattle.model.specs.declared.families.bits.BitsStart.{BitsStart}
 use Rattle.model.specs.declared.families.bits.BitsStart as starts
 use Rattle.model.specs.declared.families.bits.calls.BitsFlight.{BitsFlight}
 use Rattle.model.specs.declared.families.bits.calls.BitsFlight as calls
-use Rattle.model.specs.declared.party.Doing.TheVariants.{Going}
-use Rattle.model.specs.declared.party.Party.{Party}
 use Rattle.model.specs.declared.turn.Kind as kinds
-use Rattle.model.specs.declared.turn.Refusal.TheVariants.{BadIndex}
 use Rattle.model.specs.Coding.{Coding}
-use Rattle.model.specs.Families.{first_of, want_of, ask_of, is_question, beside_of, step_of}
+use Rattle.model.specs.Families.{first_of, is_question}
 use Rattle.model.specs.Families.Bits.Calls.{first, want}
-use Rattle.model.specs.Families.Bits.Opening.{is_past, kept_rows}
+use Rattle.model.specs.Families.Bits.Opening.{bits_words, is_past}
 use Rattle.model.specs.Families.Bits.Reading.{clears}
 use Rattle.model.specs.Families.Queues.Calls.{fresh}
-use Rattle.model.specs.Parties.{party_of}
-use Rattle.model.specs.Reading.{Open, span_of}
-use Rattle.model.specs.Rows.{first_row}
-use Rattle.model.specs.Turns.{one_if, old_of, words_after, change_of, step_count, doing_after, party_at_begin, events_of_step, IsReached}
-use Rattle.model.specs.World.{Trace, opening}
-use Rattle.model.proofs.Frame as frame
+use Rattle.model.specs.Turns.{one_if}
 use Rattle.model.proofs.Moments.{since_now}
-use Rattle.model.proofs.Readings.{Each-nil, span_of-own}
-use Rattle.model.proofs.Rows.{row_passed, MayBegin}
+use Rattle.model.proofs.Readings.{Each-nil}
 use Rattle.bit_laws.proofs.Bits.Alls.{all_at, reset_all_step}
 use Rattle.bit_laws.proofs.Bits.Core.{ClearedBelow}
-use Rattle.bit_laws.proofs.Bits.Invariant.{BitSet, Holds, Shows, wrote_by, family, holds_more, owes}
-use Rattle.bit_laws.proofs.Bits.Knows.{CallAt, KnowsCall, KnowsSet, KnowsNext, call_wrote, number_of, next_number, set_at, next_at}
+use Rattle.bit_laws.proofs.Bits.Invariant.{Holds, Conserves, rest_conserves, bit_set}
+use Rattle.bit_laws.proofs.Bits.Knows.{CallAt, KnowsSet, KnowsNext, next_number, set_at, next_at}
 use Rattle.bit_laws.proofs.Bits.Nexts.{next_step}
 use Rattle.bit_laws.proofs.Bits.Sets.{set_step}
-use Rattle.bit_laws.proofs.Bits.Steps.{ShowsStep}
+use Rattle.bit_laws.proofs.Family.{SetState, ShowsStep, StepOf}
+use Rattle.bit_laws.proofs.Laws.{IsOwn, IsFirst}
 use Rattle.bit_laws.proofs.Words.{zeros}
-use Rattle.bit_laws.proofs.Spans.{wrote_in}
 
 -- at the opening no bit stands
 opens_clear : (c b : ℕ) → stands (replicate (1 + elements c) 0) b ≡ false
@@ -74,208 +61,76 @@ all_asks room word end = go (nat_lt word end) refl
     go true t = rw t refl
     go false t = rw t refl
 
-never_asks : {T : Type 0} (c : ℕ) (wrote : List (Event T)) (start : BitsStart) (flight : BitsFlight) → CallAt c wrote start flight → is_question (want flight) ≡ false
+pub never_asks : {T : Type 0} (c : ℕ) (wrote : List (Event T)) (start : BitsStart) (flight : BitsFlight) → CallAt c wrote start flight → is_question (want flight) ≡ false
 never_asks c wrote (starts.TheVariants.Set bit) (calls.TheVariants.Set run) at = set_asks run.given run.call.stage
 never_asks c wrote starts.TheVariants.ResetNext (calls.TheVariants.ResetNext run) at = next_asks run.call.capacity run.call.stage
 never_asks c wrote starts.TheVariants.ResetAll (calls.TheVariants.ResetAll run) at = all_asks run.room run.call.word run.call.end
 never_asks c wrote start flight at = absurd at
 
 module _ {T : Type 0} where
-  never_due : {A : Type 0} → (code z : Coding T) (c : ℕ) (s : BitSet T) (p : ℕ) (start : Start T) (flight : Flight T) → (family code c).At s p start flight → is_question (want_of z flight) ≡ true → A
-  never_due code z c s p (Bits start) (flights.TheVariants.Bits flight) at e = let none = never_asks c (wrote_in (span_of p s.events)) start flight at in absurd (cc)
-  never_due code z c s p start flight at e = absurd at
+  pub opens : (c : ℕ) → Holds {T = T} c (bits_words c) []
+  opens c =
+      record {
+        sized = length-replicate (1 + elements c) 0;
+        conserved = λ b. (let none : one_if (stands (replicate (1 + elements c) 0) b) ≡ 0 = ap one_if (opens_clear c b) in omega arith);
+        within = λ b past. refl;
+        answers = Each-nil _;
+      }
 
   -- ---- one step of a call
 
-  module _ (code : Coding T) (c : ℕ) (s : BitSet T) (events : List (Event T)) (p : ℕ) (latest : List (ℕ × Party T)) (changes since steps backs : ℕ) (holds : Holds c s.words events) where
+  module _ (code : Coding T) (c : ℕ) (s : SetState T) (events : List (Event T)) (turns p changes since steps backs : ℕ) (holds : Holds c s.words events) where
     -- what its step shows, where its party's span was this
     abbrev Shown : List (Event T) → BitsStart → BitsFlight → Type 0
-    Shown wrote start flight = ShowsStep code c s events p latest changes since steps backs wrote start flight
+    Shown wrote start flight = ShowsStep bit_set code c s events turns p changes since steps backs wrote start flight
 
-    pub step_shows : (start : BitsStart) (flight : BitsFlight) (wrote : List (Event T)) → CallAt c (wrote_in (span_of p s.events)) start flight → span_of p events ≡ Open (Bits start) wrote → wrote ≡ call_wrote p flight (span_of p s.events)
-        → steps ≤ number_of flight backs → KnowsCall p events s.words since changes backs flight → Shown wrote start flight
+    pub step_shows : (start : BitsStart) (flight : BitsFlight) (wrote : List (Event T)) → StepOf bit_set code c s events turns p changes since steps backs start flight wrote
     step_shows (starts.TheVariants.Set bit) (calls.TheVariants.Set run) wrote at is from few knows =
         subst (λ n. Shown wrote (starts.TheVariants.Set bit) (set_at n run.call.stage)) (sym at.0)
         (subst (λ es. Shown es (starts.TheVariants.Set bit) (set_at bit run.call.stage)) (sym from)
-        (set_step code c s events p latest changes since steps backs holds bit at.1 run.call.stage at.2 (subst (λ n. KnowsSet s.words since changes backs n run.call.stage) at.0 knows) few))
+        (set_step code c s events turns p changes since steps backs holds bit at.1 run.call.stage at.2 (subst (λ n. KnowsSet s.words since changes backs n run.call.stage) at.0 knows) few))
     step_shows starts.TheVariants.ResetNext (calls.TheVariants.ResetNext run) wrote at is from few knows =
         subst (λ n. Shown wrote starts.TheVariants.ResetNext (next_at n run.call.stage)) (sym at.0)
         (subst (λ es. Shown es starts.TheVariants.ResetNext (next_at c run.call.stage)) (sym from)
-        (next_step code c s events p latest changes since steps backs holds run.call.stage at.1 (subst (λ n. KnowsNext n p events s.words since changes backs run.call.stage) at.0 knows) (subst (λ n. steps ≤ next_number n run.call.stage backs) at.0 few)))
+        (next_step code c s events turns p changes since steps backs holds run.call.stage at.1 (subst (λ n. KnowsNext n p events s.words since changes backs run.call.stage) at.0 knows) (subst (λ n. steps ≤ next_number n run.call.stage backs) at.0 few)))
     step_shows starts.TheVariants.ResetAll (calls.TheVariants.ResetAll run) wrote at is from few knows =
-        reset_all_step code c s events p latest changes since steps backs holds wrote is run.call.word at.1 (λ b past. subst (λ xs. clears b xs ≡ 0) (sym from) (at.3 b past)) knows.1 knows.0 few run.room run.call.end at.0 (let below = at.2 in let end = at.0 in omega arith)
+        reset_all_step code c s events turns p changes since steps backs holds wrote is run.call.word at.1 (λ b past. subst (λ xs. clears b xs ≡ 0) (sym from) (at.3 b past)) knows.1 knows.0 few run.room run.call.end at.0 (let below = at.2 in let end = at.0 in omega arith)
     step_shows start flight wrote at is from few knows = absurd at
 
-  -- ---- the laws of the family
+  -- ---- a call begins
 
-  module _ (code : Coding T) (c : ℕ) (t : Trace T) (s : frame.Sound (family code c) t) (p : ℕ) where
-    -- a party's call under way stands where the set has such a call
-    pub stands_at : (x : Party T) (flight : Flight T) (since : ℕ) → party_of p t.world.latest ≡ Some x → x.doing ≡ Going flight since → (family code c).At s.state p x.start flight
-    stands_at x flight since found doing =
-        let fits = subst (λ o. frame.Fits (family code c) s.state p o (span_of p t.events)) found (s.inv.calls p) in
-        (frame.under_way (family code c) s.state p x x.doing flight since (span_of p t.events) doing fits).at
+  module _ (c p : ℕ) (events : List (Event T)) (words : List ℕ) (changes : ℕ) where
+    abbrev First : BitsStart → BitsFlight → Type 0
+    First start flight = IsFirst bit_set c p events words changes start flight
 
-    pub asks_nothing : {A : Type 0} → (x : Party T) (flight : Flight T) (since : ℕ) → party_of p t.world.latest ≡ Some x → x.doing ≡ Going flight since → is_question (want_of t.world.coding flight) ≡ true → A
-    asks_nothing x flight since found doing asks =
-        never_due code t.world.coding c s.state p x.start flight (stands_at x flight since found doing) asks
-
-    -- what was shown comes to the next machine
-    shown : (kept : Kept) (words : List ℕ) (from : _) (y : Party T) (es : List (Event T)) (changes' : ℕ) → kept ≡ kepts.TheVariants.Nothing → span_of p t.events ≡ from
-        → Shows code c s.state t.events p t.world.latest t.world.changes words from y es changes' → frame.Comes (family code c) t p kept words y es changes'
-    shown kept words from y es changes' none is shows =
-        record {
-          state = record { words = words; events = t.events ++ es };
-          fit = (none, refl);
-          holds = (holds_more code c s.state t.events p t.world.latest t.world.changes words from y es changes' shows s.holds.0, refl);
-          owes = owes code c s.state t.events p t.world.latest t.world.changes words from y es changes' shows is s.holds.1 s.inv;
-        }
-
-    module _ (small : t.world.turns < 2 ^ 64 - 2) (x : Party T) (since : ℕ) where
-      abbrev asks : Coding T → Flight T → Option Ask
-      asks z flight = ask_of (want_of z flight)
-
-      -- what its step comes to where the words, what is kept, and the call's name are these
-      abbrev ComesTo : List ℕ → Kept → Start T → Flight T → Type 0
-      ComesTo words kept start flight =
-          let z = t.world.coding in
-          frame.Comes (family code c) t p (step_of z words (beside_of words kept t.world.latest p) p start flight (old_of words (asks z flight)) kept).kept (words_after words (asks z flight))
-          (record {
-            start = start;
-            steps = x.steps + step_count (asks z flight);
-            backs = x.backs + one_if (step_of z words (beside_of words kept t.world.latest p) p start flight (old_of words (asks z flight)) kept).back;
-            doing = doing_after (t.world.changes + change_of words (asks z flight)) (since + change_of words (asks z flight)) (step_of z words (beside_of words kept t.world.latest p) p start flight (old_of words (asks z flight)) kept).after;
-          })
-          (events_of_step p start (step_of z words (beside_of words kept t.world.latest p) p start flight (old_of words (asks z flight)) kept))
-          (t.world.changes + change_of words (asks z flight))
-
-      comes : (start : Start T) (flight : Flight T) → (family code c).At s.state p start flight → x.steps ≤ (family code c).number flight x.backs → (family code c).Knows s.state p t.events since t.world.changes x.backs flight → span_of p t.events ≡ Open start (wrote_by p flight (span_of p s.state.events))
-          → ComesTo s.state.words kepts.TheVariants.Nothing start flight
-      comes (Bits start) (flights.TheVariants.Bits flight) at steps knows seen =
-          let wrote : List (Event T) = call_wrote p flight (span_of p s.state.events) in
-          let shows = step_shows code c s.state t.events p t.world.latest t.world.changes since x.steps x.backs s.holds.0 start flight wrote at seen refl steps knows in
-          shown kepts.TheVariants.Nothing _ (Open (Bits start) wrote) _ _ _ refl seen shows
-      comes start flight at steps knows seen = absurd at
-
-      pub step_comes : (flight : Flight T) → party_of p t.world.latest ≡ Some x → x.doing ≡ Going flight since → frame.ComesByStep (family code c) t p x flight since (asks t.world.coding flight) (old_of t.world.words (asks t.world.coding flight))
-      step_comes flight found doing =
-          let fits = subst (λ o. frame.Fits (family code c) s.state p o (span_of p t.events)) found (s.inv.calls p) in
-          let here = frame.under_way (family code c) s.state p x x.doing flight since (span_of p t.events) doing fits in
-          let knows = frame.knows_now (family code c) s.state p t.events t.world.changes (party_of p t.world.latest) x flight since found doing (s.inv.knows p) in
-          subst (λ ws. ComesTo ws t.world.kept x.start flight) (sym s.fit.1)
-          (subst (λ kept. ComesTo s.state.words kept x.start flight) (sym s.fit.0) (comes x.start flight here.at here.steps knows here.span))
-
-    -- ---- a call begins
-
-    record IsFirst (start : BitsStart) (flight : BitsFlight) : Type 0 where
-      pub at : CallAt {T = T} c [] start flight
-      pub knows : KnowsCall {T = T} p (t.events ++ Begun p (Bits start) ∷ []) s.state.words t.world.changes t.world.changes 0 flight
-      pub none : number_of flight 0 ≡ 0
-      pub wrote : call_wrote {T = T} p flight (Open (Bits start) []) ≡ []
-
-    set_is : (bit : ℕ) → is_past c (starts.TheVariants.Set bit) ≡ false → IsFirst (starts.TheVariants.Set bit) (set_at bit setting.TheVariants.LoadsElement)
+    set_is : (bit : ℕ) → is_past c (starts.TheVariants.Set bit) ≡ false → First (starts.TheVariants.Set bit) (set_at bit setting.TheVariants.LoadsElement)
     set_is bit r =
         let t : nat_le c bit ≡ false = r in
         let below : bit < c = grind (arith, nat_tests) in
-        record { at = (refl, below, tt); knows = omega arith; none = refl; wrote = refl }
+        record { at = (refl, below, tt); knows = omega arith; wrote = refl }
 
-    next_is : IsFirst starts.TheVariants.ResetNext (next_at c resetting.TheVariants.LoadsPosition)
-    next_is = record { at = (refl, tt); knows = omega arith; none = refl; wrote = refl }
+    next_is : First starts.TheVariants.ResetNext (next_at c resetting.TheVariants.LoadsPosition)
+    next_is = record { at = (refl, tt); knows = omega arith; wrote = refl }
 
-    all_is : IsFirst starts.TheVariants.ResetAll (all_at fresh 1 (1 + elements c))
+    all_is : First starts.TheVariants.ResetAll (all_at fresh 1 (1 + elements c))
     all_is =
         record {
           at = (refl, omega arith, omega arith, λ b past. refl);
-          knows = (refl, since_now p (ClearedBelow 1) t.events (Bits starts.TheVariants.ResetAll) (λ b below stood. absurd (omega arith)));
-          none = refl;
+          knows = (refl, since_now p (ClearedBelow 1) events (Bits starts.TheVariants.ResetAll) (λ b below stood. absurd (omega arith)));
           wrote = refl;
         }
 
-    first_is : (start : BitsStart) (flight : BitsFlight) → first kinds.TheVariants.Bits c start ≡ Some flight → is_past c start ≡ false → IsFirst start flight
-    first_is (starts.TheVariants.Set bit) flight e r = subst (IsFirst (starts.TheVariants.Set bit)) (cc) (set_is bit r)
-    first_is starts.TheVariants.ResetNext flight e r = subst (IsFirst starts.TheVariants.ResetNext) (cc) next_is
-    first_is starts.TheVariants.ResetAll flight e r = subst (IsFirst starts.TheVariants.ResetAll) (cc) all_is
+    pub first_is : (start : BitsStart) (flight : BitsFlight) → first kinds.TheVariants.Bits c start ≡ Some flight → is_past c start ≡ false → First start flight
+    first_is (starts.TheVariants.Set bit) flight e r = subst (First (starts.TheVariants.Set bit)) (cc) (set_is bit r)
+    first_is starts.TheVariants.ResetNext flight e r = subst (First starts.TheVariants.ResetNext) (cc) next_is
+    first_is starts.TheVariants.ResetAll flight e r = subst (First starts.TheVariants.ResetAll) (cc) all_is
 
-    abbrev begun : BitsStart → List (Event T)
-    begun start = Begun p (Bits start) ∷ []
+  -- a call that begins on a bit set is one of its own
+  pub begins_own : (c : ℕ) (start : Start T) (flight : Flight T) → first_of kinds.TheVariants.Bits c start ≡ Some flight → IsOwn start
+  begins_own c (Bits start) flight e = tt
+  begins_own c start flight e = absurd (cc)
 
-    begins : (start : BitsStart) (flight : BitsFlight) → IsFirst start flight → MayBegin t.world p (Bits start)
-        → frame.Comes (family code c) t p kepts.TheVariants.Nothing s.state.words (party_at_begin (Bits start) (flights.TheVariants.Bits flight) t.world.changes) (begun start) t.world.changes
-    begins start flight is may =
-        let from = span_of p t.events in
-        let then_span : span_of p (t.events ++ begun start) ≡ Open (Bits start) [] = span_of-own p t.events (begun start) (refl, tt) in
-        shown kepts.TheVariants.Nothing s.state.words from (party_at_begin (Bits start) (flights.TheVariants.Bits flight) t.world.changes) (begun start) t.world.changes refl refl
-        (record {
-          sized = refl;
-          moved = λ b. refl;
-          within = λ b past. refl;
-          pays = record { up = omega arith; changed = λ i ne. absurd (ne refl) };
-          right = (tt, tt);
-          own = (refl, tt);
-          stands = (frame.shut (family code c) s.state p (party_of p t.world.latest) from may.free (s.inv.calls p), tt);
-          here =
-              record {
-                span = sym (ap (λ span. Open (Bits start) (call_wrote p flight span)) then_span ∙ ap (Open (Bits start)) is.wrote);
-                steps = omega arith;
-                at = subst (λ span. CallAt c (wrote_in span) start flight) (sym then_span) is.at;
-              };
-          knows = is.knows;
-        })
-
-    -- a call that begins on a bit set is one of its own
-    some_first : (start : BitsStart) (flight : Flight T) → first_of kinds.TheVariants.Bits c (Bits start) ≡ Some flight → (own : BitsFlight) × (flight ≡ flights.TheVariants.Bits own) × (first kinds.TheVariants.Bits c start ≡ Some own)
-    some_first start flight e = go (first kinds.TheVariants.Bits c start) refl
-      where
-        go : (o : Option BitsFlight) → first kinds.TheVariants.Bits c start ≡ o → (own : BitsFlight) × (flight ≡ flights.TheVariants.Bits own) × (first kinds.TheVariants.Bits c start ≡ Some own)
-        go None h = let none : None ≡ Some flight = rw h at e in absurd (cc)
-        go (Some own) h = let same : Some (flights.TheVariants.Bits own) ≡ Some flight = rw h at e in (own, cc, h)
-
-    pub begin_comes : (start : Start T) (flight : Flight T) → MayBegin t.world p start → first_of t.world.kind t.world.capacity start ≡ Some flight
-        → frame.Comes (family code c) t p t.world.kept t.world.words (party_at_begin start flight t.world.changes) (Begun p start ∷ []) t.world.changes
-    begin_comes (Bits start) flight may e =
-        let named : first_of kinds.TheVariants.Bits t.world.capacity (Bits start) ≡ Some flight = subst (λ kind. first_of kind t.world.capacity (Bits start) ≡ Some flight) s.kind e in
-        let own = some_first start flight (subst (λ n. first_of kinds.TheVariants.Bits n (Bits start) ≡ Some flight) s.capacity named) in
-        let rows : first_row (kept_rows t.world.capacity start kepts.TheVariants.Nothing p) ≡ None = subst (λ kept. first_row (kept_rows t.world.capacity start kept p) ≡ None) s.fit.0 may.rows in
-        let place : is_past t.world.capacity start ≡ false = (row_passed (is_past t.world.capacity start) BadIndex None rows).0 in
-        let is = first_is start own.0 own.2 (subst (λ n. is_past n start ≡ false) s.capacity place) in
-        subst (λ ws. frame.Comes (family code c) t p t.world.kept ws (party_at_begin (Bits start) flight t.world.changes) (begun start) t.world.changes) (sym s.fit.1)
-        (subst (λ kept. frame.Comes (family code c) t p kept s.state.words (party_at_begin (Bits start) flight t.world.changes) (begun start) t.world.changes) (sym s.fit.0)
-        (subst (λ f. frame.Comes (family code c) t p kepts.TheVariants.Nothing s.state.words (party_at_begin (Bits start) f t.world.changes) (begun start) t.world.changes) (sym own.1) (begins start own.0 is may)))
-    begin_comes start flight may e =
-        let named : first_of kinds.TheVariants.Bits t.world.capacity start ≡ Some flight = subst (λ kind. first_of kind t.world.capacity start ≡ Some flight) s.kind e in
-        absurd (cc)
-
-  laws : (code : Coding T) (c : ℕ) → frame.Laws (family code c)
-  laws code c =
-      record {
-        step = λ t p x flight since s small found doing. step_comes code c t s p small x since flight found doing;
-        decision = λ t p x flight since said s small found doing asks. asks_nothing code c t s p x flight since found doing asks;
-        begin = λ t p start flight s may e. begin_comes code c t s p start flight may e;
-      }
-
-  opening_sound : (code : Coding T) (c parties : ℕ) → frame.Sound (family code c) (opening code kinds.TheVariants.Bits c parties)
-  opening_sound code c parties =
-      record {
-        coding = refl;
-        kind = refl;
-        capacity = refl;
-        state = record { words = replicate (1 + elements c) 0; events = [] };
-        fit = (refl, refl);
-        holds = (
-          record {
-            sized = length-replicate (1 + elements c) 0;
-            conserved = λ b. (let none : one_if (stands (replicate (1 + elements c) 0) b) ≡ 0 = ap one_if (opens_clear c b) in omega arith);
-            within = λ b past. refl;
-            answers = Each-nil _;
-          },
-          refl,
-        );
-        inv = record { spans = Each-nil _; calls = λ p. refl; knows = λ p. tt };
-      }
-
-  pub reached_sound : (t : Trace T) → t.world.kind ≡ kinds.TheVariants.Bits → IsReached t → frame.Sound (family t.world.coding t.world.capacity) t
-  reached_sound t is r =
-      let w = t.world in
-      let first = opening_sound w.coding w.capacity w.parties in
-      frame.reached_sound (family w.coding w.capacity) (laws w.coding w.capacity) t
-      (subst (λ kind. frame.Sound (family w.coding w.capacity) (opening w.coding kind w.capacity w.parties)) (sym is) first)
-      r
+  -- to begin changes no bit
+  pub begins_none : (c p : ℕ) (start : BitsStart) (words : List ℕ) (events : List (Event T)) (changes : ℕ) → Conserves c words events changes words (Begun p (Bits start) ∷ []) changes
+  begins_none c p start words events changes =
+      rest_conserves c words events changes words (Begun p (Bits start) ∷ []) changes refl (λ b. refl) (λ b. refl) (λ b. refl) (record { up = omega arith; changed = λ i ne. absurd (ne refl) }) (tt, tt)

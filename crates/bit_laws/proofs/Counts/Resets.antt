@@ -14,7 +14,6 @@ use Rattle.model.specs.declared.event.Start.TheVariants.{Bits}
 use Rattle.model.specs.declared.families.bits.BitsStart.TheVariants.{ResetAll}
 use Rattle.model.specs.declared.families.bits.calls.BitsFlight.{BitsFlight}
 use Rattle.model.specs.declared.families.bits.calls.BitsFlight.TheVariants.{TakeAll}
-use Rattle.model.specs.declared.party.Party.{Party}
 use Rattle.model.specs.Coding.{Coding}
 use Rattle.model.specs.Families.{ask_of}
 use Rattle.model.specs.Families.Bits.Calls.{want, after}
@@ -28,8 +27,8 @@ use Rattle.model.specs.Promises.Spans.{Stands}
 use Rattle.model.proofs.Moments.{since_more}
 use Rattle.model.proofs.Readings.{AreRight, AreOwn, AllFollow, span_of-own}
 use Rattle.bit_laws.proofs.Counts.Core.{TakenBelow, taken_next, counts_more, takes_more}
-use Rattle.bit_laws.proofs.Counts.Invariant.{Counts, Holds, Shows}
-use Rattle.bit_laws.proofs.Counts.Steps.{StepShows, party_then}
+use Rattle.bit_laws.proofs.Counts.Invariant.{Holds, rest_conserves, counting_set}
+use Rattle.bit_laws.proofs.Family.{SetState, Shows, party_then, StepShows}
 use Rattle.bit_laws.proofs.Spans.{wrote_in}
 
 -- the call at this word, where so many are to be emptied and this was found last
@@ -37,7 +36,7 @@ abbrev pub take_at : OneWord → ℕ → ℕ → BitsFlight
 take_at room word end =
     TakeAll (record { call = record { word = word; end = end }; given = tt; room = room })
 
-module _ {T : Type 0} (code : Coding T) (c : ℕ) (s : Counts T) (events : List (Event T)) (turns p : ℕ) (latest : List (ℕ × Party T)) (changes since steps backs : ℕ) (holds : Holds c s.words events turns) (wrote : List (Event T)) (is : span_of p events ≡ Open (Bits ResetAll) wrote) (word : ℕ) (empty : (b : ℕ) → word ≤ b → takes b wrote ≡ 0) (taken : SinceBegin p (TakenBelow word) events) (still : backs ≡ 0) (few : steps ≤ word) where
+module _ {T : Type 0} (code : Coding T) (c : ℕ) (s : SetState T) (events : List (Event T)) (turns p changes since steps backs : ℕ) (holds : Holds c s.words events turns) (wrote : List (Event T)) (is : span_of p events ≡ Open (Bits ResetAll) wrote) (word : ℕ) (empty : (b : ℕ) → word ≤ b → takes b wrote ≡ 0) (taken : SinceBegin p (TakenBelow word) events) (still : backs ≡ 0) (few : steps ≤ word) where
   abbrev ws : List ℕ
   ws = s.words
 
@@ -48,7 +47,7 @@ module _ {T : Type 0} (code : Coding T) (c : ℕ) (s : Counts T) (events : List 
   swaps = Some (record { word = word; op = Swap 0 })
 
   abbrev Does : Option Ask → After BitsFlight (Answer T) → List (Event T) → Type 0
-  Does ask after fx = StepShows code c s events turns p latest changes since steps backs wrote ResetAll ask after fx
+  Does ask after fx = StepShows counting_set code c s events turns p changes since steps backs wrote ResetAll ask false after fx
 
   -- ---- the count
 
@@ -163,13 +162,15 @@ module _ {T : Type 0} (code : Coding T) (c : ℕ) (s : Counts T) (events : List 
 
       goes_on : (fx : List (Event T)) → TakesOut fx → word + 1 < end → Does swaps next fx
       goes_on fx out more =
-          subst (λ es. Shows code c s events turns p latest changes (set ws word 0) (Open (Bits ResetAll) wrote) (party_then code c s events turns p latest changes since steps backs ResetAll swaps next) es (changes + change_of ws swaps)) (sym (append-nil fx))
+          subst (λ es. Shows counting_set code c s events turns p changes (set ws word 0) (Open (Bits ResetAll) wrote) (party_then counting_set code c s events turns p changes since steps backs ResetAll swaps false next) es (changes + change_of ws swaps)) (sym (append-nil fx))
           (record {
-            sized = length-set ws word 0;
-            moved = λ b. moved b (counts b fx) (takes b fx) (out.counts b) (out.takes b);
-            within = λ b past. out.counts b;
-            low = not_far within;
-            right = out.right;
+            conserves = record {
+              sized = length-set ws word 0;
+              moved = λ b. moved b (counts b fx) (takes b fx) (out.counts b) (out.takes b);
+              within = λ b past. out.counts b;
+              low = not_far within;
+              right = out.right;
+            };
             own = out.own;
             stands = out.stands;
             here =
@@ -188,11 +189,13 @@ module _ {T : Type 0} (code : Coding T) (c : ℕ) (s : Counts T) (events : List 
       ends_with_none last none =
           let out = takes_nothing none in
           record {
-            sized = length-set ws word 0;
-            moved = λ b. moved b 0 0 refl (out.takes b);
-            within = λ b past. refl;
-            low = not_far within;
-            right = (subst (λ es. SinceBegin p (HasTaken c) es) (append-nil events) (all_taken last [] out), tt);
+            conserves = record {
+              sized = length-set ws word 0;
+              moved = λ b. moved b 0 0 refl (out.takes b);
+              within = λ b past. refl;
+              low = not_far within;
+              right = (subst (λ es. SinceBegin p (HasTaken c) es) (append-nil events) (all_taken last [] out), tt);
+            };
             own = (refl, tt);
             stands = ((refl, tt), tt);
             here = record { answer = answers.TheVariants.Done; wrote = wrote; span = refl; steps = omega arith };
@@ -203,11 +206,13 @@ module _ {T : Type 0} (code : Coding T) (c : ℕ) (s : Counts T) (events : List 
       ends_with_some last some =
           let out = takes_some some in
           record {
-            sized = length-set ws word 0;
-            moved = λ b. (let m = moved b 0 (cond (word == b) count 0) refl refl in omega arith);
-            within = λ b past. refl;
-            low = not_far within;
-            right = (tt, (all_taken last (TakenOut p word count ∷ []) out, tt));
+            conserves = record {
+              sized = length-set ws word 0;
+              moved = λ b. (let m = moved b 0 (cond (word == b) count 0) refl refl in omega arith);
+              within = λ b past. refl;
+              low = not_far within;
+              right = (tt, (all_taken last (TakenOut p word count ∷ []) out, tt));
+            };
             own = (refl, (refl, tt));
             stands = ((some, empty), ((refl, tt), tt));
             here = record { answer = answers.TheVariants.Done; wrote = wrote ++ TakenOut p word count ∷ []; span = refl; steps = omega arith };
@@ -227,11 +232,7 @@ module _ {T : Type 0} (code : Coding T) (c : ℕ) (s : Counts T) (events : List 
     asks_nothing : word ≡ c → Does None done []
     asks_nothing last =
         record {
-          sized = refl;
-          moved = λ b. refl;
-          within = λ b past. refl;
-          low = λ b. (let low = holds.low b in omega arith);
-          right = (subst (λ n. SinceBegin p (TakenBelow n) events) last taken, tt);
+          conserves = rest_conserves c ws events turns _ holds (λ b. refl) (λ b. refl) (subst (λ n. SinceBegin p (TakenBelow n) events) last taken, tt);
           own = (refl, tt);
           stands = ((refl, tt), tt);
           here = record { answer = answers.TheVariants.Done; wrote = wrote; span = refl; steps = omega arith };

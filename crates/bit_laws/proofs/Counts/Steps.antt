@@ -1,66 +1,40 @@
 -- What each step of a call shows: a set adds 1 to its count, and a reset of all swaps the next count with 0.
-use Rattle.std.proofs.Common.{◌≡◌, ◌≢◌, ℕ, ◌+◌, ◌-◌, ◌%◌, ◌^◌, ◌<◌, ◌≤◌, ◌==◌, Bool, true, false, Option, Some, List, [], ◌∷◌, ◌++◌, length, get_or, set, refl, sym, arith, length-set, get_or-set_same, get_or-set_other}
+use Rattle.std.proofs.Common.{◌≡◌, ◌≢◌, ℕ, ◌+◌, ◌-◌, ◌%◌, ◌^◌, ◌<◌, ◌≤◌, ◌==◌, Bool, true, false, Some, List, [], ◌∷◌, length, get_or, set, refl, sym, arith, length-set, get_or-set_same, get_or-set_other}
 use Rattle.std.proofs.lemmas.Bool.Decides.{nat_tests}
-use Rattle.steps.specs.declared.ask.Ask.{Ask}
 use Rattle.steps.specs.declared.ask.Op.TheVariants.{Add}
-use Rattle.steps.specs.declared.ask.After.{After}
 use Rattle.steps.specs.declared.ask.After.TheVariants.{Done}
-use Rattle.model.specs.declared.event.Answer.{Answer}
 use Rattle.model.specs.declared.event.Answer as answers
 use Rattle.model.specs.declared.event.Event.{Event}
 use Rattle.model.specs.declared.event.Event.TheVariants.{Counted, Finished}
 use Rattle.model.specs.declared.event.Start.TheVariants.{Bits}
-use Rattle.model.specs.declared.families.bits.BitsStart.{BitsStart}
 use Rattle.model.specs.declared.families.bits.BitsStart.TheVariants.{Set}
-use Rattle.model.specs.declared.families.bits.calls.BitsFlight.{BitsFlight}
-use Rattle.model.specs.declared.party.Party.{Party}
 use Rattle.model.specs.Coding.{Coding}
-use Rattle.model.specs.Families.Bits.Calls.{after}
 use Rattle.model.specs.Families.Bits.Reading.{counts, count_at}
-use Rattle.model.specs.Reading.{Open}
-use Rattle.model.specs.Step.{answer_in}
-use Rattle.model.specs.Turns.{words_after, change_of, step_count, doing_after, ending_of}
-use Rattle.bit_laws.proofs.Counts.Invariant.{Counts, Holds, Shows}
-use Rattle.bit_laws.proofs.Spans.{any_call}
+use Rattle.bit_laws.proofs.Counts.Invariant.{Holds, counting_set}
+use Rattle.bit_laws.proofs.Family.{SetState, StepShows}
 
-module _ {T : Type 0} (code : Coding T) (c : ℕ) (s : Counts T) (events : List (Event T)) (turns p : ℕ) (latest : List (ℕ × Party T)) (changes since steps backs : ℕ) where
+module _ {T : Type 0} (code : Coding T) (c : ℕ) (s : SetState T) (events : List (Event T)) (turns p changes since steps backs : ℕ) where
   abbrev ws : List ℕ
   ws = s.words
-
-  -- the party after a step that does this operation
-  abbrev pub party_then : BitsStart → Option Ask → After BitsFlight (Answer T) → Party T
-  party_then start ask after =
-      record {
-        start = Bits start;
-        steps = steps + step_count ask;
-        backs = backs + 0;
-        doing = doing_after (changes + change_of ws ask) (since + change_of ws ask) (any_call after);
-      }
-
-  abbrev pub events_then : BitsStart → List (Event T) → After BitsFlight (Answer T) → List (Event T)
-  events_then start wrote after = wrote ++ ending_of p (Bits start) (answer_in (any_call after))
-
-  -- a step that shows what it has to
-  abbrev pub StepShows : List (Event T) → BitsStart → Option Ask → After BitsFlight (Answer T) → List (Event T) → Type 0
-  StepShows before start ask after wrote =
-      Shows code c s events turns p latest changes (words_after ws ask) (Open (Bits start) before) (party_then start ask after) (events_then start wrote after) (changes + change_of ws ask)
 
   module _ (small : turns < 2 ^ 64 - 2) (holds : Holds c ws events turns) where
     -- ---- a set
 
     pub set_shows : (place : ℕ) → place < c → steps ≤ 0 → backs ≡ 0
-        → StepShows [] (Set place) (Some (record { word = place; op = Add 1 })) (Done (answers.TheVariants.Number (get_or ws place 0))) (Counted p place ∷ [])
+        → StepShows counting_set code c s events turns p changes since steps backs [] (Set place) (Some (record { word = place; op = Add 1 })) false (Done (answers.TheVariants.Number (get_or ws place 0))) (Counted p place ∷ [])
     set_shows place below s b =
         let low = holds.low place in
         let sized = holds.sized in
         let within : place < length ws = omega arith in
         let next : (get_or ws place 0 + 1) % 2 ^ 64 ≡ get_or ws place 0 + 1 = omega arith in
         record {
-          sized = length-set ws place ((get_or ws place 0 + 1) % 2 ^ 64);
-          moved = moved within next;
-          within = past;
-          low = not_far within next;
-          right = (tt, (record { before = events; is = refl; count = now }, tt));
+          conserves = record {
+            sized = length-set ws place ((get_or ws place 0 + 1) % 2 ^ 64);
+            moved = moved within next;
+            within = past;
+            low = not_far within next;
+            right = (tt, (record { before = events; is = refl; count = now }, tt));
+          };
           own = (refl, (refl, tt));
           stands = ((refl, refl), ((refl, (refl, one)), tt));
           here = record { answer = answers.TheVariants.Number (get_or ws place 0); wrote = Counted p place ∷ []; span = refl; steps = omega arith };
