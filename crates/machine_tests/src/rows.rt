@@ -1,5 +1,5 @@
 //! Rows of calls on a machine, each with what must come of it.
-use machine::Machine;
+use machine::{Machine, Stopped};
 use machine::event::{Answer, Event, Item, Start};
 use machine::families::queues::QueueStart;
 use machine::party::Progress;
@@ -60,6 +60,11 @@ fn step(machine: &mut Machine<u128>, turn: Turn<u128>) -> Result<(), Refusal> {
 /// The turns up to the first that is refused, likewise.
 pub fn run(machine: &mut Machine<u128>, turns: &[Turn<u128>]) -> usize {
     machine.run(turns)
+}
+
+/// The same with why it stopped, likewise.
+pub fn run_all(machine: &mut Machine<u128>, turns: &[Turn<u128>]) -> Result<(), Stopped> {
+    machine.run_all(turns)
 }
 
 /// A new machine, likewise.

@@ -1,10 +1,13 @@
 //! Runs of many turns, of large queues, of many parties and of calls that go back a thousand times.
-use crate::rows::{Row, made, run, tells_rounds};
+use crate::rows::{Row, made, run, run_all, tells_rounds};
+use machine::Stopped;
 use machine::event::{Answer, Event, Start};
 use machine::families::queues::QueueStart;
 use machine::turn::{Kind, Refusal, Turn};
 use std::alloc::{AllocError, Global};
 use std::test::Fail;
+
+const POPPED_NONE: Event<u128> = Event::Finished(1, Start::Queues(QueueStart::Pop), Answer::PoppedNone);
 
 /// At capacity 5,000.
 pub const MANY_VALUES: [Row; 7] = [
@@ -130,5 +133,30 @@ fn run_takes_the_turns_up_to_a_refusal(rt: HostRuntime) -> Result<(), Fail> {
     let push = [Turn::Begin(0, Start::Queues(QueueStart::PushIndex(7)))];
     assert!(rt; run(&mut machine, &push) == 1);
     assert!(rt; machine.events().len() == 3);
+    Ok(())
+}
+
+#[test]
+fn why_a_run_stopped(rt: HostRuntime) -> Result<(), Fail> {
+    let mut machine = made(rt.alloc(), Kind::IndexQueue, 3, 2)?;
+    let mut turns = many_turns(rt.alloc())?;
+    turns.extend_from_slice(&[Turn::Next(1), Turn::Begin(1, Start::Queues(QueueStart::Pop))])?;
+    let stopped = Stopped {
+        taken: 10_004,
+        refusal: Refusal::Idle,
+    };
+    assert!(rt; run_all(&mut machine, turns.as_slice()) == Err(stopped));
+    let turns = [
+        Turn::Begin(1, Start::Queues(QueueStart::Pop)),
+        Turn::Begin(1, Start::Queues(QueueStart::Pop)),
+    ];
+    let stopped = Stopped {
+        taken: 1,
+        refusal: Refusal::Busy,
+    };
+    assert!(rt; run_all(&mut machine, &turns) == Err(stopped));
+    assert!(rt; run_all(&mut machine, &[Turn::Next(1), Turn::Next(1)]) == Ok(()));
+    assert!(rt; machine.events().last() == Some(&POPPED_NONE));
+    assert!(rt; run_all(&mut machine, &[]) == Ok(()));
     Ok(())
 }
