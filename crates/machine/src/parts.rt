@@ -79,13 +79,14 @@ fn go_on<T: Words>(
     let Doing::Going(flight, since) = &mut party.doing else {
         return Err(Refusal::Idle);
     };
-    let (ask, answer) = match (flight.want(), said) {
+    let (want, most) = flight.going();
+    let (ask, answer) = match (want, said) {
         (Want::Question(_), Some(said)) => (None, number_of(said)),
         (Want::Ask(ask), None) => (Some(ask), words::old(words, Some(ask))),
         (Want::Nothing, None) => (None, 0),
         _ => return Err(Refusal::Undecided),
     };
-    let Ok(()) = events.reserve(flight.most_effects() + 1) else {
+    let Ok(()) = events.reserve(most + 1) else {
         return Err(Refusal::NoMemory);
     };
     let change = words::change(words, ask);
