@@ -16,4 +16,5 @@ pub mod Values
 pub mod Worked
 pub mod WorkedBits
 pub mod WorkedIndices
+pub mod WorkedRobust
 pub mod WorkedValue

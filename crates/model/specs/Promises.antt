@@ -24,6 +24,7 @@ module _ {T : Type 0} where
     pub counts : CountsTurn old.world turn new.world
     pub others : CountsOthers old.world turn new.world
     pub events : WritesDown promise old turn new
+    pub tells : promise.tells old turn new
 
   -- what it writes down
   abbrev pub WritesEvents : Trace T → Turn T → Trace T → Type 0

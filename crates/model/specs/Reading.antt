@@ -1,10 +1,10 @@
 -- How the events of a run are read.
-use Rattle.std.specs.Prelude.{◌≡◌, ℕ, ◌==◌, List, [], ◌∷◌, ◌++◌, fold, if◌then◌else◌}
+use Rattle.std.specs.Prelude.{◌≡◌, ℕ, ◌==◌, Bool, false, Option, Some, None, List, [], ◌∷◌, ◌++◌, fold, if◌then◌else◌}
 use Rattle.std.specs.List.{flat_map}
 use Rattle.model.specs.declared.event.Start.{Start}
 use Rattle.model.specs.declared.event.Answer.{Answer}
 use Rattle.model.specs.declared.event.Event.{Event}
-use Rattle.model.specs.declared.event.Event.TheVariants.{Begun, Published, HandedOut, Set, Cleared, Counted, TakenOut, Claimed, Freed, Locked, Acted, Finished}
+use Rattle.model.specs.declared.event.Event.TheVariants.{Begun, Published, HandedOut, Set, Cleared, Counted, TakenOut, Claimed, Freed, Locked, Filled, Granted, FreedOf, Asked, Told, Died, Acted, Finished}
 
 module _ {T : Type 0} where
   -- P holds of each event and of what stands before it
@@ -24,20 +24,30 @@ module _ {T : Type 0} where
 
   -- ---- spans
 
-  -- whose event it is
-  abbrev pub owner : Event T → ℕ
-  owner (Begun p start) = p
-  owner (Published p item) = p
-  owner (HandedOut p item) = p
-  owner (Set p bit) = p
-  owner (Cleared p bit) = p
-  owner (Counted p place) = p
-  owner (TakenOut p place number) = p
-  owner (Claimed p index) = p
-  owner (Freed p index) = p
-  owner (Locked p) = p
-  owner (Acted p start answer) = p
-  owner (Finished p start answer) = p
+  -- whose event it is: a party's, or of none where an owner dies
+  abbrev pub owner : Event T → Option ℕ
+  owner (Begun p start) = Some p
+  owner (Published p item) = Some p
+  owner (HandedOut p item) = Some p
+  owner (Set p bit) = Some p
+  owner (Cleared p bit) = Some p
+  owner (Counted p place) = Some p
+  owner (TakenOut p place number) = Some p
+  owner (Claimed p index) = Some p
+  owner (Freed p index) = Some p
+  owner (Locked p) = Some p
+  owner (Filled p index o) = Some p
+  owner (Granted p index o) = Some p
+  owner (FreedOf p index o) = Some p
+  owner (Asked p index o) = Some p
+  owner (Told p index o) = Some p
+  owner (Died o) = None
+  owner (Acted p start answer) = Some p
+  owner (Finished p start answer) = Some p
+
+abbrev pub is_party : ℕ → Option ℕ → Bool
+is_party p None = false
+is_party p (Some q) = q == p
 
 -- a party's latest call: none yet, one under way, or one that is
 -- done, with what it has written since its Begun
@@ -64,7 +74,7 @@ module _ {T : Type 0} where
   own_after span e = longer span e
 
   abbrev pub span_after : ℕ → Span T → Event T → Span T
-  span_after p span e = if owner e == p then own_after span e else span
+  span_after p span e = if is_party p (owner e) then own_after span e else span
 
   -- the span of the party's latest call
   abbrev pub span_of : ℕ → List (Event T) → Span T
