@@ -15,11 +15,11 @@ use Rattle.model.specs.Refusals.{refusal_of, IsRefusal}
 use Rattle.model.specs.Rows.{first_row}
 use Rattle.model.specs.Turns.{turn_of, after_turn}
 use Rattle.model.specs.World.{World, flight_in}
-use Rattle.machine.specs.Parts.{going_rows, going_refusal, IsGoingRefusal, Around, after_turn_of}
+use Rattle.machine.specs.Parts.{turn_rows, going_refusal, IsGoingRefusal, Around, after_turn_of}
 
 module _ {T : Type 0} (w : World T) (p : ℕ) (said : Option Bool) where
   -- what is tested of the turn, once its party is there
-  rows_left : w.turns < 2 ^ 64 - 2 → p < w.parties → refusal_of w (turn_of p said) ≡ first_row (going_rows w.coding (flight_of (doing_of (party_of p w.latest))) said)
+  rows_left : w.turns < 2 ^ 64 - 2 → p < w.parties → refusal_of w (turn_of p said) ≡ first_row (turn_rows w.coding w.kept (flight_of (doing_of (party_of p w.latest))) said)
   rows_left small within = go said
     where
       early : nat_le (2 ^ 64 - 2) w.turns ≡ false
@@ -28,20 +28,20 @@ module _ {T : Type 0} (w : World T) (p : ℕ) (said : Option Bool) where
       there : nat_le w.parties p ≡ false
       there = grind (arith, nat_tests)
 
-      go : (said : Option Bool) → refusal_of w (turn_of p said) ≡ first_row (going_rows w.coding (flight_of (doing_of (party_of p w.latest))) said)
+      go : (said : Option Bool) → refusal_of w (turn_of p said) ≡ first_row (turn_rows w.coding w.kept (flight_of (doing_of (party_of p w.latest))) said)
       go None = rw (early, there) refl
       go (Some b) = rw (early, there) refl
 
-  pub refusal_is : (x : Party T) → w.turns < 2 ^ 64 - 2 → p < w.parties → party_of p w.latest ≡ Some x → refusal_of w (turn_of p said) ≡ going_refusal w.coding x.doing said
-  refusal_is x small within found = rows_left small within ∙ ap (λ o. first_row (going_rows w.coding (flight_of (doing_of o)) said)) found
+  pub refusal_is : (x : Party T) → w.turns < 2 ^ 64 - 2 → p < w.parties → party_of p w.latest ≡ Some x → refusal_of w (turn_of p said) ≡ going_refusal w.coding w.kept x.doing said
+  refusal_is x small within found = rows_left small within ∙ ap (λ o. first_row (turn_rows w.coding w.kept (flight_of (doing_of o)) said)) found
 
-  pub is_refusal : (x : Party T) (r : Refusal) → w.turns < 2 ^ 64 - 2 → p < w.parties → party_of p w.latest ≡ Some x → IsGoingRefusal w.coding x.doing said r → IsRefusal w (turn_of p said) r
+  pub is_refusal : (x : Party T) (r : Refusal) → w.turns < 2 ^ 64 - 2 → p < w.parties → party_of p w.latest ≡ Some x → IsGoingRefusal w.coding w.kept x.doing said r → IsRefusal w (turn_of p said) r
   is_refusal x r small within found h =
       let same = refusal_is x small within found in
       ⊎_elim (λ row. inl (same ∙ row)) (λ memory. inr (same ∙ memory.0, memory.1)) h
 
   pub going_is :
-      (events : List (Event T)) (x : Party T) (a : Around T) (latest : List (ℕ × Party T)) → party_of p w.latest ≡ Some x → going_refusal w.coding x.doing said ≡ None
+      (events : List (Event T)) (x : Party T) (a : Around T) (latest : List (ℕ × Party T)) → party_of p w.latest ≡ Some x → going_refusal w.coding w.kept x.doing said ≡ None
       → a ≡ after_turn_of w.coding p said (beside_of w.words w.kept w.latest p) x.doing (record { party = x; words = w.words; kept = w.kept; changes = w.changes; events = events })
       → latest ≡ put p a.party w.latest
       → record { world = record w { words = a.words; kept = a.kept; latest = latest; changes = a.changes; turns = w.turns + 1 }; events = a.events } ≡ after_turn (record { world = w; events = events }) (turn_of p said)

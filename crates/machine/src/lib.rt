@@ -50,12 +50,12 @@ impl<T: Words> Machine<T> {
     ghost use Rattle.model.specs.World.{opening, capacity_error, IsCreationError, trace_in, world_in, progress_in};
     ghost use Rattle.model.specs.Refusals.{refusal_of, IsRefusal, is_going};
     ghost use Rattle.model.specs.Turns.{after_turn, after_turns, AreAllowed};
-    ghost use Rattle.model.specs.Promises.{IsKept, WritesEvents, AreTurns};
+    ghost use Rattle.model.specs.Promises.{IsKept, WritesEvents, TellsBeside, AreTurns};
     ghost use Rattle.model.specs.Promises.Turns.{IsOneTurnLater, WritesOneWord, GoesOn, CountsTurn, CountsOthers};
 
     /// A structure that is empty, or has the value that words of zeros make, with its roles free, and this many
-    /// parties, numbered from 0. Of a unique index set no index is held. Room for a party is made as it first begins a
-    /// call.
+    /// parties, numbered from 0. Of a set of indices no index is held, and no owner is dead. Room for a party is made as
+    /// it first begins a call.
     ///
     /// Refused are, in this order, a capacity above the greatest of the kind, one below the least, and memory.
     pub fn new(
@@ -78,9 +78,12 @@ impl<T: Words> Machine<T> {
     ///
     /// The refusals are tested in this order: `AtEnd` after 2^64 - 2 turns, `NoParty` for a number that is not below
     /// the number of parties; for `Begin` then `Busy`, `WrongCall`, `BadIndex` for a bit or index that is not below the
-    /// capacity, `NoRole`, and `NotHeld` for a release of an index that the party does not hold; for `Next` `Idle` and
-    /// `Undecided` where a decision is due; for `Decide` `Idle` and `Undecided` where none is due; for `Die`
-    /// `WrongCall`; last `NoMemory`, where there is no room for the events or for a new party.
+    /// capacity, `NoRole`, `NotHeld` for a release of an index that the party does not hold, and `OwnerIsDead` for an
+    /// acquire or a release of a dead owner; for `Next` `Idle`, `Undecided` where a decision is due, and `OwnerIsDead`
+    /// for such a call under way; for `Decide` `Idle`, `Undecided` where none is due, `OwnerIsDead`, and `OwnerLives`
+    /// for a yes by which a recovery would free an index of an owner who lives; for `Die` `WrongCall` where the kind
+    /// has no owners, and `OwnerIsDead`; last `NoMemory`, where there is no room for the events, for a new party or for
+    /// a dead owner.
     pub fn step(&mut self, turn: Turn<T>) -> Result<(), Refusal>
         ensures allowed { OnOk result
             (refusal_of (world_in ⟦<T as Coded>⟧.coding self.old) turn ≡ None) }
@@ -103,6 +106,8 @@ impl<T: Words> Machine<T> {
             turn (world_in ⟦<T as Coded>⟧.coding self.new)) }
         ensures others { OnOk result (CountsOthers (world_in ⟦<T as Coded>⟧.coding self.old)
             turn (world_in ⟦<T as Coded>⟧.coding self.new)) }
+        ensures tells { OnOk result (TellsBeside (trace_in ⟦<T as Coded>⟧.coding self.old)
+            turn (trace_in ⟦<T as Coded>⟧.coding self.new)) }
         ensures events { OnOk result (WritesEvents (trace_in ⟦<T as Coded>⟧.coding self.old)
             turn (trace_in ⟦<T as Coded>⟧.coding self.new)) }
 
@@ -173,7 +178,8 @@ impl<T: Words> Machine<T> {
     /// `T::WORDS` words each, of which the one with the number (version - 1) mod 2 has the value that stands. Of a bit
     /// set: the reset position, and then one word for each 64 places begun, in which place b is bit b mod 64 of the word
     /// 1 + b / 64. Of a counting bit set: the count of each place. Of the unique index set: the head, the next
-    /// index of each index, and the claim flags, 64 to a word.
+    /// index of each index, and the claim flags, 64 to a word. Of the robust index set: the counter, and for each index a
+    /// cell with its owner, or `u64::MAX`.
     pub fn words(&self) -> &[u64]
         ensures { result.now ≡ self.now.words }
     {

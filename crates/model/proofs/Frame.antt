@@ -4,7 +4,7 @@ use Rattle.std.proofs.lemmas.Bool.{cases_eq}
 use Rattle.steps.specs.declared.ask.Ask.{Ask}
 use Rattle.model.specs.declared.event.Answer.{Answer}
 use Rattle.model.specs.declared.event.Event.{Event}
-use Rattle.model.specs.declared.event.Event.TheVariants.{Begun}
+use Rattle.model.specs.declared.event.Event.TheVariants.{Begun, Died}
 use Rattle.model.specs.declared.event.Start.{Start}
 use Rattle.model.specs.declared.families.Flight.{Flight}
 use Rattle.model.specs.declared.families.Kept.{Kept}
@@ -15,20 +15,21 @@ use Rattle.model.specs.declared.turn.Kind.{Kind}
 use Rattle.model.specs.declared.turn.Turn.{Turn}
 use Rattle.model.specs.declared.turn.Turn.TheVariants.{Begin, Next, Decide, Die}
 use Rattle.model.specs.Coding.{Coding}
-use Rattle.model.specs.Families.{first_of, want_of, ask_of, is_question}
+use Rattle.model.specs.Families.{first_of, want_of, ask_of, is_question, going_rows, has_owners, kept_after_death}
 use Rattle.model.specs.Parties.{party_of, put, doing_of, flight_of, progress_after}
 use Rattle.model.specs.Promises.Bounds.{Progresses}
 use Rattle.model.specs.Promise.{Promise}
 use Rattle.model.specs.Promises.Spans.{Stands, StandsRight}
 use Rattle.model.specs.Reading.{Each, Span, Never, Open, Ended, own_after, span_of}
 use Rattle.model.specs.Refusals.{refusal_of, is_due}
+use Rattle.model.specs.Rows.{first_row}
 use Rattle.model.specs.Shape.{IsShut}
 use Rattle.model.specs.Turns.{old_of, words_after, change_of, step_count, number_of, ask_of_doing, party_at_begin, after_begin, party_after, after_step, step_in, after_answer, after_next, after_decision, after_turn, events_of_step, events_of_answer, events_of_next, events_of_decision, IsReached}
 use Rattle.model.specs.World.{Trace, opening, flight_in}
 use Rattle.model.proofs.Parties.{party_put_same, party_put_other}
 use Rattle.model.proofs.Reached.{kept_by_runs}
-use Rattle.model.proofs.Readings.{AreRight, Each-append, AreOwn, AllFollow, span_of-own, span_of-other, spans_right}
-use Rattle.model.proofs.Rows.{may_begin, may_next, may_decide, must_be_due, never_dies, MayBegin, MayGoOn}
+use Rattle.model.proofs.Readings.{AreRight, Each-append, AreOwn, AllFollow, span_of-own, span_of-other, span_of-death, spans_right}
+use Rattle.model.proofs.Rows.{may_begin, may_next, may_decide, may_die, must_be_due, next_passes, decision_passes, MayBegin, MayGoOn, MayDie}
 
 pub is_true : (b : Bool) → not b ≡ false → b ≡ true
 is_true true e = refl
@@ -204,14 +205,29 @@ module _ {T : Type 0} (F : Family T) where
   ComesByStep t p x flight since ask answer =
       Comes t p (step_in t.world p x flight answer).kept (words_after t.world.words ask) (party_after x since t.world.changes (step_count ask) (change_of t.world.words ask) (step_in t.world p x flight answer)) (events_of_step p x.start (step_in t.world p x flight answer)) (t.world.changes + change_of t.world.words ask)
 
-  -- what a family owes
+  -- what a death comes to: no party's call goes on
+  pub record ComesByDeath (t : Trace T) (s : Sound t) (owner : ℕ) : Type 0 where
+    pub state : F.State
+    pub fit : F.Fit (kept_after_death t.world.kept owner) t.world.words state
+    pub holds : F.Holds state t.world.latest (t.events ++ Died owner ∷ []) (t.world.turns + 1)
+    pub calls : (q : ℕ) (start : Start T) (flight : Flight T) → F.At s.state q start flight → F.At state q start flight × (F.written state q flight ≡ F.written s.state q flight)
+    pub calls_know : (q since backs : ℕ) (flight : Flight T) → F.Knows s.state q t.events since t.world.changes backs flight → F.Knows state q (t.events ++ Died owner ∷ []) since t.world.changes backs flight
+
+  -- of a kind without owners none dies
+  pub no_death : has_owners F.kind ≡ false → (t : Trace T) (owner : ℕ) (s : Sound t) → MayDie t.world owner → ComesByDeath t s owner
+  no_death none t owner s may =
+      let owners : has_owners F.kind ≡ true = subst (λ k. has_owners k ≡ true) s.kind (is_true (has_owners t.world.kind) may.owners) in
+      absurd (cc)
+
+  -- what a family owes, of a call that passes its rows
   pub record Laws : Type 0 where
-    pub step : (t : Trace T) (p : ℕ) (x : Party T) (flight : Flight T) (since : ℕ) → Sound t → t.world.turns < 2 ^ 64 - 2 → party_of p t.world.latest ≡ Some x → x.doing ≡ Going flight since
+    pub step : (t : Trace T) (p : ℕ) (x : Party T) (flight : Flight T) (since : ℕ) → Sound t → t.world.turns < 2 ^ 64 - 2 → first_row (going_rows t.world.kept (Some flight) None) ≡ None → party_of p t.world.latest ≡ Some x → x.doing ≡ Going flight since
         → ComesByStep t p x flight since (ask_of (want_of t.world.coding flight)) (old_of t.world.words (ask_of (want_of t.world.coding flight)))
-    pub decision : (t : Trace T) (p : ℕ) (x : Party T) (flight : Flight T) (since : ℕ) (said : Bool) → Sound t → t.world.turns < 2 ^ 64 - 2 → party_of p t.world.latest ≡ Some x → x.doing ≡ Going flight since → is_question (want_of t.world.coding flight) ≡ true
+    pub decision : (t : Trace T) (p : ℕ) (x : Party T) (flight : Flight T) (since : ℕ) (said : Bool) → Sound t → t.world.turns < 2 ^ 64 - 2 → first_row (going_rows t.world.kept (Some flight) (Some said)) ≡ None → party_of p t.world.latest ≡ Some x → x.doing ≡ Going flight since → is_question (want_of t.world.coding flight) ≡ true
         → ComesByStep t p x flight since None (number_of said)
     pub begin : (t : Trace T) (p : ℕ) (start : Start T) (flight : Flight T) → Sound t → MayBegin t.world p start → first_of t.world.kind t.world.capacity start ≡ Some flight
         → Comes t p t.world.kept t.world.words (party_at_begin start flight t.world.changes) (Begun p start ∷ []) t.world.changes
+    pub death : (t : Trace T) (owner : ℕ) (s : Sound t) → MayDie t.world owner → ComesByDeath t s owner
 
   module _ (laws : Laws) where
     step_sound : (t : Trace T) (p : ℕ) (x : Party T) (flight : Flight T) (since : ℕ) (ask : Option Ask) (answer : ℕ) → Sound t → ComesByStep t p x flight since ask answer
@@ -232,27 +248,30 @@ module _ {T : Type 0} (F : Family T) where
     same : (t : Trace T) → Sound t → Sound record { world = t.world; events = t.events ++ [] }
     same t s = subst (λ es. Sound record { world = t.world; events = es }) (sym (append-nil t.events)) s
 
-    next_sound : (t : Trace T) (p : ℕ) → MayGoOn t.world p → Sound t → (o : Option (Party T)) → party_of p t.world.latest ≡ o → Sound record { world = after_next t.world p o; events = t.events ++ events_of_next t.world p o }
-    next_sound t p may s None e = same t s
-    next_sound t p may s (Some x) e = go x.doing refl
+    next_sound : (t : Trace T) (p : ℕ) → MayGoOn t.world p → first_row (going_rows t.world.kept (flight_in t.world p) None) ≡ None → Sound t → (o : Option (Party T)) → party_of p t.world.latest ≡ o → Sound record { world = after_next t.world p o; events = t.events ++ events_of_next t.world p o }
+    next_sound t p may rows s None e = same t s
+    next_sound t p may rows s (Some x) e = go x.doing refl
       where
         go : (doing : Doing T) → x.doing ≡ doing → Sound record { world = after_answer t.world p x (ask_of_doing t.world.coding doing) (old_of t.world.words (ask_of_doing t.world.coding doing)) doing; events = t.events ++ events_of_answer t.world p x (old_of t.world.words (ask_of_doing t.world.coding doing)) doing }
         go (Over others) d = same t s
         go (Going flight since) d =
+            let here : flight_in t.world p ≡ Some flight = ap (λ o. flight_of (doing_of o)) e ∙ ap (λ d. flight_of (Some d)) d in
+            let passed : first_row (going_rows t.world.kept (Some flight) None) ≡ None = subst (λ o. first_row (going_rows t.world.kept o None) ≡ None) here rows in
             step_sound t p x flight since (ask_of (want_of t.world.coding flight)) (old_of t.world.words (ask_of (want_of t.world.coding flight))) s
-            (laws.step t p x flight since s may.turns e d)
+            (laws.step t p x flight since s may.turns passed e d)
 
-    decision_sound : (t : Trace T) (p : ℕ) (said : Bool) → MayGoOn t.world p → is_due t.world.coding (flight_in t.world p) ≡ true → Sound t → (o : Option (Party T)) → party_of p t.world.latest ≡ o
+    decision_sound : (t : Trace T) (p : ℕ) (said : Bool) → MayGoOn t.world p → first_row (going_rows t.world.kept (flight_in t.world p) (Some said)) ≡ None → is_due t.world.coding (flight_in t.world p) ≡ true → Sound t → (o : Option (Party T)) → party_of p t.world.latest ≡ o
         → Sound record { world = after_decision t.world p said o; events = t.events ++ events_of_decision t.world p said o }
-    decision_sound t p said may due s None e = same t s
-    decision_sound t p said may due s (Some x) e = go x.doing refl
+    decision_sound t p said may rows due s None e = same t s
+    decision_sound t p said may rows due s (Some x) e = go x.doing refl
       where
         go : (doing : Doing T) → x.doing ≡ doing → Sound record { world = after_answer t.world p x None (number_of said) doing; events = t.events ++ events_of_answer t.world p x (number_of said) doing }
         go (Over others) d = same t s
         go (Going flight since) d =
             let here : flight_in t.world p ≡ Some flight = ap (λ o. flight_of (doing_of o)) e ∙ ap (λ d. flight_of (Some d)) d in
             let asks : is_question (want_of t.world.coding flight) ≡ true = rw here at due in
-            step_sound t p x flight since None (number_of said) s (laws.decision t p x flight since said s may.turns e d asks)
+            let passed : first_row (going_rows t.world.kept (Some flight) (Some said)) ≡ None = subst (λ o. first_row (going_rows t.world.kept o (Some said)) ≡ None) here rows in
+            step_sound t p x flight since None (number_of said) s (laws.decision t p x flight since said s may.turns passed e d asks)
 
     begin_sound : (t : Trace T) (p : ℕ) (start : Start T) → MayBegin t.world p start → Sound t → (o : Option (Flight T)) → first_of t.world.kind t.world.capacity start ≡ o → Sound record { world = after_begin t.world p start o; events = t.events ++ Begun p start ∷ [] }
     begin_sound t p start may s None e =
@@ -271,12 +290,34 @@ module _ {T : Type 0} (F : Family T) where
           inv = advance s.state comes.state p (party_at_begin start flight w.changes) w.latest t.events (Begun p start ∷ []) w.changes w.changes s.inv comes.owes;
         }
 
+    death_sound : (t : Trace T) (owner : ℕ) → MayDie t.world owner → Sound t → Sound (after_turn t (Die owner))
+    death_sound t owner may s =
+        let w = t.world in
+        let es = Died owner ∷ [] in
+        let comes = laws.death t owner s may in
+        record {
+          coding = s.coding;
+          kind = s.kind;
+          capacity = s.capacity;
+          state = comes.state;
+          fit = comes.fit;
+          holds = comes.holds;
+          inv =
+              record {
+                spans = Each-append (StandsRight F.promise F.capacity) t.events es s.inv.spans (tt, tt);
+                calls = λ q.
+                    subst (λ a. Fits comes.state q (party_of q w.latest) a) (sym (span_of-death q t.events owner))
+                    (still_fits s.state comes.state q (comes.calls q) (party_of q w.latest) (span_of q t.events) (s.inv.calls q));
+                knows = λ q. still_knows s.state comes.state q t.events es w.changes w.changes (comes.calls_know q) (party_of q w.latest) (s.inv.knows q);
+              };
+        }
+
     pub turn_sound : (t : Trace T) (turn : Turn T) → refusal_of t.world turn ≡ None → Sound t → Sound (after_turn t turn)
     turn_sound t (Begin p start) e s = begin_sound t p start (may_begin t.world p start e) s (first_of t.world.kind t.world.capacity start) refl
-    turn_sound t (Next p) e s = next_sound t p (may_next t.world p e) s (party_of p t.world.latest) refl
+    turn_sound t (Next p) e s = next_sound t p (may_next t.world p e) (next_passes t.world p e) s (party_of p t.world.latest) refl
     turn_sound t (Decide p said) e s =
-        decision_sound t p said (may_decide t.world p said e) (is_true (is_due t.world.coding (flight_in t.world p)) (must_be_due t.world p said e)) s (party_of p t.world.latest) refl
-    turn_sound t (Die owner) e s = absurd (never_dies t.world owner e)
+        decision_sound t p said (may_decide t.world p said e) (decision_passes t.world p said e) (is_true (is_due t.world.coding (flight_in t.world p)) (must_be_due t.world p said e)) s (party_of p t.world.latest) refl
+    turn_sound t (Die owner) e s = death_sound t owner (may_die t.world owner e) s
 
     pub reached_sound : (t : Trace T) → Sound (opening t.world.coding t.world.kind t.world.capacity t.world.parties) → IsReached t → Sound t
     reached_sound t first r = kept_by_runs Sound (λ u turn e h. turn_sound u turn e h) t first r

@@ -1,4 +1,5 @@
 pub mod Counts
+pub mod Dead
 pub mod Frame
 pub mod Moments
 pub mod Orders
@@ -16,4 +17,5 @@ pub mod Values
 pub mod Worked
 pub mod WorkedBits
 pub mod WorkedIndices
+pub mod WorkedRobust
 pub mod WorkedValue

@@ -1,6 +1,6 @@
 -- A moment of a call, once it has come, stays one of its moments until the party begins another call; so does what came
 -- since it began.
-use Rattle.std.proofs.Common.{◌≢◌, ℕ, List, [], ◌∷◌, ◌++◌, refl, sym, ap, ◌∙◌, append_assoc, append-nil}
+use Rattle.std.proofs.Common.{◌≡◌, ◌≢◌, ℕ, List, [], ◌∷◌, ◌++◌, refl, sym, ap, ◌∙◌, append_assoc, append-nil}
 use Rattle.model.specs.declared.event.Event.{Event}
 use Rattle.model.specs.declared.event.Event.TheVariants.{Begun}
 use Rattle.model.specs.declared.event.Start.{Start}
@@ -16,7 +16,9 @@ module _ {T : Type 0} where
   -- the events of another party begin none of this party's calls
   pub others_begin_none : (p q : ℕ) (es : List (Event T)) → p ≢ q → AreOwn q es → BeginsNone p es
   others_begin_none p q [] ne own = tt
-  others_begin_none p q (Begun r start ∷ es) ne own = ((λ e. ne (sym e ∙ own.0)), others_begin_none p q es ne own.1)
+  others_begin_none p q (Begun r start ∷ es) ne own =
+      let theirs : r ≡ q = cc in
+      ((λ e. ne (sym e ∙ theirs)), others_begin_none p q es ne own.1)
   others_begin_none p q (e ∷ es) ne own = others_begin_none p q es ne own.1
 
   pub held_now : (p : ℕ) (P : List (Event T) → Type 0) (events : List (Event T)) → P events → HeldOnce p P events

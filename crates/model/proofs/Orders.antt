@@ -1,5 +1,5 @@
 -- Every turn of a reached machine of any family is as its own words say.
-use Rattle.std.proofs.Common.{◌≡◌, ℕ, ◌-◌, ◌^◌, ◌<◌, Bool, true, Option, Some, None, List, [], ◌∷◌, ◌++◌, refl, sym, ap, subst, ◌∙◌, append-nil}
+use Rattle.std.proofs.Common.{◌≡◌, ℕ, ◌-◌, ◌^◌, ◌<◌, Bool, true, Option, Some, None, List, [], ◌∷◌, ◌++◌, refl, sym, ap, subst, ◌∙◌}
 use Rattle.std.specs.List.{AllByRecursion}
 use Rattle.model.specs.declared.event.Answer.{Answer}
 use Rattle.model.specs.declared.event.Start.{Start}
@@ -36,6 +36,7 @@ module _ {T : Type 0} (F : Family T) where
     pub decision : (t : Trace T) (p : ℕ) (x : Party T) (flight : Flight T) (since : ℕ) (said : Bool) → Sound F t → t.world.turns < 2 ^ 64 - 2 → party_of p t.world.latest ≡ Some x → x.doing ≡ Going flight since → is_question (want_of t.world.coding flight) ≡ true
         → WritesInOrder F.promise t (Decide p said) (t.events ++ events_of_step p x.start (step_in t.world p x flight (number_of said)))
     pub after : (t : Trace T) (p : ℕ) (x : Party T) (flight : Flight T) (since answer : ℕ) → Sound F t → party_of p t.world.latest ≡ Some x → x.doing ≡ Going flight since → (step_in t.world p x flight answer).after ≡ after_of t.world.coding flight answer
+    pub tells : (t : Trace T) (turn : Turn T) → refusal_of t.world turn ≡ None → Sound F t → F.promise.tells t turn (after_turn t turn)
 
   nothing : (t : Trace T) (turn : Turn T) → WritesInOrder F.promise t turn (t.events ++ [])
   nothing t turn = record { effects = []; acts = []; ends = []; is = refl; are_effects = tt; are_acts = tt; are_ends = tt; right = tt }
@@ -64,7 +65,7 @@ module _ {T : Type 0} (F : Family T) where
   writes_down orders t (Next p) e s = next_in_order orders t s (may_next t.world p e).turns p (party_of p t.world.latest) refl
   writes_down orders t (Decide p said) e s =
       decision_in_order orders t s (may_decide t.world p said e).turns p said (is_true (is_due t.world.coding (flight_in t.world p)) (must_be_due t.world p said e)) (party_of p t.world.latest) refl
-  writes_down orders t (Die owner) e s = append-nil t.events
+  writes_down orders t (Die owner) e s = refl
 
   pub turn_is : Orders → (t : Trace T) (turn : Turn T) → refusal_of t.world turn ≡ None → IsReached t → Sound F t → IsTurnBy F.promise t turn (after_turn t turn)
   turn_is orders t turn e r s =
@@ -75,6 +76,7 @@ module _ {T : Type 0} (F : Family T) where
         counts = counts_turn t.world turn e;
         others = counts_others t.world turn (reached_small t r);
         events = writes_down orders t turn e s;
+        tells = orders.tells t turn e s;
       }
 
 -- ---- what a kind's family proves of every run

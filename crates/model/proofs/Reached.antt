@@ -50,7 +50,7 @@ module _ {T : Type 0} where
   turn_making w (Begin p start) = begin_making w p start (first_of w.kind w.capacity start)
   turn_making w (Next p) = next_making w p (party_of p w.latest)
   turn_making w (Decide p said) = decision_making w p said (party_of p w.latest)
-  turn_making w (Die owner) = same w
+  turn_making w (Die owner) = record { coding = refl; kind = refl; capacity = refl; parties = refl }
 
   -- ---- one turn more
 

@@ -1,9 +1,10 @@
 -- How readings of events go on as a run grows. No kind is in it.
-use Rattle.std.proofs.Common.{◌≡◌, ◌≢◌, ℕ, ◌==◌, true, false, List, [], ◌∷◌, ◌++◌, fold, refl, sym, ap, subst, ◌∙◌, append_assoc, append-nil, arith}
+use Rattle.std.proofs.Common.{◌≡◌, ◌≢◌, ℕ, ◌==◌, true, false, Some, IfSome, List, [], ◌∷◌, ◌++◌, fold, refl, sym, ap, subst, ◌∙◌, append_assoc, append-nil, arith}
 use Rattle.std.proofs.lemmas.Bool.Decides.{nat_tests}
 use Rattle.std.proofs.lemmas.List.Sums.{fold-append}
 use Rattle.model.specs.declared.event.Event.{Event}
-use Rattle.model.specs.Reading.{Each, owner, Span, Never, own_after, span_after, span_of}
+use Rattle.model.specs.declared.event.Event.TheVariants.{Died}
+use Rattle.model.specs.Reading.{Each, whose, Span, Never, own_after, span_after, span_of}
 
 module _ {A : Type 0} where
   -- the last of a list, or one before it
@@ -56,13 +57,13 @@ module _ {T : Type 0} where
   -- all of these are p's events
   abbrev pub AreOwn : ℕ → List (Event T) → Type 0
   AreOwn p [] = Unit {0}
-  AreOwn p (e ∷ es) = (owner e ≡ p) × AreOwn p es
+  AreOwn p (e ∷ es) = (whose e ≡ Some p) × AreOwn p es
 
-  own_one : (p : ℕ) (span : Span T) (e : Event T) → owner e ≡ p → span_after p span e ≡ own_after span e
-  own_one p span e h = let t : (owner e == p) ≡ true = grind (arith, nat_tests) in rw t refl
+  own_one : (p : ℕ) (span : Span T) (e : Event T) → whose e ≡ Some p → span_after p span e ≡ own_after span e
+  own_one p span e h = let t : (p == p) ≡ true = grind (arith, nat_tests) in rw (h, t) refl
 
-  other_one : (q : ℕ) (span : Span T) (e : Event T) → owner e ≢ q → span_after q span e ≡ span
-  other_one q span e h = let t : (owner e == q) ≡ false = grind (arith, nat_tests) in rw t refl
+  other_one : (p q : ℕ) (span : Span T) (e : Event T) → q ≢ p → whose e ≡ Some p → span_after q span e ≡ span
+  other_one p q span e ne h = let t : (p == q) ≡ false = grind (arith, nat_tests) in rw (h, t) refl
 
   own_fold : (p : ℕ) (span : Span T) (es : List (Event T)) → AreOwn p es → fold (span_after p) span es ≡ fold own_after span es
   own_fold p span [] own = refl
@@ -72,7 +73,7 @@ module _ {T : Type 0} where
   other_fold : (p q : ℕ) (span : Span T) (es : List (Event T)) → q ≢ p → AreOwn p es → fold (span_after q) span es ≡ span
   other_fold p q span [] ne own = refl
   other_fold p q span (e ∷ es) ne own =
-      ap (λ s. fold (span_after q) s es) (other_one q span e (λ h. ne (sym h ∙ own.0))) ∙ other_fold p q span es ne own.1
+      ap (λ s. fold (span_after q) s es) (other_one p q span e ne own.0) ∙ other_fold p q span es ne own.1
 
   -- a party's own events go on with its span
   pub span_of-own : (p : ℕ) (events es : List (Event T)) → AreOwn p es → span_of p (events ++ es) ≡ fold own_after (span_of p events) es
@@ -82,15 +83,18 @@ module _ {T : Type 0} where
   pub span_of-other : (p q : ℕ) (events es : List (Event T)) → q ≢ p → AreOwn p es → span_of q (events ++ es) ≡ span_of q events
   span_of-other p q events es ne own = fold-append (span_after q) Never events es ∙ other_fold p q (span_of q events) es ne own
 
+  -- so does a death
+  pub span_of-death : (q : ℕ) (events : List (Event T)) (o : ℕ) → span_of q (events ++ Died o ∷ []) ≡ span_of q events
+  span_of-death q events o = fold-append (span_after q) Never events (Died o ∷ [])
+
   -- each event stands right in the span that the earlier ones leave
   abbrev pub AllFollow : (Event T → Span T → Type 0) → Span T → List (Event T) → Type 0
   AllFollow R span [] = Unit {0}
   AllFollow R span (e ∷ es) = R e span × AllFollow R (own_after span e) es
 
   pub spans_right : (R : Event T → Span T → Type 0) (p : ℕ) (events es : List (Event T)) (span : Span T) → span_of p events ≡ span → AreOwn p es → AllFollow R span es
-      → AreRight (λ before e. R e (span_of (owner e) before)) events es
+      → AreRight (λ before e. IfSome (whose e) (λ q. R e (span_of q before))) events es
   spans_right R p events [] span is own all = tt
   spans_right R p events (e ∷ es) span is own all =
-      let here : span_of (owner e) events ≡ span = ap (λ q. span_of q events) own.0 ∙ is in
       let next : span_of p (events ++ e ∷ []) ≡ own_after span e = span_of-own p events (e ∷ []) (own.0, tt) ∙ ap (λ s. own_after s e) is in
-      (subst (R e) (sym here) all.0, spans_right R p (events ++ e ∷ []) es (own_after span e) next own.1 all.1)
+      (rw own.0 (subst (R e) (sym is) all.0), spans_right R p (events ++ e ∷ []) es (own_after span e) next own.1 all.1)

@@ -6,10 +6,10 @@ use Rattle.model.specs.declared.event.Start.{Start}
 use Rattle.model.specs.declared.party.Party.{Party}
 use Rattle.model.specs.declared.turn.Turn.TheVariants.{Begin, Next, Decide, Die}
 use Rattle.model.specs.declared.turn.Refusal.{Refusal}
-use Rattle.model.specs.declared.turn.Refusal.TheVariants.{AtEnd, NoParty, Idle, Undecided, WrongCall}
+use Rattle.model.specs.declared.turn.Refusal.TheVariants.{AtEnd, NoParty, Idle, Undecided, WrongCall, OwnerIsDead}
 use Rattle.model.specs.Parties.{flight_of, doing_of}
 use Rattle.model.specs.World.{World, flight_in}
-use Rattle.model.specs.Families.{begin_of, first_of}
+use Rattle.model.specs.Families.{begin_of, first_of, going_rows, has_owners, is_dead}
 use Rattle.model.specs.Turns.{turn_of}
 use Rattle.model.specs.Rows.{first_row}
 use Rattle.model.specs.Refusals.{refusal_of, is_at_end, is_due}
@@ -93,8 +93,32 @@ module _ {T : Type 0} where
       let d = row_passed (not (is_due w.coding (flight_in w p))) Undecided _ c.1 in
       d.0
 
-  pub never_dies : (w : World T) (owner : ℕ) → refusal_of w (Die owner) ≡ None → ⊥
-  never_dies w owner e =
-      let a = row_passed (is_at_end w) AtEnd (Some WrongCall) e in
-      let r : Some WrongCall ≡ None = a.1 in
-      cc
+  -- the family's rows of a call that goes on
+  pub next_passes : (w : World T) (p : ℕ) → refusal_of w (Next p) ≡ None → first_row (going_rows w.kept (flight_in w p) None) ≡ None
+  next_passes w p e =
+      let a = row_passed (is_at_end w) AtEnd _ e in
+      let b = row_passed (nat_le w.parties p) NoParty _ a.1 in
+      let c = row_passed (is_none (flight_in w p)) Idle _ b.1 in
+      let d = row_passed (is_due w.coding (flight_in w p)) Undecided _ c.1 in
+      d.1
+
+  pub decision_passes : (w : World T) (p : ℕ) (said : Bool) → refusal_of w (Decide p said) ≡ None → first_row (going_rows w.kept (flight_in w p) (Some said)) ≡ None
+  decision_passes w p said e =
+      let a = row_passed (is_at_end w) AtEnd _ e in
+      let b = row_passed (nat_le w.parties p) NoParty _ a.1 in
+      let c = row_passed (is_none (flight_in w p)) Idle _ b.1 in
+      let d = row_passed (not (is_due w.coding (flight_in w p))) Undecided _ c.1 in
+      d.1
+
+  pub record MayDie (w : World T) (owner : ℕ) : Type 0 where
+    pub turns : w.turns < 2 ^ 64 - 2
+    pub owners : not (has_owners w.kind) ≡ false
+    pub lives : is_dead w.kept owner ≡ false
+
+  pub may_die : (w : World T) (owner : ℕ) → refusal_of w (Die owner) ≡ None → MayDie w owner
+  may_die w owner e =
+      let a = row_passed (is_at_end w) AtEnd _ e in
+      let b = row_passed (not (has_owners w.kind)) WrongCall _ a.1 in
+      let c = row_passed (is_dead w.kept owner) OwnerIsDead _ b.1 in
+      let at : nat_le (2 ^ 64 - 2) w.turns ≡ false = a.0 in
+      record { turns = grind (arith, nat_tests); owners = b.0; lives = c.0 }

@@ -13,17 +13,17 @@ use Rattle.model.specs.declared.party.Doing.TheVariants.{Going, Over}
 use Rattle.model.specs.declared.party.Party.{Party}
 use Rattle.model.specs.declared.turn.Turn.{Turn}
 use Rattle.model.specs.declared.turn.Turn.TheVariants.{Begin, Next, Decide, Die}
-use Rattle.model.specs.Families.{first_of, beside_of}
+use Rattle.model.specs.Families.{first_of}
 use Rattle.model.specs.Parties.{party_of, put}
 use Rattle.model.specs.Refusals.{refusal_of}
 use Rattle.model.specs.Small.{HasSmallCount, HasSmallCounts, IsSmall}
 use Rattle.model.specs.Step.{Step}
-use Rattle.model.specs.Turns.{after_begin, party_at_begin, after_step, party_after, doing_after, step_in, after_answer, after_next, after_decision, world_after, IsReached, ask_of_doing, old_of, number_of, change_of, step_count}
+use Rattle.model.specs.Turns.{after_begin, party_at_begin, after_step, party_after, doing_after, step_in, after_answer, after_next, after_decision, after_death, world_after, IsReached, ask_of_doing, old_of, number_of, change_of, step_count}
 use Rattle.model.specs.World.{World, Trace}
 use Rattle.model.proofs.Counts.{change_small, steps_small, back_small}
 use Rattle.model.proofs.Parties.{party_put_same, party_put_other}
 use Rattle.model.proofs.Reached.{kept_by_runs}
-use Rattle.model.proofs.Rows.{may_begin, may_next, may_decide}
+use Rattle.model.proofs.Rows.{may_begin, may_next, may_decide, may_die}
 
 more_changes : {T : Type 0} (changes more : ℕ) (doing : Doing T) → HasSmallCount changes doing → HasSmallCount (changes + more) doing
 more_changes changes more (Going flight since) h = omega arith
@@ -105,11 +105,21 @@ module _ {T : Type 0} where
       let here = h.latest p x e in
       answer_small w p x None (number_of said) x.doing below here.steps here.backs here.doing h
 
+  death_small : (w : World T) (owner : ℕ) → w.turns < 2 ^ 64 - 2 → IsSmall w → IsSmall (after_death w owner)
+  death_small w owner below h =
+      let changes = h.changes in
+      let same : w.changes + 0 ≡ w.changes = omega arith in
+      record {
+        turns = omega arith;
+        changes = omega arith;
+        latest = λ p x found. subst (λ n. HasSmallCounts (w.turns + 1) n x) same (later w.turns w.changes 0 x (h.latest p x found));
+      }
+
   turn_small : (w : World T) (turn : Turn T) → refusal_of w turn ≡ None → IsSmall w → IsSmall (world_after w turn)
   turn_small w (Begin p start) e h = begin_small w p start (first_of w.kind w.capacity start) (may_begin w p start e).turns h
   turn_small w (Next p) e h = next_small w p (party_of p w.latest) refl (may_next w p e).turns h
   turn_small w (Decide p said) e h = decision_small w p said (party_of p w.latest) refl (may_decide w p said e).turns h
-  turn_small w (Die owner) e h = h
+  turn_small w (Die owner) e h = death_small w owner (may_die w owner e).turns h
 
   pub reached_small : (t : Trace T) → IsReached t → IsSmall t.world
   reached_small t r =

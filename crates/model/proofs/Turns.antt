@@ -16,17 +16,17 @@ use Rattle.model.specs.declared.party.Doing.TheVariants.{Going, Over}
 use Rattle.model.specs.declared.party.Party.{Party}
 use Rattle.model.specs.declared.turn.Turn.{Turn}
 use Rattle.model.specs.declared.turn.Turn.TheVariants.{Begin, Next, Decide, Die}
-use Rattle.model.specs.Families.{first_of, want_of, ask_of, after_of, beside_of, step_of}
+use Rattle.model.specs.Families.{first_of, want_of, ask_of, after_of}
 use Rattle.model.specs.Parties.{party_of, doing_of, flight_of, progress_after}
 use Rattle.model.specs.Promises.Turns.{IsOneTurnLater, ask_of_flight, WritesOneWord, StandsAt, GoesOn, BothGoOn, CountsTurn, BothSee, CountsOthers}
 use Rattle.model.specs.Refusals.{refusal_of}
 use Rattle.model.specs.Small.{HasSmallCount, IsSmall}
 use Rattle.model.specs.Step.{Step}
-use Rattle.model.specs.Turns.{old_of, words_after, change_of, step_count, ask_of_doing, number_of, one_if, after_begin, party_at_begin, after_step, party_after, doing_after, step_in, after_answer, after_next, after_decision, world_after}
+use Rattle.model.specs.Turns.{old_of, words_after, change_of, step_count, ask_of_doing, number_of, one_if, after_begin, party_at_begin, after_step, party_after, doing_after, step_in, after_answer, after_next, after_decision, after_death, world_after}
 use Rattle.model.specs.World.{World, flight_in, progress_in}
 use Rattle.model.proofs.Parties.{party_put_same, party_put_other}
 use Rattle.model.proofs.Reached.{turn_making}
-use Rattle.model.proofs.Rows.{may_begin, may_next, may_decide, never_dies}
+use Rattle.model.proofs.Rows.{may_begin, may_next, may_decide}
 
 later : (changes since change : ℕ) → (changes + change) - (since + change) ≡ changes - since
 later changes since change = omega arith
@@ -113,7 +113,7 @@ module _ {T : Type 0} where
   one_turn_later w (Decide p said) e =
       let may = may_decide w p said e in
       same_but_turns w (Decide p said) (decision_turns w p said may.flight (party_of p w.latest) may.is)
-  one_turn_later w (Die owner) e = absurd (never_dies w owner e)
+  one_turn_later w (Die owner) e = record { coding = refl; kind = refl; capacity = refl; parties = refl; turns = refl }
 
   -- ---- one word
 
@@ -307,4 +307,5 @@ module _ {T : Type 0} where
   counts_others w (Begin p start) small q ne = begin_others w p start (first_of w.kind w.capacity start) q ne small
   counts_others w (Next p) small q ne = next_others w p (party_of p w.latest) q ne small
   counts_others w (Decide p said) small q ne = decision_others w p said (party_of p w.latest) q ne small
-  counts_others w (Die owner) small q ne = seen w w q (party_of q w.latest) refl refl (still_tells w w refl refl) small
+  counts_others w (Die owner) small q ne =
+      seen w (after_death w owner) q (party_of q w.latest) refl refl (still_tells w (after_death w owner) refl refl) small

@@ -1,5 +1,5 @@
 -- The families of calls: one line a family, which passes on to what stands in its own room.
-use Rattle.std.specs.Prelude.{ℕ, Bool, true, false, Option, Some, None, is_none, List, [], ◌∷◌}
+use Rattle.std.specs.Prelude.{ℕ, Bool, true, false, not, Option, Some, None, is_none, List, [], ◌∷◌}
 use Rattle.steps.specs.declared.ask.After.{After}
 use Rattle.steps.specs.declared.ask.After.TheVariants.{GoOn}
 use Rattle.steps.specs.declared.ask.Ask.{Ask}
@@ -18,7 +18,7 @@ use Rattle.model.specs.declared.turn.Kind.{Kind}
 use Rattle.model.specs.declared.turn.Kind as kinds
 use Rattle.model.specs.declared.turn.Kind.TheVariants.{IndexQueue, Overflow, Queue}
 use Rattle.model.specs.declared.turn.Refusal.{Refusal}
-use Rattle.model.specs.declared.turn.Refusal.TheVariants.{WrongCall}
+use Rattle.model.specs.declared.turn.Refusal.TheVariants.{WrongCall, OwnerIsDead}
 use Rattle.model.specs.Coding.{Coding}
 use Rattle.model.specs.Opening.{Opening}
 use Rattle.model.specs.Step.{Beginning, Going, Step, as_step}
@@ -35,6 +35,10 @@ use Rattle.model.specs.Families.Bits.Steps as bits_steps
 use Rattle.model.specs.Families.Indices.Calls as index_calls
 use Rattle.model.specs.Families.Indices.Opening as index_opening
 use Rattle.model.specs.Families.Indices.Steps as index_steps
+use Rattle.model.specs.Families.Indices.Robust.Calls as robust_calls
+use Rattle.model.specs.Families.Indices.Robust.Dead.{has_died, dead_with}
+use Rattle.model.specs.Families.Indices.Robust.Opening as robust_opening
+use Rattle.model.specs.Families.Indices.Robust.Steps as robust_steps
 use Rattle.model.specs.Families.Queues.Calls as queue_calls
 use Rattle.model.specs.Families.Queues.Opening as queue_opening
 use Rattle.model.specs.Families.Queues.Steps as queue_steps
@@ -49,6 +53,7 @@ opening_of kinds.TheVariants.Atomic = atomic_opening.opening
 opening_of kinds.TheVariants.Bits = bits_opening.bits_opening
 opening_of kinds.TheVariants.Counts = bits_opening.counts_opening
 opening_of kinds.TheVariants.Indices = index_opening.opening
+opening_of kinds.TheVariants.Robust = robust_opening.opening
 
 -- ---- a call begins
 
@@ -60,6 +65,8 @@ module _ {T : Type 0} where
   begin_of kind capacity (starts.TheVariants.Bits start) = bits_opening.begin kind capacity start
   begin_of kind capacity (starts.TheVariants.Indices start) =
       index_opening.begin kind capacity start
+  begin_of kind capacity (starts.TheVariants.Robust start) =
+      robust_opening.begin kind capacity start
 
   -- the call that begins, or None where the kind has no such call
   abbrev pub first_of : Kind → ℕ → Start T → Option (Flight T)
@@ -90,6 +97,7 @@ module _ {T : Type 0} where
   going_of code (flights.TheVariants.Atomic flight) = atomic_calls.going code flight
   going_of code (flights.TheVariants.Bits flight) = bits_calls.going flight
   going_of code (flights.TheVariants.Indices flight) = index_calls.going flight
+  going_of code (flights.TheVariants.Robust flight) = robust_calls.going flight
 
   -- what a call under way wants next
   abbrev pub want_of : Coding T → Flight T → Want (Unit {0})
@@ -102,6 +110,12 @@ module _ {T : Type 0} where
   -- how many events its next step writes at most, apart from the end of the call
   abbrev pub most_of : Coding T → Flight T → ℕ
   most_of code flight = (going_of code flight).most
+
+  -- what a family tests of a call under way that is to go on, by a decision or without, in order
+  abbrev pub going_rows : Kept → Option (Flight T) → Option Bool → List (Bool × Refusal)
+  going_rows (kepts.TheVariants.Owners dead) (Some (flights.TheVariants.Robust flight)) said =
+      robust_opening.going_rows dead flight said
+  going_rows kept flight said = []
 
   -- what a step of this party has to know of the others
   abbrev pub beside_of : List ℕ → Kept → List (ℕ × Party T) → ℕ → Option (ℕ × ℕ)
@@ -129,5 +143,32 @@ module _ {T : Type 0} where
       old (kepts.TheVariants.Indices holders) =
       as_step flights.TheVariants.Indices kepts.TheVariants.Indices
       (index_steps.step p flight old holders)
+  step_of code words beside p (starts.TheVariants.Robust start) (flights.TheVariants.Robust flight)
+      old (kepts.TheVariants.Owners dead) =
+      as_step flights.TheVariants.Robust kepts.TheVariants.Owners
+      (robust_steps.step p flight old dead)
   step_of code words beside p start flight old kept =
       record { after = GoOn flight; back = false; wrote = []; kept = kept }
+
+-- ---- an owner dies
+
+-- whether a structure of a kind has owners
+abbrev pub has_owners : Kind → Bool
+has_owners kinds.TheVariants.Robust = true
+has_owners kind = false
+
+-- whether the owner is dead
+abbrev pub is_dead : Kept → ℕ → Bool
+is_dead (kepts.TheVariants.Owners dead) owner = has_died owner dead
+is_dead kept owner = false
+
+-- what is tested of an owner who is to die
+abbrev pub death_rows : Kind → Kept → ℕ → List (Bool × Refusal)
+death_rows kind kept owner =
+    (not (has_owners kind), WrongCall) ∷ (is_dead kept owner, OwnerIsDead) ∷ []
+
+-- what a family keeps once the owner is dead
+abbrev pub kept_after_death : Kept → ℕ → Kept
+kept_after_death (kepts.TheVariants.Owners dead) owner =
+    kepts.TheVariants.Owners (dead_with owner dead)
+kept_after_death kept owner = kept

@@ -4,6 +4,7 @@ use Rattle.steps.specs.declared.ask.Ask.{Ask}
 use Rattle.model.specs.declared.event.Answer.{Answer}
 use Rattle.model.specs.declared.event.Event.{Event}
 use Rattle.model.specs.declared.event.Start.{Start}
+use Rattle.model.specs.declared.turn.Turn.{Turn}
 use Rattle.model.specs.Reading.{Span}
 use Rattle.model.specs.World.{Trace}
 
@@ -17,5 +18,7 @@ pub record Promise (T : Type 0) : Type 1 where
   pub most_steps : ℕ → ℕ → Start T → ℕ → ℕ
   -- what an act in a turn tells, which asks for this operation, of these parties
   pub acts_right : Trace T → Option Ask → (ℕ → Type 0) → Event T → Type 0
+  -- what a turn that was taken tells beside that
+  pub tells : Trace T → Turn T → Trace T → Type 0
   -- what holds of the machine after any turns
   pub holds : Trace T → Type 0

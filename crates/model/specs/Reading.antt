@@ -1,10 +1,10 @@
 -- How the events of a run are read.
-use Rattle.std.specs.Prelude.{◌≡◌, ℕ, ◌==◌, List, [], ◌∷◌, ◌++◌, fold, if◌then◌else◌}
+use Rattle.std.specs.Prelude.{◌≡◌, ℕ, ◌==◌, Bool, false, Option, Some, None, List, [], ◌∷◌, ◌++◌, fold, if◌then◌else◌}
 use Rattle.std.specs.List.{flat_map}
 use Rattle.model.specs.declared.event.Start.{Start}
 use Rattle.model.specs.declared.event.Answer.{Answer}
 use Rattle.model.specs.declared.event.Event.{Event}
-use Rattle.model.specs.declared.event.Event.TheVariants.{Begun, Published, HandedOut, Set, Cleared, Counted, TakenOut, Claimed, Freed, Locked, Acted, Finished}
+use Rattle.model.specs.declared.event.Event.TheVariants.{Begun, Published, HandedOut, Set, Cleared, Counted, TakenOut, Claimed, Freed, Locked, Filled, Granted, FreedOf, Asked, Told, Died, Acted, Finished}
 
 module _ {T : Type 0} where
   -- P holds of each event and of what stands before it
@@ -24,20 +24,30 @@ module _ {T : Type 0} where
 
   -- ---- spans
 
-  -- whose event it is
-  abbrev pub owner : Event T → ℕ
-  owner (Begun p start) = p
-  owner (Published p item) = p
-  owner (HandedOut p item) = p
-  owner (Set p bit) = p
-  owner (Cleared p bit) = p
-  owner (Counted p place) = p
-  owner (TakenOut p place number) = p
-  owner (Claimed p index) = p
-  owner (Freed p index) = p
-  owner (Locked p) = p
-  owner (Acted p start answer) = p
-  owner (Finished p start answer) = p
+  -- whose event it is: a party's, or of none where an owner dies
+  abbrev pub whose : Event T → Option ℕ
+  whose (Begun p start) = Some p
+  whose (Published p item) = Some p
+  whose (HandedOut p item) = Some p
+  whose (Set p bit) = Some p
+  whose (Cleared p bit) = Some p
+  whose (Counted p place) = Some p
+  whose (TakenOut p place number) = Some p
+  whose (Claimed p index) = Some p
+  whose (Freed p index) = Some p
+  whose (Locked p) = Some p
+  whose (Filled p index o) = Some p
+  whose (Granted p index o) = Some p
+  whose (FreedOf p index o) = Some p
+  whose (Asked p index o) = Some p
+  whose (Told p index o) = Some p
+  whose (Died o) = None
+  whose (Acted p start answer) = Some p
+  whose (Finished p start answer) = Some p
+
+abbrev pub is_party : ℕ → Option ℕ → Bool
+is_party p None = false
+is_party p (Some q) = q == p
 
 -- a party's latest call: none yet, one under way, or one that is
 -- done, with what it has written since its Begun
@@ -64,7 +74,7 @@ module _ {T : Type 0} where
   own_after span e = longer span e
 
   abbrev pub span_after : ℕ → Span T → Event T → Span T
-  span_after p span e = if owner e == p then own_after span e else span
+  span_after p span e = if is_party p (whose e) then own_after span e else span
 
   -- the span of the party's latest call
   abbrev pub span_of : ℕ → List (Event T) → Span T

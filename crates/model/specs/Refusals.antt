@@ -1,12 +1,12 @@
 -- Which turns are refused.
-use Rattle.std.specs.Prelude.{◌≡◌, ◌⊎◌, ℕ, ◌-◌, ◌^◌, Bool, true, false, not, Option, Some, None, is_some, is_none, List, [], ◌∷◌, nat_le}
+use Rattle.std.specs.Prelude.{◌≡◌, ◌⊎◌, ℕ, ◌-◌, ◌^◌, Bool, false, not, Option, Some, None, is_some, is_none, List, ◌∷◌, nat_le}
 use Rattle.model.specs.declared.families.Flight.{Flight}
 use Rattle.model.specs.declared.turn.Turn.{Turn}
 use Rattle.model.specs.declared.turn.Turn.TheVariants.{Begin, Next, Decide, Die}
 use Rattle.model.specs.declared.turn.Refusal.{Refusal}
-use Rattle.model.specs.declared.turn.Refusal.TheVariants.{NoParty, Busy, Idle, WrongCall, Undecided, NoMemory, AtEnd}
+use Rattle.model.specs.declared.turn.Refusal.TheVariants.{NoParty, Busy, Idle, Undecided, NoMemory, AtEnd}
 use Rattle.model.specs.Coding.{Coding}
-use Rattle.model.specs.Families.{begin_rows, want_of, is_question}
+use Rattle.model.specs.Families.{begin_rows, going_rows, death_rows, want_of, is_question}
 use Rattle.model.specs.Rows.{first_row}
 use Rattle.model.specs.World.{World, flight_in}
 
@@ -27,7 +27,7 @@ module _ {T : Type 0} where
   abbrev pub is_at_end : World T → Bool
   is_at_end w = nat_le (2 ^ 64 - 2) w.turns
 
-  -- what is tested of a turn, in order; of a call that begins, the family's rows come last
+  -- what is tested of a turn, in order: the family's rows come last
   abbrev pub rows_of : World T → Turn T → List (Bool × Refusal)
   rows_of w (Begin p start) =
       (is_at_end w, AtEnd)
@@ -39,14 +39,14 @@ module _ {T : Type 0} where
       ∷ (nat_le w.parties p, NoParty)
       ∷ (is_none (flight_in w p), Idle)
       ∷ (is_due w.coding (flight_in w p), Undecided)
-      ∷ []
+      ∷ going_rows w.kept (flight_in w p) None
   rows_of w (Decide p said) =
       (is_at_end w, AtEnd)
       ∷ (nat_le w.parties p, NoParty)
       ∷ (is_none (flight_in w p), Idle)
       ∷ (not (is_due w.coding (flight_in w p)), Undecided)
-      ∷ []
-  rows_of w (Die owner) = (is_at_end w, AtEnd) ∷ (true, WrongCall) ∷ []
+      ∷ going_rows w.kept (flight_in w p) (Some said)
+  rows_of w (Die owner) = (is_at_end w, AtEnd) ∷ death_rows w.kind w.kept owner
 
   abbrev pub refusal_of : World T → Turn T → Option Refusal
   refusal_of w turn = first_row (rows_of w turn)

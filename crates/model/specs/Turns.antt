@@ -9,7 +9,7 @@ use Rattle.model.specs.declared.families.Kept.{Kept}
 use Rattle.model.specs.declared.event.Start.{Start}
 use Rattle.model.specs.declared.event.Answer.{Answer}
 use Rattle.model.specs.declared.event.Event.{Event}
-use Rattle.model.specs.declared.event.Event.TheVariants.{Begun, Finished}
+use Rattle.model.specs.declared.event.Event.TheVariants.{Begun, Died, Finished}
 use Rattle.model.specs.declared.party.Doing.{Doing}
 use Rattle.model.specs.declared.party.Doing.TheVariants.{Going, Over}
 use Rattle.model.specs.declared.party.Party.{Party}
@@ -17,7 +17,7 @@ use Rattle.model.specs.declared.turn.Refusal.{Refusal}
 use Rattle.model.specs.declared.turn.Turn.{Turn}
 use Rattle.model.specs.declared.turn.Turn.TheVariants.{Begin, Next, Decide, Die}
 use Rattle.model.specs.Coding.{Coding, IsCoding}
-use Rattle.model.specs.Families.{first_of, want_of, ask_of, beside_of, step_of}
+use Rattle.model.specs.Families.{first_of, want_of, ask_of, beside_of, step_of, kept_after_death}
 use Rattle.model.specs.Parties.{party_of, put}
 use Rattle.model.specs.Refusals.{refusal_of}
 use Rattle.model.specs.Step.{Step, answer_in}
@@ -150,11 +150,15 @@ module _ {T : Type 0} where
   after_decision w p said None = w
   after_decision w p said (Some x) = after_answer w p x None (number_of said) x.doing
 
+  -- the owner is dead
+  abbrev pub after_death : World T → ℕ → World T
+  after_death w owner = record w { kept = kept_after_death w.kept owner; turns = w.turns + 1 }
+
   abbrev pub world_after : World T → Turn T → World T
   world_after w (Begin p start) = after_begin w p start (first_of w.kind w.capacity start)
   world_after w (Next p) = after_next w p (party_of p w.latest)
   world_after w (Decide p said) = after_decision w p said (party_of p w.latest)
-  world_after w (Die owner) = w
+  world_after w (Die owner) = after_death w owner
 
   -- ---- what it writes down
 
@@ -171,7 +175,7 @@ module _ {T : Type 0} where
   events_of w (Begin p start) = Begun p start ∷ []
   events_of w (Next p) = events_of_next w p (party_of p w.latest)
   events_of w (Decide p said) = events_of_decision w p said (party_of p w.latest)
-  events_of w (Die owner) = []
+  events_of w (Die owner) = Died owner ∷ []
 
   -- ---- lists of turns
 

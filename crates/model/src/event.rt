@@ -2,8 +2,12 @@
 use crate::families::atomic::AtomicStart;
 use crate::families::bits::BitsStart;
 use crate::families::indices::IndexStart;
+use crate::families::indices::robust::RobustStart;
 use crate::families::queues::QueueStart;
-use steps::indices::enums::{ReleaseState, UniqueIndexSetAcquireFailure};
+use steps::enums::OwnerId;
+use steps::indices::enums::{
+    ReleaseState, RobustUniqueIndexSetReleaseError, UniqueIndexSetAcquireFailure,
+};
 
 /// A value of a queue.
 #[derive(Debug, Clone, Copy, PartialEq, Eq)]
@@ -25,6 +29,8 @@ pub enum Start<T> {
     Bits(BitsStart),
     /// A call of the unique index set.
     Indices(IndexStart),
+    /// A call of the robust index set.
+    Robust(RobustStart),
 }
 
 /// What a call answers.
@@ -35,7 +41,8 @@ pub enum Answer<T> {
     /// Of a push of the bounded queue, of a store, of acquiring a role, of asking whether a queue is empty or full or a set
     /// of indices locked, and of setting a bit.
     Truth(bool),
-    /// Of asking how many values wait or how many indices are borrowed, and the count of a place before it was set.
+    /// Of asking how many values wait, how many indices are borrowed or how many an owner has, and the count of a place
+    /// before it was set.
     Number(u64),
     /// Of a pop, or of a push of the overflowing queue, that has no value.
     PoppedNone,
@@ -53,11 +60,13 @@ pub enum Answer<T> {
     Index(u32),
     /// Why an acquire hands out none.
     NoIndex(UniqueIndexSetAcquireFailure),
-    /// Whether a release has locked the set.
+    /// Whether the set is locked, by a release or a recovery.
     State(ReleaseState),
+    /// Why a release gives nothing back.
+    NotOwned(RobustUniqueIndexSetReleaseError),
 }
 
-/// What a run writes down. The number is the party's.
+/// What a run writes down. The first number is the party's.
 #[derive(Debug, Clone, Copy, PartialEq, Eq)]
 pub enum Event<T> {
     /// The party began this call.
@@ -78,8 +87,21 @@ pub enum Event<T> {
     Claimed(u32, u32),
     /// A release cleared the claim flag of this index: from here on nobody holds it.
     Freed(u32, u32),
-    /// A release gave the last index back and locked the set.
+    /// The set is locked from here on: a release gave the last index back, or in the robust set a release or a recovery
+    /// found no index with an owner.
     Locked(u32),
+    /// An acquire of the robust set filled the cell of this index for this owner.
+    Filled(u32, u32, OwnerId),
+    /// The acquire hands this index out to this owner: from here on the owner holds it.
+    Granted(u32, u32, OwnerId),
+    /// A release or a recovery of the robust set emptied the cell of this index, which held this owner.
+    FreedOf(u32, u32, OwnerId),
+    /// A recovery has found this index filled with this owner, and asks whether it is to free it.
+    Asked(u32, u32, OwnerId),
+    /// The recovery was told to free it.
+    Told(u32, u32, OwnerId),
+    /// The owner died. This is an event of no party.
+    Died(OwnerId),
     /// The linearization point of the call, with its answer. It can come in the turn of another party.
     Acted(u32, Start<T>, Answer<T>),
     /// The call is done, in this turn.

@@ -1,7 +1,7 @@
 //! The families of calls. Each has a room of its own, and here one line where a machine passes on to it.
-ghost use Rattle.std.specs.Prelude.{◌≡◌, ◌+◌, ◌≤◌, ◌++◌, None, Some, OnOk, IfOk, IfErr, vec_len, vec_capacity};
+ghost use Rattle.std.specs.Prelude.{◌≡◌, ◌+◌, ◌≤◌, ◌++◌, true, false, None, Some, OnOk, IfOk, IfErr, vec_len, vec_capacity};
 ghost use Rattle.steps.specs.Ask.{CameTo};
-ghost use Rattle.model.specs.Families.{opening_of, first_of, begin_rows, want_of, is_question, most_of, beside_of, step_of};
+ghost use Rattle.model.specs.Families.{opening_of, first_of, begin_rows, want_of, is_question, most_of, beside_of, step_of, has_owners, going_rows, death_rows, kept_after_death};
 ghost use Rattle.model.specs.Rows.{first_row};
 
 use crate::coding::Coded;
@@ -12,10 +12,13 @@ use atomic::calls::AtomicFlight;
 use bits::calls::BitsFlight;
 use indices::calls::IndexFlight;
 use indices::holders::Holders;
+use indices::robust::calls::RobustFlight;
+use indices::robust::dead::Dead;
 use queues::calls::QueueFlight;
 use queues::{QueueKind, Roles};
 use std::alloc::{AllocError, Global};
 use steps::ask::Want;
+use steps::enums::OwnerId;
 use steps::words::Words;
 
 pub mod atomic;
@@ -30,6 +33,7 @@ pub enum Flight<T> {
     Atomic(AtomicFlight<T>),
     Bits(BitsFlight),
     Indices(IndexFlight),
+    Robust(RobustFlight),
 }
 
 /// What a family needs to know beside its words.
@@ -42,6 +46,8 @@ pub enum Kept {
     Nothing,
     /// Who holds which index of the unique index set.
     Indices(Holders),
+    /// The owners of the robust index set that have died.
+    Owners(Dead),
 }
 
 /// What the step of one party has to know of the others: the party and the value of a push that acts where this step
@@ -68,6 +74,7 @@ pub fn capacities(kind: Kind) -> (u64, u64)
         Kind::Bits => bits::opening::CAPACITIES,
         Kind::Counts => bits::opening::CAPACITIES,
         Kind::Indices => indices::opening::CAPACITIES,
+        Kind::Robust => indices::robust::opening::CAPACITIES,
     }
 }
 
@@ -89,6 +96,7 @@ pub fn opening<T: Words>(
         Kind::Bits => bits::opening::open_bits(alloc, capacity),
         Kind::Counts => bits::opening::open_counts(alloc, capacity),
         Kind::Indices => indices::opening::open(alloc, capacity),
+        Kind::Robust => indices::robust::opening::open(alloc, capacity),
     }
 }
 
@@ -123,7 +131,51 @@ pub fn begin<T: Words>(
             let flight = indices::opening::begin(kind, capacity, holders, number, start)?;
             Ok(Flight::Indices(flight))
         }
+        (Start::Robust(start), Kept::Owners(dead)) => {
+            let flight = indices::robust::opening::begin(kind, capacity, dead, start)?;
+            Ok(Flight::Robust(flight))
+        }
         _ => Err(Refusal::WrongCall),
+    }
+}
+
+/// Whether a structure of this kind has owners, who can die.
+fn has_owners(kind: Kind) -> bool
+    ensures { result ≡ has_owners kind }
+{
+    match kind {
+        Kind::Robust => true,
+        _ => false,
+    }
+}
+
+/// Why this owner may not die, or None.
+pub fn death_refusal(kind: Kind, kept: &Kept, owner: OwnerId) -> Option<Refusal>
+    ensures { result ≡ first_row (death_rows kind kept.now owner) }
+{
+    if !has_owners(kind) {
+        return Some(Refusal::WrongCall);
+    }
+    match kept {
+        Kept::Owners(dead) => {
+            if dead.has(owner) {
+                Some(Refusal::OwnerIsDead)
+            } else {
+                None
+            }
+        }
+        _ => None,
+    }
+}
+
+/// This owner is dead from now on, unless memory for it is refused. Then nothing changes.
+pub fn die(kept: &mut Kept, owner: OwnerId) -> bool
+    ensures dies { result ≡ true → kept.new ≡ kept_after_death kept.old owner }
+    ensures same { result ≡ false → kept.new ≡ kept.old }
+{
+    match kept {
+        Kept::Owners(dead) => dead.add(owner),
+        _ => true,
     }
 }
 
@@ -149,6 +201,7 @@ impl<T: Words> Flight<T> {
             Flight::Atomic(flight) => (flight.want(), atomic::effects::MOST_EFFECTS),
             Flight::Bits(flight) => (flight.want(), flight.most_effects()),
             Flight::Indices(flight) => (flight.want(), indices::effects::MOST_EFFECTS),
+            Flight::Robust(flight) => (flight.want(), indices::robust::effects::MOST_EFFECTS),
         }
     }
 
@@ -160,6 +213,16 @@ impl<T: Words> Flight<T> {
         match want {
             Want::Question(_) => true,
             _ => false,
+        }
+    }
+
+    /// Why the call may not go on, by a decision or without, for what its family keeps. None where it may.
+    pub fn going_refusal(&self, kept: &Kept, said: Option<bool>) -> Option<Refusal>
+        ensures { result ≡ first_row (going_rows kept.now (Some self.now) said) }
+    {
+        match (self, kept) {
+            (Flight::Robust(flight), Kept::Owners(dead)) => flight.going_refusal(dead, said),
+            _ => None,
         }
     }
 
@@ -202,6 +265,9 @@ impl<T: Words> Flight<T> {
             }
             (Flight::Indices(flight), Start::Indices(_), Kept::Indices(holders)) => {
                 flight.go_on(number, answer, holders, events)
+            }
+            (Flight::Robust(flight), Start::Robust(_), Kept::Owners(dead)) => {
+                flight.go_on(number, answer, dead, events)
             }
             _ => Went {
                 back: false,

@@ -23,10 +23,12 @@ pub enum Kind {
     Counts,
     /// The unique index set.
     Indices,
+    /// The robust index set.
+    Robust,
 }
 
 /// Why a machine of this kind is not made with this capacity, or None. A queue and a set of bits or counts have from 0
-/// to 2^32 - 1, the single value 1, and the unique index set from 1 to 2^24 - 2.
+/// to 2^32 - 1, the single value 1, the unique index set from 1 to 2^24 - 2, and the robust one from 1 to 2^32 - 1.
 pub fn capacity_error(kind: Kind, capacity: usize) -> Option<UniqueIndexCreationError>
     ensures { result ≡ capacity_error kind capacity }
 {
@@ -43,7 +45,7 @@ pub enum Turn<T> {
     Next(u32),
     /// The party's question is answered by yes or no. No word is touched.
     Decide(u32, bool),
-    /// The owner dies.
+    /// The owner dies. From here on no call acquires or releases for it.
     Die(OwnerId),
 }
 

@@ -5,5 +5,6 @@ pub mod Calls
 pub mod Opening
 pub mod Promises
 pub mod Reading
+pub mod Robust
 pub mod Spans
 pub mod Steps

@@ -1,9 +1,9 @@
 -- What a call writes between its begin and its end.
-use Rattle.std.specs.Prelude.{◌≡◌, ℕ, List, []}
+use Rattle.std.specs.Prelude.{◌≡◌, ℕ, IfSome, List, []}
 use Rattle.model.specs.declared.event.Event.{Event}
 use Rattle.model.specs.declared.event.Event.TheVariants.{Begun, Acted, Finished}
 use Rattle.model.specs.Promise.{Promise}
-use Rattle.model.specs.Reading.{moments, owner, Span, span_of}
+use Rattle.model.specs.Reading.{moments, whose, Span, span_of}
 use Rattle.model.specs.Shape.{IsOpenFor, IsShut}
 
 module _ {T : Type 0} where
@@ -18,4 +18,5 @@ module _ {T : Type 0} where
   Stands promise capacity e span = promise.may_stand e span
 
   abbrev pub StandsRight : Promise T → ℕ → List (Event T) → Event T → Type 0
-  StandsRight promise capacity before e = Stands promise capacity e (span_of (owner e) before)
+  StandsRight promise capacity before e =
+      IfSome (whose e) (λ p. Stands promise capacity e (span_of p before))

@@ -7,14 +7,14 @@ use Rattle.steps.specs.declared.ask.After.TheVariants.{GoOn, Done}
 use Rattle.model.specs.declared.families.Flight.{Flight}
 use Rattle.model.specs.declared.event.Answer.{Answer}
 use Rattle.model.specs.declared.event.Event.{Event}
-use Rattle.model.specs.declared.event.Event.TheVariants.{Begun, Acted, Finished}
+use Rattle.model.specs.declared.event.Event.TheVariants.{Begun, Died, Acted, Finished}
 use Rattle.model.specs.declared.party.Progress.{Progress}
 use Rattle.model.specs.declared.turn.Turn.{Turn}
 use Rattle.model.specs.declared.turn.Turn.TheVariants.{Begin, Next, Decide, Die}
 use Rattle.model.specs.Coding.{Coding}
 use Rattle.model.specs.Families.{first_of, want_of, ask_of, after_of}
 use Rattle.model.specs.Promise.{Promise}
-use Rattle.model.specs.Reading.{owner}
+use Rattle.model.specs.Reading.{whose}
 use Rattle.model.specs.Turns.{words_after, old_of, number_of}
 use Rattle.model.specs.World.{World, Trace, flight_in, progress_in}
 
@@ -120,12 +120,13 @@ module _ {T : Type 0} where
 
   -- ---- the order of what is written down
 
-  -- what a step did to the structure: any event but a begin, an act and an end
+  -- what a step did to the structure: any event of its party but a begin, an act and an end
   abbrev pub IsEffectOf : Turn T → Event T → Type 0
   IsEffectOf turn (Begun p start) = ⊥
   IsEffectOf turn (Acted p start answer) = ⊥
   IsEffectOf turn (Finished p start answer) = ⊥
-  IsEffectOf turn e = IsParty turn (owner e)
+  IsEffectOf turn (Died o) = ⊥
+  IsEffectOf turn e = IfSome (whose e) (IsParty turn)
 
   abbrev pub IsAct : Event T → Type 0
   IsAct (Acted p start answer) = Unit {0}
@@ -155,4 +156,4 @@ module _ {T : Type 0} where
   WritesDown promise old (Begin p start) new = new.events ≡ old.events ++ Begun p start ∷ []
   WritesDown promise old (Next p) new = WritesInOrder promise old (Next p) new.events
   WritesDown promise old (Decide p said) new = WritesInOrder promise old (Decide p said) new.events
-  WritesDown promise old (Die owner) new = new.events ≡ old.events
+  WritesDown promise old (Die owner) new = new.events ≡ old.events ++ Died owner ∷ []

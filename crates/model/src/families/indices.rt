@@ -1,9 +1,10 @@
 //! The unique index set, which hands indices out and takes them back: its calls by name, and what stands in the files
-//! beside this one.
+//! beside this one. The robust index set, whose indices have owners, has a room of its own within.
 pub mod calls;
 pub mod effects;
 pub mod holders;
 pub mod opening;
+pub mod robust;
 
 use steps::indices::enums::ReleaseMode;
 

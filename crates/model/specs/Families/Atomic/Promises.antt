@@ -87,5 +87,6 @@ module _ {T : Type 0} where
         wrote = wrote;
         most_steps = most;
         acts_right = ActsRight;
+        tells = λ old turn new. Unit {0};
         holds = IsValue;
       }

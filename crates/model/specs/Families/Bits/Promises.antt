@@ -85,6 +85,7 @@ module _ {T : Type 0} where
         wrote = BitsWrote;
         most_steps = most_of_bits;
         acts_right = acts_never;
+        tells = λ old turn new. Unit {0};
         holds = IsBitSet;
       }
 
@@ -149,5 +150,6 @@ module _ {T : Type 0} where
         wrote = CountsWrote;
         most_steps = most_of_counts;
         acts_right = acts_never;
+        tells = λ old turn new. Unit {0};
         holds = IsCountingSet;
       }

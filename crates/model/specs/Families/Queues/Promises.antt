@@ -86,5 +86,6 @@ module _ {T : Type 0} where
         wrote = wrote kind;
         most_steps = most kind;
         acts_right = ActsRight kind;
+        tells = λ old turn new. Unit {0};
         holds = IsQueue kind;
       }

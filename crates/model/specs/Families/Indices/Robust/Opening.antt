@@ -1,0 +1,105 @@
+-- The words of the robust index set at its opening, who may begin which call, and who may go on.
+use Rattle.std.specs.Prelude.{ℕ, ◌-◌, ◌^◌, ◌&&◌, Bool, true, false, not, Option, Some, None, option_map, List, [], ◌∷◌, replicate, nat_le, nat_lt, if◌then◌else◌}
+use Rattle.steps.specs.Indices.Robust.Parts.{empty}
+use Rattle.steps.specs.declared.indices.robust.recover.RecoverStage.{RecoverStage}
+use Rattle.steps.specs.declared.indices.robust.recover.RecoverStage.TheVariants.{Asks}
+use Rattle.model.specs.declared.families.Flight.{Flight}
+use Rattle.model.specs.declared.families.Flight as flights
+use Rattle.model.specs.declared.families.Kept.{Kept}
+use Rattle.model.specs.declared.families.Kept as kepts
+use Rattle.model.specs.declared.families.indices.robust.RobustStart.{RobustStart}
+use Rattle.model.specs.declared.families.indices.robust.RobustStart.TheVariants.{Acquire, Release, Find, Recover, BorrowedIndices, IsLocked}
+use Rattle.model.specs.declared.families.indices.robust.calls.RobustFlight.{RobustFlight}
+use Rattle.model.specs.declared.families.indices.robust.calls.RobustFlight as robust_flights
+use Rattle.model.specs.declared.turn.Kind.{Kind}
+use Rattle.model.specs.declared.turn.Kind as kinds
+use Rattle.model.specs.declared.turn.Refusal.{Refusal}
+use Rattle.model.specs.declared.turn.Refusal.TheVariants.{WrongCall, BadIndex, OwnerIsDead, OwnerLives}
+use Rattle.model.specs.Families.Indices.Robust.Calls.{first}
+use Rattle.model.specs.Families.Indices.Robust.Dead.{has_died}
+use Rattle.model.specs.Opening.{Opening}
+use Rattle.model.specs.Step.{Beginning}
+
+-- the counter, and for each index a cell without an owner
+abbrev pub opening_words : ℕ → List ℕ
+opening_words capacity = 0 ∷ replicate capacity empty
+
+-- nobody has died
+abbrev pub opening : Opening
+opening =
+    record {
+      least = 1;
+      greatest = 2 ^ 32 - 1;
+      words = λ size capacity. opening_words capacity;
+      kept = λ capacity. kepts.TheVariants.Owners [];
+    }
+
+-- ---- a call begins
+
+-- whether a machine of a kind has the set
+abbrev pub is_set : Kind → Bool
+is_set kinds.TheVariants.Robust = true
+is_set kind = false
+
+-- the greatest number of 64 bits marks an empty cell, so a call for it is none
+abbrev pub is_owner : ℕ → Bool
+is_owner owner = nat_lt owner empty
+
+abbrev pub names_owner : RobustStart → Bool
+names_owner (Acquire owner) = is_owner owner
+names_owner (Release index owner mode) = is_owner owner
+names_owner (Find owner) = is_owner owner
+names_owner (Recover mode) = true
+names_owner BorrowedIndices = true
+names_owner IsLocked = true
+
+-- the call that begins on a machine of this kind
+abbrev pub call_of : Kind → ℕ → RobustStart → Option RobustFlight
+call_of kind capacity start =
+    if is_set kind && names_owner start then Some (first capacity start) else None
+
+-- what is tested of a call that is to begin: that the index which it is to give back is one of the
+-- set, and that the owner for whom it is to acquire or release lives
+abbrev pub call_rows : ℕ → List ℕ → RobustStart → List (Bool × Refusal)
+call_rows capacity dead (Acquire owner) = (has_died owner dead, OwnerIsDead) ∷ []
+call_rows capacity dead (Release index owner mode) =
+    (nat_le capacity index, BadIndex) ∷ (has_died owner dead, OwnerIsDead) ∷ []
+call_rows capacity dead (Find owner) = []
+call_rows capacity dead (Recover mode) = []
+call_rows capacity dead BorrowedIndices = []
+call_rows capacity dead IsLocked = []
+
+abbrev pub kept_rows : ℕ → RobustStart → Kept → ℕ → List (Bool × Refusal)
+kept_rows capacity start (kepts.TheVariants.Owners dead) p = call_rows capacity dead start
+kept_rows capacity start kept p = (true, WrongCall) ∷ []
+
+module _ {T : Type 0} where
+  abbrev pub begin : Kind → ℕ → RobustStart → Beginning (Flight T) Kept
+  begin kind capacity start =
+      record {
+        call = option_map flights.TheVariants.Robust (call_of kind capacity start);
+        rows = kept_rows capacity start;
+      }
+
+-- ---- a call goes on
+
+-- it acquires or releases for an owner who is dead
+abbrev pub acts_for_dead : List ℕ → RobustFlight → Bool
+acts_for_dead dead (robust_flights.TheVariants.Acquire run) = has_died run.given dead
+acts_for_dead dead (robust_flights.TheVariants.Release run) = has_died run.given.owner dead
+acts_for_dead dead flight = false
+
+abbrev pub asks_about_living : List ℕ → RecoverStage → Bool
+asks_about_living dead (Asks index owner) = not (has_died owner dead)
+asks_about_living dead stage = false
+
+-- by a yes it would free an index of an owner who lives
+abbrev pub frees_living : List ℕ → RobustFlight → Option Bool → Bool
+frees_living dead (robust_flights.TheVariants.Recover run) (Some true) =
+    asks_about_living dead run.call.stage
+frees_living dead flight said = false
+
+-- what is tested of a call that is to go on, by a decision or without
+abbrev pub going_rows : List ℕ → RobustFlight → Option Bool → List (Bool × Refusal)
+going_rows dead flight said =
+    (acts_for_dead dead flight, OwnerIsDead) ∷ (frees_living dead flight said, OwnerLives) ∷ []

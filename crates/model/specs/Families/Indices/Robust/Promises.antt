@@ -1,0 +1,210 @@
+-- What holds of the machine of the robust index set, after any turns.
+use Rattle.std.specs.Prelude.{◌≡◌, ◌≢◌, ◌⊎◌, ℕ, zero, suc, ◌+◌, ◌<◌, ◌≤◌, ◌==◌, Bool, true, false, Option, Some, None, is_some, List, [], ◌∷◌, ◌++◌, if◌then◌else◌, slice_index}
+use Rattle.steps.specs.declared.ask.Ask.{Ask}
+use Rattle.steps.specs.declared.indices.enums.ReleaseMode.TheVariants.{LockIfLastIndex}
+use Rattle.steps.specs.declared.indices.enums.ReleaseState.TheVariants as states
+use Rattle.steps.specs.declared.indices.enums.UniqueIndexSetAcquireFailure.TheVariants as failures
+use Rattle.steps.specs.Indices.Robust.Parts.{cell_word, empty, locked}
+use Rattle.model.specs.declared.event.Answer.{Answer}
+use Rattle.model.specs.declared.event.Answer.TheVariants.{NoIndex, State, NotOwned, Number, Truth}
+use Rattle.model.specs.declared.event.Event.{Event}
+use Rattle.model.specs.declared.event.Event.TheVariants.{Filled, Granted, FreedOf, Asked, Told, Locked, Died, Finished}
+use Rattle.model.specs.declared.event.Start.{Start}
+use Rattle.model.specs.declared.event.Start.TheVariants.{Robust}
+use Rattle.model.specs.declared.families.Kept.{Kept}
+use Rattle.model.specs.declared.families.Kept as kepts
+use Rattle.model.specs.declared.families.indices.robust.RobustStart.TheVariants.{Acquire, Release, Find, Recover, BorrowedIndices, IsLocked}
+use Rattle.model.specs.declared.turn.Turn.{Turn}
+use Rattle.model.specs.declared.turn.Turn.TheVariants.{Decide}
+use Rattle.model.specs.Families.Indices.Reading.{is_locked}
+use Rattle.model.specs.Families.Indices.Robust.Bounds.{most_steps}
+use Rattle.model.specs.Families.Indices.Robust.Dead.{has_died}
+use Rattle.model.specs.Families.Indices.Robust.Reading.{filled_of, holder_of, settled_of, is_dead, Frees, Asks, Yes, deeds, deeds_of, IsOneOf}
+use Rattle.model.specs.Families.Indices.Robust.Spans.{may_stand, HasDone}
+use Rattle.model.specs.Moments.{BeginsNone, HeldOnce, SinceBegin}
+use Rattle.model.specs.Promise.{Promise}
+use Rattle.model.specs.Reading.{Each, Span, Open, span_of}
+use Rattle.model.specs.World.{Trace}
+
+-- so many numbers below the bound are chosen
+abbrev pub count_below : (ℕ → Bool) → ℕ → ℕ
+count_below chosen zero = 0
+count_below chosen (suc n) = (if chosen n then 1 else 0) + count_below chosen n
+
+-- a cell holds the owner that its index is filled with
+abbrev pub cell_of : Option ℕ → ℕ
+cell_of None = empty
+cell_of (Some owner) = owner
+
+module _ {T : Type 0} where
+  -- ---- moments of a call
+
+  abbrev pub IsFilled : ℕ → List (Event T) → Type 0
+  IsFilled index events = is_some (filled_of index events) ≡ true
+
+  abbrev pub IsFilledWith : ℕ → ℕ → List (Event T) → Type 0
+  IsFilledWith owner index events = filled_of index events ≡ Some owner
+
+  abbrev pub IsUnlocked : List (Event T) → Type 0
+  IsUnlocked events = is_locked events ≡ false
+
+  -- P holds at each moment of the party's latest call
+  abbrev pub HeldThrough : ℕ → (List (Event T) → Type 0) → List (Event T) → Type 0
+  HeldThrough p P events =
+      (part rest : List (Event T)) → events ≡ part ++ rest → BeginsNone p rest → P part
+
+  -- ---- what a call does to the set, in every run
+
+  -- An index of the set is filled where it is not, for an owner who lives, and freed where it is
+  -- filled with that owner. A recovery is told to free an index of a dead owner, and asks about
+  -- one that is filled. The lock comes once, and after it nothing is granted; a call that began
+  -- after it fills nothing and asks nothing. An owner dies once.
+  abbrev pub DoesRight : ℕ → List (Event T) → Event T → Type 0
+  DoesRight capacity before (Filled p index owner) =
+      (index < capacity) × (filled_of index before ≡ None) × (is_dead owner before ≡ false)
+      × HeldOnce p IsUnlocked before
+  DoesRight capacity before (Granted p index owner) = IsUnlocked before
+  DoesRight capacity before (FreedOf p index owner) = filled_of index before ≡ Some owner
+  DoesRight capacity before (Asked p index owner) =
+      (filled_of index before ≡ Some owner) × HeldOnce p IsUnlocked before
+  DoesRight capacity before (Told p index owner) = is_dead owner before ≡ true
+  DoesRight capacity before (Locked p) = IsUnlocked before
+  DoesRight capacity before (Died owner) = is_dead owner before ≡ false
+  DoesRight capacity before e = Unit {0}
+
+  -- ---- holders, in a proper run
+
+  -- A release that frees was begun where its index might be given back for its owner: the acquire
+  -- that was granted it had finished, and no other release of it for that owner had begun since.
+  abbrev pub MayGiveBack : ℕ → ℕ → List (Event T) → Span T → Type 0
+  MayGiveBack p index before (Open (Robust (Release i owner mode)) wrote) =
+      SinceBegin p (λ part since. settled_of index part ≡ Some owner) before
+  MayGiveBack p index before span = Unit {0}
+
+  abbrev pub FreesRight : List (Event T) → Event T → Type 0
+  FreesRight before (FreedOf p index owner) = MayGiveBack p index before (span_of p before)
+  FreesRight before e = Unit {0}
+
+  abbrev pub IsProper : List (Event T) → Type 0
+  IsProper events = Each FreesRight events
+
+  -- no index is granted that is held, and none is held where the set is locked
+  abbrev pub HoldsRight : List (Event T) → Event T → Type 0
+  HoldsRight before (Granted p index owner) = holder_of index before ≡ None
+  HoldsRight before (Locked p) = (index : ℕ) → holder_of index before ≡ None
+  HoldsRight before e = Unit {0}
+
+  -- ---- answers
+
+  -- of the indices below the bound so many were P that each which was so through the whole call is
+  -- among them, and none that was so at no moment of it
+  pub record IsCount (p : ℕ) (P : ℕ → List (Event T) → Type 0) (bound number : ℕ)
+      (events : List (Event T)) : Type 0 where
+    pub chosen : ℕ → Bool
+    pub is : count_below chosen bound ≡ number
+    pub once : (index : ℕ) → index < bound → chosen index ≡ true → HeldOnce p (P index) events
+    pub through : (index : ℕ) → index < bound → HeldThrough p (P index) events
+        → chosen index ≡ true
+
+  -- the indices below the bound, which is that of the set unless a no ended the call
+  pub record IsFound (p owner capacity number : ℕ) (events : List (Event T)) : Type 0 where
+    pub bound : ℕ
+    pub within : bound ≤ capacity
+    pub count : IsCount p (IsFilledWith owner) bound number events
+
+  -- some index was filled at a moment of the call after it had freed its own
+  pub record FilledSinceFreed (p owner index : ℕ) (events : List (Event T)) : Type 0 where
+    pub other : ℕ
+    pub once : HeldOnce p
+        (λ part. IsOneOf (Frees index owner) (deeds_of p part) × IsFilled other part) events
+
+  -- the index was filled with this owner, or the recovery has freed it
+  abbrev pub StillToFree : ℕ → ℕ → ℕ → List (Event T) → Type 0
+  StillToFree p owner index part =
+      IsFilledWith owner index part ⊎ IsOneOf (Frees index owner) (deeds_of p part)
+
+  -- No index that it was told to free has that owner. It asked about each that was filled with one
+  -- owner through the whole call, until the call itself freed it.
+  pub record HasRecovered (p : ℕ) (events : List (Event T)) : Type 0 where
+    pub gone : (index owner : ℕ) → IsOneOf (Yes index owner) (deeds_of p events)
+        → filled_of index events ≢ Some owner
+    pub asked : (index owner : ℕ) → HeldThrough p (StillToFree p owner index) events
+        → IsOneOf (Asks index owner) (deeds_of p events)
+
+  -- What an answer says of the set as it was at the last step of the call, and at moments of it.
+  abbrev pub AnswersRight : ℕ → List (Event T) → Event T → Type 0
+  AnswersRight capacity before (Finished p (Robust (Acquire owner)) (NoIndex failures.IsLocked)) =
+      is_locked before ≡ true
+  AnswersRight capacity before
+      (Finished p (Robust (Acquire owner)) (NoIndex failures.OutOfIndices)) =
+      (index : ℕ) → index < capacity → HeldOnce p (IsFilled index) before
+  AnswersRight capacity before (Finished p (Robust (Release index owner mode)) (NotOwned failure)) =
+      filled_of index before ≢ Some owner
+  AnswersRight capacity before
+      (Finished p (Robust (Release index owner mode)) (State states.Locked)) =
+      is_locked before ≡ true
+  AnswersRight capacity before
+      (Finished p (Robust (Release index owner LockIfLastIndex)) (State states.Unlocked)) =
+      FilledSinceFreed p owner index before
+  AnswersRight capacity before (Finished p (Robust (Find owner)) (Number number)) =
+      IsFound p owner capacity number before
+  AnswersRight capacity before (Finished p (Robust (Recover mode)) (State states.Locked)) =
+      is_locked before ≡ true
+  AnswersRight capacity before (Finished p (Robust (Recover mode)) (State states.Unlocked)) =
+      HasRecovered p before
+  AnswersRight capacity before (Finished p (Robust BorrowedIndices) (Number number)) =
+      (is_locked before ≡ true → number ≡ 0)
+      × (is_locked before ≡ false → IsCount p IsFilled capacity number before)
+  AnswersRight capacity before (Finished p (Robust IsLocked) (Truth locked)) =
+      locked ≡ is_locked before
+  AnswersRight capacity before e = Unit {0}
+
+  -- ---- what the words say, and what is kept beside them
+
+  -- the machine refuses as dead whoever has died by the events
+  abbrev pub KeepsDead : Kept → List (Event T) → Type 0
+  KeepsDead (kepts.TheVariants.Owners dead) events =
+      (owner : ℕ) → has_died owner dead ≡ is_dead owner events
+  KeepsDead kept events = ⊥
+
+  pub record IsRobustSet (t : Trace T) : Type 0 where
+    pub does : Each (DoesRight t.world.capacity) t.events
+    pub holds : IsProper t.events → Each HoldsRight t.events
+    pub answers : Each (AnswersRight t.world.capacity) t.events
+    pub cells : (index : ℕ) → index < t.world.capacity
+        → slice_index t.world.words (cell_word index) ≡ cell_of (filled_of index t.events)
+    pub lock : (slice_index t.world.words 0 == locked) ≡ is_locked t.events
+    pub dead : KeepsDead t.world.kept t.events
+
+  -- ---- the promise
+
+  abbrev pub wrote : ℕ → Start T → Answer T → List (Event T) → Type 0
+  wrote capacity (Robust start) answer events = HasDone start answer (deeds events)
+  wrote capacity start answer events = ⊥
+
+  abbrev pub most : ℕ → ℕ → Start T → ℕ → ℕ
+  most capacity size (Robust start) backs = most_steps capacity start backs
+  most capacity size start backs = 0
+
+  -- no call of the set acts
+  abbrev pub ActsRight : Trace T → Option Ask → (ℕ → Type 0) → Event T → Type 0
+  ActsRight old ask IsTurnOf e = ⊥
+
+  -- a find that ends in another turn than a no has come to the indices of the whole set
+  abbrev pub FindsAll : Trace T → Turn T → Trace T → Type 0
+  FindsAll old turn new =
+      (p owner number : ℕ)
+      → new.events ≡ old.events ++ Finished p (Robust (Find owner)) (Number number) ∷ []
+      → turn ≢ Decide p false
+      → IsCount p (IsFilledWith owner) old.world.capacity number old.events
+
+  abbrev pub promise : Promise T
+  promise =
+      record {
+        may_stand = may_stand;
+        wrote = wrote;
+        most_steps = most;
+        acts_right = ActsRight;
+        tells = FindsAll;
+        holds = IsRobustSet;
+      }

@@ -1,0 +1,110 @@
+-- How the events of the robust index set are read.
+use Rattle.std.specs.Prelude.{◌≡◌, ℕ, ◌==◌, ◌||◌, Bool, false, Option, Some, None, List, [], ◌∷◌, ◌++◌, fold, if◌then◌else◌}
+use Rattle.std.specs.List.{flat_map}
+use Rattle.model.specs.declared.event.Answer.TheVariants.{Index}
+use Rattle.model.specs.declared.event.Event.{Event}
+use Rattle.model.specs.declared.event.Event as events
+use Rattle.model.specs.declared.event.Event.TheVariants.{Begun, Filled, Granted, FreedOf, Asked, Told, Died, Finished}
+use Rattle.model.specs.declared.event.Start.TheVariants.{Robust}
+use Rattle.model.specs.declared.families.indices.robust.RobustStart.TheVariants.{Acquire, Release}
+use Rattle.model.specs.Reading.{Span, Never, Open, Ended, span_of}
+
+-- an owner, unless it is this one
+abbrev pub without : ℕ → Option ℕ → Option ℕ
+without owner None = None
+without owner (Some other) = if other == owner then None else Some other
+
+module _ {T : Type 0} where
+  -- ---- indices and owners
+
+  -- an index is filled with an owner from its Filled to its next Freed
+  abbrev pub filled_after : ℕ → Option ℕ → Event T → Option ℕ
+  filled_after i owner (Filled p index o) = if index == i then Some o else owner
+  filled_after i owner (FreedOf p index o) = if index == i then None else owner
+  filled_after i owner e = owner
+
+  abbrev pub filled_of : ℕ → List (Event T) → Option ℕ
+  filled_of i events = fold (filled_after i) None events
+
+  -- it is held by an owner from its Granted to its next Freed
+  abbrev pub holder_after : ℕ → Option ℕ → Event T → Option ℕ
+  holder_after i owner (Granted p index o) = if index == i then Some o else owner
+  holder_after i owner (FreedOf p index o) = if index == i then None else owner
+  holder_after i owner e = owner
+
+  abbrev pub holder_of : ℕ → List (Event T) → Option ℕ
+  holder_of i events = fold (holder_after i) None events
+
+  -- It may be given back for an owner once the acquire that was granted it has finished, until a
+  -- release of it for that owner begins.
+  abbrev pub settled_after : ℕ → Option ℕ → Event T → Option ℕ
+  settled_after i owner (Finished p (Robust (Acquire o)) (Index index)) =
+      if index == i then Some o else owner
+  settled_after i owner (Begun p (Robust (Release index o mode))) =
+      if index == i then without o owner else owner
+  settled_after i owner (FreedOf p index o) = if index == i then None else owner
+  settled_after i owner e = owner
+
+  abbrev pub settled_of : ℕ → List (Event T) → Option ℕ
+  settled_of i events = fold (settled_after i) None events
+
+  -- the owner has died
+  abbrev pub dead_after : ℕ → Bool → Event T → Bool
+  dead_after owner dead (Died o) = (o == owner) || dead
+  dead_after owner dead e = dead
+
+  abbrev pub is_dead : ℕ → List (Event T) → Bool
+  is_dead owner events = fold (dead_after owner) false events
+
+-- ---- what a call does
+
+-- to the set: it fills an index for an owner, grants it, frees it; asks whether to free an index
+-- of an owner, and hears yes; or locks the set
+pub data Deed : Type 0 where
+  Fills : (index owner : ℕ) → Deed
+  Grants : (index owner : ℕ) → Deed
+  Frees : (index owner : ℕ) → Deed
+  Asks : (index owner : ℕ) → Deed
+  Yes : (index owner : ℕ) → Deed
+  Locks : Deed
+
+module _ {T : Type 0} where
+  abbrev pub deed : Event T → List Deed
+  deed (Filled p index owner) = Fills index owner ∷ []
+  deed (Granted p index owner) = Grants index owner ∷ []
+  deed (FreedOf p index owner) = Frees index owner ∷ []
+  deed (Asked p index owner) = Asks index owner ∷ []
+  deed (Told p index owner) = Yes index owner ∷ []
+  deed (events.TheVariants.Locked p) = Locks ∷ []
+  deed e = []
+
+  abbrev pub deeds : List (Event T) → List Deed
+  deeds events = flat_map deed events
+
+  abbrev pub wrote_in : Span T → List (Event T)
+  wrote_in Never = []
+  wrote_in (Open start wrote) = wrote
+  wrote_in (Ended start answer wrote) = wrote
+
+  -- the deeds of the party's latest call
+  abbrev pub deeds_of : ℕ → List (Event T) → List Deed
+  deeds_of p events = deeds (wrote_in (span_of p events))
+
+-- it is one of them
+pub record IsOneOf (one : Deed) (all : List Deed) : Type 0 where
+  pub before : List Deed
+  pub after : List Deed
+  pub is : all ≡ before ++ one ∷ after
+
+-- it is the latest of them
+pub record IsLatest (one : Deed) (all : List Deed) : Type 0 where
+  pub before : List Deed
+  pub is : all ≡ before ++ one ∷ []
+
+-- the indices that a recovery has asked about, in order
+abbrev pub index_asked : Deed → List ℕ
+index_asked (Asks index owner) = index ∷ []
+index_asked one = []
+
+abbrev pub asked_in : List Deed → List ℕ
+asked_in all = flat_map index_asked all
