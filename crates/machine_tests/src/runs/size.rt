@@ -1,13 +1,11 @@
 //! Runs of many turns, of large queues, of many parties and of calls that go back a thousand times.
-use crate::rows::{Row, made, run, run_all, tells_rounds};
+use crate::rows::{Row, Wrote, made, run, run_all, tells_rounds};
 use machine::Stopped;
 use machine::event::{Answer, Event, Start};
 use machine::families::queues::QueueStart;
 use machine::turn::{Kind, Refusal, Turn};
 use std::alloc::{AllocError, Global};
 use std::test::Fail;
-
-const POPPED_NONE: Event<u128> = Event::Finished(1, Start::Queues(QueueStart::Pop), Answer::PoppedNone);
 
 /// At capacity 5,000.
 pub const MANY_VALUES: [Row; 7] = [
@@ -50,7 +48,7 @@ pub const LAST_PARTY: [Row; 8] = [
     Row::Counts(LAST, 4, 0, 0, true),
     Row::Events(
         11,
-        &[Event::Finished(LAST, Start::Queues(QueueStart::Pop), Answer::PoppedIndex(5))],
+        &[Wrote::Finished(LAST, QueueStart::Pop, Answer::PoppedIndex(5))],
     ),
     Row::RefusedBegin(u32::MAX, QueueStart::Len, Refusal::NoParty),
     Row::RefusedNext(u32::MAX, Refusal::NoParty),
@@ -140,7 +138,10 @@ fn run_takes_the_turns_up_to_a_refusal(rt: HostRuntime) -> Result<(), Fail> {
 fn why_a_run_stopped(rt: HostRuntime) -> Result<(), Fail> {
     let mut machine = made(rt.alloc(), Kind::IndexQueue, 3, 2)?;
     let mut turns = many_turns(rt.alloc())?;
-    turns.extend_from_slice(&[Turn::Next(1), Turn::Begin(1, Start::Queues(QueueStart::Pop))])?;
+    turns.extend_from_slice(&[
+        Turn::Next(1),
+        Turn::Begin(1, Start::Queues(QueueStart::Pop)),
+    ])?;
     let stopped = Stopped {
         taken: 10_004,
         refusal: Refusal::Idle,
@@ -156,7 +157,8 @@ fn why_a_run_stopped(rt: HostRuntime) -> Result<(), Fail> {
     };
     assert!(rt; run_all(&mut machine, &turns) == Err(stopped));
     assert!(rt; run_all(&mut machine, &[Turn::Next(1), Turn::Next(1)]) == Ok(()));
-    assert!(rt; machine.events().last() == Some(&POPPED_NONE));
+    let none = Event::Finished(1, Start::Queues(QueueStart::Pop), Answer::PoppedNone);
+    assert!(rt; machine.events().last() == Some(&none));
     assert!(rt; run_all(&mut machine, &[]) == Ok(()));
     Ok(())
 }
