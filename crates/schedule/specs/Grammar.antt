@@ -8,14 +8,14 @@ use Rattle.schedule.specs.declared.error.Cause.TheVariants.{BadValue, UnknownKin
 use Rattle.schedule.specs.declared.grammar.Command.{Command}
 use Rattle.schedule.specs.declared.grammar.Command.TheVariants.{Once, Times}
 use Rattle.schedule.specs.declared.grammar.Setup.{Setup}
-use Rattle.schedule.specs.Families.{kind_said, call_said}
+use Rattle.schedule.specs.Families.{kind_named, call_named}
 unfoldable pub use Rattle.schedule.specs.Reading.{Gives, GivesIfAny, ◌>>=◌, next_word, ended, number_at}
 use Rattle.schedule.specs.Text.{number_of}
 
 -- ---- the first line
 
 abbrev pub kind_of : List ℕ → Result Kind Cause
-kind_of name = elim (kind_said name) [ Some kind ↦ Ok kind | None ↦ Err UnknownKind ]
+kind_of name = elim (kind_named name) [ Some kind ↦ Ok kind | None ↦ Err UnknownKind ]
 
 -- a kind, a capacity and how many parties
 unfoldable pub setup_of : List (List ℕ) → Result Setup Cause
@@ -30,7 +30,7 @@ setup_of ws = do
 -- ---- calls
 
 abbrev pub call_of : Kind → List ℕ → List (List ℕ) → Result (Start ℕ × List (List ℕ)) Cause
-call_of kind name ws = elim (call_said kind name ws) [ Some call ↦ call | None ↦ Err UnknownCall ]
+call_of kind name ws = elim (call_named kind name ws) [ Some call ↦ call | None ↦ Err UnknownCall ]
 
 -- ---- turns
 

@@ -1,5 +1,5 @@
 -- What is printed of events, refusals and errors.
-use Rattle.std.specs.Prelude.{ℕ, Bool, true, false, List, [], ◌++◌, Result, Ok, Err, codes, decimal}
+use Rattle.std.specs.Prelude.{ℕ, Bool, true, false, List, [], ◌++◌, Result, Ok, Err, unwrap_or, codes, decimal}
 use Rattle.std.specs.List.{flat_map}
 use Rattle.model.specs.declared.event.Answer.{Answer}
 use Rattle.model.specs.declared.event.Answer.TheVariants.{Done, Truth, Number}
@@ -12,10 +12,13 @@ use Rattle.schedule.specs.declared.error.Cause.{Cause}
 use Rattle.schedule.specs.declared.error.Cause.TheVariants as causes
 use Rattle.schedule.specs.declared.error.ScheduleError.{ScheduleError}
 use Rattle.schedule.specs.declared.error.ScheduleError.TheVariants as errors
-use Rattle.schedule.specs.Families as families
-use Rattle.schedule.specs.Families.{call_text}
+use Rattle.schedule.specs.Families.{text_of_call, text_of_answer, text_of_event}
 
 -- ---- events
+
+-- a call and its arguments
+abbrev pub call_text : Start ℕ → List ℕ
+call_text start = unwrap_or (text_of_call start) []
 
 abbrev pub truth_text : Bool → List ℕ
 truth_text true = codes "true"
@@ -25,7 +28,7 @@ abbrev pub answer_text : Answer ℕ → List ℕ
 answer_text Done = codes "done"
 answer_text (Truth said) = truth_text said
 answer_text (Number n) = decimal n
-answer_text answer = families.answer_text answer
+answer_text answer = unwrap_or (text_of_answer answer) []
 
 -- a call and its answer
 abbrev pub answered_text : Start ℕ → Answer ℕ → List ℕ
@@ -38,7 +41,7 @@ event_text (Acted party start answer) =
     decimal party ++ codes " acted " ++ answered_text start answer ++ codes "\n"
 event_text (Finished party start answer) =
     decimal party ++ codes " finished " ++ answered_text start answer ++ codes "\n"
-event_text event = families.event_text event ++ codes "\n"
+event_text event = unwrap_or (text_of_event event) [] ++ codes "\n"
 
 -- the lines of the events, in their order
 abbrev pub events_text : List (Event ℕ) → List ℕ

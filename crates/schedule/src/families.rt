@@ -1,6 +1,6 @@
 //! The families of calls: the only list of them that reading and printing go by. Each says what is its own in its room.
-ghost use Rattle.std.specs.Prelude.{◌≡◌, ◌+◌, ◌≤◌, ◌++◌, length};
-ghost use Rattle.schedule.specs.Families.{kind_said, call_said, call_text, answer_text, event_text};
+ghost use Rattle.std.specs.Prelude.{◌≡◌, ◌+◌, ◌≤◌, ◌++◌, [], length, is_some, unwrap_or};
+ghost use Rattle.schedule.specs.Families.{kind_named, call_named, text_of_call, text_of_answer, text_of_event};
 ghost use Rattle.schedule.specs.Grammar.{GivesIfAny};
 ghost use Rattle.schedule.specs.Text.{words_left};
 
@@ -51,7 +51,7 @@ macro_rules! first_true {
 
 /// The kind of this name.
 pub fn kind_of(name: &[u8]) -> Option<Kind>
-    ensures { result ≡ kind_said name.now }
+    ensures { result ≡ kind_named name.now }
 {
     families!(first_some, kind_of(name))
 }
@@ -63,7 +63,7 @@ pub fn call<'a>(
     words: Rest<'a>,
 ) -> Option<Result<(Start<u128>, Rest<'a>), Cause>>
     ensures { GivesIfAny (λ x. (x.0, words_left x.1)) result
-        (call_said kind name.now (words_left words.entry)) }
+        (call_named kind name.now (words_left words.entry)) }
 {
     families!(first_some, call(kind, name, words))
 }
@@ -71,7 +71,8 @@ pub fn call<'a>(
 /// Writes a call with its arguments. Whether a family says how.
 pub fn print_call(line: &mut Line, start: &Start<u128>) -> bool
     requires { length line.old + 80 ≤ 256 }
-    ensures text { line.new ≡ line.old ++ call_text start.now }
+    ensures text { line.new ≡ line.old ++ unwrap_or (text_of_call start.now) [] }
+    ensures said { result ≡ is_some (text_of_call start.now) }
     ensures short { length line.new ≤ length line.old + 80 }
 {
     families!(first_true, print_call(line, start))
@@ -80,7 +81,8 @@ pub fn print_call(line: &mut Line, start: &Start<u128>) -> bool
 /// Writes an answer. Whether a family says how.
 pub fn print_answer(line: &mut Line, answer: &Answer<u128>) -> bool
     requires { length line.old + 80 ≤ 256 }
-    ensures text { line.new ≡ line.old ++ answer_text answer.now }
+    ensures text { line.new ≡ line.old ++ unwrap_or (text_of_answer answer.now) [] }
+    ensures said { result ≡ is_some (text_of_answer answer.now) }
     ensures short { length line.new ≤ length line.old + 80 }
 {
     families!(first_true, print_answer(line, answer))
@@ -89,7 +91,8 @@ pub fn print_answer(line: &mut Line, answer: &Answer<u128>) -> bool
 /// Writes whose event it is and what was done. Whether a family says how.
 pub fn print_event(line: &mut Line, event: &Event<u128>) -> bool
     requires { length line.old + 160 ≤ 256 }
-    ensures text { line.new ≡ line.old ++ event_text event.now }
+    ensures text { line.new ≡ line.old ++ unwrap_or (text_of_event event.now) [] }
+    ensures said { result ≡ is_some (text_of_event event.now) }
     ensures short { length line.new ≤ length line.old + 160 }
 {
     families!(first_true, print_event(line, event))

@@ -1,6 +1,6 @@
 //! A line that is being made, in room of its own, so that printing takes no memory.
 ghost use Rattle.std.specs.Prelude.{◌≡◌, ◌+◌, ◌≤◌, ◌<◌, ◌++◌, [], length, decimal};
-ghost use Rattle.schedule.specs.Print.{answer_text, answered_text, event_text, refusal_name, refusal_text, cause_text, error_text};
+ghost use Rattle.schedule.specs.Print.{call_text, answer_text, answered_text, event_text, refusal_name, refusal_text, cause_text, error_text};
 
 use crate::error::{Cause, ScheduleError};
 use crate::families;
@@ -83,6 +83,15 @@ impl Line {
         self.push_bytes(&digits[at..]);
     }
 
+    fn push_call(&mut self, start: &Start<u128>)
+        requires { length self.old + 80 ≤ ROOM }
+        ensures text { self.new ≡ self.old ++ call_text start.now }
+        ensures short { length self.new ≤ length self.old + 80 }
+    {
+        let said = families::print_call(self, start);
+        prove!(said); // each call is a family's
+    }
+
     fn push_answer(&mut self, answer: &Answer<u128>)
         requires { length self.old + 80 ≤ ROOM }
         ensures text { self.new ≡ self.old ++ answer_text answer.now }
@@ -94,7 +103,8 @@ impl Line {
             Answer::Truth(false) => self.push("false"),
             Answer::Number(number) => self.push_number(u128::from(number)),
             _ => {
-                families::print_answer(self, answer);
+                let said = families::print_answer(self, answer);
+                prove!(said); // any other answer is a family's
             }
         }
     }
@@ -104,7 +114,7 @@ impl Line {
         ensures text { self.new ≡ self.old ++ answered_text start.now answer.now }
         ensures short { length self.new ≤ length self.old + 164 }
     {
-        families::print_call(self, start);
+        self.push_call(start);
         self.push(" -> ");
         self.push_answer(answer);
     }
@@ -119,7 +129,7 @@ impl Line {
             Event::Begun(party, start) => {
                 line.push_number(u128::from(*party));
                 line.push(" begun ");
-                families::print_call(&mut line, start);
+                line.push_call(start);
             }
             Event::Acted(party, start, answer) => {
                 line.push_number(u128::from(*party));
@@ -132,7 +142,8 @@ impl Line {
                 line.push_answered(start, answer);
             }
             _ => {
-                families::print_event(&mut line, event);
+                let said = families::print_event(&mut line, event);
+                prove!(said); // any other event is a family's
             }
         }
         line.push("\n");
