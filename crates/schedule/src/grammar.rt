@@ -99,7 +99,7 @@ fn call_of<'a>(kind: Kind, name: &[u8], words: Rest<'a>) -> Result<(Start<u128>,
 {
     match families::call(kind, name, words) {
         Some(call) => call,
-        None => Err(Cause::UnknownCall),
+        None => unreachable!(),
     }
 }
 
