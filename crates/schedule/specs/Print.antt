@@ -14,7 +14,7 @@ use Rattle.schedule.specs.declared.error.ScheduleError.{ScheduleError}
 use Rattle.schedule.specs.declared.error.ScheduleError.TheVariants as errors
 use Rattle.schedule.specs.Families.{text_of_call, text_of_answer, text_of_event}
 
--- ---- events
+-- ---- events; what is a family's own prints as its room says
 
 -- a call and its arguments
 abbrev pub call_text : Start ℕ → List ℕ
