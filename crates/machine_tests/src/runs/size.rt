@@ -1,6 +1,6 @@
 //! Runs of many turns, of large queues, of many parties and of calls that go back a thousand times.
-use crate::rows::{Row, made, run, tells_rounds};
-use machine::event::{Answer, Event, Start};
+use crate::rows::{QueueEvent, Row, made, run, tells_rounds};
+use machine::event::{Answer, Start};
 use machine::families::queues::QueueStart;
 use machine::turn::{Kind, Refusal, Turn};
 use std::alloc::{AllocError, Global};
@@ -47,7 +47,7 @@ pub const LAST_PARTY: [Row; 8] = [
     Row::Counts(LAST, 4, 0, 0, true),
     Row::Events(
         11,
-        &[Event::Finished(LAST, Start::Queues(QueueStart::Pop), Answer::PoppedIndex(5))],
+        &[QueueEvent::Finished(LAST, QueueStart::Pop, Answer::PoppedIndex(5))],
     ),
     Row::RefusedBegin(u32::MAX, QueueStart::Len, Refusal::NoParty),
     Row::RefusedNext(u32::MAX, Refusal::NoParty),
