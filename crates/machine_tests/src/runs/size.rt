@@ -1,7 +1,7 @@
 //! Runs of many turns, of large queues, of many parties and of calls that go back a thousand times.
-use crate::rows::{Row, Wrote, made, run, run_all, tells_rounds};
+use crate::rows::{QueueEvent, Row, made, run, run_all, tells_rounds};
 use machine::Stopped;
-use machine::event::{Answer, Event, Start};
+use machine::event::{Answer, Start};
 use machine::families::queues::QueueStart;
 use machine::turn::{Kind, Refusal, Turn};
 use std::alloc::{AllocError, Global};
@@ -48,7 +48,7 @@ pub const LAST_PARTY: [Row; 8] = [
     Row::Counts(LAST, 4, 0, 0, true),
     Row::Events(
         11,
-        &[Wrote::Finished(LAST, QueueStart::Pop, Answer::PoppedIndex(5))],
+        &[QueueEvent::Finished(LAST, QueueStart::Pop, Answer::PoppedIndex(5))],
     ),
     Row::RefusedBegin(u32::MAX, QueueStart::Len, Refusal::NoParty),
     Row::RefusedNext(u32::MAX, Refusal::NoParty),
@@ -138,10 +138,7 @@ fn run_takes_the_turns_up_to_a_refusal(rt: HostRuntime) -> Result<(), Fail> {
 fn why_a_run_stopped(rt: HostRuntime) -> Result<(), Fail> {
     let mut machine = made(rt.alloc(), Kind::IndexQueue, 3, 2)?;
     let mut turns = many_turns(rt.alloc())?;
-    turns.extend_from_slice(&[
-        Turn::Next(1),
-        Turn::Begin(1, Start::Queues(QueueStart::Pop)),
-    ])?;
+    turns.extend_from_slice(&[Turn::Next(1), Turn::Begin(1, Start::Queues(QueueStart::Pop))])?;
     let stopped = Stopped {
         taken: 10_004,
         refusal: Refusal::Idle,
