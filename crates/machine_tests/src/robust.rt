@@ -311,11 +311,7 @@ fn an_owner_who_dies_in_a_call(rt: HostRuntime) -> Result<(), Fail> {
     go(&mut machine, Turn::Decide(1, true))?;
     goes(&mut machine, 1, 5)?;
     assert!(rt; has_answered(&machine, 1, RECOVER, UNLOCKED));
-    let rows = [
-        (1, acquire(other), 4, Answer::Index(0)),
-        (1, release(0, dead), 0, NOT_OWNED),
-    ];
-    play(&rt, &mut machine, rows.get(..1).unwrap_or(&[]))?;
+    play(&rt, &mut machine, &[(1, acquire(other), 4, Answer::Index(0))])?;
     Ok(())
 }
 

@@ -1,7 +1,7 @@
 //! Runs of many turns, of large queues, of many parties and of calls that go back a thousand times.
 use crate::rows::{QueueEvent, Row, made, run, run_all, tells_rounds};
 use machine::Stopped;
-use machine::event::{Answer, Start};
+use machine::event::{Answer, Event, Start};
 use machine::families::queues::QueueStart;
 use machine::turn::{Kind, Refusal, Turn};
 use std::alloc::{AllocError, Global};
