@@ -2,7 +2,7 @@
 //! happened.
 #![tactic(auto)]
 
-ghost use Rattle.std.specs.Prelude.{◌≡◌, ◌≤◌, ◌<◌, None, OnOk, OnErr, IfOk, IfErr, length, take};
+ghost use Rattle.std.specs.Prelude.{◌≡◌, ◌≤◌, ◌<◌, None, OnOk, OnErr, IfOk, IfErr, IfSome, length, take, slice_get};
 
 use std::alloc::Global;
 use std::marker::Model;
@@ -23,6 +23,13 @@ use turn::{Kind, Refusal, Turn};
 #[derive(Drop)]
 pub struct Machine<T: Words> {
     parts: Parts<T>,
+}
+
+/// Where a list of turns stopped: how many were taken, and why the next one was refused.
+#[derive(Debug, Clone, Copy, PartialEq, Eq)]
+pub struct Stopped {
+    pub taken: usize,
+    pub refusal: Refusal,
 }
 
 impl<T: Words> Model for Machine<T> {
@@ -112,7 +119,7 @@ impl<T: Words> Machine<T> {
     }
 
     /// Takes the turns up to the first that is refused, and answers how many it took. The refused turn and those behind
-    /// it change nothing.
+    /// it change nothing. It is `run_all` that takes them and says why one was refused.
     pub fn run(&mut self, turns: &[Turn<T>]) -> usize
         ensures count { result ≤ length turns.now }
         ensures allowed { AreAllowed (trace_in ⟦<T as Coded>⟧.coding self.old)
@@ -123,13 +130,39 @@ impl<T: Words> Machine<T> {
             (take result turns.now) }
         ensures kept { IsKept (trace_in ⟦<T as Coded>⟧.coding self.new) }
     {
-        let _ = &self.parts;
-        for (at, turn) in turns.iter().enumerate() {
-            let Ok(()) = self.step(*turn) else {
-                return at;
-            };
+        match self.run_all(turns) {
+            Ok(()) => turns.len(),
+            Err(stopped) => stopped.taken,
         }
-        turns.len()
+    }
+
+    /// Takes the turns, all of them or up to the first that is refused, with why it was. That turn and those behind it
+    /// change nothing.
+    pub fn run_all(&mut self, turns: &[Turn<T>]) -> Result<(), Stopped>
+        ensures all { OnOk result (AreAllowed (trace_in ⟦<T as Coded>⟧.coding self.old) turns.now) }
+        ensures ok { OnOk result (trace_in ⟦<T as Coded>⟧.coding self.new
+            ≡ after_turns (trace_in ⟦<T as Coded>⟧.coding self.old) turns.now) }
+        ensures each { OnOk result (AreTurns (trace_in ⟦<T as Coded>⟧.coding self.old) turns.now) }
+        ensures before { IfErr result (λ stopped. stopped.taken < length turns.now) }
+        ensures allowed { IfErr result (λ stopped. AreAllowed
+            (trace_in ⟦<T as Coded>⟧.coding self.old) (take stopped.taken turns.now)) }
+        ensures taken { IfErr result (λ stopped. trace_in ⟦<T as Coded>⟧.coding self.new
+            ≡ after_turns (trace_in ⟦<T as Coded>⟧.coding self.old)
+            (take stopped.taken turns.now)) }
+        ensures each_before { IfErr result (λ stopped. AreTurns
+            (trace_in ⟦<T as Coded>⟧.coding self.old) (take stopped.taken turns.now)) }
+        ensures refused { IfErr result (λ stopped.
+            IfSome (slice_get turns.now stopped.taken)
+            (λ turn. IsRefusal (world_in ⟦<T as Coded>⟧.coding self.new) turn stopped.refusal)) }
+        ensures kept { IsKept (trace_in ⟦<T as Coded>⟧.coding self.new) }
+    {
+        let _ = &self.parts;
+        for (taken, turn) in turns.iter().enumerate() {
+            if let Err(refusal) = self.step(*turn) {
+                return Err(Stopped { taken, refusal });
+            }
+        }
+        Ok(())
     }
 
     /// Everything that happened, in order.

@@ -79,7 +79,8 @@ fn go_on<T: Words>(
     let Doing::Going(flight, since) = &mut party.doing else {
         return Err(Refusal::Idle);
     };
-    let (ask, answer) = match (flight.want(), said) {
+    let (want, most) = flight.going();
+    let (ask, answer) = match (want, said) {
         (Want::Question(_), Some(said)) => (None, number_of(said)),
         (Want::Ask(ask), None) => (Some(ask), words::old(words, Some(ask))),
         (Want::Nothing, None) => (None, 0),
@@ -88,7 +89,7 @@ fn go_on<T: Words>(
     if let Some(refusal) = flight.going_refusal(kept, said) {
         return Err(refusal);
     }
-    let Ok(()) = events.reserve(flight.most_effects() + 1) else {
+    let Ok(()) = events.reserve(most + 1) else {
         return Err(Refusal::NoMemory);
     };
     let change = words::change(words, ask);

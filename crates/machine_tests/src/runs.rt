@@ -1,5 +1,5 @@
 //! The worked rows of both queues, each refusal that it can show, and answers that no clause rules out.
-use crate::rows::{QueueEvent, Row, made, play};
+use crate::rows::{Row, Wrote, made, play};
 use machine::event::{Answer, Item};
 use machine::families::queues::QueueStart;
 use machine::turn::{Kind, Refusal, capacity_error};
@@ -78,13 +78,13 @@ const STOPPED_PUSH: [Row; 6] = [
     Row::Events(
         4,
         &[
-            QueueEvent::Begun(0, QueueStart::PushIndex(5)),
-            QueueEvent::Begun(1, QueueStart::Pop),
-            QueueEvent::Acted(1, QueueStart::Pop, Answer::PoppedNone),
-            QueueEvent::Finished(1, QueueStart::Pop, Answer::PoppedNone),
-            QueueEvent::Published(0, Item::Index(5)),
-            QueueEvent::Acted(0, QueueStart::PushIndex(5), Answer::Truth(true)),
-            QueueEvent::Finished(0, QueueStart::PushIndex(5), Answer::Truth(true)),
+            Wrote::Begun(0, QueueStart::PushIndex(5)),
+            Wrote::Begun(1, QueueStart::Pop),
+            Wrote::Acted(1, QueueStart::Pop, Answer::PoppedNone),
+            Wrote::Finished(1, QueueStart::Pop, Answer::PoppedNone),
+            Wrote::Published(0, Item::Index(5)),
+            Wrote::Acted(0, QueueStart::PushIndex(5), Answer::Truth(true)),
+            Wrote::Finished(0, QueueStart::PushIndex(5), Answer::Truth(true)),
         ],
     ),
 ];
@@ -131,12 +131,12 @@ const EACH_BACK: [Row; 10] = [
     Row::Events(
         4,
         &[
-            QueueEvent::Begun(0, QueueStart::PushIndex(7)),
-            QueueEvent::Acted(0, QueueStart::PushIndex(7), Answer::PoppedIndex(7)),
-            QueueEvent::Finished(0, QueueStart::PushIndex(7), Answer::PoppedIndex(7)),
-            QueueEvent::Begun(1, QueueStart::Pop),
-            QueueEvent::Acted(1, QueueStart::Pop, Answer::PoppedNone),
-            QueueEvent::Finished(1, QueueStart::Pop, Answer::PoppedNone),
+            Wrote::Begun(0, QueueStart::PushIndex(7)),
+            Wrote::Acted(0, QueueStart::PushIndex(7), Answer::PoppedIndex(7)),
+            Wrote::Finished(0, QueueStart::PushIndex(7), Answer::PoppedIndex(7)),
+            Wrote::Begun(1, QueueStart::Pop),
+            Wrote::Acted(1, QueueStart::Pop, Answer::PoppedNone),
+            Wrote::Finished(1, QueueStart::Pop, Answer::PoppedNone),
         ],
     ),
     Row::Counts(0, 0, 0, 0, true),
@@ -160,12 +160,12 @@ const POP_MAKES_ROOM: [Row; 9] = [
     Row::Events(
         14,
         &[
-            QueueEvent::Begun(1, QueueStart::Pop),
-            QueueEvent::HandedOut(1, Item::Index(1)),
-            QueueEvent::Acted(1, QueueStart::Pop, Answer::PoppedIndex(1)),
-            QueueEvent::Acted(0, QueueStart::PushIndex(2), Answer::PoppedNone),
-            QueueEvent::Finished(1, QueueStart::Pop, Answer::PoppedIndex(1)),
-            QueueEvent::Finished(0, QueueStart::PushIndex(2), Answer::PoppedNone),
+            Wrote::Begun(1, QueueStart::Pop),
+            Wrote::HandedOut(1, Item::Index(1)),
+            Wrote::Acted(1, QueueStart::Pop, Answer::PoppedIndex(1)),
+            Wrote::Acted(0, QueueStart::PushIndex(2), Answer::PoppedNone),
+            Wrote::Finished(1, QueueStart::Pop, Answer::PoppedIndex(1)),
+            Wrote::Finished(0, QueueStart::PushIndex(2), Answer::PoppedNone),
         ],
     ),
     Row::Counts(0, 5, 0, 1, true),
@@ -181,8 +181,8 @@ const MOVED_READ: [Row; 7] = [
     Row::Events(
         13,
         &[
-            QueueEvent::Published(0, Item::Index(2)),
-            QueueEvent::Acted(0, QueueStart::PushIndex(2), Answer::PoppedNone),
+            Wrote::Published(0, Item::Index(2)),
+            Wrote::Acted(0, QueueStart::PushIndex(2), Answer::PoppedNone),
         ],
     ),
     Row::Ends(0, 1, Answer::PoppedNone),
@@ -225,9 +225,9 @@ const REFUSALS: [Row; 19] = [
     Row::Events(
         0,
         &[
-            QueueEvent::Begun(0, QueueStart::AcquireProducer),
-            QueueEvent::Finished(0, QueueStart::AcquireProducer, Answer::Truth(true)),
-            QueueEvent::Begun(0, QueueStart::PushIndex(3)),
+            Wrote::Begun(0, QueueStart::AcquireProducer),
+            Wrote::Finished(0, QueueStart::AcquireProducer, Answer::Truth(true)),
+            Wrote::Begun(0, QueueStart::PushIndex(3)),
         ],
     ),
 ];

@@ -107,6 +107,10 @@ module _ {T : Type 0} where
   abbrev pub after_of : Coding T → Flight T → ℕ → After (Flight T) (Answer T)
   after_of code flight old = (going_of code flight).after old
 
+  -- how many events its next step writes at most, apart from the end of the call
+  abbrev pub most_of : Coding T → Flight T → ℕ
+  most_of code flight = (going_of code flight).most
+
   -- what a family tests of a call under way that is to go on, by a decision or without, in order
   abbrev pub going_rows : Kept → Option (Flight T) → Option Bool → List (Bool × Refusal)
   going_rows (kepts.TheVariants.Owners dead) (Some (flights.TheVariants.Robust flight)) said =
@@ -118,14 +122,6 @@ module _ {T : Type 0} where
   beside_of words (kepts.TheVariants.Queues roles) latest p =
       queue_steps.beside roles words latest p
   beside_of words kept latest p = None
-
-  -- how many events a step of the call writes at most, apart from the end of the call
-  abbrev pub most_effects_of : Flight T → ℕ
-  most_effects_of (flights.TheVariants.Queues flight) = queue_steps.most_effects flight
-  most_effects_of (flights.TheVariants.Atomic flight) = atomic_steps.most_effects flight
-  most_effects_of (flights.TheVariants.Bits flight) = bits_steps.most_effects flight
-  most_effects_of (flights.TheVariants.Indices flight) = index_steps.most_effects flight
-  most_effects_of (flights.TheVariants.Robust flight) = robust_steps.most_effects flight
 
   -- What the step of a call comes to, in these words and from this old value of its word. Where the
   -- name, the call and what is kept are not of one family, nothing happens.

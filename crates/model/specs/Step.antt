@@ -15,6 +15,7 @@ pub record Beginning (F K : Type 0) : Type 0 where
 pub record Going (F T : Type 0) : Type 0 where
   pub want : Want (Unit {0})  -- what the call wants next
   pub after : ℕ → After F (Answer T)  -- how it goes on from the old value of its word
+  pub most : ℕ  -- its next step writes at most so many events, apart from the end of the call
 
 pub record Step (F K T : Type 0) : Type 0 where
   pub after : After F (Answer T)  -- the call goes on, or it is done

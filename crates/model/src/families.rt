@@ -1,7 +1,7 @@
 //! The families of calls. Each has a room of its own, and here one line where a machine passes on to it.
 ghost use Rattle.std.specs.Prelude.{◌≡◌, ◌+◌, ◌≤◌, ◌++◌, true, false, None, Some, OnOk, IfOk, IfErr, vec_len, vec_capacity};
 ghost use Rattle.steps.specs.Ask.{CameTo};
-ghost use Rattle.model.specs.Families.{opening_of, first_of, begin_rows, want_of, is_question, beside_of, most_effects_of, step_of, has_owners, going_rows, death_rows, kept_after_death};
+ghost use Rattle.model.specs.Families.{opening_of, first_of, begin_rows, want_of, is_question, most_of, beside_of, step_of, has_owners, going_rows, death_rows, kept_after_death};
 ghost use Rattle.model.specs.Rows.{first_row};
 
 use crate::coding::Coded;
@@ -190,16 +190,18 @@ pub fn look_beside<T>(kept: &Kept, words: &Vec<u64>, latest: &Latest<T>, number:
 }
 
 impl<T: Words> Flight<T> {
-    /// What the call wants next.
-    pub fn want(&self) -> Want<()>
-        ensures { result ≡ want_of ⟦<T as Coded>⟧.coding self.now }
+    /// What the call wants next, and the most events that its next step writes, apart from the end of the call.
+    pub fn going(&self) -> (Want<()>, usize)
+        ensures want { result.0 ≡ want_of ⟦<T as Coded>⟧.coding self.now }
+        ensures most { result.1 ≡ most_of ⟦<T as Coded>⟧.coding self.now }
+        ensures few { result.1 ≤ 64 }
     {
         match self {
-            Flight::Queues(flight) => flight.want(),
-            Flight::Atomic(flight) => flight.want(),
-            Flight::Bits(flight) => flight.want(),
-            Flight::Indices(flight) => flight.want(),
-            Flight::Robust(flight) => flight.want(),
+            Flight::Queues(flight) => (flight.want(), queues::effects::MOST_EFFECTS),
+            Flight::Atomic(flight) => (flight.want(), atomic::effects::MOST_EFFECTS),
+            Flight::Bits(flight) => (flight.want(), flight.most_effects()),
+            Flight::Indices(flight) => (flight.want(), indices::effects::MOST_EFFECTS),
+            Flight::Robust(flight) => (flight.want(), indices::robust::effects::MOST_EFFECTS),
         }
     }
 
@@ -207,7 +209,8 @@ impl<T: Words> Flight<T> {
     pub fn is_asking(&self) -> bool
         ensures { result ≡ is_question (want_of ⟦<T as Coded>⟧.coding self.now) }
     {
-        match self.want() {
+        let (want, _) = self.going();
+        match want {
             Want::Question(_) => true,
             _ => false,
         }
@@ -223,20 +226,6 @@ impl<T: Words> Flight<T> {
         }
     }
 
-    /// The most events that a step of the call writes, apart from the end of the call.
-    pub fn most_effects(&self) -> usize
-        ensures most { result ≡ most_effects_of self.now }
-        ensures few { result ≤ 64 }
-    {
-        match self {
-            Flight::Queues(_) => queues::effects::MOST_EFFECTS,
-            Flight::Atomic(_) => atomic::effects::MOST_EFFECTS,
-            Flight::Bits(flight) => flight.most_effects(),
-            Flight::Indices(_) => indices::effects::MOST_EFFECTS,
-            Flight::Robust(_) => indices::robust::effects::MOST_EFFECTS,
-        }
-    }
-
     /// Lets the call go on from an answer, where it lies, and writes down what its step does, in the room that was kept
     /// for it. The words are those before the step.
     pub fn go_on(
@@ -249,7 +238,8 @@ impl<T: Words> Flight<T> {
         kept: &mut Kept,
         events: &mut Vec<Event<T>>,
     ) -> Went<T>
-        requires { vec_len events.old + most_effects_of self.old ≤ vec_capacity events.old }
+        requires { vec_len events.old + most_of ⟦<T as Coded>⟧.coding self.old
+            ≤ vec_capacity events.old }
         ensures after { CameTo result.done self.new (step_of ⟦<T as Coded>⟧.coding words.now.items beside
             number start.now self.old answer kept.old).after }
         ensures back { result.back ≡ (step_of ⟦<T as Coded>⟧.coding words.now.items beside
@@ -259,7 +249,8 @@ impl<T: Words> Flight<T> {
         ensures wrote { events.new.items ≡ events.old.items
             ++ (step_of ⟦<T as Coded>⟧.coding words.now.items beside
             number start.now self.old answer kept.old).wrote }
-        ensures few { vec_len events.new ≤ vec_len events.old + most_effects_of self.old }
+        ensures few { vec_len events.new
+            ≤ vec_len events.old + most_of ⟦<T as Coded>⟧.coding self.old }
         ensures room { vec_capacity events.new ≡ vec_capacity events.old }
     {
         match (self, start, kept) {

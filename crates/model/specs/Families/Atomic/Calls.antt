@@ -82,4 +82,5 @@ module _ {T : Type 0} where
         want = want code flight;
         after = λ old.
             as_call flights.TheVariants.Atomic (λ answer. answer) (after code flight old);
+        most = 1;
       }

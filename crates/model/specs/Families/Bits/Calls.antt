@@ -57,6 +57,11 @@ goes_back (ResetAll run) old = false
 goes_back (Count run) old = false
 goes_back (TakeAll run) old = false
 
+-- its next step writes at most so many events, apart from the end of the call
+abbrev pub most_effects : BitsFlight → ℕ
+most_effects (ResetAll run) = 64
+most_effects flight = 1
+
 module _ {T : Type 0} where
   abbrev pub reset_answer : Option ℕ → Answer T
   reset_answer None = answers.TheVariants.ResetNone
@@ -86,4 +91,5 @@ module _ {T : Type 0} where
       record {
         want = want flight;
         after = λ old. as_call flights.TheVariants.Bits (λ answer. answer) (after flight old);
+        most = most_effects flight;
       }

@@ -90,4 +90,5 @@ module _ {T : Type 0} where
       record {
         want = want flight;
         after = λ old. as_call flights.TheVariants.Indices (λ answer. answer) (after flight old);
+        most = 1;
       }

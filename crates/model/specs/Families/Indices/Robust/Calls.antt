@@ -117,4 +117,5 @@ module _ {T : Type 0} where
       record {
         want = want flight;
         after = λ old. as_call flights.TheVariants.Robust (λ answer. answer) (after flight old);
+        most = 1;
       }
