@@ -17,7 +17,7 @@ use Rattle.model.specs.declared.turn.Refusal.TheVariants.{BadIndex}
 use Rattle.model.specs.declared.turn.Turn.{Turn}
 use Rattle.model.specs.declared.turn.Turn.TheVariants.{Next}
 use Rattle.model.specs.Coding.{Coding}
-use Rattle.model.specs.Families.{opening_of, first_of, want_of, after_of, ask_of, is_question, beside_of, step_of, has_owners}
+use Rattle.model.specs.Families.{opening_of, first_of, want_of, after_of, ask_of, is_question, beside_of, step_of}
 use Rattle.model.specs.Families.Bits.Calls.{first, want}
 use Rattle.model.specs.Families.Bits.Opening.{is_past, kept_rows}
 use Rattle.model.specs.Families.Bits.Steps.{effects_of}
@@ -58,7 +58,6 @@ module _ {T : Type 0} (K : SetKind T) where
     pub bare : (opening_of K.kind).kept c ≡ kepts.TheVariants.Nothing
     pub opens : K.Holds c ((opening_of K.kind).words code.size c) [] 0
     pub promise : promise_of {T = T} K.kind ≡ K.promise
-    pub no_owners : has_owners K.kind ≡ false
     pub tells : (old : Trace T) (turn : Turn T) (new : Trace T) → K.promise.tells old turn new
     pub keeps_promise : (t : Trace T) → t.world.capacity ≡ c → K.Holds c t.world.words t.events t.world.turns → K.promise.holds t
     -- of a turn
@@ -196,7 +195,7 @@ module _ {T : Type 0} (K : SetKind T) where
           step = λ t p x flight since s small passed found doing. step_comes t s p small x since flight found doing;
           decision = λ t p x flight since said s small passed found doing asks. asks_nothing t s p x flight since found doing asks;
           begin = λ t p start flight s may e. begin_comes t s p start flight may e;
-          death = frame.no_death F L.no_owners;
+          death = frame.no_death F (λ kept words state fit. rw fit.0 refl);
         }
 
     opening_sound : (parties : ℕ) → frame.Sound F (opening code K.kind c parties)

@@ -230,7 +230,7 @@ impl<T: Words> Parts<T> {
             ≡ after_turn (trace_of ⟦<T as Coded>⟧.coding self.old) (Turn.Die owner)) }
         ensures err { OnErr result (state_of self.new ≡ state_of self.old) }
     {
-        if let Some(refusal) = families::death_refusal(self.kind, &self.kept, owner) {
+        if let Some(refusal) = families::death_refusal(&self.kept, owner) {
             return Err(refusal);
         }
         let Ok(()) = self.events.reserve(1) else {

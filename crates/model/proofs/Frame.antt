@@ -213,10 +213,11 @@ module _ {T : Type 0} (F : Family T) where
     pub calls : (q : ℕ) (start : Start T) (flight : Flight T) → F.At s.state q start flight → F.At state q start flight × (F.written state q flight ≡ F.written s.state q flight)
     pub calls_know : (q since backs : ℕ) (flight : Flight T) → F.Knows s.state q t.events since t.world.changes backs flight → F.Knows state q (t.events ++ Died owner ∷ []) since t.world.changes backs flight
 
-  -- of a kind without owners none dies
-  pub no_death : has_owners F.kind ≡ false → (t : Trace T) (owner : ℕ) (s : Sound t) → MayDie t.world owner → ComesByDeath t s owner
+  -- where a family keeps no owners none dies
+  pub no_death : ((kept : Kept) (words : List ℕ) (state : F.State) → F.Fit kept words state → has_owners kept ≡ false) → (t : Trace T) (owner : ℕ) (s : Sound t) → MayDie t.world owner → ComesByDeath t s owner
   no_death none t owner s may =
-      let owners : has_owners F.kind ≡ true = subst (λ k. has_owners k ≡ true) s.kind (is_true (has_owners t.world.kind) may.owners) in
+      let owners = is_true (has_owners t.world.kept) may.owners in
+      let without = none t.world.kept t.world.words s.state s.fit in
       absurd (cc)
 
   -- what a family owes, of a call that passes its rows

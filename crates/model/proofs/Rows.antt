@@ -112,13 +112,13 @@ module _ {T : Type 0} where
 
   pub record MayDie (w : World T) (owner : ℕ) : Type 0 where
     pub turns : w.turns < 2 ^ 64 - 2
-    pub owners : not (has_owners w.kind) ≡ false
+    pub owners : not (has_owners w.kept) ≡ false
     pub lives : is_dead w.kept owner ≡ false
 
   pub may_die : (w : World T) (owner : ℕ) → refusal_of w (Die owner) ≡ None → MayDie w owner
   may_die w owner e =
       let a = row_passed (is_at_end w) AtEnd _ e in
-      let b = row_passed (not (has_owners w.kind)) WrongCall _ a.1 in
+      let b = row_passed (not (has_owners w.kept)) WrongCall _ a.1 in
       let c = row_passed (is_dead w.kept owner) OwnerIsDead _ b.1 in
       let at : nat_le (2 ^ 64 - 2) w.turns ≡ false = a.0 in
       record { turns = grind (arith, nat_tests); owners = b.0; lives = c.0 }

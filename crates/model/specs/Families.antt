@@ -152,10 +152,10 @@ module _ {T : Type 0} where
 
 -- ---- an owner dies
 
--- whether a structure of a kind has owners
-abbrev pub has_owners : Kind → Bool
-has_owners kinds.TheVariants.Robust = true
-has_owners kind = false
+-- whether a structure has owners
+abbrev pub has_owners : Kept → Bool
+has_owners (kepts.TheVariants.Owners dead) = true
+has_owners kept = false
 
 -- whether the owner is dead
 abbrev pub is_dead : Kept → ℕ → Bool
@@ -163,9 +163,9 @@ is_dead (kepts.TheVariants.Owners dead) owner = has_died owner dead
 is_dead kept owner = false
 
 -- what is tested of an owner who is to die
-abbrev pub death_rows : Kind → Kept → ℕ → List (Bool × Refusal)
-death_rows kind kept owner =
-    (not (has_owners kind), WrongCall) ∷ (is_dead kept owner, OwnerIsDead) ∷ []
+abbrev pub death_rows : Kept → ℕ → List (Bool × Refusal)
+death_rows kept owner =
+    (not (has_owners kept), WrongCall) ∷ (is_dead kept owner, OwnerIsDead) ∷ []
 
 -- what a family keeps once the owner is dead
 abbrev pub kept_after_death : Kept → ℕ → Kept

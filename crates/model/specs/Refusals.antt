@@ -46,7 +46,7 @@ module _ {T : Type 0} where
       ∷ (is_none (flight_in w p), Idle)
       ∷ (not (is_due w.coding (flight_in w p)), Undecided)
       ∷ going_rows w.kept (flight_in w p) (Some said)
-  rows_of w (Die owner) = (is_at_end w, AtEnd) ∷ death_rows w.kind w.kept owner
+  rows_of w (Die owner) = (is_at_end w, AtEnd) ∷ death_rows w.kept owner
 
   abbrev pub refusal_of : World T → Turn T → Option Refusal
   refusal_of w turn = first_row (rows_of w turn)

@@ -1,7 +1,7 @@
 //! The families of calls. Each has a room of its own, and here one line where a machine passes on to it.
 ghost use Rattle.std.specs.Prelude.{◌≡◌, ◌+◌, ◌≤◌, ◌++◌, true, false, None, Some, OnOk, IfOk, IfErr, vec_len, vec_capacity};
 ghost use Rattle.steps.specs.Ask.{CameTo};
-ghost use Rattle.model.specs.Families.{opening_of, first_of, begin_rows, want_of, is_question, most_of, beside_of, step_of, has_owners, going_rows, death_rows, kept_after_death};
+ghost use Rattle.model.specs.Families.{opening_of, first_of, begin_rows, want_of, is_question, most_of, beside_of, step_of, going_rows, death_rows, kept_after_death};
 ghost use Rattle.model.specs.Rows.{first_row};
 
 use crate::coding::Coded;
@@ -139,23 +139,10 @@ pub fn begin<T: Words>(
     }
 }
 
-/// Whether a structure of this kind has owners, who can die.
-fn has_owners(kind: Kind) -> bool
-    ensures { result ≡ has_owners kind }
+/// Why this owner may not die, or None. Only a structure that has owners keeps who has died.
+pub fn death_refusal(kept: &Kept, owner: OwnerId) -> Option<Refusal>
+    ensures { result ≡ first_row (death_rows kept.now owner) }
 {
-    match kind {
-        Kind::Robust => true,
-        _ => false,
-    }
-}
-
-/// Why this owner may not die, or None.
-pub fn death_refusal(kind: Kind, kept: &Kept, owner: OwnerId) -> Option<Refusal>
-    ensures { result ≡ first_row (death_rows kind kept.now owner) }
-{
-    if !has_owners(kind) {
-        return Some(Refusal::WrongCall);
-    }
     match kept {
         Kept::Owners(dead) => {
             if dead.has(owner) {
@@ -164,7 +151,7 @@ pub fn death_refusal(kind: Kind, kept: &Kept, owner: OwnerId) -> Option<Refusal>
                 None
             }
         }
-        _ => None,
+        _ => Some(Refusal::WrongCall),
     }
 }
 

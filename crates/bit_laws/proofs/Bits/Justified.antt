@@ -60,7 +60,6 @@ module _ {T : Type 0} where
         bare = refl;
         opens = opens c;
         promise = refl;
-        no_owners = refl;
         tells = λ old turn new. tt;
         keeps_promise = bits_kept c;
         holds = λ words events turns. holds_more c words events;

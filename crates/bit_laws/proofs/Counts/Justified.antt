@@ -36,7 +36,6 @@ module _ {T : Type 0} where
         bare = refl;
         opens = opens c;
         promise = refl;
-        no_owners = refl;
         tells = λ old turn new. tt;
         keeps_promise = counts_kept c;
         holds = λ words events turns changes words' es changes'. holds_more c words events turns words' es;

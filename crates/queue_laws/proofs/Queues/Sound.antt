@@ -32,7 +32,7 @@ use Rattle.model.specs.declared.families.queues.QueueKind.TheVariants.{IndexQueu
 use Rattle.model.specs.declared.families.queues.QueueKind as kinds
 use Rattle.model.specs.declared.turn.Refusal.TheVariants.{NoRole}
 use Rattle.model.specs.Coding.{Coding, IsCoding, one_word}
-use Rattle.model.specs.Families.{opening_of, first_of, want_of, ask_of, is_question, has_owners}
+use Rattle.model.specs.Families.{opening_of, first_of, want_of, ask_of, is_question}
 use Rattle.model.specs.Families.Queues.Calls.{acquire_of, release_of, first}
 use Rattle.model.specs.Families.Queues.Objects.{list_of}
 use Rattle.model.specs.Families.Queues.Opening.{cells_of, words_of_cell, lacks_role, call_of, kept_rows}
@@ -326,11 +326,6 @@ admitted_fits IndexQueue c e = small_enough c (nat_lt (2 ^ 32 - 1) c) refl _ e
 admitted_fits kinds.TheVariants.Overflow c e = small_enough c (nat_lt (2 ^ 32 - 1) c) refl _ e
 admitted_fits kinds.TheVariants.Queue c e = small_enough c (nat_lt (2 ^ 32 - 1) c) refl _ e
 
-no_owners : (kd : QueueKind) → has_owners (machine_kind kd) ≡ false
-no_owners IndexQueue = refl
-no_owners kinds.TheVariants.Overflow = refl
-no_owners kinds.TheVariants.Queue = refl
-
 module _ {T : Type 0} (en : Coding T) (law : IsCoding en) where
   pub laws : (kd : QueueKind) (c : ℕ) → frame.Laws (family {T = T} en kd c)
   laws kd c =
@@ -338,7 +333,7 @@ module _ {T : Type 0} (en : Coding T) (law : IsCoding en) where
         step = λ t p x flight since s small passed found doing. step_comes en law kd c t s small p x since flight found doing;
         decision = λ t p x flight since said s small passed found doing asks. asks_nothing en kd c t p x flight since s found doing asks;
         begin = λ t p start flight s may e. begin_comes en law kd c t s may.turns p start flight may e;
-        death = frame.no_death (family en kd c) (no_owners kd);
+        death = frame.no_death (family en kd c) (λ kept words state fit. rw (kept_is kept words state fit).0 refl);
       }
 
   empty : (kd : QueueKind) (c : ℕ) → (list_of {T = T} kd c).opening ≡ listed kd c []
