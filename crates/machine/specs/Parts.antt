@@ -42,11 +42,11 @@ module _ {T : Type 0} where
   -- what is tested of the call that is to go on, with a decision or without
   abbrev pub turn_rows : Coding T → Kept → Option (Flight T) → Option Bool → List (Bool × Refusal)
   turn_rows code kept flight None =
-      (is_none flight, Idle) ∷ (is_due code flight, Undecided) ∷ going_rows kept flight None
+      (is_none flight, Idle) ∷ (is_due code flight, Undecided) ∷ going_rows code kept flight None
   turn_rows code kept flight (Some said) =
       (is_none flight, Idle)
       ∷ (not (is_due code flight), Undecided)
-      ∷ going_rows kept flight (Some said)
+      ∷ going_rows code kept flight (Some said)
 
   abbrev pub going_refusal : Coding T → Kept → Doing T → Option Bool → Option Refusal
   going_refusal code kept doing said = first_row (turn_rows code kept (flight_of (Some doing)) said)

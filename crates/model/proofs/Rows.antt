@@ -94,7 +94,7 @@ module _ {T : Type 0} where
       d.0
 
   -- the family's rows of a call that goes on
-  pub next_passes : (w : World T) (p : ℕ) → refusal_of w (Next p) ≡ None → first_row (going_rows w.kept (flight_in w p) None) ≡ None
+  pub next_passes : (w : World T) (p : ℕ) → refusal_of w (Next p) ≡ None → first_row (going_rows w.coding w.kept (flight_in w p) None) ≡ None
   next_passes w p e =
       let a = row_passed (is_at_end w) AtEnd _ e in
       let b = row_passed (nat_le w.parties p) NoParty _ a.1 in
@@ -102,7 +102,7 @@ module _ {T : Type 0} where
       let d = row_passed (is_due w.coding (flight_in w p)) Undecided _ c.1 in
       d.1
 
-  pub decision_passes : (w : World T) (p : ℕ) (said : Bool) → refusal_of w (Decide p said) ≡ None → first_row (going_rows w.kept (flight_in w p) (Some said)) ≡ None
+  pub decision_passes : (w : World T) (p : ℕ) (said : Bool) → refusal_of w (Decide p said) ≡ None → first_row (going_rows w.coding w.kept (flight_in w p) (Some said)) ≡ None
   decision_passes w p said e =
       let a = row_passed (is_at_end w) AtEnd _ e in
       let b = row_passed (nat_le w.parties p) NoParty _ a.1 in

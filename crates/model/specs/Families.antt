@@ -112,10 +112,10 @@ module _ {T : Type 0} where
   most_of code flight = (going_of code flight).most
 
   -- what a family tests of a call under way that is to go on, by a decision or without, in order
-  abbrev pub going_rows : Kept → Option (Flight T) → Option Bool → List (Bool × Refusal)
-  going_rows (kepts.TheVariants.Owners dead) (Some (flights.TheVariants.Robust flight)) said =
-      robust_opening.going_rows dead flight said
-  going_rows kept flight said = []
+  abbrev pub going_rows : Coding T → Kept → Option (Flight T) → Option Bool
+      → List (Bool × Refusal)
+  going_rows code kept None said = []
+  going_rows code kept (Some flight) said = (going_of code flight).rows kept said
 
   -- what a step of this party has to know of the others
   abbrev pub beside_of : List ℕ → Kept → List (ℕ × Party T) → ℕ → Option (ℕ × ℕ)

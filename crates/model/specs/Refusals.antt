@@ -39,13 +39,13 @@ module _ {T : Type 0} where
       ∷ (nat_le w.parties p, NoParty)
       ∷ (is_none (flight_in w p), Idle)
       ∷ (is_due w.coding (flight_in w p), Undecided)
-      ∷ going_rows w.kept (flight_in w p) None
+      ∷ going_rows w.coding w.kept (flight_in w p) None
   rows_of w (Decide p said) =
       (is_at_end w, AtEnd)
       ∷ (nat_le w.parties p, NoParty)
       ∷ (is_none (flight_in w p), Idle)
       ∷ (not (is_due w.coding (flight_in w p)), Undecided)
-      ∷ going_rows w.kept (flight_in w p) (Some said)
+      ∷ going_rows w.coding w.kept (flight_in w p) (Some said)
   rows_of w (Die owner) = (is_at_end w, AtEnd) ∷ death_rows w.kept owner
 
   abbrev pub refusal_of : World T → Turn T → Option Refusal

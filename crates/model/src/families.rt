@@ -205,7 +205,7 @@ impl<T: Words> Flight<T> {
 
     /// Why the call may not go on, by a decision or without, for what its family keeps. None where it may.
     pub fn going_refusal(&self, kept: &Kept, said: Option<bool>) -> Option<Refusal>
-        ensures { result ≡ first_row (going_rows kept.now (Some self.now) said) }
+        ensures { result ≡ first_row (going_rows ⟦<T as Coded>⟧.coding kept.now (Some self.now) said) }
     {
         match (self, kept) {
             (Flight::Robust(flight), Kept::Owners(dead)) => flight.going_refusal(dead, said),

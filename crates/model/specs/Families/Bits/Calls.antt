@@ -1,5 +1,5 @@
 -- The calls of the bit sets: which a kind has, and how one under way goes on.
-use Rattle.std.specs.Prelude.{ℕ, Bool, false, Option, Some, None}
+use Rattle.std.specs.Prelude.{ℕ, Bool, false, Option, Some, None, []}
 use Rattle.steps.specs.declared.ask.Want.{Want}
 use Rattle.steps.specs.declared.ask.After.{After}
 use Rattle.steps.specs.declared.bits.counting_bit_set.Set as counting
@@ -91,5 +91,6 @@ module _ {T : Type 0} where
       record {
         want = want flight;
         after = λ old. as_call flights.TheVariants.Bits (λ answer. answer) (after flight old);
+        rows = λ kept said. [];
         most = most_effects flight;
       }
