@@ -27,22 +27,22 @@ use Rattle.robust_laws.proofs.Rights.{Right, Settled, By, right_after, right_of,
 -- ---- readings of one index
 
 module _ {A : Type 0} (i j : ℕ) (x y : A) where
-  at_same : j ≡ i → (if i == j then x else y) ≡ x
+  pub at_same : j ≡ i → (if i == j then x else y) ≡ x
   at_same e = ap (λ b. if b then x else y) (eq-eqb i j (sym e))
 
-  at_other : j ≢ i → (if i == j then x else y) ≡ y
+  pub at_other : j ≢ i → (if i == j then x else y) ≡ y
   at_other ne = ap (λ b. if b then x else y) (ne_eqb i j (λ e. ne (sym e)))
 
-some_none : {A B : Type 0} (o : Option B) (x : B) → o ≡ None → o ≡ Some x → A
+pub some_none : {A B : Type 0} (o : Option B) (x : B) → o ≡ None → o ≡ Some x → A
 some_none o x a b = let same : None ≡ Some x = sym a ∙ b in absurd (cc)
 
-one_owner : (o : Option ℕ) (x y : ℕ) → o ≡ Some x → o ≡ Some y → x ≡ y
+pub one_owner : (o : Option ℕ) (x y : ℕ) → o ≡ Some x → o ≡ Some y → x ≡ y
 one_owner o x y a b = let same : Some x ≡ Some y = sym a ∙ b in cc
 
-one_party : (r : Right) (p q : ℕ) → r ≡ By p → r ≡ By q → q ≡ p
+pub one_party : (r : Right) (p q : ℕ) → r ≡ By p → r ≡ By q → q ≡ p
 one_party r p q a b = let same : By q ≡ By p = sym b ∙ a in cc
 
-both_ways : {A : Type 0} (b : Bool) → b ≡ false → b ≡ true → A
+pub both_ways : {A : Type 0} (b : Bool) → b ≡ false → b ≡ true → A
 both_ways b f t = let same : true ≡ false = sym t ∙ f in absurd (cc)
 
 module _ {T : Type 0} where
@@ -137,6 +137,30 @@ module _ {T : Type 0} (scene : Scene T) where
           low = λ t. let low = g.low (sym g.lock ∙ t) in let begun = inv.begun in omega arith;
           grows = omega arith;
         }
+
+    -- a cell tells with whom its index is filled
+    module _ (i : ℕ) (below : i < c) where
+      by_owner : (o : Option ℕ) → filled_of i events ≡ o → cell ws i ≡ cell_of o → (owner : ℕ) → owner < empty → cell ws i ≡ owner → o ≡ Some owner
+      by_owner None e is owner fits here = absurd (omega arith)
+      by_owner (Some other) e is owner fits here = let same : other ≡ owner = sym is ∙ here in ap Some same
+
+      pub filled_by : (owner : ℕ) → owner < empty → cell ws i ≡ owner → filled_of i events ≡ Some owner
+      filled_by owner fits here = by_owner (filled_of i events) refl (g.cells i below) owner fits here
+
+      by_none : (o : Option ℕ) → filled_of i events ≡ o → cell ws i ≡ cell_of o → cell ws i ≡ empty → o ≡ None
+      by_none None e is here = refl
+      by_none (Some other) e is here = let fits = (g.filled i other e).1 in absurd (omega arith)
+
+      pub filled_none : cell ws i ≡ empty → filled_of i events ≡ None
+      filled_none here = by_none (filled_of i events) refl (g.cells i below) here
+
+      by_some : (o : Option ℕ) → filled_of i events ≡ o → cell ws i ≡ cell_of o → cell ws i ≢ empty → (cell ws i < empty) × (o ≡ Some (cell ws i))
+      by_some None e is other = absurd (other is)
+      by_some (Some owner) e is other = let fits = (g.filled i owner e).1 in (omega arith, ap Some (sym is))
+
+      -- a cell that is not empty holds an owner
+      pub filled_some : cell ws i ≢ empty → (cell ws i < empty) × (filled_of i events ≡ Some (cell ws i))
+      filled_some other = by_some (filled_of i events) refl (g.cells i below) other
 
     -- ---- a step that is quiet
 
