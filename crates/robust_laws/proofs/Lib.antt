@@ -6,6 +6,7 @@ pub mod Grants
 pub mod Invariant
 pub mod Knows
 pub mod Locks
+pub mod Parts
 pub mod Past
 pub mod Rights
 pub mod Stages

@@ -124,8 +124,15 @@ module _ {T : Type 0} (scene : Scene T) where
   abbrev pub now : View T
   now = view ws events p since changes backs
 
+  abbrev pub seen : Option Ask → Bool → List (Event T) → View T
+  seen ask back later = view (words_after ws ask) later p (since_then ask) (changes_then ask) (backs_then back)
+
   abbrev pub then_sees : Option Ask → Bool → List (Event T) → View T
-  then_sees ask back es = view (words_after ws ask) (events ++ es) p (since_then ask) (changes_then ask) (backs_then back)
+  then_sees ask back es = seen ask back (events ++ es)
+
+  -- after a step that writes nothing
+  abbrev pub sees : Option Ask → Bool → View T
+  sees ask back = seen ask back events
 
   -- a step with this operation that did this, after which the call goes on or is done
   abbrev pub Leads : RobustStart → Option Ask → Bool → List (Event T) → After RobustFlight (Answer T) → Type 0
@@ -149,16 +156,16 @@ module _ {T : Type 0} (scene : Scene T) where
   pub paid_of : (P : Type 0) → PaidUnless P now → IsPaid now
   paid_of P h = ⊎_elim (λ k. k.1) (λ k. omega arith) h
 
-  pub paid_then : (ask : Option Ask) (es : List (Event T)) → IsPaid now → IsPaid (then_sees ask false es)
-  paid_then ask es h = omega arith
+  pub paid_then : (ask : Option Ask) (later : List (Event T)) → IsPaid now → IsPaid (seen ask false later)
+  paid_then ask later h = omega arith
 
   -- a number that the counter does not have any more pays for a turn back
-  pub paid_back : (number : ℕ) (ask : Option Ask) (es : List (Event T)) → counter_of ws ≢ number → Holding number now → IsPaid (then_sees ask true es)
-  paid_back number ask es other h = ⊎_elim (λ k. absurd (other k.0)) (λ k. omega arith) h.paid
+  pub paid_back : (number : ℕ) (ask : Option Ask) (later : List (Event T)) → counter_of ws ≢ number → Holding number now → IsPaid (seen ask true later)
+  paid_back number ask later other h = ⊎_elim (λ k. absurd (other k.0)) (λ k. omega arith) h.paid
 
   -- a step that leaves the counter leaves what is known of it
-  pub holds_on : (number : ℕ) (ask : Option Ask) (es : List (Event T)) → counter_of (words_after ws ask) ≡ counter_of ws → Holding number now → Holding number (then_sees ask false es)
-  holds_on number ask es same h =
+  pub holds_on : (number : ℕ) (ask : Option Ask) (later : List (Event T)) → counter_of (words_after ws ask) ≡ counter_of ws → Holding number now → Holding number (seen ask false later)
+  holds_on number ask later same h =
       let low = h.low in
       record {
         before_end = h.before_end;
@@ -167,8 +174,8 @@ module _ {T : Type 0} (scene : Scene T) where
       }
 
   -- the counter has this number then
-  pub holds_new : (number : ℕ) (ask : Option Ask) (back : Bool) (es : List (Event T)) → number < greatest → counter_of (words_after ws ask) ≡ number → IsPaid (then_sees ask back es) → Holding number (then_sees ask back es)
-  holds_new number ask back es less is paid = record { before_end = less; low = omega arith; paid = inl (is, paid) }
+  pub holds_new : (number : ℕ) (ask : Option Ask) (back : Bool) (later : List (Event T)) → number < greatest → counter_of (words_after ws ask) ≡ number → IsPaid (seen ask back later) → Holding number (seen ask back later)
+  holds_new number ask back later less is paid = record { before_end = less; low = omega arith; paid = inl (is, paid) }
 
   -- ---- what the party has written
 
