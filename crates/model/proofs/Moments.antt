@@ -8,7 +8,7 @@ use Rattle.model.specs.Moments.{BeginsNone, HeldOnce, SinceBegin}
 use Rattle.model.proofs.Readings.{AreOwn}
 
 module _ {T : Type 0} where
-  begins_none_more : (p : ℕ) (es more : List (Event T)) → BeginsNone p es → BeginsNone p more → BeginsNone p (es ++ more)
+  pub begins_none_more : (p : ℕ) (es more : List (Event T)) → BeginsNone p es → BeginsNone p more → BeginsNone p (es ++ more)
   begins_none_more p [] more h m = m
   begins_none_more p (Begun q start ∷ es) more h m = (h.0, begins_none_more p es more h.1 m)
   begins_none_more p (e ∷ es) more h m = begins_none_more p es more h m

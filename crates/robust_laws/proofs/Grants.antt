@@ -1,0 +1,141 @@
+-- What the last step of an acquire does by which an index is granted: it raises the counter.
+use Rattle.std.proofs.Common.{◌≡◌, ◌≢◌, ℕ, ◌+◌, ◌-◌, ◌<◌, ◌≤◌, ◌==◌, ⊎_elim, if◌then◌else◌, Bool, true, false, Option, Some, None, List, [], ◌∷◌, ◌++◌, length, set, refl, sym, ap, subst, ◌∙◌, arith}
+use Rattle.std.proofs.lemmas.Bool.{cases_eq}
+use Rattle.std.proofs.lemmas.List.Sums.{fold-append}
+use Rattle.steps.specs.Indices.Robust.Parts.{locked}
+use Rattle.model.specs.declared.event.Answer.TheVariants.{Index}
+use Rattle.model.specs.declared.event.Event.{Event}
+use Rattle.model.specs.declared.event.Event.TheVariants.{Granted, Finished}
+use Rattle.model.specs.declared.event.Start.TheVariants.{Robust}
+use Rattle.model.specs.declared.families.indices.robust.RobustStart.TheVariants.{Acquire}
+use Rattle.model.specs.Families.Indices.Reading.{locked_after, is_locked}
+use Rattle.model.specs.Families.Indices.Robust.Promises.{cell_of, DoesRight, AnswersRight, IsProper, HoldsRight}
+use Rattle.model.specs.Families.Indices.Robust.Reading.{deeds, filled_after, filled_of, holder_after, holder_of, settled_after, settled_of, dead_after, is_dead, wrote_in}
+use Rattle.model.proofs.Readings.{Each-append, span_of-other}
+use Rattle.robust_laws.proofs.Core.{counter_of, counter_set}
+use Rattle.robust_laws.proofs.Effects.{Stays, at_same, at_other, one_owner, one_party, proper_less, stays_raised, unlocked}
+use Rattle.robust_laws.proofs.Invariant.{Scene, Inv, Good, Does}
+use Rattle.robust_laws.proofs.Rights.{Settled, right_after, right_of, IsBy, AreOwned}
+
+module _ {T : Type 0} (scene : Scene T) (inv : Inv scene) where
+  open scene use {capacity as c, party as p, turns as turns, events as events}
+
+  abbrev ws : List ℕ
+  ws = scene.set.words
+
+  g : Good c ws scene.set.dead events turns
+  g = inv.holds.good
+
+  abbrev pub grant : ℕ → ℕ → List (Event T)
+  grant i owner = Granted p i owner ∷ Finished p (Robust (Acquire owner)) (Index i) ∷ []
+
+  module _ (words' : List ℕ) (i owner : ℕ) (mine : IsProper events → IsBy p i owner events × (holder_of i events ≡ None)) (open_now : counter_of ws ≢ locked) (new : words' ≡ set ws 0 (counter_of ws + 1)) where
+    abbrev es : List (Event T)
+    es = Granted p i owner ∷ Finished p (Robust (Acquire owner)) (Index i) ∷ []
+
+    stays : Stays scene words'
+    stays = stays_raised scene inv words' open_now new
+
+    raised : counter_of words' ≡ counter_of ws + 1
+    raised = let wide = g.wide in ap counter_of new ∙ counter_set ws (counter_of ws + 1) (omega arith)
+
+    same_filled : (j : ℕ) → filled_of j (events ++ es) ≡ filled_of j events
+    same_filled j = fold-append (filled_after j) None events es
+
+    holder_here : (j : ℕ) → j ≡ i → holder_of j (events ++ es) ≡ Some owner
+    holder_here j e = fold-append (holder_after j) None events es ∙ at_same i j (Some owner) (holder_of j events) e
+
+    holder_there : (j : ℕ) → j ≢ i → holder_of j (events ++ es) ≡ holder_of j events
+    holder_there j ne = fold-append (holder_after j) None events es ∙ at_other i j (Some owner) (holder_of j events) ne
+
+    settled_here : (j : ℕ) → j ≡ i → settled_of j (events ++ es) ≡ Some owner
+    settled_here j e = fold-append (settled_after j) None events es ∙ at_same i j (Some owner) (settled_of j events) e
+
+    settled_there : (j : ℕ) → j ≢ i → settled_of j (events ++ es) ≡ settled_of j events
+    settled_there j ne = fold-append (settled_after j) None events es ∙ at_other i j (Some owner) (settled_of j events) ne
+
+    right_here : (j : ℕ) → j ≡ i → right_of j (events ++ es) ≡ Settled owner
+    right_here j e = fold-append (right_after j) _ events es ∙ at_same i j (Settled owner) (right_of j events) e
+
+    right_there : (j : ℕ) → j ≢ i → right_of j (events ++ es) ≡ right_of j events
+    right_there j ne = fold-append (right_after j) _ events es ∙ at_other i j (Settled owner) (right_of j events) ne
+
+    same_lock : is_locked (events ++ es) ≡ is_locked events
+    same_lock = fold-append locked_after false events es
+
+    same_dead : (o : ℕ) → is_dead o (events ++ es) ≡ is_dead o events
+    same_dead o = fold-append (dead_after o) false events es
+
+    filled_mine : IsProper events → (j : ℕ) → j ≡ i → filled_of j (events ++ es) ≡ Some owner
+    filled_mine proper j e = same_filled j ∙ (ap (λ k. filled_of k events) e ∙ (mine proper).0.filled)
+
+    module _ (proper : IsProper events) (h : AreOwned events) where
+      still_held : (j o : ℕ) → holder_of j (events ++ es) ≡ Some o → filled_of j (events ++ es) ≡ Some o
+      still_held j o e = ⊎_elim here (λ ne. same_filled j ∙ h.held j o (sym (holder_there j ne) ∙ e)) (cases_eq j i)
+        where
+          here : j ≡ i → filled_of j (events ++ es) ≡ Some o
+          here same =
+              let is : owner ≡ o = one_owner (holder_of j (events ++ es)) owner o (holder_here j same) e in
+              filled_mine proper j same ∙ ap Some is
+
+      still_settled : (j o : ℕ) → settled_of j (events ++ es) ≡ Some o → (filled_of j (events ++ es) ≡ Some o) × (right_of j (events ++ es) ≡ Settled o)
+      still_settled j o e = ⊎_elim here there (cases_eq j i)
+        where
+          here : j ≡ i → (filled_of j (events ++ es) ≡ Some o) × (right_of j (events ++ es) ≡ Settled o)
+          here same =
+              let is : owner ≡ o = one_owner (settled_of j (events ++ es)) owner o (settled_here j same) e in
+              (filled_mine proper j same ∙ ap Some is, right_here j same ∙ ap Settled is)
+
+          there : j ≢ i → (filled_of j (events ++ es) ≡ Some o) × (right_of j (events ++ es) ≡ Settled o)
+          there ne =
+              let was = h.settled j o (sym (settled_there j ne) ∙ e) in
+              (same_filled j ∙ was.0, right_there j ne ∙ was.1)
+
+    -- no other party has a right to it
+    other_index : IsProper events → (q : ℕ) → q ≢ p → (j o : ℕ) → IsBy q j o events → j ≢ i
+    other_index proper q ne j o h same =
+        ne (one_party (right_of i events) p q (mine proper).0.right (subst (λ k. IsBy q k o events) same h).right)
+
+    owned_then : IsProper events → (q : ℕ) → q ≢ p → (j o : ℕ) → IsBy q j o events → IsBy q j o (events ++ es)
+    owned_then proper q ne j o h =
+        record { right = right_there j (other_index proper q ne j o h) ∙ h.right; filled = same_filled j ∙ h.filled }
+
+    pub grants : Does scene words' (grant i owner)
+    grants =
+        record {
+          own = (refl, (refl, tt));
+          good =
+              record {
+                some = g.some;
+                few = g.few;
+                wide = stays.wide ∙ g.wide;
+                cells = λ j low. stays.cells j ∙ (g.cells j low ∙ sym (ap cell_of (same_filled j)));
+                filled = λ j o e. g.filled j o (sym (same_filled j) ∙ e);
+                lock = stays.lock ∙ (g.lock ∙ sym same_lock);
+                low = λ t. let low = stays.low (g.lock ∙ (sym same_lock ∙ t)) in omega arith;
+                died = λ o. g.died o ∙ sym (same_dead o);
+                does = Each-append (DoesRight c) events es g.does (unlocked scene inv open_now, (tt, tt));
+                answers = Each-append (AnswersRight c) events es g.answers (tt, (tt, tt));
+                owned = λ proper.
+                    let less = proper_less events es proper in
+                    let h = g.owned less in
+                    record { held = still_held less h; settled = still_settled less h };
+                holds = λ proper. let less = proper_less events es proper in Each-append HoldsRight events es (g.holds less) ((mine less).1, (tt, tt));
+              };
+          goes =
+              record {
+                grows = stays.grows;
+                grants = λ same j none. let is = raised in absurd (omega arith);
+                fills = λ j o d e. sym (same_filled j) ∙ e;
+                dead = λ o d. same_dead o ∙ d;
+                lives = λ o l. sym (same_dead o) ∙ l;
+                proper = proper_less events es;
+              };
+          spares = λ q ne.
+              record {
+                none = tt;
+                deeds = ap (λ s. deeds (wrote_in s)) (span_of-other p q events es ne (refl, (refl, tt)));
+                owned = λ proper j o alive h. owned_then (proper_less events es proper) q ne j o h;
+                unheld = λ proper j o alive h none. holder_there j (other_index (proper_less events es proper) q ne j o h) ∙ none;
+              };
+        }

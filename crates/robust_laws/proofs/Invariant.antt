@@ -1,0 +1,167 @@
+-- What holds of the machine of a robust index set between any two turns beside what the frame says of every machine, and
+-- what a turn must show to keep it.
+use Rattle.std.proofs.Common.{◌≡◌, ◌≢◌, ℕ, ◌+◌, ◌-◌, ◌^◌, ◌<◌, ◌≤◌, ◌==◌, ⊎_elim, Bool, true, false, Option, Some, None, List, [], ◌∷◌, ◌++◌, length, fold, refl, sym, ap, subst, ◌∙◌, arith}
+use Rattle.std.proofs.lemmas.Bool.{cases_eq}
+use Rattle.steps.specs.Indices.Robust.Parts.{empty, locked}
+use Rattle.model.specs.declared.event.Event.{Event}
+use Rattle.model.specs.declared.event.Start.{Start}
+use Rattle.model.specs.declared.event.Start as any_starts
+use Rattle.model.specs.declared.families.Flight.{Flight}
+use Rattle.model.specs.declared.families.Flight as flights
+use Rattle.model.specs.declared.families.Kept.{Kept}
+use Rattle.model.specs.declared.families.Kept as kepts
+use Rattle.model.specs.declared.families.indices.robust.RobustStart.{RobustStart}
+use Rattle.model.specs.declared.party.Party.{Party}
+use Rattle.model.specs.declared.turn.Kind as kinds
+use Rattle.model.specs.Coding.{Coding}
+use Rattle.model.specs.Families.Indices.Reading.{is_locked}
+use Rattle.model.specs.Families.Indices.Robust.Dead.{has_died}
+use Rattle.model.specs.Families.Indices.Robust.Promises.{cell_of, DoesRight, AnswersRight, IsProper, HoldsRight, promise}
+use Rattle.model.specs.Families.Indices.Robust.Reading.{Deed, deeds, filled_of, is_dead, wrote_in, deeds_of}
+use Rattle.model.specs.Parties.{party_of, put, doing_of, flight_of}
+use Rattle.model.specs.Promises.Spans.{Stands}
+use Rattle.model.specs.Reading.{Each, Span, Open, own_after, span_of}
+use Rattle.model.proofs.Frame as frame
+use Rattle.model.proofs.Frame.{Family}
+use Rattle.model.proofs.Parties.{party_put_same, party_put_other}
+use Rattle.model.proofs.Readings.{AreOwn, AllFollow, span_of-other}
+use Rattle.robust_laws.proofs.Core.{counter_of, cell}
+use Rattle.robust_laws.proofs.Knows.{number_of, At, View, Knows, Goes, Spares, IsSeen, knows_later}
+use Rattle.robust_laws.proofs.Rights.{AreOwned}
+
+-- the words and the dead; and the events, by which calls under way are read
+pub record RobustSet (T : Type 0) : Type 0 where
+  pub words : List ℕ
+  pub dead : List ℕ
+  pub events : List (Event T)
+
+-- a turn of a party, with the machine around it
+pub record Scene (T : Type 0) : Type 0 where
+  pub coding : Coding T
+  pub capacity : ℕ
+  pub set : RobustSet T
+  pub party : ℕ
+  pub steps : ℕ
+  pub backs : ℕ
+  pub since : ℕ
+  pub changes : ℕ
+  pub turns : ℕ
+  pub latest : List (ℕ × Party T)
+  pub events : List (Event T)
+
+module _ {T : Type 0} where
+  abbrev pub Fit : Kept → List ℕ → RobustSet T → Type 0
+  Fit (kepts.TheVariants.Owners dead) words s = (words ≡ s.words) × (dead ≡ s.dead)
+  Fit kept words s = ⊥
+
+  -- what is so of the words, of the dead and of the events, after so many turns
+  pub record Good (c : ℕ) (words dead : List ℕ) (events : List (Event T)) (turns : ℕ) : Type 0 where
+    pub some : 1 ≤ c
+    pub few : c < 2 ^ 32
+    pub wide : length words ≡ c + 1
+    pub cells : (i : ℕ) → i < c → cell words i ≡ cell_of (filled_of i events)
+    pub filled : (i owner : ℕ) → filled_of i events ≡ Some owner → (i < c) × (owner < empty)
+    pub lock : (counter_of words == locked) ≡ is_locked events
+    pub low : is_locked events ≡ false → counter_of words ≤ turns - 1
+    pub died : (owner : ℕ) → has_died owner dead ≡ is_dead owner events
+    pub does : Each (DoesRight c) events
+    pub answers : Each (AnswersRight c) events
+    pub owned : IsProper events → AreOwned events
+    pub holds : IsProper events → Each HoldsRight events
+
+  pub record Holds (c : ℕ) (s : RobustSet T) (latest : List (ℕ × Party T)) (events : List (Event T)) (turns : ℕ) : Type 0 where
+    pub same : s.events ≡ events
+    pub begun : (p : ℕ) (x : Party T) → party_of p latest ≡ Some x → 1 ≤ turns
+    pub good : Good c s.words s.dead events turns
+
+  -- ---- the family of the robust index set
+
+  -- what a party's call under way has written
+  abbrev pub wrote_of : ℕ → List (Event T) → List (Event T)
+  wrote_of p events = wrote_in (span_of p events)
+
+  abbrev number : ℕ → Flight T → ℕ → ℕ
+  number c (flights.TheVariants.Robust flight) backs = number_of c flight backs
+  number c flight backs = 0
+
+  abbrev pub FlightAt : ℕ → List Deed → Start T → Flight T → Type 0
+  FlightAt c all (any_starts.TheVariants.Robust start) (flights.TheVariants.Robust flight) = At c all start flight
+  FlightAt c all start flight = ⊥
+
+  abbrev pub Knowing : ℕ → Flight T → View T → Type 0
+  Knowing c (flights.TheVariants.Robust flight) v = Knows c flight v
+  Knowing c flight v = ⊥
+
+  abbrev pub view : List ℕ → List (Event T) → ℕ → ℕ → ℕ → ℕ → View T
+  view words events p since changes backs =
+      record { words = words; events = events; party = p; since = since; changes = changes; backs = backs }
+
+  abbrev pub family : Coding T → ℕ → Family T
+  family code c =
+      record {
+        coding = code;
+        kind = kinds.TheVariants.Robust;
+        promise = promise;
+        capacity = c;
+        State = RobustSet T;
+        Fit = Fit;
+        Holds = λ s latest events turns. Holds c s latest events turns;
+        written = λ s p flight. wrote_of p s.events;
+        number = number c;
+        At = λ s p start flight. FlightAt c (deeds_of p s.events) start flight;
+        Knows = λ s p events since changes backs flight. Knowing c flight (view s.words events p since changes backs);
+      }
+
+  pub record Inv (scene : Scene T) : Type 0 where
+    pub holds : Holds scene.capacity scene.set scene.latest scene.events scene.turns
+    pub frame : frame.Inv (family scene.coding scene.capacity) scene.set scene.latest scene.events scene.changes
+    pub begun : 1 ≤ scene.turns
+    pub small : scene.turns < 2 ^ 64 - 2
+
+  abbrev pub set_then : Scene T → List ℕ → List (Event T) → RobustSet T
+  set_then scene words es =
+      record { words = words; dead = scene.set.dead; events = scene.events ++ es }
+
+  -- what a turn does to the set and to the other parties, that leaves these words and writes these events
+  pub record Does (scene : Scene T) (words' : List ℕ) (es : List (Event T)) : Type 0 where
+    pub own : AreOwn scene.party es
+    pub good : Good scene.capacity words' scene.set.dead (scene.events ++ es) (scene.turns + 1)
+    pub goes : Goes scene.set.words words' scene.events es
+    pub spares : (q : ℕ) → q ≢ scene.party → Spares q scene.events es
+
+  -- what a turn shows, where the party's span was this
+  pub record Shows (scene : Scene T) (words' : List ℕ) (from : Span T) (y : Party T) (es : List (Event T)) (changes' : ℕ) : Type 0 where
+    pub does : Does scene words' es
+    pub stands : AllFollow (Stands promise scene.capacity) from es
+    pub here : frame.Fits (family scene.coding scene.capacity) (set_then scene words' es) scene.party (Some y) (fold own_after from es)
+    pub knows : frame.KnowsDoing (family scene.coding scene.capacity) (set_then scene words' es) scene.party (scene.events ++ es) changes' y.backs y.doing
+    pub seen : IsSeen scene.set.words words' scene.changes changes'
+
+  any_knows : (c : ℕ) (words words' : List ℕ) (events es : List (Event T)) (q changes changes' : ℕ) → Goes words words' events es → Spares q events es → IsSeen words words' changes changes' → (since backs : ℕ) (flight : Flight T) → Knowing c flight (view words events q since changes backs) → Knowing c flight (view words' (events ++ es) q since changes' backs)
+  any_knows c words words' events es q changes changes' goes spares seen since backs (flights.TheVariants.Robust flight) h = knows_later words words' events es q since changes changes' backs goes spares seen c flight h
+  any_knows c words words' events es q changes changes' goes spares seen since backs flight h = absurd h
+
+  -- a call stands there by what its party has written
+  pub at_written : (c : ℕ) (w w' : List (Event T)) (start : Start T) (flight : Flight T) → w' ≡ w → FlightAt c (deeds w) start flight → FlightAt c (deeds w') start flight
+  at_written c w w' start flight same h = subst (λ x. FlightAt c (deeds x) start flight) (sym same) h
+
+  module _ (scene : Scene T) (words' : List ℕ) (from : Span T) (y : Party T) (es : List (Event T)) (changes' : ℕ) (s : Shows scene words' from y es changes') (inv : Inv scene) where
+    open scene use {capacity as c, set as set, party as p, latest as latest, events as events}
+
+    still_wrote : (q : ℕ) → q ≢ p → wrote_of q (events ++ es) ≡ wrote_of q set.events
+    still_wrote q ne = ap wrote_in (span_of-other p q events es ne s.does.own) ∙ ap (wrote_of q) (sym inv.holds.same)
+
+    pub owes : span_of p events ≡ from → frame.Owes (family scene.coding c) (set_then scene words' es) p y latest events es changes'
+    owes is =
+        frame.owes (family scene.coding c) set (set_then scene words' es) from p y latest events es scene.changes changes' is inv.frame
+        (record {
+          own = s.does.own;
+          stands = s.stands;
+          here = s.here;
+          knows = s.knows;
+          others = λ q ne start flight h. (at_written c (wrote_of q set.events) (wrote_of q (events ++ es)) start flight (still_wrote q ne) h, still_wrote q ne);
+          others_know = λ q ne. any_knows c set.words words' events es q scene.changes changes' s.does.goes (s.does.spares q ne) s.seen;
+        })
+
+    pub holds_more : Holds c (set_then scene words' es) (put p y latest) (events ++ es) (scene.turns + 1)
+    holds_more = record { same = refl; begun = λ q x found. omega arith; good = s.does.good }

@@ -1,0 +1,582 @@
+-- What a call of the robust index set knows where it stands: of its counts, of moments of it, of what it has a right to, and
+-- of what it has recovered; and that it knows this still after any turn of another party.
+use Rattle.std.proofs.Common.{◌≡◌, ◌≢◌, ℕ, ◌+◌, ◌*◌, ◌<◌, ◌≤◌, ◌⊎◌, ⊎_elim, inl, inr, Bool, true, false, Option, Some, None, List, [], ◌∷◌, ◌++◌, refl, sym, ap, subst, ◌∙◌, arith}
+use Rattle.std.specs.List.{AllByRecursion}
+use Rattle.steps.specs.declared.indices.enums.ReleaseMode.{ReleaseMode}
+use Rattle.steps.specs.declared.indices.enums.ReleaseMode.TheVariants.{LockIfLastIndex, Default}
+use Rattle.steps.specs.declared.indices.robust.acquire.AcquireStage.{AcquireStage}
+use Rattle.steps.specs.declared.indices.robust.acquire.AcquireStage as acquires
+use Rattle.steps.specs.declared.indices.robust.find.FindStage.{FindStage}
+use Rattle.steps.specs.declared.indices.robust.find.FindStage as finds
+use Rattle.steps.specs.declared.indices.robust.parts.Count.{Count}
+use Rattle.steps.specs.declared.indices.robust.parts.Count as counts
+use Rattle.steps.specs.declared.indices.robust.parts.Lock.{Lock}
+use Rattle.steps.specs.declared.indices.robust.parts.Lock as locks
+use Rattle.steps.specs.declared.indices.robust.parts.Raise.{Raise}
+use Rattle.steps.specs.declared.indices.robust.parts.Raise as raises
+use Rattle.steps.specs.declared.indices.robust.recover.RecoverStage.{RecoverStage}
+use Rattle.steps.specs.declared.indices.robust.recover.RecoverStage as recovers
+use Rattle.steps.specs.declared.indices.robust.release.ReleaseStage.{ReleaseStage}
+use Rattle.steps.specs.declared.indices.robust.release.ReleaseStage as releases
+use Rattle.steps.specs.Indices.Robust.Parts.{empty, greatest}
+use Rattle.model.specs.declared.event.Event.{Event}
+use Rattle.model.specs.declared.families.indices.robust.RobustStart.{RobustStart}
+use Rattle.model.specs.declared.families.indices.robust.RobustStart as starts
+use Rattle.model.specs.declared.families.indices.robust.calls.RobustFlight.{RobustFlight}
+use Rattle.model.specs.declared.families.indices.robust.calls.RobustFlight.TheVariants.{Acquire, Release, Find, Recover, BorrowedIndices, IsLocked}
+use Rattle.model.specs.Families.Indices.Robust.Promises.{IsFilled, IsFilledWith, IsUnlocked, IsCount, HeldThrough, FilledSinceFreed, StillToFree, IsProper}
+use Rattle.model.specs.Families.Indices.Robust.Reading.{Deed, Fills, Frees, Asks, Yes, filled_of, holder_of, settled_of, is_dead, deeds_of, IsOneOf, IsLatest, asked_in}
+use Rattle.model.specs.Families.Indices.Robust.Spans.{HasJustFreed}
+use Rattle.model.specs.Moments.{BeginsNone, HeldOnce, SinceBegin}
+use Rattle.model.proofs.Moments.{held_later}
+use Rattle.robust_laws.proofs.Core.{counter_of}
+use Rattle.robust_laws.proofs.Counting.{count_later}
+use Rattle.robust_laws.proofs.Past.{through_less, since_less}
+use Rattle.robust_laws.proofs.Rights.{IsBy}
+
+-- ---- the calls by their stages
+
+abbrev pub acquire_at : ℕ → ℕ → AcquireStage → RobustFlight
+acquire_at c owner stage =
+    Acquire (record { call = record { capacity = c; stage = stage }; given = owner; room = tt })
+
+abbrev pub release_at : ℕ → ℕ → ℕ → ReleaseMode → ReleaseStage → RobustFlight
+release_at c index owner mode stage =
+    Release
+    (record {
+      call = record { capacity = c; stage = stage };
+      given = record { index = index; owner = owner; mode = mode };
+      room = tt;
+    })
+
+abbrev pub find_at : ℕ → ℕ → FindStage → RobustFlight
+find_at c owner stage =
+    Find (record { call = record { capacity = c; stage = stage }; given = owner; room = tt })
+
+abbrev pub recover_at : ℕ → ReleaseMode → RecoverStage → RobustFlight
+recover_at c mode stage =
+    Recover (record { call = record { capacity = c; stage = stage }; given = mode; room = tt })
+
+abbrev pub borrowed_at : ℕ → Count → RobustFlight
+borrowed_at c count =
+    BorrowedIndices (record { call = record { capacity = c; count = count }; given = tt; room = tt })
+
+abbrev pub looking : RobustFlight
+looking = IsLocked (record { call = record {}; given = tt; room = tt })
+
+-- ---- how many steps they have taken at most
+
+abbrev pub raise_number : Raise → ℕ
+raise_number raises.TheVariants.LoadsCounter = 0
+raise_number (raises.TheVariants.ExchangesCounter counter) = 1
+
+abbrev pub count_number : ℕ → Count → ℕ
+count_number c counts.TheVariants.LoadsCounter = 0
+count_number c (counts.TheVariants.LoadsCell counter index filled) = 1 + index
+count_number c (counts.TheVariants.ExchangesCounter counter filled) = 1 + c
+
+abbrev pub lock_number : ℕ → Lock → ℕ
+lock_number c (locks.TheVariants.Counts count) = count_number c count
+lock_number c (locks.TheVariants.ExchangesCounter counter) = 2 + c
+
+abbrev pub acquire_number : ℕ → AcquireStage → ℕ → ℕ
+acquire_number c acquires.TheVariants.LoadsCounter backs = 0
+acquire_number c (acquires.TheVariants.FillsCell counter index) backs =
+    1 + index + backs * (c + 1)
+acquire_number c (acquires.TheVariants.ChecksCounter counter) backs = 1 + c + backs * (c + 1)
+acquire_number c (acquires.TheVariants.Raises index raise) backs =
+    1 + c + raise_number raise + backs * (c + 1)
+
+-- what a turn back takes, and an index of a recovery
+abbrev pub for_back : ℕ → ReleaseMode → ℕ
+for_back c Default = 1
+for_back c LockIfLastIndex = c + 3
+
+abbrev pub for_index : ℕ → ReleaseMode → ℕ
+for_index c Default = 4
+for_index c LockIfLastIndex = c + 7
+
+abbrev pub release_number : ℕ → ReleaseMode → ReleaseStage → ℕ → ℕ
+release_number c mode releases.TheVariants.EmptiesCell backs = 0
+release_number c mode (releases.TheVariants.Raises raise) backs =
+    1 + raise_number raise + backs * for_back c mode
+release_number c mode (releases.TheVariants.Locks lock) backs =
+    3 + lock_number c lock + backs * for_back c mode
+
+abbrev pub recover_number : ℕ → ReleaseMode → RecoverStage → ℕ → ℕ
+recover_number c mode recovers.TheVariants.LoadsCounter backs = 0
+recover_number c mode (recovers.TheVariants.LoadsCell index) backs =
+    1 + index * for_index c mode + backs * for_back c mode
+recover_number c mode (recovers.TheVariants.Asks index owner) backs =
+    2 + index * for_index c mode + backs * for_back c mode
+recover_number c mode (recovers.TheVariants.EmptiesCell index owner) backs =
+    2 + index * for_index c mode + backs * for_back c mode
+recover_number c mode (recovers.TheVariants.Raises index raise) backs =
+    3 + raise_number raise + index * for_index c mode + backs * for_back c mode
+recover_number c mode (recovers.TheVariants.Locks index lock) backs =
+    5 + lock_number c lock + index * for_index c mode + backs * for_back c mode
+recover_number c mode recovers.TheVariants.LoadsCounterAgain backs =
+    1 + c * for_index c mode + backs * for_back c mode
+
+abbrev pub find_number : FindStage → ℕ
+find_number (finds.TheVariants.LoadsCell index found) = index
+find_number (finds.TheVariants.Asks index found) = index + 1
+
+abbrev pub number_of : ℕ → RobustFlight → ℕ → ℕ
+number_of c (Acquire run) backs = acquire_number c run.call.stage backs
+number_of c (Release run) backs = release_number c run.given.mode run.call.stage backs
+number_of c (Find run) backs = find_number run.call.stage
+number_of c (Recover run) backs = recover_number c run.given run.call.stage backs
+number_of c (BorrowedIndices run) backs = count_number c run.call.count + backs * (c + 2)
+number_of c (IsLocked run) backs = 0
+
+-- ---- where they stand, and what they have done
+
+abbrev pub AcquireAt : ℕ → ℕ → List Deed → AcquireStage → Type 0
+AcquireAt c owner all acquires.TheVariants.LoadsCounter = all ≡ []
+AcquireAt c owner all (acquires.TheVariants.FillsCell counter index) = (index < c) × (all ≡ [])
+AcquireAt c owner all (acquires.TheVariants.ChecksCounter counter) = all ≡ []
+AcquireAt c owner all (acquires.TheVariants.Raises index raise) =
+    (index < c) × (all ≡ Fills index owner ∷ [])
+
+abbrev pub CountAt : ℕ → Count → Type 0
+CountAt c counts.TheVariants.LoadsCounter = Unit {0}
+CountAt c (counts.TheVariants.LoadsCell counter index filled) = (index < c) × (filled ≤ index)
+CountAt c (counts.TheVariants.ExchangesCounter counter filled) = filled ≤ c
+
+abbrev pub LockAt : ℕ → Lock → Type 0
+LockAt c (locks.TheVariants.Counts count) = CountAt c count
+LockAt c (locks.TheVariants.ExchangesCounter counter) = Unit {0}
+
+abbrev pub ReleaseAt : ℕ → ℕ → ℕ → ReleaseMode → List Deed → ReleaseStage → Type 0
+ReleaseAt c index owner mode all releases.TheVariants.EmptiesCell = all ≡ []
+ReleaseAt c index owner mode all (releases.TheVariants.Raises raise) = all ≡ Frees index owner ∷ []
+ReleaseAt c index owner mode all (releases.TheVariants.Locks lock) =
+    (mode ≡ LockIfLastIndex) × LockAt c lock × (all ≡ Frees index owner ∷ [])
+
+abbrev pub FindAt : ℕ → List Deed → FindStage → Type 0
+FindAt c all (finds.TheVariants.LoadsCell index found) = (index < c) × (all ≡ [])
+FindAt c all (finds.TheVariants.Asks index found) = (index < c) × (all ≡ [])
+
+-- a recovery at an index of the set has asked about lower ones than this, and about each that it has freed
+pub record IsInCourse (c index bound : ℕ) (all : List Deed) : Type 0 where
+  pub within : index < c
+  pub asked : AllByRecursion (λ i. i < bound) (asked_in all)
+  pub freed : (i owner : ℕ) → IsOneOf (Frees i owner) all → IsOneOf (Asks i owner) all
+
+abbrev pub RecoverAt : ℕ → ReleaseMode → List Deed → RecoverStage → Type 0
+RecoverAt c mode all recovers.TheVariants.LoadsCounter = all ≡ []
+RecoverAt c mode all (recovers.TheVariants.LoadsCell index) = IsInCourse c index index all
+RecoverAt c mode all (recovers.TheVariants.Asks index owner) =
+    IsInCourse c index (index + 1) all × (owner < empty) × IsLatest (Asks index owner) all
+RecoverAt c mode all (recovers.TheVariants.EmptiesCell index owner) =
+    IsInCourse c index (index + 1) all × (owner < empty) × IsLatest (Yes index owner) all
+    × IsOneOf (Asks index owner) all
+RecoverAt c mode all (recovers.TheVariants.Raises index raise) =
+    IsInCourse c index (index + 1) all × HasJustFreed all
+RecoverAt c mode all (recovers.TheVariants.Locks index lock) =
+    IsInCourse c index (index + 1) all × HasJustFreed all × (mode ≡ LockIfLastIndex) × LockAt c lock
+RecoverAt c mode all recovers.TheVariants.LoadsCounterAgain = Unit {0}
+
+-- where a call of this name stands in a set of this capacity, where it has done all this
+abbrev pub At : ℕ → List Deed → RobustStart → RobustFlight → Type 0
+At c all (starts.TheVariants.Acquire owner) (Acquire run) =
+    (run.call.capacity ≡ c) × (run.given ≡ owner) × (owner < empty)
+    × AcquireAt c owner all run.call.stage
+At c all (starts.TheVariants.Release index owner mode) (Release run) =
+    (run.call.capacity ≡ c) × (run.given ≡ record { index = index; owner = owner; mode = mode })
+    × (owner < empty) × (index < c) × ReleaseAt c index owner mode all run.call.stage
+At c all (starts.TheVariants.Find owner) (Find run) =
+    (run.call.capacity ≡ c) × (run.given ≡ owner) × (owner < empty) × FindAt c all run.call.stage
+At c all (starts.TheVariants.Recover mode) (Recover run) =
+    (run.call.capacity ≡ c) × (run.given ≡ mode) × RecoverAt c mode all run.call.stage
+At c all starts.TheVariants.BorrowedIndices (BorrowedIndices run) =
+    (run.call.capacity ≡ c) × CountAt c run.call.count × (all ≡ [])
+At c all starts.TheVariants.IsLocked (IsLocked run) = all ≡ []
+At c all start flight = ⊥
+
+-- ---- what they see of the machine
+
+pub record View (T : Type 0) : Type 0 where
+  pub words : List ℕ
+  pub events : List (Event T)
+  pub party : ℕ
+  pub since : ℕ
+  pub changes : ℕ
+  pub backs : ℕ
+
+-- ---- the counter that they hold
+
+abbrev pub raise_holds : Raise → Option ℕ
+raise_holds raises.TheVariants.LoadsCounter = None
+raise_holds (raises.TheVariants.ExchangesCounter counter) = Some counter
+
+abbrev pub count_holds : Count → Option ℕ
+count_holds counts.TheVariants.LoadsCounter = None
+count_holds (counts.TheVariants.LoadsCell counter index filled) = Some counter
+count_holds (counts.TheVariants.ExchangesCounter counter filled) = Some counter
+
+abbrev pub lock_holds : Lock → Option ℕ
+lock_holds (locks.TheVariants.Counts count) = count_holds count
+lock_holds (locks.TheVariants.ExchangesCounter counter) = Some counter
+
+abbrev pub acquire_holds : AcquireStage → Option ℕ
+acquire_holds acquires.TheVariants.LoadsCounter = None
+acquire_holds (acquires.TheVariants.FillsCell counter index) = Some counter
+acquire_holds (acquires.TheVariants.ChecksCounter counter) = Some counter
+acquire_holds (acquires.TheVariants.Raises index raise) = raise_holds raise
+
+abbrev pub release_holds : ReleaseStage → Option ℕ
+release_holds releases.TheVariants.EmptiesCell = None
+release_holds (releases.TheVariants.Raises raise) = raise_holds raise
+release_holds (releases.TheVariants.Locks lock) = lock_holds lock
+
+abbrev pub recover_holds : RecoverStage → Option ℕ
+recover_holds recovers.TheVariants.LoadsCounter = None
+recover_holds (recovers.TheVariants.LoadsCell index) = None
+recover_holds (recovers.TheVariants.Asks index owner) = None
+recover_holds (recovers.TheVariants.EmptiesCell index owner) = None
+recover_holds (recovers.TheVariants.Raises index raise) = raise_holds raise
+recover_holds (recovers.TheVariants.Locks index lock) = lock_holds lock
+recover_holds recovers.TheVariants.LoadsCounterAgain = None
+
+abbrev pub flight_holds : RobustFlight → Option ℕ
+flight_holds (Acquire run) = acquire_holds run.call.stage
+flight_holds (Release run) = release_holds run.call.stage
+flight_holds (Find run) = None
+flight_holds (Recover run) = recover_holds run.call.stage
+flight_holds (BorrowedIndices run) = count_holds run.call.count
+flight_holds (IsLocked run) = None
+
+-- ---- the cells that they have found empty since
+
+pub record Scan : Type 0 where
+  pub counter : ℕ
+  pub below : ℕ
+  pub filled : ℕ
+
+abbrev pub count_scan : ℕ → Count → Option Scan
+count_scan c counts.TheVariants.LoadsCounter = None
+count_scan c (counts.TheVariants.LoadsCell counter index filled) =
+    Some record { counter = counter; below = index; filled = filled }
+count_scan c (counts.TheVariants.ExchangesCounter counter filled) =
+    Some record { counter = counter; below = c; filled = filled }
+
+abbrev pub lock_scan : ℕ → Lock → Option Scan
+lock_scan c (locks.TheVariants.Counts count) = count_scan c count
+lock_scan c (locks.TheVariants.ExchangesCounter counter) =
+    Some record { counter = counter; below = c; filled = 0 }
+
+abbrev pub release_scan : ℕ → ReleaseStage → Option Scan
+release_scan c releases.TheVariants.EmptiesCell = None
+release_scan c (releases.TheVariants.Raises raise) = None
+release_scan c (releases.TheVariants.Locks lock) = lock_scan c lock
+
+abbrev pub recover_scan : ℕ → RecoverStage → Option Scan
+recover_scan c recovers.TheVariants.LoadsCounter = None
+recover_scan c (recovers.TheVariants.LoadsCell index) = None
+recover_scan c (recovers.TheVariants.Asks index owner) = None
+recover_scan c (recovers.TheVariants.EmptiesCell index owner) = None
+recover_scan c (recovers.TheVariants.Raises index raise) = None
+recover_scan c (recovers.TheVariants.Locks index lock) = lock_scan c lock
+recover_scan c recovers.TheVariants.LoadsCounterAgain = None
+
+abbrev pub flight_scan : ℕ → RobustFlight → Option Scan
+flight_scan c (Acquire run) = None
+flight_scan c (Release run) = release_scan c run.call.stage
+flight_scan c (Find run) = None
+flight_scan c (Recover run) = recover_scan c run.call.stage
+flight_scan c (BorrowedIndices run) = None
+flight_scan c (IsLocked run) = None
+
+-- ---- what depends on no event
+
+-- what a count says, where it has come to so many cells and found so many filled
+abbrev pub CountSays : ℕ → (ℕ → ℕ → Type 0) → Count → Type 0
+CountSays c Says counts.TheVariants.LoadsCounter = Unit {0}
+CountSays c Says (counts.TheVariants.LoadsCell counter index filled) = Says index filled
+CountSays c Says (counts.TheVariants.ExchangesCounter counter filled) = Says c filled
+
+abbrev pub LockSays : ℕ → (ℕ → ℕ → Type 0) → Lock → Type 0
+LockSays c Says (locks.TheVariants.Counts count) = CountSays c Says count
+LockSays c Says (locks.TheVariants.ExchangesCounter counter) = Unit {0}
+
+count_says : (c : ℕ) (P Q : ℕ → ℕ → Type 0) → ((k n : ℕ) → P k n → Q k n) → (count : Count) → CountSays c P count → CountSays c Q count
+count_says c P Q follows counts.TheVariants.LoadsCounter h = tt
+count_says c P Q follows (counts.TheVariants.LoadsCell counter index filled) h = follows index filled h
+count_says c P Q follows (counts.TheVariants.ExchangesCounter counter filled) h = follows c filled h
+
+lock_says : (c : ℕ) (P Q : ℕ → ℕ → Type 0) → ((k n : ℕ) → P k n → Q k n) → (lock : Lock) → LockSays c P lock → LockSays c Q lock
+lock_says c P Q follows (locks.TheVariants.Counts count) h = count_says c P Q follows count h
+lock_says c P Q follows (locks.TheVariants.ExchangesCounter counter) h = tt
+
+-- the index that a recovery frees now
+abbrev pub FreesNow : RecoverStage → ℕ → ℕ → Type 0
+FreesNow (recovers.TheVariants.EmptiesCell index owner) i o = (i ≡ index) × (o ≡ owner)
+FreesNow stage i o = ⊥
+
+-- the words stay, or their changes go up
+abbrev pub IsSeen : List ℕ → List ℕ → ℕ → ℕ → Type 0
+IsSeen words words' changes changes' =
+    ((words' ≡ words) × (changes' ≡ changes)) ⊎ (changes' ≡ changes + 1)
+
+module _ {T : Type 0} where
+  -- ---- what they know of the counts
+
+  -- each turn back is paid by a change of another party since the call began
+  abbrev pub IsPaid : View T → Type 0
+  IsPaid v = v.backs + v.since ≤ v.changes
+
+  -- and so is one more, unless this is so
+  abbrev pub PaidUnless : Type 0 → View T → Type 0
+  PaidUnless P v = (P × IsPaid v) ⊎ (v.backs + v.since + 1 ≤ v.changes)
+
+  -- a number that the counter had, before its end
+  pub record Holding (number : ℕ) (v : View T) : Type 0 where
+    pub before_end : number < greatest
+    pub low : number ≤ counter_of v.words
+    pub paid : PaidUnless (counter_of v.words ≡ number) v
+
+  abbrev pub Paid : Option ℕ → View T → Type 0
+  Paid None v = IsPaid v
+  Paid (Some number) v = Holding number v
+
+  -- ---- what they know of holders, in a proper run
+
+  abbrev pub Scanned : Option Scan → View T → Type 0
+  Scanned None v = Unit {0}
+  Scanned (Some s) v =
+      (s.counter ≤ counter_of v.words)
+      × (s.filled ≡ 0 → counter_of v.words ≡ s.counter → IsProper v.events
+      → (i : ℕ) → i < s.below → holder_of i v.events ≡ None)
+
+  -- the party has a right to the index that it fills, which nobody holds
+  abbrev pub AcquireOwns : ℕ → AcquireStage → View T → Type 0
+  AcquireOwns owner (acquires.TheVariants.Raises index raise) v =
+      IsProper v.events → is_dead owner v.events ≡ false
+      → IsBy v.party index owner v.events × (holder_of index v.events ≡ None)
+  AcquireOwns owner stage v = Unit {0}
+
+  -- and to the index that it may give back
+  abbrev pub ReleaseOwns : ℕ → ℕ → ReleaseStage → View T → Type 0
+  ReleaseOwns index owner releases.TheVariants.EmptiesCell v =
+      IsProper v.events → is_dead owner v.events ≡ false
+      → SinceBegin v.party (λ part since. settled_of index part ≡ Some owner) v.events
+      → IsBy v.party index owner v.events
+  ReleaseOwns index owner stage v = Unit {0}
+
+  abbrev pub Owns : RobustFlight → View T → Type 0
+  Owns (Acquire run) v = AcquireOwns run.given run.call.stage v
+  Owns (Release run) v = ReleaseOwns run.given.index run.given.owner run.call.stage v
+  Owns flight v = Unit {0}
+
+  -- ---- what they know of moments
+
+  abbrev pub WasOpen : View T → Type 0
+  WasOpen v = HeldOnce v.party IsUnlocked v.events
+
+  abbrev pub AllOnce : ℕ → View T → Type 0
+  AllOnce k v = (i : ℕ) → i < k → HeldOnce v.party (IsFilled i) v.events
+
+  abbrev pub AcquireSays : ℕ → AcquireStage → View T → Type 0
+  AcquireSays c acquires.TheVariants.LoadsCounter v = Unit {0}
+  AcquireSays c (acquires.TheVariants.FillsCell counter index) v = WasOpen v × AllOnce index v
+  AcquireSays c (acquires.TheVariants.ChecksCounter counter) v = AllOnce c v
+  AcquireSays c (acquires.TheVariants.Raises index raise) v = Unit {0}
+
+  -- a release whose lock finds an index filled
+  abbrev pub FoundOne : ℕ → ℕ → View T → ℕ → ℕ → Type 0
+  FoundOne owner index v k filled = 0 < filled → FilledSinceFreed v.party owner index v.events
+
+  abbrev pub ReleaseSays : ℕ → ℕ → ℕ → ReleaseStage → View T → Type 0
+  ReleaseSays c index owner (releases.TheVariants.Locks lock) v =
+      LockSays c (FoundOne owner index v) lock
+  ReleaseSays c index owner stage v = Unit {0}
+
+  abbrev pub Borrowed : View T → ℕ → ℕ → Type 0
+  Borrowed v k filled = IsCount v.party IsFilled k filled v.events
+
+  abbrev pub FindSays : ℕ → FindStage → View T → Type 0
+  FindSays owner (finds.TheVariants.LoadsCell index found) v =
+      IsCount v.party (IsFilledWith owner) index found v.events
+  FindSays owner (finds.TheVariants.Asks index found) v =
+      IsCount v.party (IsFilledWith owner) (index + 1) found v.events
+
+  -- a recovery has asked about the lower indices that were to be freed throughout
+  abbrev pub AskedBelow : ℕ → View T → Type 0
+  AskedBelow k v =
+      (i owner : ℕ) → i < k → HeldThrough v.party (StillToFree v.party owner i) v.events
+      → IsOneOf (Asks i owner) (deeds_of v.party v.events)
+
+  abbrev pub RecoverSays : ℕ → RecoverStage → View T → Type 0
+  RecoverSays c recovers.TheVariants.LoadsCounter v = Unit {0}
+  RecoverSays c (recovers.TheVariants.LoadsCell index) v = WasOpen v × AskedBelow index v
+  RecoverSays c (recovers.TheVariants.Asks index owner) v = WasOpen v × AskedBelow (index + 1) v
+  RecoverSays c (recovers.TheVariants.EmptiesCell index owner) v =
+      WasOpen v × AskedBelow (index + 1) v
+  RecoverSays c (recovers.TheVariants.Raises index raise) v = WasOpen v × AskedBelow (index + 1) v
+  RecoverSays c (recovers.TheVariants.Locks index lock) v = WasOpen v × AskedBelow (index + 1) v
+  RecoverSays c recovers.TheVariants.LoadsCounterAgain v = AskedBelow c v
+
+  abbrev pub Says : ℕ → RobustFlight → View T → Type 0
+  Says c (Acquire run) v = AcquireSays c run.call.stage v
+  Says c (Release run) v = ReleaseSays c run.given.index run.given.owner run.call.stage v
+  Says c (Find run) v = FindSays run.given run.call.stage v
+  Says c (Recover run) v = RecoverSays c run.call.stage v
+  Says c (BorrowedIndices run) v = CountSays c (Borrowed v) run.call.count
+  Says c (IsLocked run) v = Unit {0}
+
+  -- ---- what a recovery knows of what it was told to free
+
+  -- the owner is dead, and no index that it was told to free has that owner, but the one that it frees now
+  abbrev pub GoneBut : (ℕ → ℕ → Type 0) → View T → Type 0
+  GoneBut Now v =
+      (i owner : ℕ) → IsOneOf (Yes i owner) (deeds_of v.party v.events)
+      → (is_dead owner v.events ≡ true) × ((filled_of i v.events ≢ Some owner) ⊎ Now i owner)
+
+  abbrev pub Gone : RobustFlight → View T → Type 0
+  Gone (Recover run) v = GoneBut (FreesNow run.call.stage) v
+  Gone flight v = Unit {0}
+
+  -- ---- all of it
+
+  pub record Knows (c : ℕ) (flight : RobustFlight) (v : View T) : Type 0 where
+    pub paid : Paid (flight_holds flight) v
+    pub scanned : Scanned (flight_scan c flight) v
+    pub owns : Owns flight v
+    pub says : Says c flight v
+    pub gone : Gone flight v
+
+  -- ---- what a turn does that leaves these words and writes these events
+
+  -- to any party
+  pub record Goes (words words' : List ℕ) (events es : List (Event T)) : Type 0 where
+    pub grows : counter_of words ≤ counter_of words'
+    pub grants : counter_of words' ≡ counter_of words → (i : ℕ) → holder_of i events ≡ None → holder_of i (events ++ es) ≡ None
+    pub fills : (i owner : ℕ) → is_dead owner events ≡ true → filled_of i (events ++ es) ≡ Some owner → filled_of i events ≡ Some owner
+    pub dead : (owner : ℕ) → is_dead owner events ≡ true → is_dead owner (events ++ es) ≡ true
+    pub lives : (owner : ℕ) → is_dead owner (events ++ es) ≡ false → is_dead owner events ≡ false
+    pub proper : IsProper (events ++ es) → IsProper events
+
+  -- to this party, which does not take it
+  pub record Spares (q : ℕ) (events es : List (Event T)) : Type 0 where
+    pub none : BeginsNone q es
+    pub deeds : deeds_of q (events ++ es) ≡ deeds_of q events
+    pub owned : IsProper (events ++ es) → (i owner : ℕ) → is_dead owner events ≡ false → IsBy q i owner events → IsBy q i owner (events ++ es)
+    pub unheld : IsProper (events ++ es) → (i owner : ℕ) → is_dead owner events ≡ false → IsBy q i owner events → holder_of i events ≡ None → holder_of i (events ++ es) ≡ None
+
+  module _ (words words' : List ℕ) (events es : List (Event T)) (q since changes changes' backs : ℕ) (goes : Goes words words' events es) (spares : Spares q events es) (seen : IsSeen words words' changes changes') where
+    abbrev pub before : View T
+    before = record { words = words; events = events; party = q; since = since; changes = changes; backs = backs }
+
+    abbrev pub later : View T
+    later = record { words = words'; events = events ++ es; party = q; since = since; changes = changes'; backs = backs }
+
+    paid_later : IsPaid before → IsPaid later
+    paid_later h = ⊎_elim (λ s. let same = s.1 in omega arith) (λ more. omega arith) seen
+
+    unless_later : (number : ℕ) → PaidUnless (counter_of words ≡ number) before → PaidUnless (counter_of words' ≡ number) later
+    unless_later number h = ⊎_elim still (λ more. inr (⊎_elim (λ k. let paid = k.1 in omega arith) (λ k. omega arith) h)) seen
+      where
+        still : (words' ≡ words) × (changes' ≡ changes) → PaidUnless (counter_of words' ≡ number) later
+        still s =
+            let same = s.1 in
+            ⊎_elim (λ k. let paid = k.1 in inl (ap counter_of s.0 ∙ k.0, omega arith)) (λ k. inr (omega arith)) h
+
+    held_paid : (held : Option ℕ) → Paid held before → Paid held later
+    held_paid None h = paid_later h
+    held_paid (Some number) h =
+        let low = h.low in
+        let grows = goes.grows in
+        record { before_end = h.before_end; low = omega arith; paid = unless_later number h.paid }
+
+    still_scanned : (s : Option Scan) → Scanned s before → Scanned s later
+    still_scanned None h = tt
+    still_scanned (Some s) h =
+        let low = h.0 in
+        let grows = goes.grows in
+        (omega arith, λ none is proper i below.
+        let same : counter_of words' ≡ counter_of words = omega arith in
+        goes.grants same i (h.1 none (sym same ∙ is) (goes.proper proper) i below))
+
+    acquire_owns : (owner : ℕ) (stage : AcquireStage) → AcquireOwns owner stage before → AcquireOwns owner stage later
+    acquire_owns owner (acquires.TheVariants.Raises index raise) h =
+        λ proper alive.
+        let lives = goes.lives owner alive in
+        let k = h (goes.proper proper) lives in
+        (spares.owned proper index owner lives k.0, spares.unheld proper index owner lives k.0 k.1)
+    acquire_owns owner stage h = tt
+
+    release_owns : (index owner : ℕ) (stage : ReleaseStage) → ReleaseOwns index owner stage before → ReleaseOwns index owner stage later
+    release_owns index owner releases.TheVariants.EmptiesCell h =
+        λ proper alive settled.
+        let lives = goes.lives owner alive in
+        spares.owned proper index owner lives (h (goes.proper proper) lives (since_less q (λ part. settled_of index part ≡ Some owner) events es spares.none settled))
+    release_owns index owner stage h = tt
+
+    still_owns : (flight : RobustFlight) → Owns flight before → Owns flight later
+    still_owns (Acquire run) h = acquire_owns run.given run.call.stage h
+    still_owns (Release run) h = release_owns run.given.index run.given.owner run.call.stage h
+    still_owns flight h = tt
+
+    once_later : (P : List (Event T) → Type 0) → HeldOnce q P events → HeldOnce q P (events ++ es)
+    once_later P h = held_later q P events es spares.none h
+
+    acquire_says : (c : ℕ) (stage : AcquireStage) → AcquireSays c stage before → AcquireSays c stage later
+    acquire_says c acquires.TheVariants.LoadsCounter h = tt
+    acquire_says c (acquires.TheVariants.FillsCell counter index) h = (once_later IsUnlocked h.0, λ i below. once_later (IsFilled i) (h.1 i below))
+    acquire_says c (acquires.TheVariants.ChecksCounter counter) h = λ i below. once_later (IsFilled i) (h i below)
+    acquire_says c (acquires.TheVariants.Raises index raise) h = tt
+
+    freed_later : (owner index : ℕ) → FilledSinceFreed q owner index events → FilledSinceFreed q owner index (events ++ es)
+    freed_later owner index h = record { other = h.other; once = once_later _ h.once }
+
+    release_says : (c index owner : ℕ) (stage : ReleaseStage) → ReleaseSays c index owner stage before → ReleaseSays c index owner stage later
+    release_says c index owner (releases.TheVariants.Locks lock) h =
+        lock_says c (FoundOne owner index before) (FoundOne owner index later) (λ k n found some. freed_later owner index (found some)) lock h
+    release_says c index owner stage h = tt
+
+    find_says : (owner : ℕ) (stage : FindStage) → FindSays owner stage before → FindSays owner stage later
+    find_says owner (finds.TheVariants.LoadsCell index found) h = count_later q (IsFilledWith owner) index found events h es spares.none
+    find_says owner (finds.TheVariants.Asks index found) h = count_later q (IsFilledWith owner) (index + 1) found events h es spares.none
+
+    asked_later : (k : ℕ) → AskedBelow k before → AskedBelow k later
+    asked_later k h i owner below through =
+        subst (IsOneOf (Asks i owner)) (sym spares.deeds) (h i owner below (through_less q (StillToFree q owner i) events es spares.none through))
+
+    recover_says : (c : ℕ) (stage : RecoverStage) → RecoverSays c stage before → RecoverSays c stage later
+    recover_says c recovers.TheVariants.LoadsCounter h = tt
+    recover_says c (recovers.TheVariants.LoadsCell index) h = (once_later IsUnlocked h.0, asked_later index h.1)
+    recover_says c (recovers.TheVariants.Asks index owner) h = (once_later IsUnlocked h.0, asked_later (index + 1) h.1)
+    recover_says c (recovers.TheVariants.EmptiesCell index owner) h = (once_later IsUnlocked h.0, asked_later (index + 1) h.1)
+    recover_says c (recovers.TheVariants.Raises index raise) h = (once_later IsUnlocked h.0, asked_later (index + 1) h.1)
+    recover_says c (recovers.TheVariants.Locks index lock) h = (once_later IsUnlocked h.0, asked_later (index + 1) h.1)
+    recover_says c recovers.TheVariants.LoadsCounterAgain h = asked_later c h
+
+    still_says : (c : ℕ) (flight : RobustFlight) → Says c flight before → Says c flight later
+    still_says c (Acquire run) h = acquire_says c run.call.stage h
+    still_says c (Release run) h = release_says c run.given.index run.given.owner run.call.stage h
+    still_says c (Find run) h = find_says run.given run.call.stage h
+    still_says c (Recover run) h = recover_says c run.call.stage h
+    still_says c (BorrowedIndices run) h = count_says c (Borrowed before) (Borrowed later) (λ k n counted. count_later q IsFilled k n events counted es spares.none) run.call.count h
+    still_says c (IsLocked run) h = tt
+
+    -- whoever fills an index is alive, so an index that a dead owner has lost stays lost to it
+    gone_later : (Now : ℕ → ℕ → Type 0) → GoneBut Now before → GoneBut Now later
+    gone_later Now h i owner told =
+        let k = h i owner (subst (IsOneOf (Yes i owner)) spares.deeds told) in
+        (goes.dead owner k.0, ⊎_elim (λ gone. inl (λ e. gone (goes.fills i owner k.0 e))) (λ now. inr now) k.1)
+
+    still_gone : (flight : RobustFlight) → Gone flight before → Gone flight later
+    still_gone (Recover run) h = gone_later (FreesNow run.call.stage) h
+    still_gone flight h = tt
+
+    pub knows_later : (c : ℕ) (flight : RobustFlight) → Knows c flight before → Knows c flight later
+    knows_later c flight h =
+        record {
+          paid = held_paid (flight_holds flight) h.paid;
+          scanned = still_scanned (flight_scan c flight) h.scanned;
+          owns = still_owns flight h.owns;
+          says = still_says c flight h.says;
+          gone = still_gone flight h.gone;
+        }

@@ -1,0 +1,12 @@
+pub mod Core
+pub mod Counting
+pub mod Effects
+pub mod Frees
+pub mod Grants
+pub mod Invariant
+pub mod Knows
+pub mod Locks
+pub mod Parts
+pub mod Past
+pub mod Rights
+pub mod Stages

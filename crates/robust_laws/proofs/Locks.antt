@@ -1,0 +1,96 @@
+-- What a step does that locks the set.
+use Rattle.std.proofs.Common.{◌≡◌, ◌≢◌, ℕ, ◌+◌, ◌-◌, ◌<◌, ◌≤◌, ◌==◌, Bool, true, false, Option, Some, None, List, [], ◌∷◌, ◌++◌, length, set, fold, refl, sym, ap, subst, ◌∙◌, append_assoc, arith, eq-eqb}
+use Rattle.std.proofs.lemmas.List.{length-set}
+use Rattle.std.proofs.lemmas.List.Sums.{fold-append}
+use Rattle.steps.specs.Indices.Robust.Parts.{locked}
+use Rattle.model.specs.declared.event.Event.{Event}
+use Rattle.model.specs.declared.event.Event.TheVariants.{Locked}
+use Rattle.model.specs.Families.Indices.Reading.{locked_after, is_locked}
+use Rattle.model.specs.Families.Indices.Robust.Promises.{cell_of, DoesRight, AnswersRight, IsProper, HoldsRight}
+use Rattle.model.specs.Families.Indices.Robust.Reading.{deeds, filled_after, filled_of, holder_after, holder_of, settled_after, settled_of, dead_after, is_dead, wrote_in}
+use Rattle.model.proofs.Moments.{others_begin_none}
+use Rattle.model.proofs.Readings.{AreRight, AreOwn, Each-append, span_of-other}
+use Rattle.robust_laws.proofs.Core.{counter_of, cell, counter_set, cells_stay}
+use Rattle.robust_laws.proofs.Effects.{Quiet, both_ways, proper_less, unlocked, before_end}
+use Rattle.robust_laws.proofs.Invariant.{Scene, Inv, Good, Does}
+use Rattle.robust_laws.proofs.Rights.{Right, right_after, right_of, AreOwned}
+
+module _ {T : Type 0} (scene : Scene T) (inv : Inv scene) where
+  open scene use {capacity as c, party as p, turns as turns, events as events}
+
+  abbrev ws : List ℕ
+  ws = scene.set.words
+
+  g : Good c ws scene.set.dead events turns
+  g = inv.holds.good
+
+  -- the lock, and an end behind it, if any
+  module _ (words' : List ℕ) (more : List (Event T)) (quiet : Quiet more) (own : AreOwn p more) (right : AreRight (DoesRight c) (events ++ Locked p ∷ []) more) (answers : AreRight (AnswersRight c) (events ++ Locked p ∷ []) more) (none : IsProper events → (i : ℕ) → holder_of i events ≡ None) (open_now : counter_of ws ≢ locked) (new : words' ≡ set ws 0 locked) where
+    abbrev es : List (Event T)
+    es = Locked p ∷ more
+
+    shut : counter_of words' ≡ locked
+    shut = let wide = g.wide in ap counter_of new ∙ counter_set ws locked (omega arith)
+
+    same_filled : (j : ℕ) → filled_of j (events ++ es) ≡ filled_of j events
+    same_filled j = fold-append (filled_after j) None events es ∙ quiet.filled j (filled_of j events)
+
+    same_holder : (j : ℕ) → holder_of j (events ++ es) ≡ holder_of j events
+    same_holder j = fold-append (holder_after j) None events es ∙ quiet.holder j (holder_of j events)
+
+    same_settled : (j : ℕ) → settled_of j (events ++ es) ≡ settled_of j events
+    same_settled j = fold-append (settled_after j) None events es ∙ quiet.settled j (settled_of j events)
+
+    same_right : (j : ℕ) → right_of j (events ++ es) ≡ right_of j events
+    same_right j = fold-append (right_after j) _ events es ∙ quiet.right j (right_of j events)
+
+    same_dead : (o : ℕ) → is_dead o (events ++ es) ≡ is_dead o events
+    same_dead o = fold-append (dead_after o) false events es ∙ quiet.dead o (is_dead o events)
+
+    now_locked : is_locked (events ++ es) ≡ true
+    now_locked = fold-append locked_after false events es ∙ quiet.locked true
+
+    still_owned : IsProper (events ++ es) → AreOwned (events ++ es)
+    still_owned proper =
+        let h = g.owned (proper_less events es proper) in
+        record {
+          held = λ i owner e. same_filled i ∙ h.held i owner (sym (same_holder i) ∙ e);
+          settled = λ i owner e. let k = h.settled i owner (sym (same_settled i) ∙ e) in (same_filled i ∙ k.0, same_right i ∙ k.1);
+        }
+
+    pub locks : Does scene words' (Locked p ∷ more)
+    locks =
+        record {
+          own = (refl, own);
+          good =
+              record {
+                some = g.some;
+                few = g.few;
+                wide = ap length new ∙ (length-set ws 0 locked ∙ g.wide);
+                cells = λ i below. ap (λ w. cell w i) new ∙ (cells_stay ws locked i ∙ (g.cells i below ∙ sym (ap cell_of (same_filled i))));
+                filled = λ i owner e. g.filled i owner (sym (same_filled i) ∙ e);
+                lock = eq-eqb (counter_of words') locked shut ∙ sym now_locked;
+                low = λ t. both_ways (is_locked (events ++ es)) t now_locked;
+                died = λ o. g.died o ∙ sym (same_dead o);
+                does = Each-append (DoesRight c) events es g.does (unlocked scene inv open_now, right);
+                answers = Each-append (AnswersRight c) events es g.answers (tt, answers);
+                owned = still_owned;
+                holds = λ proper. let less = proper_less events es proper in Each-append HoldsRight events es (g.holds less) (none less, quiet.holds (events ++ Locked p ∷ []));
+              };
+          goes =
+              record {
+                grows = let is = shut in let end = before_end scene inv open_now in omega arith;
+                grants = λ same j unheld. same_holder j ∙ unheld;
+                fills = λ j o d e. sym (same_filled j) ∙ e;
+                dead = λ o d. same_dead o ∙ d;
+                lives = λ o l. sym (same_dead o) ∙ l;
+                proper = proper_less events es;
+              };
+          spares = λ q ne.
+              record {
+                none = others_begin_none q p es ne (refl, own);
+                deeds = ap (λ s. deeds (wrote_in s)) (span_of-other p q events es ne (refl, own));
+                owned = λ proper i owner alive h. record { right = same_right i ∙ h.right; filled = same_filled i ∙ h.filled };
+                unheld = λ proper i owner alive h unheld. same_holder i ∙ unheld;
+              };
+        }
