@@ -16,6 +16,8 @@ pub use Rattle.steps.specs.declared.indices.enums.ReleaseState
 pub use Rattle.steps.specs.declared.indices.enums.UniqueIndexSetAcquireFailure
 pub use Rattle.steps.specs.declared.bits.counting_bit_set.BitState
 pub use Rattle.steps.specs.declared.words.Words
+pub mod Robust
+pub mod RobustUniqueIndexSet
 pub mod Unique
 pub mod UniqueIndexSet
 pub mod Sets
