@@ -1,3 +1,5 @@
 pub mod Steps
 pub mod Parts
 pub mod LookRuns
+pub mod AcquireRuns
+pub mod ReleaseRuns

@@ -4,6 +4,8 @@ use Rattle.std.specs.Prelude.{◌≡◌, ℕ, ◌+◌, ◌<◌, ◌≤◌, Bool,
 use Rattle.steps.specs.Indices.Robust.Parts.{empty, locked, greatest}
 use Rattle.steps.specs.Indices.Robust.Acquire.{Acquired}
 use Rattle.steps.specs.Indices.Robust.Release.{Released}
+use Rattle.steps.specs.declared.indices.enums.ReleaseMode.{ReleaseMode}
+use Rattle.steps.specs.declared.indices.enums.ReleaseMode.TheVariants.{LockIfLastIndex}
 use Rattle.steps.specs.declared.indices.enums.ReleaseState.{ReleaseState}
 use Rattle.steps.specs.declared.indices.robust.parts.Raise as raises
 use Rattle.steps.specs.declared.indices.robust.parts.Count as counts
@@ -66,14 +68,17 @@ AcquireEnds base (Err failure) room w = WasRefused failure base w
 
 -- ---- release
 
-abbrev pub ReleaseStage : View → releases.ReleaseStage → Type 0
-ReleaseStage v releases.TheVariants.EmptiesCell = Unit {0}
-ReleaseStage v (releases.TheVariants.Raises raise) = RaiseStands raise
-ReleaseStage v (releases.TheVariants.Locks lock) = LockStands v lock
+-- it locks in the mode for that alone
+abbrev pub ReleaseStage : ReleaseMode → View → releases.ReleaseStage → Type 0
+ReleaseStage mode v releases.TheVariants.EmptiesCell = Unit {0}
+ReleaseStage mode v (releases.TheVariants.Raises raise) = RaiseStands raise
+ReleaseStage mode v (releases.TheVariants.Locks lock) =
+    (mode ≡ LockIfLastIndex) × LockStands v lock
 
 abbrev pub ReleaseStands : GiveBack → View → Release → Type 0
 ReleaseStands given v call =
-    (call.capacity ≡ v.capacity) × (given.index < v.capacity) × ReleaseStage v call.stage
+    (call.capacity ≡ v.capacity) × (given.index < v.capacity)
+    × ReleaseStage given.mode v call.stage
 
 abbrev pub ReleaseEnds : GiveBack → View → Released → Unit {0} → View → Type 0
 ReleaseEnds given base (Ok state) room w = HasReleased state given.mode base w
