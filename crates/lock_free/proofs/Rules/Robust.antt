@@ -3,3 +3,5 @@ pub mod Parts
 pub mod LookRuns
 pub mod AcquireRuns
 pub mod ReleaseRuns
+pub mod FindRuns
+pub mod Visits

@@ -4,6 +4,10 @@ use Rattle.std.specs.Prelude.{◌≡◌, ℕ, ◌+◌, ◌<◌, ◌≤◌, Bool,
 use Rattle.steps.specs.Indices.Robust.Parts.{empty, locked, greatest}
 use Rattle.steps.specs.Indices.Robust.Acquire.{Acquired}
 use Rattle.steps.specs.Indices.Robust.Release.{Released}
+use Rattle.steps.specs.Indices.Robust.Find.{find_after}
+use Rattle.steps.specs.declared.ask.After.{After}
+use Rattle.steps.specs.declared.enums.CallbackProgression.{CallbackProgression}
+use Rattle.steps.specs.declared.enums.CallbackProgression.TheVariants.{Continue, Stop}
 use Rattle.steps.specs.declared.indices.enums.ReleaseMode.{ReleaseMode}
 use Rattle.steps.specs.declared.indices.enums.ReleaseMode.TheVariants.{LockIfLastIndex}
 use Rattle.steps.specs.declared.indices.enums.ReleaseState.{ReleaseState}
@@ -133,3 +137,23 @@ LookStands v call = Unit {0}
 abbrev pub LookEnds : View → Bool → Unit {0} → View → Type 0
 LookEnds base true room w = FoundLocked base w
 LookEnds base false room w = FoundOpen base w
+
+-- ---- the steps of a find and of a recovery between which their closures are called
+
+abbrev pub says : CallbackProgression → ℕ
+says Continue = 1
+says Stop = 0
+
+module _ {F : Type 0} where
+  -- what a step asks of the closure
+  abbrev pub FindAsks : (F → ℕ → Type 0) → finds.FindStage → F → Type 0
+  FindAsks pre (finds.TheVariants.LoadsCell index found) f = Unit {0}
+  FindAsks pre (finds.TheVariants.Asks index found) f = pre f index
+
+  -- how the call goes on, and what becomes of the closure
+  abbrev pub FindMoves : (F → ℕ → CallbackProgression → F → Type 0) → Find → ℕ
+      → finds.FindStage → F → After Find ℕ → F → Type 0
+  FindMoves step call owner (finds.TheVariants.LoadsCell index found) f after g =
+      (g ≡ f) × ((k : ℕ) × (after ≡ find_after call owner k))
+  FindMoves step call owner (finds.TheVariants.Asks index found) f after g =
+      (a : CallbackProgression) × step f index a g × (after ≡ find_after call owner (says a))

@@ -24,6 +24,7 @@ mod calls;
 mod fixed;
 mod make;
 mod passes;
+mod visits;
 
 pub use steps::enums::{CallbackProgression, OwnerId, OwnerIdNewError};
 pub use steps::indices::enums::RobustUniqueIndexSetReleaseError;
