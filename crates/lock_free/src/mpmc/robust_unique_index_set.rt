@@ -10,7 +10,7 @@
 //!
 //! The generation counter of a set ends at `u64::MAX - 1`. From there on no index is handed out, and the set is locked
 //! no more.
-ghost use Rattle.std.specs.Prelude.{◌≡◌};
+ghost use Rattle.std.specs.Prelude.{◌≡◌, ◌<◌};
 ghost use Rattle.std.specs.Arc.{arc_value};
 ghost use Rattle.lock_free.specs.Robust.Kept.{size};
 
@@ -53,4 +53,5 @@ pub struct Pass {
     ghost sized: { seated.seat.table_id.words ≡ size capacity },
     ghost keyed: { (arc_value seated.table).shared.key ≡ capacity },
     ghost known: { seated.seat.me.0.capacity ≡ capacity },
+    ghost some: { 0 < capacity },
 }

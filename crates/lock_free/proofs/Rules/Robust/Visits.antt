@@ -105,3 +105,11 @@ module _ {F : Type 0} (step : F → ℕ → CallbackProgression → F → Type 0
   pub may_ask : {pre : F → ℕ → Type 0} → TakesPlaces pre (λ p x q. step p x Continue q) cap f → (v : View) → v.capacity ≡ cap → (stage : finds.FindStage) → FindStage v stage → (p : F) → SoFar stage p → FindAsks pre stage p
   may_ask takes v same (finds.TheVariants.LoadsCell index found) at p so = tt
   may_ask takes v same (finds.TheVariants.Asks index found) at p so = takes.at so.2.indices p index so.2.calls so.2.ascend so.2.below (let l = at.0 in omega arith)
+
+  -- whatever it did with the closure, it went on as its table says
+  goes_at : (c : Find) (stage : finds.FindStage) → c.stage ≡ stage → (owner : ℕ) (p q : F) (a : After Find ℕ) → FindMoves step c owner stage p a q → (k : ℕ) × (a ≡ find_after c owner k)
+  goes_at c (finds.TheVariants.LoadsCell index found) is owner p q a m = m.1
+  goes_at c (finds.TheVariants.Asks index found) is owner p q a m = (says m.0, m.2)
+
+  pub goes_by : (c : Find) (owner : ℕ) (p q : F) (a : After Find ℕ) → FindMoves step c owner c.stage p a q → (k : ℕ) × (a ≡ find_after c owner k)
+  goes_by c owner = goes_at c c.stage refl owner

@@ -1,5 +1,5 @@
 //! How a set is made.
-ghost use Rattle.std.specs.Prelude.{◌≡◌, ◌⊎◌, None, Some, IfOk, IfErr, OnOk};
+ghost use Rattle.std.specs.Prelude.{◌≡◌, ◌⊎◌, ◌<◌, None, Some, IfOk, IfErr, OnOk};
 ghost use Rattle.steps.specs.declared.enums.UniqueIndexCreationError.TheVariants.{NoMemory};
 ghost use Rattle.lock_free.specs.Robust.Views.{blank};
 ghost use Rattle.lock_free.specs.RobustUniqueIndexSet.{view, capacity_of, IsPassOf, set_refusal};
@@ -14,6 +14,7 @@ use steps::indices::robust::parts::{COUNTER, EMPTY, FIRST_CELL};
 
 /// A set of which no index is out, and its first pass.
 fn open(alloc: Global, capacity: u32) -> Result<(RobustUniqueIndexSet, Pass), AllocError>
+    requires { 0 < capacity }
     ensures pass { IfOk result (λ r. IsPassOf r.0 r.1) }
     ensures view { IfOk result (λ r. view r.1 ≡ blank capacity) }
     ensures capacity { IfOk result (λ r. capacity_of r.0 ≡ capacity) }
