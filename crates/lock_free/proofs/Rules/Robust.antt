@@ -4,4 +4,5 @@ pub mod LookRuns
 pub mod AcquireRuns
 pub mod ReleaseRuns
 pub mod FindRuns
+pub mod RecoverRuns
 pub mod Visits

@@ -1,6 +1,6 @@
 -- What the closures of a find and of a recovery are called with: indices that ascend below the
 -- capacity, each at most once.
-use Rattle.std.specs.Prelude.{◌≡◌, ℕ, ◌+◌, ◌<◌, ◌⊎◌, Bool, true, false, List, [], ◌∷◌, ◌++◌, length, map, All, Contains}
+use Rattle.std.specs.Prelude.{◌≡◌, ℕ, ◌+◌, ◌<◌, ◌⊎◌, Bool, true, List, [], ◌∷◌, ◌++◌, length, All, AllPairs, Contains}
 use Rattle.std.specs.List.{FoldsTo}
 use Rattle.steps.specs.Indices.Robust.Parts.{empty}
 use Rattle.steps.specs.declared.enums.CallbackProgression.{CallbackProgression}
@@ -23,29 +23,33 @@ pub record HasFound {F : Type 0} (step : F → ℕ → CallbackProgression → F
 
 -- ---- recover
 
--- an index with an owner
+-- an index with its owner
 pub record Owned : Type 0 where
   pub owner : ℕ
   pub index : ℕ
 
--- what was asked about it, and the answer
+-- a question about it, and the answer
 pub record Asked : Type 0 where
   pub of : Owned
   pub yes : Bool
 
-abbrev pub indices_asked : List Asked → List ℕ
-indices_asked asked = map (λ (a : Asked). a.of.index) asked
+abbrev pub IsOwned : ℕ → Owned → Type 0
+IsOwned capacity o = (o.owner < empty) × (o.index < capacity)
 
-abbrev pub indices_told : List Owned → List ℕ
-indices_told told = map (λ (o : Owned). o.index) told
+-- each index is below the capacity, and above the one before
+abbrev pub TheyAscend : ℕ → List Owned → Type 0
+TheyAscend capacity told =
+    AllPairs (λ (x y : Owned). x.index < y.index) told × All (IsOwned capacity) told
+
+-- the same of questions
+abbrev pub QuestionsAscend : ℕ → List Asked → Type 0
+QuestionsAscend capacity asked =
+    AllPairs (λ (x y : Asked). x.of.index < y.of.index) asked
+    × All (λ (a : Asked). IsOwned capacity a.of) asked
 
 -- there was a yes about it
 abbrev pub WasAgreed : List Asked → Owned → Type 0
 WasAgreed asked o = Contains asked (record { of = o; yes = true })
-
--- an owner's number, and an index below the capacity
-abbrev pub IsOwned : ℕ → Owned → Type 0
-IsOwned capacity o = (o.owner < empty) × (o.index < capacity)
 
 -- the calls of a closure that is asked, and of one that is told
 abbrev pub asks : {F : Type 0} → (F → ℕ → ℕ → Bool → F → Type 0) → F → Asked → F → Type 0
@@ -54,25 +58,23 @@ asks step p a q = step p a.of.owner a.of.index a.yes q
 abbrev pub tells : {S : Type 0} → (S → ℕ → ℕ → S → Type 0) → S → Owned → S → Type 0
 tells step p o q = step p o.owner o.index q
 
--- after questions about indices that ascend, the closure may be asked about any index above them
--- and below the capacity, of any owner
+-- after questions that ascend, the closure may be asked about any index above them and below the
+-- capacity, of any owner
 pub record TakesQuestions {F : Type 0} (pre : F → ℕ → ℕ → Type 0)
     (step : F → ℕ → ℕ → Bool → F → Type 0) (capacity : ℕ) (f : F) : Type 0 where
   pub at : (before : List Asked) (now : F) (o : Owned) → FoldsTo (asks step) f before now
-      → Ascends capacity (indices_asked before)
-      → All (λ i. i < o.index) (indices_asked before)
+      → QuestionsAscend capacity before → All (λ (a : Asked). a.of.index < o.index) before
       → IsOwned capacity o → pre now o.owner o.index
 
--- after a yes, and after calls for indices that ascend, the closure may be told of an index above
--- them
+-- after a yes about an index, and after calls for indices below it, the closure may be told of it
 pub record TakesFreed {F S : Type 0} (step : F → ℕ → ℕ → Bool → F → Type 0)
     (pre : S → ℕ → ℕ → Type 0) (tell : S → ℕ → ℕ → S → Type 0) (capacity : ℕ)
     (f : F) (s : S) : Type 0 where
   pub at : (asked : List Asked) (p : F) (before : List Owned) (now : S) (o : Owned)
-      → FoldsTo (asks step) f asked p → WasAgreed asked o
-      → FoldsTo (tells tell) s before now → Ascends capacity (indices_told before)
-      → All (λ i. i < o.index) (indices_told before) → IsOwned capacity o
-      → pre now o.owner o.index
+      → FoldsTo (asks step) f asked p → QuestionsAscend capacity asked → WasAgreed asked o
+      → FoldsTo (tells tell) s before now → TheyAscend capacity before
+      → All (λ (x : Owned). x.index < o.index) before
+      → IsOwned capacity o → pre now o.owner o.index
 
 -- what a recovery asked about, and what it told of: only that about which there was a yes, and
 -- nothing where the lock was seen before
@@ -85,7 +87,7 @@ pub record HasVisited {F S : Type 0} (step : F → ℕ → ℕ → Bool → F �
   pub told_last : S
   pub questions : FoldsTo (asks step) f asked asked_last
   pub calls : FoldsTo (tells tell) s told told_last
-  pub asked_ascend : Ascends capacity (indices_asked asked)
-  pub told_ascend : Ascends capacity (indices_told told)
+  pub asked_ascend : QuestionsAscend capacity asked
+  pub told_ascend : TheyAscend capacity told
   pub agreed : All (WasAgreed asked) told
   pub nothing : locked ≡ true → asked ≡ []

@@ -1,11 +1,13 @@
 -- What is known at each stage of a call on a robust unique index set, and how the call ends: of the
 -- view with which it began, and the view now.
-use Rattle.std.specs.Prelude.{◌≡◌, ℕ, ◌+◌, ◌<◌, ◌≤◌, Bool, true, false, Result, Ok, Err}
+use Rattle.std.specs.Prelude.{◌≡◌, ℕ, ◌+◌, ◌<◌, ◌≤◌, Bool, true, false, Ok, Err, if◌then◌else◌}
 use Rattle.steps.specs.Indices.Robust.Parts.{empty, locked, greatest}
 use Rattle.steps.specs.Indices.Robust.Acquire.{Acquired}
 use Rattle.steps.specs.Indices.Robust.Release.{Released}
 use Rattle.steps.specs.Indices.Robust.Find.{find_after}
+use Rattle.steps.specs.Indices.Robust.Recover.{recover_after}
 use Rattle.steps.specs.declared.ask.After.{After}
+use Rattle.steps.specs.declared.ask.After.TheVariants.{GoOn, Done}
 use Rattle.steps.specs.declared.enums.CallbackProgression.{CallbackProgression}
 use Rattle.steps.specs.declared.enums.CallbackProgression.TheVariants.{Continue, Stop}
 use Rattle.steps.specs.declared.indices.enums.ReleaseMode.{ReleaseMode}
@@ -157,3 +159,61 @@ module _ {F : Type 0} where
       (g ≡ f) × ((k : ℕ) × (after ≡ find_after call owner k))
   FindMoves step call owner (finds.TheVariants.Asks index found) f after g =
       (a : CallbackProgression) × step f index a g × (after ≡ find_after call owner (says a))
+
+-- how a step of a recovery ends, which leaves the view unless the recovery ends
+abbrev pub RecoverGoes : View → After Recover ReleaseState → View → Type 0
+RecoverGoes v (GoOn d) w = (w ≡ v) × RecoverStands w d
+RecoverGoes v (Done state) w = HasRecovered state v w
+
+-- an exchange that emptied its cell
+abbrev pub stage_frees : recovers.RecoverStage → Bool
+stage_frees recovers.TheVariants.LoadsCounter = false
+stage_frees (recovers.TheVariants.LoadsCell index) = false
+stage_frees (recovers.TheVariants.Asks index owner) = false
+stage_frees (recovers.TheVariants.EmptiesCell index owner) = false
+stage_frees (recovers.TheVariants.Raises index raise) = true
+stage_frees (recovers.TheVariants.Locks index lock) = false
+stage_frees recovers.TheVariants.LoadsCounterAgain = false
+
+abbrev pub has_freed : After Recover ReleaseState → Bool
+has_freed (GoOn d) = stage_frees d.stage
+has_freed (Done state) = false
+
+module _ {F S : Type 0} where
+  -- what a step asks of the closures: of the second one it may be told after the exchange
+  abbrev pub RecoverAsks : (F → ℕ → ℕ → Type 0) → (S → ℕ → ℕ → Type 0)
+      → recovers.RecoverStage → F → S → Type 0
+  RecoverAsks pre may recovers.TheVariants.LoadsCounter p s = Unit {0}
+  RecoverAsks pre may (recovers.TheVariants.LoadsCell index) p s = Unit {0}
+  RecoverAsks pre may (recovers.TheVariants.Asks index owner) p s = pre p owner index
+  RecoverAsks pre may (recovers.TheVariants.EmptiesCell index owner) p s = may s owner index
+  RecoverAsks pre may (recovers.TheVariants.Raises index raise) p s = Unit {0}
+  RecoverAsks pre may (recovers.TheVariants.Locks index lock) p s = Unit {0}
+  RecoverAsks pre may recovers.TheVariants.LoadsCounterAgain p s = Unit {0}
+
+  -- it goes on as its table says, and leaves the closures
+  abbrev pub GoesQuietly : Recover → ReleaseMode → F → S → After Recover ReleaseState → F → S
+      → Type 0
+  GoesQuietly call mode p s after q t =
+      (q ≡ p) × (t ≡ s) × ((k : ℕ) × (after ≡ recover_after call mode k))
+
+  -- how the call goes on, and what becomes of the closures
+  abbrev pub RecoverMoves : (F → ℕ → ℕ → Bool → F → Type 0) → (S → ℕ → ℕ → S → Type 0)
+      → Recover → ReleaseMode → recovers.RecoverStage → F → S → After Recover ReleaseState
+      → F → S → Type 0
+  RecoverMoves step tell call mode recovers.TheVariants.LoadsCounter p s after q t =
+      GoesQuietly call mode p s after q t
+  RecoverMoves step tell call mode (recovers.TheVariants.LoadsCell index) p s after q t =
+      GoesQuietly call mode p s after q t
+  RecoverMoves step tell call mode (recovers.TheVariants.Asks index owner) p s after q t =
+      (t ≡ s) × ((yes : Bool) × step p owner index yes q
+      × (after ≡ recover_after call mode (if yes then 1 else 0)))
+  RecoverMoves step tell call mode (recovers.TheVariants.EmptiesCell index owner) p s after q t =
+      (q ≡ p) × ((k : ℕ) × (after ≡ recover_after call mode k))
+      × (has_freed after ≡ true → tell s owner index t) × (has_freed after ≡ false → t ≡ s)
+  RecoverMoves step tell call mode (recovers.TheVariants.Raises index raise) p s after q t =
+      GoesQuietly call mode p s after q t
+  RecoverMoves step tell call mode (recovers.TheVariants.Locks index lock) p s after q t =
+      GoesQuietly call mode p s after q t
+  RecoverMoves step tell call mode recovers.TheVariants.LoadsCounterAgain p s after q t =
+      GoesQuietly call mode p s after q t

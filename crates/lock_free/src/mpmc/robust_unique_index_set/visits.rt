@@ -1,16 +1,21 @@
 //! The calls on a set that come to its indices: find and recover.
-ghost use Rattle.std.specs.Prelude.{◌≡◌, ℕ};
+ghost use Rattle.std.specs.Prelude.{◌≡◌, ℕ, false, IsTrue, IsFalse};
 ghost use Rattle.steps.specs.declared.enums.CallbackProgression.TheVariants.{Continue};
 ghost use Rattle.steps.specs.Indices.Robust.Find.{find_after};
+ghost use Rattle.steps.specs.Indices.Robust.Recover.{recover_after};
 ghost use Rattle.lock_free.specs.Sets.Callable.{TakesPlaces};
-ghost use Rattle.lock_free.specs.Robust.Callable.{HasFound};
-ghost use Rattle.lock_free.specs.Robust.Stages.{FindStands, FindAsks, FindMoves};
+ghost use Rattle.lock_free.specs.Robust.Callable.{HasFound, TakesQuestions, TakesFreed, HasVisited};
+ghost use Rattle.lock_free.specs.Robust.Calls.{HasRecovered};
+ghost use Rattle.lock_free.specs.Robust.Stages.{FindStands, FindAsks, FindMoves, RecoverStands, RecoverGoes, RecoverAsks, RecoverMoves, has_freed};
 ghost use Rattle.lock_free.specs.RobustUniqueIndexSet.{view, set_of, capacity_of, IsPassOf};
 
 use super::{CallbackProgression, OwnerId, Pass, RobustUniqueIndexSet};
-use crate::robust::drives::Finds;
+use crate::robust::drives::{Finds, Recovers};
+use std::sync::Wait;
 use steps::ask::After;
+use steps::indices::enums::{ReleaseMode, ReleaseState};
 use steps::indices::robust::find::{Find, FindStage};
+use steps::indices::robust::recover::{Recover, RecoverStage};
 use steps::routine::Routine;
 
 impl Pass {
@@ -67,4 +72,125 @@ impl Pass {
             }
         }
     }
+
+    /// Takes one step of the call on the table.
+    fn step_recover(
+        &mut self,
+        call: Recover,
+        mode: ReleaseMode,
+    ) -> After<Recover, ReleaseState>
+        requires { RecoverStands (view self.old) call }
+        ensures set { set_of self.new ≡ set_of self.old }
+        ensures goes { RecoverGoes (view self.old) result (view self.new) }
+        ensures after { (k : ℕ) × (result ≡ recover_after call mode k) }
+    {
+        self.seated.step::<Recover, Recovers>(call, &mode, &mut ())
+    }
+
+    /// Takes one step of the call, or asks the first closure about the owner and the index that it has come to. After the
+    /// step that frees an index it tells the second closure. Hands both back.
+    fn recover_next<F: FnMut(OwnerId, usize) -> bool, S: FnMut(OwnerId, usize)>(
+        &mut self,
+        call: Recover,
+        mode: ReleaseMode,
+        predicate: F,
+        recovered: S,
+    ) -> (After<Recover, ReleaseState>, F, S)
+        requires stands { RecoverStands (view self.old) call }
+        requires asks { RecoverAsks F.pre S.pre call.stage predicate recovered }
+        ensures set { set_of self.new ≡ set_of self.old }
+        ensures goes { RecoverGoes (view self.old) result.0 (view self.new) }
+        ensures moves { RecoverMoves (λ p o i b q. F.step p o i b q) (λ s o i t. S.step s o i tt t)
+            call mode call.stage predicate recovered result.0 result.1 result.2 }
+    {
+        let stage = call.stage;
+        match stage {
+            RecoverStage::Asks { index, owner } => {
+                let (yes, predicate) = ask(predicate, owner, index);
+                let after = call.take(&mode, &mut (), if yes { 1 } else { 0 });
+                (after, predicate, recovered)
+            }
+            RecoverStage::EmptiesCell { index, owner } => {
+                let after = self.step_recover(call, mode);
+                let recovered = tell_where(recovered, has_freed(after), owner, index);
+                (after, predicate, recovered)
+            }
+            RecoverStage::LoadsCounter => (self.step_recover(call, mode), predicate, recovered),
+            RecoverStage::LoadsCell { .. } => (self.step_recover(call, mode), predicate, recovered),
+            RecoverStage::Raises { .. } => (self.step_recover(call, mode), predicate, recovered),
+            RecoverStage::Locks { .. } => (self.step_recover(call, mode), predicate, recovered),
+            RecoverStage::LoadsCounterAgain => {
+                (self.step_recover(call, mode), predicate, recovered)
+            }
+        }
+    }
+
+    /// Frees the indices that the first closure says yes to.
+    fn recover<F: FnMut(OwnerId, usize) -> bool, S: FnMut(OwnerId, usize)>(
+        &mut self,
+        rt: &impl Wait,
+        mode: ReleaseMode,
+        mut predicate: F,
+        mut recovered: S,
+    ) -> ReleaseState
+        requires questions { (view self.old).locked ≡ false → TakesQuestions F.pre
+            (λ p o i b q. F.step p o i b q) (set_of self.old).capacity predicate }
+        requires freed { (view self.old).locked ≡ false → TakesFreed (λ p o i b q. F.step p o i b q)
+            S.pre (λ s o i t. S.step s o i tt t) (set_of self.old).capacity predicate recovered }
+        ensures set { set_of self.new ≡ set_of self.old }
+        ensures recovered { HasRecovered result (view self.old) (view self.new) }
+        ensures visited { HasVisited (λ p o i b q. F.step p o i b q)
+            (λ s o i t. S.step s o i tt t) (set_of self.old).capacity (view self.old).locked
+            predicate recovered }
+    {
+        let mut call = Recover::new(self.capacity);
+        for _ in rt.forever() {
+            let (after, next_predicate, next_recovered) =
+                self.recover_next(call, mode, predicate, recovered);
+            predicate = next_predicate;
+            recovered = next_recovered;
+            match after {
+                After::GoOn(next) => call = next,
+                After::Done(state) => return state,
+            }
+        }
+        unreachable!()
+    }
+}
+
+/// Whether a step has emptied the cell that it came to.
+fn has_freed(after: After<Recover, ReleaseState>) -> bool
+    ensures { result ≡ has_freed after }
+{
+    match after {
+        After::GoOn(next) => {
+            let stage = next.stage;
+            match stage {
+                RecoverStage::Raises { .. } => true,
+                _ => false,
+            }
+        }
+        After::Done(_) => false,
+    }
+}
+
+/// Asks the closure about the owner and the index, and hands the closure back.
+fn ask<F: FnMut(OwnerId, usize) -> bool>(mut predicate: F, owner: OwnerId, index: u32) -> (bool, F)
+    requires { F.pre predicate owner index }
+    ensures { F.step predicate owner index result.0 result.1 }
+{
+    let yes = predicate(owner, index as usize);
+    (yes, predicate)
+}
+
+/// Calls the closure with the owner and the index where it was freed, and hands the closure back.
+fn tell_where<S: FnMut(OwnerId, usize)>(mut recovered: S, freed: bool, owner: OwnerId, index: u32) -> S
+    requires { IsTrue freed → S.pre recovered owner index }
+    ensures told { IsTrue freed → S.step recovered owner index tt result }
+    ensures passed { IsFalse freed → result ≡ recovered }
+{
+    if freed {
+        recovered(owner, index as usize);
+    }
+    recovered
 }
