@@ -6,3 +6,4 @@ pub mod ReleaseRuns
 pub mod FindRuns
 pub mod RecoverRuns
 pub mod Visits
+pub mod Recovering

@@ -134,13 +134,13 @@ impl Pass {
         mut recovered: S,
     ) -> ReleaseState
         requires questions { (view self.old).locked ≡ false → TakesQuestions F.pre
-            (λ p o i b q. F.step p o i b q) (set_of self.old).capacity predicate }
+            (λ p o i b q. F.step p o i b q) (view self.old).capacity predicate }
         requires freed { (view self.old).locked ≡ false → TakesFreed (λ p o i b q. F.step p o i b q)
-            S.pre (λ s o i t. S.step s o i tt t) (set_of self.old).capacity predicate recovered }
+            S.pre (λ s o i t. S.step s o i tt t) (view self.old).capacity predicate recovered }
         ensures set { set_of self.new ≡ set_of self.old }
         ensures recovered { HasRecovered result (view self.old) (view self.new) }
         ensures visited { HasVisited (λ p o i b q. F.step p o i b q)
-            (λ s o i t. S.step s o i tt t) (set_of self.old).capacity (view self.old).locked
+            (λ s o i t. S.step s o i tt t) (view self.old).capacity (view self.old).locked
             predicate recovered }
     {
         let mut call = Recover::new(self.capacity);
@@ -193,4 +193,66 @@ fn tell_where<S: FnMut(OwnerId, usize)>(mut recovered: S, freed: bool, owner: Ow
         recovered(owner, index as usize);
     }
     recovered
+}
+
+impl RobustUniqueIndexSet {
+    /// Comes to the indices of `owner`, ascending, each at most once and below the capacity, and calls `visit` with each,
+    /// until it says `Stop`: how many it came to, the one on which it was told to stop among them. That it comes to each
+    /// index that `owner` has through the whole call is tested.
+    ///
+    /// It finds also the indices whose acquire met the lock, since they keep their owner. Each index may have been given
+    /// back by the time that `visit` is called with it. At most as many atomic steps as the capacity. After `find` of the
+    /// Rust crate.
+    pub fn find<F: FnMut(usize) -> CallbackProgression>(
+        &self,
+        owner: OwnerId,
+        visit: F,
+        pass: &mut Pass,
+    ) -> usize
+        requires pass { IsPassOf self.now pass.old }
+        requires indices { TakesPlaces F.pre (λ p x q. F.step p x Continue q)
+            (capacity_of self.now) visit }
+        ensures set { set_of pass.new ≡ set_of pass.old }
+        ensures view { view pass.new ≡ view pass.old }
+        ensures found { HasFound (λ p x a q. F.step p x a q) (capacity_of self.now) visit result }
+    {
+        pass.find(owner, visit)
+    }
+
+    /// Asks `predicate` about each index that has an owner, ascending, each at most once and below the capacity, and frees
+    /// the index where the answer is true and that owner still has it. Then it tells `recover_success` of the owner and the
+    /// index: only of such about which `predicate` said true, ascending too. In mode `LockIfLastIndex` the set is locked
+    /// where no index has an owner after one was freed. `Unlocked`, or `Locked` where the set is locked, which leaves the
+    /// lock seen.
+    ///
+    /// Where the set is locked at the beginning neither closure is called: so where the pass has seen the lock. A recovery
+    /// that meets the lock right after it has freed an index, and told of it, answers `Locked` at once, and comes to no
+    /// further index. That the owner of an index is dead for good is the concern of who says true; nobody acts for that
+    /// owner from then on. That each index that one owner has through the whole call is asked about is tested.
+    ///
+    /// At most 2 atomic steps more than 4 times the capacity where nobody else steps in between, in mode
+    /// `LockIfLastIndex` for each index that is freed as many more as the capacity and 3; else it may try again for as
+    /// long as others step. After `recover` of the Rust crate.
+    pub fn recover<F: FnMut(OwnerId, usize) -> bool, S: FnMut(OwnerId, usize)>(
+        &self,
+        rt: &impl Wait,
+        mode: ReleaseMode,
+        predicate: F,
+        recover_success: S,
+        pass: &mut Pass,
+    ) -> ReleaseState
+        requires pass { IsPassOf self.now pass.old }
+        requires questions { (view pass.old).locked ≡ false → TakesQuestions F.pre
+            (λ p o i b q. F.step p o i b q) (capacity_of self.now) predicate }
+        requires freed { (view pass.old).locked ≡ false → TakesFreed
+            (λ p o i b q. F.step p o i b q) S.pre (λ s o i t. S.step s o i tt t)
+            (capacity_of self.now) predicate recover_success }
+        ensures set { set_of pass.new ≡ set_of pass.old }
+        ensures recovered { HasRecovered result (view pass.old) (view pass.new) }
+        ensures visited { HasVisited (λ p o i b q. F.step p o i b q)
+            (λ s o i t. S.step s o i tt t) (capacity_of self.now) (view pass.old).locked
+            predicate recover_success }
+    {
+        pass.recover(rt, mode, predicate, recover_success)
+    }
 }
