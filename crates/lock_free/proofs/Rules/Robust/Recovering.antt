@@ -229,3 +229,11 @@ module _ {F S : Type 0} (step : F → ℕ → ℕ → Bool → F → Type 0) (te
   may_ask takes frees (recovers.TheVariants.Raises index raise) at p q so = tt
   may_ask takes frees (recovers.TheVariants.Locks index lock) at p q so = tt
   may_ask takes frees recovers.TheVariants.LoadsCounterAgain at p q so = tt
+
+-- ---- the closures at an equal capacity
+
+pub questions_at : {F : Type 0} {pre : F → ℕ → ℕ → Type 0} {step : F → ℕ → ℕ → Bool → F → Type 0} {a b : ℕ} {f : F} → a ≡ b → TakesQuestions pre step a f → TakesQuestions pre step b f
+questions_at {F} {pre} {step} {a} {b} {f} e h = subst (λ z. TakesQuestions pre step z f) e h
+
+pub freed_at : {F S : Type 0} {step : F → ℕ → ℕ → Bool → F → Type 0} {pre : S → ℕ → ℕ → Type 0} {tell : S → ℕ → ℕ → S → Type 0} {a b : ℕ} {f : F} {s : S} → a ≡ b → TakesFreed step pre tell a f s → TakesFreed step pre tell b f s
+freed_at {F} {S} {step} {pre} {tell} {a} {b} {f} {s} e h = subst (λ z. TakesFreed step pre tell z f s) e h
