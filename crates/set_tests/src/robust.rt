@@ -14,10 +14,13 @@ use std::thread;
 use std::thread::Threads;
 
 type Acquired = Result<usize, UniqueIndexSetAcquireFailure>;
+
 type Released = Result<ReleaseState, RobustUniqueIndexSetReleaseError>;
 
 const NOT_OWNED: Released = Err(RobustUniqueIndexSetReleaseError::IndexIsNotOwnedByProvidedOwner);
+
 const OUT: Acquired = Err(UniqueIndexSetAcquireFailure::OutOfIndices);
+
 const SHUT: Acquired = Err(UniqueIndexSetAcquireFailure::IsLocked);
 
 /// One who uses a set.
@@ -251,9 +254,18 @@ fn refused_capacities_and_owners(rt: HostRuntime) {
     let zero = UniqueIndexCreationError::ProvidedCapacityIsZero;
     let above = UniqueIndexCreationError::ProvidedCapacityGreaterThanMaxCapacity;
     assert_eq!(rt; RobustUniqueIndexSet::new(alloc, 0).err(), Some(zero));
-    assert_eq!(rt; RobustUniqueIndexSet::new(alloc, 0x1_0000_0000).err(), Some(above));
-    assert_eq!(rt; StaticRobustUniqueIndexSet::<0>::new(alloc).err(), Some(zero));
-    assert_eq!(rt; StaticRobustUniqueIndexSet::<0x1_0000_0000>::new(alloc).err(), Some(above));
+    assert_eq!(rt;
+        RobustUniqueIndexSet::new(alloc, 0x1_0000_0000).err(),
+        Some(above)
+    );
+    assert_eq!(rt;
+        StaticRobustUniqueIndexSet::<0>::new(alloc).err(),
+        Some(zero)
+    );
+    assert_eq!(rt;
+        StaticRobustUniqueIndexSet::<0x1_0000_0000>::new(alloc).err(),
+        Some(above)
+    );
     let reduced = [
         StaticRobustUniqueIndexSet::<128>::new_with_reduced_capacity(alloc, 0).err(),
         StaticRobustUniqueIndexSet::<128>::new_with_reduced_capacity(alloc, 129).err(),
@@ -261,7 +273,10 @@ fn refused_capacities_and_owners(rt: HostRuntime) {
         StaticRobustUniqueIndexSet::<0xffff_ffff>::new_with_reduced_capacity(alloc, 1).err(),
     ];
     assert_eq!(rt; reduced, [Some(zero), Some(above), Some(above), None]);
-    assert_eq!(rt; OwnerId::new(u64::MAX).err(), Some(OwnerIdNewError::InvalidOwnerValue));
+    assert_eq!(rt;
+        OwnerId::new(u64::MAX).err(),
+        Some(OwnerIdNewError::InvalidOwnerValue)
+    );
 }
 
 #[test]
@@ -311,12 +326,7 @@ fn a_recovery_locks(rt: HostRuntime) -> Result<(), Fail> {
 }
 
 /// Owner 1 has the indices 0, 3, 6 .., owner 2 those after them, owner 3 those after these.
-fn three_owners(
-    rt: &impl Wait,
-    user: &mut User<'_>,
-    owners: [OwnerId; 3],
-    number: usize,
-) -> bool {
+fn three_owners(rt: &impl Wait, user: &mut User<'_>, owners: [OwnerId; 3], number: usize) -> bool {
     let mut fine = true;
     for index in 0..number {
         fine &= user.acquire(rt, owners[index % 3]) == Ok(index);
@@ -327,12 +337,18 @@ fn three_owners(
 #[test]
 fn three_owners_of_a_hundred(rt: HostRuntime) -> Result<(), Fail> {
     let (set, pass) = RobustUniqueIndexSet::new(rt.alloc(), 100)?;
-    let owners = [OwnerId::new(0)?, OwnerId::new(2)?, OwnerId::new(u64::MAX - 1)?];
+    let owners = [
+        OwnerId::new(0)?,
+        OwnerId::new(2)?,
+        OwnerId::new(u64::MAX - 1)?,
+    ];
     let mut user = User { set: &set, pass };
     assert!(rt; three_owners(&rt, &mut user, owners, 100));
     assert!(rt; user.acquire(&rt, owners[0]) == OUT);
     assert_eq!(rt; user.borrowed(&rt), 100);
-    assert!(rt; user.finds(owners[0], 34) && user.finds(owners[1], 33) && user.finds(owners[2], 33));
+    assert!(rt;
+        user.finds(owners[0], 34) && user.finds(owners[1], 33) && user.finds(owners[2], 33)
+    );
     let (told, alone, state) = user.recover(&rt, owners[1], ReleaseMode::LockIfLastIndex);
     assert!(rt; told.are(33) && told.next == 98 && alone);
     assert_eq!(rt; state, ReleaseState::Unlocked);
@@ -383,7 +399,12 @@ fn four_turn<R: Wait + Threads + Sync>(
 #[test]
 fn four_owners_on_three_indices(rt: HostRuntime) -> Result<(), Fail> {
     let (set, pass) = RobustUniqueIndexSet::new(rt.alloc(), 3)?;
-    let owners = [OwnerId::new(1)?, OwnerId::new(2)?, OwnerId::new(3)?, OwnerId::new(4)?];
+    let owners = [
+        OwnerId::new(1)?,
+        OwnerId::new(2)?,
+        OwnerId::new(3)?,
+        OwnerId::new(4)?,
+    ];
     let mut user = User { set: &set, pass };
     assert_eq!(rt; four_turn(&rt, &mut user, owners), Some(true));
     assert_eq!(rt; user.borrowed(&rt), 0);
@@ -418,8 +439,10 @@ fn a_recovery_beside_two_owners(rt: HostRuntime) -> Result<(), Fail> {
     let mut user = User { set: &set, pass };
     assert!(rt; three_owners(&rt, &mut user, [dead, living, dead], 68));
     let owners = [OwnerId::new(1)?, OwnerId::new(2)?];
-    let (told, alone, state, turned) = recovers_beside(&rt, &mut user, dead, owners)
-        .expect(&rt, "there are passes enough");
+    let (told, alone, state, turned) = recovers_beside(&rt, &mut user, dead, owners).expect(
+        &rt,
+        "there are passes enough",
+    );
     assert!(rt; told.are(45) && alone && turned);
     assert_eq!(rt; state, ReleaseState::Unlocked);
     assert!(rt; user.finds(dead, 0) && user.finds(living, 23));

@@ -5,5 +5,5 @@ pub mod AcquireRuns
 pub mod ReleaseRuns
 pub mod FindRuns
 pub mod RecoverRuns
-pub mod Visits
+pub mod Finding
 pub mod Recovering

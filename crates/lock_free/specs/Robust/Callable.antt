@@ -9,8 +9,8 @@ use Rattle.lock_free.specs.Sets.Callable.{Ascends}
 
 -- ---- find
 
--- a find came to n indices: to these, after which it was told to go on, and no more, or to one more,
--- on which it was told to stop
+-- a find came to n indices: to these, after each of which it was told to go on, and to no more or to
+-- one more, on which it was told to stop
 pub record HasFound {F : Type 0} (step : F → ℕ → CallbackProgression → F → Type 0)
     (capacity : ℕ) (f : F) (n : ℕ) : Type 0 where
   pub indices : List ℕ
@@ -80,14 +80,14 @@ pub record TakesFreed {F S : Type 0} (step : F → ℕ → ℕ → Bool → F �
 -- nothing where the lock was seen before
 pub record HasVisited {F S : Type 0} (step : F → ℕ → ℕ → Bool → F → Type 0)
     (tell : S → ℕ → ℕ → S → Type 0) (capacity : ℕ) (locked : Bool) (f : F) (s : S) : Type 0
-    where
-  pub asked : List Asked
-  pub told : List Owned
-  pub asked_last : F
-  pub told_last : S
-  pub questions : FoldsTo (asks step) f asked asked_last
-  pub calls : FoldsTo (tells tell) s told told_last
-  pub asked_ascend : QuestionsAscend capacity asked
-  pub told_ascend : TheyAscend capacity told
-  pub agreed : All (WasAgreed asked) told
-  pub nothing : locked ≡ true → asked ≡ []
+  where
+    pub asked : List Asked
+    pub told : List Owned
+    pub asked_last : F
+    pub told_last : S
+    pub questions : FoldsTo (asks step) f asked asked_last
+    pub calls : FoldsTo (tells tell) s told told_last
+    pub asked_ascend : QuestionsAscend capacity asked
+    pub told_ascend : TheyAscend capacity told
+    pub agreed : All (WasAgreed asked) told
+    pub nothing : locked ≡ true → asked ≡ []

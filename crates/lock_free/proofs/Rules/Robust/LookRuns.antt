@@ -15,12 +15,12 @@ use Rattle.lock_free.proofs.Rules.Robust.Parts.{count_owes}
 
 pub look_rule : KeepsRule capacity_seen (At LookStands) LookEnds size (λ key. key) Kept (λ c. load 0) locked_after (λ c m k. m)
 look_rule base v c room key words slots id sized known at = (
-    omega arith,
-    counter_step LookStands LookEnds locked_after v c room key slots id (λ x. x) refl
-    (λ k small lock. by_equal (λ b. Shows LookStands LookEnds locked_after v c room (λ x. x) k (Done b)) k locked
-    (λ e. sees LookStands LookEnds locked_after v c room (λ x. x) k (Done true) e refl)
-    (λ ne. stays LookStands LookEnds locked_after v c room (λ x. x) k (Done false) (refl, unseen v (λ t. ne (lock t))))),
-  )
+  omega arith,
+  counter_step LookStands LookEnds locked_after v c room key slots id (λ x. x) refl
+      (λ k small lock. by_equal (λ b. Shows LookStands LookEnds locked_after v c room (λ x. x) k (Done b)) k locked
+      (λ e. sees LookStands LookEnds locked_after v c room (λ x. x) k (Done true) e refl)
+      (λ ne. stays LookStands LookEnds locked_after v c room (λ x. x) k (Done false) (refl, unseen v (λ t. ne (lock t))))),
+)
 
 pub borrowed_rule : KeepsRule capacity_seen (At BorrowedStands) BorrowedEnds size (λ key. key) Kept borrowed_want borrowed_after (λ c m k. m)
 borrowed_rule base v c room key words slots id sized known at =

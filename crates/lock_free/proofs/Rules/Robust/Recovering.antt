@@ -200,7 +200,8 @@ module _ {F S : Type 0} (step : F → ℕ → ℕ → Bool → F → Type 0) (te
         (λ k. by_eq (λ z. Onward z p q) k locked (Done Locked) (recover_comes_to c 0) (λ e. visited_none p q so) (λ ne. comes c 0 p q (subst (λ (z : F × S). Visits 0 0 z.0 z.1) (λ i. (sym so.0 i, sym so.1 i)) none))) m
     by_stage (recovers.TheVariants.LoadsCell index) is at p p' q q' a so m =
         quietly (recovers.TheVariants.LoadsCell index) is p p' q q' a
-        (λ k. by_eq (λ z. Onward z p q) k empty (recover_comes_to c (index + 1)) (GoOn (at_recover c (recovers.TheVariants.Asks index k))) (λ e. comes c (index + 1) p q (widen index index (index + 1) (index + 1) p q (omega arith) (omega arith) so)) (λ ne. so)) m
+        (λ k. by_eq (λ z. Onward z p q) k empty (recover_comes_to c (index + 1)) (GoOn (at_recover c (recovers.TheVariants.Asks index k)))
+        (λ e. comes c (index + 1) p q (widen index index (index + 1) (index + 1) p q (omega arith) (omega arith) so)) (λ ne. so)) m
     by_stage (recovers.TheVariants.Asks index owner) is at p p' q q' a so m =
         subst (Onward a p') (sym m.0)
         (subst (λ z. Onward z p' q) (ap (λ z. recover_takes c z mode (if m.1.0 then 1 else 0)) (sym is) ∙ sym m.1.2) (answered index owner m.1.0 p p' q at.2 at.1 m.1.1 so))

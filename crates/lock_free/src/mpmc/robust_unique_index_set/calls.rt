@@ -74,9 +74,9 @@ impl RobustUniqueIndexSet {
             .drive_on::<Release, Releases>(rt, call, &given, &mut ())
     }
 
-    /// How many indices have an owner: as many as had one when the call came to them, with no acquire, release or
-    /// recovery that ended its change in between (no clause says so). At most the capacity, and 0 where the set is
-    /// locked: so where the pass has seen the lock.
+    /// How many indices have an owner: as many as had one when the call came to them, where the generation counter did
+    /// not move meanwhile (no clause says so). At most the capacity, and 0 where the set is locked: so where the pass has
+    /// seen the lock.
     ///
     /// At most 2 atomic steps more than the capacity where nobody else steps in between; else it may try again for as
     /// long as others step. Where the generation counter is at its end the number is that of one pass over the indices,

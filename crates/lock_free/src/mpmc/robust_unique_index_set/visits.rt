@@ -56,11 +56,17 @@ impl Pass {
     }
 
     /// Comes to the indices of the owner.
-    fn find<F: FnMut(usize) -> CallbackProgression>(&mut self, owner: OwnerId, mut visit: F) -> usize
-        requires { TakesPlaces F.pre (λ p x q. F.step p x Continue q) (set_of self.old).capacity visit }
+    fn find<F: FnMut(usize) -> CallbackProgression>(
+        &mut self,
+        owner: OwnerId,
+        mut visit: F,
+    ) -> usize
+        requires { TakesPlaces F.pre (λ p x q. F.step p x Continue q)
+            (set_of self.old).capacity visit }
         ensures set { set_of self.new ≡ set_of self.old }
         ensures view { view self.new ≡ view self.old }
-        ensures found { HasFound (λ p x a q. F.step p x a q) (set_of self.old).capacity visit result }
+        ensures found { HasFound (λ p x a q. F.step p x a q)
+            (set_of self.old).capacity visit result }
     {
         let mut call = Find::new(self.capacity);
         loop {
@@ -74,11 +80,7 @@ impl Pass {
     }
 
     /// Takes one step of the call on the table.
-    fn step_recover(
-        &mut self,
-        call: Recover,
-        mode: ReleaseMode,
-    ) -> After<Recover, ReleaseState>
+    fn step_recover(&mut self, call: Recover, mode: ReleaseMode) -> After<Recover, ReleaseState>
         requires { RecoverStands (view self.old) call }
         ensures set { set_of self.new ≡ set_of self.old }
         ensures goes { RecoverGoes (view self.old) result (view self.new) }
@@ -145,8 +147,9 @@ impl Pass {
     {
         let mut call = Recover::new(self.capacity);
         for _ in rt.forever() {
-            let (after, next_predicate, next_recovered) =
-                self.recover_next(call, mode, predicate, recovered);
+            let (after, next_predicate, next_recovered) = self.recover_next(
+                call, mode, predicate, recovered,
+            );
             predicate = next_predicate;
             recovered = next_recovered;
             match after {
@@ -184,7 +187,12 @@ fn ask<F: FnMut(OwnerId, usize) -> bool>(mut predicate: F, owner: OwnerId, index
 }
 
 /// Calls the closure with the owner and the index where it was freed, and hands the closure back.
-fn tell_where<S: FnMut(OwnerId, usize)>(mut recovered: S, freed: bool, owner: OwnerId, index: u32) -> S
+fn tell_where<S: FnMut(OwnerId, usize)>(
+    mut recovered: S,
+    freed: bool,
+    owner: OwnerId,
+    index: u32,
+) -> S
     requires { IsTrue freed → S.pre recovered owner index }
     ensures told { IsTrue freed → S.step recovered owner index tt result }
     ensures passed { IsFalse freed → result ≡ recovered }

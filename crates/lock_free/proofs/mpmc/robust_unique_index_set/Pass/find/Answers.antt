@@ -7,7 +7,7 @@ use Rattle.lock_free.specs.declared.robust.view.View.{View}
 use Rattle.lock_free.specs.Robust.Stages.{FindStands}
 use Rattle.lock_free.specs.RobustUniqueIndexSet.{view}
 use Rattle.lock_free.proofs.Rules.Robust.FindRuns.{StillStands, still_stands}
-use Rattle.lock_free.proofs.Rules.Robust.Visits.{SoFar, Onward, came_none, onward, may_ask, goes_by}
+use Rattle.lock_free.proofs.Rules.Robust.Finding.{SoFar, Onward, came_none, onward, may_ask, goes_by}
 use Rattle.lock_free.proofs.mpmc.robust_unique_index_set.Pass.find.Goals as goal
 use Rattle.lock_free.proofs.mpmc.robust_unique_index_set.Pass.find.Given as given
 

@@ -2,7 +2,7 @@ use Rattle.std.proofs.Common.{◌≡◌}
 use Rattle.steps.specs.Indices.Robust.Find.{find_left}
 use Rattle.lock_free.specs.Robust.Stages.{FindStands}
 use Rattle.lock_free.specs.RobustUniqueIndexSet.{view, set_of}
-use Rattle.lock_free.proofs.Rules.Robust.Visits.{SoFar}
+use Rattle.lock_free.proofs.Rules.Robust.Finding.{SoFar}
 use Rattle.lock_free.proofs.mpmc.robust_unique_index_set.Pass.find.Given as goal
 
 abbrev pub invariant-loop-next : goal.invariant-loop-next

@@ -92,7 +92,8 @@ module _ {F : Type 0} (step : F → ℕ → CallbackProgression → F → Type 0
   asked c owner index found Continue p q within hit h = comes c (index + 1) found q (subst (λ z. Came (index + 1) z q) h.1 (came_more index h.0 p q within hit h.2))
   asked c owner index found Stop p q within hit h = found_last index h.0 found p q within h.1 hit h.2
 
-  by_stage : (c : Find) (stage : finds.FindStage) → c.stage ≡ stage → (owner : ℕ) (v : View) → v.capacity ≡ cap → cap < 2 ^ 32 → FindStage v stage → (p q : F) (a : After Find ℕ) → SoFar stage p → FindMoves step c owner stage p a q → Onward a q
+  by_stage : (c : Find) (stage : finds.FindStage) → c.stage ≡ stage → (owner : ℕ) (v : View) → v.capacity ≡ cap → cap < 2 ^ 32 → FindStage v stage
+      → (p q : F) (a : After Find ℕ) → SoFar stage p → FindMoves step c owner stage p a q → Onward a q
   by_stage c (finds.TheVariants.LoadsCell index found) is owner v same small at p q a so m =
       subst (λ z. Onward z q) (ap (λ s. find_takes c s owner m.1.0) (sym is) ∙ sym m.1.1) (loaded c owner m.1.0 index found (let l = at.0 in let few = at.1 in omega arith) q (subst (Came index found) (sym m.0) so))
   by_stage c (finds.TheVariants.Asks index found) is owner v same small at p q a so m =
