@@ -1,5 +1,6 @@
 //! The robust unique index set: real calls, alone and between threads.
-ghost use Rattle.lock_free.specs.RobustUniqueIndexSet.{IsPassOf};
+ghost use Rattle.lock_free.specs.RobustUniqueIndexSet.{capacity_of, IsPassOf};
+ghost use Rattle.std.specs.Prelude.{◌≡◌};
 
 use lock_free::mpmc::robust_unique_index_set::{
     CallbackProgression, OwnerId, OwnerIdNewError, Pass, RobustUniqueIndexSet,
@@ -279,6 +280,53 @@ fn refused_capacities_and_owners(rt: HostRuntime) {
     );
 }
 
+/// Whether the lock stands for a pass that was split off and joined again. None where there is no further pass.
+fn is_shut_by_join(
+    rt: &impl Wait,
+    set: &RobustUniqueIndexSet,
+    pass: Pass,
+    owner: OwnerId,
+) -> Option<bool>
+    requires { IsPassOf set.now pass }
+{
+    let mut pass = pass;
+    let mut other = pass.split()?;
+    let found = set.is_locked(&mut other);
+    pass.join(other);
+    let mut user = User { set, pass };
+    Some(found && user.is_shut(rt, owner))
+}
+
+/// Marks the indices of the owner, and those that are freed of another: how many of both.
+fn marks(
+    rt: &impl Wait,
+    set: &RobustUniqueIndexSet,
+    pass: &mut Pass,
+    owners: [OwnerId; 2],
+    marks: &mut [bool; 100],
+) -> (usize, usize)
+    requires pass { IsPassOf set.now pass.old }
+    requires capacity { capacity_of set.now ≡ 100 }
+{
+    let found = set.find(
+        owners[0],
+        |index| {
+            marks[index] = true;
+            CallbackProgression::Continue
+        },
+        pass,
+    );
+    let mut freed = 0usize;
+    set.recover(
+        rt,
+        ReleaseMode::Default,
+        |owner, index| owner == owners[1] && !marks[index],
+        |_, _| freed = freed.wrapping_add(1),
+        pass,
+    );
+    (found, freed)
+}
+
 #[test]
 fn the_last_index_locks(rt: HostRuntime) -> Result<(), Fail> {
     let (set, pass) = StaticRobustUniqueIndexSet::<128>::new(rt.alloc())?;
@@ -301,9 +349,9 @@ fn the_last_index_locks(rt: HostRuntime) -> Result<(), Fail> {
     assert!(rt; last == Some(Ok(ReleaseState::Locked)));
     assert!(rt; user.acquire(&rt, owner) == SHUT);
     assert!(rt; user.is_shut(&rt, owner));
-    let User { pass, .. } = user;
-    other.pass.join(pass);
     assert!(rt; other.is_shut(&rt, seven));
+    let User { set, pass } = user;
+    assert_eq!(rt; is_shut_by_join(&rt, set, pass, owner), Some(true));
     Ok(())
 }
 
@@ -359,6 +407,27 @@ fn three_owners_of_a_hundred(rt: HostRuntime) -> Result<(), Fail> {
     assert!(rt; asked.are(69) && told.are(35));
     assert_eq!(rt; state, ReleaseState::Unlocked);
     assert_eq!(rt; user.borrowed(&rt), 34);
+    Ok(())
+}
+
+#[test]
+fn closures_that_index(rt: HostRuntime) -> Result<(), Fail> {
+    let (set, mut pass) = RobustUniqueIndexSet::new(rt.alloc(), 100)?;
+    let owners = [OwnerId::new(1)?, OwnerId::new(2)?, OwnerId::new(3)?];
+    let mut other = pass.split().ok_or("no further pass")?;
+    let mut user = User { set: &set, pass };
+    assert!(rt; three_owners(&rt, &mut user, owners, 100));
+    let mut table = [false; 100];
+    let pair = [owners[0], owners[2]];
+    assert_eq!(rt; marks(&rt, &set, &mut other, pair, &mut table), (34, 33));
+    let mut marked = 0u64;
+    for index in 0..100usize {
+        if table[index] == (index % 3 == 0) {
+            marked = marked.wrapping_add(1);
+        }
+    }
+    assert_eq!(rt; marked, 100);
+    assert!(rt; user.finds(owners[1], 33) && user.finds(owners[2], 0));
     Ok(())
 }
 
