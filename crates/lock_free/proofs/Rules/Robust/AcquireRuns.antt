@@ -1,5 +1,5 @@
 -- An acquire keeps the rule of a robust unique index set at each of its stages.
-use Rattle.std.proofs.Common.{◌≡◌, ◌≢◌, ℕ, ◌+◌, ◌<◌, nat_lt, Bool, true, false, [], Ok, Err, sym, refl, subst, ◌∙◌, arith}
+use Rattle.std.proofs.Common.{◌≡◌, ℕ, ◌+◌, ◌<◌, nat_lt, Bool, true, false, [], Err, refl, ◌∙◌, arith}
 use Rattle.std.proofs.lemmas.Bool.Decides.{nat_tests}
 use Rattle.steps.specs.Ask.{written}
 use Rattle.steps.specs.Picks.{by_test, by_eq}
@@ -11,7 +11,7 @@ use Rattle.steps.specs.declared.indices.robust.parts.Raise as raises
 use Rattle.steps.specs.declared.indices.robust.acquire.Acquire.{Acquire}
 use Rattle.steps.specs.declared.indices.robust.acquire.AcquireStage as acquires
 use Rattle.steps.specs.Indices.Robust.Parts.{cell_word, empty, locked, greatest}
-use Rattle.steps.specs.Indices.Robust.Acquire.{Acquired, at_acquire, acquire_asks, acquire_want, acquire_tries, acquire_sees, acquire_raised, acquire_after}
+use Rattle.steps.specs.Indices.Robust.Acquire.{Acquired, acquire_asks, acquire_want, acquire_tries, acquire_sees, acquire_raised, acquire_after}
 use Rattle.lock_free_sp.specs.Driver.{Owes, KeepsRule}
 use Rattle.lock_free.specs.declared.robust.view.View.{View}
 use Rattle.lock_free.specs.Robust.Kept.{size, Kept}

@@ -1,13 +1,11 @@
 -- The looks at a robust unique index set keep its rule at each of their steps.
-use Rattle.std.proofs.Common.{◌≡◌, ◌≢◌, ℕ, ◌==◌, [], Bool, true, false, true≢false, sym, refl, ◌∙◌, arith}
-use Rattle.steps.specs.declared.ask.After.TheVariants.{GoOn, Done}
-use Rattle.steps.specs.declared.indices.robust.looks.IsLocked.{IsLocked}
+use Rattle.std.proofs.Common.{true, false, true≢false, sym, refl, ◌∙◌, arith}
+use Rattle.steps.specs.declared.ask.After.TheVariants.{Done}
 use Rattle.steps.specs.Picks.{by_equal}
 use Rattle.steps.specs.Queues.Ring.{load}
 use Rattle.steps.specs.Indices.Robust.Parts.{locked}
 use Rattle.steps.specs.Indices.Robust.Looks.{borrowed_want, borrowed_counted, borrowed_after, locked_after}
 use Rattle.lock_free_sp.specs.Driver.{KeepsRule}
-use Rattle.lock_free.specs.declared.robust.view.View.{View}
 use Rattle.lock_free.specs.Robust.Kept.{size, Kept}
 use Rattle.lock_free.specs.Robust.Stages.{At, BorrowedStands, BorrowedEnds, LookStands, LookEnds}
 use Rattle.lock_free.proofs.Rules.Robust.Steps.{capacity_seen, unseen, Shows, stays, sees, counter_step}

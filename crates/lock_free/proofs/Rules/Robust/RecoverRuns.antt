@@ -1,5 +1,5 @@
 -- A recovery keeps the rule of a robust unique index set at each of its stages.
-use Rattle.std.proofs.Common.{◌≡◌, ◌≢◌, ℕ, ◌+◌, ◌<◌, ◌≤◌, nat_lt, Bool, true, false, [], refl, sym, subst, arith}
+use Rattle.std.proofs.Common.{◌≡◌, ℕ, ◌+◌, ◌<◌, nat_lt, false, [], refl, subst, arith}
 use Rattle.std.proofs.lemmas.Bool.Decides.{nat_tests}
 use Rattle.steps.specs.Ask.{written}
 use Rattle.steps.specs.Picks.{by_test, by_eq}
@@ -37,7 +37,7 @@ module _ (mode : ReleaseMode) (v : View) (c : Recover) (same : c.capacity ≡ v.
       (λ t. (refl, (same, free)))
 
   -- an answer leaves the view
-  pub answered : (index owner k : ℕ) → RecoverStage v (recovers.TheVariants.Asks index owner) → Here (recover_takes c (recovers.TheVariants.Asks index owner) mode k)
+  answered : (index owner k : ℕ) → RecoverStage v (recovers.TheVariants.Asks index owner) → Here (recover_takes c (recovers.TheVariants.Asks index owner) mode k)
   answered index owner k at =
       by_eq Here k 0 (recover_comes_to c (index + 1)) (GoOn (at_recover c (recovers.TheVariants.EmptiesCell index owner))) (λ e. comes (index + 1) at.0) (λ ne. (refl, (same, at)))
 
@@ -98,8 +98,3 @@ recover_rule mode base v c room key words slots id sized known at = stage_owes m
 pub recover_goes : (v w : View) (a : After Recover ReleaseState) (room : Unit {0}) → Next capacity_seen (At RecoverStands) RecoverEnds v a room w → RecoverGoes v a w
 recover_goes v w (GoOn d) room h = h
 recover_goes v w (Done state) room h = h
-
-pub answer_goes : (mode : ReleaseMode) (v : View) (c : Recover) (index owner k : ℕ) → c.stage ≡ recovers.TheVariants.Asks index owner → RecoverStands v c → RecoverGoes v (recover_after c mode k) v
-answer_goes mode v c index owner k is at =
-    recover_goes v v (recover_after c mode k) tt
-    (subst (λ s. Next capacity_seen (At RecoverStands) RecoverEnds v (recover_takes c s mode k) tt v) (sym is) (answered mode v c at.0 tt index owner k (subst (RecoverStage v) is at.1)))

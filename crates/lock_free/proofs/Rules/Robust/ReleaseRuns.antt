@@ -14,13 +14,13 @@ use Rattle.steps.specs.declared.indices.robust.parts.Raise as raises
 use Rattle.steps.specs.declared.indices.robust.release.Release.{Release}
 use Rattle.steps.specs.declared.indices.robust.release.GiveBack.{GiveBack}
 use Rattle.steps.specs.declared.indices.robust.release.ReleaseStage as releases
-use Rattle.steps.specs.Indices.Robust.Parts.{cell_word, empty, locked, first_lock}
+use Rattle.steps.specs.Indices.Robust.Parts.{cell_word, empty}
 use Rattle.steps.specs.Indices.Robust.Release.{Released, release_asks, release_want, release_raised, release_locked, release_after}
 use Rattle.lock_free_sp.specs.Driver.{Owes, KeepsRule}
 use Rattle.lock_free.specs.declared.robust.view.View.{View}
 use Rattle.lock_free.specs.Robust.Kept.{size, Kept}
 use Rattle.lock_free.specs.Robust.Stages.{At, ReleaseStage, ReleaseStands, ReleaseEnds}
-use Rattle.lock_free.proofs.Rules.Robust.Steps.{capacity_seen, Goes, Tells, Shows, stays, sees, cell_step}
+use Rattle.lock_free.proofs.Rules.Robust.Steps.{capacity_seen, Goes, Tells, stays, sees, cell_step}
 use Rattle.lock_free.proofs.Rules.Robust.Parts.{raise_owes, lock_owes}
 
 module _ (index owner : ℕ) (mode : ReleaseMode) (v : View) (capacity : ℕ) (same : capacity ≡ v.capacity) (within : index < v.capacity) (room : Unit {0}) (cap words slots id : ℕ) (sized : words ≡ size cap) (known : v.capacity ≡ cap) where

@@ -1,9 +1,6 @@
-use Rattle.std.proofs.Common.{◌≡◌, ℕ, ◌<◌, ◌^◌, rules, refl, sym, ap, subst, ◌∙◌, arith}
+use Rattle.std.proofs.Common.{ℕ, ◌<◌, ◌^◌, rules, refl, sym, subst, ◌∙◌, arith}
 use Rattle.steps.specs.declared.ask.After.{After}
-use Rattle.steps.specs.declared.ask.After.TheVariants.{GoOn, Done}
 use Rattle.steps.specs.declared.indices.robust.find.Find.{Find}
-use Rattle.steps.specs.Indices.Robust.Find.{first_find}
-use Rattle.lock_free.specs.declared.robust.view.View.{View}
 use Rattle.lock_free.specs.Robust.Stages.{FindStands}
 use Rattle.lock_free.specs.RobustUniqueIndexSet.{view}
 use Rattle.lock_free.proofs.Rules.Robust.FindRuns.{StillStands, still_stands}

@@ -1,11 +1,11 @@
-use Rattle.std.proofs.Common.{◌≡◌, ℕ, sym, subst, ◌∙◌}
+use Rattle.std.proofs.Common.{◌≡◌, subst, ◌∙◌}
 use Rattle.steps.specs.declared.ask.After.{After}
 use Rattle.steps.specs.declared.indices.enums.ReleaseState.{ReleaseState}
 use Rattle.steps.specs.declared.indices.robust.recover.Recover.{Recover}
 use Rattle.lock_free.specs.declared.robust.view.View.{View}
 use Rattle.lock_free.specs.Robust.Stages.{RecoverStands, RecoverGoes}
 use Rattle.lock_free.specs.RobustUniqueIndexSet.{view}
-use Rattle.lock_free.proofs.Rules.Robust.Recovering.{SoFar, Onward, onward, may_ask}
+use Rattle.lock_free.proofs.Rules.Robust.Recovering.{Onward, onward, may_ask}
 use Rattle.lock_free.proofs.mpmc.robust_unique_index_set.Pass.recover.Goals as goal
 use Rattle.lock_free.proofs.mpmc.robust_unique_index_set.Pass.recover.Given as given
 
