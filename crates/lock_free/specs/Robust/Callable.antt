@@ -10,15 +10,15 @@ use Rattle.lock_free.specs.Sets.Callable.{Ascends}
 -- ---- find
 
 -- a find came to n indices: to these, after each of which it was told to go on, and to no more or to
--- one more, on which it was told to stop
+-- one more, on which it was told to stop; these calls made the closure what it is at the end
 pub record HasFound {F : Type 0} (step : F → ℕ → CallbackProgression → F → Type 0)
-    (capacity : ℕ) (f : F) (n : ℕ) : Type 0 where
+    (capacity : ℕ) (f : F) (n : ℕ) (last : F) : Type 0 where
   pub indices : List ℕ
   pub now : F
   pub calls : FoldsTo (λ p x q. step p x Continue q) f indices now
   pub ascend : Ascends capacity indices
-  pub ended : (length indices ≡ n)
-      ⊎ ((last : ℕ) × (g : F) × step now last Stop g × Ascends capacity (indices ++ last ∷ [])
+  pub ended : ((now ≡ last) × (length indices ≡ n))
+      ⊎ ((index : ℕ) × step now index Stop last × Ascends capacity (indices ++ index ∷ [])
       × (length indices + 1 ≡ n))
 
 -- ---- recover
@@ -77,17 +77,15 @@ pub record TakesFreed {F S : Type 0} (step : F → ℕ → ℕ → Bool → F �
       → IsOwned capacity o → pre now o.owner o.index
 
 -- what a recovery asked about, and what it told of: only that about which there was a yes, and
--- nothing where the lock was seen before
+-- nothing where the lock was seen before; these calls made the closures what they are at the end
 pub record HasVisited {F S : Type 0} (step : F → ℕ → ℕ → Bool → F → Type 0)
-    (tell : S → ℕ → ℕ → S → Type 0) (capacity : ℕ) (locked : Bool) (f : F) (s : S) : Type 0
-  where
-    pub asked : List Asked
-    pub told : List Owned
-    pub asked_last : F
-    pub told_last : S
-    pub questions : FoldsTo (asks step) f asked asked_last
-    pub calls : FoldsTo (tells tell) s told told_last
-    pub asked_ascend : QuestionsAscend capacity asked
-    pub told_ascend : TheyAscend capacity told
-    pub agreed : All (WasAgreed asked) told
-    pub nothing : locked ≡ true → asked ≡ []
+    (tell : S → ℕ → ℕ → S → Type 0) (capacity : ℕ) (locked : Bool) (f : F) (s : S)
+    (f_last : F) (s_last : S) : Type 0 where
+  pub asked : List Asked
+  pub told : List Owned
+  pub questions : FoldsTo (asks step) f asked f_last
+  pub calls : FoldsTo (tells tell) s told s_last
+  pub asked_ascend : QuestionsAscend capacity asked
+  pub told_ascend : TheyAscend capacity told
+  pub agreed : All (WasAgreed asked) told
+  pub nothing : locked ≡ true → asked ≡ []

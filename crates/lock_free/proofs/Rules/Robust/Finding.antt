@@ -62,16 +62,16 @@ module _ {F : Type 0} (step : F → ℕ → CallbackProgression → F → Type 0
         count = omega arith;
       }
 
-  found_all : (low n : ℕ) (p : F) → Came low n p → HasFound step cap f n
-  found_all low n p h = record { indices = h.indices; now = p; calls = h.calls; ascend = h.ascend; ended = inl h.count }
+  found_all : (low n : ℕ) (p : F) → Came low n p → HasFound step cap f n p
+  found_all low n p h = record { indices = h.indices; now = p; calls = h.calls; ascend = h.ascend; ended = inl (refl, h.count) }
 
-  found_last : (low n found : ℕ) (p q : F) → low < cap → n + 1 ≡ found → step p low Stop q → Came low n p → HasFound step cap f found
+  found_last : (low n found : ℕ) (p q : F) → low < cap → n + 1 ≡ found → step p low Stop q → Came low n p → HasFound step cap f found q
   found_last low n found p q within more hit h =
-      record { indices = h.indices; now = p; calls = h.calls; ascend = h.ascend; ended = inr (low, q, hit, ascend_push cap h.indices low h.ascend h.below within, (let count = h.count in omega arith)) }
+      record { indices = h.indices; now = p; calls = h.calls; ascend = h.ascend; ended = inr (low, hit, ascend_push cap h.indices low h.ascend h.below within, (let count = h.count in omega arith)) }
 
   abbrev pub Onward : After Find ℕ → F → Type 0
   Onward (GoOn d) q = SoFar d.stage q
-  Onward (Done n) q = HasFound step cap f n
+  Onward (Done n) q = HasFound step cap f n q
 
   comes : (c : Find) (index found : ℕ) (q : F) → Came index found q → Onward (find_comes_to c index found) q
   comes c index found q h =

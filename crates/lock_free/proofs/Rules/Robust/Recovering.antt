@@ -57,7 +57,7 @@ module _ {F S : Type 0} (step : F → ℕ → ℕ → Bool → F → Type 0) (te
 
   abbrev pub Onward : After Recover ReleaseState → F → S → Type 0
   Onward (GoOn d) p q = SoFar d.stage p q
-  Onward (Done state) p q = HasVisited step tell v.capacity v.locked f s
+  Onward (Done state) p q = HasVisited step tell v.capacity v.locked f s p q
 
   abbrev none : Visits 0 0 f s
   none =
@@ -74,13 +74,11 @@ module _ {F S : Type 0} (step : F → ℕ → ℕ → Bool → F → Type 0) (te
       }
 
   -- where the lock was not seen
-  visited : (low high : ℕ) (p : F) (q : S) → v.locked ≡ false → Visits low high p q → HasVisited step tell v.capacity v.locked f s
+  visited : (low high : ℕ) (p : F) (q : S) → v.locked ≡ false → Visits low high p q → HasVisited step tell v.capacity v.locked f s p q
   visited low high p q free h =
       record {
         asked = h.asked;
         told = h.told;
-        asked_last = p;
-        told_last = q;
         questions = h.questions;
         calls = h.calls;
         asked_ascend = h.asked_ascend;
@@ -90,15 +88,13 @@ module _ {F S : Type 0} (step : F → ℕ → ℕ → Bool → F → Type 0) (te
       }
 
   -- where it was met at once
-  visited_none : (p : F) (q : S) → (p ≡ f) × (q ≡ s) → HasVisited step tell v.capacity v.locked f s
+  visited_none : (p : F) (q : S) → (p ≡ f) × (q ≡ s) → HasVisited step tell v.capacity v.locked f s p q
   visited_none p q e =
       record {
         asked = [];
         told = [];
-        asked_last = f;
-        told_last = s;
-        questions = refl;
-        calls = refl;
+        questions = sym e.0;
+        calls = sym e.1;
         asked_ascend = none.asked_ascend;
         told_ascend = none.told_ascend;
         agreed = none.agreed;

@@ -55,18 +55,18 @@ impl Pass {
         }
     }
 
-    /// Comes to the indices of the owner.
+    /// Comes to the indices of the owner: how many it came to. Hands the closure back.
     fn find<F: FnMut(usize) -> CallbackProgression>(
         &mut self,
         owner: OwnerId,
         mut visit: F,
-    ) -> usize
+    ) -> (usize, F)
         requires { TakesPlaces F.pre (λ p x q. F.step p x Continue q)
             (set_of self.old).capacity visit }
         ensures set { set_of self.new ≡ set_of self.old }
         ensures view { view self.new ≡ view self.old }
         ensures found { HasFound (λ p x a q. F.step p x a q)
-            (set_of self.old).capacity visit result }
+            (set_of self.old).capacity visit result.0 result.1 }
     {
         let mut call = Find::new(self.capacity);
         loop {
@@ -74,7 +74,7 @@ impl Pass {
             visit = next_visit;
             match after {
                 After::GoOn(next) => call = next,
-                After::Done(found) => return found,
+                After::Done(found) => return (found, visit),
             }
         }
     }
@@ -127,23 +127,23 @@ impl Pass {
         }
     }
 
-    /// Frees the indices that the first closure says yes to.
+    /// Frees the indices that the first closure says yes to. Hands both closures back.
     fn recover<F: FnMut(OwnerId, usize) -> bool, S: FnMut(OwnerId, usize)>(
         &mut self,
         rt: &impl Wait,
         mode: ReleaseMode,
         mut predicate: F,
         mut recovered: S,
-    ) -> ReleaseState
+    ) -> (ReleaseState, F, S)
         requires questions { (view self.old).locked ≡ false → TakesQuestions F.pre
             (λ p o i b q. F.step p o i b q) (view self.old).capacity predicate }
         requires freed { (view self.old).locked ≡ false → TakesFreed (λ p o i b q. F.step p o i b q)
             S.pre (λ s o i t. S.step s o i tt t) (view self.old).capacity predicate recovered }
         ensures set { set_of self.new ≡ set_of self.old }
-        ensures recovered { HasRecovered result (view self.old) (view self.new) }
+        ensures recovered { HasRecovered result.0 (view self.old) (view self.new) }
         ensures visited { HasVisited (λ p o i b q. F.step p o i b q)
             (λ s o i t. S.step s o i tt t) (view self.old).capacity (view self.old).locked
-            predicate recovered }
+            predicate recovered result.1 result.2 }
     {
         let mut call = Recover::new(self.capacity);
         for _ in rt.forever() {
@@ -154,7 +154,7 @@ impl Pass {
             recovered = next_recovered;
             match after {
                 After::GoOn(next) => call = next,
-                After::Done(state) => return state,
+                After::Done(state) => return (state, predicate, recovered),
             }
         }
         unreachable!()
@@ -222,9 +222,11 @@ impl RobustUniqueIndexSet {
             (capacity_of self.now) visit }
         ensures set { set_of pass.new ≡ set_of pass.old }
         ensures view { view pass.new ≡ view pass.old }
-        ensures found { HasFound (λ p x a q. F.step p x a q) (capacity_of self.now) visit result }
+        ensures found { (last : F) × HasFound (λ p x a q. F.step p x a q)
+            (capacity_of self.now) visit result last }
     {
-        pass.find(owner, visit)
+        let (found, _) = pass.find(owner, visit);
+        found
     }
 
     /// Asks `predicate` about each index that has an owner, ascending, each at most once and below the capacity, and frees
@@ -257,10 +259,11 @@ impl RobustUniqueIndexSet {
             (capacity_of self.now) predicate recover_success }
         ensures set { set_of pass.new ≡ set_of pass.old }
         ensures recovered { HasRecovered result (view pass.old) (view pass.new) }
-        ensures visited { HasVisited (λ p o i b q. F.step p o i b q)
+        ensures visited { (f_last : F) × (s_last : S) × HasVisited (λ p o i b q. F.step p o i b q)
             (λ s o i t. S.step s o i tt t) (capacity_of self.now) (view pass.old).locked
-            predicate recover_success }
+            predicate recover_success f_last s_last }
     {
-        pass.recover(rt, mode, predicate, recover_success)
+        let (state, _, _) = pass.recover(rt, mode, predicate, recover_success);
+        state
     }
 }
