@@ -365,6 +365,11 @@ fn a_recovery_locks(rt: HostRuntime) -> Result<(), Fail> {
     let (told, alone, state) = user.recover(&rt, dead, lock);
     assert!(rt; told.are(0) && alone);
     assert_eq!(rt; state, ReleaseState::Unlocked);
+    assert!(rt; user.acquire(&rt, dead) == Ok(0));
+    let (told, alone, state) = user.recover(&rt, dead, ReleaseMode::Default);
+    assert!(rt; told.are(1) && alone);
+    assert_eq!(rt; state, ReleaseState::Unlocked);
+    assert!(rt; !user.is_locked());
     assert!(rt; [user.acquire(&rt, dead), user.acquire(&rt, dead)] == [Ok(0), Ok(1)]);
     let (told, alone, state) = user.recover(&rt, dead, lock);
     assert!(rt; told.are(2) && told.digits == 1 && alone);

@@ -10,6 +10,6 @@ find-found-requires g c = takes_places_at (ap (λ (z : SetId). z.capacity) (sym 
 
 pub returns-clause-found : goal.returns-clause-found
 returns-clause-found g c = (
-    c.find-found.result.1,
-    subst (λ z. HasFound (λ p x a q. given.F-step g p x a q) z c.args.visit c.find-found.result.0 c.find-found.result.1) (ap (λ (z : SetId). z.capacity) c.requires.pass) c.find-found.ensures.found,
-  )
+  c.find-found.result.1,
+  subst (λ z. HasFound (λ p x a q. given.F-step g p x a q) z c.args.visit c.find-found.result.0 c.find-found.result.1) (ap (λ (z : SetId). z.capacity) c.requires.pass) c.find-found.ensures.found,
+)

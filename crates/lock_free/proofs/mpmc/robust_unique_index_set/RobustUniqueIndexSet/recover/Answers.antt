@@ -14,8 +14,8 @@ recover-state-requires-clause-freed g c free = freed_at (ap (λ (z : SetId). z.c
 
 pub returns-clause-visited : goal.returns-clause-visited
 returns-clause-visited g c = (
-    c.recover-state.result.1,
-    c.recover-state.result.2,
-    subst (λ z. HasVisited (λ p o i b q. given.F-step g p o i b q) (λ s o i t. given.S-step g s o i tt t) z (view c.args.pass.now).locked c.args.predicate c.args.recover_success c.recover-state.result.1 c.recover-state.result.2)
-        (c.args.pass.now.known ∙ ap (λ (z : SetId). z.capacity) c.requires.pass) c.recover-state.ensures.visited,
-  )
+  c.recover-state.result.1,
+  c.recover-state.result.2,
+  subst (λ z. HasVisited (λ p o i b q. given.F-step g p o i b q) (λ s o i t. given.S-step g s o i tt t) z (view c.args.pass.now).locked c.args.predicate c.args.recover_success c.recover-state.result.1 c.recover-state.result.2)
+      (c.args.pass.now.known ∙ ap (λ (z : SetId). z.capacity) c.requires.pass) c.recover-state.ensures.visited,
+)
