@@ -17,9 +17,9 @@ impl RobustUniqueIndexSet {
     /// then nothing has changed. `IsLocked` where the set is locked, which leaves the lock seen.
     ///
     /// A pass that has seen the lock gets `IsLocked`. A call that meets the lock only after it has given the index its
-    /// owner answers `IsLocked` too, and the index keeps that owner for good: `find` of the owner still comes to it. At
-    /// most 3 atomic steps more than the capacity where nobody else steps in between; else it may try again for as long
-    /// as others step. After `acquire` of the Rust crate.
+    /// owner answers `IsLocked` too, and the index keeps that owner: `find` of the owner comes to it, and so may a recovery
+    /// that began before the lock. At most 3 atomic steps more than the capacity where nobody else steps in between; else
+    /// it may try again for as long as others step. After `acquire` of the Rust crate.
     pub fn acquire(
         &self,
         rt: &impl Wait,
