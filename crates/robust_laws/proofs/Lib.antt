@@ -1,3 +1,4 @@
+pub mod Acquires
 pub mod Core
 pub mod Counting
 pub mod Effects
