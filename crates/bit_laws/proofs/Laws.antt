@@ -14,6 +14,7 @@ use Rattle.model.specs.declared.families.bits.calls.BitsFlight.{BitsFlight}
 use Rattle.model.specs.declared.party.Doing.TheVariants.{Going}
 use Rattle.model.specs.declared.party.Party.{Party}
 use Rattle.model.specs.declared.turn.Refusal.TheVariants.{BadIndex}
+use Rattle.model.specs.declared.turn.Turn.{Turn}
 use Rattle.model.specs.declared.turn.Turn.TheVariants.{Next}
 use Rattle.model.specs.Coding.{Coding}
 use Rattle.model.specs.Families.{opening_of, first_of, want_of, after_of, ask_of, is_question, beside_of, step_of}
@@ -57,6 +58,7 @@ module _ {T : Type 0} (K : SetKind T) where
     pub bare : (opening_of K.kind).kept c ≡ kepts.TheVariants.Nothing
     pub opens : K.Holds c ((opening_of K.kind).words code.size c) [] 0
     pub promise : promise_of {T = T} K.kind ≡ K.promise
+    pub tells : (old : Trace T) (turn : Turn T) (new : Trace T) → K.promise.tells old turn new
     pub keeps_promise : (t : Trace T) → t.world.capacity ≡ c → K.Holds c t.world.words t.events t.world.turns → K.promise.holds t
     -- of a turn
     pub holds : (words : List ℕ) (events : List (Event T)) (turns changes : ℕ) (words' : List ℕ) (es : List (Event T)) (changes' : ℕ) → K.Conserves c words events turns changes words' es changes' → K.Holds c words events turns → K.Holds c words' (events ++ es) (turns + 1)
@@ -190,9 +192,10 @@ module _ {T : Type 0} (K : SetKind T) where
     laws : frame.Laws F
     laws =
         record {
-          step = λ t p x flight since s small found doing. step_comes t s p small x since flight found doing;
-          decision = λ t p x flight since said s small found doing asks. asks_nothing t s p x flight since found doing asks;
+          step = λ t p x flight since s small passed found doing. step_comes t s p small x since flight found doing;
+          decision = λ t p x flight since said s small passed found doing asks. asks_nothing t s p x flight since found doing asks;
           begin = λ t p start flight s may e. begin_comes t s p start flight may e;
+          death = frame.no_death F (λ kept words state fit. rw fit.0 refl);
         }
 
     opening_sound : (parties : ℕ) → frame.Sound F (opening code K.kind c parties)
@@ -241,6 +244,7 @@ module _ {T : Type 0} (K : SetKind T) where
               in_order_from t p K.promise t.world.coding t.world.words kepts.TheVariants.Nothing x.start flight refl s.fit.0 (in_order t s p x.start flight (stands_there F t s p x since flight found doing).at);
           decision = λ t p x flight since said s small found doing asks. asks_nothing t s p x flight since found doing asks;
           after = λ t p x flight since answer s found doing. told t s p t.world.kept x.start flight answer s.fit.0 (stands_there F t s p x since flight found doing).at;
+          tells = λ t turn e s. L.tells t turn (after_turn t turn);
         }
 
     -- ---- what the invariant says in the promises' words

@@ -86,6 +86,7 @@ module _ {T : Type 0} where
         decision = λ t p x flight since said s small found doing asks. asks_nothing code c t s p x flight since found doing asks;
         after = λ t p x flight since answer s found doing.
             told code t.world.coding c t.world.words (beside_of t.world.words t.world.kept t.world.latest p) s.state p x.start flight answer t.world.kept s.fit (stands_there (family code c) t s p x since flight found doing).at;
+        tells = λ t turn e s. tt;
       }
 
   -- what is proved of every run of the unique index set

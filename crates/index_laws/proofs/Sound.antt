@@ -273,9 +273,10 @@ module _ {T : Type 0} where
   laws : (code : Coding T) (c : ℕ) → frame.Laws (family code c)
   laws code c =
       record {
-        step = λ t p x flight since s small found doing. step_comes code c t s p x since found flight doing;
-        decision = λ t p x flight since said s small found doing asks. asks_nothing code c t s p x flight since found doing asks;
+        step = λ t p x flight since s small passed found doing. step_comes code c t s p x since found flight doing;
+        decision = λ t p x flight since said s small passed found doing asks. asks_nothing code c t s p x flight since found doing asks;
         begin = λ t p start flight s may e. begin_comes code c t s p start flight may e;
+        death = frame.no_death (family code c) (λ kept words state fit. rw (kept_is kept words state fit).0 refl);
       }
 
   opening_sound : (code : Coding T) (c parties : ℕ) → 1 ≤ c → c < locked → frame.Sound (family code c) (opening code kinds.TheVariants.Indices c parties)

@@ -1,5 +1,5 @@
 -- What a turn of one party's call is to the whole machine.
-use Rattle.std.proofs.Common.{◌≡◌, ℕ, ◌+◌, ◌-◌, ◌^◌, ◌<◌, inl, inr, ⊎_elim, Bool, false, Option, Some, None, is_some, Bor, nat_le, List, refl, sym, ap, ◌∙◌, arith}
+use Rattle.std.proofs.Common.{◌≡◌, ℕ, ◌+◌, ◌-◌, ◌^◌, ◌<◌, ◌≤◌, inl, inr, ⊎_elim, Bool, true, false, Option, Some, None, is_some, Bor, nat_le, List, refl, sym, ap, ◌∙◌, arith}
 use Rattle.std.proofs.lemmas.Bool.Decides.{nat_tests}
 use Rattle.std.specs.Prelude.{option_copied}
 use Rattle.model.specs.declared.event.Event.{Event}
@@ -8,6 +8,7 @@ use Rattle.model.specs.declared.party.Doing.{Doing}
 use Rattle.model.specs.declared.party.Doing.TheVariants.{Going, Over}
 use Rattle.model.specs.declared.party.Party.{Party}
 use Rattle.model.specs.declared.turn.Refusal.{Refusal}
+use Rattle.model.specs.declared.turn.Refusal.TheVariants.{NoParty, Busy, Idle}
 use Rattle.model.specs.declared.turn.Turn.TheVariants.{Begin}
 use Rattle.model.specs.Families.{begin_rows, beside_of}
 use Rattle.model.specs.Parties.{party_of, put, doing_of, flight_of}
@@ -15,11 +16,11 @@ use Rattle.model.specs.Refusals.{refusal_of, IsRefusal}
 use Rattle.model.specs.Rows.{first_row}
 use Rattle.model.specs.Turns.{turn_of, after_turn}
 use Rattle.model.specs.World.{World, flight_in}
-use Rattle.machine.specs.Parts.{going_rows, going_refusal, IsGoingRefusal, Around, after_turn_of}
+use Rattle.machine.specs.Parts.{turn_rows, going_refusal, IsGoingRefusal, Around, after_turn_of}
 
 module _ {T : Type 0} (w : World T) (p : ℕ) (said : Option Bool) where
   -- what is tested of the turn, once its party is there
-  rows_left : w.turns < 2 ^ 64 - 2 → p < w.parties → refusal_of w (turn_of p said) ≡ first_row (going_rows w.coding (flight_of (doing_of (party_of p w.latest))) said)
+  rows_left : w.turns < 2 ^ 64 - 2 → p < w.parties → refusal_of w (turn_of p said) ≡ first_row (turn_rows w.coding w.kept (flight_of (doing_of (party_of p w.latest))) said)
   rows_left small within = go said
     where
       early : nat_le (2 ^ 64 - 2) w.turns ≡ false
@@ -28,20 +29,20 @@ module _ {T : Type 0} (w : World T) (p : ℕ) (said : Option Bool) where
       there : nat_le w.parties p ≡ false
       there = grind (arith, nat_tests)
 
-      go : (said : Option Bool) → refusal_of w (turn_of p said) ≡ first_row (going_rows w.coding (flight_of (doing_of (party_of p w.latest))) said)
+      go : (said : Option Bool) → refusal_of w (turn_of p said) ≡ first_row (turn_rows w.coding w.kept (flight_of (doing_of (party_of p w.latest))) said)
       go None = rw (early, there) refl
       go (Some b) = rw (early, there) refl
 
-  pub refusal_is : (x : Party T) → w.turns < 2 ^ 64 - 2 → p < w.parties → party_of p w.latest ≡ Some x → refusal_of w (turn_of p said) ≡ going_refusal w.coding x.doing said
-  refusal_is x small within found = rows_left small within ∙ ap (λ o. first_row (going_rows w.coding (flight_of (doing_of o)) said)) found
+  pub refusal_is : (x : Party T) → w.turns < 2 ^ 64 - 2 → p < w.parties → party_of p w.latest ≡ Some x → refusal_of w (turn_of p said) ≡ going_refusal w.coding w.kept x.doing said
+  refusal_is x small within found = rows_left small within ∙ ap (λ o. first_row (turn_rows w.coding w.kept (flight_of (doing_of o)) said)) found
 
-  pub is_refusal : (x : Party T) (r : Refusal) → w.turns < 2 ^ 64 - 2 → p < w.parties → party_of p w.latest ≡ Some x → IsGoingRefusal w.coding x.doing said r → IsRefusal w (turn_of p said) r
+  pub is_refusal : (x : Party T) (r : Refusal) → w.turns < 2 ^ 64 - 2 → p < w.parties → party_of p w.latest ≡ Some x → IsGoingRefusal w.coding w.kept x.doing said r → IsRefusal w (turn_of p said) r
   is_refusal x r small within found h =
       let same = refusal_is x small within found in
       ⊎_elim (λ row. inl (same ∙ row)) (λ memory. inr (same ∙ memory.0, memory.1)) h
 
   pub going_is :
-      (events : List (Event T)) (x : Party T) (a : Around T) (latest : List (ℕ × Party T)) → party_of p w.latest ≡ Some x → going_refusal w.coding x.doing said ≡ None
+      (events : List (Event T)) (x : Party T) (a : Around T) (latest : List (ℕ × Party T)) → party_of p w.latest ≡ Some x → going_refusal w.coding w.kept x.doing said ≡ None
       → a ≡ after_turn_of w.coding p said (beside_of w.words w.kept w.latest p) x.doing (record { party = x; words = w.words; kept = w.kept; changes = w.changes; events = events })
       → latest ≡ put p a.party w.latest
       → record { world = record w { words = a.words; kept = a.kept; latest = latest; changes = a.changes; turns = w.turns + 1 }; events = a.events } ≡ after_turn (record { world = w; events = events }) (turn_of p said)
@@ -74,6 +75,48 @@ begin_refuses w p start row small within free rows =
     let early : nat_le (2 ^ 64 - 2) w.turns ≡ false = grind (arith, nat_tests) in
     let there : nat_le w.parties p ≡ false = grind (arith, nat_tests) in
     rw (early, there, free) rows
+
+module _ {T : Type 0} (w : World T) (p : ℕ) (small : w.turns < 2 ^ 64 - 2) where
+  early : nat_le (2 ^ 64 - 2) w.turns ≡ false
+  early = grind (arith, nat_tests)
+
+  -- a turn of no party
+  pub begins_nowhere : (start : Start T) → w.parties ≤ p → refusal_of w (Begin p start) ≡ Some NoParty
+  begins_nowhere start beyond =
+      let there : nat_le w.parties p ≡ true = grind (arith, nat_tests) in
+      rw (early, there) refl
+
+  pub goes_on_nowhere : (said : Option Bool) → w.parties ≤ p → refusal_of w (turn_of p said) ≡ Some NoParty
+  goes_on_nowhere said beyond = go said
+    where
+      there : nat_le w.parties p ≡ true
+      there = grind (arith, nat_tests)
+
+      go : (said : Option Bool) → refusal_of w (turn_of p said) ≡ Some NoParty
+      go None = rw (early, there) refl
+      go (Some b) = rw (early, there) refl
+
+  -- a call that begins beside one under way
+  pub is_busy : (start : Start T) → p < w.parties → is_some (flight_in w p) ≡ true → refusal_of w (Begin p start) ≡ Some Busy
+  is_busy start within taken =
+      let there : nat_le w.parties p ≡ false = grind (arith, nat_tests) in
+      rw (early, there, taken) refl
+
+  -- none that could go on
+  pub is_idle : (said : Option Bool) → p < w.parties → party_of p w.latest ≡ None → refusal_of w (turn_of p said) ≡ Some Idle
+  is_idle said within none = go said
+    where
+      there : nat_le w.parties p ≡ false
+      there = grind (arith, nat_tests)
+
+      go : (said : Option Bool) → refusal_of w (turn_of p said) ≡ Some Idle
+      go None = rw (early, there, none) refl
+      go (Some b) = rw (early, there, none) refl
+
+-- a call under way was found
+pub some_found : {A : Type 0} (o : Option (Bor A)) (found : Option A) → option_copied o ≡ found → true ≡ is_some o → is_some found ≡ true
+some_found None found is e = absurd (cc)
+some_found (Some x) found is e = ap is_some (sym is)
 
 -- no call under way was found
 pub none_found : {A : Type 0} (o : Option (Bor A)) (found : Option A) → option_copied o ≡ found → false ≡ is_some o → is_some found ≡ false

@@ -10,7 +10,7 @@ use Rattle.model.specs.declared.party.Party.{Party}
 use Rattle.model.specs.declared.turn.Refusal.{Refusal}
 use Rattle.model.specs.declared.turn.Refusal.TheVariants.{Idle, Undecided, NoMemory}
 use Rattle.model.specs.Coding.{Coding}
-use Rattle.model.specs.Families.{want_of, ask_of, step_of}
+use Rattle.model.specs.Families.{want_of, ask_of, step_of, going_rows}
 use Rattle.model.specs.Parties.{flight_of}
 use Rattle.model.specs.Refusals.{is_due}
 use Rattle.model.specs.Rows.{first_row}
@@ -40,19 +40,22 @@ trace_of code m = trace_in code (state_of m)
 
 module _ {T : Type 0} where
   -- what is tested of the call that is to go on, with a decision or without
-  abbrev pub going_rows : Coding T → Option (Flight T) → Option Bool → List (Bool × Refusal)
-  going_rows code flight None = (is_none flight, Idle) ∷ (is_due code flight, Undecided) ∷ []
-  going_rows code flight (Some said) =
-      (is_none flight, Idle) ∷ (not (is_due code flight), Undecided) ∷ []
+  abbrev pub turn_rows : Coding T → Kept → Option (Flight T) → Option Bool → List (Bool × Refusal)
+  turn_rows code kept flight None =
+      (is_none flight, Idle) ∷ (is_due code flight, Undecided) ∷ going_rows code kept flight None
+  turn_rows code kept flight (Some said) =
+      (is_none flight, Idle)
+      ∷ (not (is_due code flight), Undecided)
+      ∷ going_rows code kept flight (Some said)
 
-  abbrev pub going_refusal : Coding T → Doing T → Option Bool → Option Refusal
-  going_refusal code doing said = first_row (going_rows code (flight_of (Some doing)) said)
+  abbrev pub going_refusal : Coding T → Kept → Doing T → Option Bool → Option Refusal
+  going_refusal code kept doing said = first_row (turn_rows code kept (flight_of (Some doing)) said)
 
   -- a refusal of it names the first row that applies; where none does, memory was refused
-  abbrev pub IsGoingRefusal : Coding T → Doing T → Option Bool → Refusal → Type 0
-  IsGoingRefusal code doing said refusal =
-      (going_refusal code doing said ≡ Some refusal)
-      ⊎ (going_refusal code doing said ≡ None) × (refusal ≡ NoMemory)
+  abbrev pub IsGoingRefusal : Coding T → Kept → Doing T → Option Bool → Refusal → Type 0
+  IsGoingRefusal code kept doing said refusal =
+      (going_refusal code kept doing said ≡ Some refusal)
+      ⊎ (going_refusal code kept doing said ≡ None) × (refusal ≡ NoMemory)
 
   -- the operation that the call does: none with a decision
   abbrev pub ask_with : Coding T → Option Bool → Flight T → Option Ask

@@ -2,7 +2,7 @@
 //! happened.
 #![tactic(auto)]
 
-ghost use Rattle.std.specs.Prelude.{◌≡◌, ◌≤◌, ◌<◌, None, OnOk, OnErr, IfOk, IfErr, length, take};
+ghost use Rattle.std.specs.Prelude.{◌≡◌, ◌≤◌, ◌<◌, None, OnOk, OnErr, IfOk, IfErr, IfSome, length, take, slice_get};
 
 use std::alloc::Global;
 use std::marker::Model;
@@ -25,6 +25,13 @@ pub struct Machine<T: Words> {
     parts: Parts<T>,
 }
 
+/// Where a list of turns stopped: how many were taken, and why the next one was refused.
+#[derive(Debug, Clone, Copy, PartialEq, Eq)]
+pub struct Stopped {
+    pub taken: usize,
+    pub refusal: Refusal,
+}
+
 impl<T: Words> Model for Machine<T> {
     ghost use Rattle.model.specs.Coding.{coding_of};
     ghost use Rattle.model.specs.World.{State};
@@ -43,12 +50,12 @@ impl<T: Words> Machine<T> {
     ghost use Rattle.model.specs.World.{opening, capacity_error, IsCreationError, trace_in, world_in, progress_in};
     ghost use Rattle.model.specs.Refusals.{refusal_of, IsRefusal, is_going};
     ghost use Rattle.model.specs.Turns.{after_turn, after_turns, AreAllowed};
-    ghost use Rattle.model.specs.Promises.{IsKept, WritesEvents, AreTurns};
+    ghost use Rattle.model.specs.Promises.{IsKept, WritesEvents, TellsBeside, AreTurns};
     ghost use Rattle.model.specs.Promises.Turns.{IsOneTurnLater, WritesOneWord, GoesOn, CountsTurn, CountsOthers};
 
     /// A structure that is empty, or has the value that words of zeros make, with its roles free, and this many
-    /// parties, numbered from 0. Of a unique index set no index is held. Room for a party is made as it first begins a
-    /// call.
+    /// parties, numbered from 0. Of a set of indices no index is held, and no owner is dead. Room for a party is made as
+    /// it first begins a call.
     ///
     /// Refused are, in this order, a capacity above the greatest of the kind, one below the least, and memory.
     pub fn new(
@@ -71,9 +78,12 @@ impl<T: Words> Machine<T> {
     ///
     /// The refusals are tested in this order: `AtEnd` after 2^64 - 2 turns, `NoParty` for a number that is not below
     /// the number of parties; for `Begin` then `Busy`, `WrongCall`, `BadIndex` for a bit or index that is not below the
-    /// capacity, `NoRole`, and `NotHeld` for a release of an index that the party does not hold; for `Next` `Idle` and
-    /// `Undecided` where a decision is due; for `Decide` `Idle` and `Undecided` where none is due; for `Die`
-    /// `WrongCall`; last `NoMemory`, where there is no room for the events or for a new party.
+    /// capacity, `NoRole`, `NotHeld` for a release of an index that the party does not hold, and `OwnerIsDead` for an
+    /// acquire or a release of a dead owner; for `Next` `Idle`, `Undecided` where a decision is due, and `OwnerIsDead`
+    /// for such a call under way; for `Decide` `Idle`, `Undecided` where none is due, `OwnerIsDead`, and `OwnerLives`
+    /// for a yes by which a recovery would free an index of an owner who lives; for `Die` `WrongCall` where the kind
+    /// has no owners, and `OwnerIsDead`; last `NoMemory`, where there is no room for the events, for a new party or for
+    /// a dead owner.
     pub fn step(&mut self, turn: Turn<T>) -> Result<(), Refusal>
         ensures allowed { OnOk result
             (refusal_of (world_in ⟦<T as Coded>⟧.coding self.old) turn ≡ None) }
@@ -96,6 +106,8 @@ impl<T: Words> Machine<T> {
             turn (world_in ⟦<T as Coded>⟧.coding self.new)) }
         ensures others { OnOk result (CountsOthers (world_in ⟦<T as Coded>⟧.coding self.old)
             turn (world_in ⟦<T as Coded>⟧.coding self.new)) }
+        ensures tells { OnOk result (TellsBeside (trace_in ⟦<T as Coded>⟧.coding self.old)
+            turn (trace_in ⟦<T as Coded>⟧.coding self.new)) }
         ensures events { OnOk result (WritesEvents (trace_in ⟦<T as Coded>⟧.coding self.old)
             turn (trace_in ⟦<T as Coded>⟧.coding self.new)) }
 
@@ -107,7 +119,7 @@ impl<T: Words> Machine<T> {
     }
 
     /// Takes the turns up to the first that is refused, and answers how many it took. The refused turn and those behind
-    /// it change nothing.
+    /// it change nothing. It is `run_all` that takes them and says why one was refused.
     pub fn run(&mut self, turns: &[Turn<T>]) -> usize
         ensures count { result ≤ length turns.now }
         ensures allowed { AreAllowed (trace_in ⟦<T as Coded>⟧.coding self.old)
@@ -118,13 +130,39 @@ impl<T: Words> Machine<T> {
             (take result turns.now) }
         ensures kept { IsKept (trace_in ⟦<T as Coded>⟧.coding self.new) }
     {
-        let _ = &self.parts;
-        for (at, turn) in turns.iter().enumerate() {
-            let Ok(()) = self.step(*turn) else {
-                return at;
-            };
+        match self.run_all(turns) {
+            Ok(()) => turns.len(),
+            Err(stopped) => stopped.taken,
         }
-        turns.len()
+    }
+
+    /// Takes the turns, all of them or up to the first that is refused, with why it was. That turn and those behind it
+    /// change nothing.
+    pub fn run_all(&mut self, turns: &[Turn<T>]) -> Result<(), Stopped>
+        ensures all { OnOk result (AreAllowed (trace_in ⟦<T as Coded>⟧.coding self.old) turns.now) }
+        ensures ok { OnOk result (trace_in ⟦<T as Coded>⟧.coding self.new
+            ≡ after_turns (trace_in ⟦<T as Coded>⟧.coding self.old) turns.now) }
+        ensures each { OnOk result (AreTurns (trace_in ⟦<T as Coded>⟧.coding self.old) turns.now) }
+        ensures before { IfErr result (λ stopped. stopped.taken < length turns.now) }
+        ensures allowed { IfErr result (λ stopped. AreAllowed
+            (trace_in ⟦<T as Coded>⟧.coding self.old) (take stopped.taken turns.now)) }
+        ensures taken { IfErr result (λ stopped. trace_in ⟦<T as Coded>⟧.coding self.new
+            ≡ after_turns (trace_in ⟦<T as Coded>⟧.coding self.old)
+            (take stopped.taken turns.now)) }
+        ensures each_before { IfErr result (λ stopped. AreTurns
+            (trace_in ⟦<T as Coded>⟧.coding self.old) (take stopped.taken turns.now)) }
+        ensures refused { IfErr result (λ stopped.
+            IfSome (slice_get turns.now stopped.taken)
+            (λ turn. IsRefusal (world_in ⟦<T as Coded>⟧.coding self.new) turn stopped.refusal)) }
+        ensures kept { IsKept (trace_in ⟦<T as Coded>⟧.coding self.new) }
+    {
+        let _ = &self.parts;
+        for (taken, turn) in turns.iter().enumerate() {
+            if let Err(refusal) = self.step(*turn) {
+                return Err(Stopped { taken, refusal });
+            }
+        }
+        Ok(())
     }
 
     /// Everything that happened, in order.
@@ -140,7 +178,8 @@ impl<T: Words> Machine<T> {
     /// `T::WORDS` words each, of which the one with the number (version - 1) mod 2 has the value that stands. Of a bit
     /// set: the reset position, and then one word for each 64 places begun, in which place b is bit b mod 64 of the word
     /// 1 + b / 64. Of a counting bit set: the count of each place. Of the unique index set: the head, the next
-    /// index of each index, and the claim flags, 64 to a word.
+    /// index of each index, and the claim flags, 64 to a word. Of the robust index set: the counter, and for each index a
+    /// cell with its owner, or `u64::MAX`.
     pub fn words(&self) -> &[u64]
         ensures { result.now ≡ self.now.words }
     {

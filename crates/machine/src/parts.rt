@@ -15,7 +15,7 @@ use model::words;
 use std::alloc::Global;
 use std::collections::BTreeMap;
 use steps::ask::Want;
-use steps::enums::UniqueIndexCreationError;
+use steps::enums::{OwnerId, UniqueIndexCreationError};
 use steps::words::Words;
 
 /// As many turns as a machine takes.
@@ -64,9 +64,9 @@ fn go_on<T: Words>(
     requires changes { changes.old ≤ turns }
     requires small { HasSmallCounts turns changes.old party.old }
     ensures allowed { OnOk result
-        (going_refusal ⟦<T as Coded>⟧.coding party.old.doing said ≡ None) }
+        (going_refusal ⟦<T as Coded>⟧.coding kept.old party.old.doing said ≡ None) }
     ensures refused { IfErr result
-        (IsGoingRefusal ⟦<T as Coded>⟧.coding party.old.doing said) }
+        (IsGoingRefusal ⟦<T as Coded>⟧.coding kept.old party.old.doing said) }
     ensures ok { OnOk result (around party.new words.new.items kept.new changes.new events.new.items
         ≡ after_turn_of ⟦<T as Coded>⟧.coding number said beside party.old.doing
         (around party.old words.old.items kept.old changes.old events.old.items)) }
@@ -79,13 +79,17 @@ fn go_on<T: Words>(
     let Doing::Going(flight, since) = &mut party.doing else {
         return Err(Refusal::Idle);
     };
-    let (ask, answer) = match (flight.want(), said) {
+    let (want, most) = flight.going();
+    let (ask, answer) = match (want, said) {
         (Want::Question(_), Some(said)) => (None, number_of(said)),
         (Want::Ask(ask), None) => (Some(ask), words::old(words, Some(ask))),
         (Want::Nothing, None) => (None, 0),
         _ => return Err(Refusal::Undecided),
     };
-    let Ok(()) = events.reserve(flight.most_effects() + 1) else {
+    if let Some(refusal) = flight.going_refusal(kept, said) {
+        return Err(refusal);
+    }
+    let Ok(()) = events.reserve(most + 1) else {
         return Err(Refusal::NoMemory);
     };
     let change = words::change(words, ask);
@@ -214,6 +218,32 @@ impl<T: Words> Parts<T> {
         }
     }
 
+    /// The owner dies, unless that is refused.
+    fn die(&mut self, owner: OwnerId) -> Result<(), Refusal>
+        requires { self.old.turns < 2 ^ 64 - 2 }
+        ensures allowed { OnOk result
+            (refusal_of (trace_of ⟦<T as Coded>⟧.coding self.old).world (Turn.Die owner) ≡ None) }
+        ensures refused { IfErr result
+            (IsRefusal (trace_of ⟦<T as Coded>⟧.coding self.old).world (Turn.Die owner)) }
+        ensures ok { OnOk result
+            (trace_of ⟦<T as Coded>⟧.coding self.new
+            ≡ after_turn (trace_of ⟦<T as Coded>⟧.coding self.old) (Turn.Die owner)) }
+        ensures err { OnErr result (state_of self.new ≡ state_of self.old) }
+    {
+        if let Some(refusal) = families::death_refusal(&self.kept, owner) {
+            return Err(refusal);
+        }
+        let Ok(()) = self.events.reserve(1) else {
+            return Err(Refusal::NoMemory);
+        };
+        if !families::die(&mut self.kept, owner) {
+            return Err(Refusal::NoMemory);
+        }
+        self.events.push_reserved(Event::Died(owner));
+        self.turns += 1;
+        Ok(())
+    }
+
     /// One turn.
     pub fn step(&mut self, turn: Turn<T>) -> Result<(), Refusal>
         requires { IsSmall (trace_of ⟦<T as Coded>⟧.coding self.old).world }
@@ -232,7 +262,7 @@ impl<T: Words> Parts<T> {
             Turn::Begin(number, start) => self.begin(number, start),
             Turn::Next(number) => self.resume(number, None),
             Turn::Decide(number, said) => self.resume(number, Some(said)),
-            Turn::Die(_) => Err(Refusal::WrongCall),
+            Turn::Die(owner) => self.die(owner),
         }
     }
 }

@@ -31,11 +31,11 @@ const fn release_or_lock(index: u64) -> Start<u128> {
 }
 
 /// One turn. No test needs what its contract says, and each call through it is proved without.
-fn go(machine: &mut Machine<u128>, turn: Turn<u128>) -> Result<(), Refusal> {
+pub fn go(machine: &mut Machine<u128>, turn: Turn<u128>) -> Result<(), Refusal> {
     machine.step(turn)
 }
 
-fn goes(machine: &mut Machine<u128>, party: u32, turns: u64) -> Result<(), Refusal> {
+pub fn goes(machine: &mut Machine<u128>, party: u32, turns: u64) -> Result<(), Refusal> {
     for _ in 0..turns {
         go(machine, Turn::Next(party))?;
     }
@@ -43,7 +43,7 @@ fn goes(machine: &mut Machine<u128>, party: u32, turns: u64) -> Result<(), Refus
 }
 
 /// Whether the last event is the finish of this call of this party with this answer.
-fn has_answered(
+pub fn has_answered(
     machine: &Machine<u128>,
     party: u32,
     start: Start<u128>,
@@ -53,9 +53,9 @@ fn has_answered(
 }
 
 /// A party, its call, the turns that it takes, and the answer that the last of them gives.
-type Row = (u32, Start<u128>, u64, Answer<u128>);
+pub type Row = (u32, Start<u128>, u64, Answer<u128>);
 
-fn play(rt: &impl Abort, machine: &mut Machine<u128>, rows: &[Row]) -> Result<(), Refusal> {
+pub fn play(rt: &impl Abort, machine: &mut Machine<u128>, rows: &[Row]) -> Result<(), Refusal> {
     for (at, (party, start, turns, answer)) in rows.iter().enumerate() {
         go(machine, Turn::Begin(*party, *start))?;
         goes(machine, *party, *turns)?;

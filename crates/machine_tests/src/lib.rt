@@ -8,6 +8,8 @@ mod bits;
 #[cfg(test)]
 mod indices;
 #[cfg(test)]
+mod robust;
+#[cfg(test)]
 mod rows;
 #[cfg(test)]
 mod runs;

@@ -1,6 +1,6 @@
 //! The worked rows of both queues, each refusal that it can show, and answers that no clause rules out.
-use crate::rows::{Row, made, play};
-use machine::event::{Answer, Event, Item, Start};
+use crate::rows::{QueueEvent, Row, made, play};
+use machine::event::{Answer, Item};
 use machine::families::queues::QueueStart;
 use machine::turn::{Kind, Refusal, capacity_error};
 use std::test::Fail;
@@ -78,21 +78,13 @@ const STOPPED_PUSH: [Row; 6] = [
     Row::Events(
         4,
         &[
-            Event::Begun(0, Start::Queues(QueueStart::PushIndex(5))),
-            Event::Begun(1, Start::Queues(QueueStart::Pop)),
-            Event::Acted(1, Start::Queues(QueueStart::Pop), Answer::PoppedNone),
-            Event::Finished(1, Start::Queues(QueueStart::Pop), Answer::PoppedNone),
-            Event::Published(0, Item::Index(5)),
-            Event::Acted(
-                0,
-                Start::Queues(QueueStart::PushIndex(5)),
-                Answer::Truth(true),
-            ),
-            Event::Finished(
-                0,
-                Start::Queues(QueueStart::PushIndex(5)),
-                Answer::Truth(true),
-            ),
+            QueueEvent::Begun(0, QueueStart::PushIndex(5)),
+            QueueEvent::Begun(1, QueueStart::Pop),
+            QueueEvent::Acted(1, QueueStart::Pop, Answer::PoppedNone),
+            QueueEvent::Finished(1, QueueStart::Pop, Answer::PoppedNone),
+            QueueEvent::Published(0, Item::Index(5)),
+            QueueEvent::Acted(0, QueueStart::PushIndex(5), Answer::Truth(true)),
+            QueueEvent::Finished(0, QueueStart::PushIndex(5), Answer::Truth(true)),
         ],
     ),
 ];
@@ -139,20 +131,12 @@ const EACH_BACK: [Row; 10] = [
     Row::Events(
         4,
         &[
-            Event::Begun(0, Start::Queues(QueueStart::PushIndex(7))),
-            Event::Acted(
-                0,
-                Start::Queues(QueueStart::PushIndex(7)),
-                Answer::PoppedIndex(7),
-            ),
-            Event::Finished(
-                0,
-                Start::Queues(QueueStart::PushIndex(7)),
-                Answer::PoppedIndex(7),
-            ),
-            Event::Begun(1, Start::Queues(QueueStart::Pop)),
-            Event::Acted(1, Start::Queues(QueueStart::Pop), Answer::PoppedNone),
-            Event::Finished(1, Start::Queues(QueueStart::Pop), Answer::PoppedNone),
+            QueueEvent::Begun(0, QueueStart::PushIndex(7)),
+            QueueEvent::Acted(0, QueueStart::PushIndex(7), Answer::PoppedIndex(7)),
+            QueueEvent::Finished(0, QueueStart::PushIndex(7), Answer::PoppedIndex(7)),
+            QueueEvent::Begun(1, QueueStart::Pop),
+            QueueEvent::Acted(1, QueueStart::Pop, Answer::PoppedNone),
+            QueueEvent::Finished(1, QueueStart::Pop, Answer::PoppedNone),
         ],
     ),
     Row::Counts(0, 0, 0, 0, true),
@@ -176,20 +160,12 @@ const POP_MAKES_ROOM: [Row; 9] = [
     Row::Events(
         14,
         &[
-            Event::Begun(1, Start::Queues(QueueStart::Pop)),
-            Event::HandedOut(1, Item::Index(1)),
-            Event::Acted(1, Start::Queues(QueueStart::Pop), Answer::PoppedIndex(1)),
-            Event::Acted(
-                0,
-                Start::Queues(QueueStart::PushIndex(2)),
-                Answer::PoppedNone,
-            ),
-            Event::Finished(1, Start::Queues(QueueStart::Pop), Answer::PoppedIndex(1)),
-            Event::Finished(
-                0,
-                Start::Queues(QueueStart::PushIndex(2)),
-                Answer::PoppedNone,
-            ),
+            QueueEvent::Begun(1, QueueStart::Pop),
+            QueueEvent::HandedOut(1, Item::Index(1)),
+            QueueEvent::Acted(1, QueueStart::Pop, Answer::PoppedIndex(1)),
+            QueueEvent::Acted(0, QueueStart::PushIndex(2), Answer::PoppedNone),
+            QueueEvent::Finished(1, QueueStart::Pop, Answer::PoppedIndex(1)),
+            QueueEvent::Finished(0, QueueStart::PushIndex(2), Answer::PoppedNone),
         ],
     ),
     Row::Counts(0, 5, 0, 1, true),
@@ -205,12 +181,8 @@ const MOVED_READ: [Row; 7] = [
     Row::Events(
         13,
         &[
-            Event::Published(0, Item::Index(2)),
-            Event::Acted(
-                0,
-                Start::Queues(QueueStart::PushIndex(2)),
-                Answer::PoppedNone,
-            ),
+            QueueEvent::Published(0, Item::Index(2)),
+            QueueEvent::Acted(0, QueueStart::PushIndex(2), Answer::PoppedNone),
         ],
     ),
     Row::Ends(0, 1, Answer::PoppedNone),
@@ -253,13 +225,9 @@ const REFUSALS: [Row; 19] = [
     Row::Events(
         0,
         &[
-            Event::Begun(0, Start::Queues(QueueStart::AcquireProducer)),
-            Event::Finished(
-                0,
-                Start::Queues(QueueStart::AcquireProducer),
-                Answer::Truth(true),
-            ),
-            Event::Begun(0, Start::Queues(QueueStart::PushIndex(3))),
+            QueueEvent::Begun(0, QueueStart::AcquireProducer),
+            QueueEvent::Finished(0, QueueStart::AcquireProducer, Answer::Truth(true)),
+            QueueEvent::Begun(0, QueueStart::PushIndex(3)),
         ],
     ),
 ];

@@ -213,17 +213,18 @@ module _ {T : Type 0} (F : Family T) where
     pub calls : (q : ℕ) (start : Start T) (flight : Flight T) → F.At s.state q start flight → F.At state q start flight × (F.written state q flight ≡ F.written s.state q flight)
     pub calls_know : (q since backs : ℕ) (flight : Flight T) → F.Knows s.state q t.events since t.world.changes backs flight → F.Knows state q (t.events ++ Died owner ∷ []) since t.world.changes backs flight
 
-  -- of a kind without owners none dies
-  pub no_death : has_owners F.kind ≡ false → (t : Trace T) (owner : ℕ) (s : Sound t) → MayDie t.world owner → ComesByDeath t s owner
+  -- where a family keeps no owners none dies
+  pub no_death : ((kept : Kept) (words : List ℕ) (state : F.State) → F.Fit kept words state → has_owners kept ≡ false) → (t : Trace T) (owner : ℕ) (s : Sound t) → MayDie t.world owner → ComesByDeath t s owner
   no_death none t owner s may =
-      let owners : has_owners F.kind ≡ true = subst (λ k. has_owners k ≡ true) s.kind (is_true (has_owners t.world.kind) may.owners) in
+      let owners = is_true (has_owners t.world.kept) may.owners in
+      let without = none t.world.kept t.world.words s.state s.fit in
       absurd (cc)
 
   -- what a family owes, of a call that passes its rows
   pub record Laws : Type 0 where
-    pub step : (t : Trace T) (p : ℕ) (x : Party T) (flight : Flight T) (since : ℕ) → Sound t → t.world.turns < 2 ^ 64 - 2 → first_row (going_rows t.world.kept (Some flight) None) ≡ None → party_of p t.world.latest ≡ Some x → x.doing ≡ Going flight since
+    pub step : (t : Trace T) (p : ℕ) (x : Party T) (flight : Flight T) (since : ℕ) → Sound t → t.world.turns < 2 ^ 64 - 2 → first_row (going_rows t.world.coding t.world.kept (Some flight) None) ≡ None → party_of p t.world.latest ≡ Some x → x.doing ≡ Going flight since
         → ComesByStep t p x flight since (ask_of (want_of t.world.coding flight)) (old_of t.world.words (ask_of (want_of t.world.coding flight)))
-    pub decision : (t : Trace T) (p : ℕ) (x : Party T) (flight : Flight T) (since : ℕ) (said : Bool) → Sound t → t.world.turns < 2 ^ 64 - 2 → first_row (going_rows t.world.kept (Some flight) (Some said)) ≡ None → party_of p t.world.latest ≡ Some x → x.doing ≡ Going flight since → is_question (want_of t.world.coding flight) ≡ true
+    pub decision : (t : Trace T) (p : ℕ) (x : Party T) (flight : Flight T) (since : ℕ) (said : Bool) → Sound t → t.world.turns < 2 ^ 64 - 2 → first_row (going_rows t.world.coding t.world.kept (Some flight) (Some said)) ≡ None → party_of p t.world.latest ≡ Some x → x.doing ≡ Going flight since → is_question (want_of t.world.coding flight) ≡ true
         → ComesByStep t p x flight since None (number_of said)
     pub begin : (t : Trace T) (p : ℕ) (start : Start T) (flight : Flight T) → Sound t → MayBegin t.world p start → first_of t.world.kind t.world.capacity start ≡ Some flight
         → Comes t p t.world.kept t.world.words (party_at_begin start flight t.world.changes) (Begun p start ∷ []) t.world.changes
@@ -248,7 +249,7 @@ module _ {T : Type 0} (F : Family T) where
     same : (t : Trace T) → Sound t → Sound record { world = t.world; events = t.events ++ [] }
     same t s = subst (λ es. Sound record { world = t.world; events = es }) (sym (append-nil t.events)) s
 
-    next_sound : (t : Trace T) (p : ℕ) → MayGoOn t.world p → first_row (going_rows t.world.kept (flight_in t.world p) None) ≡ None → Sound t → (o : Option (Party T)) → party_of p t.world.latest ≡ o → Sound record { world = after_next t.world p o; events = t.events ++ events_of_next t.world p o }
+    next_sound : (t : Trace T) (p : ℕ) → MayGoOn t.world p → first_row (going_rows t.world.coding t.world.kept (flight_in t.world p) None) ≡ None → Sound t → (o : Option (Party T)) → party_of p t.world.latest ≡ o → Sound record { world = after_next t.world p o; events = t.events ++ events_of_next t.world p o }
     next_sound t p may rows s None e = same t s
     next_sound t p may rows s (Some x) e = go x.doing refl
       where
@@ -256,11 +257,11 @@ module _ {T : Type 0} (F : Family T) where
         go (Over others) d = same t s
         go (Going flight since) d =
             let here : flight_in t.world p ≡ Some flight = ap (λ o. flight_of (doing_of o)) e ∙ ap (λ d. flight_of (Some d)) d in
-            let passed : first_row (going_rows t.world.kept (Some flight) None) ≡ None = subst (λ o. first_row (going_rows t.world.kept o None) ≡ None) here rows in
+            let passed : first_row (going_rows t.world.coding t.world.kept (Some flight) None) ≡ None = subst (λ o. first_row (going_rows t.world.coding t.world.kept o None) ≡ None) here rows in
             step_sound t p x flight since (ask_of (want_of t.world.coding flight)) (old_of t.world.words (ask_of (want_of t.world.coding flight))) s
             (laws.step t p x flight since s may.turns passed e d)
 
-    decision_sound : (t : Trace T) (p : ℕ) (said : Bool) → MayGoOn t.world p → first_row (going_rows t.world.kept (flight_in t.world p) (Some said)) ≡ None → is_due t.world.coding (flight_in t.world p) ≡ true → Sound t → (o : Option (Party T)) → party_of p t.world.latest ≡ o
+    decision_sound : (t : Trace T) (p : ℕ) (said : Bool) → MayGoOn t.world p → first_row (going_rows t.world.coding t.world.kept (flight_in t.world p) (Some said)) ≡ None → is_due t.world.coding (flight_in t.world p) ≡ true → Sound t → (o : Option (Party T)) → party_of p t.world.latest ≡ o
         → Sound record { world = after_decision t.world p said o; events = t.events ++ events_of_decision t.world p said o }
     decision_sound t p said may rows due s None e = same t s
     decision_sound t p said may rows due s (Some x) e = go x.doing refl
@@ -270,7 +271,7 @@ module _ {T : Type 0} (F : Family T) where
         go (Going flight since) d =
             let here : flight_in t.world p ≡ Some flight = ap (λ o. flight_of (doing_of o)) e ∙ ap (λ d. flight_of (Some d)) d in
             let asks : is_question (want_of t.world.coding flight) ≡ true = rw here at due in
-            let passed : first_row (going_rows t.world.kept (Some flight) (Some said)) ≡ None = subst (λ o. first_row (going_rows t.world.kept o (Some said)) ≡ None) here rows in
+            let passed : first_row (going_rows t.world.coding t.world.kept (Some flight) (Some said)) ≡ None = subst (λ o. first_row (going_rows t.world.coding t.world.kept o (Some said)) ≡ None) here rows in
             step_sound t p x flight since None (number_of said) s (laws.decision t p x flight since said s may.turns passed e d asks)
 
     begin_sound : (t : Trace T) (p : ℕ) (start : Start T) → MayBegin t.world p start → Sound t → (o : Option (Flight T)) → first_of t.world.kind t.world.capacity start ≡ o → Sound record { world = after_begin t.world p start o; events = t.events ++ Begun p start ∷ [] }

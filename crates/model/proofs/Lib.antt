@@ -1,4 +1,5 @@
 pub mod Counts
+pub mod Dead
 pub mod Frame
 pub mod Moments
 pub mod Orders

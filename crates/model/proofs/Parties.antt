@@ -12,7 +12,7 @@ use Rattle.model.specs.declared.party.Party.{Party}
 use Rattle.model.specs.Parties.{party_of, put}
 use Rattle.std.specs.Ordering.{is_eq, match_ordering, nat_cmp}
 
-equal_keys : (p q : ℕ) → nat_cmp p q ≡ Equal → p ≡ q
+pub equal_keys : (p q : ℕ) → nat_cmp p q ≡ Equal → p ≡ q
 equal_keys p q e = go (nat_lt p q) refl (p == q) refl e
   where
     go : (b : Bool) → nat_lt p q ≡ b → (d : Bool) → (p == q) ≡ d → cond b Less (cond d Equal Greater) ≡ Equal → p ≡ q
@@ -20,7 +20,7 @@ equal_keys p q e = go (nat_lt p q) refl (p == q) refl e
     go false s true t e = grind (arith, nat_tests)
     go false s false t e = absurd (cc)
 
-apart : (p q : ℕ) → p ≢ q → is_eq (nat_cmp p q) ≡ false
+pub apart : (p q : ℕ) → p ≢ q → is_eq (nat_cmp p q) ≡ false
 apart p q ne = go (nat_lt p q) refl
   where
     t : (p == q) ≡ false
@@ -30,7 +30,7 @@ apart p q ne = go (nat_lt p q) refl
     go true s = refl
     go false s = rw t refl
 
-itself : (p : ℕ) → is_eq (nat_cmp p p) ≡ true
+pub itself : (p : ℕ) → is_eq (nat_cmp p p) ≡ true
 itself p =
     let s : nat_lt p p ≡ false = grind (arith, nat_tests) in
     let t : (p == p) ≡ true = grind (arith, nat_tests) in

@@ -4,7 +4,7 @@ use Rattle.std.proofs.lemmas.Bool.Decides.{nat_tests}
 use Rattle.std.proofs.lemmas.List.Sums.{fold-append}
 use Rattle.model.specs.declared.event.Event.{Event}
 use Rattle.model.specs.declared.event.Event.TheVariants.{Died}
-use Rattle.model.specs.Reading.{Each, owner, Span, Never, own_after, span_after, span_of}
+use Rattle.model.specs.Reading.{Each, whose, Span, Never, own_after, span_after, span_of}
 
 module _ {A : Type 0} where
   -- the last of a list, or one before it
@@ -57,12 +57,12 @@ module _ {T : Type 0} where
   -- all of these are p's events
   abbrev pub AreOwn : ℕ → List (Event T) → Type 0
   AreOwn p [] = Unit {0}
-  AreOwn p (e ∷ es) = (owner e ≡ Some p) × AreOwn p es
+  AreOwn p (e ∷ es) = (whose e ≡ Some p) × AreOwn p es
 
-  own_one : (p : ℕ) (span : Span T) (e : Event T) → owner e ≡ Some p → span_after p span e ≡ own_after span e
+  own_one : (p : ℕ) (span : Span T) (e : Event T) → whose e ≡ Some p → span_after p span e ≡ own_after span e
   own_one p span e h = let t : (p == p) ≡ true = grind (arith, nat_tests) in rw (h, t) refl
 
-  other_one : (p q : ℕ) (span : Span T) (e : Event T) → q ≢ p → owner e ≡ Some p → span_after q span e ≡ span
+  other_one : (p q : ℕ) (span : Span T) (e : Event T) → q ≢ p → whose e ≡ Some p → span_after q span e ≡ span
   other_one p q span e ne h = let t : (p == q) ≡ false = grind (arith, nat_tests) in rw (h, t) refl
 
   own_fold : (p : ℕ) (span : Span T) (es : List (Event T)) → AreOwn p es → fold (span_after p) span es ≡ fold own_after span es
@@ -93,7 +93,7 @@ module _ {T : Type 0} where
   AllFollow R span (e ∷ es) = R e span × AllFollow R (own_after span e) es
 
   pub spans_right : (R : Event T → Span T → Type 0) (p : ℕ) (events es : List (Event T)) (span : Span T) → span_of p events ≡ span → AreOwn p es → AllFollow R span es
-      → AreRight (λ before e. IfSome (owner e) (λ q. R e (span_of q before))) events es
+      → AreRight (λ before e. IfSome (whose e) (λ q. R e (span_of q before))) events es
   spans_right R p events [] span is own all = tt
   spans_right R p events (e ∷ es) span is own all =
       let next : span_of p (events ++ e ∷ []) ≡ own_after span e = span_of-own p events (e ∷ []) (own.0, tt) ∙ ap (λ s. own_after s e) is in

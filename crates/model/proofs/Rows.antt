@@ -94,7 +94,7 @@ module _ {T : Type 0} where
       d.0
 
   -- the family's rows of a call that goes on
-  pub next_passes : (w : World T) (p : ℕ) → refusal_of w (Next p) ≡ None → first_row (going_rows w.kept (flight_in w p) None) ≡ None
+  pub next_passes : (w : World T) (p : ℕ) → refusal_of w (Next p) ≡ None → first_row (going_rows w.coding w.kept (flight_in w p) None) ≡ None
   next_passes w p e =
       let a = row_passed (is_at_end w) AtEnd _ e in
       let b = row_passed (nat_le w.parties p) NoParty _ a.1 in
@@ -102,7 +102,7 @@ module _ {T : Type 0} where
       let d = row_passed (is_due w.coding (flight_in w p)) Undecided _ c.1 in
       d.1
 
-  pub decision_passes : (w : World T) (p : ℕ) (said : Bool) → refusal_of w (Decide p said) ≡ None → first_row (going_rows w.kept (flight_in w p) (Some said)) ≡ None
+  pub decision_passes : (w : World T) (p : ℕ) (said : Bool) → refusal_of w (Decide p said) ≡ None → first_row (going_rows w.coding w.kept (flight_in w p) (Some said)) ≡ None
   decision_passes w p said e =
       let a = row_passed (is_at_end w) AtEnd _ e in
       let b = row_passed (nat_le w.parties p) NoParty _ a.1 in
@@ -112,13 +112,13 @@ module _ {T : Type 0} where
 
   pub record MayDie (w : World T) (owner : ℕ) : Type 0 where
     pub turns : w.turns < 2 ^ 64 - 2
-    pub owners : not (has_owners w.kind) ≡ false
+    pub owners : not (has_owners w.kept) ≡ false
     pub lives : is_dead w.kept owner ≡ false
 
   pub may_die : (w : World T) (owner : ℕ) → refusal_of w (Die owner) ≡ None → MayDie w owner
   may_die w owner e =
       let a = row_passed (is_at_end w) AtEnd _ e in
-      let b = row_passed (not (has_owners w.kind)) WrongCall _ a.1 in
+      let b = row_passed (not (has_owners w.kept)) WrongCall _ a.1 in
       let c = row_passed (is_dead w.kept owner) OwnerIsDead _ b.1 in
       let at : nat_le (2 ^ 64 - 2) w.turns ≡ false = a.0 in
       record { turns = grind (arith, nat_tests); owners = b.0; lives = c.0 }

@@ -16,7 +16,7 @@ use Rattle.model.specs.declared.party.Doing.TheVariants.{Going, Over}
 use Rattle.model.specs.declared.party.Party.{Party}
 use Rattle.model.specs.declared.turn.Turn.{Turn}
 use Rattle.model.specs.declared.turn.Turn.TheVariants.{Begin, Next, Decide, Die}
-use Rattle.model.specs.Families.{first_of, want_of, ask_of, after_of, beside_of, step_of}
+use Rattle.model.specs.Families.{first_of, want_of, ask_of, after_of}
 use Rattle.model.specs.Parties.{party_of, doing_of, flight_of, progress_after}
 use Rattle.model.specs.Promises.Turns.{IsOneTurnLater, ask_of_flight, WritesOneWord, StandsAt, GoesOn, BothGoOn, CountsTurn, BothSee, CountsOthers}
 use Rattle.model.specs.Refusals.{refusal_of}

@@ -1,5 +1,5 @@
 -- The definitions of the robust index set at worked runs.
-use Rattle.std.proofs.Common.{◌≡◌, ℕ, ◌-◌, ◌^◌, true, false, Option, Some, None, List, [], ◌∷◌, ◌++◌, replicate, refl}
+use Rattle.std.proofs.Common.{◌≡◌, ℕ, ◌-◌, ◌^◌, true, false, Some, None, List, [], ◌∷◌, ◌++◌, refl}
 use Rattle.steps.specs.declared.indices.enums.ReleaseMode.{ReleaseMode}
 use Rattle.steps.specs.declared.indices.enums.ReleaseMode.TheVariants.{LockIfLastIndex, Default}
 use Rattle.steps.specs.declared.indices.enums.ReleaseState as states
@@ -11,14 +11,13 @@ use Rattle.model.specs.declared.event.Event.TheVariants.{Begun, Filled, Granted,
 use Rattle.model.specs.declared.event.Start.{Start}
 use Rattle.model.specs.declared.event.Start.TheVariants.{Robust}
 use Rattle.model.specs.declared.families.Kept.TheVariants as kepts
-use Rattle.model.specs.declared.families.indices.robust.RobustStart.TheVariants.{Acquire, Release, Find, Recover, BorrowedIndices, IsLocked}
+use Rattle.model.specs.declared.families.indices.robust.RobustStart.TheVariants.{Acquire, Release, Find, Recover, BorrowedIndices}
 use Rattle.model.specs.declared.turn.Kind as kinds
 use Rattle.model.specs.declared.turn.Refusal.TheVariants.{BadIndex, OwnerIsDead, OwnerLives, Undecided, WrongCall}
 use Rattle.model.specs.declared.turn.Turn.{Turn}
 use Rattle.model.specs.declared.turn.Turn.TheVariants.{Begin, Next, Decide, Die}
 use Rattle.model.specs.Coding.{one_word}
 use Rattle.model.specs.Refusals.{refusal_of}
-use Rattle.model.specs.Turns.{run}
 use Rattle.model.specs.World.{Trace, opening, progress_in}
 use Rattle.model.proofs.Runs.{nexts, begins, ran}
 

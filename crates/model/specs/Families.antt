@@ -107,25 +107,21 @@ module _ {T : Type 0} where
   abbrev pub after_of : Coding T → Flight T → ℕ → After (Flight T) (Answer T)
   after_of code flight old = (going_of code flight).after old
 
+  -- how many events its next step writes at most, apart from the end of the call
+  abbrev pub most_of : Coding T → Flight T → ℕ
+  most_of code flight = (going_of code flight).most
+
   -- what a family tests of a call under way that is to go on, by a decision or without, in order
-  abbrev pub going_rows : Kept → Option (Flight T) → Option Bool → List (Bool × Refusal)
-  going_rows (kepts.TheVariants.Owners dead) (Some (flights.TheVariants.Robust flight)) said =
-      robust_opening.going_rows dead flight said
-  going_rows kept flight said = []
+  abbrev pub going_rows : Coding T → Kept → Option (Flight T) → Option Bool
+      → List (Bool × Refusal)
+  going_rows code kept None said = []
+  going_rows code kept (Some flight) said = (going_of code flight).rows kept said
 
   -- what a step of this party has to know of the others
   abbrev pub beside_of : List ℕ → Kept → List (ℕ × Party T) → ℕ → Option (ℕ × ℕ)
   beside_of words (kepts.TheVariants.Queues roles) latest p =
       queue_steps.beside roles words latest p
   beside_of words kept latest p = None
-
-  -- how many events a step of the call writes at most, apart from the end of the call
-  abbrev pub most_effects_of : Flight T → ℕ
-  most_effects_of (flights.TheVariants.Queues flight) = queue_steps.most_effects flight
-  most_effects_of (flights.TheVariants.Atomic flight) = atomic_steps.most_effects flight
-  most_effects_of (flights.TheVariants.Bits flight) = bits_steps.most_effects flight
-  most_effects_of (flights.TheVariants.Indices flight) = index_steps.most_effects flight
-  most_effects_of (flights.TheVariants.Robust flight) = robust_steps.most_effects flight
 
   -- What the step of a call comes to, in these words and from this old value of its word. Where the
   -- name, the call and what is kept are not of one family, nothing happens.
@@ -156,10 +152,10 @@ module _ {T : Type 0} where
 
 -- ---- an owner dies
 
--- whether a structure of a kind has owners
-abbrev pub has_owners : Kind → Bool
-has_owners kinds.TheVariants.Robust = true
-has_owners kind = false
+-- whether a structure has owners
+abbrev pub has_owners : Kept → Bool
+has_owners (kepts.TheVariants.Owners dead) = true
+has_owners kept = false
 
 -- whether the owner is dead
 abbrev pub is_dead : Kept → ℕ → Bool
@@ -167,9 +163,9 @@ is_dead (kepts.TheVariants.Owners dead) owner = has_died owner dead
 is_dead kept owner = false
 
 -- what is tested of an owner who is to die
-abbrev pub death_rows : Kind → Kept → ℕ → List (Bool × Refusal)
-death_rows kind kept owner =
-    (not (has_owners kind), WrongCall) ∷ (is_dead kept owner, OwnerIsDead) ∷ []
+abbrev pub death_rows : Kept → ℕ → List (Bool × Refusal)
+death_rows kept owner =
+    (not (has_owners kept), WrongCall) ∷ (is_dead kept owner, OwnerIsDead) ∷ []
 
 -- what a family keeps once the owner is dead
 abbrev pub kept_after_death : Kept → ℕ → Kept

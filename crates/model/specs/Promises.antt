@@ -30,6 +30,10 @@ module _ {T : Type 0} where
   abbrev pub WritesEvents : Trace T → Turn T → Trace T → Type 0
   WritesEvents old turn new = WritesDown (promise_of old.world.kind) old turn new
 
+  -- what the kind tells of it beside that
+  abbrev pub TellsBeside : Trace T → Turn T → Trace T → Type 0
+  TellsBeside old turn new = (promise_of old.world.kind).tells old turn new
+
   abbrev pub IsTurn : Trace T → Turn T → Trace T → Type 0
   IsTurn old turn new = IsTurnBy (promise_of old.world.kind) old turn new
 

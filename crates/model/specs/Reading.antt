@@ -25,25 +25,25 @@ module _ {T : Type 0} where
   -- ---- spans
 
   -- whose event it is: a party's, or of none where an owner dies
-  abbrev pub owner : Event T → Option ℕ
-  owner (Begun p start) = Some p
-  owner (Published p item) = Some p
-  owner (HandedOut p item) = Some p
-  owner (Set p bit) = Some p
-  owner (Cleared p bit) = Some p
-  owner (Counted p place) = Some p
-  owner (TakenOut p place number) = Some p
-  owner (Claimed p index) = Some p
-  owner (Freed p index) = Some p
-  owner (Locked p) = Some p
-  owner (Filled p index o) = Some p
-  owner (Granted p index o) = Some p
-  owner (FreedOf p index o) = Some p
-  owner (Asked p index o) = Some p
-  owner (Told p index o) = Some p
-  owner (Died o) = None
-  owner (Acted p start answer) = Some p
-  owner (Finished p start answer) = Some p
+  abbrev pub whose : Event T → Option ℕ
+  whose (Begun p start) = Some p
+  whose (Published p item) = Some p
+  whose (HandedOut p item) = Some p
+  whose (Set p bit) = Some p
+  whose (Cleared p bit) = Some p
+  whose (Counted p place) = Some p
+  whose (TakenOut p place number) = Some p
+  whose (Claimed p index) = Some p
+  whose (Freed p index) = Some p
+  whose (Locked p) = Some p
+  whose (Filled p index o) = Some p
+  whose (Granted p index o) = Some p
+  whose (FreedOf p index o) = Some p
+  whose (Asked p index o) = Some p
+  whose (Told p index o) = Some p
+  whose (Died o) = None
+  whose (Acted p start answer) = Some p
+  whose (Finished p start answer) = Some p
 
 abbrev pub is_party : ℕ → Option ℕ → Bool
 is_party p None = false
@@ -74,7 +74,7 @@ module _ {T : Type 0} where
   own_after span e = longer span e
 
   abbrev pub span_after : ℕ → Span T → Event T → Span T
-  span_after p span e = if is_party p (owner e) then own_after span e else span
+  span_after p span e = if is_party p (whose e) then own_after span e else span
 
   -- the span of the party's latest call
   abbrev pub span_of : ℕ → List (Event T) → Span T

@@ -1,5 +1,5 @@
 -- Which turns are refused.
-use Rattle.std.specs.Prelude.{◌≡◌, ◌⊎◌, ℕ, ◌-◌, ◌^◌, Bool, true, false, not, Option, Some, None, is_some, is_none, List, [], ◌∷◌, nat_le}
+use Rattle.std.specs.Prelude.{◌≡◌, ◌⊎◌, ℕ, ◌-◌, ◌^◌, Bool, false, not, Option, Some, None, is_some, is_none, List, ◌∷◌, nat_le}
 use Rattle.model.specs.declared.families.Flight.{Flight}
 use Rattle.model.specs.declared.turn.Turn.{Turn}
 use Rattle.model.specs.declared.turn.Turn.TheVariants.{Begin, Next, Decide, Die}
@@ -39,14 +39,14 @@ module _ {T : Type 0} where
       ∷ (nat_le w.parties p, NoParty)
       ∷ (is_none (flight_in w p), Idle)
       ∷ (is_due w.coding (flight_in w p), Undecided)
-      ∷ going_rows w.kept (flight_in w p) None
+      ∷ going_rows w.coding w.kept (flight_in w p) None
   rows_of w (Decide p said) =
       (is_at_end w, AtEnd)
       ∷ (nat_le w.parties p, NoParty)
       ∷ (is_none (flight_in w p), Idle)
       ∷ (not (is_due w.coding (flight_in w p)), Undecided)
-      ∷ going_rows w.kept (flight_in w p) (Some said)
-  rows_of w (Die owner) = (is_at_end w, AtEnd) ∷ death_rows w.kind w.kept owner
+      ∷ going_rows w.coding w.kept (flight_in w p) (Some said)
+  rows_of w (Die owner) = (is_at_end w, AtEnd) ∷ death_rows w.kept owner
 
   abbrev pub refusal_of : World T → Turn T → Option Refusal
   refusal_of w turn = first_row (rows_of w turn)

@@ -1,7 +1,7 @@
 //! The families of calls. Each has a room of its own, and here one line where a machine passes on to it.
 ghost use Rattle.std.specs.Prelude.{◌≡◌, ◌+◌, ◌≤◌, ◌++◌, true, false, None, Some, OnOk, IfOk, IfErr, vec_len, vec_capacity};
 ghost use Rattle.steps.specs.Ask.{CameTo};
-ghost use Rattle.model.specs.Families.{opening_of, first_of, begin_rows, want_of, is_question, beside_of, most_effects_of, step_of, has_owners, going_rows, death_rows, kept_after_death};
+ghost use Rattle.model.specs.Families.{opening_of, first_of, begin_rows, want_of, is_question, most_of, beside_of, step_of, going_rows, death_rows, kept_after_death};
 ghost use Rattle.model.specs.Rows.{first_row};
 
 use crate::coding::Coded;
@@ -139,23 +139,10 @@ pub fn begin<T: Words>(
     }
 }
 
-/// Whether a structure of this kind has owners, who can die.
-fn has_owners(kind: Kind) -> bool
-    ensures { result ≡ has_owners kind }
+/// Why this owner may not die, or None. Only a structure that has owners keeps who has died.
+pub fn death_refusal(kept: &Kept, owner: OwnerId) -> Option<Refusal>
+    ensures { result ≡ first_row (death_rows kept.now owner) }
 {
-    match kind {
-        Kind::Robust => true,
-        _ => false,
-    }
-}
-
-/// Why this owner may not die, or None.
-pub fn death_refusal(kind: Kind, kept: &Kept, owner: OwnerId) -> Option<Refusal>
-    ensures { result ≡ first_row (death_rows kind kept.now owner) }
-{
-    if !has_owners(kind) {
-        return Some(Refusal::WrongCall);
-    }
     match kept {
         Kept::Owners(dead) => {
             if dead.has(owner) {
@@ -164,7 +151,7 @@ pub fn death_refusal(kind: Kind, kept: &Kept, owner: OwnerId) -> Option<Refusal>
                 None
             }
         }
-        _ => None,
+        _ => Some(Refusal::WrongCall),
     }
 }
 
@@ -190,16 +177,18 @@ pub fn look_beside<T>(kept: &Kept, words: &Vec<u64>, latest: &Latest<T>, number:
 }
 
 impl<T: Words> Flight<T> {
-    /// What the call wants next.
-    pub fn want(&self) -> Want<()>
-        ensures { result ≡ want_of ⟦<T as Coded>⟧.coding self.now }
+    /// What the call wants next, and the most events that its next step writes, apart from the end of the call.
+    pub fn going(&self) -> (Want<()>, usize)
+        ensures want { result.0 ≡ want_of ⟦<T as Coded>⟧.coding self.now }
+        ensures most { result.1 ≡ most_of ⟦<T as Coded>⟧.coding self.now }
+        ensures few { result.1 ≤ 64 }
     {
         match self {
-            Flight::Queues(flight) => flight.want(),
-            Flight::Atomic(flight) => flight.want(),
-            Flight::Bits(flight) => flight.want(),
-            Flight::Indices(flight) => flight.want(),
-            Flight::Robust(flight) => flight.want(),
+            Flight::Queues(flight) => (flight.want(), queues::effects::MOST_EFFECTS),
+            Flight::Atomic(flight) => (flight.want(), atomic::effects::MOST_EFFECTS),
+            Flight::Bits(flight) => (flight.want(), flight.most_effects()),
+            Flight::Indices(flight) => (flight.want(), indices::effects::MOST_EFFECTS),
+            Flight::Robust(flight) => (flight.want(), indices::robust::effects::MOST_EFFECTS),
         }
     }
 
@@ -207,7 +196,8 @@ impl<T: Words> Flight<T> {
     pub fn is_asking(&self) -> bool
         ensures { result ≡ is_question (want_of ⟦<T as Coded>⟧.coding self.now) }
     {
-        match self.want() {
+        let (want, _) = self.going();
+        match want {
             Want::Question(_) => true,
             _ => false,
         }
@@ -215,25 +205,11 @@ impl<T: Words> Flight<T> {
 
     /// Why the call may not go on, by a decision or without, for what its family keeps. None where it may.
     pub fn going_refusal(&self, kept: &Kept, said: Option<bool>) -> Option<Refusal>
-        ensures { result ≡ first_row (going_rows kept.now (Some self.now) said) }
+        ensures { result ≡ first_row (going_rows ⟦<T as Coded>⟧.coding kept.now (Some self.now) said) }
     {
         match (self, kept) {
             (Flight::Robust(flight), Kept::Owners(dead)) => flight.going_refusal(dead, said),
             _ => None,
-        }
-    }
-
-    /// The most events that a step of the call writes, apart from the end of the call.
-    pub fn most_effects(&self) -> usize
-        ensures most { result ≡ most_effects_of self.now }
-        ensures few { result ≤ 64 }
-    {
-        match self {
-            Flight::Queues(_) => queues::effects::MOST_EFFECTS,
-            Flight::Atomic(_) => atomic::effects::MOST_EFFECTS,
-            Flight::Bits(flight) => flight.most_effects(),
-            Flight::Indices(_) => indices::effects::MOST_EFFECTS,
-            Flight::Robust(_) => indices::robust::effects::MOST_EFFECTS,
         }
     }
 
@@ -249,7 +225,8 @@ impl<T: Words> Flight<T> {
         kept: &mut Kept,
         events: &mut Vec<Event<T>>,
     ) -> Went<T>
-        requires { vec_len events.old + most_effects_of self.old ≤ vec_capacity events.old }
+        requires { vec_len events.old + most_of ⟦<T as Coded>⟧.coding self.old
+            ≤ vec_capacity events.old }
         ensures after { CameTo result.done self.new (step_of ⟦<T as Coded>⟧.coding words.now.items beside
             number start.now self.old answer kept.old).after }
         ensures back { result.back ≡ (step_of ⟦<T as Coded>⟧.coding words.now.items beside
@@ -259,7 +236,8 @@ impl<T: Words> Flight<T> {
         ensures wrote { events.new.items ≡ events.old.items
             ++ (step_of ⟦<T as Coded>⟧.coding words.now.items beside
             number start.now self.old answer kept.old).wrote }
-        ensures few { vec_len events.new ≤ vec_len events.old + most_effects_of self.old }
+        ensures few { vec_len events.new
+            ≤ vec_len events.old + most_of ⟦<T as Coded>⟧.coding self.old }
         ensures room { vec_capacity events.new ≡ vec_capacity events.old }
     {
         match (self, start, kept) {

@@ -1,33 +1,21 @@
 -- What a line says, read from left to right: a value, or the first cause that is met.
-use Rattle.std.specs.Prelude.{ℕ, ◌-◌, ◌^◌, ◌==◌, Bool, true, false, List, [], ◌∷◌, Result, Ok, Err, if◌then◌else◌, bytes_eq, codes}
+use Rattle.std.specs.Prelude.{ℕ, ◌-◌, ◌^◌, ◌==◌, Bool, true, false, List, [], ◌∷◌, Some, None, Result, Ok, Err, if◌then◌else◌, bytes_eq, codes}
 use Rattle.model.specs.declared.event.Start.{Start}
 use Rattle.model.specs.declared.turn.Kind.{Kind}
-use Rattle.model.specs.declared.turn.Kind.TheVariants.{IndexQueue, Overflow, Queue, Atomic, Bits, Counts, Indices}
 use Rattle.model.specs.declared.turn.Turn.TheVariants.{Begin, Next, Decide, Die}
 use Rattle.schedule.specs.declared.error.Cause.{Cause}
-use Rattle.schedule.specs.declared.error.Cause.TheVariants.{BadValue, UnknownKind, UnknownTurn}
+use Rattle.schedule.specs.declared.error.Cause.TheVariants.{BadValue, UnknownKind, UnknownTurn, UnknownCall}
 use Rattle.schedule.specs.declared.grammar.Command.{Command}
 use Rattle.schedule.specs.declared.grammar.Command.TheVariants.{Once, Times}
 use Rattle.schedule.specs.declared.grammar.Setup.{Setup}
-use Rattle.schedule.specs.Atomic as atomic
-use Rattle.schedule.specs.Bits as bits
-use Rattle.schedule.specs.Indices as indices
-use Rattle.schedule.specs.Queues as queues
-unfoldable pub use Rattle.schedule.specs.Reading.{Gives, ◌>>=◌, next_word, ended, number_at}
+use Rattle.schedule.specs.Families.{kind_named, call_named}
+unfoldable pub use Rattle.schedule.specs.Reading.{Gives, GivesIfAny, ◌>>=◌, next_word, ended, number_at}
 use Rattle.schedule.specs.Text.{number_of}
 
 -- ---- the first line
 
 abbrev pub kind_of : List ℕ → Result Kind Cause
-kind_of name =
-    if bytes_eq name (codes "index_queue") then Ok IndexQueue
-    else if bytes_eq name (codes "overflow") then Ok Overflow
-    else if bytes_eq name (codes "queue") then Ok Queue
-    else if bytes_eq name (codes "atomic") then Ok Atomic
-    else if bytes_eq name (codes "bits") then Ok Bits
-    else if bytes_eq name (codes "counts") then Ok Counts
-    else if bytes_eq name (codes "indices") then Ok Indices
-    else Err UnknownKind
+kind_of name = elim (kind_named name) [ Some kind ↦ Ok kind | None ↦ Err UnknownKind ]
 
 -- a kind, a capacity and how many parties
 unfoldable pub setup_of : List (List ℕ) → Result Setup Cause
@@ -41,15 +29,8 @@ setup_of ws = do
 
 -- ---- calls
 
--- the calls of each kind; both queues of indices have the same
 abbrev pub call_of : Kind → List ℕ → List (List ℕ) → Result (Start ℕ × List (List ℕ)) Cause
-call_of IndexQueue name ws = queues.index_queue_call name ws
-call_of Overflow name ws = queues.index_queue_call name ws
-call_of Queue name ws = queues.value_queue_call name ws
-call_of Atomic name ws = atomic.value_call name ws
-call_of Bits name ws = bits.bit_set_call name ws
-call_of Counts name ws = bits.counting_bit_set_call name ws
-call_of Indices name ws = indices.index_call name ws
+call_of kind name ws = elim (call_named kind name ws) [ Some call ↦ call | None ↦ Err UnknownCall ]
 
 -- ---- turns
 

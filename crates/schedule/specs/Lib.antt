@@ -1,5 +1,7 @@
 pub mod Atomic
 pub mod Bits
+pub mod Families
+pub mod Family
 pub mod Grammar
 pub mod Indices
 pub mod Output

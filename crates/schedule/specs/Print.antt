@@ -1,38 +1,24 @@
 -- What is printed of events, refusals and errors.
-use Rattle.std.specs.Prelude.{ℕ, Bool, true, false, List, [], ◌++◌, Result, Ok, Err, codes, decimal}
+use Rattle.std.specs.Prelude.{ℕ, Bool, true, false, List, [], ◌++◌, Result, Ok, Err, unwrap_or, codes, decimal}
 use Rattle.std.specs.List.{flat_map}
 use Rattle.model.specs.declared.event.Answer.{Answer}
-use Rattle.model.specs.declared.event.Answer as answers
-use Rattle.model.specs.declared.event.Answer.TheVariants.{Done, Truth, Number, PoppedNone, PoppedIndex, Popped, Loaded, ResetNone, Reset, NoIndex, State}
+use Rattle.model.specs.declared.event.Answer.TheVariants.{Done, Truth, Number}
 use Rattle.model.specs.declared.event.Event.{Event}
-use Rattle.model.specs.declared.event.Event.TheVariants.{Begun, Published, HandedOut, Set, Cleared, Counted, TakenOut, Claimed, Freed, Locked, Acted, Finished}
-use Rattle.model.specs.declared.event.Item.{Item}
-use Rattle.model.specs.declared.event.Item.TheVariants.{Index, Value}
+use Rattle.model.specs.declared.event.Event.TheVariants.{Begun, Acted, Finished}
 use Rattle.model.specs.declared.event.Start.{Start}
-use Rattle.model.specs.declared.event.Start.TheVariants.{Queues, Atomic, Bits, Indices}
 use Rattle.model.specs.declared.turn.Refusal.{Refusal}
 use Rattle.model.specs.declared.turn.Refusal.TheVariants as refusals
-use Rattle.schedule.specs.Atomic.{value_call_text}
-use Rattle.schedule.specs.Bits.{bits_call_text, taken_text}
-use Rattle.schedule.specs.Indices.{index_call_text, failure_text, state_text}
-use Rattle.schedule.specs.Queues.{queue_call_text}
 use Rattle.schedule.specs.declared.error.Cause.{Cause}
 use Rattle.schedule.specs.declared.error.Cause.TheVariants as causes
 use Rattle.schedule.specs.declared.error.ScheduleError.{ScheduleError}
 use Rattle.schedule.specs.declared.error.ScheduleError.TheVariants as errors
+use Rattle.schedule.specs.Families.{text_of_call, text_of_answer, text_of_event}
 
--- ---- events
-
-abbrev pub item_text : Item ℕ → List ℕ
-item_text (Index n) = decimal n
-item_text (Value n) = decimal n
+-- ---- events; what is a family's own prints as its room says
 
 -- a call and its arguments
 abbrev pub call_text : Start ℕ → List ℕ
-call_text (Queues start) = queue_call_text start
-call_text (Atomic start) = value_call_text start
-call_text (Bits start) = bits_call_text start
-call_text (Indices start) = index_call_text start
+call_text start = unwrap_or (text_of_call start) []
 
 abbrev pub truth_text : Bool → List ℕ
 truth_text true = codes "true"
@@ -41,16 +27,8 @@ truth_text false = codes "false"
 abbrev pub answer_text : Answer ℕ → List ℕ
 answer_text Done = codes "done"
 answer_text (Truth said) = truth_text said
-answer_text PoppedNone = codes "none"
-answer_text (PoppedIndex index) = codes "some " ++ decimal index
-answer_text (Popped value) = codes "some " ++ decimal value
 answer_text (Number n) = decimal n
-answer_text (Loaded value) = decimal value
-answer_text ResetNone = codes "none"
-answer_text (Reset bit) = codes "some " ++ decimal bit
-answer_text (answers.TheVariants.Index index) = decimal index
-answer_text (NoIndex failure) = failure_text failure
-answer_text (State state) = state_text state
+answer_text answer = unwrap_or (text_of_answer answer) []
 
 -- a call and its answer
 abbrev pub answered_text : Start ℕ → Answer ℕ → List ℕ
@@ -59,25 +37,11 @@ answered_text start answer = call_text start ++ codes " -> " ++ answer_text answ
 -- the line of an event
 unfoldable pub event_text : Event ℕ → List ℕ
 event_text (Begun party start) = decimal party ++ codes " begun " ++ call_text start ++ codes "\n"
-event_text (Published party item) =
-    decimal party ++ codes " published " ++ item_text item ++ codes "\n"
-event_text (HandedOut party item) =
-    decimal party ++ codes " handed_out " ++ item_text item ++ codes "\n"
-event_text (Set party bit) = decimal party ++ codes " set " ++ decimal bit ++ codes "\n"
-event_text (Cleared party bit) = decimal party ++ codes " cleared " ++ decimal bit ++ codes "\n"
-event_text (Counted party place) =
-    decimal party ++ codes " counted " ++ decimal place ++ codes "\n"
-event_text (TakenOut party place count) =
-    decimal party ++ codes " taken_out " ++ taken_text place count ++ codes "\n"
-event_text (Claimed party index) =
-    decimal party ++ codes " claimed " ++ decimal index ++ codes "\n"
-event_text (Freed party index) =
-    decimal party ++ codes " freed " ++ decimal index ++ codes "\n"
-event_text (Locked party) = decimal party ++ codes " locked" ++ codes "\n"
 event_text (Acted party start answer) =
     decimal party ++ codes " acted " ++ answered_text start answer ++ codes "\n"
 event_text (Finished party start answer) =
     decimal party ++ codes " finished " ++ answered_text start answer ++ codes "\n"
+event_text event = unwrap_or (text_of_event event) [] ++ codes "\n"
 
 -- the lines of the events, in their order
 abbrev pub events_text : List (Event ℕ) → List ℕ

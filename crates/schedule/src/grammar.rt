@@ -4,8 +4,8 @@ ghost use Rattle.schedule.specs.Text.{words_left, words};
 ghost use Rattle.schedule.specs.Grammar.{Gives, next_word, ended, number_at, kind_of, setup_of, call_of, begin_of, count_of, next_of, decision_of, turn_of, death_of, command_of};
 
 use crate::error::Cause;
+use crate::families;
 use crate::text::{Rest, number_of, words};
-use crate::{atomic, bits, indices, queues};
 use machine::event::Start;
 use machine::turn::{Kind, Turn};
 use steps::enums::OwnerId;
@@ -68,22 +68,9 @@ pub fn number_at(greatest: u128, words: Rest<'_>) -> Result<(u128, Rest<'_>), Ca
 fn kind_of(name: &[u8]) -> Result<Kind, Cause>
     ensures { Gives (λ kind. kind) result (kind_of name.now) }
 {
-    if name == b"index_queue".as_slice() {
-        Ok(Kind::IndexQueue)
-    } else if name == b"overflow".as_slice() {
-        Ok(Kind::Overflow)
-    } else if name == b"queue".as_slice() {
-        Ok(Kind::Queue)
-    } else if name == b"atomic".as_slice() {
-        Ok(Kind::Atomic)
-    } else if name == b"bits".as_slice() {
-        Ok(Kind::Bits)
-    } else if name == b"counts".as_slice() {
-        Ok(Kind::Counts)
-    } else if name == b"indices".as_slice() {
-        Ok(Kind::Indices)
-    } else {
-        Err(Cause::UnknownKind)
+    match families::kind_of(name) {
+        Some(kind) => Ok(kind),
+        None => Err(Cause::UnknownKind),
     }
 }
 
@@ -110,14 +97,9 @@ fn call_of<'a>(kind: Kind, name: &[u8], words: Rest<'a>) -> Result<(Start<u128>,
     ensures { Gives (λ x. (x.0, words_left x.1)) result
         (call_of kind name.now (words_left words.entry)) }
 {
-    match kind {
-        Kind::IndexQueue => queues::index_queue_call(name, words),
-        Kind::Overflow => queues::index_queue_call(name, words),
-        Kind::Queue => queues::value_queue_call(name, words),
-        Kind::Atomic => atomic::value_call(name, words),
-        Kind::Bits => bits::bit_set_call(name, words),
-        Kind::Counts => bits::counting_bit_set_call(name, words),
-        Kind::Indices => indices::index_call(name, words),
+    match families::call(kind, name, words) {
+        Some(call) => call,
+        None => unreachable!(),
     }
 }
 

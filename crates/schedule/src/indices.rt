@@ -1,16 +1,28 @@
 //! The calls of the unique index set, as a schedule names them and as they print.
-ghost use Rattle.std.specs.Prelude.{◌≡◌, ◌+◌, ◌≤◌, ◌++◌, length};
+ghost use Rattle.std.specs.Prelude.{◌≡◌, ◌+◌, ◌≤◌, ◌++◌, [], length, is_some, unwrap_or};
 ghost use Rattle.schedule.specs.Text.{words_left};
-ghost use Rattle.schedule.specs.Grammar.{Gives};
-ghost use Rattle.schedule.specs.Indices.{mode_of, release, any_index_call, index_call, mode_text, index_call_text, failure_text, state_text};
+ghost use Rattle.schedule.specs.Grammar.{Gives, GivesIfAny};
+ghost use Rattle.schedule.specs.Indices.{kind_of, mode_of, release, any_index_call, index_call, call, mode_text, index_call_text, failure_text, state_text, call_text, answer_text, event_text};
 
 use crate::error::Cause;
 use crate::grammar::{next_word, number_at};
 use crate::line::Line;
 use crate::text::Rest;
-use machine::event::Start;
+use machine::event::{Answer, Event, Start};
 use machine::families::indices::IndexStart;
+use machine::turn::Kind;
 use steps::indices::enums::{ReleaseMode, ReleaseState, UniqueIndexSetAcquireFailure};
+
+/// The kind of this name.
+pub fn kind_of(name: &[u8]) -> Option<Kind>
+    ensures { result ≡ kind_of name.now }
+{
+    if name == b"indices".as_slice() {
+        Some(Kind::Indices)
+    } else {
+        None
+    }
+}
 
 fn mode_of(word: &[u8]) -> Result<ReleaseMode, Cause>
     ensures { Gives (λ mode. mode) result (mode_of word.now) }
@@ -52,14 +64,29 @@ fn any_index_call<'a>(name: &[u8], words: Rest<'a>) -> Result<(IndexStart, Rest<
     }
 }
 
-/// A call of the unique index set.
+// A call of the unique index set.
 #[tactic(auto, unfolding(crate::specs::Indices::index_call))]
-pub fn index_call<'a>(name: &[u8], words: Rest<'a>) -> Result<(Start<u128>, Rest<'a>), Cause>
+fn index_call<'a>(name: &[u8], words: Rest<'a>) -> Result<(Start<u128>, Rest<'a>), Cause>
     ensures { Gives (λ x. (x.0, words_left x.1)) result
         (index_call name.now (words_left words.entry)) }
 {
     let (start, rest) = any_index_call(name, words)?;
     Ok((Start::Indices(start), rest))
+}
+
+/// The call of this name on a unique index set, with its arguments, and the words behind them.
+pub fn call<'a>(
+    kind: Kind,
+    name: &[u8],
+    words: Rest<'a>,
+) -> Option<Result<(Start<u128>, Rest<'a>), Cause>>
+    ensures { GivesIfAny (λ x. (x.0, words_left x.1)) result
+        (call kind name.now (words_left words.entry)) }
+{
+    match kind {
+        Kind::Indices => Some(index_call(name, words)),
+        _ => None,
+    }
 }
 
 impl Line {
@@ -74,8 +101,7 @@ impl Line {
         }
     }
 
-    /// Writes the call with its arguments.
-    pub fn push_index_call(&mut self, start: IndexStart)
+    fn push_index_call(&mut self, start: IndexStart)
         requires { length self.old + 80 ≤ 256 }
         ensures text { self.new ≡ self.old ++ index_call_text start }
         ensures short { length self.new ≤ length self.old + 80 }
@@ -94,7 +120,7 @@ impl Line {
     }
 
     /// Writes why an acquire hands out no index.
-    pub fn push_failure(&mut self, failure: UniqueIndexSetAcquireFailure)
+    fn push_failure(&mut self, failure: UniqueIndexSetAcquireFailure)
         requires { length self.old + 12 ≤ 256 }
         ensures text { self.new ≡ self.old ++ failure_text failure }
         ensures short { length self.new ≤ length self.old + 12 }
@@ -106,7 +132,7 @@ impl Line {
     }
 
     /// Writes whether a release has locked the set.
-    pub fn push_state(&mut self, state: ReleaseState)
+    fn push_state(&mut self, state: ReleaseState)
         requires { length self.old + 8 ≤ 256 }
         ensures text { self.new ≡ self.old ++ state_text state }
         ensures short { length self.new ≤ length self.old + 8 }
@@ -115,5 +141,74 @@ impl Line {
             ReleaseState::Locked => self.push("Locked"),
             ReleaseState::Unlocked => self.push("Unlocked"),
         }
+    }
+}
+
+/// Writes a call of the family with its arguments, and answers true. Of another it answers false.
+pub fn print_call(line: &mut Line, start: &Start<u128>) -> bool
+    requires { length line.old + 80 ≤ 256 }
+    ensures text { line.new ≡ line.old ++ unwrap_or (call_text start.now) [] }
+    ensures own { result ≡ is_some (call_text start.now) }
+    ensures short { length line.new ≤ length line.old + 80 }
+{
+    match *start {
+        Start::Indices(start) => {
+            line.push_index_call(start);
+            true
+        }
+        _ => false,
+    }
+}
+
+/// The same of an answer.
+pub fn print_answer(line: &mut Line, answer: &Answer<u128>) -> bool
+    requires { length line.old + 80 ≤ 256 }
+    ensures text { line.new ≡ line.old ++ unwrap_or (answer_text answer.now) [] }
+    ensures own { result ≡ is_some (answer_text answer.now) }
+    ensures short { length line.new ≤ length line.old + 80 }
+{
+    match *answer {
+        Answer::Index(index) => {
+            line.push_number(u128::from(index));
+            true
+        }
+        Answer::NoIndex(failure) => {
+            line.push_failure(failure);
+            true
+        }
+        Answer::State(state) => {
+            line.push_state(state);
+            true
+        }
+        _ => false,
+    }
+}
+
+/// The same of an event: whose it is, and what was done.
+pub fn print_event(line: &mut Line, event: &Event<u128>) -> bool
+    requires { length line.old + 160 ≤ 256 }
+    ensures text { line.new ≡ line.old ++ unwrap_or (event_text event.now) [] }
+    ensures own { result ≡ is_some (event_text event.now) }
+    ensures short { length line.new ≤ length line.old + 160 }
+{
+    match *event {
+        Event::Claimed(party, index) => {
+            line.push_number(u128::from(party));
+            line.push(" claimed ");
+            line.push_number(u128::from(index));
+            true
+        }
+        Event::Freed(party, index) => {
+            line.push_number(u128::from(party));
+            line.push(" freed ");
+            line.push_number(u128::from(index));
+            true
+        }
+        Event::Locked(party) => {
+            line.push_number(u128::from(party));
+            line.push(" locked");
+            true
+        }
+        _ => false,
     }
 }

@@ -4,6 +4,7 @@
 mod atomic;
 mod bits;
 pub mod error;
+mod families;
 mod grammar;
 mod indices;
 mod input;

@@ -1,9 +1,10 @@
 //! A line that is being made, in room of its own, so that printing takes no memory.
 ghost use Rattle.std.specs.Prelude.{◌≡◌, ◌+◌, ◌≤◌, ◌<◌, ◌++◌, [], length, decimal};
-ghost use Rattle.schedule.specs.Print.{item_text, call_text, answer_text, answered_text, event_text, refusal_name, refusal_text, cause_text, error_text};
+ghost use Rattle.schedule.specs.Print.{call_text, answer_text, answered_text, event_text, refusal_name, refusal_text, cause_text, error_text};
 
 use crate::error::{Cause, ScheduleError};
-use machine::event::{Answer, Event, Item, Start};
+use crate::families;
+use machine::event::{Answer, Event, Start};
 use machine::turn::Refusal;
 use std::marker::Model;
 
@@ -82,64 +83,35 @@ impl Line {
         self.push_bytes(&digits[at..]);
     }
 
-    fn push_item(&mut self, item: Item<u128>)
-        requires { length self.old + 39 ≤ ROOM }
-        ensures text { self.new ≡ self.old ++ item_text item }
-        ensures short { length self.new ≤ length self.old + 39 }
-    {
-        match item {
-            Item::Index(number) => self.push_number(u128::from(number)),
-            Item::Value(number) => self.push_number(number),
-        }
-    }
-
-    fn push_call(&mut self, start: Start<u128>)
+    fn push_call(&mut self, start: &Start<u128>)
         requires { length self.old + 80 ≤ ROOM }
-        ensures text { self.new ≡ self.old ++ call_text start }
+        ensures text { self.new ≡ self.old ++ call_text start.now }
         ensures short { length self.new ≤ length self.old + 80 }
     {
-        match start {
-            Start::Queues(start) => self.push_queue_call(start),
-            Start::Atomic(start) => self.push_value_call(start),
-            Start::Bits(start) => self.push_bits_call(start),
-            Start::Indices(start) => self.push_index_call(start),
-        }
+        let said = families::print_call(self, start);
+        prove!(said); // each call is a family's
     }
 
-    fn push_answer(&mut self, answer: Answer<u128>)
+    fn push_answer(&mut self, answer: &Answer<u128>)
         requires { length self.old + 80 ≤ ROOM }
-        ensures text { self.new ≡ self.old ++ answer_text answer }
+        ensures text { self.new ≡ self.old ++ answer_text answer.now }
         ensures short { length self.new ≤ length self.old + 80 }
     {
-        match answer {
+        match *answer {
             Answer::Done => self.push("done"),
             Answer::Truth(true) => self.push("true"),
             Answer::Truth(false) => self.push("false"),
-            Answer::PoppedNone => self.push("none"),
-            Answer::PoppedIndex(index) => {
-                self.push("some ");
-                self.push_number(u128::from(index));
-            }
-            Answer::Popped(value) => {
-                self.push("some ");
-                self.push_number(value);
-            }
             Answer::Number(number) => self.push_number(u128::from(number)),
-            Answer::Loaded(value) => self.push_number(value),
-            Answer::ResetNone => self.push("none"),
-            Answer::Reset(bit) => {
-                self.push("some ");
-                self.push_number(u128::from(bit));
+            _ => {
+                let said = families::print_answer(self, answer);
+                prove!(said); // any other answer is a family's
             }
-            Answer::Index(index) => self.push_number(u128::from(index)),
-            Answer::NoIndex(failure) => self.push_failure(failure),
-            Answer::State(state) => self.push_state(state),
         }
     }
 
-    fn push_answered(&mut self, start: Start<u128>, answer: Answer<u128>)
+    fn push_answered(&mut self, start: &Start<u128>, answer: &Answer<u128>)
         requires { length self.old + 164 ≤ ROOM }
-        ensures text { self.new ≡ self.old ++ answered_text start answer }
+        ensures text { self.new ≡ self.old ++ answered_text start.now answer.now }
         ensures short { length self.new ≤ length self.old + 164 }
     {
         self.push_call(start);
@@ -149,69 +121,29 @@ impl Line {
 
     /// The line of an event, with its line feed.
     #[tactic(auto, unfolding(crate::specs::Print::event_text))]
-    pub fn of_event(event: Event<u128>) -> Line
-        ensures { result ≡ event_text event }
+    pub fn of_event(event: &Event<u128>) -> Line
+        ensures { result ≡ event_text event.now }
     {
         let mut line = Line::new();
         match event {
             Event::Begun(party, start) => {
-                line.push_number(u128::from(party));
+                line.push_number(u128::from(*party));
                 line.push(" begun ");
                 line.push_call(start);
             }
-            Event::Published(party, item) => {
-                line.push_number(u128::from(party));
-                line.push(" published ");
-                line.push_item(item);
-            }
-            Event::HandedOut(party, item) => {
-                line.push_number(u128::from(party));
-                line.push(" handed_out ");
-                line.push_item(item);
-            }
-            Event::Set(party, bit) => {
-                line.push_number(u128::from(party));
-                line.push(" set ");
-                line.push_number(u128::from(bit));
-            }
-            Event::Cleared(party, bit) => {
-                line.push_number(u128::from(party));
-                line.push(" cleared ");
-                line.push_number(u128::from(bit));
-            }
-            Event::Counted(party, place) => {
-                line.push_number(u128::from(party));
-                line.push(" counted ");
-                line.push_number(u128::from(place));
-            }
-            Event::TakenOut(party, place, count) => {
-                line.push_number(u128::from(party));
-                line.push(" taken_out ");
-                line.push_taken(place, count);
-            }
-            Event::Claimed(party, index) => {
-                line.push_number(u128::from(party));
-                line.push(" claimed ");
-                line.push_number(u128::from(index));
-            }
-            Event::Freed(party, index) => {
-                line.push_number(u128::from(party));
-                line.push(" freed ");
-                line.push_number(u128::from(index));
-            }
-            Event::Locked(party) => {
-                line.push_number(u128::from(party));
-                line.push(" locked");
-            }
             Event::Acted(party, start, answer) => {
-                line.push_number(u128::from(party));
+                line.push_number(u128::from(*party));
                 line.push(" acted ");
                 line.push_answered(start, answer);
             }
             Event::Finished(party, start, answer) => {
-                line.push_number(u128::from(party));
+                line.push_number(u128::from(*party));
                 line.push(" finished ");
                 line.push_answered(start, answer);
+            }
+            _ => {
+                let said = families::print_event(&mut line, event);
+                prove!(said); // any other event is a family's
             }
         }
         line.push("\n");

@@ -39,7 +39,7 @@ pub fn put_events<W: Write>(writer: &mut W, events: &[Event<u128>]) -> Result<()
         (events_text events.now) }
 {
     for event in events {
-        match put(writer, Line::of_event(*event).as_bytes()) {
+        match put(writer, Line::of_event(event).as_bytes()) {
             Ok(()) => {}
             Err(e) => return Err(e),
         }

@@ -1,15 +1,31 @@
 //! The calls of the queues, as a schedule names them and as they print.
-ghost use Rattle.std.specs.Prelude.{◌≡◌, ◌+◌, ◌≤◌, ◌++◌, length};
+ghost use Rattle.std.specs.Prelude.{◌≡◌, ◌+◌, ◌≤◌, ◌++◌, [], length, is_some, unwrap_or};
 ghost use Rattle.schedule.specs.Text.{words_left};
-ghost use Rattle.schedule.specs.Grammar.{Gives};
-ghost use Rattle.schedule.specs.Queues.{role_call, length_call, push_index, push_value, push_call, item_call, any_call, queue_call, index_queue_call, value_queue_call, queue_call_text};
+ghost use Rattle.schedule.specs.Grammar.{Gives, GivesIfAny};
+ghost use Rattle.schedule.specs.Queues.{kind_of, role_call, length_call, push_index, push_value, push_call, item_call, any_call, queue_call, index_queue_call, value_queue_call, call, queue_call_text, call_text, answer_text, item_text, event_text};
 
 use crate::error::Cause;
 use crate::grammar::number_at;
 use crate::line::Line;
 use crate::text::Rest;
-use machine::event::Start;
+use machine::event::{Answer, Event, Item, Start};
 use machine::families::queues::QueueStart;
+use machine::turn::Kind;
+
+/// The kind of this name.
+pub fn kind_of(name: &[u8]) -> Option<Kind>
+    ensures { result ≡ kind_of name.now }
+{
+    if name == b"index_queue".as_slice() {
+        Some(Kind::IndexQueue)
+    } else if name == b"overflow".as_slice() {
+        Some(Kind::Overflow)
+    } else if name == b"queue".as_slice() {
+        Some(Kind::Queue)
+    } else {
+        None
+    }
+}
 
 fn role_call(name: &[u8]) -> Option<QueueStart<u128>>
     ensures { result ≡ role_call name.now }
@@ -117,25 +133,41 @@ fn queue_call<'a>(
     Ok((Start::Queues(start), rest))
 }
 
-/// A call of a queue of indices.
-pub fn index_queue_call<'a>(name: &[u8], words: Rest<'a>) -> Result<(Start<u128>, Rest<'a>), Cause>
+// A call of a queue of indices.
+fn index_queue_call<'a>(name: &[u8], words: Rest<'a>) -> Result<(Start<u128>, Rest<'a>), Cause>
     ensures { Gives (λ x. (x.0, words_left x.1)) result
         (index_queue_call name.now (words_left words.entry)) }
 {
     queue_call(false, name, words)
 }
 
-/// A call of a queue of values.
-pub fn value_queue_call<'a>(name: &[u8], words: Rest<'a>) -> Result<(Start<u128>, Rest<'a>), Cause>
+// A call of a queue of values.
+fn value_queue_call<'a>(name: &[u8], words: Rest<'a>) -> Result<(Start<u128>, Rest<'a>), Cause>
     ensures { Gives (λ x. (x.0, words_left x.1)) result
         (value_queue_call name.now (words_left words.entry)) }
 {
     queue_call(true, name, words)
 }
 
+/// The call of this name on a queue of this kind, with its arguments, and the words behind them.
+pub fn call<'a>(
+    kind: Kind,
+    name: &[u8],
+    words: Rest<'a>,
+) -> Option<Result<(Start<u128>, Rest<'a>), Cause>>
+    ensures { GivesIfAny (λ x. (x.0, words_left x.1)) result
+        (call kind name.now (words_left words.entry)) }
+{
+    match kind {
+        Kind::IndexQueue => Some(index_queue_call(name, words)),
+        Kind::Overflow => Some(index_queue_call(name, words)),
+        Kind::Queue => Some(value_queue_call(name, words)),
+        _ => None,
+    }
+}
+
 impl Line {
-    /// Writes the call with its arguments.
-    pub fn push_queue_call(&mut self, start: QueueStart<u128>)
+    fn push_queue_call(&mut self, start: QueueStart<u128>)
         requires { length self.old + 80 ≤ 256 }
         ensures text { self.new ≡ self.old ++ queue_call_text start }
         ensures short { length self.new ≤ length self.old + 80 }
@@ -158,5 +190,82 @@ impl Line {
             QueueStart::IsEmpty => self.push("is_empty"),
             QueueStart::IsFull => self.push("is_full"),
         }
+    }
+
+    fn push_item(&mut self, item: Item<u128>)
+        requires { length self.old + 39 ≤ 256 }
+        ensures text { self.new ≡ self.old ++ item_text item }
+        ensures short { length self.new ≤ length self.old + 39 }
+    {
+        match item {
+            Item::Index(number) => self.push_number(u128::from(number)),
+            Item::Value(number) => self.push_number(number),
+        }
+    }
+}
+
+/// Writes a call of the family with its arguments, and answers true. Of another it answers false.
+pub fn print_call(line: &mut Line, start: &Start<u128>) -> bool
+    requires { length line.old + 80 ≤ 256 }
+    ensures text { line.new ≡ line.old ++ unwrap_or (call_text start.now) [] }
+    ensures own { result ≡ is_some (call_text start.now) }
+    ensures short { length line.new ≤ length line.old + 80 }
+{
+    match *start {
+        Start::Queues(start) => {
+            line.push_queue_call(start);
+            true
+        }
+        _ => false,
+    }
+}
+
+/// The same of an answer.
+pub fn print_answer(line: &mut Line, answer: &Answer<u128>) -> bool
+    requires { length line.old + 80 ≤ 256 }
+    ensures text { line.new ≡ line.old ++ unwrap_or (answer_text answer.now) [] }
+    ensures own { result ≡ is_some (answer_text answer.now) }
+    ensures short { length line.new ≤ length line.old + 80 }
+{
+    match *answer {
+        Answer::PoppedNone => {
+            line.push("none");
+            true
+        }
+        Answer::PoppedIndex(index) => {
+            line.push("some ");
+            line.push_number(u128::from(index));
+            true
+        }
+        Answer::Popped(value) => {
+            line.push("some ");
+            line.push_number(value);
+            true
+        }
+        _ => false,
+    }
+}
+
+/// The same of an event: whose it is, and what was done.
+pub fn print_event(line: &mut Line, event: &Event<u128>) -> bool
+    requires { length line.old + 160 ≤ 256 }
+    ensures text { line.new ≡ line.old ++ unwrap_or (event_text event.now) [] }
+    ensures own { result ≡ is_some (event_text event.now) }
+    ensures short { length line.new ≤ length line.old + 160 }
+{
+    match *event {
+        Event::Published(party, item) => {
+            line.push_number(u128::from(party));
+            line.push(" published ");
+            line.push_item(item);
+            true
+        }
+        Event::HandedOut(party, item) => {
+            line.push_number(u128::from(party));
+            line.push(" handed_out ");
+            line.push_item(item);
+            true
+        }
+        _ => false,
     }
 }

@@ -60,6 +60,7 @@ module _ {T : Type 0} where
         bare = refl;
         opens = opens c;
         promise = refl;
+        tells = λ old turn new. tt;
         keeps_promise = bits_kept c;
         holds = λ words events turns. holds_more c words events;
         still = λ q words events turns changes words' es changes' conserves none. call_still words words' changes changes' conserves.pays q events es none;

@@ -36,6 +36,7 @@ module _ {T : Type 0} where
         bare = refl;
         opens = opens c;
         promise = refl;
+        tells = λ old turn new. tt;
         keeps_promise = counts_kept c;
         holds = λ words events turns changes words' es changes'. holds_more c words events turns words' es;
         still = λ q words events turns changes words' es changes' conserves none since. call_still q events es none;

@@ -1,5 +1,6 @@
 //! Runs of many turns, of large queues, of many parties and of calls that go back a thousand times.
-use crate::rows::{Row, made, run, tells_rounds};
+use crate::rows::{QueueEvent, Row, made, run, run_all, tells_rounds};
+use machine::Stopped;
 use machine::event::{Answer, Event, Start};
 use machine::families::queues::QueueStart;
 use machine::turn::{Kind, Refusal, Turn};
@@ -47,7 +48,7 @@ pub const LAST_PARTY: [Row; 8] = [
     Row::Counts(LAST, 4, 0, 0, true),
     Row::Events(
         11,
-        &[Event::Finished(LAST, Start::Queues(QueueStart::Pop), Answer::PoppedIndex(5))],
+        &[QueueEvent::Finished(LAST, QueueStart::Pop, Answer::PoppedIndex(5))],
     ),
     Row::RefusedBegin(u32::MAX, QueueStart::Len, Refusal::NoParty),
     Row::RefusedNext(u32::MAX, Refusal::NoParty),
@@ -130,5 +131,31 @@ fn run_takes_the_turns_up_to_a_refusal(rt: HostRuntime) -> Result<(), Fail> {
     let push = [Turn::Begin(0, Start::Queues(QueueStart::PushIndex(7)))];
     assert!(rt; run(&mut machine, &push) == 1);
     assert!(rt; machine.events().len() == 3);
+    Ok(())
+}
+
+#[test]
+fn why_a_run_stopped(rt: HostRuntime) -> Result<(), Fail> {
+    let mut machine = made(rt.alloc(), Kind::IndexQueue, 3, 2)?;
+    let mut turns = many_turns(rt.alloc())?;
+    turns.extend_from_slice(&[Turn::Next(1), Turn::Begin(1, Start::Queues(QueueStart::Pop))])?;
+    let stopped = Stopped {
+        taken: 10_004,
+        refusal: Refusal::Idle,
+    };
+    assert!(rt; run_all(&mut machine, turns.as_slice()) == Err(stopped));
+    let turns = [
+        Turn::Begin(1, Start::Queues(QueueStart::Pop)),
+        Turn::Begin(1, Start::Queues(QueueStart::Pop)),
+    ];
+    let stopped = Stopped {
+        taken: 1,
+        refusal: Refusal::Busy,
+    };
+    assert!(rt; run_all(&mut machine, &turns) == Err(stopped));
+    assert!(rt; run_all(&mut machine, &[Turn::Next(1), Turn::Next(1)]) == Ok(()));
+    let none = Event::Finished(1, Start::Queues(QueueStart::Pop), Answer::PoppedNone);
+    assert!(rt; machine.events().last() == Some(&none));
+    assert!(rt; run_all(&mut machine, &[]) == Ok(()));
     Ok(())
 }

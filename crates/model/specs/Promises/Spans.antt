@@ -3,7 +3,7 @@ use Rattle.std.specs.Prelude.{◌≡◌, ℕ, IfSome, List, []}
 use Rattle.model.specs.declared.event.Event.{Event}
 use Rattle.model.specs.declared.event.Event.TheVariants.{Begun, Acted, Finished}
 use Rattle.model.specs.Promise.{Promise}
-use Rattle.model.specs.Reading.{moments, owner, Span, span_of}
+use Rattle.model.specs.Reading.{moments, whose, Span, span_of}
 use Rattle.model.specs.Shape.{IsOpenFor, IsShut}
 
 module _ {T : Type 0} where
@@ -19,4 +19,4 @@ module _ {T : Type 0} where
 
   abbrev pub StandsRight : Promise T → ℕ → List (Event T) → Event T → Type 0
   StandsRight promise capacity before e =
-      IfSome (owner e) (λ p. Stands promise capacity e (span_of p before))
+      IfSome (whose e) (λ p. Stands promise capacity e (span_of p before))

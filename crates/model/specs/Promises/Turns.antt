@@ -14,7 +14,7 @@ use Rattle.model.specs.declared.turn.Turn.TheVariants.{Begin, Next, Decide, Die}
 use Rattle.model.specs.Coding.{Coding}
 use Rattle.model.specs.Families.{first_of, want_of, ask_of, after_of}
 use Rattle.model.specs.Promise.{Promise}
-use Rattle.model.specs.Reading.{owner}
+use Rattle.model.specs.Reading.{whose}
 use Rattle.model.specs.Turns.{words_after, old_of, number_of}
 use Rattle.model.specs.World.{World, Trace, flight_in, progress_in}
 
@@ -126,7 +126,7 @@ module _ {T : Type 0} where
   IsEffectOf turn (Acted p start answer) = ⊥
   IsEffectOf turn (Finished p start answer) = ⊥
   IsEffectOf turn (Died o) = ⊥
-  IsEffectOf turn e = IfSome (owner e) (IsParty turn)
+  IsEffectOf turn e = IfSome (whose e) (IsParty turn)
 
   abbrev pub IsAct : Event T → Type 0
   IsAct (Acted p start answer) = Unit {0}

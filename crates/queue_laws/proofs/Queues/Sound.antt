@@ -1,5 +1,5 @@
 -- Every turn keeps what holds of a queue's machine: the laws of the family.
-use Rattle.std.proofs.Common.{◌≡◌, ℕ, ◌+◌, ◌-◌, ◌*◌, ◌^◌, ◌<◌, ◌≤◌, nat_lt, Bool, true, false, cond, Option, Some, None, option_map, List, [], ◌∷◌, ◌++◌, map, replicate, refl, sym, ap, subst, ◌∙◌, append-nil, arith}
+use Rattle.std.proofs.Common.{◌≡◌, ℕ, ◌-◌, ◌*◌, ◌^◌, ◌<◌, ◌≤◌, nat_lt, Bool, true, false, cond, Option, Some, None, option_map, List, [], ◌∷◌, ◌++◌, map, replicate, refl, sym, ap, subst, ◌∙◌, append-nil, arith}
 use Rattle.std.proofs.lemmas.Bool.Decides.{nat_tests}
 use Rattle.std.proofs.lemmas.List.{length-replicate}
 use Rattle.std.proofs.Math.Seq.{take-nil}
@@ -330,9 +330,10 @@ module _ {T : Type 0} (en : Coding T) (law : IsCoding en) where
   pub laws : (kd : QueueKind) (c : ℕ) → frame.Laws (family {T = T} en kd c)
   laws kd c =
       record {
-        step = λ t p x flight since s small found doing. step_comes en law kd c t s small p x since flight found doing;
-        decision = λ t p x flight since said s small found doing asks. asks_nothing en kd c t p x flight since s found doing asks;
+        step = λ t p x flight since s small passed found doing. step_comes en law kd c t s small p x since flight found doing;
+        decision = λ t p x flight since said s small passed found doing asks. asks_nothing en kd c t p x flight since s found doing asks;
         begin = λ t p start flight s may e. begin_comes en law kd c t s may.turns p start flight may e;
+        death = frame.no_death (family en kd c) (λ kept words state fit. rw (kept_is kept words state fit).0 refl);
       }
 
   empty : (kd : QueueKind) (c : ℕ) → (list_of {T = T} kd c).opening ≡ listed kd c []

@@ -39,6 +39,9 @@ returns-clause-counts g c = (step_turn laws_of (trace_of (coding_of g.T.Words.WO
 pub returns-clause-others : goal.returns-clause-others
 returns-clause-others g c = (step_turn laws_of (trace_of (coding_of g.T.Words.WORDS g.T.Words.words_of g.T.Words.value_of) c.self.inside.parts) (trace_in (coding_of g.T.Words.WORDS g.T.Words.words_of g.T.Words.value_of) c.args.self.now) (trace_of (coding_of g.T.Words.WORDS g.T.Words.words_of g.T.Words.value_of) c.step.new.self) c.args.turn (ap (trace_in (coding_of g.T.Words.WORDS g.T.Words.words_of g.T.Words.value_of)) c.self.view_is) c.self.invariant c.in_ok-step.ensures.allowed c.in_ok-step.ensures.ok).others
 
+pub returns-clause-tells : goal.returns-clause-tells
+returns-clause-tells g c = (step_turn laws_of (trace_of (coding_of g.T.Words.WORDS g.T.Words.words_of g.T.Words.value_of) c.self.inside.parts) (trace_in (coding_of g.T.Words.WORDS g.T.Words.words_of g.T.Words.value_of) c.args.self.now) (trace_of (coding_of g.T.Words.WORDS g.T.Words.words_of g.T.Words.value_of) c.step.new.self) c.args.turn (ap (trace_in (coding_of g.T.Words.WORDS g.T.Words.words_of g.T.Words.value_of)) c.self.view_is) c.self.invariant c.in_ok-step.ensures.allowed c.in_ok-step.ensures.ok).tells
+
 pub returns-clause-events : goal.returns-clause-events
 returns-clause-events g c = (step_turn laws_of (trace_of (coding_of g.T.Words.WORDS g.T.Words.words_of g.T.Words.value_of) c.self.inside.parts) (trace_in (coding_of g.T.Words.WORDS g.T.Words.words_of g.T.Words.value_of) c.args.self.now) (trace_of (coding_of g.T.Words.WORDS g.T.Words.words_of g.T.Words.value_of) c.step.new.self) c.args.turn (ap (trace_in (coding_of g.T.Words.WORDS g.T.Words.words_of g.T.Words.value_of)) c.self.view_is) c.self.invariant c.in_ok-step.ensures.allowed c.in_ok-step.ensures.ok).events
 

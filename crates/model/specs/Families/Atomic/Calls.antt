@@ -1,5 +1,5 @@
 -- The calls of the single value: how each begins, and how one under way goes on.
-use Rattle.std.specs.Prelude.{ℕ, Bool, false, replicate}
+use Rattle.std.specs.Prelude.{ℕ, Bool, false, replicate, []}
 use Rattle.steps.specs.declared.ask.Want.{Want}
 use Rattle.steps.specs.declared.ask.After.{After}
 use Rattle.steps.specs.declared.copied.Kept as rooms
@@ -82,4 +82,6 @@ module _ {T : Type 0} where
         want = want code flight;
         after = λ old.
             as_call flights.TheVariants.Atomic (λ answer. answer) (after code flight old);
+        rows = λ kept said. [];
+        most = 1;
       }

@@ -28,10 +28,6 @@ module _ {T : Type 0} where
 
   -- ---- all that a step comes to
 
-  -- it writes at most so many events, apart from the end of its call
-  abbrev pub most_effects : AtomicFlight T → ℕ
-  most_effects flight = 1
-
   abbrev pub step : Coding T → ℕ → AtomicStart T → AtomicFlight T → ℕ → Option ℕ
       → Step (AtomicFlight T) (Option ℕ) T
   step code p start flight old producer =

@@ -1,5 +1,5 @@
 -- The calls of the bit sets: which a kind has, and how one under way goes on.
-use Rattle.std.specs.Prelude.{ℕ, Bool, false, Option, Some, None}
+use Rattle.std.specs.Prelude.{ℕ, Bool, false, Option, Some, None, []}
 use Rattle.steps.specs.declared.ask.Want.{Want}
 use Rattle.steps.specs.declared.ask.After.{After}
 use Rattle.steps.specs.declared.bits.counting_bit_set.Set as counting
@@ -57,6 +57,11 @@ goes_back (ResetAll run) old = false
 goes_back (Count run) old = false
 goes_back (TakeAll run) old = false
 
+-- its next step writes at most so many events, apart from the end of the call
+abbrev pub most_effects : BitsFlight → ℕ
+most_effects (ResetAll run) = 64
+most_effects flight = 1
+
 module _ {T : Type 0} where
   abbrev pub reset_answer : Option ℕ → Answer T
   reset_answer None = answers.TheVariants.ResetNone
@@ -86,4 +91,6 @@ module _ {T : Type 0} where
       record {
         want = want flight;
         after = λ old. as_call flights.TheVariants.Bits (λ answer. answer) (after flight old);
+        rows = λ kept said. [];
+        most = most_effects flight;
       }

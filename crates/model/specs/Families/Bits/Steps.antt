@@ -52,8 +52,3 @@ module _ {T : Type 0} where
         wrote = effects_of p flight old;
         kept = tt;
       }
-
--- it writes at most so many events, apart from the end of its call
-abbrev pub most_effects : BitsFlight → ℕ
-most_effects (ResetAll run) = 64
-most_effects flight = 1

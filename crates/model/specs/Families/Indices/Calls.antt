@@ -1,5 +1,5 @@
 -- The calls of the unique index set: how each begins, and how one under way goes on.
-use Rattle.std.specs.Prelude.{ℕ, Bool, true, false, Ok, Err}
+use Rattle.std.specs.Prelude.{ℕ, Bool, true, false, Ok, Err, []}
 use Rattle.steps.specs.declared.ask.Want.{Want}
 use Rattle.steps.specs.declared.ask.After.{After}
 use Rattle.steps.specs.declared.indices.enums.ReleaseMode.{ReleaseMode}
@@ -90,4 +90,6 @@ module _ {T : Type 0} where
       record {
         want = want flight;
         after = λ old. as_call flights.TheVariants.Indices (λ answer. answer) (after flight old);
+        rows = λ kept said. [];
+        most = 1;
       }

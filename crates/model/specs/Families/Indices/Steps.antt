@@ -23,10 +23,6 @@ frees (ReleaseDefault run) = if clears run.call.stage then Some run.given else N
 frees (ReleaseLock run) = if clears run.call.stage then Some run.given else None
 frees flight = None
 
--- a step writes at most so many events, apart from the end of its call
-abbrev pub most_effects : IndexFlight → ℕ
-most_effects flight = 1
-
 module _ {T : Type 0} where
   -- an acquire claims by its last step, and a release that answers so locks by its last
   abbrev pub ended : ℕ → Option (Answer T) → List (Event T)

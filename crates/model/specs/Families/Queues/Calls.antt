@@ -1,5 +1,5 @@
 -- The calls of a queue: which a kind has, and how one under way goes on.
-use Rattle.std.specs.Prelude.{ℕ, ◌==◌, Bool, false, Option, Some, None, List, [], ◌∷◌, replicate, slice_set}
+use Rattle.std.specs.Prelude.{ℕ, ◌==◌, Bool, false, Option, Some, None, List, replicate, slice_set, []}
 use Rattle.steps.specs.declared.ask.Want.{Want}
 use Rattle.steps.specs.declared.ask.After.{After}
 use Rattle.steps.specs.declared.copied.OneWord.{OneWord}
@@ -201,4 +201,6 @@ module _ {T : Type 0} where
         want = want code flight;
         after = λ old.
             as_call flights.TheVariants.Queues (λ answer. answer) (after code flight old);
+        rows = λ kept said. [];
+        most = 3;
       }

@@ -158,10 +158,6 @@ module _ {T : Type 0} where
 
   -- ---- all that a step comes to
 
-  -- it writes at most so many events, apart from the end of its call
-  abbrev pub most_effects : QueueFlight T → ℕ
-  most_effects flight = 3
-
   abbrev pub step : Coding T → List ℕ → Option (ℕ × ℕ) → ℕ → QueueStart T → QueueFlight T → ℕ
       → Roles → Step (QueueFlight T) Roles T
   step code words waits p start flight old roles =

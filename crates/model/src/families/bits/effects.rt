@@ -2,8 +2,8 @@
 ghost use Rattle.std.specs.Prelude.{◌≡◌, ◌+◌, ◌≤◌, ◌++◌, map, vec_len, vec_capacity};
 ghost use Rattle.steps.specs.Ask.{CameTo};
 ghost use Rattle.steps.specs.Bits.Places.{first_place};
-ghost use Rattle.model.specs.Families.Bits.Calls.{after, goes_back};
-ghost use Rattle.model.specs.Families.Bits.Steps.{most_effects, clear_events, effects_of};
+ghost use Rattle.model.specs.Families.Bits.Calls.{after, goes_back, most_effects};
+ghost use Rattle.model.specs.Families.Bits.Steps.{clear_events, effects_of};
 
 use super::calls::BitsFlight;
 use crate::event::Event;

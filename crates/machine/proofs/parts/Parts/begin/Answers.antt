@@ -1,4 +1,4 @@
-use Rattle.std.proofs.Common.{◌≡◌, ◌<◌, inl, inr, false, is_some, refl, sym, subst, arith}
+use Rattle.std.proofs.Common.{◌≡◌, ◌<◌, ◌≤◌, inl, inr, true, false, is_some, refl, sym, subst, arith}
 use Rattle.std.proofs.lemmas.Result.{err_from_is_err_and}
 use Rattle.std.specs.Prelude.{IfErr}
 use Rattle.model.specs.declared.turn.Turn.TheVariants.{Begin}
@@ -6,7 +6,7 @@ use Rattle.model.specs.Coding.{coding_of}
 use Rattle.model.specs.Refusals.{IsRefusal}
 use Rattle.model.specs.World.{flight_in}
 use Rattle.machine.specs.Parts.{trace_of}
-use Rattle.machine.proofs.Going.{begin_passes, begin_refuses, none_found}
+use Rattle.machine.proofs.Going.{begin_passes, begin_refuses, begins_nowhere, is_busy, none_found, some_found}
 use Rattle.machine.proofs.parts.Parts.begin.Goals as goal
 
 pub returns-clause-allowed : goal.returns-clause-allowed
@@ -32,3 +32,16 @@ returns-in_default-clause-refused g c =
     let within : c.args.number < c.args.self.now.parties = omega arith in
     let free : is_some (flight_in w c.args.number) ≡ false = none_found c.flight_of.result (flight_in w c.args.number) c.flight_of.ensures c.if-is_some.ensures in
     inr (begin_passes w c.args.number c.args.start c.requires within free c.in_ok-flight.ensures.allowed, refl)
+
+pub returns-then-number-self-clause-refused : goal.returns-then-number-self-clause-refused
+returns-then-number-self-clause-refused g c =
+    let w = (trace_of (coding_of g.T.Words.WORDS g.T.Words.words_of g.T.Words.value_of) c.args.self.now).world in
+    let beyond : c.args.self.now.parties ≤ c.args.number = omega arith in
+    inl (begins_nowhere w c.args.number c.requires c.args.start beyond)
+
+pub returns-then-is_some-clause-refused : goal.returns-then-is_some-clause-refused
+returns-then-is_some-clause-refused g c =
+    let w = (trace_of (coding_of g.T.Words.WORDS g.T.Words.words_of g.T.Words.value_of) c.args.self.now).world in
+    let within : c.args.number < c.args.self.now.parties = omega arith in
+    let taken : is_some (flight_in w c.args.number) ≡ true = some_found c.flight_of.result (flight_in w c.args.number) c.flight_of.ensures c.if-is_some.ensures in
+    inl (is_busy w c.args.number c.requires c.args.start within taken)

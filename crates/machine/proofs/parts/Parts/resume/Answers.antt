@@ -1,4 +1,4 @@
-use Rattle.std.proofs.Common.{◌≡◌, ◌<◌, Some, refl, sym, ap, ◌∙◌, arith}
+use Rattle.std.proofs.Common.{◌≡◌, ◌<◌, ◌≤◌, inl, Some, None, refl, sym, ap, ◌∙◌, arith}
 use Rattle.std.proofs.lemmas.Map.Steps.{set_value_same}
 use Rattle.std.specs.BTreeMap.{is_at}
 use Rattle.std.specs.Ordering.{nat_cmp}
@@ -6,7 +6,7 @@ use Rattle.model.specs.Coding.{coding_of}
 use Rattle.model.specs.Parties.{party_of, put}
 use Rattle.model.proofs.Parties.{set_is_put}
 use Rattle.machine.specs.Parts.{trace_of}
-use Rattle.machine.proofs.Going.{refusal_is, is_refusal, going_is}
+use Rattle.machine.proofs.Going.{refusal_is, is_refusal, going_is, goes_on_nowhere, is_idle}
 use Rattle.machine.proofs.parts.Parts.resume.Goals as goal
 
 pub go_on-gone-requires-clause-small : goal.go_on-gone-requires-clause-small
@@ -43,3 +43,16 @@ returns-in-Err-clause-err g c =
     ∙ ((c.get_mut.follows.holds x).0 ∙ set_value_same (is_at (nat_cmp c.args.number)) w.latest x (sym c.in-Some.ensures.value))
     in
     rw (same, c.in-Err.ensures.words, c.in-Err.ensures.kept, c.in-Err.ensures.changes, c.in-Err.ensures.events) refl
+
+pub returns-then-number-self-clause-refused : goal.returns-then-number-self-clause-refused
+returns-then-number-self-clause-refused g c =
+    let w = (trace_of (coding_of g.T.Words.WORDS g.T.Words.words_of g.T.Words.value_of) c.args.self.now).world in
+    let beyond : c.args.self.now.parties ≤ c.args.number = omega arith in
+    inl (goes_on_nowhere w c.args.number c.requires.turns c.args.said beyond)
+
+pub returns-in_default-clause-refused : goal.returns-in_default-clause-refused
+returns-in_default-clause-refused g c =
+    let w = (trace_of (coding_of g.T.Words.WORDS g.T.Words.words_of g.T.Words.value_of) c.args.self.now).world in
+    let within : c.args.number < c.args.self.now.parties = omega arith in
+    let none : party_of c.args.number w.latest ≡ None = sym c.in_default.ensures.value in
+    inl (is_idle w c.args.number c.requires.turns c.args.said within none)

@@ -18,6 +18,7 @@ use Rattle.model.specs.declared.families.indices.robust.RobustStart.{RobustStart
 use Rattle.model.specs.declared.families.indices.robust.RobustStart as starts
 use Rattle.model.specs.declared.families.indices.robust.calls.RobustFlight.{RobustFlight}
 use Rattle.model.specs.declared.families.indices.robust.calls.RobustFlight.TheVariants.{Acquire, Release, Find, Recover, BorrowedIndices, IsLocked}
+use Rattle.model.specs.Families.Indices.Robust.Dead.{kept_going_rows}
 use Rattle.model.specs.Families.Queues.Calls.{as_it_is}
 use Rattle.model.specs.Step.{Going, as_call}
 
@@ -117,4 +118,6 @@ module _ {T : Type 0} where
       record {
         want = want flight;
         after = λ old. as_call flights.TheVariants.Robust (λ answer. answer) (after flight old);
+        rows = kept_going_rows flight;
+        most = 1;
       }

@@ -1,8 +1,6 @@
--- The words of the robust index set at its opening, who may begin which call, and who may go on.
-use Rattle.std.specs.Prelude.{ℕ, ◌-◌, ◌^◌, ◌&&◌, Bool, true, false, not, Option, Some, None, option_map, List, [], ◌∷◌, replicate, nat_le, nat_lt, if◌then◌else◌}
+-- The words of the robust index set at its opening, and who may begin which call.
+use Rattle.std.specs.Prelude.{ℕ, ◌-◌, ◌^◌, ◌&&◌, Bool, true, false, Option, Some, None, option_map, List, [], ◌∷◌, replicate, nat_le, nat_lt, if◌then◌else◌}
 use Rattle.steps.specs.Indices.Robust.Parts.{empty}
-use Rattle.steps.specs.declared.indices.robust.recover.RecoverStage.{RecoverStage}
-use Rattle.steps.specs.declared.indices.robust.recover.RecoverStage.TheVariants.{Asks}
 use Rattle.model.specs.declared.families.Flight.{Flight}
 use Rattle.model.specs.declared.families.Flight as flights
 use Rattle.model.specs.declared.families.Kept.{Kept}
@@ -10,11 +8,10 @@ use Rattle.model.specs.declared.families.Kept as kepts
 use Rattle.model.specs.declared.families.indices.robust.RobustStart.{RobustStart}
 use Rattle.model.specs.declared.families.indices.robust.RobustStart.TheVariants.{Acquire, Release, Find, Recover, BorrowedIndices, IsLocked}
 use Rattle.model.specs.declared.families.indices.robust.calls.RobustFlight.{RobustFlight}
-use Rattle.model.specs.declared.families.indices.robust.calls.RobustFlight as robust_flights
 use Rattle.model.specs.declared.turn.Kind.{Kind}
 use Rattle.model.specs.declared.turn.Kind as kinds
 use Rattle.model.specs.declared.turn.Refusal.{Refusal}
-use Rattle.model.specs.declared.turn.Refusal.TheVariants.{WrongCall, BadIndex, OwnerIsDead, OwnerLives}
+use Rattle.model.specs.declared.turn.Refusal.TheVariants.{WrongCall, BadIndex, OwnerIsDead}
 use Rattle.model.specs.Families.Indices.Robust.Calls.{first}
 use Rattle.model.specs.Families.Indices.Robust.Dead.{has_died}
 use Rattle.model.specs.Opening.{Opening}
@@ -80,26 +77,3 @@ module _ {T : Type 0} where
         call = option_map flights.TheVariants.Robust (call_of kind capacity start);
         rows = kept_rows capacity start;
       }
-
--- ---- a call goes on
-
--- it acquires or releases for an owner who is dead
-abbrev pub acts_for_dead : List ℕ → RobustFlight → Bool
-acts_for_dead dead (robust_flights.TheVariants.Acquire run) = has_died run.given dead
-acts_for_dead dead (robust_flights.TheVariants.Release run) = has_died run.given.owner dead
-acts_for_dead dead flight = false
-
-abbrev pub asks_about_living : List ℕ → RecoverStage → Bool
-asks_about_living dead (Asks index owner) = not (has_died owner dead)
-asks_about_living dead stage = false
-
--- by a yes it would free an index of an owner who lives
-abbrev pub frees_living : List ℕ → RobustFlight → Option Bool → Bool
-frees_living dead (robust_flights.TheVariants.Recover run) (Some true) =
-    asks_about_living dead run.call.stage
-frees_living dead flight said = false
-
--- what is tested of a call that is to go on, by a decision or without
-abbrev pub going_rows : List ℕ → RobustFlight → Option Bool → List (Bool × Refusal)
-going_rows dead flight said =
-    (acts_for_dead dead flight, OwnerIsDead) ∷ (frees_living dead flight said, OwnerLives) ∷ []

@@ -22,10 +22,6 @@ use Rattle.model.specs.declared.families.indices.robust.calls.RobustFlight.TheVa
 use Rattle.model.specs.Families.Indices.Robust.Calls.{after, goes_back}
 use Rattle.model.specs.Step.{Step}
 
--- a step writes at most so many events, apart from the end of its call
-abbrev pub most_effects : RobustFlight → ℕ
-most_effects flight = 1
-
 module _ {T : Type 0} where
   -- the exchange of a cell from its owner to empty
   abbrev pub freed : ℕ → ℕ → ℕ → ℕ → List (Event T)

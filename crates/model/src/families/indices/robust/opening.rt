@@ -1,6 +1,7 @@
 //! The words of the robust index set at its opening, who may begin which call, and who may go on.
 ghost use Rattle.std.specs.Prelude.{◌≡◌, ◌∷◌, None, Some, is_none, OnOk, IfOk, IfErr};
-ghost use Rattle.model.specs.Families.Indices.Robust.Opening.{opening, is_set, is_owner, names_owner, call_of, call_rows, acts_for_dead, asks_about_living, frees_living, going_rows};
+ghost use Rattle.model.specs.Families.Indices.Robust.Opening.{opening, is_set, is_owner, names_owner, call_of, call_rows};
+ghost use Rattle.model.specs.Families.Indices.Robust.Dead.{acts_for_dead, asks_about_living, frees_living, going_rows};
 ghost use Rattle.model.specs.Rows.{first_row};
 ghost use Rattle.model.specs.declared.turn.Refusal.TheVariants.{WrongCall};
 

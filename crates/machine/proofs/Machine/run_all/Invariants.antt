@@ -1,0 +1,14 @@
+use Rattle.std.proofs.Common.{◌≡◌, take}
+use Rattle.model.specs.Coding.{coding_of}
+use Rattle.model.specs.Turns.{after_turns, AreAllowed}
+use Rattle.model.specs.Promises.{IsKept}
+use Rattle.model.specs.World.{trace_in}
+use Rattle.machine.proofs.Machine.run_all.Given as goal
+
+abbrev pub invariant-loop-taken : goal.invariant-loop-taken
+invariant-loop-taken g l =
+    record {
+      allowed : AreAllowed (trace_in (coding_of g.T.Words.WORDS g.T.Words.words_of g.T.Words.value_of) l.fn.self) (take l.taken l.turns);
+      taken : trace_in (coding_of g.T.Words.WORDS g.T.Words.words_of g.T.Words.value_of) l.self ≡ after_turns (trace_in (coding_of g.T.Words.WORDS g.T.Words.words_of g.T.Words.value_of) l.fn.self) (take l.taken l.turns);
+      kept : IsKept (trace_in (coding_of g.T.Words.WORDS g.T.Words.words_of g.T.Words.value_of) l.self);
+    }
