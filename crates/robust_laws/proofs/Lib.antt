@@ -1,12 +1,15 @@
 pub mod Acquires
+pub mod Begins
 pub mod Core
 pub mod Counting
+pub mod Deaths
 pub mod Effects
 pub mod Frees
 pub mod Grants
 pub mod Invariant
 pub mod Knows
 pub mod Locks
+pub mod Opening
 pub mod Parts
 pub mod Past
 pub mod Rights
