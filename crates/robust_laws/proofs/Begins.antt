@@ -15,7 +15,7 @@ use Rattle.model.proofs.Moments.{others_begin_none}
 use Rattle.model.proofs.Readings.{Each-append, span_of-other}
 use Rattle.robust_laws.proofs.Core.{counter_of}
 use Rattle.robust_laws.proofs.Effects.{at_same, at_other, proper_less}
-use Rattle.robust_laws.proofs.Invariant.{Scene, Inv, Good, Does}
+use Rattle.robust_laws.proofs.Invariant.{Scene, Good, Does}
 use Rattle.robust_laws.proofs.Rights.{Right, Nobody, Settled, By, taken_by, right_after, right_of, IsBy, AreOwned}
 
 -- ---- the right to one index
@@ -72,11 +72,8 @@ module _ {T : Type 0} where
       ∙ (at_same index index (taken_by p owner (right_of index events)) (right_of index events) refl
       ∙ (ap (taken_by p owner) e ∙ ap (λ b. if b then By p else Settled owner) (eq-eqb owner owner refl)))
 
-module _ {T : Type 0} (scene : Scene T) (inv : Inv scene) (start : RobustStart) where
+module _ {T : Type 0} (scene : Scene T) (g : Good scene.capacity scene.set.words scene.set.dead scene.events scene.turns) (start : RobustStart) where
   open scene use {capacity as c, party as p, turns as turns, events as events}
-
-  g : Good c scene.set.words scene.set.dead events turns
-  g = inv.holds.good
 
   abbrev es : List (Event T)
   es = Begun p (Robust start) ∷ []

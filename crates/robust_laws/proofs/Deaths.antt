@@ -2,10 +2,6 @@
 use Rattle.std.proofs.Common.{◌≡◌, ◌≢◌, ℕ, ◌+◌, ◌-◌, ◌≤◌, ◌==◌, ◌||◌, ⊎_elim, inl, Bool, true, false, Option, Some, None, List, [], ◌∷◌, ◌++◌, refl, sym, ap, subst, ◌∙◌, arith, eq-eqb, ne_eqb}
 use Rattle.std.proofs.lemmas.Bool.{cases_eq}
 use Rattle.std.proofs.lemmas.List.Sums.{fold-append}
-use Rattle.std.specs.BTreeMap.{is_at}
-use Rattle.std.specs.declared.cmp.Ordering.{Ordering}
-use Rattle.std.specs.declared.cmp.Ordering.TheVariants.{Less, Equal, Greater}
-use Rattle.std.specs.Ordering.{match_ordering, nat_cmp}
 use Rattle.model.specs.declared.event.Event.{Event}
 use Rattle.model.specs.declared.event.Event.TheVariants.{Died}
 use Rattle.model.specs.declared.families.Flight.{Flight}
@@ -14,7 +10,7 @@ use Rattle.model.specs.Families.Indices.Reading.{locked_after, is_locked}
 use Rattle.model.specs.Families.Indices.Robust.Dead.{has_died, dead_with}
 use Rattle.model.specs.Families.Indices.Robust.Promises.{cell_of, DoesRight, AnswersRight, IsProper, HoldsRight}
 use Rattle.model.specs.Families.Indices.Robust.Reading.{deeds, filled_after, filled_of, holder_after, holder_of, settled_after, settled_of, dead_after, is_dead, wrote_in}
-use Rattle.model.proofs.Parties.{equal_keys, apart, itself}
+use Rattle.model.proofs.Dead.{died_now, died_before}
 use Rattle.model.proofs.Readings.{Each-append, span_of-death}
 use Rattle.robust_laws.proofs.Core.{counter_of}
 use Rattle.robust_laws.proofs.Effects.{both_ways, proper_less}
@@ -24,37 +20,14 @@ use Rattle.robust_laws.proofs.Rights.{right_after, right_of, AreOwned}
 
 -- ---- who has died
 
-is_here : (q x : ℕ) → is_at (nat_cmp q) x ≡ (x == q)
-is_here q x = ⊎_elim same other (cases_eq x q)
-  where
-    same : x ≡ q → is_at (nat_cmp q) x ≡ (x == q)
-    same e = ap (is_at (nat_cmp q)) e ∙ (itself q ∙ sym (eq-eqb x q e))
-
-    other : x ≢ q → is_at (nat_cmp q) x ≡ (x == q)
-    other ne = apart q x (λ e. ne (sym e)) ∙ sym (ne_eqb x q ne)
-
-swapped : (a b d : Bool) → (a || (b || d)) ≡ (b || (a || d))
-swapped true true d = refl
-swapped true false d = refl
-swapped false true d = refl
-swapped false false d = refl
-
-absorbed : (a b : Bool) → (a || b) ≡ (a || (a || b))
-absorbed true b = refl
-absorbed false b = refl
-
 pub died_with : (q o : ℕ) (dead : List ℕ) → has_died q (dead_with o dead) ≡ ((o == q) || has_died q dead)
-died_with q o [] = ap (λ b. b || false) (is_here q o)
-died_with q o (x ∷ xs) = by (nat_cmp o x) refl (died_with q o xs)
+died_with q o dead = ⊎_elim now before (cases_eq q o)
   where
-    by : (r : Ordering) → nat_cmp o x ≡ r → has_died q (dead_with o xs) ≡ ((o == q) || has_died q xs)
-        → has_died q (match_ordering r (o ∷ x ∷ xs) (x ∷ xs) (x ∷ dead_with o xs)) ≡ ((o == q) || has_died q (x ∷ xs))
-    by Less t more = ap (λ b. b || has_died q (x ∷ xs)) (is_here q o)
-    by Equal t more =
-        let same : x ≡ o = sym (equal_keys o x t) in
-        let at : is_at (nat_cmp q) x ≡ (o == q) = is_here q x ∙ ap (λ n. n == q) same in
-        ap (λ b. b || has_died q xs) at ∙ (absorbed (o == q) (has_died q xs) ∙ ap (λ b. (o == q) || (b || has_died q xs)) (sym at))
-    by Greater t more = ap (λ b. is_at (nat_cmp q) x || b) more ∙ swapped (is_at (nat_cmp q) x) (o == q) (has_died q xs)
+    now : q ≡ o → has_died q (dead_with o dead) ≡ ((o == q) || has_died q dead)
+    now e = ap (λ n. has_died q (dead_with n dead)) (sym e) ∙ (died_now q dead ∙ sym (ap (λ b. b || has_died q dead) (eq-eqb o q (sym e))))
+
+    before : q ≢ o → has_died q (dead_with o dead) ≡ ((o == q) || has_died q dead)
+    before ne = died_before q o dead ne ∙ sym (ap (λ b. b || has_died q dead) (ne_eqb o q (λ e. ne (sym e))))
 
 -- ---- what a death does to the set and to all parties
 
