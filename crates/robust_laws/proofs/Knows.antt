@@ -287,7 +287,7 @@ flight_scan c (Acquire run) = None
 flight_scan c (Release run) = release_scan c run.call.stage
 flight_scan c (Find run) = None
 flight_scan c (Recover run) = recover_scan c run.call.stage
-flight_scan c (BorrowedIndices run) = None
+flight_scan c (BorrowedIndices run) = count_scan c run.call.count
 flight_scan c (IsLocked run) = None
 
 -- ---- what depends on no event

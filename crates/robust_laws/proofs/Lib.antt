@@ -4,13 +4,17 @@ pub mod Core
 pub mod Counting
 pub mod Deaths
 pub mod Effects
+pub mod Finds
 pub mod Frees
 pub mod Grants
 pub mod Invariant
 pub mod Knows
 pub mod Locks
+pub mod Looks
 pub mod Opening
 pub mod Parts
 pub mod Past
+pub mod Releases
 pub mod Rights
 pub mod Stages
+pub mod Written
