@@ -12,7 +12,7 @@ use Rattle.model.specs.declared.party.Party.{Party}
 use Rattle.model.specs.Parties.{party_of, put}
 use Rattle.std.specs.Ordering.{is_eq, match_ordering, nat_cmp}
 
-pub equal_keys : (p q : ℕ) → nat_cmp p q ≡ Equal → p ≡ q
+equal_keys : (p q : ℕ) → nat_cmp p q ≡ Equal → p ≡ q
 equal_keys p q e = go (nat_lt p q) refl (p == q) refl e
   where
     go : (b : Bool) → nat_lt p q ≡ b → (d : Bool) → (p == q) ≡ d → cond b Less (cond d Equal Greater) ≡ Equal → p ≡ q

@@ -145,21 +145,21 @@ module _ {T : Type 0} where
   pub at_written : (c : ℕ) (w w' : List (Event T)) (start : Start T) (flight : Flight T) → w' ≡ w → FlightAt c (deeds w) start flight → FlightAt c (deeds w') start flight
   at_written c w w' start flight same h = subst (λ x. FlightAt c (deeds x) start flight) (sym same) h
 
-  module _ (scene : Scene T) (words' : List ℕ) (from : Span T) (y : Party T) (es : List (Event T)) (changes' : ℕ) (s : Shows scene words' from y es changes') (inv : Inv scene) where
+  module _ (scene : Scene T) (words' : List ℕ) (from : Span T) (y : Party T) (es : List (Event T)) (changes' : ℕ) (s : Shows scene words' from y es changes') (h : Holds scene.capacity scene.set scene.latest scene.events scene.turns) (inv : frame.Inv (family scene.coding scene.capacity) scene.set scene.latest scene.events scene.changes) where
     open scene use {capacity as c, set as set, party as p, latest as latest, events as events}
 
     still_wrote : (q : ℕ) → q ≢ p → wrote_of q (events ++ es) ≡ wrote_of q set.events
-    still_wrote q ne = ap wrote_in (span_of-other p q events es ne s.does.own) ∙ ap (wrote_of q) (sym inv.holds.same)
+    still_wrote q ne = ap wrote_in (span_of-other p q events es ne s.does.own) ∙ ap (wrote_of q) (sym h.same)
 
     pub owes : span_of p events ≡ from → frame.Owes (family scene.coding c) (set_then scene words' es) p y latest events es changes'
     owes is =
-        frame.owes (family scene.coding c) set (set_then scene words' es) from p y latest events es scene.changes changes' is inv.frame
+        frame.owes (family scene.coding c) set (set_then scene words' es) from p y latest events es scene.changes changes' is inv
         (record {
           own = s.does.own;
           stands = s.stands;
           here = s.here;
           knows = s.knows;
-          others = λ q ne start flight h. (at_written c (wrote_of q set.events) (wrote_of q (events ++ es)) start flight (still_wrote q ne) h, still_wrote q ne);
+          others = λ q ne start flight at. (at_written c (wrote_of q set.events) (wrote_of q (events ++ es)) start flight (still_wrote q ne) at, still_wrote q ne);
           others_know = λ q ne. any_knows c set.words words' events es q scene.changes changes' s.does.goes (s.does.spares q ne) s.seen;
         })
 

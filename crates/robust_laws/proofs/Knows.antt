@@ -176,7 +176,8 @@ RecoverAt c mode all (recovers.TheVariants.Raises index raise) =
     IsInCourse c index (index + 1) all × HasJustFreed all
 RecoverAt c mode all (recovers.TheVariants.Locks index lock) =
     IsInCourse c index (index + 1) all × HasJustFreed all × (mode ≡ LockIfLastIndex) × LockAt c lock
-RecoverAt c mode all recovers.TheVariants.LoadsCounterAgain = Unit {0}
+RecoverAt c mode all recovers.TheVariants.LoadsCounterAgain =
+    (i owner : ℕ) → IsOneOf (Frees i owner) all → IsOneOf (Asks i owner) all
 
 -- where a call of this name stands in a set of this capacity, where it has done all this
 abbrev pub At : ℕ → List Deed → RobustStart → RobustFlight → Type 0
@@ -286,7 +287,7 @@ flight_scan c (Acquire run) = None
 flight_scan c (Release run) = release_scan c run.call.stage
 flight_scan c (Find run) = None
 flight_scan c (Recover run) = recover_scan c run.call.stage
-flight_scan c (BorrowedIndices run) = None
+flight_scan c (BorrowedIndices run) = count_scan c run.call.count
 flight_scan c (IsLocked run) = None
 
 -- ---- what depends on no event

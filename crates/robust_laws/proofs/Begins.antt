@@ -1,0 +1,135 @@
+-- What a call does to a robust index set as it begins: nothing but that a release takes the right to give its index back.
+use Rattle.std.proofs.Common.{◌≡◌, ◌≢◌, ℕ, ◌+◌, ◌-◌, ◌≤◌, ◌==◌, ⊎_elim, if◌then◌else◌, Bool, true, false, Option, Some, None, List, [], ◌∷◌, ◌++◌, fold, refl, sym, ap, subst, ◌∙◌, arith, eq-eqb, ne_eqb}
+use Rattle.std.proofs.lemmas.Bool.{cases_eq}
+use Rattle.std.proofs.lemmas.List.Sums.{fold-append}
+use Rattle.steps.specs.declared.indices.enums.ReleaseMode.{ReleaseMode}
+use Rattle.model.specs.declared.event.Event.{Event}
+use Rattle.model.specs.declared.event.Event.TheVariants.{Begun}
+use Rattle.model.specs.declared.event.Start.TheVariants.{Robust}
+use Rattle.model.specs.declared.families.indices.robust.RobustStart.{RobustStart}
+use Rattle.model.specs.declared.families.indices.robust.RobustStart.TheVariants.{Release}
+use Rattle.model.specs.Families.Indices.Reading.{locked_after, is_locked}
+use Rattle.model.specs.Families.Indices.Robust.Promises.{cell_of, DoesRight, AnswersRight, IsProper, HoldsRight}
+use Rattle.model.specs.Families.Indices.Robust.Reading.{without, deeds, filled_after, filled_of, holder_after, holder_of, settled_after, settled_of, dead_after, is_dead, wrote_in}
+use Rattle.model.proofs.Moments.{others_begin_none}
+use Rattle.model.proofs.Readings.{Each-append, span_of-other}
+use Rattle.robust_laws.proofs.Core.{counter_of}
+use Rattle.robust_laws.proofs.Effects.{at_same, at_other, proper_less}
+use Rattle.robust_laws.proofs.Invariant.{Scene, Good, Does}
+use Rattle.robust_laws.proofs.Rights.{Right, Nobody, Settled, By, taken_by, right_after, right_of, IsBy, AreOwned}
+
+-- ---- the right to one index
+
+-- another owner's index may still be given back
+without_other : (owner : ℕ) (old : Option ℕ) (o : ℕ) → without owner old ≡ Some o → (old ≡ Some o) × (o ≢ owner)
+without_other owner None o e = absurd (cc)
+without_other owner (Some other) o e = ⊎_elim same differs (cases_eq other owner)
+  where
+    same : other ≡ owner → (Some other ≡ Some o) × (o ≢ owner)
+    same is =
+        let none : without owner (Some other) ≡ None = ap (λ b. if b then None else Some other) (eq-eqb other owner is) in
+        let both : None ≡ Some o = sym none ∙ e in
+        absurd (cc)
+
+    differs : other ≢ owner → (Some other ≡ Some o) × (o ≢ owner)
+    differs ne =
+        let some : without owner (Some other) ≡ Some other = ap (λ b. if b then None else Some other) (ne_eqb other owner ne) in
+        let both : Some other ≡ Some o = sym some ∙ e in
+        let is : other ≡ o = cc in
+        (both, λ h. ne (is ∙ h))
+
+not_taken : (p owner o : ℕ) → o ≢ owner → taken_by p owner (Settled o) ≡ Settled o
+not_taken p owner o ne = ap (λ b. if b then By p else Settled o) (ne_eqb o owner ne)
+
+still_settled : (T : Type 0) (p : ℕ) (start : RobustStart) (i o : ℕ) (old : Option ℕ) (r : Right) → settled_after {T = T} i old (Begun p (Robust start)) ≡ Some o → (old ≡ Some o → r ≡ Settled o)
+    → (old ≡ Some o) × (right_after {T = T} i r (Begun p (Robust start)) ≡ Settled o)
+still_settled T p (Release index owner mode) i o old r e was = ⊎_elim here there (cases_eq i index)
+  where
+    here : i ≡ index → (old ≡ Some o) × ((if index == i then taken_by p owner r else r) ≡ Settled o)
+    here same =
+        let left : without owner old ≡ Some o = sym (at_same index i (without owner old) old same) ∙ e in
+        let both = without_other owner old o left in
+        (both.0, at_same index i (taken_by p owner r) r same ∙ (ap (taken_by p owner) (was both.0) ∙ not_taken p owner o both.1))
+
+    there : i ≢ index → (old ≡ Some o) × ((if index == i then taken_by p owner r else r) ≡ Settled o)
+    there ne =
+        let left : old ≡ Some o = sym (at_other index i (without owner old) old ne) ∙ e in
+        (left, at_other index i (taken_by p owner r) r ne ∙ was left)
+still_settled T p start i o old r e was = (e, was e)
+
+still_by : (T : Type 0) (p q : ℕ) (start : RobustStart) (i : ℕ) (r : Right) → r ≡ By q → right_after {T = T} i r (Begun p (Robust start)) ≡ By q
+still_by T p q (Release index owner mode) i r e = ⊎_elim here (λ ne. at_other index i (taken_by p owner r) r ne ∙ e) (cases_eq i index)
+  where
+    here : i ≡ index → (if index == i then taken_by p owner r else r) ≡ By q
+    here same = at_same index i (taken_by p owner r) r same ∙ ap (taken_by p owner) e
+still_by T p q start i r e = e
+
+module _ {T : Type 0} where
+  -- a release takes the right
+  pub takes_right : (p index owner : ℕ) (mode : ReleaseMode) (events : List (Event T)) → right_of index events ≡ Settled owner → right_of index (events ++ Begun p (Robust (Release index owner mode)) ∷ []) ≡ By p
+  takes_right p index owner mode events e =
+      fold-append (right_after index) _ events (Begun p (Robust (Release index owner mode)) ∷ [])
+      ∙ (at_same index index (taken_by p owner (right_of index events)) (right_of index events) refl
+      ∙ (ap (taken_by p owner) e ∙ ap (λ b. if b then By p else Settled owner) (eq-eqb owner owner refl)))
+
+module _ {T : Type 0} (scene : Scene T) (g : Good scene.capacity scene.set.words scene.set.dead scene.events scene.turns) (start : RobustStart) where
+  open scene use {capacity as c, party as p, turns as turns, events as events}
+
+  abbrev es : List (Event T)
+  es = Begun p (Robust start) ∷ []
+
+  same_filled : (j : ℕ) → filled_of j (events ++ es) ≡ filled_of j events
+  same_filled j = fold-append (filled_after j) None events es
+
+  same_holder : (j : ℕ) → holder_of j (events ++ es) ≡ holder_of j events
+  same_holder j = fold-append (holder_after j) None events es
+
+  same_lock : is_locked (events ++ es) ≡ is_locked events
+  same_lock = fold-append locked_after false events es
+
+  same_dead : (o : ℕ) → is_dead o (events ++ es) ≡ is_dead o events
+  same_dead o = fold-append (dead_after o) false events es
+
+  settles : AreOwned events → (i o : ℕ) → settled_of i (events ++ es) ≡ Some o → (filled_of i (events ++ es) ≡ Some o) × (right_of i (events ++ es) ≡ Settled o)
+  settles h i o e =
+      let k = still_settled T p start i o (settled_of i events) (right_of i events) (sym (fold-append (settled_after i) None events es) ∙ e) (λ was. (h.settled i o was).1) in
+      (same_filled i ∙ (h.settled i o k.0).0, fold-append (right_after i) _ events es ∙ k.1)
+
+  pub begins : Does scene scene.set.words (Begun p (Robust start) ∷ [])
+  begins =
+      record {
+        own = (refl, tt);
+        good =
+            record {
+              some = g.some;
+              few = g.few;
+              wide = g.wide;
+              cells = λ i below. g.cells i below ∙ sym (ap cell_of (same_filled i));
+              filled = λ i owner e. g.filled i owner (sym (same_filled i) ∙ e);
+              lock = g.lock ∙ sym same_lock;
+              low = λ t. let low = g.low (sym same_lock ∙ t) in omega arith;
+              died = λ o. g.died o ∙ sym (same_dead o);
+              does = Each-append (DoesRight c) events es g.does (tt, tt);
+              answers = Each-append (AnswersRight c) events es g.answers (tt, tt);
+              owned = λ proper.
+                  let h = g.owned (proper_less events es proper) in
+                  record { held = λ i owner e. same_filled i ∙ h.held i owner (sym (same_holder i) ∙ e); settled = settles h };
+              holds = λ proper. Each-append HoldsRight events es (g.holds (proper_less events es proper)) (tt, tt);
+            };
+        goes =
+            record {
+              grows = omega arith;
+              grants = λ same j none. same_holder j ∙ none;
+              fills = λ j owner d e. sym (same_filled j) ∙ e;
+              dead = λ o d. same_dead o ∙ d;
+              lives = λ o l. sym (same_dead o) ∙ l;
+              proper = proper_less events es;
+            };
+        spares = λ q ne.
+            record {
+              none = others_begin_none q p es ne (refl, tt);
+              deeds = ap (λ s. deeds (wrote_in s)) (span_of-other p q events es ne (refl, tt));
+              owned = λ proper i owner alive h. record { right = fold-append (right_after i) _ events es ∙ still_by T p q start i (right_of i events) h.right; filled = same_filled i ∙ h.filled };
+              unheld = λ proper i owner alive h none. same_holder i ∙ none;
+            };
+      }

@@ -1,0 +1,53 @@
+-- The robust index set as it opens: no index is filled, and nobody has died.
+use Rattle.std.proofs.Common.{◌≡◌, ℕ, zero, suc, ◌+◌, ◌-◌, ◌^◌, ◌<◌, ◌≤◌, if◌then◌else◌, nat_lt, Bool, true, false, Option, Some, None, [], ◌∷◌, length, replicate, get_or, refl, sym, ap, ◌∙◌, arith}
+use Rattle.std.proofs.lemmas.Bool.Decides.{nat_tests}
+use Rattle.std.proofs.lemmas.List.{length-replicate}
+use Rattle.steps.specs.declared.enums.UniqueIndexCreationError.{UniqueIndexCreationError}
+use Rattle.steps.specs.Indices.Robust.Parts.{empty}
+use Rattle.model.specs.declared.turn.Kind as kinds
+use Rattle.model.specs.Families.Indices.Robust.Opening.{opening_words}
+use Rattle.model.specs.World.{capacity_error}
+use Rattle.model.proofs.Readings.{Each-nil}
+use Rattle.robust_laws.proofs.Core.{cell}
+use Rattle.robust_laws.proofs.Invariant.{Good}
+
+all_the_same : (x n i : ℕ) → i < n → get_or (replicate n x) i 0 ≡ x
+all_the_same x zero i below = absurd (omega arith)
+all_the_same x (suc n) zero below = refl
+all_the_same x (suc n) (suc i) below = all_the_same x n i (omega arith)
+
+opening_cell : (c i : ℕ) → i < c → cell (opening_words c) i ≡ empty
+opening_cell c i below =
+    let place : 1 + i ≡ suc i = omega arith in
+    ap (λ n. get_or (opening_words c) n 0) place ∙ all_the_same empty c i below
+
+pub opening_good : {T : Type 0} (c : ℕ) → 1 ≤ c → c < 2 ^ 32 → Good {T = T} c (opening_words c) [] [] 0
+opening_good c some few =
+    let long = length-replicate {A = ℕ} c empty in
+    record {
+      some = some;
+      few = few;
+      wide = omega arith;
+      cells = opening_cell c;
+      filled = λ i owner e. absurd (cc);
+      lock = refl;
+      low = λ t. omega arith;
+      died = λ owner. refl;
+      does = Each-nil _;
+      answers = Each-nil _;
+      owned = λ proper. record { held = λ i owner e. absurd (cc); settled = λ i owner e. absurd (cc) };
+      holds = λ proper. Each-nil _;
+    }
+
+-- a capacity that is admitted
+passed_both : (a b : Bool) (x y : UniqueIndexCreationError) → (if a then Some x else if b then Some y else None) ≡ None → (a ≡ false) × (b ≡ false)
+passed_both true b x y e = absurd (cc)
+passed_both false true x y e = absurd (cc)
+passed_both false false x y e = (refl, refl)
+
+pub admitted_is : (c : ℕ) → capacity_error kinds.TheVariants.Robust c ≡ None → (1 ≤ c) × (c < 2 ^ 32)
+admitted_is c e =
+    let both = passed_both (nat_lt (2 ^ 32 - 1) c) (nat_lt c 1) _ _ e in
+    let most : nat_lt (2 ^ 32 - 1) c ≡ false = both.0 in
+    let least : nat_lt c 1 ≡ false = both.1 in
+    (grind (arith, nat_tests), grind (arith, nat_tests))
