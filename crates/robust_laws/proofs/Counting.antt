@@ -1,11 +1,19 @@
 -- Counts of indices in a call that comes to them one after another.
-use Rattle.std.proofs.Common.{◌≡◌, ◌≢◌, ℕ, zero, suc, ◌+◌, ◌<◌, ◌≤◌, ◌==◌, ⊎_elim, if◌then◌else◌, Bool, true, false, List, [], ◌∷◌, ◌++◌, refl, sym, ap, subst, ◌∙◌, arith, eq-eqb, ne_eqb}
+use Rattle.std.proofs.Common.{◌≡◌, ◌≢◌, ℕ, zero, suc, ◌+◌, ◌-◌, ◌*◌, ◌<◌, ◌≤◌, ◌==◌, ⊎_elim, if◌then◌else◌, Bool, true, false, List, [], ◌∷◌, ◌++◌, refl, sym, ap, subst, ◌∙◌, arith, eq-eqb, ne_eqb}
 use Rattle.std.proofs.lemmas.Bool.{cases_eq}
 use Rattle.model.specs.declared.event.Event.{Event}
 use Rattle.model.specs.Families.Indices.Robust.Promises.{count_below, HeldThrough, IsCount}
 use Rattle.model.specs.Moments.{BeginsNone, HeldOnce}
 use Rattle.model.proofs.Moments.{held_now, held_later}
 use Rattle.robust_laws.proofs.Past.{through_less, through_now}
+
+-- what the indices before another one take, each as much
+pub times_below : (c index each : ℕ) → index < c → index * each + each ≤ c * each
+times_below c index each below =
+    let rest : (d : ℕ) × (c ≡ index + 1 + d) = (c - (index + 1), omega arith) in
+    let more : c * each ≡ (index + 1 + rest.0) * each = ap (λ n. n * each) rest.1 in
+    let some : (index + 1 + rest.0) * each ≡ index * each + each + rest.0 * each = omega arith in
+    omega arith
 
 one_at_most : (b : Bool) → (if b then 1 else 0) ≤ 1
 one_at_most true = omega arith

@@ -1,9 +1,7 @@
 -- The steps of the calls that look: how many indices are borrowed, and whether the set is locked.
-use Rattle.std.proofs.Common.{◌≡◌, ◌≢◌, ℕ, ◌+◌, ◌*◌, ◌<◌, ◌≤◌, ◌==◌, Bool, true, false, Option, Some, None, is_some, List, [], refl, sym, ap, subst, ◌∙◌, arith}
+use Rattle.std.proofs.Common.{◌≡◌, ℕ, ◌+◌, ◌*◌, ◌≤◌, ◌==◌, Bool, true, false, Option, Some, None, is_some, List, [], refl, sym, ap, ◌∙◌, arith}
 use Rattle.steps.specs.declared.ask.Ask.{Ask}
 use Rattle.steps.specs.declared.ask.After.{After}
-use Rattle.steps.specs.declared.ask.After.TheVariants.{GoOn, Done}
-use Rattle.steps.specs.declared.indices.robust.looks.BorrowedIndices as calls
 use Rattle.steps.specs.declared.indices.robust.parts.Count.{Count}
 use Rattle.steps.specs.declared.indices.robust.parts.Count as counts
 use Rattle.steps.specs.declared.indices.robust.parts.Counted.{Counted}
@@ -20,7 +18,7 @@ use Rattle.model.specs.Step.{as_call}
 use Rattle.model.specs.Turns.{old_of, words_after}
 use Rattle.robust_laws.proofs.Core.{counter_of}
 use Rattle.robust_laws.proofs.Counting.{count_none, count_next}
-use Rattle.robust_laws.proofs.Effects.{some_none, both_ways, unlocked, is_shut, stays_same, stays_raised}
+use Rattle.robust_laws.proofs.Effects.{both_ways, unlocked, is_shut, stays_same, stays_raised}
 use Rattle.robust_laws.proofs.Invariant.{Scene, Inv}
 use Rattle.robust_laws.proofs.Knows.{borrowed_at, looking, count_number, CountAt, Knows, Borrowed}
 use Rattle.robust_laws.proofs.Parts.{count_ask, count_step, IsSaid}

@@ -1,6 +1,6 @@
 -- The steps of a release.
-use Rattle.std.proofs.Common.{◌≡◌, ◌≢◌, ℕ, ◌+◌, ◌*◌, ◌<◌, ◌≤◌, ◌==◌, inl, inr, if◌then◌else◌, Bool, true, false, Option, Some, None, is_some, List, [], ◌∷◌, ◌++◌, set, refl, sym, ap, subst, ◌∙◌, arith}
-use Rattle.std.specs.Prelude.{Ok, Err}
+use Rattle.std.proofs.Common.{◌≡◌, ◌≢◌, ℕ, ◌+◌, ◌*◌, ◌<◌, ◌≤◌, ◌==◌, inl, inr, if◌then◌else◌, Bool, true, false, Option, Some, is_some, List, [], ◌∷◌, ◌++◌, refl, ap, subst, ◌∙◌, arith}
+use Rattle.std.specs.Prelude.{Err}
 use Rattle.std.proofs.lemmas.Bool.Decides.{nat_tests}
 use Rattle.std.proofs.lemmas.List.Concat.{flat_map-append}
 use Rattle.std.proofs.lemmas.List.Sums.{fold-append}
@@ -21,7 +21,7 @@ use Rattle.steps.specs.declared.indices.robust.parts.Raise as raises
 use Rattle.steps.specs.declared.indices.robust.release.Release as calls
 use Rattle.steps.specs.declared.indices.robust.release.ReleaseStage.{ReleaseStage}
 use Rattle.steps.specs.declared.indices.robust.release.ReleaseStage as releases
-use Rattle.steps.specs.Indices.Robust.Parts.{cell_word, empty, locked, first_lock, raise_after, raise_goes_back, lock_after, lock_goes_back}
+use Rattle.steps.specs.Indices.Robust.Parts.{cell_word, empty, first_lock, raise_after, raise_goes_back, lock_after, lock_goes_back}
 use Rattle.steps.specs.Indices.Robust.Release.{Released, at_release, release_raised, release_locked}
 use Rattle.steps.specs.Routine.{went_on}
 use Rattle.model.specs.declared.event.Answer.TheVariants.{State, NotOwned}
@@ -40,7 +40,7 @@ use Rattle.model.specs.Families.Indices.Robust.Steps.{locked_by}
 use Rattle.model.specs.Families.Queues.Calls.{as_it_is}
 use Rattle.model.specs.Moments.{SinceBegin}
 use Rattle.model.specs.Step.{as_call}
-use Rattle.model.specs.Turns.{old_of, words_after, step_count}
+use Rattle.model.specs.Turns.{old_of, words_after}
 use Rattle.model.proofs.Moments.{held_now}
 use Rattle.robust_laws.proofs.Core.{counter_of, cell}
 use Rattle.robust_laws.proofs.Effects.{one_party, quiet_end, proper_less, is_shut, stays_same, stays_raised, filled_by}

@@ -1,0 +1,513 @@
+-- The steps of a recovery.
+use Rattle.std.proofs.Common.{◌≡◌, ◌≢◌, ℕ, ◌+◌, ◌-◌, ◌*◌, ◌<◌, ◌≤◌, ◌==◌, ◌⊎◌, ⊎_elim, inl, inr, if◌then◌else◌, nat_lt, Bool, true, false, not, Option, Some, None, List, [], ◌∷◌, ◌++◌, set, refl, sym, ap, subst, ◌∙◌, append-nil, arith}
+use Rattle.std.specs.List.{AllByRecursion}
+use Rattle.std.proofs.lemmas.Bool.{cases_lt}
+use Rattle.std.proofs.lemmas.Bool.Decides.{nat_tests}
+use Rattle.std.proofs.lemmas.List.Sums.{fold-append}
+use Rattle.steps.specs.declared.ask.Ask.{Ask}
+use Rattle.steps.specs.declared.ask.After.{After}
+use Rattle.steps.specs.declared.ask.After.TheVariants.{GoOn, Done}
+use Rattle.steps.specs.declared.indices.enums.ReleaseMode.{ReleaseMode}
+use Rattle.steps.specs.declared.indices.enums.ReleaseMode.TheVariants.{LockIfLastIndex, Default}
+use Rattle.steps.specs.declared.indices.enums.ReleaseState.{ReleaseState}
+use Rattle.steps.specs.declared.indices.enums.ReleaseState as states
+use Rattle.steps.specs.declared.indices.robust.parts.Count.{Count}
+use Rattle.steps.specs.declared.indices.robust.parts.Count as counts
+use Rattle.steps.specs.declared.indices.robust.parts.Lock.{Lock}
+use Rattle.steps.specs.declared.indices.robust.parts.Lock as parts
+use Rattle.steps.specs.declared.indices.robust.parts.Raise.{Raise}
+use Rattle.steps.specs.declared.indices.robust.parts.Raise as raises
+use Rattle.steps.specs.declared.indices.robust.recover.Recover as calls
+use Rattle.steps.specs.declared.indices.robust.recover.RecoverStage.{RecoverStage}
+use Rattle.steps.specs.declared.indices.robust.recover.RecoverStage as recovers
+use Rattle.steps.specs.Indices.Robust.Parts.{cell_word, empty, locked, first_lock, raise_after, raise_goes_back, lock_after, lock_goes_back}
+use Rattle.steps.specs.Indices.Robust.Recover.{at_recover, recover_comes_to, recover_raised, recover_locked}
+use Rattle.steps.specs.Picks.{by_test}
+use Rattle.steps.specs.Routine.{went_on}
+use Rattle.model.specs.declared.event.Answer.{Answer}
+use Rattle.model.specs.declared.event.Answer.TheVariants.{State}
+use Rattle.model.specs.declared.event.Event.{Event}
+use Rattle.model.specs.declared.event.Event.TheVariants.{FreedOf, Asked, Told, Locked, Finished}
+use Rattle.model.specs.declared.event.Start.TheVariants.{Robust}
+use Rattle.model.specs.declared.families.indices.robust.RobustStart.TheVariants.{Recover}
+use Rattle.model.specs.declared.families.indices.robust.calls.RobustFlight as flights
+use Rattle.model.specs.Families.Indices.Robust.Bounds.{most_steps}
+use Rattle.model.specs.Families.Indices.Robust.Promises.{cell_of, promise, AnswersRight, IsUnlocked, HeldThrough, StillToFree, IsProper, HasRecovered}
+use Rattle.model.specs.Families.Indices.Robust.Reading.{Deed, Frees, Asks, Yes, Locks, deeds, asked_in, filled_after, filled_of, holder_of, is_dead, deeds_of, IsOneOf, IsLatest}
+use Rattle.model.specs.Families.Indices.Robust.Spans.{HasJustFreed}
+use Rattle.model.specs.Families.Indices.Robust.Steps.{locked_by}
+use Rattle.model.specs.Families.Queues.Calls.{as_it_is}
+use Rattle.model.specs.Moments.{BeginsNone, HeldOnce}
+use Rattle.model.specs.Promises.Spans.{Stands}
+use Rattle.model.specs.Reading.{Open}
+use Rattle.model.specs.Step.{as_call}
+use Rattle.model.specs.Turns.{old_of, words_after, step_count}
+use Rattle.model.proofs.Moments.{held_now, held_later}
+use Rattle.model.proofs.Readings.{AllFollow}
+use Rattle.robust_laws.proofs.Core.{counter_of, cell}
+use Rattle.robust_laws.proofs.Counting.{times_below}
+use Rattle.robust_laws.proofs.Deeds.{still_one, last_one, by_latest, was_one, all_so, asks_more, FreedWereAsked, freed_more}
+use Rattle.robust_laws.proofs.Effects.{Stays, at_same, some_none, one_owner, both_ways, quiet_none, quiet_asked, quiet_told, quietly, unlocked, is_shut, stays_same, stays_raised, filled_by, filled_none, filled_some}
+use Rattle.robust_laws.proofs.Frees.{frees}
+use Rattle.robust_laws.proofs.Invariant.{Scene, Inv, Good, Does, wrote_of, view}
+use Rattle.robust_laws.proofs.Knows.{recover_at, recover_number, raise_number, lock_number, for_back, for_index, RecoverAt, LockAt, IsInCourse, Knows, IsPaid, WasOpen, AskedBelow, GoneBut, LockSays}
+use Rattle.robust_laws.proofs.Locks.{locks}
+use Rattle.robust_laws.proofs.Parts.{raise_ask, lock_ask, raise_step, lock_step, IsSaid, none_beyond}
+use Rattle.robust_laws.proofs.Past.{through_less, through_now}
+use Rattle.robust_laws.proofs.Rights.{IsBy}
+use Rattle.robust_laws.proofs.Stages.{IsHere, Lengthens, all, now, sees, then_sees, backs_then, loads, exchanges, loads_same, fails_same, exchange_sets, deeds_more, StepOf, AnswerOf, Leads, goes_on, ends, goes_quietly, ends_quietly}
+
+at_least_one : (c : ℕ) (mode : ReleaseMode) → 1 ≤ for_back c mode
+at_least_one c Default = omega arith
+at_least_one c LockIfLastIndex = omega arith
+
+at_least_four : (c : ℕ) (mode : ReleaseMode) → 4 ≤ for_index c mode
+at_least_four c Default = omega arith
+at_least_four c LockIfLastIndex = omega arith
+
+most_is : (c backs : ℕ) (mode : ReleaseMode) → most_steps c (Recover mode) backs ≡ 2 + c * for_index c mode + backs * for_back c mode
+most_is c backs Default = omega arith
+most_is c backs LockIfLastIndex = omega arith
+
+nothing_said : (c : ℕ) (lock : Lock) → LockSays c (λ k filled. Unit {0}) lock
+nothing_said c (parts.TheVariants.Counts counts.TheVariants.LoadsCounter) = tt
+nothing_said c (parts.TheVariants.Counts (counts.TheVariants.LoadsCell number index filled)) = tt
+nothing_said c (parts.TheVariants.Counts (counts.TheVariants.ExchangesCounter number filled)) = tt
+nothing_said c (parts.TheVariants.ExchangesCounter number) = tt
+
+nothing_in : (one : Deed) (before after : List Deed) → [] ≡ before ++ one ∷ after → ⊥
+nothing_in one [] after e = cc
+nothing_in one (x ∷ xs) after e = cc
+
+module _ {T : Type 0} (scene : Scene T) (inv : Inv scene) (mode : ReleaseMode) (here : IsHere scene (Recover mode)) where
+  open scene use {capacity as c, party as p, steps as steps, backs as backs, since as since, changes as changes, events as events}
+
+  abbrev ws : List ℕ
+  ws = scene.set.words
+
+  abbrev done : List Deed
+  done = deeds_of p events
+
+  g : Good c ws scene.set.dead events scene.turns
+  g = inv.holds.good
+
+  abbrev call_at : RecoverStage → calls.Recover
+  call_at stage = record { capacity = c; stage = stage }
+
+  abbrev Lead : Option Ask → Bool → List (Event T) → After calls.Recover ReleaseState → Type 0
+  Lead ask back did a =
+      Leads scene (Recover mode) ask back did (as_call flights.TheVariants.Recover State (went_on as_it_is mode tt a))
+
+  -- the steps up to this index
+  abbrev Few : Option Ask → Bool → ℕ → ℕ → Type 0
+  Few ask back n index = steps + step_count ask ≤ n + index * for_index c mode + backs_then scene back * for_back c mode
+
+  -- ---- the end
+
+  ends_so : (state : ReleaseState) (ask : Option Ask) (back : Bool) → Stays scene (words_after ws ask) → AnswersRight c events (Finished p (Robust (Recover mode)) (State state)) → steps + step_count ask ≤ 2 + c * for_index c mode + backs_then scene back * for_back c mode → IsPaid (sees scene ask back) → Lead ask back [] (Done state)
+  ends_so state ask back stays right few paid =
+      let most = most_is c (backs_then scene back) mode in
+      ends_quietly scene inv (Recover mode) (State state) ask back here stays (λ i o. refl) (λ i r. refl) right tt (omega arith) paid
+
+  -- ---- the next index, or the second look at the counter
+
+  module _ (index : ℕ) (below : index < c) (stage : RecoverStage) (ask : Option Ask) (back : Bool) (few : Few ask back 1 (index + 1)) where
+    few_last : c ≤ index + 1 → steps + step_count ask ≤ 1 + c * for_index c mode + backs_then scene back * for_back c mode
+    few_last last =
+        let is : c ≡ index + 1 = omega arith in
+        let times : c * for_index c mode ≡ (index + 1) * for_index c mode = ap (λ n. n * for_index c mode) is in
+        omega arith
+
+    module _ (stays : Stays scene (words_after ws ask)) (paid : IsPaid (sees scene ask back)) (asked : AllByRecursion (λ i. i < index + 1) (asked_in done)) (freed : FreedWereAsked done) (open_once : WasOpen (now scene)) (says : AskedBelow (index + 1) (now scene)) (gone : GoneBut (λ i o. ⊥) (now scene)) where
+      comes_quietly : Lead ask back [] (recover_comes_to (call_at stage) (index + 1))
+      comes_quietly =
+          by_test (λ s. Lead ask back [] (GoOn (at_recover (call_at stage) s))) (nat_lt (index + 1) c) (recovers.TheVariants.LoadsCell (index + 1)) recovers.TheVariants.LoadsCounterAgain
+          (λ t.
+          let more : index + 1 < c = grind (arith, nat_tests) in
+          goes_quietly scene inv (Recover mode) (recover_at c mode (recovers.TheVariants.LoadsCell (index + 1))) ask back here stays few (refl, refl, record { within = more; asked = asked; freed = freed })
+          (record { paid = paid; scanned = tt; owns = tt; says = (open_once, says); gone = gone }))
+          (λ t.
+          let last : c ≤ index + 1 = grind (arith, nat_tests) in
+          let end : index + 1 ≡ c = omega arith in
+          goes_quietly scene inv (Recover mode) (recover_at c mode recovers.TheVariants.LoadsCounterAgain) ask back here stays (few_last last) (refl, refl, freed)
+          (record { paid = paid; scanned = tt; owns = tt; says = subst (λ n. AskedBelow n (now scene)) end says; gone = gone }))
+
+    -- the same of a step that writes an event
+    module _ (did : List (Event T)) (longer : Lengthens (did ++ [])) (does : Does scene (words_after ws ask) (did ++ [])) (stands : AllFollow (Stands promise c) (Open (Robust (Recover mode)) (wrote_of p events)) (did ++ [])) (paid : IsPaid (sees scene ask back)) (asked : AllByRecursion (λ i. i < index + 1) (asked_in (done ++ deeds (did ++ [])))) (freed : FreedWereAsked (done ++ deeds (did ++ []))) (open_once : WasOpen (then_sees scene ask back (did ++ []))) (says : AskedBelow (index + 1) (then_sees scene ask back (did ++ []))) (gone : GoneBut (λ i o. ⊥) (then_sees scene ask back (did ++ []))) where
+      comes_loudly : Lead ask back did (recover_comes_to (call_at stage) (index + 1))
+      comes_loudly =
+          by_test (λ s. Lead ask back did (GoOn (at_recover (call_at stage) s))) (nat_lt (index + 1) c) (recovers.TheVariants.LoadsCell (index + 1)) recovers.TheVariants.LoadsCounterAgain
+          (λ t.
+          let more : index + 1 < c = grind (arith, nat_tests) in
+          goes_on scene (Recover mode) (recover_at c mode (recovers.TheVariants.LoadsCell (index + 1))) ask back did here longer does stands few (refl, refl, record { within = more; asked = asked; freed = freed })
+          (record { paid = omega arith; scanned = tt; owns = tt; says = (open_once, says); gone = gone }))
+          (λ t.
+          let last : c ≤ index + 1 = grind (arith, nat_tests) in
+          let end : index + 1 ≡ c = omega arith in
+          goes_on scene (Recover mode) (recover_at c mode recovers.TheVariants.LoadsCounterAgain) ask back did here longer does stands (few_last last) (refl, refl, freed)
+          (record { paid = omega arith; scanned = tt; owns = tt; says = subst (λ n. AskedBelow n (then_sees scene ask back (did ++ []))) end says; gone = gone }))
+
+  -- ---- what it knows once it has done one thing more
+
+  module _ (d : Deed) (es : List (Event T)) (words' : List ℕ) (begins : BeginsNone p es) (more : deeds_of p (events ++ es) ≡ done ++ d ∷ []) (does : Does scene words' es) where
+    open_then : WasOpen (now scene) → HeldOnce p IsUnlocked (events ++ es)
+    open_then h = held_later p IsUnlocked events es begins h
+
+    still_one_then : (one : Deed) → IsOneOf one done → IsOneOf one (deeds_of p (events ++ es))
+    still_one_then one h = subst (IsOneOf one) (sym more) (still_one one d done h)
+
+    asked_then : (k : ℕ) → AskedBelow k (now scene) → (i owner : ℕ) → i < k → HeldThrough p (StillToFree p owner i) (events ++ es) → IsOneOf (Asks i owner) (deeds_of p (events ++ es))
+    asked_then k h i owner below through = still_one_then (Asks i owner) (h i owner below (through_less p (StillToFree p owner i) events es begins through))
+
+    gone_then : (Was Now : ℕ → ℕ → Type 0) → GoneBut Was (now scene) → ((i owner : ℕ) → Was i owner → is_dead owner events ≡ true → (filled_of i (events ++ es) ≢ Some owner) ⊎ Now i owner)
+        → ((i owner : ℕ) → d ≡ Yes i owner → (is_dead owner events ≡ true) × Now i owner)
+        → (i owner : ℕ) → IsOneOf (Yes i owner) (deeds_of p (events ++ es)) → (is_dead owner (events ++ es) ≡ true) × ((filled_of i (events ++ es) ≢ Some owner) ⊎ Now i owner)
+    gone_then Was Now h was new i owner told =
+        ⊎_elim
+        (λ earlier.
+        let k = h i owner earlier in
+        (does.goes.dead owner k.0, ⊎_elim (λ gone. inl (λ e. gone (does.goes.fills i owner k.0 e))) (λ exempt. was i owner exempt k.0) k.1))
+        (λ is. let k = new i owner is in (does.goes.dead owner k.0, inr k.1))
+        (was_one (Yes i owner) d done (subst (IsOneOf (Yes i owner)) more told))
+
+  -- ---- the load of the counter
+
+  loads_counter : done ≡ [] → steps ≤ 0 → Knows c (recover_at c mode recovers.TheVariants.LoadsCounter) (now scene) → StepOf scene (Recover mode) (recover_at c mode recovers.TheVariants.LoadsCounter)
+  loads_counter none s k = go (counter_of ws == locked) refl
+    where
+      go : (b : Bool) → (counter_of ws == locked) ≡ b → Lead (Some (loads 0)) false [] (if b then Done states.TheVariants.Locked else recover_comes_to (call_at recovers.TheVariants.LoadsCounter) 0)
+      go true t =
+          let shut : counter_of ws ≡ locked = grind (arith, nat_tests) in
+          let paid = k.paid in
+          ends_so states.TheVariants.Locked (Some (loads 0)) false (stays_same scene inv _ (loads_same ws 0)) (is_shut scene inv shut) (omega arith) (omega arith)
+      go false t =
+          let open_now : counter_of ws ≢ locked = grind (arith, nat_tests) in
+          let paid = k.paid in
+          let some = g.some in
+          by_test (λ s. Lead (Some (loads 0)) false [] (GoOn (at_recover (call_at recovers.TheVariants.LoadsCounter) s))) (nat_lt 0 c) (recovers.TheVariants.LoadsCell 0) recovers.TheVariants.LoadsCounterAgain
+          (λ u.
+          goes_quietly scene inv (Recover mode) (recover_at c mode (recovers.TheVariants.LoadsCell 0)) (Some (loads 0)) false here (stays_same scene inv _ (loads_same ws 0)) (omega arith)
+          (refl, refl, record { within = omega arith; asked = subst (λ d. AllByRecursion (λ i. i < 0) (asked_in d)) (sym none) tt; freed = λ i owner freed. absurd (nothing_in (Frees i owner) freed.before freed.after (sym none ∙ freed.is)) })
+          (record { paid = omega arith; scanned = tt; owns = tt; says = (held_now p IsUnlocked events (unlocked scene inv open_now), λ i owner below. absurd (omega arith)); gone = k.gone }))
+          (λ u. let nothing : c ≤ 0 = grind (arith, nat_tests) in absurd (omega arith))
+
+  -- ---- the load of a cell
+
+  module _ (index : ℕ) (course : IsInCourse c index index done) (s : steps ≤ 1 + index * for_index c mode + backs * for_back c mode) (k : Knows c (recover_at c mode (recovers.TheVariants.LoadsCell index)) (now scene)) where
+    abbrev load : Option Ask
+    load = Some (loads (cell_word index))
+
+    asked_next : AllByRecursion (λ i. i < index + 1) (asked_in done)
+    asked_next = all_so (λ i. i < index) (λ i. i < index + 1) (asked_in done) (λ i less. omega arith) course.asked
+
+    -- nothing is to be freed at an empty cell
+    passed_says : cell ws index ≡ empty → AskedBelow (index + 1) (now scene)
+    passed_says is i owner below through =
+        ⊎_elim (λ before. k.says.1 i owner before through)
+        (λ last.
+        let same : i ≡ index = omega arith in
+        ⊎_elim (λ filled. some_none (filled_of i events) owner (ap (λ j. filled_of j events) same ∙ filled_none scene inv index course.within is) filled) (λ freed. course.freed i owner freed) (through_now p (StillToFree p owner i) events through))
+        (cases_lt i index)
+
+    passes_empty : cell ws index ≡ empty → Lead load false [] (recover_comes_to (call_at (recovers.TheVariants.LoadsCell index)) (index + 1))
+    passes_empty is =
+        let four = at_least_four c mode in
+        let paid = k.paid in
+        comes_quietly index course.within (recovers.TheVariants.LoadsCell index) load false (omega arith) (stays_same scene inv _ (loads_same ws (cell_word index))) (omega arith) asked_next course.freed k.says.0 (passed_says is) k.gone
+
+    module _ (other : cell ws index ≢ empty) where
+      abbrev found : ℕ
+      found = cell ws index
+
+      abbrev asking : List (Event T)
+      asking = Asked p index (cell ws index) ∷ []
+
+      is_filled : (cell ws index < empty) × (filled_of index events ≡ Some (cell ws index))
+      is_filled = filled_some scene inv index course.within other
+
+      asks_does : Does scene (words_after ws load) asking
+      asks_does =
+          quietly scene inv (words_after ws load) asking (stays_same scene inv _ (loads_same ws (cell_word index))) (quiet_asked p index (cell ws index)) (refl, tt) ((is_filled.1, k.says.0), tt) (tt, tt)
+
+      asks_deeds : deeds_of p (events ++ asking) ≡ done ++ Asks index (cell ws index) ∷ []
+      asks_deeds = deeds_more scene (Recover mode) here asking asks_does.own (λ start w. refl)
+
+      asks_freed : FreedWereAsked (done ++ Asks index (cell ws index) ∷ [])
+      asks_freed = freed_more (Asks index (cell ws index)) done course.freed (λ i owner e. absurd (cc))
+
+      asks_says : AskedBelow (index + 1) (then_sees scene load false asking)
+      asks_says i owner below through =
+          ⊎_elim (λ before. asked_then (Asks index (cell ws index)) asking (words_after ws load) tt asks_deeds asks_does index k.says.1 i owner before through)
+          (λ last.
+          let same : i ≡ index = omega arith in
+          ⊎_elim (λ filled. filled_here i owner same filled) (λ freed. subst (IsOneOf (Asks i owner)) (sym asks_deeds) (asks_freed i owner (subst (IsOneOf (Frees i owner)) asks_deeds freed))) (through_now p (StillToFree p owner i) (events ++ asking) through))
+          (cases_lt i index)
+        where
+          filled_here : (i owner : ℕ) → i ≡ index → filled_of i (events ++ Asked p index (cell ws index) ∷ []) ≡ Some owner → IsOneOf (Asks i owner) (deeds_of p (events ++ Asked p index (cell ws index) ∷ []))
+          filled_here i owner same filled =
+              let was : filled_of index events ≡ Some owner = subst (λ j. filled_of j events ≡ Some owner) same (sym (fold-append (filled_after i) None events (Asked p index (cell ws index) ∷ [])) ∙ filled) in
+              let is : cell ws index ≡ owner = one_owner (filled_of index events) (cell ws index) owner is_filled.1 was in
+              subst (λ j. IsOneOf (Asks j owner) (deeds_of p (events ++ Asked p index (cell ws index) ∷ []))) (sym same)
+              (subst (λ o. IsOneOf (Asks index o) (deeds_of p (events ++ Asked p index (cell ws index) ∷ []))) is
+              (subst (IsOneOf (Asks index (cell ws index))) (sym asks_deeds) (last_one (Asks index (cell ws index)) done)))
+
+      asks_about : Lead load false asking (GoOn (at_recover (call_at (recovers.TheVariants.LoadsCell index)) (recovers.TheVariants.Asks index (cell ws index))))
+      asks_about =
+          let paid = k.paid in
+          goes_on scene (Recover mode) (recover_at c mode (recovers.TheVariants.Asks index (cell ws index))) load false asking here (λ start w. refl) asks_does (course.asked, tt) (omega arith)
+          (refl, refl, (record { within = course.within; asked = asks_more (index + 1) (Asks index (cell ws index)) done asked_next (omega arith, tt); freed = asks_freed }, is_filled.0, record { before = done; is = refl }))
+          (record {
+            paid = omega arith;
+            scanned = tt;
+            owns = tt;
+            says = (open_then (Asks index (cell ws index)) asking (words_after ws load) tt asks_deeds asks_does k.says.0, asks_says);
+            gone = gone_then (Asks index (cell ws index)) asking (words_after ws load) tt asks_deeds asks_does (λ i o. ⊥) (λ i o. ⊥) k.gone (λ i o never. absurd never) (λ i o e. absurd (cc));
+          })
+
+    loads_cell : StepOf scene (Recover mode) (recover_at c mode (recovers.TheVariants.LoadsCell index))
+    loads_cell = go (cell ws index == empty) refl
+      where
+        go : (b : Bool) → (cell ws index == empty) ≡ b → Lead (Some (loads (cell_word index))) false (if b then [] else Asked p index (cell ws index) ∷ []) (if b then recover_comes_to (call_at (recovers.TheVariants.LoadsCell index)) (index + 1) else GoOn (at_recover (call_at (recovers.TheVariants.LoadsCell index)) (recovers.TheVariants.Asks index (cell ws index))))
+        go true t = let is : cell ws index ≡ empty = grind (arith, nat_tests) in passes_empty is
+        go false t = let other : cell ws index ≢ empty = grind (arith, nat_tests) in asks_about other
+
+  -- ---- a decision
+
+  module _ (index owner : ℕ) (at : RecoverAt c mode done (recovers.TheVariants.Asks index owner)) (k : Knows c (recover_at c mode (recovers.TheVariants.Asks index owner)) (now scene)) (s : steps ≤ 2 + index * for_index c mode + backs * for_back c mode) where
+    says_no : Lead None false [] (recover_comes_to (call_at (recovers.TheVariants.Asks index owner)) (index + 1))
+    says_no =
+        let four = at_least_four c mode in
+        let paid = k.paid in
+        comes_quietly index at.0.within (recovers.TheVariants.Asks index owner) None false (omega arith) (stays_same scene inv ws refl) (omega arith) at.0.asked at.0.freed k.says.0 k.says.1 k.gone
+
+    module _ (dead : is_dead owner events ≡ true) where
+      abbrev telling : List (Event T)
+      telling = Told p index owner ∷ []
+
+      tells_does : Does scene ws telling
+      tells_does = quietly scene inv ws telling (stays_same scene inv ws refl) (quiet_told p index owner) (refl, tt) (dead, tt) (tt, tt)
+
+      tells_deeds : deeds_of p (events ++ telling) ≡ done ++ Yes index owner ∷ []
+      tells_deeds = deeds_more scene (Recover mode) here telling tells_does.own (λ start w. refl)
+
+      frees_this : (i o : ℕ) → Yes index owner ≡ Yes i o → (is_dead o events ≡ true) × ((i ≡ index) × (o ≡ owner))
+      frees_this i o e =
+          let same : i ≡ index = cc in
+          let own : o ≡ owner = cc in
+          (subst (λ n. is_dead n events ≡ true) (sym own) dead, (same, own))
+
+      says_yes : Lead None false telling (GoOn (at_recover (call_at (recovers.TheVariants.Asks index owner)) (recovers.TheVariants.EmptiesCell index owner)))
+      says_yes =
+          let paid = k.paid in
+          goes_on scene (Recover mode) (recover_at c mode (recovers.TheVariants.EmptiesCell index owner)) None false telling here (λ start w. refl) tells_does (at.2, tt) (omega arith)
+          (refl, refl, (record { within = at.0.within; asked = asks_more (index + 1) (Yes index owner) done at.0.asked tt; freed = freed_more (Yes index owner) done at.0.freed (λ i o e. absurd (cc)) }, at.1, record { before = done; is = refl }, still_one (Asks index owner) (Yes index owner) done (by_latest (Asks index owner) done at.2)))
+          (record {
+            paid = omega arith;
+            scanned = tt;
+            owns = tt;
+            says = (open_then (Yes index owner) telling ws tt tells_deeds tells_does k.says.0, asked_then (Yes index owner) telling ws tt tells_deeds tells_does (index + 1) k.says.1);
+            gone = gone_then (Yes index owner) telling ws tt tells_deeds tells_does (λ i o. ⊥) (λ i o. (i ≡ index) × (o ≡ owner)) k.gone (λ i o never. absurd never) frees_this;
+          })
+
+    decided : (answer : ℕ) → (answer ≢ 0 → is_dead owner events ≡ true) → AnswerOf scene (Recover mode) (recover_at c mode (recovers.TheVariants.Asks index owner)) None answer
+    decided answer dead = go (answer == 0) refl
+      where
+        go : (b : Bool) → (answer == 0) ≡ b → Lead None false (if b then [] else Told p index owner ∷ []) (if b then recover_comes_to (call_at (recovers.TheVariants.Asks index owner)) (index + 1) else GoOn (at_recover (call_at (recovers.TheVariants.Asks index owner)) (recovers.TheVariants.EmptiesCell index owner)))
+        go true t = says_no
+        go false t = let other : answer ≢ 0 = grind (arith, nat_tests) in says_yes (dead other)
+
+  -- ---- the exchange of a cell
+
+  module _ (index owner : ℕ) (at : RecoverAt c mode done (recovers.TheVariants.EmptiesCell index owner)) (s : steps ≤ 2 + index * for_index c mode + backs * for_back c mode) (k : Knows c (recover_at c mode (recovers.TheVariants.EmptiesCell index owner)) (now scene)) where
+    abbrev exchange : Option Ask
+    exchange = Some (exchanges (cell_word index) owner empty)
+
+    abbrev freeing : List (Event T)
+    freeing = FreedOf p index owner ∷ []
+
+    owner_dead : is_dead owner events ≡ true
+    owner_dead = (k.gone index owner (by_latest (Yes index owner) done at.2)).0
+
+    -- the cell has another owner by now, or none
+    gone_already : cell ws index ≢ owner → GoneBut (λ i o. ⊥) (now scene)
+    gone_already other i o told =
+        let h = k.gone i o told in
+        (h.0, ⊎_elim (λ gone. inl gone) (λ exempt. inl (λ e. other (g.cells index at.0.within ∙ ap cell_of (sym (ap (λ j. filled_of j events) exempt.0) ∙ (e ∙ ap Some exempt.1))))) h.1)
+
+    misses : cell ws index ≢ owner → Lead exchange false [] (recover_comes_to (call_at (recovers.TheVariants.EmptiesCell index owner)) (index + 1))
+    misses other =
+        let four = at_least_four c mode in
+        let paid = k.paid in
+        comes_quietly index at.0.within (recovers.TheVariants.EmptiesCell index owner) exchange false (omega arith) (stays_same scene inv _ (fails_same ws (cell_word index) owner empty other)) (omega arith) at.0.asked at.0.freed k.says.0 k.says.1 (gone_already other)
+
+    module _ (is : cell ws index ≡ owner) where
+      filled : filled_of index events ≡ Some owner
+      filled = filled_by scene inv index at.0.within owner at.1 is
+
+      frees_does : Does scene (words_after ws exchange) freeing
+      frees_does =
+          frees scene inv (words_after ws exchange) index owner at.0.within filled
+          (λ proper q ne o alive h. let same : owner ≡ o = one_owner (filled_of index events) owner o filled h.filled in both_ways (is_dead o events) alive (subst (λ n. is_dead n events ≡ true) same owner_dead))
+          (exchange_sets ws (cell_word index) owner empty is)
+
+      frees_deeds : deeds_of p (events ++ freeing) ≡ done ++ Frees index owner ∷ []
+      frees_deeds = deeds_more scene (Recover mode) here freeing frees_does.own (λ start w. refl)
+
+      freed_here : (i o : ℕ) → (i ≡ index) × (o ≡ owner) → filled_of i (events ++ freeing) ≢ Some o
+      freed_here i o exempt e =
+          some_none (filled_of i (events ++ freeing)) o (fold-append (filled_after i) None events freeing ∙ at_same index i None (filled_of i events) exempt.0) e
+
+      asked_about : (i o : ℕ) → Frees index owner ≡ Frees i o → IsOneOf (Asks i o) done
+      asked_about i o e =
+          let same : index ≡ i = cc in
+          let own : owner ≡ o = cc in
+          subst (λ j. IsOneOf (Asks j o) done) same (subst (λ n. IsOneOf (Asks index n) done) own at.3)
+
+      empties : Lead exchange false freeing (GoOn (at_recover (call_at (recovers.TheVariants.EmptiesCell index owner)) (recovers.TheVariants.Raises index raises.TheVariants.LoadsCounter)))
+      empties =
+          let paid = k.paid in
+          goes_on scene (Recover mode) (recover_at c mode (recovers.TheVariants.Raises index raises.TheVariants.LoadsCounter)) exchange false freeing here (λ start w. refl) frees_does (at.2, tt) (omega arith)
+          (refl, refl, (record { within = at.0.within; asked = asks_more (index + 1) (Frees index owner) done at.0.asked tt; freed = freed_more (Frees index owner) done at.0.freed asked_about }, record { index = index; owner = owner; latest = record { before = done; is = refl } }))
+          (record {
+            paid = omega arith;
+            scanned = tt;
+            owns = tt;
+            says = (open_then (Frees index owner) freeing (words_after ws exchange) tt frees_deeds frees_does k.says.0, asked_then (Frees index owner) freeing (words_after ws exchange) tt frees_deeds frees_does (index + 1) k.says.1);
+            gone = gone_then (Frees index owner) freeing (words_after ws exchange) tt frees_deeds frees_does (λ i o. (i ≡ index) × (o ≡ owner)) (λ i o. ⊥) k.gone (λ i o exempt d. inl (freed_here i o exempt)) (λ i o e. absurd (cc));
+          })
+
+    empties_cell : StepOf scene (Recover mode) (recover_at c mode (recovers.TheVariants.EmptiesCell index owner))
+    empties_cell = go (cell ws index == owner) refl
+      where
+        go : (b : Bool) → (cell ws index == owner) ≡ b → Lead (Some (exchanges (cell_word index) owner empty)) false (if b then FreedOf p index owner ∷ [] else []) (if b then GoOn (at_recover (call_at (recovers.TheVariants.EmptiesCell index owner)) (recovers.TheVariants.Raises index raises.TheVariants.LoadsCounter)) else recover_comes_to (call_at (recovers.TheVariants.EmptiesCell index owner)) (index + 1))
+        go true t = let is : cell ws index ≡ owner = grind (arith, nat_tests) in empties is
+        go false t = let other : cell ws index ≢ owner = grind (arith, nat_tests) in misses other
+
+  -- ---- the second look at the counter
+
+  loads_again : FreedWereAsked done → steps ≤ 1 + c * for_index c mode + backs * for_back c mode → Knows c (recover_at c mode recovers.TheVariants.LoadsCounterAgain) (now scene) → StepOf scene (Recover mode) (recover_at c mode recovers.TheVariants.LoadsCounterAgain)
+  loads_again freed s k = go (counter_of ws == locked) refl
+    where
+      recovered : HasRecovered p events
+      recovered =
+          record {
+            gone = λ i owner told. ⊎_elim (λ gone. gone) (λ never. absurd never) (k.gone i owner told).1;
+            asked = λ i owner through.
+                ⊎_elim (λ below. k.says i owner below through)
+                (λ beyond. ⊎_elim (λ filled. some_none (filled_of i events) owner (none_beyond scene inv i beyond) filled) (λ was_freed. freed i owner was_freed) (through_now p (StillToFree p owner i) events through))
+                (cases_lt i c);
+          }
+
+      go : (b : Bool) → (counter_of ws == locked) ≡ b → Lead (Some (loads 0)) false [] (Done (if b then states.TheVariants.Locked else states.TheVariants.Unlocked))
+      go true t =
+          let shut : counter_of ws ≡ locked = grind (arith, nat_tests) in
+          let paid = k.paid in
+          ends_so states.TheVariants.Locked (Some (loads 0)) false (stays_same scene inv _ (loads_same ws 0)) (is_shut scene inv shut) (omega arith) (omega arith)
+      go false t =
+          let paid = k.paid in
+          ends_so states.TheVariants.Unlocked (Some (loads 0)) false (stays_same scene inv _ (loads_same ws 0)) recovered (omega arith) (omega arith)
+
+  -- ---- the raise of the counter
+
+  module _ (index : ℕ) (raise : Raise) (course : IsInCourse c index (index + 1) done) (just : HasJustFreed done) (s : steps ≤ 3 + raise_number raise + index * for_index c mode + backs * for_back c mode) (k : Knows c (recover_at c mode (recovers.TheVariants.Raises index raise)) (now scene)) where
+    abbrev raises_to : Option Ask → Bool → After Raise ReleaseState → Type 0
+    raises_to ask back r = Lead ask back [] (recover_raised (call_at (recovers.TheVariants.Raises index raise)) index mode r)
+
+    -- it locks in the mode for that alone
+    goes_by_mode : (m : ReleaseMode) → mode ≡ m → (ask : Option Ask) → Stays scene (words_after ws ask) → IsPaid (sees scene ask false) → Few ask false 5 index → Lead ask false [] (recover_raised (call_at (recovers.TheVariants.Raises index raise)) index m (Done states.TheVariants.Unlocked))
+    goes_by_mode Default e ask stays paid few =
+        let four = at_least_four c mode in
+        comes_quietly index course.within (recovers.TheVariants.Raises index raise) ask false (omega arith) stays paid course.asked course.freed k.says.0 k.says.1 k.gone
+    goes_by_mode LockIfLastIndex e ask stays paid few =
+        goes_quietly scene inv (Recover mode) (recover_at c mode (recovers.TheVariants.Locks index first_lock)) ask false here stays few (refl, refl, (course, just, e, tt))
+        (record { paid = paid; scanned = tt; owns = tt; says = k.says; gone = k.gone })
+
+    raises_step : raises_to (Some (raise_ask raise)) (raise_goes_back raise (counter_of ws)) (raise_after raise (counter_of ws))
+    raises_step =
+        let one = at_least_one c mode in
+        raise_step scene inv raises_to raise k.paid
+        (λ number ask back same held few.
+        let low = few (3 + index * for_index c mode) (for_back c mode) one (omega arith) in
+        goes_quietly scene inv (Recover mode) (recover_at c mode (recovers.TheVariants.Raises index (raises.TheVariants.ExchangesCounter number))) ask back here (stays_same scene inv (words_after ws ask) same) (omega arith) (refl, refl, (course, just))
+        (record { paid = held; scanned = tt; owns = tt; says = k.says; gone = k.gone }))
+        (λ ask back same shut paid few.
+        let low = few (3 + index * for_index c mode) (for_back c mode) one (omega arith) in
+        let four = at_least_four c mode in
+        let times = times_below c index (for_index c mode) course.within in
+        ends_so states.TheVariants.Locked ask back (stays_same scene inv (words_after ws ask) same) (is_shut scene inv shut) (omega arith) paid)
+        (λ ask open_now new paid few.
+        let low = few (3 + index * for_index c mode) (for_back c mode) one (omega arith) in
+        goes_by_mode mode refl ask (stays_raised scene inv (words_after ws ask) open_now new) paid (omega arith))
+
+  -- ---- the lock
+
+  module _ (index : ℕ) (lock : Lock) (course : IsInCourse c index (index + 1) done) (just : HasJustFreed done) (may_lock : mode ≡ LockIfLastIndex) (at : LockAt c lock) (s : steps ≤ 5 + lock_number c lock + index * for_index c mode + backs * for_back c mode) (k : Knows c (recover_at c mode (recovers.TheVariants.Locks index lock)) (now scene)) where
+    abbrev locks_to : Option Ask → Bool → List (Event T) → After Lock ReleaseState → Type 0
+    locks_to ask back did r = Lead ask back did (recover_locked (call_at (recovers.TheVariants.Locks index lock)) index r)
+
+    for_a_back : for_back c mode ≡ c + 3
+    for_a_back = ap (for_back c) may_lock
+
+    for_an_index : for_index c mode ≡ c + 7
+    for_an_index = ap (for_index c) may_lock
+
+    said : IsSaid scene inv (λ j filled. Unit {0})
+    said = record { none = tt; empty_next = λ j filled low none h. tt; filled_next = λ j filled o low is h. tt }
+
+    abbrev locking : List (Event T)
+    locking = Locked p ∷ []
+
+    module _ (ask : Option Ask) (none : IsProper events → (i : ℕ) → holder_of i events ≡ None) (open_now : counter_of ws ≢ locked) (new : words_after ws ask ≡ set ws 0 locked) (paid : IsPaid (sees scene ask false)) (few : Few ask false 1 (index + 1)) where
+      locks_does : Does scene (words_after ws ask) locking
+      locks_does = locks scene inv (words_after ws ask) [] quiet_none tt tt tt none open_now new
+
+      locks_deeds : deeds_of p (events ++ locking) ≡ done ++ Locks ∷ []
+      locks_deeds = deeds_more scene (Recover mode) here locking locks_does.own (λ start w. refl)
+
+      stands_there : AllFollow (Stands promise c) (Open (Robust (Recover mode)) (wrote_of p events)) locking
+      stands_there = subst (λ m. AllFollow (Stands promise c) (Open (Robust (Recover m)) (wrote_of p events)) locking) (sym may_lock) (just, tt)
+
+      locks_set : Lead ask false locking (recover_comes_to (call_at (recovers.TheVariants.Locks index lock)) (index + 1))
+      locks_set =
+          comes_loudly index course.within (recovers.TheVariants.Locks index lock) ask false few locking (λ start w. refl) locks_does stands_there paid
+          (asks_more (index + 1) Locks done course.asked tt) (freed_more Locks done course.freed (λ i o e. absurd (cc)))
+          (open_then Locks locking (words_after ws ask) tt locks_deeds locks_does k.says.0)
+          (asked_then Locks locking (words_after ws ask) tt locks_deeds locks_does (index + 1) k.says.1)
+          (gone_then Locks locking (words_after ws ask) tt locks_deeds locks_does (λ i o. ⊥) (λ i o. ⊥) k.gone (λ i o never. absurd never) (λ i o e. absurd (cc)))
+
+    locks_step : locks_to (Some (lock_ask lock)) (lock_goes_back lock (old_of ws (Some (lock_ask lock)))) (locked_by p lock (old_of ws (Some (lock_ask lock)))) (lock_after c lock (old_of ws (Some (lock_ask lock))))
+    locks_step =
+        let wide = for_a_back in
+        let each = for_an_index in
+        lock_step scene inv (λ j filled. Unit {0}) said locks_to lock at k.paid k.scanned (nothing_said c lock)
+        (λ next ask back stays next_at paid scanned says few.
+        let low = few (5 + index * for_index c mode) (for_back c mode) (omega arith) (omega arith) in
+        goes_quietly scene inv (Recover mode) (recover_at c mode (recovers.TheVariants.Locks index next)) ask back here stays (omega arith) (refl, refl, (course, just, may_lock, next_at))
+        (record { paid = paid; scanned = scanned; owns = tt; says = k.says; gone = k.gone }))
+        (λ ask same shut paid few.
+        let low = few (5 + index * for_index c mode) (for_back c mode) (omega arith) (omega arith) in
+        comes_quietly index course.within (recovers.TheVariants.Locks index lock) ask false (omega arith) (stays_same scene inv (words_after ws ask) same) paid course.asked course.freed k.says.0 k.says.1 k.gone)
+        (λ filled ask stays more says paid few.
+        let low = few (5 + index * for_index c mode) (for_back c mode) (omega arith) (omega arith) in
+        comes_quietly index course.within (recovers.TheVariants.Locks index lock) ask false (omega arith) stays paid course.asked course.freed k.says.0 k.says.1 k.gone)
+        (λ ask none open_now new paid few.
+        let low = few (5 + index * for_index c mode) (for_back c mode) (omega arith) (omega arith) in
+        locks_set ask none open_now new paid (omega arith))
+
+  -- ---- any step
+
+  pub recover_step : (stage : RecoverStage) → RecoverAt c mode (all scene) stage → Knows c (recover_at c mode stage) (now scene) → steps ≤ recover_number c mode stage backs → StepOf scene (Recover mode) (recover_at c mode stage)
+  recover_step recovers.TheVariants.LoadsCounter at k s = loads_counter at s k
+  recover_step (recovers.TheVariants.LoadsCell index) at k s = loads_cell index at s k
+  recover_step (recovers.TheVariants.Asks index owner) at k s = decided index owner at k s 0 (λ other. absurd (other refl))
+  recover_step (recovers.TheVariants.EmptiesCell index owner) at k s = empties_cell index owner at s k
+  recover_step (recovers.TheVariants.Raises index raises.TheVariants.LoadsCounter) at k s = raises_step index raises.TheVariants.LoadsCounter at.0 at.1 s k
+  recover_step (recovers.TheVariants.Raises index (raises.TheVariants.ExchangesCounter number)) at k s = raises_step index (raises.TheVariants.ExchangesCounter number) at.0 at.1 s k
+  recover_step (recovers.TheVariants.Locks index (parts.TheVariants.Counts counts.TheVariants.LoadsCounter)) at k s = locks_step index (parts.TheVariants.Counts counts.TheVariants.LoadsCounter) at.0 at.1 at.2 at.3 s k
+  recover_step (recovers.TheVariants.Locks index (parts.TheVariants.Counts (counts.TheVariants.LoadsCell number i filled))) at k s = locks_step index (parts.TheVariants.Counts (counts.TheVariants.LoadsCell number i filled)) at.0 at.1 at.2 at.3 s k
+  recover_step (recovers.TheVariants.Locks index (parts.TheVariants.Counts (counts.TheVariants.ExchangesCounter number filled))) at k s = locks_step index (parts.TheVariants.Counts (counts.TheVariants.ExchangesCounter number filled)) at.0 at.1 at.2 at.3 s k
+  recover_step (recovers.TheVariants.Locks index (parts.TheVariants.ExchangesCounter number)) at k s = locks_step index (parts.TheVariants.ExchangesCounter number) at.0 at.1 at.2 at.3 s k
+  recover_step recovers.TheVariants.LoadsCounterAgain at k s = loads_again at s k
+
+  pub recover_decided : (index owner : ℕ) → RecoverAt c mode (all scene) (recovers.TheVariants.Asks index owner) → Knows c (recover_at c mode (recovers.TheVariants.Asks index owner)) (now scene) → steps ≤ recover_number c mode (recovers.TheVariants.Asks index owner) backs → (answer : ℕ) → (answer ≢ 0 → is_dead owner events ≡ true) → AnswerOf scene (Recover mode) (recover_at c mode (recovers.TheVariants.Asks index owner)) None answer
+  recover_decided index owner at k s answer dead = decided index owner at k s answer dead
