@@ -1,6 +1,6 @@
 -- The steps of an acquire.
-use Rattle.std.proofs.Common.{◌≡◌, ◌≢◌, ℕ, ◌+◌, ◌*◌, ◌<◌, ◌≤◌, ◌==◌, ⊎_elim, inl, inr, if◌then◌else◌, nat_lt, Bool, true, false, not, Option, Some, None, is_some, List, [], ◌∷◌, ◌++◌, set, refl, sym, ap, subst, ◌∙◌, arith}
-use Rattle.std.specs.Prelude.{Ok, Err}
+use Rattle.std.proofs.Common.{◌≡◌, ◌≢◌, ℕ, ◌+◌, ◌*◌, ◌<◌, ◌≤◌, ◌==◌, ⊎_elim, inl, inr, if◌then◌else◌, nat_lt, Bool, true, false, not, Option, Some, None, is_some, List, [], ◌∷◌, ◌++◌, set, refl, sym, ap, ◌∙◌, arith}
+use Rattle.std.specs.Prelude.{Err}
 use Rattle.std.proofs.lemmas.Bool.{cases_lt}
 use Rattle.std.proofs.lemmas.Bool.Decides.{nat_tests}
 use Rattle.std.proofs.lemmas.List.{set-get_or}
@@ -22,8 +22,7 @@ use Rattle.steps.specs.Picks.{by_test, by_eq}
 use Rattle.steps.specs.Routine.{went_on}
 use Rattle.model.specs.declared.event.Answer.TheVariants.{Index, NoIndex}
 use Rattle.model.specs.declared.event.Event.{Event}
-use Rattle.model.specs.declared.event.Event.TheVariants.{Filled, Granted, Finished}
-use Rattle.model.specs.declared.event.Start.TheVariants.{Robust}
+use Rattle.model.specs.declared.event.Event.TheVariants.{Filled, Granted}
 use Rattle.model.specs.declared.families.indices.robust.RobustStart.TheVariants.{Acquire}
 use Rattle.model.specs.declared.families.indices.robust.calls.RobustFlight as flights
 use Rattle.model.specs.Families.Indices.Robust.Calls.{acquire_answer}
@@ -39,7 +38,7 @@ use Rattle.robust_laws.proofs.Core.{counter_of, cell}
 use Rattle.robust_laws.proofs.Effects.{at_same, proper_less, before_end, unlocked, is_shut, stays_same, filled_none, filled_some, fills}
 use Rattle.robust_laws.proofs.Grants.{grants}
 use Rattle.robust_laws.proofs.Invariant.{Scene, Inv, Good, wrote_of}
-use Rattle.robust_laws.proofs.Knows.{acquire_at, acquire_number, raise_number, AcquireAt, Knows, IsPaid, Holding}
+use Rattle.robust_laws.proofs.Knows.{acquire_at, acquire_number, raise_number, AcquireAt, Knows, IsPaid}
 use Rattle.robust_laws.proofs.Parts.{raise_ask, raise_step, none_holds, finds_counter}
 use Rattle.robust_laws.proofs.Rights.{By, right_after, right_of, IsBy}
 use Rattle.robust_laws.proofs.Stages.{IsHere, all, now, sees, backs_then, loads, exchanges, loads_same, fails_same, exchange_sets, paid_of, paid_back, holds_on, StepOf, Leads, goes_on, ends, goes_quietly, ends_quietly}
@@ -113,11 +112,13 @@ module _ {T : Type 0} (scene : Scene T) (inv : Inv scene) (owner : ℕ) (fits : 
         (record {
           paid = omega arith;
           scanned = tt;
-          owns = λ proper lives.
-              (record {
-                right = fold-append (right_after i) _ events fill ∙ at_same i i (By p) (right_of i events) refl;
-                filled = fold-append (filled_after i) None events fill ∙ at_same i i (Some owner) (filled_of i events) refl;
-              }, fold-append (holder_after i) None events fill ∙ none_holds scene inv (proper_less events fill proper) i free);
+          owns = λ proper lives. (
+            record {
+              right = fold-append (right_after i) _ events fill ∙ at_same i i (By p) (right_of i events) refl;
+              filled = fold-append (filled_after i) None events fill ∙ at_same i i (Some owner) (filled_of i events) refl;
+            },
+            fold-append (holder_after i) None events fill ∙ none_holds scene inv (proper_less events fill proper) i free,
+          );
           says = tt;
           gone = tt;
         })

@@ -1,5 +1,5 @@
 -- The death of an owner.
-use Rattle.std.proofs.Common.{◌≡◌, ◌≢◌, ℕ, ◌+◌, ◌-◌, ◌≤◌, ◌==◌, ◌||◌, ⊎_elim, inl, Bool, true, false, Option, Some, None, List, [], ◌∷◌, ◌++◌, refl, sym, ap, subst, ◌∙◌, arith, eq-eqb, ne_eqb}
+use Rattle.std.proofs.Common.{◌≡◌, ◌≢◌, ℕ, ◌+◌, ◌==◌, ◌||◌, ⊎_elim, inl, Bool, true, false, None, List, [], ◌∷◌, ◌++◌, refl, sym, ap, ◌∙◌, arith, eq-eqb, ne_eqb}
 use Rattle.std.proofs.lemmas.Bool.{cases_eq}
 use Rattle.std.proofs.lemmas.List.Sums.{fold-append}
 use Rattle.model.specs.declared.event.Event.{Event}
@@ -8,15 +8,14 @@ use Rattle.model.specs.declared.families.Flight.{Flight}
 use Rattle.model.specs.declared.families.Flight as flights
 use Rattle.model.specs.Families.Indices.Reading.{locked_after, is_locked}
 use Rattle.model.specs.Families.Indices.Robust.Dead.{has_died, dead_with}
-use Rattle.model.specs.Families.Indices.Robust.Promises.{cell_of, DoesRight, AnswersRight, IsProper, HoldsRight}
+use Rattle.model.specs.Families.Indices.Robust.Promises.{cell_of, DoesRight, AnswersRight, HoldsRight}
 use Rattle.model.specs.Families.Indices.Robust.Reading.{deeds, filled_after, filled_of, holder_after, holder_of, settled_after, settled_of, dead_after, is_dead, wrote_in}
 use Rattle.model.proofs.Dead.{died_now, died_before}
 use Rattle.model.proofs.Readings.{Each-append, span_of-death}
-use Rattle.robust_laws.proofs.Core.{counter_of}
-use Rattle.robust_laws.proofs.Effects.{both_ways, proper_less}
+use Rattle.robust_laws.proofs.Effects.{proper_less}
 use Rattle.robust_laws.proofs.Invariant.{Good, Knowing, view}
 use Rattle.robust_laws.proofs.Knows.{Goes, Spares, knows_later}
-use Rattle.robust_laws.proofs.Rights.{right_after, right_of, AreOwned}
+use Rattle.robust_laws.proofs.Rights.{right_after, right_of}
 
 -- ---- who has died
 

@@ -1,7 +1,6 @@
 -- What holds of the machine of a robust index set between any two turns beside what the frame says of every machine, and
 -- what a turn must show to keep it.
-use Rattle.std.proofs.Common.{◌≡◌, ◌≢◌, ℕ, ◌+◌, ◌-◌, ◌^◌, ◌<◌, ◌≤◌, ◌==◌, ⊎_elim, Bool, true, false, Option, Some, None, List, [], ◌∷◌, ◌++◌, length, fold, refl, sym, ap, subst, ◌∙◌, arith}
-use Rattle.std.proofs.lemmas.Bool.{cases_eq}
+use Rattle.std.proofs.Common.{◌≡◌, ◌≢◌, ℕ, ◌+◌, ◌-◌, ◌^◌, ◌<◌, ◌≤◌, ◌==◌, false, Some, List, ◌++◌, length, fold, refl, sym, ap, subst, ◌∙◌, arith}
 use Rattle.steps.specs.Indices.Robust.Parts.{empty, locked}
 use Rattle.model.specs.declared.event.Event.{Event}
 use Rattle.model.specs.declared.event.Start.{Start}
@@ -10,7 +9,6 @@ use Rattle.model.specs.declared.families.Flight.{Flight}
 use Rattle.model.specs.declared.families.Flight as flights
 use Rattle.model.specs.declared.families.Kept.{Kept}
 use Rattle.model.specs.declared.families.Kept as kepts
-use Rattle.model.specs.declared.families.indices.robust.RobustStart.{RobustStart}
 use Rattle.model.specs.declared.party.Party.{Party}
 use Rattle.model.specs.declared.turn.Kind as kinds
 use Rattle.model.specs.Coding.{Coding}
@@ -18,12 +16,11 @@ use Rattle.model.specs.Families.Indices.Reading.{is_locked}
 use Rattle.model.specs.Families.Indices.Robust.Dead.{has_died}
 use Rattle.model.specs.Families.Indices.Robust.Promises.{cell_of, DoesRight, AnswersRight, IsProper, HoldsRight, promise}
 use Rattle.model.specs.Families.Indices.Robust.Reading.{Deed, deeds, filled_of, is_dead, wrote_in, deeds_of}
-use Rattle.model.specs.Parties.{party_of, put, doing_of, flight_of}
+use Rattle.model.specs.Parties.{party_of, put}
 use Rattle.model.specs.Promises.Spans.{Stands}
-use Rattle.model.specs.Reading.{Each, Span, Open, own_after, span_of}
+use Rattle.model.specs.Reading.{Each, Span, own_after, span_of}
 use Rattle.model.proofs.Frame as frame
 use Rattle.model.proofs.Frame.{Family}
-use Rattle.model.proofs.Parties.{party_put_same, party_put_other}
 use Rattle.model.proofs.Readings.{AreOwn, AllFollow, span_of-other}
 use Rattle.robust_laws.proofs.Core.{counter_of, cell}
 use Rattle.robust_laws.proofs.Knows.{number_of, At, View, Knows, Goes, Spares, IsSeen, knows_later}

@@ -1,6 +1,6 @@
 -- What a call of the robust index set knows where it stands: of its counts, of moments of it, of what it has a right to, and
 -- of what it has recovered; and that it knows this still after any turn of another party.
-use Rattle.std.proofs.Common.{◌≡◌, ◌≢◌, ℕ, ◌+◌, ◌*◌, ◌<◌, ◌≤◌, ◌⊎◌, ⊎_elim, inl, inr, Bool, true, false, Option, Some, None, List, [], ◌∷◌, ◌++◌, refl, sym, ap, subst, ◌∙◌, arith}
+use Rattle.std.proofs.Common.{◌≡◌, ◌≢◌, ℕ, ◌+◌, ◌*◌, ◌<◌, ◌≤◌, ◌⊎◌, ⊎_elim, inl, inr, true, false, Option, Some, None, List, [], ◌∷◌, ◌++◌, sym, ap, subst, ◌∙◌, arith}
 use Rattle.std.specs.List.{AllByRecursion}
 use Rattle.steps.specs.declared.indices.enums.ReleaseMode.{ReleaseMode}
 use Rattle.steps.specs.declared.indices.enums.ReleaseMode.TheVariants.{LockIfLastIndex, Default}
@@ -495,10 +495,12 @@ module _ {T : Type 0} where
     still_scanned None h = tt
     still_scanned (Some s) h =
         let low = h.0 in
-        let grows = goes.grows in
-        (omega arith, λ none is proper i below.
-        let same : counter_of words' ≡ counter_of words = omega arith in
-        goes.grants same i (h.1 none (sym same ∙ is) (goes.proper proper) i below))
+        let grows = goes.grows in (
+          omega arith,
+          λ none is proper i below.
+              let same : counter_of words' ≡ counter_of words = omega arith in
+              goes.grants same i (h.1 none (sym same ∙ is) (goes.proper proper) i below),
+        )
 
     acquire_owns : (owner : ℕ) (stage : AcquireStage) → AcquireOwns owner stage before → AcquireOwns owner stage later
     acquire_owns owner (acquires.TheVariants.Raises index raise) h =

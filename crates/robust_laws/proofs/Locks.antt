@@ -1,5 +1,5 @@
 -- What a step does that locks the set.
-use Rattle.std.proofs.Common.{◌≡◌, ◌≢◌, ℕ, ◌+◌, ◌-◌, ◌<◌, ◌≤◌, ◌==◌, Bool, true, false, Option, Some, None, List, [], ◌∷◌, ◌++◌, length, set, fold, refl, sym, ap, subst, ◌∙◌, append_assoc, arith, eq-eqb}
+use Rattle.std.proofs.Common.{◌≡◌, ◌≢◌, ℕ, true, false, None, List, [], ◌∷◌, ◌++◌, length, set, refl, sym, ap, ◌∙◌, arith, eq-eqb}
 use Rattle.std.proofs.lemmas.List.{length-set}
 use Rattle.std.proofs.lemmas.List.Sums.{fold-append}
 use Rattle.steps.specs.Indices.Robust.Parts.{locked}
@@ -13,7 +13,7 @@ use Rattle.model.proofs.Readings.{AreRight, AreOwn, Each-append, span_of-other}
 use Rattle.robust_laws.proofs.Core.{counter_of, cell, counter_set, cells_stay}
 use Rattle.robust_laws.proofs.Effects.{Quiet, both_ways, proper_less, unlocked, before_end}
 use Rattle.robust_laws.proofs.Invariant.{Scene, Inv, Good, Does}
-use Rattle.robust_laws.proofs.Rights.{Right, right_after, right_of, AreOwned}
+use Rattle.robust_laws.proofs.Rights.{right_after, right_of, AreOwned}
 
 module _ {T : Type 0} (scene : Scene T) (inv : Inv scene) where
   open scene use {capacity as c, party as p, turns as turns, events as events}

@@ -1,6 +1,6 @@
 -- The steps of the parts that calls of a robust index set are made of: a raise of the counter, a count and a lock. What a
 -- step leads to is what the caller makes of it, of the operation, of whether it turns back, and of how the part goes on.
-use Rattle.std.proofs.Common.{◌≡◌, ◌≢◌, ℕ, ◌+◌, ◌-◌, ◌*◌, ◌%◌, ◌^◌, ◌<◌, ◌≤◌, ◌==◌, ◌&&◌, ⊎_elim, inl, inr, if◌then◌else◌, nat_lt, Bool, true, false, not, Option, Some, None, List, [], ◌∷◌, get_or, set, refl, sym, ap, subst, ◌∙◌, arith, ne_eqb}
+use Rattle.std.proofs.Common.{◌≡◌, ◌≢◌, ℕ, ◌+◌, ◌*◌, ◌<◌, ◌≤◌, ◌==◌, ◌&&◌, ⊎_elim, inl, if◌then◌else◌, nat_lt, Bool, true, false, not, Option, Some, None, List, [], ◌∷◌, set, refl, sym, ap, subst, ◌∙◌, arith, ne_eqb}
 use Rattle.std.proofs.lemmas.Bool.{cases_lt}
 use Rattle.std.proofs.lemmas.Bool.Decides.{nat_tests}
 use Rattle.steps.specs.declared.ask.Ask.{Ask}
@@ -27,8 +27,8 @@ use Rattle.model.specs.Turns.{old_of, words_after, step_count}
 use Rattle.robust_laws.proofs.Core.{counter_of, cell, counter_set}
 use Rattle.robust_laws.proofs.Effects.{Stays, some_none, before_end, stays_same, stays_raised, filled_none, filled_some}
 use Rattle.robust_laws.proofs.Invariant.{Scene, Inv, Good}
-use Rattle.robust_laws.proofs.Knows.{raise_number, count_number, lock_number, CountAt, LockAt, raise_holds, count_holds, lock_holds, count_scan, lock_scan, CountSays, LockSays, IsPaid, PaidUnless, Holding, Paid, Scanned}
-use Rattle.robust_laws.proofs.Stages.{loads, exchanges, loads_same, fails_same, exchange_sets, backs_then, now, sees, paid_of, paid_back, holds_on, holds_new}
+use Rattle.robust_laws.proofs.Knows.{raise_number, count_number, lock_number, CountAt, LockAt, raise_holds, count_holds, lock_holds, count_scan, lock_scan, CountSays, LockSays, IsPaid, Holding, Paid, Scanned}
+use Rattle.robust_laws.proofs.Stages.{loads, exchanges, loads_same, fails_same, exchange_sets, backs_then, now, sees, paid_of, paid_back, holds_on}
 
 abbrev pub raise_ask : Raise → Ask
 raise_ask raises.TheVariants.LoadsCounter = loads 0

@@ -1,5 +1,5 @@
 -- The steps of a recovery.
-use Rattle.std.proofs.Common.{◌≡◌, ◌≢◌, ℕ, ◌+◌, ◌-◌, ◌*◌, ◌<◌, ◌≤◌, ◌==◌, ◌⊎◌, ⊎_elim, inl, inr, if◌then◌else◌, nat_lt, Bool, true, false, not, Option, Some, None, List, [], ◌∷◌, ◌++◌, set, refl, sym, ap, subst, ◌∙◌, append-nil, arith}
+use Rattle.std.proofs.Common.{◌≡◌, ◌≢◌, ℕ, ◌+◌, ◌*◌, ◌<◌, ◌≤◌, ◌==◌, ◌⊎◌, ⊎_elim, inl, inr, if◌then◌else◌, nat_lt, Bool, true, false, Option, Some, None, List, [], ◌∷◌, ◌++◌, set, refl, sym, ap, subst, ◌∙◌, arith}
 use Rattle.std.specs.List.{AllByRecursion}
 use Rattle.std.proofs.lemmas.Bool.{cases_lt}
 use Rattle.std.proofs.lemmas.Bool.Decides.{nat_tests}
@@ -24,7 +24,6 @@ use Rattle.steps.specs.Indices.Robust.Parts.{cell_word, empty, locked, first_loc
 use Rattle.steps.specs.Indices.Robust.Recover.{at_recover, recover_comes_to, recover_raised, recover_locked}
 use Rattle.steps.specs.Picks.{by_test}
 use Rattle.steps.specs.Routine.{went_on}
-use Rattle.model.specs.declared.event.Answer.{Answer}
 use Rattle.model.specs.declared.event.Answer.TheVariants.{State}
 use Rattle.model.specs.declared.event.Event.{Event}
 use Rattle.model.specs.declared.event.Event.TheVariants.{FreedOf, Asked, Told, Locked, Finished}
@@ -33,7 +32,7 @@ use Rattle.model.specs.declared.families.indices.robust.RobustStart.TheVariants.
 use Rattle.model.specs.declared.families.indices.robust.calls.RobustFlight as flights
 use Rattle.model.specs.Families.Indices.Robust.Bounds.{most_steps}
 use Rattle.model.specs.Families.Indices.Robust.Promises.{cell_of, promise, AnswersRight, IsUnlocked, HeldThrough, StillToFree, IsProper, HasRecovered}
-use Rattle.model.specs.Families.Indices.Robust.Reading.{Deed, Frees, Asks, Yes, Locks, deeds, asked_in, filled_after, filled_of, holder_of, is_dead, deeds_of, IsOneOf, IsLatest}
+use Rattle.model.specs.Families.Indices.Robust.Reading.{Deed, Frees, Asks, Yes, Locks, deeds, asked_in, filled_after, filled_of, holder_of, is_dead, deeds_of, IsOneOf}
 use Rattle.model.specs.Families.Indices.Robust.Spans.{HasJustFreed}
 use Rattle.model.specs.Families.Indices.Robust.Steps.{locked_by}
 use Rattle.model.specs.Families.Queues.Calls.{as_it_is}
@@ -49,13 +48,12 @@ use Rattle.robust_laws.proofs.Counting.{times_below}
 use Rattle.robust_laws.proofs.Deeds.{still_one, last_one, by_latest, was_one, all_so, asks_more, FreedWereAsked, freed_more}
 use Rattle.robust_laws.proofs.Effects.{Stays, at_same, some_none, one_owner, both_ways, quiet_none, quiet_asked, quiet_told, quietly, unlocked, is_shut, stays_same, stays_raised, filled_by, filled_none, filled_some}
 use Rattle.robust_laws.proofs.Frees.{frees}
-use Rattle.robust_laws.proofs.Invariant.{Scene, Inv, Good, Does, wrote_of, view}
+use Rattle.robust_laws.proofs.Invariant.{Scene, Inv, Good, Does, wrote_of}
 use Rattle.robust_laws.proofs.Knows.{recover_at, recover_number, raise_number, lock_number, for_back, for_index, RecoverAt, LockAt, IsInCourse, Knows, IsPaid, WasOpen, AskedBelow, GoneBut, LockSays}
 use Rattle.robust_laws.proofs.Locks.{locks}
 use Rattle.robust_laws.proofs.Parts.{raise_ask, lock_ask, raise_step, lock_step, IsSaid, none_beyond}
 use Rattle.robust_laws.proofs.Past.{through_less, through_now}
-use Rattle.robust_laws.proofs.Rights.{IsBy}
-use Rattle.robust_laws.proofs.Stages.{IsHere, Lengthens, all, now, sees, then_sees, backs_then, loads, exchanges, loads_same, fails_same, exchange_sets, deeds_more, StepOf, AnswerOf, Leads, goes_on, ends, goes_quietly, ends_quietly}
+use Rattle.robust_laws.proofs.Stages.{IsHere, Lengthens, all, now, sees, then_sees, backs_then, loads, exchanges, loads_same, fails_same, exchange_sets, deeds_more, StepOf, AnswerOf, Leads, goes_on, goes_quietly, ends_quietly}
 
 at_least_one : (c : ℕ) (mode : ReleaseMode) → 1 ≤ for_back c mode
 at_least_one c Default = omega arith

@@ -1,8 +1,7 @@
 -- Every turn keeps what holds of the machine of a robust index set: the laws of the family.
-use Rattle.std.proofs.Common.{◌≡◌, ◌≢◌, ℕ, ◌+◌, ◌-◌, ◌*◌, ◌^◌, ◌<◌, ◌≤◌, ◌==◌, ◌&&◌, inl, nat_le, nat_lt, if◌then◌else◌, Bool, true, false, not, Option, Some, None, option_map, List, [], ◌∷◌, ◌++◌, refl, sym, ap, subst, ◌∙◌, arith}
+use Rattle.std.proofs.Common.{◌≡◌, ◌≢◌, ℕ, ◌+◌, ◌-◌, ◌^◌, ◌<◌, ◌≤◌, inl, nat_le, if◌then◌else◌, Bool, true, false, Option, Some, None, option_map, List, [], ◌∷◌, ◌++◌, refl, sym, ap, subst, ◌∙◌, arith}
 use Rattle.std.proofs.lemmas.Bool.Decides.{nat_tests}
 use Rattle.std.proofs.lemmas.List.Sums.{fold-append}
-use Rattle.steps.specs.declared.ask.Ask.{Ask}
 use Rattle.steps.specs.declared.indices.enums.ReleaseMode.{ReleaseMode}
 use Rattle.steps.specs.declared.indices.robust.acquire.AcquireStage.{AcquireStage}
 use Rattle.steps.specs.declared.indices.robust.acquire.AcquireStage as acquires
@@ -44,12 +43,11 @@ use Rattle.model.specs.Families as families
 use Rattle.model.specs.Families.Indices.Robust.Calls.{first, want}
 use Rattle.model.specs.Families.Indices.Robust.Dead.{has_died, dead_with, acts_for_dead, frees_living}
 use Rattle.model.specs.Families.Indices.Robust.Dead as rows
-use Rattle.model.specs.Families.Indices.Robust.Opening.{opening_words, is_owner, names_owner, call_of, call_rows, kept_rows}
+use Rattle.model.specs.Families.Indices.Robust.Opening.{opening_words, is_owner, names_owner, call_rows, kept_rows}
 use Rattle.model.specs.Families.Indices.Robust.Promises.{IsFilledWith, IsProper}
-use Rattle.model.specs.Families.Indices.Robust.Reading.{Deed, Yes, deeds, filled_after, filled_of, is_dead, settled_of, wrote_in, deeds_of, IsOneOf}
-use Rattle.model.specs.Moments.{SinceBegin}
-use Rattle.model.specs.Parties.{party_of, doing_of, flight_of}
-use Rattle.model.specs.Reading.{Open, span_of, own_after}
+use Rattle.model.specs.Families.Indices.Robust.Reading.{Deed, Yes, deeds, filled_after, is_dead, settled_of, wrote_in, deeds_of, IsOneOf}
+use Rattle.model.specs.Parties.{party_of}
+use Rattle.model.specs.Reading.{Open, span_of}
 use Rattle.model.specs.Rows.{first_row}
 use Rattle.model.specs.Step.{Step}
 use Rattle.model.specs.Turns.{old_of, words_after, change_of, number_of, party_at_begin, party_after, events_of_step, IsReached}
@@ -64,7 +62,7 @@ use Rattle.robust_laws.proofs.Counting.{count_none}
 use Rattle.robust_laws.proofs.Deaths.{death_good, death_known}
 use Rattle.robust_laws.proofs.Effects.{both_ways, proper_less}
 use Rattle.robust_laws.proofs.Finds.{find_step, find_decided}
-use Rattle.robust_laws.proofs.Invariant.{RobustSet, Fit, Good, Scene, Inv, Shows, FlightAt, Knowing, view, family, wrote_of, at_written, owes, holds_more}
+use Rattle.robust_laws.proofs.Invariant.{RobustSet, Fit, Scene, Inv, Shows, view, family, wrote_of, at_written, owes, holds_more}
 use Rattle.robust_laws.proofs.Knows.{acquire_at, release_at, find_at, recover_at, borrowed_at, looking, At, FindAt, RecoverAt, Knows}
 use Rattle.robust_laws.proofs.Knows as knows
 use Rattle.robust_laws.proofs.Looks.{borrowed_step, looks_step}

@@ -1,11 +1,11 @@
 -- What a step of a call of the robust index set has to show, and how a call goes on or ends.
-use Rattle.std.proofs.Common.{◌≡◌, ◌≢◌, ℕ, ◌+◌, ◌-◌, ◌<◌, ◌≤◌, ◌==◌, ⊎_elim, inl, inr, if◌then◌else◌, Bool, true, false, Option, Some, None, List, [], ◌∷◌, ◌++◌, get_or, set, fold, refl, sym, ap, subst, ◌∙◌, append-nil, arith, eq-eqb, ne_eqb}
+use Rattle.std.proofs.Common.{◌≡◌, ◌≢◌, ℕ, ◌+◌, ◌<◌, ◌≤◌, ◌==◌, ⊎_elim, inl, inr, if◌then◌else◌, Bool, true, false, Option, Some, None, List, [], ◌∷◌, ◌++◌, get_or, set, fold, refl, sym, ap, subst, ◌∙◌, append-nil, arith, eq-eqb, ne_eqb}
 use Rattle.std.proofs.lemmas.Bool.Decides.{nat_tests}
 use Rattle.std.proofs.lemmas.List.{set-get_or}
 use Rattle.std.proofs.lemmas.List.Concat.{flat_map-append}
 use Rattle.std.proofs.lemmas.List.Sums.{fold-append}
 use Rattle.steps.specs.Ask.{written}
-use Rattle.steps.specs.Indices.Robust.Parts.{locked, greatest, one_more}
+use Rattle.steps.specs.Indices.Robust.Parts.{greatest}
 use Rattle.steps.specs.declared.ask.Ask.{Ask}
 use Rattle.steps.specs.declared.ask.After.{After}
 use Rattle.steps.specs.declared.ask.After.TheVariants.{GoOn, Done}
@@ -29,13 +29,13 @@ use Rattle.model.specs.Families.Indices.Robust.Reading.{Deed, deed, deeds, settl
 use Rattle.model.specs.Families.Indices.Robust.Spans.{HasDone}
 use Rattle.model.specs.Families.Indices.Robust.Steps.{effects}
 use Rattle.model.specs.Promises.Spans.{Stands}
-use Rattle.model.specs.Reading.{Open, Ended, own_after, span_of}
+use Rattle.model.specs.Reading.{Open, own_after, span_of}
 use Rattle.model.specs.Step.{as_call, answer_in}
 use Rattle.model.specs.Turns.{one_if, old_of, words_after, change_of, step_count, number_of, party_after, ending_of}
 use Rattle.model.proofs.Readings.{AreOwn, AllFollow, span_of-own}
 use Rattle.model.proofs.Turns.{kept_words}
 use Rattle.robust_laws.proofs.Core.{counter_of}
-use Rattle.robust_laws.proofs.Effects.{Stays, quiet_none, quiet_end, quietly, stays_same}
+use Rattle.robust_laws.proofs.Effects.{Stays, quiet_none, quiet_end, quietly}
 use Rattle.robust_laws.proofs.Invariant.{Scene, Inv, Does, Shows, wrote_of, view}
 use Rattle.robust_laws.proofs.Knows as knows
 use Rattle.robust_laws.proofs.Knows.{At, View, Knows, IsSeen, IsPaid, PaidUnless, Holding}

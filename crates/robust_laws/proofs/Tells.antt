@@ -7,13 +7,13 @@ use Rattle.steps.specs.declared.ask.After.TheVariants.{GoOn, Done}
 use Rattle.steps.specs.declared.indices.robust.find.Find as find_calls
 use Rattle.steps.specs.declared.indices.robust.find.FindStage.{FindStage}
 use Rattle.steps.specs.declared.indices.robust.find.FindStage as finds
-use Rattle.steps.specs.Indices.Robust.Find.{find_asks, find_after}
+use Rattle.steps.specs.Indices.Robust.Find.{find_after}
 use Rattle.steps.specs.Indices.Robust.Parts.{empty}
 use Rattle.steps.specs.Routine.{went_on}
 use Rattle.model.specs.declared.event.Answer.{Answer}
 use Rattle.model.specs.declared.event.Answer.TheVariants.{Number}
 use Rattle.model.specs.declared.event.Event.{Event}
-use Rattle.model.specs.declared.event.Event.TheVariants.{Begun, Died, Finished}
+use Rattle.model.specs.declared.event.Event.TheVariants.{Finished}
 use Rattle.model.specs.declared.event.Start.{Start}
 use Rattle.model.specs.declared.event.Start.TheVariants.{Robust}
 use Rattle.model.specs.declared.families.Flight.{Flight}
@@ -31,7 +31,7 @@ use Rattle.model.specs.declared.turn.Turn.{Turn}
 use Rattle.model.specs.declared.turn.Turn.TheVariants.{Begin, Next, Decide, Die}
 use Rattle.model.specs.declared.turn.Refusal.TheVariants.{AtEnd, NoParty, Idle, Undecided}
 use Rattle.model.specs.Coding.{Coding}
-use Rattle.model.specs.Families.{want_of, after_of, ask_of, is_question, beside_of, step_of}
+use Rattle.model.specs.Families.{want_of, ask_of, is_question, beside_of, step_of}
 use Rattle.model.specs.Families.Indices.Robust.Calls.{want, after}
 use Rattle.model.specs.Families.Indices.Robust.Promises.{IsCount, IsFilledWith, FindsAll}
 use Rattle.model.specs.Families.Indices.Robust.Steps.{effects}
@@ -40,17 +40,15 @@ use Rattle.model.specs.Parties.{party_of, doing_of, flight_of}
 use Rattle.model.specs.Promises.Turns.{IsParty, IsEffectOf}
 use Rattle.model.specs.Refusals.{refusal_of, is_at_end, is_due}
 use Rattle.model.specs.Step.{as_call, answer_in}
-use Rattle.model.specs.Turns.{old_of, number_of, step_in, events_of_step, events_of_answer, events_of_next, events_of_decision, events_of, ask_of_doing, ending_of, after_turn}
+use Rattle.model.specs.Turns.{old_of, number_of, events_of_step, events_of_answer, events_of_next, events_of_decision, events_of, ask_of_doing, ending_of, after_turn}
 use Rattle.model.specs.World.{World, Trace, flight_in}
 use Rattle.model.proofs.Frame as frame
 use Rattle.model.proofs.Rows.{row_passed, may_next, may_decide, must_be_due}
 use Rattle.model.proofs.Scenes.{StandsThere, stands_there}
-use Rattle.robust_laws.proofs.Core.{cell}
-use Rattle.robust_laws.proofs.Effects.{both_ways}
 use Rattle.robust_laws.proofs.Finds.{find_loads_all, find_asks_all}
 use Rattle.robust_laws.proofs.Invariant.{Scene, Inv, family}
 use Rattle.robust_laws.proofs.Knows.{find_at, At, FindAt, Knows}
-use Rattle.robust_laws.proofs.Sound.{kept_is, scene_of, inv_of, IsThere, is_there}
+use Rattle.robust_laws.proofs.Sound.{kept_is, scene_of, inv_of, is_there}
 use Rattle.robust_laws.proofs.Stages.{all, now, any_call}
 use Rattle.robust_laws.proofs.Written.{all_effects}
 
