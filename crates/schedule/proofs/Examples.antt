@@ -3,9 +3,10 @@ use Rattle.std.proofs.Common.{◌≡◌, ℕ, false, List, [], ◌∷◌, Ok, Er
 use Rattle.std.specs.Fmt.{digits}
 use Rattle.schedule.specs.declared.error.Cause.TheVariants as causes
 use Rattle.schedule.specs.Bits.{set, any_set_call, bit_set_call, counting_bit_set_call}
-use Rattle.schedule.specs.Indices.{release, any_index_call, index_call}
+use Rattle.schedule.specs.Indices.{mode_at, release, any_index_call, index_call}
+use Rattle.schedule.specs.Indices.Robust as robust
 use Rattle.schedule.specs.Queues.{push_index, push_value, item_call, any_call, queue_call}
-use Rattle.schedule.specs.Grammar.{number_at, setup_of, begin_of, next_of, turn_of, death_of, command_of}
+use Rattle.schedule.specs.Grammar.{number_at, setup_of, begin_of, next_of, decision_of, turn_of, death_of, command_of}
 use Rattle.schedule.specs.Print.{event_text, refusal_text}
 use Rattle.schedule.specs.Output.{Output, outcome, nexts, lines_from, machine_of, output_of_lines, output, stopped}
 
@@ -51,8 +52,20 @@ two_counts = refl
 -- a release whose exchange fails subtracts
 falls_back : output [] (codes "indices 2 2\n0 begin acquire\n0 next 9\n0 begin release 0 default\n0 next 3\n1 begin acquire\n1 next 9\n0 next 2\n1 begin acquire\n1 next 9\n")
     ≡ printed_whole (codes "0 begun acquire\n0 claimed 0\n0 finished acquire -> 0\n0 begun release 0 default\n0 freed 0\n1 begun acquire\n1 claimed 1\n1 finished acquire -> 1\n0 finished release 0 default -> Unlocked\n1 begun acquire\n1 claimed 0\n1 finished acquire -> 0\n")
-unfolding output_of_lines machine_of setup_of number_at lines_from command_of turn_of begin_of index_call any_index_call release next_of nexts outcome event_text digits
+unfolding output_of_lines machine_of setup_of number_at lines_from command_of turn_of begin_of index_call any_index_call release mode_at next_of nexts outcome event_text digits
 falls_back = refl
+
+-- an acquire fills a cell that the lock has read as empty, and meets the lock
+meets_the_lock : output [] (codes "robust 1 2\n0 begin acquire 313\n0 next 9\n0 begin release 0 313 lock\n0 next 5\n1 begin acquire 7\n1 next 2\n0 next 9\n1 next 9\n1 begin find 7\n1 next\n1 yes\n")
+    ≡ printed_whole (codes "0 begun acquire 313\n0 filled 0 313\n0 granted 0 313\n0 finished acquire 313 -> 0\n0 begun release 0 313 lock\n0 freed 0 313\n1 begun acquire 7\n1 filled 0 7\n0 locked\n0 finished release 0 313 lock -> Locked\n1 finished acquire 7 -> IsLocked\n1 begun find 7\n1 finished find 7 -> 1\n")
+unfolding output_of_lines machine_of setup_of number_at lines_from command_of turn_of begin_of decision_of robust.robust_call robust.any_robust_call robust.acquire robust.release robust.find mode_at next_of nexts outcome event_text digits
+meets_the_lock = refl
+
+-- a recovery asks, is refused a yes while the owner lives, and frees once it has died
+recovers : output [] (codes "robust 1 2\n0 begin acquire 1\n0 next 9\n1 begin recover default\n1 next 9\n1 yes\ndie 1\n1 yes\n1 next 9\n")
+    ≡ printed_whole (codes "0 begun acquire 1\n0 filled 0 1\n0 granted 0 1\n0 finished acquire 1 -> 0\n1 begun recover default\n1 asked 0 1\nrefused OwnerLives\ndied 1\n1 told 0 1\n1 freed 0 1\n1 finished recover default -> Unlocked\n")
+unfolding output_of_lines machine_of setup_of number_at lines_from command_of turn_of death_of begin_of decision_of robust.robust_call robust.any_robust_call robust.acquire robust.recover mode_at next_of nexts outcome event_text refusal_text digits
+recovers = refl
 
 -- memory refused to the second turn
 short_turn : output (false ∷ true ∷ []) (codes "index_queue 1 1\n0 begin acquire_producer\n0 next\n0 next")

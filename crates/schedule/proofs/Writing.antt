@@ -40,11 +40,11 @@ part_within a b c written text more whole p q e = subst (AppendsPart a c) e (App
 -- ---- the lines of events
 
 -- the line of the next event is written
-pub events_more : (events : List (Event ℕ)) (at : ℕ) (none : Event ℕ) (written text : List ℕ) → at < length events
-    → written ++ events_text (drop at events) ≡ events_text events → text ≡ event_text (get_or events at none)
+pub events_more : (events : List (Event ℕ)) (at : ℕ) (event : Event ℕ) (written text : List ℕ) → at < length events
+    → written ++ events_text (drop at events) ≡ events_text events → text ≡ event_text (get_or events at event)
     → written ++ text ++ events_text (drop (at + 1) events) ≡ events_text events
-events_more events at none written text h e same =
+events_more events at event written text h e same =
     ap (λ t. written ++ t ++ events_text (drop (at + 1) events)) same
-    ∙ append_assoc written (event_text (get_or events at none)) (events_text (drop (at + 1) events))
-    ∙ ap (λ t. written ++ t) (sym (at_drop_more events_text events at none h))
+    ∙ append_assoc written (event_text (get_or events at event)) (events_text (drop (at + 1) events))
+    ∙ ap (λ t. written ++ t) (sym (at_drop_more events_text events at event h))
     ∙ e

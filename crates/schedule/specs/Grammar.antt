@@ -9,7 +9,7 @@ use Rattle.schedule.specs.declared.grammar.Command.{Command}
 use Rattle.schedule.specs.declared.grammar.Command.TheVariants.{Once, Times}
 use Rattle.schedule.specs.declared.grammar.Setup.{Setup}
 use Rattle.schedule.specs.Families.{kind_named, call_named}
-unfoldable pub use Rattle.schedule.specs.Reading.{Gives, GivesIfAny, ◌>>=◌, next_word, ended, number_at}
+unfoldable pub use Rattle.schedule.specs.Reading.{Gives, GivesIfAny, ◌>>=◌, next_word, ended, number_at, owner_at}
 use Rattle.schedule.specs.Text.{number_of}
 
 -- ---- the first line
@@ -66,10 +66,9 @@ turn_of kind party ws = do
       else if bytes_eq name.0 (codes "no") then decision_of party false name.1
       else Err UnknownTurn
 
--- the greatest number of 64 bits names no owner
 unfoldable pub death_of : List (List ℕ) → Result Command Cause
 death_of ws = do
-  owner ← number_at (2 ^ 64 - 2) ws
+  owner ← owner_at ws
   end ← ended owner.1
   Ok (Once (Die owner.0))
 

@@ -1,4 +1,5 @@
--- The calls of the unique index set, as a schedule names them and as they print.
+-- The calls of the unique index set, as a schedule names them and as they print. The robust index
+-- set has a room of its own within.
 use Rattle.std.specs.Prelude.{ℕ, ◌-◌, ◌^◌, List, ◌++◌, Option, Some, None, Result, Ok, Err, if◌then◌else◌, bytes_eq, codes, decimal}
 use Rattle.steps.specs.declared.indices.enums.ReleaseMode.{ReleaseMode}
 use Rattle.steps.specs.declared.indices.enums.ReleaseMode.TheVariants.{LockIfLastIndex, Default}
@@ -20,6 +21,7 @@ use Rattle.schedule.specs.declared.error.Cause.{Cause}
 use Rattle.schedule.specs.declared.error.Cause.TheVariants.{BadValue, UnknownCall}
 use Rattle.schedule.specs.Family.{Family}
 use Rattle.schedule.specs.Reading.{◌>>=◌, next_word, number_at}
+pub mod Robust
 
 -- ---- how they are read
 
@@ -32,12 +34,18 @@ mode_of word =
     else if bytes_eq word (codes "lock") then Ok LockIfLastIndex
     else Err BadValue
 
+-- a mode, and the words after it
+unfoldable pub mode_at : List (List ℕ) → Result (ReleaseMode × List (List ℕ)) Cause
+mode_at ws = do
+  word ← next_word ws
+  mode ← mode_of word.0
+  Ok (mode, word.1)
+
 unfoldable pub release : List (List ℕ) → Result (IndexStart × List (List ℕ)) Cause
 release ws = do
   index ← number_at (2 ^ 64 - 1) ws
-  word ← next_word index.1
-  mode ← mode_of word.0
-  Ok (Release index.0 mode, word.1)
+  mode ← mode_at index.1
+  Ok (Release index.0 mode.0, mode.1)
 
 unfoldable pub any_index_call : List ℕ → List (List ℕ) → Result (IndexStart × List (List ℕ)) Cause
 any_index_call name ws =

@@ -1,5 +1,5 @@
 -- How words are read from left to right: a value and the rest, or the first cause that is met.
-use Rattle.std.specs.Prelude.{◌≡◌, ℕ, List, [], ◌∷◌, Option, Some, None, Result, Ok, Err}
+use Rattle.std.specs.Prelude.{◌≡◌, ℕ, ◌-◌, ◌^◌, List, [], ◌∷◌, Option, Some, None, Result, Ok, Err}
 use Rattle.schedule.specs.declared.error.Cause.{Cause}
 use Rattle.schedule.specs.declared.error.Cause.TheVariants.{MissingValue, ExtraWords}
 use Rattle.schedule.specs.Text.{number_of}
@@ -37,3 +37,7 @@ number_at greatest ws = do
   word ← next_word ws
   n ← number_of greatest word.0
   Ok (n, word.1)
+
+-- an owner, and the words after it; the greatest number of 64 bits names none
+abbrev pub owner_at : List (List ℕ) → Result (ℕ × List (List ℕ)) Cause
+owner_at ws = number_at (2 ^ 64 - 2) ws

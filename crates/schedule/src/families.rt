@@ -17,7 +17,8 @@ macro_rules! families {
             crate::queues::$ask $given,
             crate::atomic::$ask $given,
             crate::bits::$ask $given,
-            crate::indices::$ask $given
+            crate::indices::$ask $given,
+            crate::indices::robust::$ask $given
         )
     };
 }
@@ -70,10 +71,10 @@ pub fn call<'a>(
 
 /// Writes a call with its arguments. Whether a family says how.
 pub fn print_call(line: &mut Line, start: &Start<u128>) -> bool
-    requires { length line.old + 80 ≤ 256 }
+    requires { length line.old + 96 ≤ 256 }
     ensures text { line.new ≡ line.old ++ unwrap_or (text_of_call start.now) [] }
     ensures said { result ≡ is_some (text_of_call start.now) }
-    ensures short { length line.new ≤ length line.old + 80 }
+    ensures short { length line.new ≤ length line.old + 96 }
 {
     families!(first_true, print_call(line, start))
 }

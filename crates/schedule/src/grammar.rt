@@ -1,7 +1,7 @@
 //! What a line says, read word by word.
 ghost use Rattle.std.specs.Prelude.{◌≡◌, ◌≤◌, ◌-◌, ◌==◌, IfOk};
 ghost use Rattle.schedule.specs.Text.{words_left, words};
-ghost use Rattle.schedule.specs.Grammar.{Gives, next_word, ended, number_at, kind_of, setup_of, call_of, begin_of, count_of, next_of, decision_of, turn_of, death_of, command_of};
+ghost use Rattle.schedule.specs.Grammar.{Gives, next_word, ended, number_at, owner_at, kind_of, setup_of, call_of, begin_of, count_of, next_of, decision_of, turn_of, death_of, command_of};
 
 use crate::error::Cause;
 use crate::families;
@@ -63,6 +63,17 @@ pub fn number_at(greatest: u128, words: Rest<'_>) -> Result<(u128, Rest<'_>), Ca
     Ok((number, rest))
 }
 
+/// An owner, and the words behind it. The greatest number of 64 bits names none.
+pub fn owner_at(words: Rest<'_>) -> Result<(OwnerId, Rest<'_>), Cause>
+    ensures { Gives (λ x. (x.0, words_left x.1)) result (owner_at (words_left words.entry)) }
+{
+    let (number, rest) = number_at(GREATEST_OWNER, words)?;
+    match OwnerId::new(number as u64) {
+        Ok(owner) => Ok((owner, rest)),
+        Err(_) => Err(Cause::BadValue),
+    }
+}
+
 // ---- the first line
 
 fn kind_of(name: &[u8]) -> Result<Kind, Cause>
@@ -93,6 +104,8 @@ pub fn setup_of(line: &[u8]) -> Result<Setup, Cause>
 
 // ---- calls
 
+// What holds an owner is passed on by a match: the borrow checker has no rule for `?` on it.
+
 fn call_of<'a>(kind: Kind, name: &[u8], words: Rest<'a>) -> Result<(Start<u128>, Rest<'a>), Cause>
     ensures { Gives (λ x. (x.0, words_left x.1)) result
         (call_of kind name.now (words_left words.entry)) }
@@ -110,7 +123,10 @@ fn begin_of(kind: Kind, party: u32, words: Rest<'_>) -> Result<Command, Cause>
     ensures { Gives (λ command. command) result (begin_of kind party (words_left words.entry)) }
 {
     let (name, rest) = next_word(words)?;
-    let (start, rest) = call_of(kind, name, rest)?;
+    let (start, rest) = match call_of(kind, name, rest) {
+        Ok(found) => found,
+        Err(cause) => return Err(cause),
+    };
     ended(rest)?;
     Ok(Command::Once(Turn::Begin(party, start)))
 }
@@ -169,12 +185,12 @@ fn turn_of(kind: Kind, party: u32, words: Rest<'_>) -> Result<Command, Cause>
 fn death_of(words: Rest<'_>) -> Result<Command, Cause>
     ensures { Gives (λ command. command) result (death_of (words_left words.entry)) }
 {
-    let (number, rest) = number_at(GREATEST_OWNER, words)?;
+    let (owner, rest) = match owner_at(words) {
+        Ok(found) => found,
+        Err(cause) => return Err(cause),
+    };
     ended(rest)?;
-    match OwnerId::new(number as u64) {
-        Ok(owner) => Ok(Command::Once(Turn::Die(owner))),
-        Err(_) => Err(Cause::BadValue),
-    }
+    Ok(Command::Once(Turn::Die(owner)))
 }
 
 /// Reads a line after the first, which is not empty: a party and its turn, or a death. The error is the first from the

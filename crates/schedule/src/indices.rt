@@ -1,8 +1,11 @@
-//! The calls of the unique index set, as a schedule names them and as they print.
+//! The calls of the unique index set, as a schedule names them and as they print. The robust index set has a room of
+//! its own within.
 ghost use Rattle.std.specs.Prelude.{◌≡◌, ◌+◌, ◌≤◌, ◌++◌, [], length, is_some, unwrap_or};
 ghost use Rattle.schedule.specs.Text.{words_left};
 ghost use Rattle.schedule.specs.Grammar.{Gives, GivesIfAny};
-ghost use Rattle.schedule.specs.Indices.{kind_of, mode_of, release, any_index_call, index_call, call, mode_text, index_call_text, failure_text, state_text, call_text, answer_text, event_text};
+ghost use Rattle.schedule.specs.Indices.{kind_of, mode_of, mode_at, release, any_index_call, index_call, call, mode_text, index_call_text, failure_text, state_text, call_text, answer_text, event_text};
+
+pub mod robust;
 
 use crate::error::Cause;
 use crate::grammar::{next_word, number_at};
@@ -36,13 +39,22 @@ fn mode_of(word: &[u8]) -> Result<ReleaseMode, Cause>
     }
 }
 
+/// A mode, and the words behind it.
+#[tactic(auto, unfolding(crate::specs::Indices::mode_at))]
+pub fn mode_at(words: Rest<'_>) -> Result<(ReleaseMode, Rest<'_>), Cause>
+    ensures { Gives (λ x. (x.0, words_left x.1)) result (mode_at (words_left words.entry)) }
+{
+    let (word, rest) = next_word(words)?;
+    let mode = mode_of(word)?;
+    Ok((mode, rest))
+}
+
 #[tactic(auto, unfolding(crate::specs::Indices::release))]
 fn release(words: Rest<'_>) -> Result<(IndexStart, Rest<'_>), Cause>
     ensures { Gives (λ x. (x.0, words_left x.1)) result (release (words_left words.entry)) }
 {
     let (index, rest) = number_at(u128::from(u64::MAX), words)?;
-    let (word, rest) = next_word(rest)?;
-    let mode = mode_of(word)?;
+    let (mode, rest) = mode_at(rest)?;
     Ok((IndexStart::Release(index as u64, mode), rest))
 }
 
@@ -90,7 +102,8 @@ pub fn call<'a>(
 }
 
 impl Line {
-    fn push_mode(&mut self, mode: ReleaseMode)
+    /// Writes a mode.
+    pub fn push_mode(&mut self, mode: ReleaseMode)
         requires { length self.old + 7 ≤ 256 }
         ensures text { self.new ≡ self.old ++ mode_text mode }
         ensures short { length self.new ≤ length self.old + 7 }

@@ -84,9 +84,9 @@ impl Line {
     }
 
     fn push_call(&mut self, start: &Start<u128>)
-        requires { length self.old + 80 ≤ ROOM }
+        requires { length self.old + 96 ≤ ROOM }
         ensures text { self.new ≡ self.old ++ call_text start.now }
-        ensures short { length self.new ≤ length self.old + 80 }
+        ensures short { length self.new ≤ length self.old + 96 }
     {
         let said = families::print_call(self, start);
         prove!(said); // each call is a family's
@@ -110,9 +110,9 @@ impl Line {
     }
 
     fn push_answered(&mut self, start: &Start<u128>, answer: &Answer<u128>)
-        requires { length self.old + 164 ≤ ROOM }
+        requires { length self.old + 180 ≤ ROOM }
         ensures text { self.new ≡ self.old ++ answered_text start.now answer.now }
-        ensures short { length self.new ≤ length self.old + 164 }
+        ensures short { length self.new ≤ length self.old + 180 }
     {
         self.push_call(start);
         self.push(" -> ");

@@ -8,6 +8,7 @@ mod bits;
 mod failures;
 mod indices;
 mod memory;
+mod robust;
 mod size;
 mod values;
 
