@@ -20,8 +20,9 @@ const IS_LOCKED: Start<u128> = Start::Robust(RobustStart::IsLocked);
 
 const RECOVER: Start<u128> = Start::Robust(RobustStart::Recover(ReleaseMode::Default));
 
-const RECOVER_OR_LOCK: Start<u128> =
-    Start::Robust(RobustStart::Recover(ReleaseMode::LockIfLastIndex));
+const RECOVER_OR_LOCK: Start<u128> = Start::Robust(RobustStart::Recover(
+    ReleaseMode::LockIfLastIndex,
+));
 
 const LOCKED: Answer<u128> = Answer::State(ReleaseState::Locked);
 
@@ -31,8 +32,9 @@ const OUT: Answer<u128> = Answer::NoIndex(UniqueIndexSetAcquireFailure::OutOfInd
 
 const LOCK_MET: Answer<u128> = Answer::NoIndex(UniqueIndexSetAcquireFailure::IsLocked);
 
-const NOT_OWNED: Answer<u128> =
-    Answer::NotOwned(RobustUniqueIndexSetReleaseError::IndexIsNotOwnedByProvidedOwner);
+const NOT_OWNED: Answer<u128> = Answer::NotOwned(
+    RobustUniqueIndexSetReleaseError::IndexIsNotOwnedByProvidedOwner,
+);
 
 fn acquire(owner: OwnerId) -> Start<u128> {
     Start::Robust(RobustStart::Acquire(owner))
@@ -43,11 +45,7 @@ fn release(index: u64, owner: OwnerId) -> Start<u128> {
 }
 
 fn release_or_lock(index: u64, owner: OwnerId) -> Start<u128> {
-    Start::Robust(RobustStart::Release(
-        index,
-        owner,
-        ReleaseMode::LockIfLastIndex,
-    ))
+    Start::Robust(RobustStart::Release(index, owner, ReleaseMode::LockIfLastIndex))
 }
 
 fn find(owner: OwnerId) -> Start<u128> {
@@ -121,7 +119,11 @@ fn an_acquire_that_meets_the_lock_late(rt: HostRuntime) -> Result<(), Fail> {
     let first = OwnerId::new(313)?;
     let late = OwnerId::new(7)?;
     let mut machine = made(rt.alloc(), Kind::Robust, 1, 2)?;
-    play(&rt, &mut machine, &[(0, acquire(first), 4, Answer::Index(0))])?;
+    play(
+        &rt,
+        &mut machine,
+        &[(0, acquire(first), 4, Answer::Index(0))],
+    )?;
     let lock = release_or_lock(0, first);
     go(&mut machine, Turn::Begin(0, lock))?;
     goes(&mut machine, 0, 5)?;
@@ -220,16 +222,33 @@ fn a_recovery_of_an_owner_who_lives(rt: HostRuntime) -> Result<(), Fail> {
     go(&mut machine, Turn::Begin(1, RECOVER))?;
     goes(&mut machine, 1, 2)?;
     let words = machine.words().to_vec(rt.alloc())?;
-    assert!(rt; refuses(&mut machine, &words, Turn::Decide(1, true), Refusal::OwnerLives));
+    assert!(rt;
+        refuses(
+            &mut machine,
+            &words,
+            Turn::Decide(1, true),
+            Refusal::OwnerLives
+        )
+    );
     assert!(rt; refuses(&mut machine, &words, Turn::Next(1), Refusal::Undecided));
     go(&mut machine, Turn::Decide(1, false))?;
     goes(&mut machine, 1, 1)?;
-    assert!(rt; refuses(&mut machine, &words, Turn::Decide(1, true), Refusal::OwnerLives));
+    assert!(rt;
+        refuses(
+            &mut machine,
+            &words,
+            Turn::Decide(1, true),
+            Refusal::OwnerLives
+        )
+    );
     go(&mut machine, Turn::Die(owner))?;
     go(&mut machine, Turn::Decide(1, true))?;
     goes(&mut machine, 1, 5)?;
     assert!(rt; has_answered(&machine, 1, RECOVER, UNLOCKED));
-    assert_eq!(rt; machine.words().get(1..), Some([1, u64::MAX, u64::MAX].as_slice()));
+    assert_eq!(rt;
+        machine.words().get(1..),
+        Some([1, u64::MAX, u64::MAX].as_slice())
+    );
     Ok(())
 }
 
@@ -278,7 +297,11 @@ fn a_recovery_that_locks(rt: HostRuntime) -> Result<(), Fail> {
 fn robust_turns_back(rt: HostRuntime) -> Result<(), Fail> {
     let owner = OwnerId::new(1)?;
     let mut machine = made(rt.alloc(), Kind::Robust, 2, 2)?;
-    play(&rt, &mut machine, &[(0, acquire(owner), 4, Answer::Index(0))])?;
+    play(
+        &rt,
+        &mut machine,
+        &[(0, acquire(owner), 4, Answer::Index(0))],
+    )?;
     // The counter moves before the raise, before the count is closed, and before the lock.
     let lock = release_or_lock(0, owner);
     go(&mut machine, Turn::Begin(0, lock))?;
@@ -305,13 +328,24 @@ fn an_owner_who_dies_in_a_call(rt: HostRuntime) -> Result<(), Fail> {
     go(&mut machine, Turn::Die(dead))?;
     let words = machine.words().to_vec(rt.alloc())?;
     assert!(rt; refuses(&mut machine, &words, Turn::Next(0), Refusal::OwnerIsDead));
-    assert!(rt; refuses(&mut machine, &words, Turn::Begin(0, IS_LOCKED), Refusal::Busy));
+    assert!(rt;
+        refuses(
+            &mut machine,
+            &words,
+            Turn::Begin(0, IS_LOCKED),
+            Refusal::Busy
+        )
+    );
     go(&mut machine, Turn::Begin(1, RECOVER))?;
     goes(&mut machine, 1, 2)?;
     go(&mut machine, Turn::Decide(1, true))?;
     goes(&mut machine, 1, 5)?;
     assert!(rt; has_answered(&machine, 1, RECOVER, UNLOCKED));
-    play(&rt, &mut machine, &[(1, acquire(other), 4, Answer::Index(0))])?;
+    play(
+        &rt,
+        &mut machine,
+        &[(1, acquire(other), 4, Answer::Index(0))],
+    )?;
     Ok(())
 }
 
@@ -325,7 +359,10 @@ fn refusals_of_a_robust_set(rt: HostRuntime) -> Result<(), Fail> {
         (4_294_967_296, Some(above)),
     ];
     for (capacity, error) in capacities {
-        assert!(rt; capacity_error(Kind::Robust, capacity) == error, "{capacity}");
+        assert!(rt;
+            capacity_error(Kind::Robust, capacity) == error,
+            "{capacity}"
+        );
     }
     let dead = OwnerId::new(1)?;
     let lives = OwnerId::new(2)?;
@@ -347,11 +384,21 @@ fn refusals_of_a_robust_set(rt: HostRuntime) -> Result<(), Fail> {
         (release_or_lock(0, dead), Refusal::OwnerIsDead),
     ];
     for (at, (start, refusal)) in refused.into_iter().enumerate() {
-        assert!(rt; refuses(&mut machine, &words, Turn::Begin(0, start), refusal), "{at}");
+        assert!(rt;
+            refuses(&mut machine, &words, Turn::Begin(0, start), refusal),
+            "{at}"
+        );
     }
     assert!(rt; refuses(&mut machine, &words, Turn::Die(dead), Refusal::OwnerIsDead));
     assert!(rt; refuses(&mut machine, &words, Turn::Next(0), Refusal::Idle));
-    assert!(rt; refuses(&mut machine, &words, Turn::Decide(2, true), Refusal::NoParty));
+    assert!(rt;
+        refuses(
+            &mut machine,
+            &words,
+            Turn::Decide(2, true),
+            Refusal::NoParty
+        )
+    );
     let mut queue = made(rt.alloc(), Kind::IndexQueue, 1, 2)?;
     assert!(rt; go(&mut queue, Turn::Begin(0, acquire(lives))) == Err(Refusal::WrongCall));
     assert!(rt; go(&mut queue, Turn::Die(lives)) == Err(Refusal::WrongCall));
@@ -361,12 +408,20 @@ fn refusals_of_a_robust_set(rt: HostRuntime) -> Result<(), Fail> {
 /// Seventy indices of three owners, and many that have died.
 #[test]
 fn a_robust_set_of_seventy(rt: HostRuntime) -> Result<(), Fail> {
-    let owners = [OwnerId::new(0)?, OwnerId::new(1)?, OwnerId::new(u64::MAX - 1)?];
+    let owners = [
+        OwnerId::new(0)?,
+        OwnerId::new(1)?,
+        OwnerId::new(u64::MAX - 1)?,
+    ];
     let mut machine = made(rt.alloc(), Kind::Robust, 70, 2)?;
     for index in 0..70u32 {
         let owner = owners[index as usize % 3];
         let turns = 4 + index as u64;
-        play(&rt, &mut machine, &[(0, acquire(owner), turns, Answer::Index(index))])?;
+        play(
+            &rt,
+            &mut machine,
+            &[(0, acquire(owner), turns, Answer::Index(index))],
+        )?;
     }
     let rows = [
         (0, acquire(owners[0]), 72, OUT),
@@ -393,7 +448,10 @@ fn a_robust_set_of_seventy(rt: HostRuntime) -> Result<(), Fail> {
     go(&mut machine, Turn::Die(owners[2]))?;
     for number in 3..5_000u64 {
         let died = Turn::Die(OwnerId::new(number)?);
-        assert!(rt; go(&mut machine, died) == Err(Refusal::OwnerIsDead), "{number}");
+        assert!(rt;
+            go(&mut machine, died) == Err(Refusal::OwnerIsDead),
+            "{number}"
+        );
     }
     go(&mut machine, Turn::Begin(1, RECOVER))?;
     goes(&mut machine, 1, 1)?;

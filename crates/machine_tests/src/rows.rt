@@ -1,9 +1,9 @@
 //! Rows of calls on a machine, each with what must come of it.
-use machine::{Machine, Stopped};
 use machine::event::{Answer, Event, Item, Start};
 use machine::families::queues::QueueStart;
 use machine::party::Progress;
 use machine::turn::{Kind, Refusal, Turn};
+use machine::{Machine, Stopped};
 use std::alloc::{AllocError, Global};
 use std::process::Abort;
 use steps::enums::{OwnerId, UniqueIndexCreationError};

@@ -138,7 +138,10 @@ fn run_takes_the_turns_up_to_a_refusal(rt: HostRuntime) -> Result<(), Fail> {
 fn why_a_run_stopped(rt: HostRuntime) -> Result<(), Fail> {
     let mut machine = made(rt.alloc(), Kind::IndexQueue, 3, 2)?;
     let mut turns = many_turns(rt.alloc())?;
-    turns.extend_from_slice(&[Turn::Next(1), Turn::Begin(1, Start::Queues(QueueStart::Pop))])?;
+    turns.extend_from_slice(&[
+        Turn::Next(1),
+        Turn::Begin(1, Start::Queues(QueueStart::Pop)),
+    ])?;
     let stopped = Stopped {
         taken: 10_004,
         refusal: Refusal::Idle,
