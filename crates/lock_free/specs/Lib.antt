@@ -12,10 +12,14 @@ pub use Rattle.lock_free_sp.specs.declared.ring.view as QueueView
 pub use Rattle.lock_free_sp.specs.declared.value.view as ValueView
 pub use Rattle.lock_free_sp.specs.declared.share.Share
 pub use Rattle.steps.specs.declared.enums.UniqueIndexCreationError
+pub use Rattle.steps.specs.declared.enums.CallbackProgression
+pub use Rattle.steps.specs.declared.indices.enums.ReleaseMode
 pub use Rattle.steps.specs.declared.indices.enums.ReleaseState
 pub use Rattle.steps.specs.declared.indices.enums.UniqueIndexSetAcquireFailure
 pub use Rattle.steps.specs.declared.bits.counting_bit_set.BitState
 pub use Rattle.steps.specs.declared.words.Words
+pub mod Robust
+pub mod RobustUniqueIndexSet
 pub mod Unique
 pub mod UniqueIndexSet
 pub mod Sets

@@ -2,6 +2,7 @@
 #![tactic(auto)]
 
 pub mod mpmc;
+mod robust;
 mod unique;
 
 pub use lock_free_sp::{laws, spmc, spsc};

@@ -2,6 +2,8 @@
 #![tactic(auto)]
 
 #[cfg(test)]
+mod robust;
+#[cfg(test)]
 mod sets;
 #[cfg(test)]
 mod unique;

@@ -1,0 +1,5 @@
+use Rattle.lock_free.proofs.Rules.Robust.LookRuns.{look_rule}
+use Rattle.lock_free.proofs.mpmc.robust_unique_index_set.RobustUniqueIndexSet.is_locked.Goals as goal
+
+pub drive-requires-clause-rule : goal.drive-requires-clause-rule
+drive-requires-clause-rule c = look_rule

@@ -1,0 +1,5 @@
+pub mod Views
+pub mod Kept
+pub mod Calls
+pub mod Stages
+pub mod Callable

@@ -1,0 +1,9 @@
+//! What a seat at the table of a robust unique index set knows. No value of this type is made: it is for contracts and
+//! proofs.
+
+/// What a seat knows.
+pub struct View {
+    pub capacity: u64,
+    /// Whether it has seen the lock.
+    pub locked: bool,
+}
