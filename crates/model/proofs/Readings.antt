@@ -12,7 +12,7 @@ module _ {A : Type 0} where
     Last : xs ≡ before → x ≡ y → SplitAt xs x before y after
     Earlier : (rest : List A) → xs ≡ before ++ y ∷ rest → SplitAt xs x before y after
 
-  no_more : (bs : List A) (y : A) (after : List A) → [] ≡ bs ++ y ∷ after → ⊥
+  pub no_more : (bs : List A) (y : A) (after : List A) → [] ≡ bs ++ y ∷ after → ⊥
   no_more [] y after e = cc
   no_more (b ∷ bs) y after e = cc
 

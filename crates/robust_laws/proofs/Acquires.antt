@@ -149,21 +149,26 @@ module _ {T : Type 0} (scene : Scene T) (inv : Inv scene) (owner : ℕ) (fits : 
     fills_step : StepOf scene (Acquire owner) (acquire_at c owner filling)
     fills_step = go (cell ws i == empty) refl
       where
-        go : (b : Bool) → (cell ws i == empty) ≡ b → Lead (Some (exchanges (cell_word i) empty owner)) false (if b then Filled p i owner ∷ [] else []) (if b then GoOn (at_acquire (call_at (acquires.TheVariants.FillsCell number i)) (acquires.TheVariants.Raises i raises.TheVariants.LoadsCounter)) else acquire_tries (call_at (acquires.TheVariants.FillsCell number i)) number (i + 1))
+        go : (b : Bool) → (cell ws i == empty) ≡ b → Lead (Some (exchanges (cell_word i) empty owner)) false (if b then Filled p i owner ∷ [] else [])
+            (if b then GoOn (at_acquire (call_at (acquires.TheVariants.FillsCell number i)) (acquires.TheVariants.Raises i raises.TheVariants.LoadsCounter)) else acquire_tries
+            (call_at (acquires.TheVariants.FillsCell number i)) number (i + 1))
         go true t = let is : cell ws i ≡ empty = grind (arith, nat_tests) in fills_cell is
         go false t = let other : cell ws i ≢ empty = grind (arith, nat_tests) in passes other
 
   -- ---- the exchange of the counter for itself
 
-  checks_step : (number : ℕ) → all scene ≡ [] → steps ≤ 1 + c + backs * (c + 1) → Knows c (acquire_at c owner (acquires.TheVariants.ChecksCounter number)) (now scene) → StepOf scene (Acquire owner) (acquire_at c owner (acquires.TheVariants.ChecksCounter number))
+  checks_step : (number : ℕ) → all scene ≡ [] → steps ≤ 1 + c + backs * (c + 1) → Knows c (acquire_at c owner (acquires.TheVariants.ChecksCounter number)) (now scene)
+      → StepOf scene (Acquire owner) (acquire_at c owner (acquires.TheVariants.ChecksCounter number))
   checks_step number none s k = go (counter_of ws == number) refl
     where
-      go : (b : Bool) → (counter_of ws == number) ≡ b → Lead (Some (exchanges 0 number number)) (not b) [] (if b then Done (Err failures.TheVariants.OutOfIndices) else acquire_sees (call_at (acquires.TheVariants.ChecksCounter number)) (counter_of ws))
+      go : (b : Bool) → (counter_of ws == number) ≡ b → Lead (Some (exchanges 0 number number)) (not b) []
+          (if b then Done (Err failures.TheVariants.OutOfIndices) else acquire_sees (call_at (acquires.TheVariants.ChecksCounter number)) (counter_of ws))
       go true t =
           let is : counter_of ws ≡ number = grind (arith, nat_tests) in
           let paid_now = paid_of scene (counter_of ws ≡ number) k.paid.paid in
           let same : words_after ws (Some (exchanges 0 number number)) ≡ ws = exchange_sets ws 0 number number is ∙ (ap (set ws 0) (sym is) ∙ set-get_or ws 0 0) in
-          ends_quietly scene inv (Acquire owner) (NoIndex failures.TheVariants.OutOfIndices) (Some (exchanges 0 number number)) false here (stays_same scene inv (words_after ws (Some (exchanges 0 number number))) same) (λ i o. refl) (λ i r. refl) k.says none (omega arith) (omega arith)
+          ends_quietly scene inv (Acquire owner) (NoIndex failures.TheVariants.OutOfIndices) (Some (exchanges 0 number number)) false here (stays_same scene inv (words_after ws (Some (exchanges 0 number number))) same)
+          (λ i o. refl) (λ i r. refl) k.says none (omega arith) (omega arith)
       go false t =
           let other : counter_of ws ≢ number = grind (arith, nat_tests) in
           finds (acquires.TheVariants.ChecksCounter number) (Some (exchanges 0 number number)) true (fails_same ws 0 number number other) none (omega arith) (paid_back scene number (Some (exchanges 0 number number)) events other k.paid)
@@ -188,11 +193,13 @@ module _ {T : Type 0} (scene : Scene T) (inv : Inv scene) (owner : ℕ) (fits : 
         raise_step scene inv raises_to raise k.paid
         (λ number ask back same held few.
         let low = few (1 + c) (c + 1) (omega arith) s in
-        goes_quietly scene inv (Acquire owner) (acquire_at c owner (acquires.TheVariants.Raises i (raises.TheVariants.ExchangesCounter number))) ask back here (stays_same scene inv (words_after ws ask) same) low (refl, refl, fits, (below, done))
+        goes_quietly scene inv (Acquire owner) (acquire_at c owner (acquires.TheVariants.Raises i (raises.TheVariants.ExchangesCounter number))) ask back here (stays_same scene inv (words_after ws ask) same) low
+        (refl, refl, fits, (below, done))
         (record { paid = held; scanned = tt; owns = k.owns; says = tt; gone = tt }))
         (λ ask back same shut paid few.
         let low = few (1 + c) (c + 1) (omega arith) s in
-        ends_quietly scene inv (Acquire owner) (NoIndex failures.TheVariants.IsLocked) ask back here (stays_same scene inv (words_after ws ask) same) (λ j o. refl) (λ j r. refl) (is_shut scene inv shut) (inr (record { index = i; is = done })) (omega arith) paid)
+        ends_quietly scene inv (Acquire owner) (NoIndex failures.TheVariants.IsLocked) ask back here (stays_same scene inv (words_after ws ask) same) (λ j o. refl) (λ j r. refl) (is_shut scene inv shut)
+        (inr (record { index = i; is = done })) (omega arith) paid)
         (λ ask open_now new paid few.
         let low = few (1 + c) (c + 1) (omega arith) s in
         ends scene (Acquire owner) (Index i) ask false (Granted p i owner ∷ []) here (λ start w. refl)

@@ -225,7 +225,8 @@ module _ {T : Type 0} (scene : Scene T) where
 
     -- ---- an index is filled
 
-    module _ (words' : List ℕ) (i owner : ℕ) (below : i < c) (fits : owner < empty) (none : filled_of i events ≡ None) (alive : is_dead owner events ≡ false) (was_open : HeldOnce p IsUnlocked events) (new : words' ≡ set ws (cell_word i) owner) where
+    module _ (words' : List ℕ) (i owner : ℕ) (below : i < c) (fits : owner < empty) (none : filled_of i events ≡ None) (alive : is_dead owner events ≡ false) (was_open : HeldOnce p IsUnlocked events)
+        (new : words' ≡ set ws (cell_word i) owner) where
       abbrev fill : List (Event T)
       fill = Filled p i owner ∷ []
 

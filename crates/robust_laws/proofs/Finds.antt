@@ -79,18 +79,21 @@ module _ {T : Type 0} (scene : Scene T) (inv : Inv scene) (owner : ℕ) (fits : 
     loads_step : (k found : ℕ) → k < c → Knows c (find_at c owner (finds.TheVariants.LoadsCell k found)) (now scene) → steps ≤ k → StepOf scene (Find owner) (find_at c owner (finds.TheVariants.LoadsCell k found))
     loads_step k found below h s = go (cell ws k == owner) refl
       where
-        go : (b : Bool) → (cell ws k == owner) ≡ b → Lead (Some (loads (cell_word k))) (if b then GoOn (at_find (call_at (finds.TheVariants.LoadsCell k found)) (finds.TheVariants.Asks k (one_more found))) else find_comes_to (call_at (finds.TheVariants.LoadsCell k found)) (k + 1) found)
+        go : (b : Bool) → (cell ws k == owner) ≡ b → Lead (Some (loads (cell_word k))) (if b then GoOn
+            (at_find (call_at (finds.TheVariants.LoadsCell k found)) (finds.TheVariants.Asks k (one_more found))) else find_comes_to (call_at (finds.TheVariants.LoadsCell k found)) (k + 1) found)
         go true t =
             let is : cell ws k ≡ owner = grind (arith, nat_tests) in
             let paid = h.paid in
-            goes_quietly scene inv (Find owner) (find_at c owner (finds.TheVariants.Asks k (one_more found))) (Some (loads (cell_word k))) false here (stays_same scene inv _ (loads_same ws (cell_word k))) (omega arith) (refl, refl, fits, (below, none))
+            goes_quietly scene inv (Find owner) (find_at c owner (finds.TheVariants.Asks k (one_more found))) (Some (loads (cell_word k))) false here (stays_same scene inv _ (loads_same ws (cell_word k))) (omega arith)
+            (refl, refl, fits, (below, none))
             (record { paid = omega arith; scanned = tt; owns = tt; says = one_counts k found below h.says is; gone = tt })
         go false t =
             let other : cell ws k ≢ owner = grind (arith, nat_tests) in
             let paid = h.paid in
             comes_to_next (Some (loads (cell_word k))) (loads_same ws (cell_word k)) (omega arith) (finds.TheVariants.LoadsCell k found) k found below (omega arith) (none_counts k found below h.says other)
 
-  pub find_decided : IsHere scene (Find owner) → (k found : ℕ) → FindAt c (all scene) (finds.TheVariants.Asks k found) → Knows c (find_at c owner (finds.TheVariants.Asks k found)) (now scene) → steps ≤ find_number (finds.TheVariants.Asks k found) → (answer : ℕ) → AnswerOf scene (Find owner) (find_at c owner (finds.TheVariants.Asks k found)) None answer
+  pub find_decided : IsHere scene (Find owner) → (k found : ℕ) → FindAt c (all scene) (finds.TheVariants.Asks k found) → Knows c (find_at c owner (finds.TheVariants.Asks k found)) (now scene)
+      → steps ≤ find_number (finds.TheVariants.Asks k found) → (answer : ℕ) → AnswerOf scene (Find owner) (find_at c owner (finds.TheVariants.Asks k found)) None answer
   find_decided here k found at h s answer = go (answer == 0)
     where
       go : (b : Bool) → Lead here at.1 None (if b then Done found else find_comes_to (call_at (finds.TheVariants.Asks k found)) (k + 1) found)
@@ -113,16 +116,19 @@ module _ {T : Type 0} (scene : Scene T) (inv : Inv scene) (owner : ℕ) (fits : 
           let same : found ≡ number = cc in
           subst (λ n. Counted c n) same (subst (λ b. Counted b found) (sym last) counted)
 
-  pub find_loads_all : (k found : ℕ) → FindAt c (all scene) (finds.TheVariants.LoadsCell k found) → Knows c (find_at c owner (finds.TheVariants.LoadsCell k found)) (now scene) → (number : ℕ) → find_after (record { capacity = c; stage = finds.TheVariants.LoadsCell k found }) owner (cell scene.set.words k) ≡ Done number → Counted c number
+  pub find_loads_all : (k found : ℕ) → FindAt c (all scene) (finds.TheVariants.LoadsCell k found) → Knows c (find_at c owner (finds.TheVariants.LoadsCell k found)) (now scene) → (number : ℕ)
+      → find_after (record { capacity = c; stage = finds.TheVariants.LoadsCell k found }) owner (cell scene.set.words k) ≡ Done number → Counted c number
   find_loads_all k found at h number e = go (cell ws k == owner) refl e
     where
-      go : (b : Bool) → (cell ws k == owner) ≡ b → ◌≡◌ {A = After calls.Find ℕ} (if b then GoOn (at_find (call_at (finds.TheVariants.LoadsCell k found)) (finds.TheVariants.Asks k (one_more found))) else find_comes_to (call_at (finds.TheVariants.LoadsCell k found)) (k + 1) found) (Done number) → Counted c number
+      go : (b : Bool) → (cell ws k == owner) ≡ b → ◌≡◌ {A = After calls.Find ℕ} (if b then GoOn (at_find (call_at (finds.TheVariants.LoadsCell k found)) (finds.TheVariants.Asks k (one_more found))) else find_comes_to
+          (call_at (finds.TheVariants.LoadsCell k found)) (k + 1) found) (Done number) → Counted c number
       go true t e = absurd (cc)
       go false t e =
           let other : cell ws k ≢ owner = grind (arith, nat_tests) in
           comes_to_all k found number (finds.TheVariants.LoadsCell k found) at.0 (none_counts k found at.0 h.says other) e
 
-  pub find_asks_all : (k found : ℕ) → FindAt c (all scene) (finds.TheVariants.Asks k found) → Knows c (find_at c owner (finds.TheVariants.Asks k found)) (now scene) → (answer number : ℕ) → answer ≢ 0 → find_after (record { capacity = c; stage = finds.TheVariants.Asks k found }) owner answer ≡ Done number → Counted c number
+  pub find_asks_all : (k found : ℕ) → FindAt c (all scene) (finds.TheVariants.Asks k found) → Knows c (find_at c owner (finds.TheVariants.Asks k found)) (now scene) → (answer number : ℕ) → answer ≢ 0
+      → find_after (record { capacity = c; stage = finds.TheVariants.Asks k found }) owner answer ≡ Done number → Counted c number
   find_asks_all k found at h answer number yes_told e = go (answer == 0) refl e
     where
       go : (b : Bool) → (answer == 0) ≡ b → ◌≡◌ {A = After calls.Find ℕ} (if b then Done found else find_comes_to (call_at (finds.TheVariants.Asks k found)) (k + 1) found) (Done number) → Counted c number

@@ -30,7 +30,8 @@ module _ {T : Type 0} (scene : Scene T) (inv : Inv scene) where
   abbrev pub free : ℕ → ℕ → List (Event T)
   free i owner = FreedOf p i owner ∷ []
 
-  module _ (words' : List ℕ) (i owner : ℕ) (below : i < c) (filled : filled_of i events ≡ Some owner) (mine : IsProper (events ++ free i owner) → (q : ℕ) → q ≢ p → (o : ℕ) → is_dead o events ≡ false → IsBy q i o events → ⊥) (new : words' ≡ set ws (cell_word i) empty) where
+  module _ (words' : List ℕ) (i owner : ℕ) (below : i < c) (filled : filled_of i events ≡ Some owner)
+      (mine : IsProper (events ++ free i owner) → (q : ℕ) → q ≢ p → (o : ℕ) → is_dead o events ≡ false → IsBy q i o events → ⊥) (new : words' ≡ set ws (cell_word i) empty) where
     abbrev es : List (Event T)
     es = FreedOf p i owner ∷ []
 

@@ -134,7 +134,8 @@ module _ {T : Type 0} where
     pub knows : frame.KnowsDoing (family scene.coding scene.capacity) (set_then scene words' es) scene.party (scene.events ++ es) changes' y.backs y.doing
     pub seen : IsSeen scene.set.words words' scene.changes changes'
 
-  any_knows : (c : ℕ) (words words' : List ℕ) (events es : List (Event T)) (q changes changes' : ℕ) → Goes words words' events es → Spares q events es → IsSeen words words' changes changes' → (since backs : ℕ) (flight : Flight T) → Knowing c flight (view words events q since changes backs) → Knowing c flight (view words' (events ++ es) q since changes' backs)
+  any_knows : (c : ℕ) (words words' : List ℕ) (events es : List (Event T)) (q changes changes' : ℕ) → Goes words words' events es → Spares q events es → IsSeen words words' changes changes'
+      → (since backs : ℕ) (flight : Flight T) → Knowing c flight (view words events q since changes backs) → Knowing c flight (view words' (events ++ es) q since changes' backs)
   any_knows c words words' events es q changes changes' goes spares seen since backs (flights.TheVariants.Robust flight) h = knows_later words words' events es q since changes changes' backs goes spares seen c flight h
   any_knows c words words' events es q changes changes' goes spares seen since backs flight h = absurd h
 
@@ -142,7 +143,8 @@ module _ {T : Type 0} where
   pub at_written : (c : ℕ) (w w' : List (Event T)) (start : Start T) (flight : Flight T) → w' ≡ w → FlightAt c (deeds w) start flight → FlightAt c (deeds w') start flight
   at_written c w w' start flight same h = subst (λ x. FlightAt c (deeds x) start flight) (sym same) h
 
-  module _ (scene : Scene T) (words' : List ℕ) (from : Span T) (y : Party T) (es : List (Event T)) (changes' : ℕ) (s : Shows scene words' from y es changes') (h : Holds scene.capacity scene.set scene.latest scene.events scene.turns) (inv : frame.Inv (family scene.coding scene.capacity) scene.set scene.latest scene.events scene.changes) where
+  module _ (scene : Scene T) (words' : List ℕ) (from : Span T) (y : Party T) (es : List (Event T)) (changes' : ℕ) (s : Shows scene words' from y es changes')
+      (h : Holds scene.capacity scene.set scene.latest scene.events scene.turns) (inv : frame.Inv (family scene.coding scene.capacity) scene.set scene.latest scene.events scene.changes) where
     open scene use {capacity as c, set as set, party as p, latest as latest, events as events}
 
     still_wrote : (q : ℕ) → q ≢ p → wrote_of q (events ++ es) ≡ wrote_of q set.events

@@ -66,7 +66,8 @@ acquire_most c owner all (acquires.TheVariants.FillsCell counter index) backs at
 acquire_most c owner all (acquires.TheVariants.ChecksCounter counter) backs at = omega arith
 acquire_most c owner all (acquires.TheVariants.Raises index raise) backs at = let few = raise_most raise in omega arith
 
-release_most : (c index owner : ℕ) (mode : ReleaseMode) (all : List Deed) (stage : ReleaseStage) (backs : ℕ) → ReleaseAt c index owner mode all stage → release_number c mode stage backs ≤ most_steps c (starts.TheVariants.Release index owner mode) backs
+release_most : (c index owner : ℕ) (mode : ReleaseMode) (all : List Deed) (stage : ReleaseStage) (backs : ℕ) → ReleaseAt c index owner mode all stage
+    → release_number c mode stage backs ≤ most_steps c (starts.TheVariants.Release index owner mode) backs
 release_most c index owner Default all releases.TheVariants.EmptiesCell backs at = omega arith
 release_most c index owner LockIfLastIndex all releases.TheVariants.EmptiesCell backs at = omega arith
 release_most c index owner Default all (releases.TheVariants.Raises raise) backs at = let few = raise_most raise in omega arith
@@ -78,7 +79,8 @@ find_most : (c : ℕ) (all : List Deed) (stage : FindStage) → FindAt c all sta
 find_most c all (finds.TheVariants.LoadsCell index found) at = let below = at.0 in omega arith
 find_most c all (finds.TheVariants.Asks index found) at = let below = at.0 in omega arith
 
-recover_at_most : (c : ℕ) (mode : ReleaseMode) (all : List Deed) (stage : RecoverStage) (backs : ℕ) → 4 ≤ for_index c mode → ((lock : Lock) → mode ≡ LockIfLastIndex → LockAt c lock → lock_number c lock + 5 ≤ for_index c mode) → RecoverAt c mode all stage → recover_number c mode stage backs ≤ 2 + c * for_index c mode + backs * for_back c mode
+recover_at_most : (c : ℕ) (mode : ReleaseMode) (all : List Deed) (stage : RecoverStage) (backs : ℕ) → 4 ≤ for_index c mode
+    → ((lock : Lock) → mode ≡ LockIfLastIndex → LockAt c lock → lock_number c lock + 5 ≤ for_index c mode) → RecoverAt c mode all stage → recover_number c mode stage backs ≤ 2 + c * for_index c mode + backs * for_back c mode
 recover_at_most c mode all recovers.TheVariants.LoadsCounter backs wide lock at = omega arith
 recover_at_most c mode all (recovers.TheVariants.LoadsCell index) backs wide lock at = let few = times_below c index (for_index c mode) at.within in omega arith
 recover_at_most c mode all (recovers.TheVariants.Asks index owner) backs wide lock at = let few = times_below c index (for_index c mode) at.0.within in omega arith
@@ -144,7 +146,8 @@ module _ {T : Type 0} where
       let size : w.coding.size ≡ code.size = ap (λ (z : Coding T). z.size) s.coding in
       record {
         spans = s.inv.spans;
-        progress = λ p. subst (λ n. Progresses promise w.capacity n (span_of p t.events) (progress_in w p)) (sym size) (frame.progresses (family code w.capacity) (bounds code w.capacity) s.state p t.events w.changes (party_of p w.latest) (span_of p t.events) (s.inv.calls p) (s.inv.knows p));
+        progress = λ p. subst (λ n. Progresses promise w.capacity n (span_of p t.events) (progress_in w p)) (sym size)
+            (frame.progresses (family code w.capacity) (bounds code w.capacity) s.state p t.events w.changes (party_of p w.latest) (span_of p t.events) (s.inv.calls p) (s.inv.knows p));
         promised = set_kept code t s;
       }
 

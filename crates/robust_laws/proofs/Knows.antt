@@ -96,6 +96,14 @@ abbrev pub for_index : ℕ → ReleaseMode → ℕ
 for_index c Default = 4
 for_index c LockIfLastIndex = c + 7
 
+pub at_least_one : (c : ℕ) (mode : ReleaseMode) → 1 ≤ for_back c mode
+at_least_one c Default = omega arith
+at_least_one c LockIfLastIndex = omega arith
+
+pub at_least_four : (c : ℕ) (mode : ReleaseMode) → 4 ≤ for_index c mode
+at_least_four c Default = omega arith
+at_least_four c LockIfLastIndex = omega arith
+
 abbrev pub release_number : ℕ → ReleaseMode → ReleaseStage → ℕ → ℕ
 release_number c mode releases.TheVariants.EmptiesCell backs = 0
 release_number c mode (releases.TheVariants.Raises raise) backs =

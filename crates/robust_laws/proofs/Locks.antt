@@ -25,7 +25,8 @@ module _ {T : Type 0} (scene : Scene T) (inv : Inv scene) where
   g = inv.holds.good
 
   -- the lock, and an end behind it, if any
-  module _ (words' : List ℕ) (more : List (Event T)) (quiet : Quiet more) (own : AreOwn p more) (right : AreRight (DoesRight c) (events ++ Locked p ∷ []) more) (answers : AreRight (AnswersRight c) (events ++ Locked p ∷ []) more) (none : IsProper events → (i : ℕ) → holder_of i events ≡ None) (open_now : counter_of ws ≢ locked) (new : words' ≡ set ws 0 locked) where
+  module _ (words' : List ℕ) (more : List (Event T)) (quiet : Quiet more) (own : AreOwn p more) (right : AreRight (DoesRight c) (events ++ Locked p ∷ []) more)
+      (answers : AreRight (AnswersRight c) (events ++ Locked p ∷ []) more) (none : IsProper events → (i : ℕ) → holder_of i events ≡ None) (open_now : counter_of ws ≢ locked) (new : words' ≡ set ws 0 locked) where
     abbrev es : List (Event T)
     es = Locked p ∷ more
 

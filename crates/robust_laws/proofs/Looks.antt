@@ -64,11 +64,13 @@ module _ {T : Type 0} (scene : Scene T) (inv : Inv scene) where
         ends_quietly scene inv BorrowedIndices (Number filled) ask false here (stays_raised scene inv (words_after ws ask) open_now new) (λ i o. refl) (λ i r. refl)
         (λ t. both_ways _ (unlocked scene inv open_now) t, λ f. says) done (omega arith) paid)
 
-  pub borrowed_step : IsHere scene BorrowedIndices → (count : Count) → CountAt c count → all scene ≡ [] → Knows c (borrowed_at c count) (now scene) → steps ≤ count_number c count + backs * (c + 2) → StepOf scene BorrowedIndices (borrowed_at c count)
+  pub borrowed_step : IsHere scene BorrowedIndices → (count : Count) → CountAt c count → all scene ≡ [] → Knows c (borrowed_at c count) (now scene) → steps ≤ count_number c count + backs * (c + 2)
+      → StepOf scene BorrowedIndices (borrowed_at c count)
   borrowed_step here counts.TheVariants.LoadsCounter at done k s = count_moves here counts.TheVariants.LoadsCounter at done k s
   borrowed_step here (counts.TheVariants.LoadsCell number i filled) at done k s = count_moves here (counts.TheVariants.LoadsCell number i filled) at done k s
   borrowed_step here (counts.TheVariants.ExchangesCounter number filled) at done k s = count_moves here (counts.TheVariants.ExchangesCounter number filled) at done k s
 
   pub looks_step : IsHere scene IsLocked → all scene ≡ [] → Knows c looking (now scene) → steps ≤ 0 → StepOf scene IsLocked looking
   looks_step here done k s =
-      ends_quietly scene inv IsLocked (Truth (counter_of ws == locked)) (Some (loads 0)) false here (stays_same scene inv _ (loads_same ws 0)) (λ i o. refl) (λ i r. refl) inv.holds.good.lock done (omega arith) (let paid = k.paid in omega arith)
+      ends_quietly scene inv IsLocked (Truth (counter_of ws == locked)) (Some (loads 0)) false here (stays_same scene inv _ (loads_same ws 0)) (λ i o. refl) (λ i r. refl) inv.holds.good.lock done (omega arith)
+      (let paid = k.paid in omega arith)

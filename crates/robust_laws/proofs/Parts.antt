@@ -142,7 +142,8 @@ module _ {T : Type 0} (scene : Scene T) (inv : Inv scene) where
             closes (Some (exchanges 0 number (one_more number))) (not_locked number is paid) (raised number is paid) (omega arith) (λ n w some low. omega arith)
         go false t =
             let other : counter_of ws ≢ number = grind (arith, nat_tests) in
-            raise_finds (raises.TheVariants.ExchangesCounter number) goes meets (Some (exchanges 0 number (one_more number))) true (fails_same ws 0 number (one_more number) other) (paid_back scene number (Some (exchanges 0 number (one_more number))) events other paid) (λ n w some low. omega arith)
+            raise_finds (raises.TheVariants.ExchangesCounter number) goes meets (Some (exchanges 0 number (one_more number))) true (fails_same ws 0 number (one_more number) other)
+            (paid_back scene number (Some (exchanges 0 number (one_more number))) events other paid) (λ n w some low. omega arith)
 
   -- ---- a count, which says this where it has come to so many cells and found so many filled
 
@@ -163,7 +164,8 @@ module _ {T : Type 0} (scene : Scene T) (inv : Inv scene) where
 
       abbrev pub CountGoes : Count → Type 0
       CountGoes count =
-          (next : Count) (ask : Option Ask) (back : Bool) → words_after ws ask ≡ ws → CountAt c next → Paid (count_holds next) (sees scene ask back) → Scanned (count_scan c next) (sees scene ask back) → CountSays c Says next → CountSteps count (count_number c next) ask back → Lead ask back (GoOn next)
+          (next : Count) (ask : Option Ask) (back : Bool) → words_after ws ask ≡ ws → CountAt c next → Paid (count_holds next) (sees scene ask back) → Scanned (count_scan c next) (sees scene ask back)
+          → CountSays c Says next → CountSteps count (count_number c next) ask back → Lead ask back (GoOn next)
 
       abbrev pub CountMeets : Count → Type 0
       CountMeets count =
@@ -171,10 +173,12 @@ module _ {T : Type 0} (scene : Scene T) (inv : Inv scene) where
 
       abbrev pub CountEnds : Count → Type 0
       CountEnds count =
-          (filled : ℕ) (ask : Option Ask) → counter_of ws ≢ locked → words_after ws ask ≡ set ws 0 (counter_of ws + 1) → filled ≤ c → Says c filled → NoneHeld c filled → IsPaid (sees scene ask false) → CountSteps count (2 + c) ask false → Lead ask false (Done (ends.TheVariants.Filled filled (counter_of ws + 1)))
+          (filled : ℕ) (ask : Option Ask) → counter_of ws ≢ locked → words_after ws ask ≡ set ws 0 (counter_of ws + 1) → filled ≤ c → Says c filled → NoneHeld c filled → IsPaid (sees scene ask false) → CountSteps count
+          (2 + c) ask false → Lead ask false (Done (ends.TheVariants.Filled filled (counter_of ws + 1)))
 
       -- the next cell, or the end of the count, of which this is known
-      module _ (number k filled new : ℕ) (goes : CountGoes (counts.TheVariants.LoadsCell number k filled)) (below : k < c) (few : new ≤ k + 1) (held : Holding number (now scene)) (says : Says (k + 1) new) (none : new ≡ 0 → counter_of ws ≡ number → IsProper events → (i : ℕ) → i < k + 1 → holder_of i events ≡ None) where
+      module _ (number k filled new : ℕ) (goes : CountGoes (counts.TheVariants.LoadsCell number k filled)) (below : k < c) (few : new ≤ k + 1) (held : Holding number (now scene)) (says : Says (k + 1) new)
+          (none : new ≡ 0 → counter_of ws ≡ number → IsProper events → (i : ℕ) → i < k + 1 → holder_of i events ≡ None) where
         abbrev ask : Option Ask
         ask = Some (loads (cell_word k))
 
@@ -192,13 +196,15 @@ module _ {T : Type 0} (scene : Scene T) (inv : Inv scene) where
             by_test (Lead ask false) (nat_lt (k + 1) c) (GoOn (counts.TheVariants.LoadsCell number (k + 1) new)) _
             (λ t.
             let more : k + 1 < c = grind (arith, nat_tests) in
-            goes (counts.TheVariants.LoadsCell number (k + 1) new) ask false same (more, few) (holds_on scene number ask events same_counter held) (low, λ zero is proper i less. none zero (sym same_counter ∙ is) proper i less) says (λ n w some bound. omega arith))
+            goes (counts.TheVariants.LoadsCell number (k + 1) new) ask false same (more, few) (holds_on scene number ask events same_counter held)
+            (low, λ zero is proper i less. none zero (sym same_counter ∙ is) proper i less) says (λ n w some bound. omega arith))
             (λ t.
             let last : c ≡ k + 1 = grind (arith, nat_tests) in
             let before_end = held.before_end in
             by_eq (Lead ask false) number greatest (Done (ends.TheVariants.Filled new number)) (GoOn (counts.TheVariants.ExchangesCounter number new))
             (λ end. absurd (omega arith))
-            (λ less. goes (counts.TheVariants.ExchangesCounter number new) ask false same (omega arith) (holds_on scene number ask events same_counter held) (low, λ zero is proper i behind. none zero (sym same_counter ∙ is) proper i (omega arith)) (subst (λ m. Says m new) (sym last) says) (λ n w some bound. omega arith)))
+            (λ less. goes (counts.TheVariants.ExchangesCounter number new) ask false same (omega arith) (holds_on scene number ask events same_counter held)
+            (low, λ zero is proper i behind. none zero (sym same_counter ∙ is) proper i (omega arith)) (subst (λ m. Says m new) (sym last) says) (λ n w some bound. omega arith)))
 
       pub count_step : (count : Count) → CountAt c count → Paid (count_holds count) (now scene) → Scanned (count_scan c count) (now scene) → CountSays c Says count → CountGoes count → CountMeets count → CountEnds count
           → Lead (Some (count_ask count)) (count_goes_back count (old_of ws (Some (count_ask count)))) (count_after c count (old_of ws (Some (count_ask count))))
@@ -209,7 +215,8 @@ module _ {T : Type 0} (scene : Scene T) (inv : Inv scene) where
           by_eq (Lead (Some (loads 0)) false) (counter_of ws) locked (Done ends.TheVariants.Locked) _
           (λ shut. meets (Some (loads 0)) same shut (omega arith) (λ n w wide low. omega arith))
           (λ open_now. by_test (Lead (Some (loads 0)) false) (nat_lt 0 c) (GoOn (counts.TheVariants.LoadsCell (counter_of ws) 0 0)) _
-          (λ t. goes (counts.TheVariants.LoadsCell (counter_of ws) 0 0) (Some (loads 0)) false same (omega arith, omega arith) (finds_counter (Some (loads 0)) false same open_now (omega arith)) (omega arith, λ zero is proper i less. absurd (omega arith)) said.none (λ n w wide low. omega arith))
+          (λ t. goes (counts.TheVariants.LoadsCell (counter_of ws) 0 0) (Some (loads 0)) false same (omega arith, omega arith) (finds_counter (Some (loads 0)) false same open_now (omega arith))
+          (omega arith, λ zero is proper i less. absurd (omega arith)) said.none (λ n w wide low. omega arith))
           (λ t. let none : c ≤ 0 = grind (arith, nat_tests) in absurd (omega arith)))
       count_step (counts.TheVariants.LoadsCell number k filled) at paid scanned says goes meets closes = go (cell ws k == empty) refl
         where
@@ -241,7 +248,8 @@ module _ {T : Type 0} (scene : Scene T) (inv : Inv scene) where
               (closes filled (Some (exchanges 0 number (one_more number))) (not_locked number is paid) (raised number is paid) at says (λ zero proper i below. scanned.1 zero is proper i below) (omega arith) (λ n w wide low. omega arith))
           go false t =
               let other : counter_of ws ≢ number = grind (arith, nat_tests) in
-              goes counts.TheVariants.LoadsCounter (Some (exchanges 0 number (one_more number))) true (fails_same ws 0 number (one_more number) other) tt (paid_back scene number (Some (exchanges 0 number (one_more number))) events other paid) tt tt (λ n w wide low. omega arith)
+              goes counts.TheVariants.LoadsCounter (Some (exchanges 0 number (one_more number))) true (fails_same ws 0 number (one_more number) other) tt
+              (paid_back scene number (Some (exchanges 0 number (one_more number))) events other paid) tt tt (λ n w wide low. omega arith)
 
     -- ---- a lock
 
@@ -252,7 +260,8 @@ module _ {T : Type 0} (scene : Scene T) (inv : Inv scene) where
 
       abbrev pub LockGoes : Lock → Type 0
       LockGoes lock =
-          (next : Lock) (ask : Option Ask) (back : Bool) → Stays scene (words_after ws ask) → LockAt c next → Paid (lock_holds next) (sees scene ask back) → Scanned (lock_scan c next) (sees scene ask back) → LockSays c Says next → LockSteps lock (lock_number c next) ask back → Lead ask back [] (GoOn next)
+          (next : Lock) (ask : Option Ask) (back : Bool) → Stays scene (words_after ws ask) → LockAt c next → Paid (lock_holds next) (sees scene ask back) → Scanned (lock_scan c next) (sees scene ask back)
+          → LockSays c Says next → LockSteps lock (lock_number c next) ask back → Lead ask back [] (GoOn next)
 
       -- the set is locked
       abbrev pub LockMeets : Lock → Type 0
@@ -267,7 +276,8 @@ module _ {T : Type 0} (scene : Scene T) (inv : Inv scene) where
       -- it locks the set
       abbrev pub LockLocks : Lock → Type 0
       LockLocks lock =
-          (ask : Option Ask) → (IsProper events → (i : ℕ) → holder_of i events ≡ None) → counter_of ws ≢ locked → words_after ws ask ≡ set ws 0 locked → IsPaid (sees scene ask false) → LockSteps lock (3 + c) ask false → Lead ask false (Locked p ∷ []) (Done states.TheVariants.Locked)
+          (ask : Option Ask) → (IsProper events → (i : ℕ) → holder_of i events ≡ None) → counter_of ws ≢ locked → words_after ws ask ≡ set ws 0 locked → IsPaid (sees scene ask false) → LockSteps lock (3 + c) ask false
+          → Lead ask false (Locked p ∷ []) (Done states.TheVariants.Locked)
 
       -- the count is closed
       module _ (count : Count) (goes : LockGoes (locks.TheVariants.Counts count)) (finds : LockFinds (locks.TheVariants.Counts count)) where
@@ -283,14 +293,16 @@ module _ {T : Type 0} (scene : Scene T) (inv : Inv scene) where
             (by_test (Lead ask false []) ((filled == 0) && true) (GoOn (locks.TheVariants.ExchangesCounter (counter_of ws + 1))) (Done states.TheVariants.Unlocked)
             (λ t.
             let zero : filled ≡ 0 = zero_if filled t in
-            goes (locks.TheVariants.ExchangesCounter (counter_of ws + 1)) ask false stays tt (record { before_end = end; low = low; paid = inl (is, paid) }) (low, λ same_zero same proper i below. none zero proper i below) tt (λ n w more bound. let next = few n w (omega arith) bound in omega arith))
+            goes (locks.TheVariants.ExchangesCounter (counter_of ws + 1)) ask false stays tt (record { before_end = end; low = low; paid = inl (is, paid) })
+            (low, λ same_zero same proper i below. none zero proper i below) tt (λ n w more bound. let next = few n w (omega arith) bound in omega arith))
             (λ t. finds filled ask stays (more_if filled t) says paid (λ n w more bound. let next = few n w (omega arith) bound in omega arith)))
 
       pub lock_step : (lock : Lock) → LockAt c lock → Paid (lock_holds lock) (now scene) → Scanned (lock_scan c lock) (now scene) → LockSays c Says lock → LockGoes lock → LockMeets lock → LockFinds lock → LockLocks lock
           → Lead (Some (lock_ask lock)) (lock_goes_back lock (old_of ws (Some (lock_ask lock)))) (locked_by p lock (old_of ws (Some (lock_ask lock)))) (lock_after c lock (old_of ws (Some (lock_ask lock))))
       lock_step (locks.TheVariants.Counts count) at paid scanned says goes meets finds shuts =
           count_step (λ ask back r. Lead ask back [] (lock_counted r)) count at paid scanned says
-          (λ next ask back same next_at next_paid next_scanned next_says few. goes (locks.TheVariants.Counts next) ask back (stays_same scene inv (words_after ws ask) same) next_at next_paid next_scanned next_says (λ n w more bound. few n w (omega arith) bound))
+          (λ next ask back same next_at next_paid next_scanned next_says few. goes (locks.TheVariants.Counts next) ask back (stays_same scene inv (words_after ws ask) same) next_at next_paid next_scanned next_says
+          (λ n w more bound. few n w (omega arith) bound))
           (λ ask same shut done_paid few. meets ask same shut done_paid (λ n w more bound. let next = few n w (omega arith) bound in omega arith))
           (counted count goes finds)
       lock_step (locks.TheVariants.ExchangesCounter number) at paid scanned says goes meets finds shuts = go (counter_of ws == number) refl
@@ -304,4 +316,5 @@ module _ {T : Type 0} (scene : Scene T) (inv : Inv scene) where
               (not_locked number is paid) (exchange_sets ws 0 number locked is) (omega arith) (λ n w more bound. omega arith)
           go false t =
               let other : counter_of ws ≢ number = grind (arith, nat_tests) in
-              goes first_lock (Some (exchanges 0 number locked)) true (stays_same scene inv (words_after ws (Some (exchanges 0 number locked))) (fails_same ws 0 number locked other)) tt (paid_back scene number (Some (exchanges 0 number locked)) events other paid) tt tt (λ n w more bound. omega arith)
+              goes first_lock (Some (exchanges 0 number locked)) true (stays_same scene inv (words_after ws (Some (exchanges 0 number locked))) (fails_same ws 0 number locked other)) tt
+              (paid_back scene number (Some (exchanges 0 number locked)) events other paid) tt tt (λ n w more bound. omega arith)

@@ -6,6 +6,7 @@ use Rattle.model.specs.declared.event.Start.{Start}
 use Rattle.model.specs.Families.Indices.Robust.Promises.{HeldThrough}
 use Rattle.model.specs.Moments.{BeginsNone, SinceBegin}
 use Rattle.model.proofs.Moments.{begins_none_more}
+use Rattle.model.proofs.Readings.{no_more}
 
 module _ {T : Type 0} (p : ℕ) where
   pub through_less : (P : List (Event T) → Type 0) (events es : List (Event T)) → BeginsNone p es → HeldThrough p P (events ++ es) → HeldThrough p P events
@@ -56,15 +57,11 @@ module _ {T : Type 0} (p : ℕ) where
       let k = began_in events es h.before h.start h.since h.is none h.within in
       record { before = h.before; start = h.start; since = k.since; is = k.is; within = k.within; holds = h.holds }
 
-  none_before : (b : Event T) (bs : List (Event T)) (x : Event T) (since : List (Event T)) → [] ≡ bs ++ x ∷ since → ⊥
-  none_before b [] x since e = cc
-  none_before b (c ∷ bs) x since e = cc
-
   last_begin : (events before : List (Event T)) (start s : Start T) (since : List (Event T)) → events ++ Begun p start ∷ [] ≡ before ++ Begun p s ∷ since → BeginsNone p since → events ≡ before
   last_begin [] [] start s since e within = refl
   last_begin [] (b ∷ bs) start s since e within =
       let t : [] ≡ bs ++ Begun p s ∷ since = cc in
-      absurd (none_before b bs (Begun p s) since t)
+      absurd (no_more bs (Begun p s) since t)
   last_begin (x ∷ xs) [] start s since e within =
       let t : since ≡ xs ++ Begun p start ∷ [] = cc in
       absurd (begins_one xs start [] (subst (BeginsNone p) t within))

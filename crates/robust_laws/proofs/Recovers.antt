@@ -42,26 +42,18 @@ use Rattle.model.specs.Reading.{Open}
 use Rattle.model.specs.Step.{as_call}
 use Rattle.model.specs.Turns.{old_of, words_after, step_count}
 use Rattle.model.proofs.Moments.{held_now, held_later}
-use Rattle.model.proofs.Readings.{AllFollow}
+use Rattle.model.proofs.Readings.{no_more, AllFollow}
 use Rattle.robust_laws.proofs.Core.{counter_of, cell}
 use Rattle.robust_laws.proofs.Counting.{times_below}
 use Rattle.robust_laws.proofs.Deeds.{still_one, last_one, by_latest, was_one, all_so, asks_more, FreedWereAsked, freed_more}
 use Rattle.robust_laws.proofs.Effects.{Stays, at_same, some_none, one_owner, both_ways, quiet_none, quiet_asked, quiet_told, quietly, unlocked, is_shut, stays_same, stays_raised, filled_by, filled_none, filled_some}
 use Rattle.robust_laws.proofs.Frees.{frees}
 use Rattle.robust_laws.proofs.Invariant.{Scene, Inv, Good, Does, wrote_of}
-use Rattle.robust_laws.proofs.Knows.{recover_at, recover_number, raise_number, lock_number, for_back, for_index, RecoverAt, LockAt, IsInCourse, Knows, IsPaid, WasOpen, AskedBelow, GoneBut, LockSays}
+use Rattle.robust_laws.proofs.Knows.{at_least_one, at_least_four, recover_at, recover_number, raise_number, lock_number, for_back, for_index, RecoverAt, LockAt, IsInCourse, Knows, IsPaid, WasOpen, AskedBelow, GoneBut, LockSays}
 use Rattle.robust_laws.proofs.Locks.{locks}
 use Rattle.robust_laws.proofs.Parts.{raise_ask, lock_ask, raise_step, lock_step, IsSaid, none_beyond}
 use Rattle.robust_laws.proofs.Past.{through_less, through_now}
 use Rattle.robust_laws.proofs.Stages.{IsHere, Lengthens, all, now, sees, then_sees, backs_then, loads, exchanges, loads_same, fails_same, exchange_sets, deeds_more, StepOf, AnswerOf, Leads, goes_on, goes_quietly, ends_quietly}
-
-at_least_one : (c : ℕ) (mode : ReleaseMode) → 1 ≤ for_back c mode
-at_least_one c Default = omega arith
-at_least_one c LockIfLastIndex = omega arith
-
-at_least_four : (c : ℕ) (mode : ReleaseMode) → 4 ≤ for_index c mode
-at_least_four c Default = omega arith
-at_least_four c LockIfLastIndex = omega arith
 
 most_is : (c backs : ℕ) (mode : ReleaseMode) → most_steps c (Recover mode) backs ≡ 2 + c * for_index c mode + backs * for_back c mode
 most_is c backs Default = omega arith
@@ -72,10 +64,6 @@ nothing_said c (parts.TheVariants.Counts counts.TheVariants.LoadsCounter) = tt
 nothing_said c (parts.TheVariants.Counts (counts.TheVariants.LoadsCell number index filled)) = tt
 nothing_said c (parts.TheVariants.Counts (counts.TheVariants.ExchangesCounter number filled)) = tt
 nothing_said c (parts.TheVariants.ExchangesCounter number) = tt
-
-nothing_in : (one : Deed) (before after : List Deed) → [] ≡ before ++ one ∷ after → ⊥
-nothing_in one [] after e = cc
-nothing_in one (x ∷ xs) after e = cc
 
 module _ {T : Type 0} (scene : Scene T) (inv : Inv scene) (mode : ReleaseMode) (here : IsHere scene (Recover mode)) where
   open scene use {capacity as c, party as p, steps as steps, backs as backs, since as since, changes as changes, events as events}
@@ -102,7 +90,8 @@ module _ {T : Type 0} (scene : Scene T) (inv : Inv scene) (mode : ReleaseMode) (
 
   -- ---- the end
 
-  ends_so : (state : ReleaseState) (ask : Option Ask) (back : Bool) → Stays scene (words_after ws ask) → AnswersRight c events (Finished p (Robust (Recover mode)) (State state)) → steps + step_count ask ≤ 2 + c * for_index c mode + backs_then scene back * for_back c mode → IsPaid (sees scene ask back) → Lead ask back [] (Done state)
+  ends_so : (state : ReleaseState) (ask : Option Ask) (back : Bool) → Stays scene (words_after ws ask) → AnswersRight c events (Finished p (Robust (Recover mode)) (State state))
+      → steps + step_count ask ≤ 2 + c * for_index c mode + backs_then scene back * for_back c mode → IsPaid (sees scene ask back) → Lead ask back [] (Done state)
   ends_so state ask back stays right few paid =
       let most = most_is c (backs_then scene back) mode in
       ends_quietly scene inv (Recover mode) (State state) ask back here stays (λ i o. refl) (λ i r. refl) right tt (omega arith) paid
@@ -116,7 +105,8 @@ module _ {T : Type 0} (scene : Scene T) (inv : Inv scene) (mode : ReleaseMode) (
         let times : c * for_index c mode ≡ (index + 1) * for_index c mode = ap (λ n. n * for_index c mode) is in
         omega arith
 
-    module _ (stays : Stays scene (words_after ws ask)) (paid : IsPaid (sees scene ask back)) (asked : AllByRecursion (λ i. i < index + 1) (asked_in done)) (freed : FreedWereAsked done) (open_once : WasOpen (now scene)) (says : AskedBelow (index + 1) (now scene)) (gone : GoneBut (λ i o. ⊥) (now scene)) where
+    module _ (stays : Stays scene (words_after ws ask)) (paid : IsPaid (sees scene ask back)) (asked : AllByRecursion (λ i. i < index + 1) (asked_in done)) (freed : FreedWereAsked done) (open_once : WasOpen (now scene))
+        (says : AskedBelow (index + 1) (now scene)) (gone : GoneBut (λ i o. ⊥) (now scene)) where
       comes_quietly : Lead ask back [] (recover_comes_to (call_at stage) (index + 1))
       comes_quietly =
           by_test (λ s. Lead ask back [] (GoOn (at_recover (call_at stage) s))) (nat_lt (index + 1) c) (recovers.TheVariants.LoadsCell (index + 1)) recovers.TheVariants.LoadsCounterAgain
@@ -131,7 +121,10 @@ module _ {T : Type 0} (scene : Scene T) (inv : Inv scene) (mode : ReleaseMode) (
           (record { paid = paid; scanned = tt; owns = tt; says = subst (λ n. AskedBelow n (now scene)) end says; gone = gone }))
 
     -- the same of a step that writes an event
-    module _ (did : List (Event T)) (longer : Lengthens (did ++ [])) (does : Does scene (words_after ws ask) (did ++ [])) (stands : AllFollow (Stands promise c) (Open (Robust (Recover mode)) (wrote_of p events)) (did ++ [])) (paid : IsPaid (sees scene ask back)) (asked : AllByRecursion (λ i. i < index + 1) (asked_in (done ++ deeds (did ++ [])))) (freed : FreedWereAsked (done ++ deeds (did ++ []))) (open_once : WasOpen (then_sees scene ask back (did ++ []))) (says : AskedBelow (index + 1) (then_sees scene ask back (did ++ []))) (gone : GoneBut (λ i o. ⊥) (then_sees scene ask back (did ++ []))) where
+    module _ (did : List (Event T)) (longer : Lengthens (did ++ [])) (does : Does scene (words_after ws ask) (did ++ []))
+        (stands : AllFollow (Stands promise c) (Open (Robust (Recover mode)) (wrote_of p events)) (did ++ [])) (paid : IsPaid (sees scene ask back))
+        (asked : AllByRecursion (λ i. i < index + 1) (asked_in (done ++ deeds (did ++ [])))) (freed : FreedWereAsked (done ++ deeds (did ++ []))) (open_once : WasOpen (then_sees scene ask back (did ++ [])))
+        (says : AskedBelow (index + 1) (then_sees scene ask back (did ++ []))) (gone : GoneBut (λ i o. ⊥) (then_sees scene ask back (did ++ []))) where
       comes_loudly : Lead ask back did (recover_comes_to (call_at stage) (index + 1))
       comes_loudly =
           by_test (λ s. Lead ask back did (GoOn (at_recover (call_at stage) s))) (nat_lt (index + 1) c) (recovers.TheVariants.LoadsCell (index + 1)) recovers.TheVariants.LoadsCounterAgain
@@ -184,8 +177,16 @@ module _ {T : Type 0} (scene : Scene T) (inv : Inv scene) (mode : ReleaseMode) (
           let some = g.some in
           by_test (λ s. Lead (Some (loads 0)) false [] (GoOn (at_recover (call_at recovers.TheVariants.LoadsCounter) s))) (nat_lt 0 c) (recovers.TheVariants.LoadsCell 0) recovers.TheVariants.LoadsCounterAgain
           (λ u.
-          goes_quietly scene inv (Recover mode) (recover_at c mode (recovers.TheVariants.LoadsCell 0)) (Some (loads 0)) false here (stays_same scene inv _ (loads_same ws 0)) (omega arith)
-          (refl, refl, record { within = omega arith; asked = subst (λ d. AllByRecursion (λ i. i < 0) (asked_in d)) (sym none) tt; freed = λ i owner freed. absurd (nothing_in (Frees i owner) freed.before freed.after (sym none ∙ freed.is)) })
+          goes_quietly scene inv (Recover mode) (recover_at c mode (recovers.TheVariants.LoadsCell 0)) (Some (loads 0)) false here (stays_same scene inv _ (loads_same ws 0)) (omega arith) (
+            refl,
+            refl,
+            record {
+              within = omega arith;
+              asked = subst (λ d. AllByRecursion (λ i. i < 0) (asked_in d)) (sym none) tt;
+              freed = λ i owner freed. absurd
+                  (no_more freed.before (Frees i owner) freed.after (sym none ∙ freed.is));
+            },
+          )
           (record { paid = omega arith; scanned = tt; owns = tt; says = (held_now p IsUnlocked events (unlocked scene inv open_now), λ i owner below. absurd (omega arith)); gone = k.gone }))
           (λ u. let nothing : c ≤ 0 = grind (arith, nat_tests) in absurd (omega arith))
 
@@ -204,7 +205,8 @@ module _ {T : Type 0} (scene : Scene T) (inv : Inv scene) (mode : ReleaseMode) (
         ⊎_elim (λ before. k.says.1 i owner before through)
         (λ last.
         let same : i ≡ index = omega arith in
-        ⊎_elim (λ filled. some_none (filled_of i events) owner (ap (λ j. filled_of j events) same ∙ filled_none scene inv index course.within is) filled) (λ freed. course.freed i owner freed) (through_now p (StillToFree p owner i) events through))
+        ⊎_elim (λ filled. some_none (filled_of i events) owner (ap (λ j. filled_of j events) same ∙ filled_none scene inv index course.within is) filled) (λ freed. course.freed i owner freed)
+        (through_now p (StillToFree p owner i) events through))
         (cases_lt i index)
 
     passes_empty : cell ws index ≡ empty → Lead load false [] (recover_comes_to (call_at (recovers.TheVariants.LoadsCell index)) (index + 1))
@@ -238,7 +240,8 @@ module _ {T : Type 0} (scene : Scene T) (inv : Inv scene) (mode : ReleaseMode) (
           ⊎_elim (λ before. asked_then (Asks index (cell ws index)) asking (words_after ws load) tt asks_deeds asks_does index k.says.1 i owner before through)
           (λ last.
           let same : i ≡ index = omega arith in
-          ⊎_elim (λ filled. filled_here i owner same filled) (λ freed. subst (IsOneOf (Asks i owner)) (sym asks_deeds) (asks_freed i owner (subst (IsOneOf (Frees i owner)) asks_deeds freed))) (through_now p (StillToFree p owner i) (events ++ asking) through))
+          ⊎_elim (λ filled. filled_here i owner same filled) (λ freed. subst (IsOneOf (Asks i owner)) (sym asks_deeds) (asks_freed i owner (subst (IsOneOf (Frees i owner)) asks_deeds freed)))
+          (through_now p (StillToFree p owner i) (events ++ asking) through))
           (cases_lt i index)
         where
           filled_here : (i owner : ℕ) → i ≡ index → filled_of i (events ++ Asked p index (cell ws index) ∷ []) ≡ Some owner → IsOneOf (Asks i owner) (deeds_of p (events ++ Asked p index (cell ws index) ∷ []))
@@ -265,13 +268,15 @@ module _ {T : Type 0} (scene : Scene T) (inv : Inv scene) (mode : ReleaseMode) (
     loads_cell : StepOf scene (Recover mode) (recover_at c mode (recovers.TheVariants.LoadsCell index))
     loads_cell = go (cell ws index == empty) refl
       where
-        go : (b : Bool) → (cell ws index == empty) ≡ b → Lead (Some (loads (cell_word index))) false (if b then [] else Asked p index (cell ws index) ∷ []) (if b then recover_comes_to (call_at (recovers.TheVariants.LoadsCell index)) (index + 1) else GoOn (at_recover (call_at (recovers.TheVariants.LoadsCell index)) (recovers.TheVariants.Asks index (cell ws index))))
+        go : (b : Bool) → (cell ws index == empty) ≡ b → Lead (Some (loads (cell_word index))) false (if b then [] else Asked p index (cell ws index) ∷ [])
+            (if b then recover_comes_to (call_at (recovers.TheVariants.LoadsCell index)) (index + 1) else GoOn (at_recover (call_at (recovers.TheVariants.LoadsCell index)) (recovers.TheVariants.Asks index (cell ws index))))
         go true t = let is : cell ws index ≡ empty = grind (arith, nat_tests) in passes_empty is
         go false t = let other : cell ws index ≢ empty = grind (arith, nat_tests) in asks_about other
 
   -- ---- a decision
 
-  module _ (index owner : ℕ) (at : RecoverAt c mode done (recovers.TheVariants.Asks index owner)) (k : Knows c (recover_at c mode (recovers.TheVariants.Asks index owner)) (now scene)) (s : steps ≤ 2 + index * for_index c mode + backs * for_back c mode) where
+  module _ (index owner : ℕ) (at : RecoverAt c mode done (recovers.TheVariants.Asks index owner)) (k : Knows c (recover_at c mode (recovers.TheVariants.Asks index owner)) (now scene))
+      (s : steps ≤ 2 + index * for_index c mode + backs * for_back c mode) where
     says_no : Lead None false [] (recover_comes_to (call_at (recovers.TheVariants.Asks index owner)) (index + 1))
     says_no =
         let four = at_least_four c mode in
@@ -297,8 +302,21 @@ module _ {T : Type 0} (scene : Scene T) (inv : Inv scene) (mode : ReleaseMode) (
       says_yes : Lead None false telling (GoOn (at_recover (call_at (recovers.TheVariants.Asks index owner)) (recovers.TheVariants.EmptiesCell index owner)))
       says_yes =
           let paid = k.paid in
-          goes_on scene (Recover mode) (recover_at c mode (recovers.TheVariants.EmptiesCell index owner)) None false telling here (λ start w. refl) tells_does (at.2, tt) (omega arith)
-          (refl, refl, (record { within = at.0.within; asked = asks_more (index + 1) (Yes index owner) done at.0.asked tt; freed = freed_more (Yes index owner) done at.0.freed (λ i o e. absurd (cc)) }, at.1, record { before = done; is = refl }, still_one (Asks index owner) (Yes index owner) done (by_latest (Asks index owner) done at.2)))
+          goes_on scene (Recover mode) (recover_at c mode (recovers.TheVariants.EmptiesCell index owner)) None false telling here (λ start w. refl) tells_does (at.2, tt) (omega arith) (
+            refl,
+            refl,
+            (
+              record {
+                within = at.0.within;
+                asked = asks_more (index + 1) (Yes index owner) done at.0.asked tt;
+                freed = freed_more (Yes index owner) done at.0.freed
+                    (λ i o e. absurd (cc));
+              },
+              at.1,
+              record { before = done; is = refl },
+              still_one (Asks index owner) (Yes index owner) done (by_latest (Asks index owner) done at.2),
+            ),
+          )
           (record {
             paid = omega arith;
             scanned = tt;
@@ -310,13 +328,15 @@ module _ {T : Type 0} (scene : Scene T) (inv : Inv scene) (mode : ReleaseMode) (
     decided : (answer : ℕ) → (answer ≢ 0 → is_dead owner events ≡ true) → AnswerOf scene (Recover mode) (recover_at c mode (recovers.TheVariants.Asks index owner)) None answer
     decided answer dead = go (answer == 0) refl
       where
-        go : (b : Bool) → (answer == 0) ≡ b → Lead None false (if b then [] else Told p index owner ∷ []) (if b then recover_comes_to (call_at (recovers.TheVariants.Asks index owner)) (index + 1) else GoOn (at_recover (call_at (recovers.TheVariants.Asks index owner)) (recovers.TheVariants.EmptiesCell index owner)))
+        go : (b : Bool) → (answer == 0) ≡ b → Lead None false (if b then [] else Told p index owner ∷ [])
+            (if b then recover_comes_to (call_at (recovers.TheVariants.Asks index owner)) (index + 1) else GoOn (at_recover (call_at (recovers.TheVariants.Asks index owner)) (recovers.TheVariants.EmptiesCell index owner)))
         go true t = says_no
         go false t = let other : answer ≢ 0 = grind (arith, nat_tests) in says_yes (dead other)
 
   -- ---- the exchange of a cell
 
-  module _ (index owner : ℕ) (at : RecoverAt c mode done (recovers.TheVariants.EmptiesCell index owner)) (s : steps ≤ 2 + index * for_index c mode + backs * for_back c mode) (k : Knows c (recover_at c mode (recovers.TheVariants.EmptiesCell index owner)) (now scene)) where
+  module _ (index owner : ℕ) (at : RecoverAt c mode done (recovers.TheVariants.EmptiesCell index owner)) (s : steps ≤ 2 + index * for_index c mode + backs * for_back c mode)
+      (k : Knows c (recover_at c mode (recovers.TheVariants.EmptiesCell index owner)) (now scene)) where
     abbrev exchange : Option Ask
     exchange = Some (exchanges (cell_word index) owner empty)
 
@@ -336,7 +356,8 @@ module _ {T : Type 0} (scene : Scene T) (inv : Inv scene) (mode : ReleaseMode) (
     misses other =
         let four = at_least_four c mode in
         let paid = k.paid in
-        comes_quietly index at.0.within (recovers.TheVariants.EmptiesCell index owner) exchange false (omega arith) (stays_same scene inv _ (fails_same ws (cell_word index) owner empty other)) (omega arith) at.0.asked at.0.freed k.says.0 k.says.1 (gone_already other)
+        comes_quietly index at.0.within (recovers.TheVariants.EmptiesCell index owner) exchange false (omega arith) (stays_same scene inv _ (fails_same ws (cell_word index) owner empty other))
+        (omega arith) at.0.asked at.0.freed k.says.0 k.says.1 (gone_already other)
 
     module _ (is : cell ws index ≡ owner) where
       filled : filled_of index events ≡ Some owner
@@ -364,8 +385,19 @@ module _ {T : Type 0} (scene : Scene T) (inv : Inv scene) (mode : ReleaseMode) (
       empties : Lead exchange false freeing (GoOn (at_recover (call_at (recovers.TheVariants.EmptiesCell index owner)) (recovers.TheVariants.Raises index raises.TheVariants.LoadsCounter)))
       empties =
           let paid = k.paid in
-          goes_on scene (Recover mode) (recover_at c mode (recovers.TheVariants.Raises index raises.TheVariants.LoadsCounter)) exchange false freeing here (λ start w. refl) frees_does (at.2, tt) (omega arith)
-          (refl, refl, (record { within = at.0.within; asked = asks_more (index + 1) (Frees index owner) done at.0.asked tt; freed = freed_more (Frees index owner) done at.0.freed asked_about }, record { index = index; owner = owner; latest = record { before = done; is = refl } }))
+          goes_on scene (Recover mode) (recover_at c mode (recovers.TheVariants.Raises index raises.TheVariants.LoadsCounter)) exchange false freeing here (λ start w. refl) frees_does (at.2, tt) (omega arith) (
+            refl,
+            refl,
+            (
+              record {
+                within = at.0.within;
+                asked = asks_more (index + 1) (Frees index owner) done at.0.asked tt;
+                freed = freed_more
+                    (Frees index owner) done at.0.freed asked_about;
+              },
+              record { index = index; owner = owner; latest = record { before = done; is = refl } },
+            ),
+          )
           (record {
             paid = omega arith;
             scanned = tt;
@@ -377,13 +409,16 @@ module _ {T : Type 0} (scene : Scene T) (inv : Inv scene) (mode : ReleaseMode) (
     empties_cell : StepOf scene (Recover mode) (recover_at c mode (recovers.TheVariants.EmptiesCell index owner))
     empties_cell = go (cell ws index == owner) refl
       where
-        go : (b : Bool) → (cell ws index == owner) ≡ b → Lead (Some (exchanges (cell_word index) owner empty)) false (if b then FreedOf p index owner ∷ [] else []) (if b then GoOn (at_recover (call_at (recovers.TheVariants.EmptiesCell index owner)) (recovers.TheVariants.Raises index raises.TheVariants.LoadsCounter)) else recover_comes_to (call_at (recovers.TheVariants.EmptiesCell index owner)) (index + 1))
+        go : (b : Bool) → (cell ws index == owner) ≡ b → Lead (Some (exchanges (cell_word index) owner empty)) false (if b then FreedOf p index owner ∷ [] else [])
+            (if b then GoOn (at_recover (call_at (recovers.TheVariants.EmptiesCell index owner)) (recovers.TheVariants.Raises index raises.TheVariants.LoadsCounter)) else recover_comes_to
+            (call_at (recovers.TheVariants.EmptiesCell index owner)) (index + 1))
         go true t = let is : cell ws index ≡ owner = grind (arith, nat_tests) in empties is
         go false t = let other : cell ws index ≢ owner = grind (arith, nat_tests) in misses other
 
   -- ---- the second look at the counter
 
-  loads_again : FreedWereAsked done → steps ≤ 1 + c * for_index c mode + backs * for_back c mode → Knows c (recover_at c mode recovers.TheVariants.LoadsCounterAgain) (now scene) → StepOf scene (Recover mode) (recover_at c mode recovers.TheVariants.LoadsCounterAgain)
+  loads_again : FreedWereAsked done → steps ≤ 1 + c * for_index c mode + backs * for_back c mode → Knows c (recover_at c mode recovers.TheVariants.LoadsCounterAgain) (now scene)
+      → StepOf scene (Recover mode) (recover_at c mode recovers.TheVariants.LoadsCounterAgain)
   loads_again freed s k = go (counter_of ws == locked) refl
     where
       recovered : HasRecovered p events
@@ -407,12 +442,14 @@ module _ {T : Type 0} (scene : Scene T) (inv : Inv scene) (mode : ReleaseMode) (
 
   -- ---- the raise of the counter
 
-  module _ (index : ℕ) (raise : Raise) (course : IsInCourse c index (index + 1) done) (just : HasJustFreed done) (s : steps ≤ 3 + raise_number raise + index * for_index c mode + backs * for_back c mode) (k : Knows c (recover_at c mode (recovers.TheVariants.Raises index raise)) (now scene)) where
+  module _ (index : ℕ) (raise : Raise) (course : IsInCourse c index (index + 1) done) (just : HasJustFreed done) (s : steps ≤ 3 + raise_number raise + index * for_index c mode + backs * for_back c mode)
+      (k : Knows c (recover_at c mode (recovers.TheVariants.Raises index raise)) (now scene)) where
     abbrev raises_to : Option Ask → Bool → After Raise ReleaseState → Type 0
     raises_to ask back r = Lead ask back [] (recover_raised (call_at (recovers.TheVariants.Raises index raise)) index mode r)
 
     -- it locks in the mode for that alone
-    goes_by_mode : (m : ReleaseMode) → mode ≡ m → (ask : Option Ask) → Stays scene (words_after ws ask) → IsPaid (sees scene ask false) → Few ask false 5 index → Lead ask false [] (recover_raised (call_at (recovers.TheVariants.Raises index raise)) index m (Done states.TheVariants.Unlocked))
+    goes_by_mode : (m : ReleaseMode) → mode ≡ m → (ask : Option Ask) → Stays scene (words_after ws ask) → IsPaid (sees scene ask false) → Few ask false 5 index
+        → Lead ask false [] (recover_raised (call_at (recovers.TheVariants.Raises index raise)) index m (Done states.TheVariants.Unlocked))
     goes_by_mode Default e ask stays paid few =
         let four = at_least_four c mode in
         comes_quietly index course.within (recovers.TheVariants.Raises index raise) ask false (omega arith) stays paid course.asked course.freed k.says.0 k.says.1 k.gone
@@ -426,7 +463,8 @@ module _ {T : Type 0} (scene : Scene T) (inv : Inv scene) (mode : ReleaseMode) (
         raise_step scene inv raises_to raise k.paid
         (λ number ask back same held few.
         let low = few (3 + index * for_index c mode) (for_back c mode) one (omega arith) in
-        goes_quietly scene inv (Recover mode) (recover_at c mode (recovers.TheVariants.Raises index (raises.TheVariants.ExchangesCounter number))) ask back here (stays_same scene inv (words_after ws ask) same) (omega arith) (refl, refl, (course, just))
+        goes_quietly scene inv (Recover mode) (recover_at c mode (recovers.TheVariants.Raises index (raises.TheVariants.ExchangesCounter number))) ask back here (stays_same scene inv (words_after ws ask) same)
+        (omega arith) (refl, refl, (course, just))
         (record { paid = held; scanned = tt; owns = tt; says = k.says; gone = k.gone }))
         (λ ask back same shut paid few.
         let low = few (3 + index * for_index c mode) (for_back c mode) one (omega arith) in
@@ -439,7 +477,8 @@ module _ {T : Type 0} (scene : Scene T) (inv : Inv scene) (mode : ReleaseMode) (
 
   -- ---- the lock
 
-  module _ (index : ℕ) (lock : Lock) (course : IsInCourse c index (index + 1) done) (just : HasJustFreed done) (may_lock : mode ≡ LockIfLastIndex) (at : LockAt c lock) (s : steps ≤ 5 + lock_number c lock + index * for_index c mode + backs * for_back c mode) (k : Knows c (recover_at c mode (recovers.TheVariants.Locks index lock)) (now scene)) where
+  module _ (index : ℕ) (lock : Lock) (course : IsInCourse c index (index + 1) done) (just : HasJustFreed done) (may_lock : mode ≡ LockIfLastIndex) (at : LockAt c lock)
+      (s : steps ≤ 5 + lock_number c lock + index * for_index c mode + backs * for_back c mode) (k : Knows c (recover_at c mode (recovers.TheVariants.Locks index lock)) (now scene)) where
     abbrev locks_to : Option Ask → Bool → List (Event T) → After Lock ReleaseState → Type 0
     locks_to ask back did r = Lead ask back did (recover_locked (call_at (recovers.TheVariants.Locks index lock)) index r)
 
@@ -455,7 +494,8 @@ module _ {T : Type 0} (scene : Scene T) (inv : Inv scene) (mode : ReleaseMode) (
     abbrev locking : List (Event T)
     locking = Locked p ∷ []
 
-    module _ (ask : Option Ask) (none : IsProper events → (i : ℕ) → holder_of i events ≡ None) (open_now : counter_of ws ≢ locked) (new : words_after ws ask ≡ set ws 0 locked) (paid : IsPaid (sees scene ask false)) (few : Few ask false 1 (index + 1)) where
+    module _ (ask : Option Ask) (none : IsProper events → (i : ℕ) → holder_of i events ≡ None) (open_now : counter_of ws ≢ locked) (new : words_after ws ask ≡ set ws 0 locked) (paid : IsPaid (sees scene ask false))
+        (few : Few ask false 1 (index + 1)) where
       locks_does : Does scene (words_after ws ask) locking
       locks_does = locks scene inv (words_after ws ask) [] quiet_none tt tt tt none open_now new
 
@@ -502,10 +542,14 @@ module _ {T : Type 0} (scene : Scene T) (inv : Inv scene) (mode : ReleaseMode) (
   recover_step (recovers.TheVariants.Raises index raises.TheVariants.LoadsCounter) at k s = raises_step index raises.TheVariants.LoadsCounter at.0 at.1 s k
   recover_step (recovers.TheVariants.Raises index (raises.TheVariants.ExchangesCounter number)) at k s = raises_step index (raises.TheVariants.ExchangesCounter number) at.0 at.1 s k
   recover_step (recovers.TheVariants.Locks index (parts.TheVariants.Counts counts.TheVariants.LoadsCounter)) at k s = locks_step index (parts.TheVariants.Counts counts.TheVariants.LoadsCounter) at.0 at.1 at.2 at.3 s k
-  recover_step (recovers.TheVariants.Locks index (parts.TheVariants.Counts (counts.TheVariants.LoadsCell number i filled))) at k s = locks_step index (parts.TheVariants.Counts (counts.TheVariants.LoadsCell number i filled)) at.0 at.1 at.2 at.3 s k
-  recover_step (recovers.TheVariants.Locks index (parts.TheVariants.Counts (counts.TheVariants.ExchangesCounter number filled))) at k s = locks_step index (parts.TheVariants.Counts (counts.TheVariants.ExchangesCounter number filled)) at.0 at.1 at.2 at.3 s k
+  recover_step (recovers.TheVariants.Locks index (parts.TheVariants.Counts (counts.TheVariants.LoadsCell number i filled))) at k s = locks_step index
+      (parts.TheVariants.Counts (counts.TheVariants.LoadsCell number i filled)) at.0 at.1 at.2 at.3 s k
+  recover_step (recovers.TheVariants.Locks index (parts.TheVariants.Counts (counts.TheVariants.ExchangesCounter number filled))) at k s = locks_step index
+      (parts.TheVariants.Counts (counts.TheVariants.ExchangesCounter number filled)) at.0 at.1 at.2 at.3 s k
   recover_step (recovers.TheVariants.Locks index (parts.TheVariants.ExchangesCounter number)) at k s = locks_step index (parts.TheVariants.ExchangesCounter number) at.0 at.1 at.2 at.3 s k
   recover_step recovers.TheVariants.LoadsCounterAgain at k s = loads_again at s k
 
-  pub recover_decided : (index owner : ℕ) → RecoverAt c mode (all scene) (recovers.TheVariants.Asks index owner) → Knows c (recover_at c mode (recovers.TheVariants.Asks index owner)) (now scene) → steps ≤ recover_number c mode (recovers.TheVariants.Asks index owner) backs → (answer : ℕ) → (answer ≢ 0 → is_dead owner events ≡ true) → AnswerOf scene (Recover mode) (recover_at c mode (recovers.TheVariants.Asks index owner)) None answer
+  pub recover_decided : (index owner : ℕ) → RecoverAt c mode (all scene) (recovers.TheVariants.Asks index owner) → Knows c (recover_at c mode (recovers.TheVariants.Asks index owner)) (now scene)
+      → steps ≤ recover_number c mode (recovers.TheVariants.Asks index owner) backs → (answer : ℕ) → (answer ≢ 0 → is_dead owner events ≡ true)
+      → AnswerOf scene (Recover mode) (recover_at c mode (recovers.TheVariants.Asks index owner)) None answer
   recover_decided index owner at k s answer dead = decided index owner at k s answer dead

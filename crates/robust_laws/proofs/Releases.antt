@@ -52,10 +52,6 @@ use Rattle.robust_laws.proofs.Parts.{raise_ask, lock_ask, raise_step, lock_step,
 use Rattle.robust_laws.proofs.Rights.{IsBy}
 use Rattle.robust_laws.proofs.Stages.{IsHere, all, now, exchanges, fails_same, exchange_sets, StepOf, Leads, goes_on, ends, goes_quietly, ends_quietly}
 
-at_least_one : (c : ℕ) (mode : ReleaseMode) → 1 ≤ for_back c mode
-at_least_one c Default = omega arith
-at_least_one c LockIfLastIndex = omega arith
-
 first_few : (c index owner backs n : ℕ) (mode : ReleaseMode) → n ≤ 1 → n ≤ most_steps c (Release index owner mode) backs
 first_few c index owner backs n Default h = omega arith
 first_few c index owner backs n LockIfLastIndex h = omega arith
@@ -64,7 +60,8 @@ not_owned_done : (T : Type 0) (index owner : ℕ) (mode : ReleaseMode) (failure 
 not_owned_done T index owner Default failure done none = none
 not_owned_done T index owner LockIfLastIndex failure done none = none
 
-not_owned_right : {T : Type 0} (c p index owner : ℕ) (mode : ReleaseMode) (failure : RobustUniqueIndexSetReleaseError) (events : List (Event T)) → filled_of index events ≢ Some owner → AnswersRight c events (Finished p (Robust (Release index owner mode)) (NotOwned failure))
+not_owned_right : {T : Type 0} (c p index owner : ℕ) (mode : ReleaseMode) (failure : RobustUniqueIndexSetReleaseError) (events : List (Event T)) → filled_of index events ≢ Some owner
+    → AnswersRight c events (Finished p (Robust (Release index owner mode)) (NotOwned failure))
 not_owned_right c p index owner Default failure events other = other
 not_owned_right c p index owner LockIfLastIndex failure events other = other
 
@@ -119,7 +116,8 @@ module _ {T : Type 0} (scene : Scene T) (inv : Inv scene) (index owner : ℕ) wh
       empties_step : StepOf scene (Release index owner mode) (release_at c index owner mode releases.TheVariants.EmptiesCell)
       empties_step = go (cell ws index == owner) refl
         where
-          go : (b : Bool) → (cell ws index == owner) ≡ b → Lead mode (Some (exchanges (cell_word index) owner empty)) false (if b then FreedOf p index owner ∷ [] else []) (if b then GoOn (at_release (call_at releases.TheVariants.EmptiesCell) (releases.TheVariants.Raises raises.TheVariants.LoadsCounter)) else Done (Err IndexIsNotOwnedByProvidedOwner))
+          go : (b : Bool) → (cell ws index == owner) ≡ b → Lead mode (Some (exchanges (cell_word index) owner empty)) false (if b then FreedOf p index owner ∷ [] else [])
+              (if b then GoOn (at_release (call_at releases.TheVariants.EmptiesCell) (releases.TheVariants.Raises raises.TheVariants.LoadsCounter)) else Done (Err IndexIsNotOwnedByProvidedOwner))
           go true t = let is : cell ws index ≡ owner = grind (arith, nat_tests) in empties is
           go false t = let other : cell ws index ≢ owner = grind (arith, nat_tests) in refuses other
 
@@ -135,7 +133,8 @@ module _ {T : Type 0} (scene : Scene T) (inv : Inv scene) (index owner : ℕ) wh
           raise_step scene inv (raises_to Default) raise k.paid
           (λ number ask back same held few.
           let low = few 1 1 (omega arith) s in
-          goes_quietly scene inv (Release index owner Default) (release_at c index owner Default (releases.TheVariants.Raises (raises.TheVariants.ExchangesCounter number))) ask back here (stays_same scene inv (words_after ws ask) same) low (refl, refl, fits, below, done)
+          goes_quietly scene inv (Release index owner Default) (release_at c index owner Default (releases.TheVariants.Raises (raises.TheVariants.ExchangesCounter number))) ask back here
+          (stays_same scene inv (words_after ws ask) same) low (refl, refl, fits, below, done)
           (record { paid = held; scanned = tt; owns = tt; says = tt; gone = tt }))
           (λ ask back same shut paid few.
           let low = few 1 1 (omega arith) s in
@@ -147,20 +146,24 @@ module _ {T : Type 0} (scene : Scene T) (inv : Inv scene) (index owner : ℕ) wh
           raise_step scene inv (raises_to LockIfLastIndex) raise k.paid
           (λ number ask back same held few.
           let low = few 1 (c + 3) (omega arith) s in
-          goes_quietly scene inv (Release index owner LockIfLastIndex) (release_at c index owner LockIfLastIndex (releases.TheVariants.Raises (raises.TheVariants.ExchangesCounter number))) ask back here (stays_same scene inv (words_after ws ask) same) low (refl, refl, fits, below, done)
+          goes_quietly scene inv (Release index owner LockIfLastIndex) (release_at c index owner LockIfLastIndex (releases.TheVariants.Raises (raises.TheVariants.ExchangesCounter number))) ask back here
+          (stays_same scene inv (words_after ws ask) same) low (refl, refl, fits, below, done)
           (record { paid = held; scanned = tt; owns = tt; says = tt; gone = tt }))
           (λ ask back same shut paid few.
           let low = few 1 (c + 3) (omega arith) s in
-          goes_quietly scene inv (Release index owner LockIfLastIndex) (release_at c index owner LockIfLastIndex (releases.TheVariants.Locks first_lock)) ask back here (stays_same scene inv (words_after ws ask) same) low (refl, refl, fits, below, (refl, tt, done))
+          goes_quietly scene inv (Release index owner LockIfLastIndex) (release_at c index owner LockIfLastIndex (releases.TheVariants.Locks first_lock)) ask back here (stays_same scene inv (words_after ws ask) same) low
+          (refl, refl, fits, below, (refl, tt, done))
           (record { paid = paid; scanned = tt; owns = tt; says = tt; gone = tt }))
           (λ ask open_now new paid few.
           let low = few 1 (c + 3) (omega arith) s in
-          goes_quietly scene inv (Release index owner LockIfLastIndex) (release_at c index owner LockIfLastIndex (releases.TheVariants.Locks first_lock)) ask false here (stays_raised scene inv (words_after ws ask) open_now new) low (refl, refl, fits, below, (refl, tt, done))
+          goes_quietly scene inv (Release index owner LockIfLastIndex) (release_at c index owner LockIfLastIndex (releases.TheVariants.Locks first_lock)) ask false here
+          (stays_raised scene inv (words_after ws ask) open_now new) low (refl, refl, fits, below, (refl, tt, done))
           (record { paid = paid; scanned = tt; owns = tt; says = tt; gone = tt }))
 
     -- ---- the lock
 
-    module _ (lock : Lock) (here : IsHere scene (Release index owner LockIfLastIndex)) (at : LockAt c lock) (done : all scene ≡ Frees index owner ∷ []) (s : steps ≤ 3 + lock_number c lock + backs * (c + 3)) (k : Knows c (release_at c index owner LockIfLastIndex (releases.TheVariants.Locks lock)) (now scene)) where
+    module _ (lock : Lock) (here : IsHere scene (Release index owner LockIfLastIndex)) (at : LockAt c lock) (done : all scene ≡ Frees index owner ∷ []) (s : steps ≤ 3 + lock_number c lock + backs * (c + 3))
+        (k : Knows c (release_at c index owner LockIfLastIndex (releases.TheVariants.Locks lock)) (now scene)) where
       abbrev locks_to : Option Ask → Bool → List (Event T) → After Lock ReleaseState → Type 0
       locks_to ask back did r = Lead LockIfLastIndex ask back did (release_locked (call_at (releases.TheVariants.Locks lock)) r)
 
@@ -191,24 +194,30 @@ module _ {T : Type 0} (scene : Scene T) (inv : Inv scene) (index owner : ℕ) wh
           (record { paid = paid; scanned = scanned; owns = tt; says = says; gone = tt }))
           (λ ask same shut paid few.
           let low = few 3 (c + 3) (omega arith) s in
-          ends_quietly scene inv (Release index owner LockIfLastIndex) (State states.TheVariants.Locked) ask false here (stays_same scene inv (words_after ws ask) same) (λ j o. refl) (λ j r. refl) (is_shut scene inv shut) (inl done) (omega arith) paid)
+          ends_quietly scene inv (Release index owner LockIfLastIndex) (State states.TheVariants.Locked) ask false here (stays_same scene inv (words_after ws ask) same) (λ j o. refl) (λ j r. refl)
+          (is_shut scene inv shut) (inl done) (omega arith) paid)
           (λ filled ask stays more says paid few.
           let low = few 3 (c + 3) (omega arith) s in
           ends_quietly scene inv (Release index owner LockIfLastIndex) (State states.TheVariants.Unlocked) ask false here stays (λ j o. refl) (λ j r. refl) (says more) done (omega arith) paid)
           (λ ask none open_now new paid few.
           let low = few 3 (c + 3) (omega arith) s in
           ends scene (Release index owner LockIfLastIndex) (State states.TheVariants.Locked) ask false (Locked p ∷ []) here (λ start w. refl)
-          (locks scene inv (words_after ws ask) (Finished p (Robust (Release index owner LockIfLastIndex)) (State states.TheVariants.Locked) ∷ []) (quiet_end p (Release index owner LockIfLastIndex) (State states.TheVariants.Locked) (λ j o. refl) (λ j r. refl)) (refl, tt) (tt, tt) (now_locked, tt) none open_now new)
+          (locks scene inv (words_after ws ask) (Finished p (Robust (Release index owner LockIfLastIndex)) (State states.TheVariants.Locked) ∷ [])
+          (quiet_end p (Release index owner LockIfLastIndex) (State states.TheVariants.Locked) (λ j o. refl) (λ j r. refl)) (refl, tt) (tt, tt) (now_locked, tt) none open_now new)
           (done, ((refl, inr all_done), tt)) (omega arith) paid)
 
   -- ---- any step
 
-  pub release_step : (mode : ReleaseMode) → owner < empty → index < c → is_dead owner events ≡ false → IsHere scene (Release index owner mode) → (stage : ReleaseStage) → ReleaseAt c index owner mode (all scene) stage → Knows c (release_at c index owner mode stage) (now scene) → steps ≤ release_number c mode stage backs → StepOf scene (Release index owner mode) (release_at c index owner mode stage)
+  pub release_step : (mode : ReleaseMode) → owner < empty → index < c → is_dead owner events ≡ false → IsHere scene (Release index owner mode) → (stage : ReleaseStage) → ReleaseAt c index owner mode (all scene) stage
+      → Knows c (release_at c index owner mode stage) (now scene) → steps ≤ release_number c mode stage backs → StepOf scene (Release index owner mode) (release_at c index owner mode stage)
   release_step mode fits below alive here releases.TheVariants.EmptiesCell at k s = empties_step fits below alive mode here at s k
   release_step mode fits below alive here (releases.TheVariants.Raises raises.TheVariants.LoadsCounter) at k s = raises_step fits below alive raises.TheVariants.LoadsCounter at mode here s k
   release_step mode fits below alive here (releases.TheVariants.Raises (raises.TheVariants.ExchangesCounter number)) at k s = raises_step fits below alive (raises.TheVariants.ExchangesCounter number) at mode here s k
   release_step Default fits below alive here (releases.TheVariants.Locks lock) at k s = let mode = at.0 in absurd (cc)
-  release_step LockIfLastIndex fits below alive here (releases.TheVariants.Locks (parts.TheVariants.Counts counts.TheVariants.LoadsCounter)) at k s = locks_step fits below alive (parts.TheVariants.Counts counts.TheVariants.LoadsCounter) here at.1 at.2 s k
-  release_step LockIfLastIndex fits below alive here (releases.TheVariants.Locks (parts.TheVariants.Counts (counts.TheVariants.LoadsCell number j filled))) at k s = locks_step fits below alive (parts.TheVariants.Counts (counts.TheVariants.LoadsCell number j filled)) here at.1 at.2 s k
-  release_step LockIfLastIndex fits below alive here (releases.TheVariants.Locks (parts.TheVariants.Counts (counts.TheVariants.ExchangesCounter number filled))) at k s = locks_step fits below alive (parts.TheVariants.Counts (counts.TheVariants.ExchangesCounter number filled)) here at.1 at.2 s k
+  release_step LockIfLastIndex fits below alive here (releases.TheVariants.Locks (parts.TheVariants.Counts counts.TheVariants.LoadsCounter)) at k s = locks_step fits below alive
+      (parts.TheVariants.Counts counts.TheVariants.LoadsCounter) here at.1 at.2 s k
+  release_step LockIfLastIndex fits below alive here (releases.TheVariants.Locks (parts.TheVariants.Counts (counts.TheVariants.LoadsCell number j filled))) at k s = locks_step fits below alive
+      (parts.TheVariants.Counts (counts.TheVariants.LoadsCell number j filled)) here at.1 at.2 s k
+  release_step LockIfLastIndex fits below alive here (releases.TheVariants.Locks (parts.TheVariants.Counts (counts.TheVariants.ExchangesCounter number filled))) at k s = locks_step fits below alive
+      (parts.TheVariants.Counts (counts.TheVariants.ExchangesCounter number filled)) here at.1 at.2 s k
   release_step LockIfLastIndex fits below alive here (releases.TheVariants.Locks (parts.TheVariants.ExchangesCounter number)) at k s = locks_step fits below alive (parts.TheVariants.ExchangesCounter number) here at.1 at.2 s k

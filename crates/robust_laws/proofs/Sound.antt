@@ -53,7 +53,7 @@ use Rattle.model.specs.Step.{Step}
 use Rattle.model.specs.Turns.{old_of, words_after, change_of, number_of, party_at_begin, party_after, events_of_step, IsReached}
 use Rattle.model.specs.World.{Trace, opening, capacity_error}
 use Rattle.model.proofs.Frame as frame
-use Rattle.model.proofs.Readings.{Each-nil, span_of-own, span_of-death}
+use Rattle.model.proofs.Readings.{no_more, Each-nil, span_of-own, span_of-death}
 use Rattle.model.proofs.Rows.{row_passed, MayBegin, MayDie}
 use Rattle.model.proofs.Scenes.{asked, StandsThere, stands_there, ComesFrom, comes_from}
 use Rattle.robust_laws.proofs.Acquires.{acquire_step}
@@ -124,7 +124,8 @@ module _ {T : Type 0} (scene : Scene T) (inv : Inv scene) where
       subst (Moves (starts.TheVariants.Acquire owner)) (sym (ap (λ n. acquire_at n run.given run.call.stage) at.0 ∙ ap (λ o. acquire_at c o run.call.stage) at.1))
       (λ alive s k. acquire_step scene inv owner at.2 (lives owner alive) here run.call.stage at.3 k s)
   step_moves (starts.TheVariants.Release index owner mode) (calls.TheVariants.Release run) here at =
-      subst (Moves (starts.TheVariants.Release index owner mode)) (sym (ap (λ n. calls.TheVariants.Release (record { call = record { capacity = n; stage = run.call.stage }; given = run.given; room = tt })) at.0 ∙ ap (λ (o : GiveBack). calls.TheVariants.Release (record { call = record { capacity = c; stage = run.call.stage }; given = o; room = tt })) at.1))
+      subst (Moves (starts.TheVariants.Release index owner mode)) (sym (ap (λ n. calls.TheVariants.Release (record { call = record { capacity = n; stage = run.call.stage }; given = run.given; room = tt })) at.0 ∙ ap
+      (λ (o : GiveBack). calls.TheVariants.Release (record { call = record { capacity = c; stage = run.call.stage }; given = o; room = tt })) at.1))
       (λ alive s k. release_step scene inv index owner mode at.2 at.3 (lives owner alive) here run.call.stage at.4 k s)
   step_moves (starts.TheVariants.Find owner) (calls.TheVariants.Find run) here at =
       subst (Moves (starts.TheVariants.Find owner)) (sym (ap (λ n. find_at n run.given run.call.stage) at.0 ∙ ap (λ o. find_at c o run.call.stage) at.1))
@@ -163,7 +164,8 @@ module _ {T : Type 0} (scene : Scene T) (inv : Inv scene) where
 
   pub decision_moves : (said : Bool) (start : RobustStart) (flight : RobustFlight) → IsHere scene start → At c (all scene) start flight → Decides said start flight
   decision_moves said (starts.TheVariants.Acquire owner) (calls.TheVariants.Acquire run) here at = λ frees asks s k. both_ways (is_question (acquire_asks run.call.stage run.given)) (acquire_asks_none run.call.stage run.given) asks
-  decision_moves said (starts.TheVariants.Release index owner mode) (calls.TheVariants.Release run) here at = λ frees asks s k. both_ways (is_question (release_asks run.call.stage run.given)) (release_asks_none run.call.stage run.given) asks
+  decision_moves said (starts.TheVariants.Release index owner mode) (calls.TheVariants.Release run) here at = λ frees asks s k. both_ways (is_question (release_asks run.call.stage run.given))
+      (release_asks_none run.call.stage run.given) asks
   decision_moves said (starts.TheVariants.Find owner) (calls.TheVariants.Find run) here at =
       subst (Decides said (starts.TheVariants.Find owner)) (sym (ap (λ n. find_at n run.given run.call.stage) at.0 ∙ ap (λ o. find_at c o run.call.stage) at.1))
       (find_decides said owner at.2 here run.call.stage at.3)
@@ -180,12 +182,8 @@ record IsFirst (T : Type 0) (c : ℕ) (words : List ℕ) (events : List (Event T
   pub at : At c [] start flight
   pub knows : Knows c flight (view words (events ++ Begun p (Robust start) ∷ []) p changes changes 0)
 
-nothing_of : (one : Deed) (before after : List Deed) → [] ≡ before ++ one ∷ after → ⊥
-nothing_of one [] after e = cc
-nothing_of one (x ∷ xs) after e = cc
-
 none_of : {A : Type 0} (one : Deed) (done : List Deed) → done ≡ [] → IsOneOf one done → A
-none_of one done none h = absurd (nothing_of one h.before h.after (sym none ∙ h.is))
+none_of one done none h = absurd (no_more h.before one h.after (sym none ∙ h.is))
 
 is_below : (owner : ℕ) → is_owner owner ≡ true → owner < empty
 is_below owner t = grind (arith, nat_tests)
@@ -205,7 +203,8 @@ module _ {T : Type 0} (c : ℕ) (words : List ℕ) (events : List (Event T)) (p 
             record {
               paid = omega arith;
               scanned = tt;
-              owns = λ proper alive began. taken index owner mode (owned (proper_less events (Begun p (Robust (starts.TheVariants.Release index owner mode)) ∷ []) proper)) (since_begun p (λ part. settled_of index part ≡ Some owner) events (Robust (starts.TheVariants.Release index owner mode)) began);
+              owns = λ proper alive began. taken index owner mode (owned (proper_less events (Begun p (Robust (starts.TheVariants.Release index owner mode)) ∷ []) proper))
+                  (since_begun p (λ part. settled_of index part ≡ Some owner) events (Robust (starts.TheVariants.Release index owner mode)) began);
               says = tt;
               gone = tt;
             };
@@ -219,9 +218,29 @@ module _ {T : Type 0} (c : ℕ) (words : List ℕ) (events : List (Event T)) (p 
             filled = fold-append (filled_after index) None events (Begun p (Robust (starts.TheVariants.Release index owner mode)) ∷ []) ∙ k.0;
           }
   first_is (starts.TheVariants.Find owner) named dead r none =
-      record { at = (refl, refl, is_below owner named, (omega arith, refl)); knows = record { paid = omega arith; scanned = tt; owns = tt; says = count_none p (IsFilledWith owner) (events ++ Begun p (Robust (starts.TheVariants.Find owner)) ∷ []); gone = tt } }
+      record {
+        at = (refl, refl, is_below owner named, (omega arith, refl));
+        knows = record {
+          paid = omega arith;
+          scanned = tt;
+          owns = tt;
+          says = count_none p (IsFilledWith owner)
+              (events ++ Begun p (Robust (starts.TheVariants.Find owner)) ∷ []);
+          gone = tt;
+        };
+      }
   first_is (starts.TheVariants.Recover mode) named dead r none =
-      record { at = (refl, refl, refl); knows = record { paid = omega arith; scanned = tt; owns = tt; says = tt; gone = λ i owner told. none_of (Yes i owner) (deeds_of p (events ++ Begun p (Robust (starts.TheVariants.Recover mode)) ∷ [])) none told } }
+      record {
+        at = (refl, refl, refl);
+        knows = record {
+          paid = omega arith;
+          scanned = tt;
+          owns = tt;
+          says = tt;
+          gone = λ i owner told. none_of (Yes i owner)
+              (deeds_of p (events ++ Begun p (Robust (starts.TheVariants.Recover mode)) ∷ [])) none told;
+        };
+      }
   first_is starts.TheVariants.BorrowedIndices named dead r none =
       record { at = (refl, tt, refl); knows = record { paid = omega arith; scanned = tt; owns = tt; says = tt; gone = tt } }
   first_is starts.TheVariants.IsLocked named dead r none =
@@ -282,7 +301,8 @@ module _ {T : Type 0} (code : Coding T) (c : ℕ) (t : Trace T) (s : frame.Sound
         }
 
     -- the rows that it has passed
-    pub passes : (flight : RobustFlight) (said : Option Bool) → first_row (going_rows t.world.coding t.world.kept (Some (flights.TheVariants.Robust flight)) said) ≡ None → (acts_for_dead s.state.dead flight ≡ false) × (frees_living s.state.dead flight said ≡ false)
+    pub passes : (flight : RobustFlight) (said : Option Bool) → first_row (going_rows t.world.coding t.world.kept (Some (flights.TheVariants.Robust flight)) said) ≡ None
+        → (acts_for_dead s.state.dead flight ≡ false) × (frees_living s.state.dead flight said ≡ false)
     passes flight said r =
         let is = kept_is t.world.kept t.world.words s.state s.fit in
         let own : first_row (rows.going_rows s.state.dead flight said) ≡ None = subst (λ kept. first_row (rows.kept_going_rows flight kept said) ≡ None) is.0 r in
@@ -292,7 +312,8 @@ module _ {T : Type 0} (code : Coding T) (c : ℕ) (t : Trace T) (s : frame.Sound
 
     -- ---- a step
 
-    comes : (start : Start T) (flight : Flight T) → first_row (going_rows t.world.coding t.world.kept (Some flight) None) ≡ None → StandsThere (family code c) t s p x since start flight → ComesFrom (family code c) t s p x since code s.state.words (kepts.TheVariants.Owners s.state.dead) start flight
+    comes : (start : Start T) (flight : Flight T) → first_row (going_rows t.world.coding t.world.kept (Some flight) None) ≡ None → StandsThere (family code c) t s p x since start flight
+        → ComesFrom (family code c) t s p x since code s.state.words (kepts.TheVariants.Owners s.state.dead) start flight
     comes (Robust start) (flights.TheVariants.Robust flight) r h =
         let there = is_there start flight h in
         let moves = step_moves (scene_of p x since) inv_of start flight there.here there.at (passes flight None r).0 there.steps there.knows in
@@ -304,7 +325,8 @@ module _ {T : Type 0} (code : Coding T) (c : ℕ) (t : Trace T) (s : frame.Sound
         }
     comes start flight r h = absurd h.at
 
-    pub step_comes : (flight : Flight T) → first_row (going_rows t.world.coding t.world.kept (Some flight) None) ≡ None → x.doing ≡ Going flight since → frame.ComesByStep (family code c) t p x flight since (asked t.world.coding flight) (old_of t.world.words (asked t.world.coding flight))
+    pub step_comes : (flight : Flight T) → first_row (going_rows t.world.coding t.world.kept (Some flight) None) ≡ None → x.doing ≡ Going flight since
+        → frame.ComesByStep (family code c) t p x flight since (asked t.world.coding flight) (old_of t.world.words (asked t.world.coding flight))
     step_comes flight r doing =
         let is = kept_is t.world.kept t.world.words s.state s.fit in
         comes_from (family code c) t s p x since s.state.words (kepts.TheVariants.Owners s.state.dead) flight is.1 is.0 (comes x.start flight r (stands_there (family code c) t s p x since flight found doing))
@@ -322,7 +344,8 @@ module _ {T : Type 0} (code : Coding T) (c : ℕ) (t : Trace T) (s : frame.Sound
         (events_of_step p start (decided answer words kept start flight))
         (t.world.changes + change_of words None)
 
-    decides : (said : Bool) (start : Start T) (flight : Flight T) → first_row (going_rows t.world.coding t.world.kept (Some flight) (Some said)) ≡ None → is_question (want_of t.world.coding flight) ≡ true → StandsThere (family code c) t s p x since start flight → DecidesFrom (number_of said) s.state.words (kepts.TheVariants.Owners s.state.dead) start flight
+    decides : (said : Bool) (start : Start T) (flight : Flight T) → first_row (going_rows t.world.coding t.world.kept (Some flight) (Some said)) ≡ None → is_question (want_of t.world.coding flight) ≡ true
+        → StandsThere (family code c) t s p x since start flight → DecidesFrom (number_of said) s.state.words (kepts.TheVariants.Owners s.state.dead) start flight
     decides said (Robust start) (flights.TheVariants.Robust flight) r asks h =
         let there = is_there start flight h in
         let moves = decision_moves (scene_of p x since) inv_of said start flight there.here there.at (passes flight (Some said) r).1 asks there.steps there.knows in
@@ -334,7 +357,8 @@ module _ {T : Type 0} (code : Coding T) (c : ℕ) (t : Trace T) (s : frame.Sound
         }
     decides said start flight r asks h = absurd h.at
 
-    pub decision_comes : (flight : Flight T) (said : Bool) → first_row (going_rows t.world.coding t.world.kept (Some flight) (Some said)) ≡ None → is_question (want_of t.world.coding flight) ≡ true → x.doing ≡ Going flight since → frame.ComesByStep (family code c) t p x flight since None (number_of said)
+    pub decision_comes : (flight : Flight T) (said : Bool) → first_row (going_rows t.world.coding t.world.kept (Some flight) (Some said)) ≡ None → is_question (want_of t.world.coding flight) ≡ true
+        → x.doing ≡ Going flight since → frame.ComesByStep (family code c) t p x flight since None (number_of said)
     decision_comes flight said r asks doing =
         let is = kept_is t.world.kept t.world.words s.state s.fit in
         subst (λ ws. DecidesFrom (number_of said) ws t.world.kept x.start flight) (sym is.1)
@@ -344,7 +368,8 @@ module _ {T : Type 0} (code : Coding T) (c : ℕ) (t : Trace T) (s : frame.Sound
   -- ---- a call begins
 
   module _ (p : ℕ) where
-    begins_now : (start : RobustStart) (flight : RobustFlight) → IsFirst T c s.state.words t.events p t.world.changes start flight → span_of p (t.events ++ Begun p (Robust start) ∷ []) ≡ Open (Robust start) [] → MayBegin t.world p (Robust start)
+    begins_now : (start : RobustStart) (flight : RobustFlight) → IsFirst T c s.state.words t.events p t.world.changes start flight → span_of p (t.events ++ Begun p (Robust start) ∷ []) ≡ Open (Robust start) []
+        → MayBegin t.world p (Robust start)
         → frame.Comes (family code c) t p t.world.kept t.world.words (party_at_begin (Robust start) (flights.TheVariants.Robust flight) t.world.changes) (Begun p (Robust start) ∷ []) t.world.changes
     begins_now start flight known span may =
         let y : Party T = party_at_begin (Robust start) (flights.TheVariants.Robust flight) t.world.changes in
@@ -380,8 +405,10 @@ module _ {T : Type 0} (code : Coding T) (c : ℕ) (t : Trace T) (s : frame.Sound
         let is = kept_is t.world.kept t.world.words s.state s.fit in
         let listed : first_row (kept_rows t.world.capacity start (kepts.TheVariants.Owners s.state.dead) p) ≡ None = subst (λ kept. first_row (kept_rows t.world.capacity start kept p) ≡ None) is.0 may.rows in
         let passed : first_row (call_rows c s.state.dead start) ≡ None = subst (λ n. first_row (call_rows n s.state.dead start) ≡ None) s.capacity listed in
-        let named : first_of {T = T} kinds.TheVariants.Robust t.world.capacity (Robust start) ≡ Some (flights.TheVariants.Robust flight) = subst (λ kind. first_of {T = T} kind t.world.capacity (Robust start) ≡ Some (flights.TheVariants.Robust flight)) s.kind e in
-        let own : IsOwn T c (Robust start) (flights.TheVariants.Robust flight) = subst (λ n. IsOwn T n (Robust start) (flights.TheVariants.Robust flight)) s.capacity (begins_own T t.world.capacity (Robust start) (flights.TheVariants.Robust flight) named) in
+        let named : first_of {T = T} kinds.TheVariants.Robust t.world.capacity (Robust start) ≡ Some (flights.TheVariants.Robust flight) = subst
+        (λ kind. first_of {T = T} kind t.world.capacity (Robust start) ≡ Some (flights.TheVariants.Robust flight)) s.kind e in
+        let own : IsOwn T c (Robust start) (flights.TheVariants.Robust flight) = subst (λ n. IsOwn T n (Robust start) (flights.TheVariants.Robust flight)) s.capacity
+        (begins_own T t.world.capacity (Robust start) (flights.TheVariants.Robust flight) named) in
         let g = s.holds.good in
         begins_now start flight
         (subst (λ f. IsFirst T c s.state.words t.events p t.world.changes start f) own.0 (first_is c s.state.words t.events p t.world.changes g.some g.owned start own.1 s.state.dead passed (ap (λ a. deeds (wrote_in a)) (span_begun start))))
@@ -392,7 +419,8 @@ module _ {T : Type 0} (code : Coding T) (c : ℕ) (t : Trace T) (s : frame.Sound
 
   -- ---- an owner dies
 
-  fit_death : (kept : Kept) (words : List ℕ) (state : RobustSet T) (o : ℕ) (events : List (Event T)) → Fit kept words state → Fit (kept_after_death kept o) words (record { words = state.words; dead = dead_with o state.dead; events = events })
+  fit_death : (kept : Kept) (words : List ℕ) (state : RobustSet T) (o : ℕ) (events : List (Event T)) → Fit kept words state
+      → Fit (kept_after_death kept o) words (record { words = state.words; dead = dead_with o state.dead; events = events })
   fit_death (kepts.TheVariants.Owners dead) words state o events fit = (fit.0, ap (dead_with o) fit.1)
   fit_death kept words state o events fit = absurd fit
 

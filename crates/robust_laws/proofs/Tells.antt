@@ -60,7 +60,8 @@ module _ {T : Type 0} where
     pub name : start ≡ start'
     pub done : outcome ≡ Some answer
 
-  ends_alone : (turn : Turn T) (q p : ℕ) (es : List (Event T)) (start start' : Start T) (outcome : Option (Answer T)) (answer : Answer T) → AllByRecursion (IsEffectOf turn) es → es ++ ending_of q start outcome ≡ Finished p start' answer ∷ [] → IsEnd q p start start' outcome answer
+  ends_alone : (turn : Turn T) (q p : ℕ) (es : List (Event T)) (start start' : Start T) (outcome : Option (Answer T)) (answer : Answer T) → AllByRecursion (IsEffectOf turn) es
+      → es ++ ending_of q start outcome ≡ Finished p start' answer ∷ [] → IsEnd q p start start' outcome answer
   ends_alone turn q p [] start start' None answer are e = absurd (cc)
   ends_alone turn q p [] start start' (Some a) answer are e =
       let party : q ≡ p = cc in
@@ -83,7 +84,8 @@ module _ {T : Type 0} where
     -- a find that is handed this answer, which is none of a question, or a yes
     abbrev Tells : ℕ → Bool → RobustFlight → Type 0
     Tells number due flight =
-        Knows c flight (now scene) → is_question (want flight) ≡ due → (answer : ℕ) → (due ≡ false → answer ≡ old_of scene.set.words (ask_of (want flight))) → (due ≡ true → answer ≢ 0) → answer_in (any_call (after {T = T} flight answer)) ≡ Some (Number number) → IsCount p (IsFilledWith owner) c number events
+        Knows c flight (now scene) → is_question (want flight) ≡ due → (answer : ℕ) → (due ≡ false → answer ≡ old_of scene.set.words (ask_of (want flight))) → (due ≡ true → answer ≢ 0) → answer_in
+        (any_call (after {T = T} flight answer)) ≡ Some (Number number) → IsCount p (IsFilledWith owner) c number events
 
     stage_tells : (fits : owner < empty) (number : ℕ) (due : Bool) (stage : FindStage) → FindAt c (all scene) stage → Tells number due (find_at c owner stage)
     stage_tells fits number due (finds.TheVariants.LoadsCell index found) at k asks answer loads told e =
@@ -103,20 +105,23 @@ module _ {T : Type 0} where
 
   -- ---- a step of a party's call
 
-  module _ (code : Coding T) (c : ℕ) (t : Trace T) (s : frame.Sound (family code c) t) (q : ℕ) (x : Party T) (since : ℕ) (small : t.world.turns < 2 ^ 64 - 2) (found : party_of q t.world.latest ≡ Some x) (turn : Turn T) (mine : IsParty turn q) (answer p owner number : ℕ) where
+  module _ (code : Coding T) (c : ℕ) (t : Trace T) (s : frame.Sound (family code c) t) (q : ℕ) (x : Party T) (since : ℕ) (small : t.world.turns < 2 ^ 64 - 2) (found : party_of q t.world.latest ≡ Some x) (turn : Turn T)
+      (mine : IsParty turn q) (answer p owner number : ℕ) where
     -- it wrote that a find is done, and nothing else
     abbrev Wrote : Kept → Start T → Flight T → Type 0
     Wrote kept start flight =
         events_of_step q start (step_of t.world.coding t.world.words (beside_of t.world.words kept t.world.latest q) q start flight answer kept) ≡ Finished p (Robust (starts.TheVariants.Find owner)) (Number number) ∷ []
 
-    wrote_end : (start : RobustStart) (flight : RobustFlight) → Wrote (kepts.TheVariants.Owners s.state.dead) (Robust start) (flights.TheVariants.Robust flight) → IsEnd q p (Robust start) (Robust (starts.TheVariants.Find owner)) (answer_in (any_call (after {T = T} flight answer))) (Number number)
+    wrote_end : (start : RobustStart) (flight : RobustFlight) → Wrote (kepts.TheVariants.Owners s.state.dead) (Robust start) (flights.TheVariants.Robust flight)
+        → IsEnd q p (Robust start) (Robust (starts.TheVariants.Find owner)) (answer_in (any_call (after {T = T} flight answer))) (Number number)
     wrote_end start flight e = ends_alone turn q p (effects q flight answer) (Robust start) (Robust (starts.TheVariants.Find owner)) _ (Number number) (all_effects turn q mine flight answer) e
 
     own_end : (start : Start T) (flight : Flight T) → StandsThere (family code c) t s q x since start flight → Wrote (kepts.TheVariants.Owners s.state.dead) start flight → q ≡ p
     own_end (Robust start) (flights.TheVariants.Robust flight) h e = (wrote_end start flight e).party
     own_end start flight h e = absurd h.at
 
-    counted : (due : Bool) → (due ≡ true → answer ≢ 0) → (start : Start T) (flight : Flight T) → StandsThere (family code c) t s q x since start flight → is_question (want_of t.world.coding flight) ≡ due → (due ≡ false → answer ≡ old_of s.state.words (ask_of (want_of t.world.coding flight))) → Wrote (kepts.TheVariants.Owners s.state.dead) start flight → IsCount p (IsFilledWith owner) c number t.events
+    counted : (due : Bool) → (due ≡ true → answer ≢ 0) → (start : Start T) (flight : Flight T) → StandsThere (family code c) t s q x since start flight → is_question (want_of t.world.coding flight) ≡ due
+        → (due ≡ false → answer ≡ old_of s.state.words (ask_of (want_of t.world.coding flight))) → Wrote (kepts.TheVariants.Owners s.state.dead) start flight → IsCount p (IsFilledWith owner) c number t.events
     counted due told (Robust start) (flights.TheVariants.Robust flight) h asks loads e =
         let there = is_there code c t s q x since small found start flight h in
         let end = wrote_end start flight e in
@@ -136,7 +141,8 @@ module _ {T : Type 0} where
       pub own_party : q ≡ p
       own_party = own_end x.start flight there by_owners
 
-      pub all_counted : (due : Bool) → (due ≡ true → answer ≢ 0) → is_question (want_of t.world.coding flight) ≡ due → (due ≡ false → answer ≡ old_of t.world.words (ask_of (want_of t.world.coding flight))) → IsCount p (IsFilledWith owner) c number t.events
+      pub all_counted : (due : Bool) → (due ≡ true → answer ≢ 0) → is_question (want_of t.world.coding flight) ≡ due → (due ≡ false → answer ≡ old_of t.world.words (ask_of (want_of t.world.coding flight)))
+          → IsCount p (IsFilledWith owner) c number t.events
       all_counted due told asks loads =
           counted due told x.start flight there asks (λ no. loads no ∙ ap (λ ws. old_of ws (ask_of (want_of t.world.coding flight))) (kept_is t.world.kept t.world.words s.state s.fit).1) by_owners
 
@@ -146,7 +152,8 @@ module _ {T : Type 0} where
     abbrev Ended : List (Event T) → Type 0
     Ended es = es ≡ Finished p (Robust (starts.TheVariants.Find owner)) (Number number) ∷ []
 
-    next_tells : (q : ℕ) → t.world.turns < 2 ^ 64 - 2 → is_due t.world.coding (flight_in t.world q) ≡ false → (o : Option (Party T)) → party_of q t.world.latest ≡ o → Ended (events_of_next t.world q o) → IsCount p (IsFilledWith owner) c number t.events
+    next_tells : (q : ℕ) → t.world.turns < 2 ^ 64 - 2 → is_due t.world.coding (flight_in t.world q) ≡ false → (o : Option (Party T)) → party_of q t.world.latest ≡ o → Ended (events_of_next t.world q o)
+        → IsCount p (IsFilledWith owner) c number t.events
     next_tells q small free None found e = absurd (cc)
     next_tells q small free (Some x) found e = go x.doing refl e
       where
@@ -156,7 +163,8 @@ module _ {T : Type 0} where
             let here : flight_in t.world q ≡ Some flight = ap (λ o. flight_of (doing_of o)) found ∙ ap (λ d. flight_of (Some d)) d in
             all_counted code c t s q x since small found (Next q) refl (old_of t.world.words (ask_of (want_of t.world.coding flight))) p owner number flight d e false (λ told. absurd (cc)) (rw here at free) (λ no. refl)
 
-    decision_tells : (q : ℕ) (said : Bool) → t.world.turns < 2 ^ 64 - 2 → is_due t.world.coding (flight_in t.world q) ≡ true → ◌≢◌ {A = Turn T} (Decide q said) (Decide p false) → (o : Option (Party T)) → party_of q t.world.latest ≡ o → Ended (events_of_decision t.world q said o) → IsCount p (IsFilledWith owner) c number t.events
+    decision_tells : (q : ℕ) (said : Bool) → t.world.turns < 2 ^ 64 - 2 → is_due t.world.coding (flight_in t.world q) ≡ true → ◌≢◌ {A = Turn T} (Decide q said) (Decide p false) → (o : Option (Party T))
+        → party_of q t.world.latest ≡ o → Ended (events_of_decision t.world q said o) → IsCount p (IsFilledWith owner) c number t.events
     decision_tells q said small due ne None found e = absurd (cc)
     decision_tells q said small due ne (Some x) found e = go x.doing refl e
       where
@@ -167,7 +175,8 @@ module _ {T : Type 0} where
             by : (b : Bool) → said ≡ b → IsCount p (IsFilledWith owner) c number t.events
             by true is =
                 let here : flight_in t.world q ≡ Some flight = ap (λ o. flight_of (doing_of o)) found ∙ ap (λ d. flight_of (Some d)) d in
-                all_counted code c t s q x since small found (Decide q said) refl (number_of said) p owner number flight d e true (λ told zero. let one : number_of said ≡ 1 = ap number_of is in absurd (omega arith)) (rw here at due) (λ no. absurd (cc))
+                all_counted code c t s q x since small found (Decide q said) refl (number_of said) p owner number flight d e true (λ told zero. let one : number_of said ≡ 1 = ap number_of is in absurd (omega arith))
+                (rw here at due) (λ no. absurd (cc))
             by false is =
                 let party = own_party code c t s q x since small found (Decide q said) refl (number_of said) p owner number flight d e in
                 absurd (ne (ap (λ n. Decide n said) party ∙ ap (λ b. Decide p b) is))
