@@ -1,5 +1,5 @@
 -- The definitions of the robust index set at worked runs.
-use Rattle.std.proofs.Common.{◌≡◌, ℕ, ◌+◌, ◌-◌, ◌^◌, Bool, true, false, Some, None, List, [], ◌∷◌, ◌++◌, refl, sym, ap, subst, inl, arith}
+use Rattle.std.proofs.Common.{◌≡◌, ℕ, zero, suc, ◌+◌, ◌-◌, ◌^◌, ◌==◌, Bool, true, false, Option, Some, None, List, [], ◌∷◌, ◌++◌, refl, sym, ap, subst, inl, ne_eqb, arith}
 use Rattle.std.specs.Prelude.{fold, if◌then◌else◌}
 use Rattle.steps.specs.declared.indices.enums.ReleaseMode.{ReleaseMode}
 use Rattle.steps.specs.declared.indices.enums.ReleaseMode.TheVariants.{LockIfLastIndex, Default}
@@ -19,7 +19,7 @@ use Rattle.model.specs.declared.turn.Turn.{Turn}
 use Rattle.model.specs.declared.turn.Turn.TheVariants.{Begin, Next, Decide, Die}
 use Rattle.model.specs.Coding.{one_word}
 use Rattle.model.specs.Families.Indices.Robust.Promises.{IsFilled, IsFilledWith, HeldThrough, HoldsRight, DoesRight, AnswersRight, HasRecovered, IsCount, count_below}
-use Rattle.model.specs.Families.Indices.Robust.Reading.{Deed, Asks, Yes, filled_after, filled_of}
+use Rattle.model.specs.Families.Indices.Robust.Reading.{Deed, Frees, Asks, Yes, IsOneOf, deeds_of, filled_after, filled_of}
 use Rattle.model.specs.Families.Indices.Robust.Spans.{may_stand}
 use Rattle.model.specs.Moments.{BeginsNone, HeldOnce}
 use Rattle.model.specs.Reading.{Open}
@@ -293,3 +293,37 @@ alone = Begun 0 (acquire 7) ∷ []
 -- OutOfIndices of a set that nobody uses
 no_empty_set : AnswersRight 1 alone (Finished 0 (acquire 7) (NoIndex failures.TheVariants.OutOfIndices)) → ⊥
 no_empty_set right = never_filled 0 0 alone (refl, tt) (right 0 (omega arith))
+
+no_deed : (one : Deed) (before after : List Deed) → [] ≡ before ++ one ∷ after → ⊥
+no_deed one [] after e = cc
+no_deed one (a ∷ bs) after e = cc
+
+-- a release in mode LockIfLastIndex that answers Unlocked though nothing else is filled
+abbrev last_one : List (Event ℕ)
+last_one = Filled 1 0 7 ∷ Begun 1 (release 0 7 LockIfLastIndex) ∷ FreedOf 1 0 7 ∷ []
+
+freed_all : (i : ℕ) → filled_of i last_one ≡ None
+freed_all zero = refl
+freed_all (suc i) =
+    let f : (0 == suc i) ≡ false = ne_eqb 0 (suc i) (λ x. cc) in
+    let seven : Option ℕ = Some 7 in
+    subst (λ b. (if b then None else (if b then seven else None)) ≡ None) (sym f) refl
+
+no_moment : (i : ℕ) (part rest : List (Event ℕ)) → last_one ≡ part ++ rest → IsOneOf (Frees 0 7) (deeds_of 1 part) → IsFilled i part → ⊥
+no_moment i [] rest is one filled = cc
+no_moment i (a ∷ []) rest is one filled =
+    let first : a ≡ Filled 1 0 7 = cc in
+    let none = subst (λ x. IsOneOf (Frees 0 7) (deeds_of 1 (x ∷ []))) first one in
+    no_deed (Frees 0 7) none.before none.after none.is
+no_moment i (a ∷ b ∷ []) rest is one filled =
+    let first : a ∷ b ∷ [] ≡ Filled 1 0 7 ∷ Begun 1 (release 0 7 LockIfLastIndex) ∷ [] = cc in
+    let none = subst (λ x. IsOneOf (Frees 0 7) (deeds_of 1 x)) first one in
+    no_deed (Frees 0 7) none.before none.after none.is
+no_moment i (a ∷ b ∷ c ∷ []) rest is one filled =
+    let all : a ∷ b ∷ c ∷ [] ≡ last_one = cc in
+    let still = subst (λ x. filled_of i x ≡ None) (sym all) (freed_all i) in
+    cc
+no_moment i (a ∷ b ∷ c ∷ d ∷ ds) rest is one filled = cc
+
+never_locks : AnswersRight 1 last_one (Finished 1 (release 0 7 LockIfLastIndex) (State states.TheVariants.Unlocked)) → ⊥
+never_locks right = no_moment right.other right.once.part right.once.rest right.once.is right.once.held.0 right.once.held.1
