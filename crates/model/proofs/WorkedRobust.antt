@@ -1,5 +1,6 @@
 -- The definitions of the robust index set at worked runs.
-use Rattle.std.proofs.Common.{◌≡◌, ℕ, ◌-◌, ◌^◌, true, false, Some, None, List, [], ◌∷◌, ◌++◌, refl}
+use Rattle.std.proofs.Common.{◌≡◌, ℕ, zero, suc, ◌+◌, ◌-◌, ◌^◌, ◌==◌, Bool, true, false, Option, Some, None, List, [], ◌∷◌, ◌++◌, refl, sym, ap, subst, inl, ne_eqb, arith}
+use Rattle.std.specs.Prelude.{fold, if◌then◌else◌}
 use Rattle.steps.specs.declared.indices.enums.ReleaseMode.{ReleaseMode}
 use Rattle.steps.specs.declared.indices.enums.ReleaseMode.TheVariants.{LockIfLastIndex, Default}
 use Rattle.steps.specs.declared.indices.enums.ReleaseState as states
@@ -17,6 +18,11 @@ use Rattle.model.specs.declared.turn.Refusal.TheVariants.{BadIndex, OwnerIsDead,
 use Rattle.model.specs.declared.turn.Turn.{Turn}
 use Rattle.model.specs.declared.turn.Turn.TheVariants.{Begin, Next, Decide, Die}
 use Rattle.model.specs.Coding.{one_word}
+use Rattle.model.specs.Families.Indices.Robust.Promises.{IsFilled, IsFilledWith, HeldThrough, HoldsRight, DoesRight, AnswersRight, HasRecovered, IsCount, count_below}
+use Rattle.model.specs.Families.Indices.Robust.Reading.{Deed, Frees, Asks, Yes, IsOneOf, deeds_of, filled_after, filled_of}
+use Rattle.model.specs.Families.Indices.Robust.Spans.{may_stand}
+use Rattle.model.specs.Moments.{BeginsNone, HeldOnce}
+use Rattle.model.specs.Reading.{Open}
 use Rattle.model.specs.Refusals.{refusal_of}
 use Rattle.model.specs.World.{Trace, opening, progress_in}
 use Rattle.model.proofs.Runs.{nexts, begins, ran}
@@ -177,3 +183,147 @@ turns_back_counts = refl
 
 pub turns_back_words : (ran_on 1 turns_back).world.words ≡ 2 ∷ 7 ∷ []
 turns_back_words = refl
+
+-- ---- what they refuse
+
+abbrev held : List (Event ℕ)
+held = Filled 1 0 7 ∷ Granted 1 0 7 ∷ []
+
+-- an index that is granted to two
+no_second_holder : HoldsRight held (Granted 0 0 9) → ⊥
+no_second_holder free = cc
+
+-- a lock while an index is held
+no_lock_over_a_holder : HoldsRight held (events.TheVariants.Locked 0) → ⊥
+no_lock_over_a_holder free = let none = free 0 in cc
+
+-- an acquire that fills a filled cell
+no_second_owner : DoesRight 1 held (Filled 0 0 9) → ⊥
+no_second_owner right = let free = right.1 in cc
+
+-- a release that frees whatever owner stands there
+no_other_owner : DoesRight 1 held (FreedOf 0 0 9) → ⊥
+no_other_owner same = cc
+
+-- a yes about an owner who lives
+no_yes_of_the_living : DoesRight 1 held (Told 0 0 7) → ⊥
+no_yes_of_the_living died = cc
+
+-- a grant after the lock
+no_grant_once_locked : DoesRight {T = ℕ} 1 (Filled 1 0 7 ∷ events.TheVariants.Locked 0 ∷ []) (Granted 1 0 7) → ⊥
+no_grant_once_locked unlocked = cc
+
+-- a recovery that frees before a yes
+untold : (before : List Deed) → Asks 0 7 ∷ [] ≡ before ++ Yes 0 7 ∷ [] → ⊥
+untold [] e = cc
+untold (a ∷ []) e = cc
+untold (a ∷ b ∷ bs) e = cc
+
+frees_untold : may_stand {T = ℕ} (FreedOf 0 0 7) (Open recover (Asked 0 0 7 ∷ [])) → ⊥
+frees_untold latest = untold latest.before latest.is
+
+-- and one that asks twice about an index
+asks_twice : may_stand {T = ℕ} (Asked 0 0 7) (Open recover (Asked 0 0 7 ∷ [])) → ⊥
+asks_twice ascending = let further = ascending.0 in absurd (omega arith)
+
+-- a recovery that was told to free an index, and leaves it
+abbrev told_of : List (Event ℕ)
+told_of = Filled 1 0 7 ∷ Died 7 ∷ Begun 0 recover ∷ Asked 0 0 7 ∷ Told 0 0 7 ∷ []
+
+leaves_it : HasRecovered 0 told_of → ⊥
+leaves_it done = done.gone 0 7 (record { before = Asks 0 7 ∷ []; after = []; is = refl }) refl
+
+-- one that does not ask about an index that was filled through it
+abbrev passed : List (Event ℕ)
+passed = Filled 1 0 7 ∷ Begun 0 recover ∷ []
+
+begun_once : (start : Start ℕ) (rest : List (Event ℕ)) → Filled 1 0 7 ∷ Begun 0 start ∷ [] ≡ rest → BeginsNone 0 rest → ⊥
+begun_once start rest is within = (subst (BeginsNone 0) (sym is) within).0 refl
+
+begun_then : (start : Start ℕ) (rest : List (Event ℕ)) → Begun 0 start ∷ [] ≡ rest → BeginsNone 0 rest → ⊥
+begun_then start rest is within = (subst (BeginsNone 0) (sym is) within).0 refl
+
+stays_filled : (start : Start ℕ) → HeldThrough 0 (IsFilledWith 7 0) (Filled 1 0 7 ∷ Begun 0 start ∷ [])
+stays_filled start [] rest is within = absurd (begun_once start rest is within)
+stays_filled start (a ∷ []) rest is within =
+    let e : Begun 0 start ∷ [] ≡ rest = cc in
+    absurd (begun_then start rest e within)
+stays_filled start (a ∷ b ∷ []) rest is within =
+    let first : Filled 1 0 7 ≡ a = cc in
+    let second : Begun 0 start ≡ b = cc in
+    subst (λ x. filled_of 0 (x ∷ b ∷ []) ≡ Some 7) first
+    (subst (λ x. filled_of 0 (Filled 1 0 7 ∷ x ∷ []) ≡ Some 7) second refl)
+stays_filled start (a ∷ b ∷ c ∷ cs) rest is within = absurd (cc)
+
+not_asked : (before after : List Deed) → [] ≡ before ++ Asks 0 7 ∷ after → ⊥
+not_asked [] after e = cc
+not_asked (a ∷ bs) after e = cc
+
+passes_over : HasRecovered 0 passed → ⊥
+passes_over done =
+    let asked = done.asked 0 7 (λ part rest is within. inl (stays_filled recover part rest is within)) in
+    not_asked asked.before asked.after asked.is
+
+-- a find that comes to the end without that index, and one that counts an index that nobody filled
+counted_none : (chosen : ℕ → Bool) → count_below chosen 1 ≡ 0 → chosen 0 ≡ true → ⊥
+counted_none chosen none is_chosen = let one : count_below chosen 1 ≡ 1 = ap (λ b. (if b then 1 else 0) + 0) is_chosen in omega arith
+
+misses_one : IsCount 0 (IsFilledWith 7) 1 0 (Filled 1 0 7 ∷ Begun 0 (find 7) ∷ []) → ⊥
+misses_one count = counted_none count.chosen count.is (count.through 0 (omega arith) (stays_filled (find 7)))
+
+-- nobody fills the index in these events
+abbrev FillsNot : ℕ → List (Event ℕ) → Type 0
+FillsNot i [] = Unit {0}
+FillsNot i (e ∷ es) = (filled_after i None e ≡ None) × FillsNot i es
+
+stays_empty : (i : ℕ) (part rest : List (Event ℕ)) → FillsNot i (part ++ rest) → filled_of i part ≡ None
+stays_empty i [] rest none = refl
+stays_empty i (e ∷ es) rest none =
+    subst (λ owner. fold (filled_after i) owner es ≡ None) (sym none.0) (stays_empty i es rest none.1)
+
+never_filled : (p i : ℕ) (told : List (Event ℕ)) → FillsNot i told → HeldOnce p (IsFilled i) told → ⊥
+never_filled p i told none once =
+    let empty = stays_empty i once.part once.rest (subst (FillsNot i) once.is none) in
+    let filled = once.held in
+    cc
+
+abbrev alone : List (Event ℕ)
+alone = Begun 0 (acquire 7) ∷ []
+
+-- OutOfIndices of a set that nobody uses
+no_empty_set : AnswersRight 1 alone (Finished 0 (acquire 7) (NoIndex failures.TheVariants.OutOfIndices)) → ⊥
+no_empty_set right = never_filled 0 0 alone (refl, tt) (right 0 (omega arith))
+
+no_deed : (one : Deed) (before after : List Deed) → [] ≡ before ++ one ∷ after → ⊥
+no_deed one [] after e = cc
+no_deed one (a ∷ bs) after e = cc
+
+-- a release in mode LockIfLastIndex that answers Unlocked though nothing else is filled
+abbrev last_one : List (Event ℕ)
+last_one = Filled 1 0 7 ∷ Begun 1 (release 0 7 LockIfLastIndex) ∷ FreedOf 1 0 7 ∷ []
+
+freed_all : (i : ℕ) → filled_of i last_one ≡ None
+freed_all zero = refl
+freed_all (suc i) =
+    let f : (0 == suc i) ≡ false = ne_eqb 0 (suc i) (λ x. cc) in
+    let seven : Option ℕ = Some 7 in
+    subst (λ b. (if b then None else (if b then seven else None)) ≡ None) (sym f) refl
+
+no_moment : (i : ℕ) (part rest : List (Event ℕ)) → last_one ≡ part ++ rest → IsOneOf (Frees 0 7) (deeds_of 1 part) → IsFilled i part → ⊥
+no_moment i [] rest is one filled = cc
+no_moment i (a ∷ []) rest is one filled =
+    let first : a ≡ Filled 1 0 7 = cc in
+    let none = subst (λ x. IsOneOf (Frees 0 7) (deeds_of 1 (x ∷ []))) first one in
+    no_deed (Frees 0 7) none.before none.after none.is
+no_moment i (a ∷ b ∷ []) rest is one filled =
+    let first : a ∷ b ∷ [] ≡ Filled 1 0 7 ∷ Begun 1 (release 0 7 LockIfLastIndex) ∷ [] = cc in
+    let none = subst (λ x. IsOneOf (Frees 0 7) (deeds_of 1 x)) first one in
+    no_deed (Frees 0 7) none.before none.after none.is
+no_moment i (a ∷ b ∷ c ∷ []) rest is one filled =
+    let all : a ∷ b ∷ c ∷ [] ≡ last_one = cc in
+    let still = subst (λ x. filled_of i x ≡ None) (sym all) (freed_all i) in
+    cc
+no_moment i (a ∷ b ∷ c ∷ d ∷ ds) rest is one filled = cc
+
+never_locks : AnswersRight 1 last_one (Finished 1 (release 0 7 LockIfLastIndex) (State states.TheVariants.Unlocked)) → ⊥
+never_locks right = no_moment right.other right.once.part right.once.rest right.once.is right.once.held.0 right.once.held.1
