@@ -292,7 +292,7 @@ alone = Begun 0 (acquire 7) ∷ []
 
 -- OutOfIndices of a set that nobody uses
 no_empty_set : AnswersRight 1 alone (Finished 0 (acquire 7) (NoIndex failures.TheVariants.OutOfIndices)) → ⊥
-no_empty_set right = never_filled 0 0 alone (refl, tt) (right 0 (omega arith))
+no_empty_set right = never_filled 0 0 alone (refl, tt) (right.1 0 (omega arith))
 
 no_deed : (one : Deed) (before after : List Deed) → [] ≡ before ++ one ∷ after → ⊥
 no_deed one [] after e = cc
@@ -326,4 +326,4 @@ no_moment i (a ∷ b ∷ c ∷ []) rest is one filled =
 no_moment i (a ∷ b ∷ c ∷ d ∷ ds) rest is one filled = cc
 
 never_locks : AnswersRight 1 last_one (Finished 1 (release 0 7 LockIfLastIndex) (State states.TheVariants.Unlocked)) → ⊥
-never_locks right = no_moment right.other right.once.part right.once.rest right.once.is right.once.held.0 right.once.held.1
+never_locks right = no_moment right.1.other right.1.once.part right.1.once.rest right.1.once.is right.1.once.held.0 right.1.once.held.1

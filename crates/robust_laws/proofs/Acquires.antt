@@ -168,7 +168,7 @@ module _ {T : Type 0} (scene : Scene T) (inv : Inv scene) (owner : ℕ) (fits : 
           let paid_now = paid_of scene (counter_of ws ≡ number) k.paid.paid in
           let same : words_after ws (Some (exchanges 0 number number)) ≡ ws = exchange_sets ws 0 number number is ∙ (ap (set ws 0) (sym is) ∙ set-get_or ws 0 0) in
           ends_quietly scene inv (Acquire owner) (NoIndex failures.TheVariants.OutOfIndices) (Some (exchanges 0 number number)) false here (stays_same scene inv (words_after ws (Some (exchanges 0 number number))) same)
-          (λ i o. refl) (λ i r. refl) k.says none (omega arith) (omega arith)
+          (λ i o. refl) (λ i r. refl) (unlocked scene inv (λ shut. let end = k.paid.before_end in absurd (omega arith)), k.says) none (omega arith) (omega arith)
       go false t =
           let other : counter_of ws ≢ number = grind (arith, nat_tests) in
           finds (acquires.TheVariants.ChecksCounter number) (Some (exchanges 0 number number)) true (fails_same ws 0 number number other) none (omega arith) (paid_back scene number (Some (exchanges 0 number number)) events other k.paid)
@@ -203,7 +203,7 @@ module _ {T : Type 0} (scene : Scene T) (inv : Inv scene) (owner : ℕ) (fits : 
         (λ ask open_now new paid few.
         let low = few (1 + c) (c + 1) (omega arith) s in
         ends scene (Acquire owner) (Index i) ask false (Granted p i owner ∷ []) here (λ start w. refl)
-        (grants scene inv (words_after ws ask) i owner mine open_now new)
+        (grants scene inv (words_after ws ask) i owner mine alive open_now new)
         ((refl, done), ((refl, all_done), tt)) (omega arith) paid)
 
   -- ---- any step

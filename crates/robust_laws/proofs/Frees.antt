@@ -7,8 +7,9 @@ use Rattle.steps.specs.Indices.Robust.Parts.{cell_word, empty, locked}
 use Rattle.model.specs.declared.event.Event.{Event}
 use Rattle.model.specs.declared.event.Event.TheVariants.{FreedOf}
 use Rattle.model.specs.Families.Indices.Reading.{locked_after, is_locked}
-use Rattle.model.specs.Families.Indices.Robust.Promises.{cell_of, DoesRight, AnswersRight, IsProper, HoldsRight}
+use Rattle.model.specs.Families.Indices.Robust.Promises.{cell_of, DoesRight, AnswersRight, IsProper, HoldsRight, LivesToRelease}
 use Rattle.model.specs.Families.Indices.Robust.Reading.{deeds, filled_after, filled_of, holder_after, holder_of, settled_after, settled_of, dead_after, is_dead, wrote_in}
+use Rattle.model.specs.Reading.{span_of}
 use Rattle.model.proofs.Readings.{Each-append, span_of-other}
 use Rattle.robust_laws.proofs.Core.{counter_of, cell, counter_stays, cell_set, cell_stays}
 use Rattle.robust_laws.proofs.Effects.{at_same, at_other, some_none, proper_less}
@@ -30,7 +31,7 @@ module _ {T : Type 0} (scene : Scene T) (inv : Inv scene) where
   abbrev pub free : ℕ → ℕ → List (Event T)
   free i owner = FreedOf p i owner ∷ []
 
-  module _ (words' : List ℕ) (i owner : ℕ) (below : i < c) (filled : filled_of i events ≡ Some owner)
+  module _ (words' : List ℕ) (i owner : ℕ) (below : i < c) (filled : filled_of i events ≡ Some owner) (lives : LivesToRelease owner events (span_of p events))
       (mine : IsProper (events ++ free i owner) → (q : ℕ) → q ≢ p → (o : ℕ) → is_dead o events ≡ false → IsBy q i o events → ⊥) (new : words' ≡ set ws (cell_word i) empty) where
     abbrev es : List (Event T)
     es = FreedOf p i owner ∷ []
@@ -123,7 +124,7 @@ module _ {T : Type 0} (scene : Scene T) (inv : Inv scene) where
                 lock = ap (λ n. n == locked) counter_same ∙ (g.lock ∙ sym same_lock);
                 low = λ t. let low = g.low (sym same_lock ∙ t) in let is = counter_same in omega arith;
                 died = λ o. g.died o ∙ sym (same_dead o);
-                does = Each-append (DoesRight c) events es g.does (filled, tt);
+                does = Each-append (DoesRight c) events es g.does ((filled, lives), tt);
                 answers = Each-append (AnswersRight c) events es g.answers (tt, tt);
                 owned = λ proper. let h = g.owned (proper_less events es proper) in record { held = still_held h; settled = still_settled h };
                 holds = λ proper. Each-append HoldsRight events es (g.holds (proper_less events es proper)) (tt, tt);

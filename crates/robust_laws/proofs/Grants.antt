@@ -29,7 +29,7 @@ module _ {T : Type 0} (scene : Scene T) (inv : Inv scene) where
   abbrev pub grant : ℕ → ℕ → List (Event T)
   grant i owner = Granted p i owner ∷ Finished p (Robust (Acquire owner)) (Index i) ∷ []
 
-  module _ (words' : List ℕ) (i owner : ℕ) (mine : IsProper events → IsBy p i owner events × (holder_of i events ≡ None)) (open_now : counter_of ws ≢ locked) (new : words' ≡ set ws 0 (counter_of ws + 1)) where
+  module _ (words' : List ℕ) (i owner : ℕ) (mine : IsProper events → IsBy p i owner events × (holder_of i events ≡ None)) (alive : is_dead owner events ≡ false) (open_now : counter_of ws ≢ locked) (new : words' ≡ set ws 0 (counter_of ws + 1)) where
     abbrev es : List (Event T)
     es = Granted p i owner ∷ Finished p (Robust (Acquire owner)) (Index i) ∷ []
 
@@ -114,7 +114,7 @@ module _ {T : Type 0} (scene : Scene T) (inv : Inv scene) where
                 lock = stays.lock ∙ (g.lock ∙ sym same_lock);
                 low = λ t. let low = stays.low (g.lock ∙ (sym same_lock ∙ t)) in omega arith;
                 died = λ o. g.died o ∙ sym (same_dead o);
-                does = Each-append (DoesRight c) events es g.does (unlocked scene inv open_now, (tt, tt));
+                does = Each-append (DoesRight c) events es g.does ((unlocked scene inv open_now, alive), (tt, tt));
                 answers = Each-append (AnswersRight c) events es g.answers (tt, (tt, tt));
                 owned = λ proper.
                     let less = proper_less events es proper in

@@ -271,7 +271,7 @@ module _ {T : Type 0} (scene : Scene T) (inv : Inv scene) where
       -- an index is filled
       abbrev pub LockFinds : Lock → Type 0
       LockFinds lock =
-          (filled : ℕ) (ask : Option Ask) → Stays scene (words_after ws ask) → 0 < filled → Says c filled → IsPaid (sees scene ask false) → LockSteps lock (3 + c) ask false → Lead ask false [] (Done states.TheVariants.Unlocked)
+          (filled : ℕ) (ask : Option Ask) → Stays scene (words_after ws ask) → counter_of ws ≢ locked → 0 < filled → Says c filled → IsPaid (sees scene ask false) → LockSteps lock (3 + c) ask false → Lead ask false [] (Done states.TheVariants.Unlocked)
 
       -- it locks the set
       abbrev pub LockLocks : Lock → Type 0
@@ -295,7 +295,7 @@ module _ {T : Type 0} (scene : Scene T) (inv : Inv scene) where
             let zero : filled ≡ 0 = zero_if filled t in
             goes (locks.TheVariants.ExchangesCounter (counter_of ws + 1)) ask false stays tt (record { before_end = end; low = low; paid = inl (is, paid) })
             (low, λ same_zero same proper i below. none zero proper i below) tt (λ n w more bound. let next = few n w (omega arith) bound in omega arith))
-            (λ t. finds filled ask stays (more_if filled t) says paid (λ n w more bound. let next = few n w (omega arith) bound in omega arith)))
+            (λ t. finds filled ask stays open_now (more_if filled t) says paid (λ n w more bound. let next = few n w (omega arith) bound in omega arith)))
 
       pub lock_step : (lock : Lock) → LockAt c lock → Paid (lock_holds lock) (now scene) → Scanned (lock_scan c lock) (now scene) → LockSays c Says lock → LockGoes lock → LockMeets lock → LockFinds lock → LockLocks lock
           → Lead (Some (lock_ask lock)) (lock_goes_back lock (old_of ws (Some (lock_ask lock)))) (locked_by p lock (old_of ws (Some (lock_ask lock)))) (lock_after c lock (old_of ws (Some (lock_ask lock))))

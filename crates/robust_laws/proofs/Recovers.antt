@@ -31,7 +31,7 @@ use Rattle.model.specs.declared.event.Start.TheVariants.{Robust}
 use Rattle.model.specs.declared.families.indices.robust.RobustStart.TheVariants.{Recover}
 use Rattle.model.specs.declared.families.indices.robust.calls.RobustFlight as flights
 use Rattle.model.specs.Families.Indices.Robust.Bounds.{most_steps}
-use Rattle.model.specs.Families.Indices.Robust.Promises.{cell_of, promise, AnswersRight, IsUnlocked, HeldThrough, StillToFree, IsProper, HasRecovered}
+use Rattle.model.specs.Families.Indices.Robust.Promises.{cell_of, promise, AnswersRight, IsUnlocked, HeldThrough, StillToFree, IsProper, HasRecovered, LivesToRelease}
 use Rattle.model.specs.Families.Indices.Robust.Reading.{Deed, Frees, Asks, Yes, Locks, deeds, asked_in, filled_after, filled_of, holder_of, is_dead, deeds_of, IsOneOf}
 use Rattle.model.specs.Families.Indices.Robust.Spans.{HasJustFreed}
 use Rattle.model.specs.Families.Indices.Robust.Steps.{locked_by}
@@ -365,7 +365,7 @@ module _ {T : Type 0} (scene : Scene T) (inv : Inv scene) (mode : ReleaseMode) (
 
       frees_does : Does scene (words_after ws exchange) freeing
       frees_does =
-          frees scene inv (words_after ws exchange) index owner at.0.within filled
+          frees scene inv (words_after ws exchange) index owner at.0.within filled (subst (LivesToRelease owner events) (sym here) tt)
           (λ proper q ne o alive h. let same : owner ≡ o = one_owner (filled_of index events) owner o filled h.filled in both_ways (is_dead o events) alive (subst (λ n. is_dead n events ≡ true) same owner_dead))
           (exchange_sets ws (cell_word index) owner empty is)
 
@@ -437,8 +437,9 @@ module _ {T : Type 0} (scene : Scene T) (inv : Inv scene) (mode : ReleaseMode) (
           let paid = k.paid in
           ends_so states.TheVariants.Locked (Some (loads 0)) false (stays_same scene inv _ (loads_same ws 0)) (is_shut scene inv shut) (omega arith) (omega arith)
       go false t =
+          let other : counter_of ws ≢ locked = grind (arith, nat_tests) in
           let paid = k.paid in
-          ends_so states.TheVariants.Unlocked (Some (loads 0)) false (stays_same scene inv _ (loads_same ws 0)) recovered (omega arith) (omega arith)
+          ends_so states.TheVariants.Unlocked (Some (loads 0)) false (stays_same scene inv _ (loads_same ws 0)) (unlocked scene inv other, recovered) (omega arith) (omega arith)
 
   -- ---- the raise of the counter
 
@@ -525,7 +526,7 @@ module _ {T : Type 0} (scene : Scene T) (inv : Inv scene) (mode : ReleaseMode) (
         (λ ask same shut paid few.
         let low = few (5 + index * for_index c mode) (for_back c mode) (omega arith) (omega arith) in
         comes_quietly index course.within (recovers.TheVariants.Locks index lock) ask false (omega arith) (stays_same scene inv (words_after ws ask) same) paid course.asked course.freed k.says.0 k.says.1 k.gone)
-        (λ filled ask stays more says paid few.
+        (λ filled ask stays open_now more says paid few.
         let low = few (5 + index * for_index c mode) (for_back c mode) (omega arith) (omega arith) in
         comes_quietly index course.within (recovers.TheVariants.Locks index lock) ask false (omega arith) stays paid course.asked course.freed k.says.0 k.says.1 k.gone)
         (λ ask none open_now new paid few.

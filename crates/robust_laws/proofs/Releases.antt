@@ -1,5 +1,5 @@
 -- The steps of a release.
-use Rattle.std.proofs.Common.{◌≡◌, ◌≢◌, ℕ, ◌+◌, ◌*◌, ◌<◌, ◌≤◌, ◌==◌, inl, inr, if◌then◌else◌, Bool, true, false, Option, Some, is_some, List, [], ◌∷◌, ◌++◌, refl, ap, subst, ◌∙◌, arith}
+use Rattle.std.proofs.Common.{◌≡◌, ◌≢◌, ℕ, ◌+◌, ◌*◌, ◌<◌, ◌≤◌, ◌==◌, inl, inr, if◌then◌else◌, Bool, true, false, Option, Some, is_some, List, [], ◌∷◌, ◌++◌, refl, ap, subst, ◌∙◌, arith, sym}
 use Rattle.std.specs.Prelude.{Err}
 use Rattle.std.proofs.lemmas.Bool.Decides.{nat_tests}
 use Rattle.std.proofs.lemmas.List.Concat.{flat_map-append}
@@ -33,7 +33,7 @@ use Rattle.model.specs.declared.families.indices.robust.calls.RobustFlight as fl
 use Rattle.model.specs.Families.Indices.Reading.{locked_after, is_locked}
 use Rattle.model.specs.Families.Indices.Robust.Bounds.{most_steps}
 use Rattle.model.specs.Families.Indices.Robust.Calls.{release_answer}
-use Rattle.model.specs.Families.Indices.Robust.Promises.{cell_of, IsFilled, IsProper, MayGiveBack, AnswersRight}
+use Rattle.model.specs.Families.Indices.Robust.Promises.{cell_of, IsFilled, IsProper, MayGiveBack, AnswersRight, LivesToRelease}
 use Rattle.model.specs.Families.Indices.Robust.Reading.{Deed, Frees, Locks, deed, deeds, filled_of, settled_of, is_dead, deeds_of, IsOneOf}
 use Rattle.model.specs.Families.Indices.Robust.Spans.{HasDone}
 use Rattle.model.specs.Families.Indices.Robust.Steps.{locked_by}
@@ -43,7 +43,7 @@ use Rattle.model.specs.Step.{as_call}
 use Rattle.model.specs.Turns.{old_of, words_after}
 use Rattle.model.proofs.Moments.{held_now}
 use Rattle.robust_laws.proofs.Core.{counter_of, cell}
-use Rattle.robust_laws.proofs.Effects.{one_party, quiet_end, proper_less, is_shut, stays_same, stays_raised, filled_by}
+use Rattle.robust_laws.proofs.Effects.{one_party, quiet_end, proper_less, unlocked, is_shut, stays_same, stays_raised, filled_by}
 use Rattle.robust_laws.proofs.Frees.{frees}
 use Rattle.robust_laws.proofs.Invariant.{Scene, Inv, Good, wrote_of}
 use Rattle.robust_laws.proofs.Knows.{release_at, release_number, raise_number, lock_number, for_back, ReleaseAt, LockAt, Knows, FoundOne}
@@ -100,7 +100,7 @@ module _ {T : Type 0} (scene : Scene T) (inv : Inv scene) (index owner : ℕ) wh
       empties : cell ws index ≡ owner → Lead mode exchange false (FreedOf p index owner ∷ []) (GoOn (at_release (call_at releases.TheVariants.EmptiesCell) (releases.TheVariants.Raises raises.TheVariants.LoadsCounter)))
       empties is =
           goes_on scene (Release index owner mode) (release_at c index owner mode (releases.TheVariants.Raises raises.TheVariants.LoadsCounter)) exchange false (FreedOf p index owner ∷ []) here (λ start w. refl)
-          (frees scene inv (words_after ws exchange) index owner below (filled_by scene inv index below owner fits is) mine (exchange_sets ws (cell_word index) owner empty is))
+          (frees scene inv (words_after ws exchange) index owner below (filled_by scene inv index below owner fits is) (subst (LivesToRelease owner events) (sym here) alive) mine (exchange_sets ws (cell_word index) owner empty is))
           ((refl, refl, none), tt) (omega arith)
           (refl, refl, fits, below, ap (λ d. d ++ Frees index owner ∷ []) none)
           (record { paid = let paid = k.paid in omega arith; scanned = tt; owns = tt; says = tt; gone = tt })
@@ -196,9 +196,9 @@ module _ {T : Type 0} (scene : Scene T) (inv : Inv scene) (index owner : ℕ) wh
           let low = few 3 (c + 3) (omega arith) s in
           ends_quietly scene inv (Release index owner LockIfLastIndex) (State states.TheVariants.Locked) ask false here (stays_same scene inv (words_after ws ask) same) (λ j o. refl) (λ j r. refl)
           (is_shut scene inv shut) (inl done) (omega arith) paid)
-          (λ filled ask stays more says paid few.
+          (λ filled ask stays open_now more says paid few.
           let low = few 3 (c + 3) (omega arith) s in
-          ends_quietly scene inv (Release index owner LockIfLastIndex) (State states.TheVariants.Unlocked) ask false here stays (λ j o. refl) (λ j r. refl) (says more) done (omega arith) paid)
+          ends_quietly scene inv (Release index owner LockIfLastIndex) (State states.TheVariants.Unlocked) ask false here stays (λ j o. refl) (λ j r. refl) (unlocked scene inv open_now, says more) done (omega arith) paid)
           (λ ask none open_now new paid few.
           let low = few 3 (c + 3) (omega arith) s in
           ends scene (Release index owner LockIfLastIndex) (State states.TheVariants.Locked) ask false (Locked p ∷ []) here (λ start w. refl)

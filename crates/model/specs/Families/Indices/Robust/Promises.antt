@@ -55,16 +55,25 @@ module _ {T : Type 0} where
 
   -- ---- what a call does to the set, in every run
 
-  -- An index of the set is filled where it is not, for an owner who lives, and freed where it is
-  -- filled with that owner. A recovery is told to free an index of a dead owner, and asks about
-  -- one that is filled. The lock comes once, and after it nothing is granted; a call that began
-  -- after it fills nothing and asks nothing. An owner dies once.
+  -- the owner for whom a release gives an index back lives
+  abbrev pub LivesToRelease : ℕ → List (Event T) → Span T → Type 0
+  LivesToRelease owner before (Open (Robust (Release i o mode)) wrote) =
+      is_dead owner before ≡ false
+  LivesToRelease owner before span = Unit {0}
+
+  -- An index of the set is filled where it is not, and granted, for an owner who lives. It is freed
+  -- where it is filled with that owner, by a release while he lives. A recovery asks about an index
+  -- that is filled with the owner named, and is told to free one of a dead owner. The lock comes
+  -- once, and after it nothing is granted; a call that began after it fills nothing and asks
+  -- nothing. An owner dies once.
   abbrev pub DoesRight : ℕ → List (Event T) → Event T → Type 0
   DoesRight capacity before (Filled p index owner) =
       (index < capacity) × (filled_of index before ≡ None) × (is_dead owner before ≡ false)
       × HeldOnce p IsUnlocked before
-  DoesRight capacity before (Granted p index owner) = IsUnlocked before
-  DoesRight capacity before (FreedOf p index owner) = filled_of index before ≡ Some owner
+  DoesRight capacity before (Granted p index owner) =
+      IsUnlocked before × (is_dead owner before ≡ false)
+  DoesRight capacity before (FreedOf p index owner) =
+      (filled_of index before ≡ Some owner) × LivesToRelease owner before (span_of p before)
   DoesRight capacity before (Asked p index owner) =
       (filled_of index before ≡ Some owner) × HeldOnce p IsUnlocked before
   DoesRight capacity before (Told p index owner) = is_dead owner before ≡ true
@@ -137,7 +146,7 @@ module _ {T : Type 0} where
       is_locked before ≡ true
   AnswersRight capacity before
       (Finished p (Robust (Acquire owner)) (NoIndex failures.OutOfIndices)) =
-      (index : ℕ) → index < capacity → HeldOnce p (IsFilled index) before
+      IsUnlocked before × ((index : ℕ) → index < capacity → HeldOnce p (IsFilled index) before)
   AnswersRight capacity before (Finished p (Robust (Release index owner mode)) (NotOwned failure)) =
       filled_of index before ≢ Some owner
   AnswersRight capacity before
@@ -145,13 +154,13 @@ module _ {T : Type 0} where
       is_locked before ≡ true
   AnswersRight capacity before
       (Finished p (Robust (Release index owner LockIfLastIndex)) (State states.Unlocked)) =
-      FilledSinceFreed p owner index before
+      IsUnlocked before × FilledSinceFreed p owner index before
   AnswersRight capacity before (Finished p (Robust (Find owner)) (Number number)) =
       IsFound p owner capacity number before
   AnswersRight capacity before (Finished p (Robust (Recover mode)) (State states.Locked)) =
       is_locked before ≡ true
   AnswersRight capacity before (Finished p (Robust (Recover mode)) (State states.Unlocked)) =
-      HasRecovered p before
+      IsUnlocked before × HasRecovered p before
   AnswersRight capacity before (Finished p (Robust BorrowedIndices) (Number number)) =
       (is_locked before ≡ true → number ≡ 0)
       × (is_locked before ≡ false → IsCount p IsFilled capacity number before)
