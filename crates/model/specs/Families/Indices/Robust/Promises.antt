@@ -1,6 +1,9 @@
 -- What holds of the machine of the robust index set, after any turns.
 use Rattle.std.specs.Prelude.{◌≡◌, ◌≢◌, ◌⊎◌, ℕ, zero, suc, ◌+◌, ◌<◌, ◌≤◌, ◌==◌, Bool, true, false, Option, Some, None, is_some, List, [], ◌∷◌, ◌++◌, if◌then◌else◌, slice_index}
 use Rattle.steps.specs.declared.ask.Ask.{Ask}
+use Rattle.steps.specs.declared.ask.Question as questions
+use Rattle.steps.specs.declared.ask.Want.{Want}
+use Rattle.steps.specs.declared.ask.Want as wants
 use Rattle.steps.specs.declared.indices.enums.ReleaseMode.TheVariants.{LockIfLastIndex}
 use Rattle.steps.specs.declared.indices.enums.ReleaseState.TheVariants as states
 use Rattle.steps.specs.declared.indices.enums.UniqueIndexSetAcquireFailure.TheVariants as failures
@@ -11,11 +14,14 @@ use Rattle.model.specs.declared.event.Event.{Event}
 use Rattle.model.specs.declared.event.Event.TheVariants.{Filled, Granted, FreedOf, Asked, Told, Locked, Died, Finished}
 use Rattle.model.specs.declared.event.Start.{Start}
 use Rattle.model.specs.declared.event.Start.TheVariants.{Robust}
+use Rattle.model.specs.declared.families.Flight.{Flight}
 use Rattle.model.specs.declared.families.Kept.{Kept}
 use Rattle.model.specs.declared.families.Kept as kepts
 use Rattle.model.specs.declared.families.indices.robust.RobustStart.TheVariants.{Acquire, Release, Find, Recover, BorrowedIndices, IsLocked}
 use Rattle.model.specs.declared.turn.Turn.{Turn}
 use Rattle.model.specs.declared.turn.Turn.TheVariants.{Decide}
+use Rattle.model.specs.Coding.{Coding}
+use Rattle.model.specs.Families.{want_of}
 use Rattle.model.specs.Families.Indices.Reading.{is_locked}
 use Rattle.model.specs.Families.Indices.Robust.Bounds.{most_steps}
 use Rattle.model.specs.Families.Indices.Robust.Dead.{has_died}
@@ -24,12 +30,17 @@ use Rattle.model.specs.Families.Indices.Robust.Spans.{may_stand, HasDone}
 use Rattle.model.specs.Moments.{BeginsNone, HeldOnce, SinceBegin}
 use Rattle.model.specs.Promise.{Promise}
 use Rattle.model.specs.Reading.{Each, Span, Open, span_of}
-use Rattle.model.specs.World.{Trace}
+use Rattle.model.specs.World.{Trace, flight_in}
 
 -- so many numbers below the bound are chosen
 abbrev pub count_below : (ℕ → Bool) → ℕ → ℕ
 count_below chosen zero = 0
 count_below chosen (suc n) = (if chosen n then 1 else 0) + count_below chosen n
+
+-- the index that a call asks about, if it asks so
+abbrev pub asked_by : Want (Unit {0}) → Option ℕ
+asked_by (wants.TheVariants.Question (questions.TheVariants.Index index)) = Some index
+asked_by want = None
 
 -- a cell holds the owner that its index is filled with
 abbrev pub cell_of : Option ℕ → ℕ
@@ -207,6 +218,23 @@ module _ {T : Type 0} where
       → turn ≢ Decide p false
       → IsCount p (IsFilledWith owner) old.world.capacity number old.events
 
+  -- the index that a party's call asks about
+  abbrev pub asked_of : Coding T → Option (Flight T) → Option ℕ
+  asked_of code None = None
+  asked_of code (Some flight) = asked_by (want_of code flight)
+
+  -- and one that a no ends, to those up to the index that it asked about
+  abbrev pub FindsUpTo : Trace T → Turn T → Trace T → Type 0
+  FindsUpTo old turn new =
+      (p owner number index : ℕ)
+      → new.events ≡ old.events ++ Finished p (Robust (Find owner)) (Number number) ∷ []
+      → turn ≡ Decide p false
+      → asked_of old.world.coding (flight_in old.world p) ≡ Some index
+      → IsCount p (IsFilledWith owner) (index + 1) number old.events
+
+  abbrev pub FindsRight : Trace T → Turn T → Trace T → Type 0
+  FindsRight old turn new = FindsAll old turn new × FindsUpTo old turn new
+
   abbrev pub promise : Promise T
   promise =
       record {
@@ -214,6 +242,6 @@ module _ {T : Type 0} where
         wrote = wrote;
         most_steps = most;
         acts_right = ActsRight;
-        tells = FindsAll;
+        tells = FindsRight;
         holds = IsRobustSet;
       }
