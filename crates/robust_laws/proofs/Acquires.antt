@@ -38,7 +38,8 @@ use Rattle.robust_laws.proofs.Core.{counter_of, cell}
 use Rattle.robust_laws.proofs.Effects.{at_same, proper_less, before_end, unlocked, is_shut, stays_same, filled_none, filled_some, fills}
 use Rattle.robust_laws.proofs.Grants.{grants}
 use Rattle.robust_laws.proofs.Invariant.{Scene, Inv, Good, wrote_of}
-use Rattle.robust_laws.proofs.Knows.{acquire_at, acquire_number, raise_number, AcquireAt, Knows, IsPaid}
+use Rattle.robust_laws.proofs.Knows.{Knows, IsPaid}
+use Rattle.robust_laws.proofs.Standing.{acquire_at, acquire_number, raise_number, AcquireAt}
 use Rattle.robust_laws.proofs.Parts.{raise_ask, raise_step, none_holds, finds_counter}
 use Rattle.robust_laws.proofs.Rights.{By, right_after, right_of, IsBy}
 use Rattle.robust_laws.proofs.Stages.{IsHere, all, now, sees, backs_then, loads, exchanges, loads_same, fails_same, exchange_sets, paid_of, paid_back, holds_on, StepOf, Leads, goes_on, ends, goes_quietly, ends_quietly}

@@ -22,7 +22,8 @@ use Rattle.robust_laws.proofs.Core.{cell}
 use Rattle.robust_laws.proofs.Counting.{count_next, count_within}
 use Rattle.robust_laws.proofs.Effects.{stays_same, filled_by}
 use Rattle.robust_laws.proofs.Invariant.{Scene, Inv, Good}
-use Rattle.robust_laws.proofs.Knows.{find_at, find_number, FindAt, Knows, IsPaid}
+use Rattle.robust_laws.proofs.Knows.{Knows, IsPaid}
+use Rattle.robust_laws.proofs.Standing.{find_at, find_number, FindAt}
 use Rattle.robust_laws.proofs.Stages.{IsHere, all, now, sees, loads, loads_same, StepOf, AnswerOf, Leads, goes_quietly, ends_quietly}
 
 module _ {T : Type 0} (scene : Scene T) (inv : Inv scene) (owner : ℕ) (fits : owner < empty) where

@@ -23,7 +23,8 @@ use Rattle.model.proofs.Frame as frame
 use Rattle.model.proofs.Frame.{Family}
 use Rattle.model.proofs.Readings.{AreOwn, AllFollow, span_of-other}
 use Rattle.robust_laws.proofs.Core.{counter_of, cell}
-use Rattle.robust_laws.proofs.Knows.{number_of, At, View, Knows, Goes, Spares, IsSeen, knows_later}
+use Rattle.robust_laws.proofs.Knows.{View, Knows, Goes, Spares, IsSeen, knows_later}
+use Rattle.robust_laws.proofs.Standing.{number_of, At}
 use Rattle.robust_laws.proofs.Rights.{AreOwned}
 
 -- the words and the dead; and the events, by which calls under way are read

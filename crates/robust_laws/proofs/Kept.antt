@@ -42,7 +42,8 @@ use Rattle.model.proofs.Frame as frame
 use Rattle.robust_laws.proofs.Core.{cell}
 use Rattle.robust_laws.proofs.Counting.{times_below}
 use Rattle.robust_laws.proofs.Invariant.{RobustSet, family}
-use Rattle.robust_laws.proofs.Knows.{raise_number, count_number, lock_number, acquire_number, for_back, for_index, release_number, recover_number, find_number, number_of, AcquireAt, CountAt, LockAt, ReleaseAt, FindAt, RecoverAt, At, View, flight_holds, Paid}
+use Rattle.robust_laws.proofs.Knows.{View, flight_holds, Paid}
+use Rattle.robust_laws.proofs.Standing.{raise_number, count_number, lock_number, acquire_number, for_back, for_index, release_number, recover_number, find_number, number_of, AcquireAt, CountAt, LockAt, ReleaseAt, FindAt, RecoverAt, At}
 use Rattle.robust_laws.proofs.Sound.{kept_is, reached_sound}
 
 -- ---- how many steps a call has taken

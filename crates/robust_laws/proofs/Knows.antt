@@ -1,9 +1,6 @@
 -- What a call of the robust index set knows where it stands: of its counts, of moments of it, of what it has a right to, and
 -- of what it has recovered; and that it knows this still after any turn of another party.
-use Rattle.std.proofs.Common.{◌≡◌, ◌≢◌, ℕ, ◌+◌, ◌*◌, ◌<◌, ◌≤◌, ◌⊎◌, ⊎_elim, inl, inr, true, false, Option, Some, None, List, [], ◌∷◌, ◌++◌, sym, ap, subst, ◌∙◌, arith}
-use Rattle.std.specs.List.{AllByRecursion}
-use Rattle.steps.specs.declared.indices.enums.ReleaseMode.{ReleaseMode}
-use Rattle.steps.specs.declared.indices.enums.ReleaseMode.TheVariants.{LockIfLastIndex, Default}
+use Rattle.std.proofs.Common.{◌≡◌, ◌≢◌, ℕ, ◌+◌, ◌<◌, ◌≤◌, ◌⊎◌, ⊎_elim, inl, inr, true, false, Option, Some, None, List, ◌++◌, sym, ap, subst, ◌∙◌, arith}
 use Rattle.steps.specs.declared.indices.robust.acquire.AcquireStage.{AcquireStage}
 use Rattle.steps.specs.declared.indices.robust.acquire.AcquireStage as acquires
 use Rattle.steps.specs.declared.indices.robust.find.FindStage.{FindStage}
@@ -18,191 +15,19 @@ use Rattle.steps.specs.declared.indices.robust.recover.RecoverStage.{RecoverStag
 use Rattle.steps.specs.declared.indices.robust.recover.RecoverStage as recovers
 use Rattle.steps.specs.declared.indices.robust.release.ReleaseStage.{ReleaseStage}
 use Rattle.steps.specs.declared.indices.robust.release.ReleaseStage as releases
-use Rattle.steps.specs.Indices.Robust.Parts.{empty, greatest}
+use Rattle.steps.specs.Indices.Robust.Parts.{greatest}
 use Rattle.model.specs.declared.event.Event.{Event}
-use Rattle.model.specs.declared.families.indices.robust.RobustStart.{RobustStart}
-use Rattle.model.specs.declared.families.indices.robust.RobustStart as starts
 use Rattle.model.specs.declared.families.indices.robust.calls.RobustFlight.{RobustFlight}
 use Rattle.model.specs.declared.families.indices.robust.calls.RobustFlight.TheVariants.{Acquire, Release, Find, Recover, BorrowedIndices, IsLocked}
 use Rattle.model.specs.Families.Indices.Robust.Promises.{IsFilled, IsFilledWith, IsUnlocked, IsCount, HeldThrough, FilledSinceFreed, StillToFree, IsProper}
-use Rattle.model.specs.Families.Indices.Robust.Reading.{Deed, Fills, Frees, Asks, Yes, filled_of, holder_of, settled_of, is_dead, deeds_of, IsOneOf, IsLatest, asked_in}
-use Rattle.model.specs.Families.Indices.Robust.Spans.{HasJustFreed}
+use Rattle.model.specs.Families.Indices.Robust.Reading.{Asks, Yes, filled_of, holder_of, settled_of, is_dead, deeds_of, IsOneOf}
 use Rattle.model.specs.Moments.{BeginsNone, HeldOnce, SinceBegin}
 use Rattle.model.proofs.Moments.{held_later}
 use Rattle.robust_laws.proofs.Core.{counter_of}
 use Rattle.robust_laws.proofs.Counting.{count_later}
 use Rattle.robust_laws.proofs.Past.{through_less, since_less}
 use Rattle.robust_laws.proofs.Rights.{IsBy}
-
--- ---- the calls by their stages
-
-abbrev pub acquire_at : ℕ → ℕ → AcquireStage → RobustFlight
-acquire_at c owner stage =
-    Acquire (record { call = record { capacity = c; stage = stage }; given = owner; room = tt })
-
-abbrev pub release_at : ℕ → ℕ → ℕ → ReleaseMode → ReleaseStage → RobustFlight
-release_at c index owner mode stage =
-    Release
-    (record {
-      call = record { capacity = c; stage = stage };
-      given = record { index = index; owner = owner; mode = mode };
-      room = tt;
-    })
-
-abbrev pub find_at : ℕ → ℕ → FindStage → RobustFlight
-find_at c owner stage =
-    Find (record { call = record { capacity = c; stage = stage }; given = owner; room = tt })
-
-abbrev pub recover_at : ℕ → ReleaseMode → RecoverStage → RobustFlight
-recover_at c mode stage =
-    Recover (record { call = record { capacity = c; stage = stage }; given = mode; room = tt })
-
-abbrev pub borrowed_at : ℕ → Count → RobustFlight
-borrowed_at c count =
-    BorrowedIndices (record { call = record { capacity = c; count = count }; given = tt; room = tt })
-
-abbrev pub looking : RobustFlight
-looking = IsLocked (record { call = record {}; given = tt; room = tt })
-
--- ---- how many steps they have taken at most
-
-abbrev pub raise_number : Raise → ℕ
-raise_number raises.TheVariants.LoadsCounter = 0
-raise_number (raises.TheVariants.ExchangesCounter counter) = 1
-
-abbrev pub count_number : ℕ → Count → ℕ
-count_number c counts.TheVariants.LoadsCounter = 0
-count_number c (counts.TheVariants.LoadsCell counter index filled) = 1 + index
-count_number c (counts.TheVariants.ExchangesCounter counter filled) = 1 + c
-
-abbrev pub lock_number : ℕ → Lock → ℕ
-lock_number c (locks.TheVariants.Counts count) = count_number c count
-lock_number c (locks.TheVariants.ExchangesCounter counter) = 2 + c
-
-abbrev pub acquire_number : ℕ → AcquireStage → ℕ → ℕ
-acquire_number c acquires.TheVariants.LoadsCounter backs = 0
-acquire_number c (acquires.TheVariants.FillsCell counter index) backs =
-    1 + index + backs * (c + 1)
-acquire_number c (acquires.TheVariants.ChecksCounter counter) backs = 1 + c + backs * (c + 1)
-acquire_number c (acquires.TheVariants.Raises index raise) backs =
-    1 + c + raise_number raise + backs * (c + 1)
-
--- what a turn back takes, and an index of a recovery
-abbrev pub for_back : ℕ → ReleaseMode → ℕ
-for_back c Default = 1
-for_back c LockIfLastIndex = c + 3
-
-abbrev pub for_index : ℕ → ReleaseMode → ℕ
-for_index c Default = 4
-for_index c LockIfLastIndex = c + 7
-
-pub at_least_one : (c : ℕ) (mode : ReleaseMode) → 1 ≤ for_back c mode
-at_least_one c Default = omega arith
-at_least_one c LockIfLastIndex = omega arith
-
-pub at_least_four : (c : ℕ) (mode : ReleaseMode) → 4 ≤ for_index c mode
-at_least_four c Default = omega arith
-at_least_four c LockIfLastIndex = omega arith
-
-abbrev pub release_number : ℕ → ReleaseMode → ReleaseStage → ℕ → ℕ
-release_number c mode releases.TheVariants.EmptiesCell backs = 0
-release_number c mode (releases.TheVariants.Raises raise) backs =
-    1 + raise_number raise + backs * for_back c mode
-release_number c mode (releases.TheVariants.Locks lock) backs =
-    3 + lock_number c lock + backs * for_back c mode
-
-abbrev pub recover_number : ℕ → ReleaseMode → RecoverStage → ℕ → ℕ
-recover_number c mode recovers.TheVariants.LoadsCounter backs = 0
-recover_number c mode (recovers.TheVariants.LoadsCell index) backs =
-    1 + index * for_index c mode + backs * for_back c mode
-recover_number c mode (recovers.TheVariants.Asks index owner) backs =
-    2 + index * for_index c mode + backs * for_back c mode
-recover_number c mode (recovers.TheVariants.EmptiesCell index owner) backs =
-    2 + index * for_index c mode + backs * for_back c mode
-recover_number c mode (recovers.TheVariants.Raises index raise) backs =
-    3 + raise_number raise + index * for_index c mode + backs * for_back c mode
-recover_number c mode (recovers.TheVariants.Locks index lock) backs =
-    5 + lock_number c lock + index * for_index c mode + backs * for_back c mode
-recover_number c mode recovers.TheVariants.LoadsCounterAgain backs =
-    1 + c * for_index c mode + backs * for_back c mode
-
-abbrev pub find_number : FindStage → ℕ
-find_number (finds.TheVariants.LoadsCell index found) = index
-find_number (finds.TheVariants.Asks index found) = index + 1
-
-abbrev pub number_of : ℕ → RobustFlight → ℕ → ℕ
-number_of c (Acquire run) backs = acquire_number c run.call.stage backs
-number_of c (Release run) backs = release_number c run.given.mode run.call.stage backs
-number_of c (Find run) backs = find_number run.call.stage
-number_of c (Recover run) backs = recover_number c run.given run.call.stage backs
-number_of c (BorrowedIndices run) backs = count_number c run.call.count + backs * (c + 2)
-number_of c (IsLocked run) backs = 0
-
--- ---- where they stand, and what they have done
-
-abbrev pub AcquireAt : ℕ → ℕ → List Deed → AcquireStage → Type 0
-AcquireAt c owner all acquires.TheVariants.LoadsCounter = all ≡ []
-AcquireAt c owner all (acquires.TheVariants.FillsCell counter index) = (index < c) × (all ≡ [])
-AcquireAt c owner all (acquires.TheVariants.ChecksCounter counter) = all ≡ []
-AcquireAt c owner all (acquires.TheVariants.Raises index raise) =
-    (index < c) × (all ≡ Fills index owner ∷ [])
-
-abbrev pub CountAt : ℕ → Count → Type 0
-CountAt c counts.TheVariants.LoadsCounter = Unit {0}
-CountAt c (counts.TheVariants.LoadsCell counter index filled) = (index < c) × (filled ≤ index)
-CountAt c (counts.TheVariants.ExchangesCounter counter filled) = filled ≤ c
-
-abbrev pub LockAt : ℕ → Lock → Type 0
-LockAt c (locks.TheVariants.Counts count) = CountAt c count
-LockAt c (locks.TheVariants.ExchangesCounter counter) = Unit {0}
-
-abbrev pub ReleaseAt : ℕ → ℕ → ℕ → ReleaseMode → List Deed → ReleaseStage → Type 0
-ReleaseAt c index owner mode all releases.TheVariants.EmptiesCell = all ≡ []
-ReleaseAt c index owner mode all (releases.TheVariants.Raises raise) = all ≡ Frees index owner ∷ []
-ReleaseAt c index owner mode all (releases.TheVariants.Locks lock) =
-    (mode ≡ LockIfLastIndex) × LockAt c lock × (all ≡ Frees index owner ∷ [])
-
-abbrev pub FindAt : ℕ → List Deed → FindStage → Type 0
-FindAt c all (finds.TheVariants.LoadsCell index found) = (index < c) × (all ≡ [])
-FindAt c all (finds.TheVariants.Asks index found) = (index < c) × (all ≡ [])
-
--- a recovery at an index of the set has asked about lower ones than this, and about each that it has freed
-pub record IsInCourse (c index bound : ℕ) (all : List Deed) : Type 0 where
-  pub within : index < c
-  pub asked : AllByRecursion (λ i. i < bound) (asked_in all)
-  pub freed : (i owner : ℕ) → IsOneOf (Frees i owner) all → IsOneOf (Asks i owner) all
-
-abbrev pub RecoverAt : ℕ → ReleaseMode → List Deed → RecoverStage → Type 0
-RecoverAt c mode all recovers.TheVariants.LoadsCounter = all ≡ []
-RecoverAt c mode all (recovers.TheVariants.LoadsCell index) = IsInCourse c index index all
-RecoverAt c mode all (recovers.TheVariants.Asks index owner) =
-    IsInCourse c index (index + 1) all × (owner < empty) × IsLatest (Asks index owner) all
-RecoverAt c mode all (recovers.TheVariants.EmptiesCell index owner) =
-    IsInCourse c index (index + 1) all × (owner < empty) × IsLatest (Yes index owner) all
-    × IsOneOf (Asks index owner) all
-RecoverAt c mode all (recovers.TheVariants.Raises index raise) =
-    IsInCourse c index (index + 1) all × HasJustFreed all
-RecoverAt c mode all (recovers.TheVariants.Locks index lock) =
-    IsInCourse c index (index + 1) all × HasJustFreed all × (mode ≡ LockIfLastIndex) × LockAt c lock
-RecoverAt c mode all recovers.TheVariants.LoadsCounterAgain =
-    (i owner : ℕ) → IsOneOf (Frees i owner) all → IsOneOf (Asks i owner) all
-
--- where a call of this name stands in a set of this capacity, where it has done all this
-abbrev pub At : ℕ → List Deed → RobustStart → RobustFlight → Type 0
-At c all (starts.TheVariants.Acquire owner) (Acquire run) =
-    (run.call.capacity ≡ c) × (run.given ≡ owner) × (owner < empty)
-    × AcquireAt c owner all run.call.stage
-At c all (starts.TheVariants.Release index owner mode) (Release run) =
-    (run.call.capacity ≡ c) × (run.given ≡ record { index = index; owner = owner; mode = mode })
-    × (owner < empty) × (index < c) × ReleaseAt c index owner mode all run.call.stage
-At c all (starts.TheVariants.Find owner) (Find run) =
-    (run.call.capacity ≡ c) × (run.given ≡ owner) × (owner < empty) × FindAt c all run.call.stage
-At c all (starts.TheVariants.Recover mode) (Recover run) =
-    (run.call.capacity ≡ c) × (run.given ≡ mode) × RecoverAt c mode all run.call.stage
-At c all starts.TheVariants.BorrowedIndices (BorrowedIndices run) =
-    (run.call.capacity ≡ c) × CountAt c run.call.count × (all ≡ [])
-At c all starts.TheVariants.IsLocked (IsLocked run) = all ≡ []
-At c all start flight = ⊥
+use Rattle.robust_laws.proofs.Standing.{}
 
 -- ---- what they see of the machine
 

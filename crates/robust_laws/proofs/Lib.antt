@@ -22,5 +22,6 @@ pub mod Releases
 pub mod Rights
 pub mod Sound
 pub mod Stages
+pub mod Standing
 pub mod Tells
 pub mod Written

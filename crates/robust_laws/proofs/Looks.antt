@@ -20,7 +20,8 @@ use Rattle.robust_laws.proofs.Core.{counter_of}
 use Rattle.robust_laws.proofs.Counting.{count_none, count_next}
 use Rattle.robust_laws.proofs.Effects.{both_ways, unlocked, is_shut, stays_same, stays_raised}
 use Rattle.robust_laws.proofs.Invariant.{Scene, Inv}
-use Rattle.robust_laws.proofs.Knows.{borrowed_at, looking, count_number, CountAt, Knows, Borrowed}
+use Rattle.robust_laws.proofs.Knows.{Knows, Borrowed}
+use Rattle.robust_laws.proofs.Standing.{borrowed_at, looking, count_number, CountAt}
 use Rattle.robust_laws.proofs.Parts.{count_ask, count_step, IsSaid}
 use Rattle.robust_laws.proofs.Stages.{IsHere, all, now, loads, loads_same, StepOf, Leads, goes_quietly, ends_quietly}
 

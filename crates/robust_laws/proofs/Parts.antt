@@ -27,7 +27,8 @@ use Rattle.model.specs.Turns.{old_of, words_after, step_count}
 use Rattle.robust_laws.proofs.Core.{counter_of, cell, counter_set}
 use Rattle.robust_laws.proofs.Effects.{Stays, some_none, before_end, stays_same, stays_raised, filled_none, filled_some}
 use Rattle.robust_laws.proofs.Invariant.{Scene, Inv, Good}
-use Rattle.robust_laws.proofs.Knows.{raise_number, count_number, lock_number, CountAt, LockAt, raise_holds, count_holds, lock_holds, count_scan, lock_scan, CountSays, LockSays, IsPaid, Holding, Paid, Scanned}
+use Rattle.robust_laws.proofs.Knows.{raise_holds, count_holds, lock_holds, count_scan, lock_scan, CountSays, LockSays, IsPaid, Holding, Paid, Scanned}
+use Rattle.robust_laws.proofs.Standing.{raise_number, count_number, lock_number, CountAt, LockAt}
 use Rattle.robust_laws.proofs.Stages.{loads, exchanges, loads_same, fails_same, exchange_sets, backs_then, now, sees, paid_of, paid_back, holds_on}
 
 abbrev pub raise_ask : Raise → Ask

@@ -49,7 +49,8 @@ use Rattle.robust_laws.proofs.Deeds.{still_one, last_one, by_latest, was_one, al
 use Rattle.robust_laws.proofs.Effects.{Stays, at_same, some_none, one_owner, both_ways, quiet_none, quiet_asked, quiet_told, quietly, unlocked, is_shut, stays_same, stays_raised, filled_by, filled_none, filled_some}
 use Rattle.robust_laws.proofs.Frees.{frees}
 use Rattle.robust_laws.proofs.Invariant.{Scene, Inv, Good, Does, wrote_of}
-use Rattle.robust_laws.proofs.Knows.{at_least_one, at_least_four, recover_at, recover_number, raise_number, lock_number, for_back, for_index, RecoverAt, LockAt, IsInCourse, Knows, IsPaid, WasOpen, AskedBelow, GoneBut, LockSays}
+use Rattle.robust_laws.proofs.Knows.{Knows, IsPaid, WasOpen, AskedBelow, GoneBut, LockSays}
+use Rattle.robust_laws.proofs.Standing.{at_least_one, at_least_four, recover_at, recover_number, raise_number, lock_number, for_back, for_index, RecoverAt, LockAt, IsInCourse}
 use Rattle.robust_laws.proofs.Locks.{locks}
 use Rattle.robust_laws.proofs.Parts.{raise_ask, lock_ask, raise_step, lock_step, IsSaid, none_beyond}
 use Rattle.robust_laws.proofs.Past.{through_less, through_now}

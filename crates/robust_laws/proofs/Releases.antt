@@ -46,7 +46,8 @@ use Rattle.robust_laws.proofs.Core.{counter_of, cell}
 use Rattle.robust_laws.proofs.Effects.{one_party, quiet_end, proper_less, unlocked, is_shut, stays_same, stays_raised, filled_by}
 use Rattle.robust_laws.proofs.Frees.{frees}
 use Rattle.robust_laws.proofs.Invariant.{Scene, Inv, Good, wrote_of}
-use Rattle.robust_laws.proofs.Knows.{release_at, release_number, raise_number, lock_number, for_back, ReleaseAt, LockAt, Knows, FoundOne}
+use Rattle.robust_laws.proofs.Knows.{Knows, FoundOne}
+use Rattle.robust_laws.proofs.Standing.{release_at, release_number, raise_number, lock_number, for_back, ReleaseAt, LockAt}
 use Rattle.robust_laws.proofs.Locks.{locks}
 use Rattle.robust_laws.proofs.Parts.{raise_ask, lock_ask, raise_step, lock_step, IsSaid}
 use Rattle.robust_laws.proofs.Rights.{IsBy}

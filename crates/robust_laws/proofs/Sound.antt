@@ -63,8 +63,9 @@ use Rattle.robust_laws.proofs.Deaths.{death_good, death_known}
 use Rattle.robust_laws.proofs.Effects.{both_ways, proper_less}
 use Rattle.robust_laws.proofs.Finds.{find_step, find_decided}
 use Rattle.robust_laws.proofs.Invariant.{RobustSet, Fit, Scene, Inv, Shows, view, family, wrote_of, at_written, owes, holds_more}
-use Rattle.robust_laws.proofs.Knows.{acquire_at, release_at, find_at, recover_at, borrowed_at, looking, At, FindAt, RecoverAt, Knows}
-use Rattle.robust_laws.proofs.Knows as knows
+use Rattle.robust_laws.proofs.Knows.{Knows}
+use Rattle.robust_laws.proofs.Standing.{acquire_at, release_at, find_at, recover_at, borrowed_at, looking, At, FindAt, RecoverAt}
+use Rattle.robust_laws.proofs.Standing as standing
 use Rattle.robust_laws.proofs.Looks.{borrowed_step, looks_step}
 use Rattle.robust_laws.proofs.Opening.{opening_good, admitted_is}
 use Rattle.robust_laws.proofs.Past.{since_begun}
@@ -117,7 +118,7 @@ module _ {T : Type 0} (scene : Scene T) (inv : Inv scene) where
 
   abbrev Moves : RobustStart → RobustFlight → Type 0
   Moves start flight =
-      acts_for_dead scene.set.dead flight ≡ false → scene.steps ≤ knows.number_of c flight scene.backs → Knows c flight (now scene) → StepOf scene start flight
+      acts_for_dead scene.set.dead flight ≡ false → scene.steps ≤ standing.number_of c flight scene.backs → Knows c flight (now scene) → StepOf scene start flight
 
   pub step_moves : (start : RobustStart) (flight : RobustFlight) → IsHere scene start → At c (all scene) start flight → Moves start flight
   step_moves (starts.TheVariants.Acquire owner) (calls.TheVariants.Acquire run) here at =
@@ -141,7 +142,7 @@ module _ {T : Type 0} (scene : Scene T) (inv : Inv scene) where
 
   abbrev Decides : Bool → RobustStart → RobustFlight → Type 0
   Decides said start flight =
-      frees_living scene.set.dead flight (Some said) ≡ false → is_question (want flight) ≡ true → scene.steps ≤ knows.number_of c flight scene.backs → Knows c flight (now scene) → DecisionOf scene start flight said
+      frees_living scene.set.dead flight (Some said) ≡ false → is_question (want flight) ≡ true → scene.steps ≤ standing.number_of c flight scene.backs → Knows c flight (now scene) → DecisionOf scene start flight said
 
   -- a yes about an owner is of a dead one
   told_dead : (said : Bool) (mode : ReleaseMode) (index owner : ℕ) → frees_living scene.set.dead (recover_at c mode (recovers.TheVariants.Asks index owner)) (Some said) ≡ false → number_of said ≢ 0 → is_dead owner events ≡ true
@@ -288,7 +289,7 @@ module _ {T : Type 0} (code : Coding T) (c : ℕ) (t : Trace T) (s : frame.Sound
     pub record IsThere (start : RobustStart) (flight : RobustFlight) : Type 0 where
       pub here : IsHere (scene_of p x since) start
       pub at : At c (all (scene_of p x since)) start flight
-      pub steps : x.steps ≤ knows.number_of c flight x.backs
+      pub steps : x.steps ≤ standing.number_of c flight x.backs
       pub knows : Knows c flight (now (scene_of p x since))
 
     pub is_there : (start : RobustStart) (flight : RobustFlight) → StandsThere (family code c) t s p x since (Robust start) (flights.TheVariants.Robust flight) → IsThere start flight

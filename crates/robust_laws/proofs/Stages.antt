@@ -37,8 +37,9 @@ use Rattle.model.proofs.Turns.{kept_words}
 use Rattle.robust_laws.proofs.Core.{counter_of}
 use Rattle.robust_laws.proofs.Effects.{Stays, quiet_none, quiet_end, quietly}
 use Rattle.robust_laws.proofs.Invariant.{Scene, Inv, Does, Shows, wrote_of, view}
-use Rattle.robust_laws.proofs.Knows as knows
-use Rattle.robust_laws.proofs.Knows.{At, View, Knows, IsSeen, IsPaid, PaidUnless, Holding}
+use Rattle.robust_laws.proofs.Standing as standing
+use Rattle.robust_laws.proofs.Knows.{View, Knows, IsSeen, IsPaid, PaidUnless, Holding}
+use Rattle.robust_laws.proofs.Standing.{At}
 use Rattle.robust_laws.proofs.Rights.{Right, right_after}
 
 -- the words stay, or their changes go up
@@ -192,7 +193,7 @@ module _ {T : Type 0} (scene : Scene T) where
       (start : RobustStart) (flight : RobustFlight) (ask : Option Ask) (back : Bool) (did : List (Event T)) → IsHere start → Lengthens (did ++ [])
       → Does scene (words_after ws ask) (did ++ [])
       → AllFollow (Stands promise c) (Open (Robust start) (wrote_of p events)) (did ++ [])
-      → steps + step_count ask ≤ knows.number_of c flight (backs_then back)
+      → steps + step_count ask ≤ standing.number_of c flight (backs_then back)
       → At c (deeds_of p events ++ deeds (did ++ [])) start flight
       → Knows c flight (then_sees ask back (did ++ []))
       → Leads start ask back did (GoOn flight)
@@ -237,7 +238,7 @@ module _ {T : Type 0} (scene : Scene T) where
   module _ (inv : Inv scene) where
     pub goes_quietly :
         (start : RobustStart) (flight : RobustFlight) (ask : Option Ask) (back : Bool) → IsHere start → Stays scene (words_after ws ask)
-        → steps + step_count ask ≤ knows.number_of c flight (backs_then back)
+        → steps + step_count ask ≤ standing.number_of c flight (backs_then back)
         → At c (deeds_of p events) start flight
         → Knows c flight (view (words_after ws ask) events p (since_then ask) (changes_then ask) (backs_then back))
         → Leads start ask back [] (GoOn flight)

@@ -47,7 +47,8 @@ use Rattle.model.proofs.Rows.{row_passed, may_next, may_decide, must_be_due}
 use Rattle.model.proofs.Scenes.{StandsThere, stands_there}
 use Rattle.robust_laws.proofs.Finds.{find_loads_all, find_asks_all}
 use Rattle.robust_laws.proofs.Invariant.{Scene, Inv, family}
-use Rattle.robust_laws.proofs.Knows.{find_at, At, FindAt, Knows}
+use Rattle.robust_laws.proofs.Knows.{Knows}
+use Rattle.robust_laws.proofs.Standing.{find_at, At, FindAt}
 use Rattle.robust_laws.proofs.Sound.{kept_is, scene_of, inv_of, is_there}
 use Rattle.robust_laws.proofs.Stages.{all, now, any_call}
 use Rattle.robust_laws.proofs.Written.{all_effects}
