@@ -18,13 +18,14 @@ use Rattle.model.specs.declared.turn.Refusal.TheVariants.{BadIndex, OwnerIsDead,
 use Rattle.model.specs.declared.turn.Turn.{Turn}
 use Rattle.model.specs.declared.turn.Turn.TheVariants.{Begin, Next, Decide, Die}
 use Rattle.model.specs.Coding.{one_word}
-use Rattle.model.specs.Families.Indices.Robust.Promises.{IsFilled, IsFilledWith, HeldThrough, HoldsRight, DoesRight, AnswersRight, HasRecovered, IsCount, count_below}
+use Rattle.model.specs.Families.Indices.Robust.Promises.{IsFilled, IsFilledWith, HeldThrough, HoldsRight, DoesRight, AnswersRight, HasRecovered, IsCount, FreesRight, IsProper, count_below}
 use Rattle.model.specs.Families.Indices.Robust.Reading.{Deed, Frees, Asks, Yes, IsOneOf, deeds_of, filled_after, filled_of}
 use Rattle.model.specs.Families.Indices.Robust.Spans.{may_stand}
 use Rattle.model.specs.Moments.{BeginsNone, HeldOnce}
 use Rattle.model.specs.Reading.{Open}
 use Rattle.model.specs.Refusals.{refusal_of}
 use Rattle.model.specs.World.{Trace, opening, progress_in}
+use Rattle.model.proofs.Readings.{Each-append, Each-nil}
 use Rattle.model.proofs.Runs.{nexts, begins, ran}
 
 abbrev acquire : ℕ → Start ℕ
@@ -327,3 +328,37 @@ no_moment i (a ∷ b ∷ c ∷ d ∷ ds) rest is one filled = cc
 
 never_locks : AnswersRight 1 last_one (Finished 1 (release 0 7 LockIfLastIndex) (State states.TheVariants.Unlocked)) → ⊥
 never_locks right = no_moment right.1.other right.1.once.part right.1.once.rest right.1.once.is right.1.once.held.0 right.1.once.held.1
+
+-- ---- a proper run: an acquire, its release, and an acquire again
+
+abbrev proper_turns : List (Turn ℕ)
+proper_turns = begins 0 (acquire 313) 4 ++ (begins 0 (release 0 313 Default) 3 ++ begins 1 (acquire 7) 4)
+
+pub is_proper : IsProper (ran_on 1 proper_turns).events
+is_proper =
+    Each-append FreesRight [] (ran_on 1 proper_turns).events (Each-nil FreesRight) (
+      tt,
+      (
+        tt,
+        (
+          tt,
+          (
+            tt,
+            (
+              tt,
+              (
+                record {
+                  before = (ran_on 1 (begins 0 (acquire 313) 4)).events;
+                  start = release 0 313 Default;
+                  since = [];
+                  is = refl;
+                  within = tt;
+                  holds = refl;
+                },
+                (tt, (tt, (tt, (tt, (tt, tt))))),
+              ),
+            ),
+          ),
+        ),
+      ),
+    )
