@@ -128,9 +128,9 @@ fn three_words_in_one_value(rt: HostRuntime) -> Result<(), Fail> {
         level: u64::MAX,
         state: 9,
     };
-    let acquire = Start::Atomic(AtomicStart::AcquireProducer);
-    let load = Start::Atomic(AtomicStart::Load);
-    let store = Start::Atomic(AtomicStart::Store(value));
+    let acquire = AtomicStart::AcquireProducer;
+    let load = AtomicStart::Load;
+    let store = AtomicStart::Store(value);
     let mut machine: Machine<Reading> = Machine::new(rt.alloc(), Kind::Atomic, 1, 2)?;
     let table = [
         (0, acquire, 1, Answer::Truth(true)),
@@ -139,11 +139,11 @@ fn three_words_in_one_value(rt: HostRuntime) -> Result<(), Fail> {
         (1, load, 5, Answer::Loaded(value)),
     ];
     for (at, (party, start, turns, answer)) in table.into_iter().enumerate() {
-        step(&mut machine, Turn::Begin(party, start))?;
+        step(&mut machine, Turn::Begin(party, Start::Atomic(start)))?;
         for _ in 0..turns {
             step(&mut machine, Turn::Next(party))?;
         }
-        let last = Event::Finished(party, start, answer);
+        let last = Event::Finished(party, Start::Atomic(start), answer);
         assert_eq!(rt; machine.events().last(), Some(&last), "{at}");
     }
     assert_eq!(rt; machine.words(), [2, 0, 0, 0, 0, 7, u64::MAX, 9].as_slice());

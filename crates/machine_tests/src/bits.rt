@@ -93,24 +93,24 @@ fn scripts_of_flags_and_counts(rt: HostRuntime) -> Result<(), Fail> {
 
 #[test]
 fn what_two_counts_write_down(rt: HostRuntime) -> Result<(), Fail> {
-    let set = Start::Bits(BitsStart::Set(5));
-    let reset = Start::Bits(BitsStart::ResetAll);
+    let set = BitsStart::Set(5);
+    let reset = BitsStart::ResetAll;
     let mut machine = made(rt.alloc(), Kind::Counts, 123, 1)?;
     for (start, turns, _) in COUNTS {
         does(&mut machine, 0, start, turns)?;
     }
     let events = [
-        Event::Begun(0, set),
+        Event::Begun(0, Start::Bits(set)),
         Event::Counted(0, 5),
-        Event::Finished(0, set, Answer::Number(0)),
-        Event::Begun(0, set),
+        Event::Finished(0, Start::Bits(set), Answer::Number(0)),
+        Event::Begun(0, Start::Bits(set)),
         Event::Counted(0, 5),
-        Event::Finished(0, set, Answer::Number(1)),
-        Event::Begun(0, reset),
+        Event::Finished(0, Start::Bits(set), Answer::Number(1)),
+        Event::Begun(0, Start::Bits(reset)),
         Event::TakenOut(0, 5, 2),
-        Event::Finished(0, reset, Answer::Done),
-        Event::Begun(0, reset),
-        Event::Finished(0, reset, Answer::Done),
+        Event::Finished(0, Start::Bits(reset), Answer::Done),
+        Event::Begun(0, Start::Bits(reset)),
+        Event::Finished(0, Start::Bits(reset), Answer::Done),
     ];
     assert_eq!(rt; machine.events(), events.as_slice());
     Ok(())
@@ -203,13 +203,13 @@ fn refusals_of_places(rt: HostRuntime) -> Result<(), Fail> {
         let pop = Start::Queues(QueueStart::Pop);
         assert!(rt; go(&mut machine, Turn::Begin(0, pop)) == Err(Refusal::WrongCall));
         for place in [70, u64::MAX] {
-            let set = Start::Bits(BitsStart::Set(place));
+            let set = BitsStart::Set(place);
             assert!(rt;
-                go(&mut machine, Turn::Begin(0, set)) == Err(Refusal::BadIndex),
+                go(&mut machine, Turn::Begin(0, Start::Bits(set))) == Err(Refusal::BadIndex),
                 "{place}"
             );
             assert!(rt;
-                go(&mut machine, Turn::Begin(2, set)) == Err(Refusal::NoParty),
+                go(&mut machine, Turn::Begin(2, Start::Bits(set))) == Err(Refusal::NoParty),
                 "{place}"
             );
         }
@@ -219,11 +219,11 @@ fn refusals_of_places(rt: HostRuntime) -> Result<(), Fail> {
         assert!(rt; go(&mut machine, Turn::Begin(0, past)) == Err(Refusal::Busy));
         assert!(rt; machine.events().len() == 1);
     }
-    let next = Start::Bits(BitsStart::ResetNext);
+    let next = BitsStart::ResetNext;
     let mut counts = made(rt.alloc(), Kind::Counts, 1, 1)?;
-    assert!(rt; go(&mut counts, Turn::Begin(0, next)) == Err(Refusal::WrongCall));
+    assert!(rt; go(&mut counts, Turn::Begin(0, Start::Bits(next))) == Err(Refusal::WrongCall));
     let mut queue = made(rt.alloc(), Kind::IndexQueue, 1, 1)?;
-    assert!(rt; go(&mut queue, Turn::Begin(0, next)) == Err(Refusal::WrongCall));
+    assert!(rt; go(&mut queue, Turn::Begin(0, Start::Bits(next))) == Err(Refusal::WrongCall));
     Ok(())
 }
 

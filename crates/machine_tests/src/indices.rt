@@ -97,14 +97,13 @@ fn a_set_of_three(rt: HostRuntime) -> Result<(), Fail> {
         (0, LOCKED, 1, Answer::Truth(true)),
     ];
     play(&rt, &mut machine, &rows)?;
-    let lock = release_or_lock(0);
     assert_eq!(rt;
         machine.events().get(3..7),
         Some([
-            Event::Begun(0, lock),
+            Event::Begun(0, release_or_lock(0)),
             Event::Freed(0, 0),
             Event::Locked(0),
-            Event::Finished(0, lock, locked),
+            Event::Finished(0, release_or_lock(0), locked),
         ]
         .as_slice())
     );

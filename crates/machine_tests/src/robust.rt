@@ -124,13 +124,12 @@ fn an_acquire_that_meets_the_lock_late(rt: HostRuntime) -> Result<(), Fail> {
         &mut machine,
         &[(0, acquire(first), 4, Answer::Index(0))],
     )?;
-    let lock = release_or_lock(0, first);
-    go(&mut machine, Turn::Begin(0, lock))?;
+    go(&mut machine, Turn::Begin(0, release_or_lock(0, first)))?;
     goes(&mut machine, 0, 5)?;
     go(&mut machine, Turn::Begin(1, acquire(late)))?;
     goes(&mut machine, 1, 2)?;
     goes(&mut machine, 0, 2)?;
-    assert!(rt; has_answered(&machine, 0, lock, LOCKED));
+    assert!(rt; has_answered(&machine, 0, release_or_lock(0, first), LOCKED));
     assert!(rt; counts(&machine, 0, 7, 0, 1, true));
     goes(&mut machine, 1, 1)?;
     assert!(rt; has_answered(&machine, 1, acquire(late), LOCK_MET));
@@ -146,12 +145,12 @@ fn an_acquire_that_meets_the_lock_late(rt: HostRuntime) -> Result<(), Fail> {
                 Event::Filled(0, 0, first),
                 Event::Granted(0, 0, first),
                 Event::Finished(0, acquire(first), Answer::Index(0)),
-                Event::Begun(0, lock),
+                Event::Begun(0, release_or_lock(0, first)),
                 Event::FreedOf(0, 0, first),
                 Event::Begun(1, acquire(late)),
                 Event::Filled(1, 0, late),
                 Event::Locked(0),
-                Event::Finished(0, lock, LOCKED),
+                Event::Finished(0, release_or_lock(0, first), LOCKED),
                 Event::Finished(1, acquire(late), LOCK_MET),
                 Event::Begun(1, find(late)),
                 Event::Finished(1, find(late), Answer::Number(1)),
@@ -303,8 +302,7 @@ fn robust_turns_back(rt: HostRuntime) -> Result<(), Fail> {
         &[(0, acquire(owner), 4, Answer::Index(0))],
     )?;
     // The counter moves before the raise, before the count is closed, and before the lock.
-    let lock = release_or_lock(0, owner);
-    go(&mut machine, Turn::Begin(0, lock))?;
+    go(&mut machine, Turn::Begin(0, release_or_lock(0, owner)))?;
     goes(&mut machine, 0, 2)?;
     play(&rt, &mut machine, &[(1, BORROWED, 4, Answer::Number(0))])?;
     goes(&mut machine, 0, 5)?;
@@ -312,7 +310,7 @@ fn robust_turns_back(rt: HostRuntime) -> Result<(), Fail> {
     goes(&mut machine, 0, 5)?;
     play(&rt, &mut machine, &[(1, BORROWED, 4, Answer::Number(0))])?;
     goes(&mut machine, 0, 6)?;
-    assert!(rt; has_answered(&machine, 0, lock, LOCKED));
+    assert!(rt; has_answered(&machine, 0, release_or_lock(0, owner), LOCKED));
     assert!(rt; counts(&machine, 0, 18, 3, 3, true));
     Ok(())
 }
@@ -433,7 +431,7 @@ fn a_robust_set_of_seventy(rt: HostRuntime) -> Result<(), Fail> {
     for index in 0..70u64 {
         goes(&mut machine, 1, 1)?;
         if index % 3 == 2 {
-            found += 1;
+            found = found.wrapping_add(1);
             go(&mut machine, Turn::Decide(1, true))?;
         }
     }

@@ -247,19 +247,19 @@ fn goes_rounds(machine: &mut Machine<u128>, values: u64) -> bool {
 
 /// What a round writes down.
 fn told_of(value: u64) -> [Event<u128>; 8] {
-    let push = Start::Queues(QueueStart::PushIndex(value));
-    let pop = Start::Queues(QueueStart::Pop);
+    let push = QueueStart::PushIndex(value);
+    let pop = QueueStart::Pop;
     let item = Item::Index(value);
     let popped = Answer::PoppedIndex(value);
     [
-        Event::Begun(0, push),
+        Event::Begun(0, Start::Queues(push)),
         Event::Published(0, item),
-        Event::Acted(0, push, Answer::Truth(true)),
-        Event::Finished(0, push, Answer::Truth(true)),
-        Event::Begun(1, pop),
+        Event::Acted(0, Start::Queues(push), Answer::Truth(true)),
+        Event::Finished(0, Start::Queues(push), Answer::Truth(true)),
+        Event::Begun(1, Start::Queues(pop)),
         Event::HandedOut(1, item),
-        Event::Acted(1, pop, popped),
-        Event::Finished(1, pop, popped),
+        Event::Acted(1, Start::Queues(pop), popped),
+        Event::Finished(1, Start::Queues(pop), popped),
     ]
 }
 

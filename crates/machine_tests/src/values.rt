@@ -80,23 +80,20 @@ fn three_words_at_once(rt: HostRuntime) -> Result<(), Fail> {
         level: 5,
         state: 6,
     };
-    let (push_first, push_second) = (
-        Start::Queues(QueueStart::Push(first)),
-        Start::Queues(QueueStart::Push(second)),
-    );
+    let (push_first, push_second) = (QueueStart::Push(first), QueueStart::Push(second));
     let mut machine: Machine<Reading> = Machine::new(rt.alloc(), Kind::Queue, 1, 2)?;
     // The party, its call, the turns that it takes of it, and the last event and the words then.
-    let table: [(u32, Start<Reading>, u64, Event<Reading>, [u64; 7]); 9] = [
+    let table: [(u32, QueueStart<Reading>, u64, Event<Reading>, [u64; 7]); 9] = [
         (
             0,
-            ACQUIRE_PRODUCER,
+            QueueStart::AcquireProducer,
             1,
             Event::Finished(0, ACQUIRE_PRODUCER, Answer::Truth(true)),
             [0, 0, 0, 1, 0, 0, 0],
         ),
         (
             1,
-            ACQUIRE_CONSUMER,
+            QueueStart::AcquireConsumer,
             1,
             Event::Finished(1, ACQUIRE_CONSUMER, Answer::Truth(true)),
             [0, 0, 0, 0, 0, 0, 0],
@@ -106,19 +103,19 @@ fn three_words_at_once(rt: HostRuntime) -> Result<(), Fail> {
             0,
             push_first,
             5,
-            Event::Begun(0, push_first),
+            Event::Begun(0, Start::Queues(push_first)),
             [0, 0, 0, 0, 1, u64::MAX, 3],
         ),
         (
             1,
-            POP,
+            QueueStart::Pop,
             2,
             Event::Finished(1, POP, Answer::PoppedNone),
             [0, 0, 0, 0, 1, u64::MAX, 3],
         ),
         (
             1,
-            LEN,
+            QueueStart::Len,
             0,
             Event::Begun(1, LEN),
             [0, 0, 0, 0, 1, u64::MAX, 3],
@@ -127,35 +124,37 @@ fn three_words_at_once(rt: HostRuntime) -> Result<(), Fail> {
             0,
             push_first,
             1,
-            Event::Finished(0, push_first, Answer::Truth(true)),
+            Event::Finished(0, Start::Queues(push_first), Answer::Truth(true)),
             [1, 0, 0, 0, 1, u64::MAX, 3],
         ),
         (
             0,
             push_second,
             2,
-            Event::Finished(0, push_second, Answer::Truth(false)),
+            Event::Finished(0, Start::Queues(push_second), Answer::Truth(false)),
             [1, 0, 0, 0, 1, u64::MAX, 3],
         ),
         (
             1,
-            LEN,
+            QueueStart::Len,
             4,
             Event::Finished(1, LEN, Answer::Number(1)),
             [1, 0, 0, 0, 1, u64::MAX, 3],
         ),
         (
             1,
-            POP,
+            QueueStart::Pop,
             6,
             Event::Finished(1, POP, Answer::Popped(first)),
             [1, 1, 0, 0, 1, u64::MAX, 3],
         ),
     ];
-    for (at, (party, start, turns, last, words)) in table.into_iter().enumerate() {
+    let mut at = 0u64;
+    for (party, start, turns, last, words) in table {
+        at = at.wrapping_add(1);
         // A call that is under way goes on.
         if !machine.is_going(party) {
-            step(&mut machine, Turn::Begin(party, start))?;
+            step(&mut machine, Turn::Begin(party, Start::Queues(start)))?;
         }
         for _ in 0..turns {
             step(&mut machine, Turn::Next(party))?;
