@@ -210,7 +210,7 @@ module _ {T : Type 0} where
       record {
         step = λ t p x flight since s small passed found doing. step_comes code c t s p small x since flight found doing;
         decision = λ t p x flight since said s small passed found doing asks. asks_nothing code c t s p x flight since found doing asks;
-        begin = λ t p start flight s may e. begin_comes code c t s p start flight may e;
+        begin = λ t p start flight s small may e. begin_comes code c t s p start flight may e;
         death = frame.no_death (family code c) (λ kept words state fit. rw (kept_is kept words state fit).0 refl);
       }
 

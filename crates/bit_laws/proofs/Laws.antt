@@ -29,13 +29,14 @@ use Rattle.model.specs.Promises.Families.{promise_of}
 use Rattle.model.specs.Promises.Turns.{IsEffectOf}
 use Rattle.model.specs.Reading.{Span, Open, span_of}
 use Rattle.model.specs.Rows.{first_row}
-use Rattle.model.specs.Turns.{old_of, party_at_begin, ending_of, after_turn, IsReached}
+use Rattle.model.specs.Turns.{old_of, party_at_begin, ending_of, after_turn, IsReached, IsReachedOn}
 use Rattle.model.specs.World.{Trace, opening, progress_in}
 use Rattle.model.proofs.Frame as frame
 use Rattle.model.proofs.Moments.{others_begin_none}
 use Rattle.model.proofs.Orders.{Orders, Keeps, ends_end, turn_is}
 use Rattle.model.proofs.Readings.{Each-nil, span_of-own, span_of-other}
 use Rattle.model.proofs.Rows.{row_passed, MayBegin}
+use Rattle.model.proofs.Small.{reached_small}
 use Rattle.model.proofs.Scenes.{asked, StandsThere, stands_there, ComesFrom, comes_from, InOrder, in_order_from}
 use Rattle.bit_laws.proofs.Family.{SetState, SetKind, FlightAt, KnowsFlight, wrote_by, family, Shows, StepOf}
 use Rattle.bit_laws.proofs.Spans.{wrote_in}
@@ -59,7 +60,7 @@ module _ {T : Type 0} (K : SetKind T) where
     pub opens : K.Holds c ((opening_of K.kind).words code.size c) [] 0
     pub promise : promise_of {T = T} K.kind ≡ K.promise
     pub tells : (old : Trace T) (turn : Turn T) (new : Trace T) → K.promise.tells old turn new
-    pub keeps_promise : (t : Trace T) → t.world.capacity ≡ c → K.Holds c t.world.words t.events t.world.turns → K.promise.holds t
+    pub keeps_promise : (t : Trace T) → t.world.capacity ≡ c → t.world.turns ≤ 2 ^ 64 - 2 → K.Holds c t.world.words t.events t.world.turns → K.promise.holds t
     -- of a turn
     pub holds : (words : List ℕ) (events : List (Event T)) (turns changes : ℕ) (words' : List ℕ) (es : List (Event T)) (changes' : ℕ) → K.Conserves c words events turns changes words' es changes' → K.Holds c words events turns → K.Holds c words' (events ++ es) (turns + 1)
     pub still : (q : ℕ) (words : List ℕ) (events : List (Event T)) (turns changes : ℕ) (words' : List ℕ) (es : List (Event T)) (changes' : ℕ) → K.Conserves c words events turns changes words' es changes' → BeginsNone q es → (since backs : ℕ) (flight : BitsFlight)
@@ -73,7 +74,7 @@ module _ {T : Type 0} (K : SetKind T) where
     pub effects : (p old : ℕ) (wrote : List (Event T)) (start : BitsStart) (flight : BitsFlight) → K.At c wrote start flight → AllByRecursion (IsEffectOf {T = T} (Next p)) (effects_of p flight old)
     pub most : (wrote : List (Event T)) (backs : ℕ) (start : BitsStart) (flight : BitsFlight) → K.At c wrote start flight → K.number flight backs ≤ K.promise.most_steps c code.size (Bits start) backs
     pub paid : (p : ℕ) (events : List (Event T)) (words : List ℕ) (since changes backs : ℕ) (flight : BitsFlight) → K.Knows p events words since changes backs flight → backs ≤ changes - since
-    pub step : (s : SetState T) (events : List (Event T)) (turns p changes since steps backs : ℕ) → turns < 2 ^ 64 - 2 → K.Holds c s.words events turns → (start : BitsStart) (flight : BitsFlight) (wrote : List (Event T)) → StepOf K code c s events turns p changes since steps backs start flight wrote
+    pub step : (s : SetState T) (events : List (Event T)) (turns p changes since steps backs : ℕ) → K.Holds c s.words events turns → (start : BitsStart) (flight : BitsFlight) (wrote : List (Event T)) → StepOf K code c s events turns p changes since steps backs start flight wrote
 
   -- ---- the laws of the frame
 
@@ -124,11 +125,11 @@ module _ {T : Type 0} (K : SetKind T) where
 
       -- ---- one step of a call
 
-      module _ (small : t.world.turns < 2 ^ 64 - 2) (x : Party T) (since : ℕ) where
+      module _ (x : Party T) (since : ℕ) where
         comes : (start : Start T) (flight : Flight T) → StandsThere F t s p x since start flight → ComesFrom F t s p x since code s.state.words kepts.TheVariants.Nothing start flight
         comes (Bits start) (flights.TheVariants.Bits flight) here =
             let wrote : List (Event T) = K.wrote p flight (span_of p s.state.events) in
-            let shows = L.step s.state t.events t.world.turns p t.world.changes since x.steps x.backs small s.holds.0 start flight wrote here.at here.span refl here.steps here.knows in
+            let shows = L.step s.state t.events t.world.turns p t.world.changes since x.steps x.backs s.holds.0 start flight wrote here.at here.span refl here.steps here.knows in
             shown _ (Open (Bits start) wrote) _ _ _ shows here.span
         comes start flight here = absurd here.at
 
@@ -189,12 +190,12 @@ module _ {T : Type 0} (K : SetKind T) where
           (subst (λ f. Begins s.state.words kepts.TheVariants.Nothing start f) (sym mine.1) (begins start mine.0 is may)))
       begin_comes start flight may e = absurd (L.begins_own start flight (first_here start flight e))
 
-    laws : frame.Laws F
+    laws : frame.LawsOn F
     laws =
         record {
-          step = λ t p x flight since s small passed found doing. step_comes t s p small x since flight found doing;
+          step = λ t p x flight since s small passed found doing. step_comes t s p x since flight found doing;
           decision = λ t p x flight since said s small passed found doing asks. asks_nothing t s p x flight since found doing asks;
-          begin = λ t p start flight s may e. begin_comes t s p start flight may e;
+          begin = λ t p start flight s small may e. begin_comes t s p start flight may e;
           death = frame.no_death F (λ kept words state fit. rw fit.0 refl);
         }
 
@@ -237,7 +238,7 @@ module _ {T : Type 0} (K : SetKind T) where
       told kept (Bits start) (flights.TheVariants.Bits flight) answer none at = absurd (cc)
       told kept start flight answer none at = absurd at
 
-    orders : Orders F
+    pub orders : Orders F
     orders =
         record {
           step = λ t p x flight since s small found doing.
@@ -270,17 +271,26 @@ module _ {T : Type 0} (K : SetKind T) where
     sound t is r =
         let w = t.world in
         let L = laws_of w.coding w.capacity in
-        frame.reached_sound (family K w.coding w.capacity) (laws w.coding w.capacity L) t
+        frame.reached_sound (family K w.coding w.capacity) (frame.laws_within (family K w.coding w.capacity) (laws w.coding w.capacity L)) t
         (subst (λ kind. frame.Sound (family K w.coding w.capacity) (opening w.coding kind w.capacity w.parties)) (sym is) (opening_sound w.coding w.capacity L w.parties))
         r
 
-    kept_by : (t : Trace T) → frame.Sound (family K t.world.coding t.world.capacity) t → IsKeptBy K.promise t
-    kept_by t s =
+    -- the same where neither turns nor parties have a bound
+    pub sound_on : (t : Trace T) → t.world.kind ≡ K.kind → IsReachedOn t → frame.Sound (family K t.world.coding t.world.capacity) t
+    sound_on t is r =
+        let w = t.world in
+        let L = laws_of w.coding w.capacity in
+        frame.reached_on_sound (family K w.coding w.capacity) (laws w.coding w.capacity L) t
+        (subst (λ kind. frame.Sound (family K w.coding w.capacity) (opening w.coding kind w.capacity w.parties)) (sym is) (opening_sound w.coding w.capacity L w.parties))
+        r
+
+    kept_by : (t : Trace T) → t.world.turns ≤ 2 ^ 64 - 2 → frame.Sound (family K t.world.coding t.world.capacity) t → IsKeptBy K.promise t
+    kept_by t few s =
         let L = laws_of t.world.coding t.world.capacity in
         record {
           spans = s.inv.spans;
           progress = progress t.world.coding t.world.capacity L t s;
-          promised = L.keeps_promise t refl (subst (λ ws. K.Holds t.world.capacity ws t.events t.world.turns) (sym s.fit.1) s.holds.0);
+          promised = L.keeps_promise t refl few (subst (λ ws. K.Holds t.world.capacity ws t.events t.world.turns) (sym s.fit.1) s.holds.0);
         }
 
     -- where the promise of the kind is this
@@ -290,7 +300,7 @@ module _ {T : Type 0} (K : SetKind T) where
     pub sets_keep : Keeps T K.kind
     sets_keep =
         record {
-          kept = λ t is r. subst (λ P. IsKeptBy P t) (promise_is t is) (kept_by t (sound t is r));
+          kept = λ t is r. subst (λ P. IsKeptBy P t) (promise_is t is) (kept_by t (reached_small t r).turns (sound t is r));
           turn = λ t turn is e r.
               subst (λ P. IsTurnBy P t turn (after_turn t turn)) (promise_is t is)
               (turn_is (family K t.world.coding t.world.capacity) (orders t.world.coding t.world.capacity (laws_of t.world.coding t.world.capacity)) t turn e r (sound t is r));

@@ -24,13 +24,13 @@ use Rattle.model.specs.Promises.{IsKeptBy, IsKept}
 use Rattle.model.specs.Promises.Families.{promise_of}
 use Rattle.model.specs.Promises.Bounds.{Progresses}
 use Rattle.model.specs.Reading.{span_of}
-use Rattle.model.specs.Turns.{IsReached}
+use Rattle.model.specs.Turns.{IsReached, IsReachedOn}
 use Rattle.model.specs.World.{Trace, progress_in}
 use Rattle.model.proofs.Frame as frame
 use Rattle.index_laws.proofs.Core.{is_claimed}
 use Rattle.index_laws.proofs.Invariant.{IndexSet, family}
 use Rattle.index_laws.proofs.Knows.{acquire_number, release_number, number_of, PaidUnless, AcquireAt, AcquireKnows, LockKnows, FlightKnows, At}
-use Rattle.index_laws.proofs.Sound.{kept_is, reached_sound}
+use Rattle.index_laws.proofs.Sound.{kept_is, reached_sound, reached_on_sound}
 
 -- ---- how many steps a call has taken
 
@@ -124,3 +124,7 @@ module _ {T : Type 0} where
 
   pub kept : (t : Trace T) → t.world.kind ≡ kinds.TheVariants.Indices → IsReached t → IsKept t
   kept t is r = subst (λ P. IsKeptBy P t) (sym (ap (promise_of {T = T}) is)) (kept_by t.world.coding t (reached_sound t is r))
+
+  -- the same without a bound of turns or parties
+  pub kept_on : (t : Trace T) → t.world.kind ≡ kinds.TheVariants.Indices → IsReachedOn t → IsKept t
+  kept_on t is r = subst (λ P. IsKeptBy P t) (sym (ap (promise_of {T = T}) is)) (kept_by t.world.coding t (reached_on_sound t is r))

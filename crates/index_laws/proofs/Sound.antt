@@ -32,7 +32,7 @@ use Rattle.model.specs.Families.Queues.Opening.{holds}
 use Rattle.model.specs.Parties.{party_of, doing_of, flight_of}
 use Rattle.model.specs.Reading.{Open, span_of}
 use Rattle.model.specs.Rows.{first_row}
-use Rattle.model.specs.Turns.{old_of, party_at_begin, IsReached}
+use Rattle.model.specs.Turns.{old_of, party_at_begin, IsReached, IsReachedOn}
 use Rattle.model.specs.World.{Trace, opening, capacity_error}
 use Rattle.model.proofs.Frame as frame
 use Rattle.model.proofs.Readings.{Each-nil}
@@ -270,12 +270,12 @@ module _ {T : Type 0} (code : Coding T) (c : ℕ) (t : Trace T) (s : frame.Sound
       absurd (begins_own t.world.capacity start flight named)
 
 module _ {T : Type 0} where
-  laws : (code : Coding T) (c : ℕ) → frame.Laws (family code c)
+  laws : (code : Coding T) (c : ℕ) → frame.LawsOn (family code c)
   laws code c =
       record {
         step = λ t p x flight since s small passed found doing. step_comes code c t s p x since found flight doing;
         decision = λ t p x flight since said s small passed found doing asks. asks_nothing code c t s p x flight since found doing asks;
-        begin = λ t p start flight s may e. begin_comes code c t s p start flight may e;
+        begin = λ t p start flight s small may e. begin_comes code c t s p start flight may e;
         death = frame.no_death (family code c) (λ kept words state fit. rw (kept_is kept words state fit).0 refl);
       }
 
@@ -307,6 +307,16 @@ module _ {T : Type 0} where
       let w = t.world in
       let may = admitted_is w.capacity (subst (λ kind. capacity_error kind w.capacity ≡ None) is r.admitted) in
       let first = opening_sound w.coding w.capacity w.parties may.0 may.1 in
-      frame.reached_sound (family w.coding w.capacity) (laws w.coding w.capacity) t
+      frame.reached_sound (family w.coding w.capacity) (frame.laws_within (family w.coding w.capacity) (laws w.coding w.capacity)) t
+      (subst (λ kind. frame.Sound (family w.coding w.capacity) (opening w.coding kind w.capacity w.parties)) (sym is) first)
+      r
+
+  -- the same where neither turns nor parties have a bound
+  pub reached_on_sound : (t : Trace T) → t.world.kind ≡ kinds.TheVariants.Indices → IsReachedOn t → frame.Sound (family t.world.coding t.world.capacity) t
+  reached_on_sound t is r =
+      let w = t.world in
+      let may = admitted_is w.capacity (subst (λ kind. capacity_error kind w.capacity ≡ None) is r.admitted) in
+      let first = opening_sound w.coding w.capacity w.parties may.0 may.1 in
+      frame.reached_on_sound (family w.coding w.capacity) (laws w.coding w.capacity) t
       (subst (λ kind. frame.Sound (family w.coding w.capacity) (opening w.coding kind w.capacity w.parties)) (sym is) first)
       r

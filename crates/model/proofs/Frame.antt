@@ -21,15 +21,15 @@ use Rattle.model.specs.Promises.Bounds.{Progresses}
 use Rattle.model.specs.Promise.{Promise}
 use Rattle.model.specs.Promises.Spans.{Stands, StandsRight}
 use Rattle.model.specs.Reading.{Each, Span, Never, Open, Ended, own_after, span_of}
-use Rattle.model.specs.Refusals.{refusal_of, is_due}
+use Rattle.model.specs.Refusals.{refusal_of, call_refusal, is_due}
 use Rattle.model.specs.Rows.{first_row}
 use Rattle.model.specs.Shape.{IsShut}
-use Rattle.model.specs.Turns.{old_of, words_after, change_of, step_count, number_of, ask_of_doing, party_at_begin, after_begin, party_after, after_step, step_in, after_answer, after_next, after_decision, after_turn, events_of_step, events_of_answer, events_of_next, events_of_decision, IsReached}
+use Rattle.model.specs.Turns.{old_of, words_after, change_of, step_count, number_of, ask_of_doing, party_at_begin, after_begin, party_after, after_step, step_in, after_answer, after_next, after_decision, after_turn, events_of_step, events_of_answer, events_of_next, events_of_decision, IsReached, IsReachedOn}
 use Rattle.model.specs.World.{Trace, opening, flight_in}
 use Rattle.model.proofs.Parties.{party_put_same, party_put_other}
-use Rattle.model.proofs.Reached.{kept_by_runs}
+use Rattle.model.proofs.Reached.{kept_by_runs, kept_by_runs_on}
 use Rattle.model.proofs.Readings.{AreRight, Each-append, AreOwn, AllFollow, span_of-own, span_of-other, span_of-death, spans_right}
-use Rattle.model.proofs.Rows.{may_begin, may_next, may_decide, may_die, must_be_due, next_passes, decision_passes, MayBegin, MayGoOn, MayDie}
+use Rattle.model.proofs.Rows.{may_begin, may_next, may_decide, may_die, must_be_due, next_passes, decision_passes, passes, MayBegin, MayGoOn, MayDie}
 
 pub is_true : (b : Bool) → not b ≡ false → b ≡ true
 is_true true e = refl
@@ -220,17 +220,17 @@ module _ {T : Type 0} (F : Family T) where
       let without = none t.world.kept t.world.words s.state s.fit in
       absurd (cc)
 
-  -- what a family owes, of a call that passes its rows
-  pub record Laws : Type 0 where
-    pub step : (t : Trace T) (p : ℕ) (x : Party T) (flight : Flight T) (since : ℕ) → Sound t → t.world.turns < 2 ^ 64 - 2 → first_row (going_rows t.world.coding t.world.kept (Some flight) None) ≡ None → party_of p t.world.latest ≡ Some x → x.doing ≡ Going flight since
+  -- what a family owes, of a call that passes its rows, in a machine of which this holds
+  pub record LawsWhere (May : Trace T → Type 0) : Type 0 where
+    pub step : (t : Trace T) (p : ℕ) (x : Party T) (flight : Flight T) (since : ℕ) → Sound t → May t → first_row (going_rows t.world.coding t.world.kept (Some flight) None) ≡ None → party_of p t.world.latest ≡ Some x → x.doing ≡ Going flight since
         → ComesByStep t p x flight since (ask_of (want_of t.world.coding flight)) (old_of t.world.words (ask_of (want_of t.world.coding flight)))
-    pub decision : (t : Trace T) (p : ℕ) (x : Party T) (flight : Flight T) (since : ℕ) (said : Bool) → Sound t → t.world.turns < 2 ^ 64 - 2 → first_row (going_rows t.world.coding t.world.kept (Some flight) (Some said)) ≡ None → party_of p t.world.latest ≡ Some x → x.doing ≡ Going flight since → is_question (want_of t.world.coding flight) ≡ true
+    pub decision : (t : Trace T) (p : ℕ) (x : Party T) (flight : Flight T) (since : ℕ) (said : Bool) → Sound t → May t → first_row (going_rows t.world.coding t.world.kept (Some flight) (Some said)) ≡ None → party_of p t.world.latest ≡ Some x → x.doing ≡ Going flight since → is_question (want_of t.world.coding flight) ≡ true
         → ComesByStep t p x flight since None (number_of said)
-    pub begin : (t : Trace T) (p : ℕ) (start : Start T) (flight : Flight T) → Sound t → MayBegin t.world p start → first_of t.world.kind t.world.capacity start ≡ Some flight
+    pub begin : (t : Trace T) (p : ℕ) (start : Start T) (flight : Flight T) → Sound t → May t → MayBegin t.world p start → first_of t.world.kind t.world.capacity start ≡ Some flight
         → Comes t p t.world.kept t.world.words (party_at_begin start flight t.world.changes) (Begun p start ∷ []) t.world.changes
     pub death : (t : Trace T) (owner : ℕ) (s : Sound t) → MayDie t.world owner → ComesByDeath t s owner
 
-  module _ (laws : Laws) where
+  module _ (May : Trace T → Type 0) (laws : LawsWhere May) where
     step_sound : (t : Trace T) (p : ℕ) (x : Party T) (flight : Flight T) (since : ℕ) (ask : Option Ask) (answer : ℕ) → Sound t → ComesByStep t p x flight since ask answer
         → Sound record { world = after_step t.world p x since ask (step_in t.world p x flight answer); events = t.events ++ events_of_step p x.start (step_in t.world p x flight answer) }
     step_sound t p x flight since ask answer s comes =
@@ -249,7 +249,7 @@ module _ {T : Type 0} (F : Family T) where
     same : (t : Trace T) → Sound t → Sound record { world = t.world; events = t.events ++ [] }
     same t s = subst (λ es. Sound record { world = t.world; events = es }) (sym (append-nil t.events)) s
 
-    next_sound : (t : Trace T) (p : ℕ) → MayGoOn t.world p → first_row (going_rows t.world.coding t.world.kept (flight_in t.world p) None) ≡ None → Sound t → (o : Option (Party T)) → party_of p t.world.latest ≡ o → Sound record { world = after_next t.world p o; events = t.events ++ events_of_next t.world p o }
+    next_sound : (t : Trace T) (p : ℕ) → May t → first_row (going_rows t.world.coding t.world.kept (flight_in t.world p) None) ≡ None → Sound t → (o : Option (Party T)) → party_of p t.world.latest ≡ o → Sound record { world = after_next t.world p o; events = t.events ++ events_of_next t.world p o }
     next_sound t p may rows s None e = same t s
     next_sound t p may rows s (Some x) e = go x.doing refl
       where
@@ -259,9 +259,9 @@ module _ {T : Type 0} (F : Family T) where
             let here : flight_in t.world p ≡ Some flight = ap (λ o. flight_of (doing_of o)) e ∙ ap (λ d. flight_of (Some d)) d in
             let passed : first_row (going_rows t.world.coding t.world.kept (Some flight) None) ≡ None = subst (λ o. first_row (going_rows t.world.coding t.world.kept o None) ≡ None) here rows in
             step_sound t p x flight since (ask_of (want_of t.world.coding flight)) (old_of t.world.words (ask_of (want_of t.world.coding flight))) s
-            (laws.step t p x flight since s may.turns passed e d)
+            (laws.step t p x flight since s may passed e d)
 
-    decision_sound : (t : Trace T) (p : ℕ) (said : Bool) → MayGoOn t.world p → first_row (going_rows t.world.coding t.world.kept (flight_in t.world p) (Some said)) ≡ None → is_due t.world.coding (flight_in t.world p) ≡ true → Sound t → (o : Option (Party T)) → party_of p t.world.latest ≡ o
+    decision_sound : (t : Trace T) (p : ℕ) (said : Bool) → May t → first_row (going_rows t.world.coding t.world.kept (flight_in t.world p) (Some said)) ≡ None → is_due t.world.coding (flight_in t.world p) ≡ true → Sound t → (o : Option (Party T)) → party_of p t.world.latest ≡ o
         → Sound record { world = after_decision t.world p said o; events = t.events ++ events_of_decision t.world p said o }
     decision_sound t p said may rows due s None e = same t s
     decision_sound t p said may rows due s (Some x) e = go x.doing refl
@@ -272,15 +272,15 @@ module _ {T : Type 0} (F : Family T) where
             let here : flight_in t.world p ≡ Some flight = ap (λ o. flight_of (doing_of o)) e ∙ ap (λ d. flight_of (Some d)) d in
             let asks : is_question (want_of t.world.coding flight) ≡ true = rw here at due in
             let passed : first_row (going_rows t.world.coding t.world.kept (Some flight) (Some said)) ≡ None = subst (λ o. first_row (going_rows t.world.coding t.world.kept o (Some said)) ≡ None) here rows in
-            step_sound t p x flight since None (number_of said) s (laws.decision t p x flight since said s may.turns passed e d asks)
+            step_sound t p x flight since None (number_of said) s (laws.decision t p x flight since said s may passed e d asks)
 
-    begin_sound : (t : Trace T) (p : ℕ) (start : Start T) → MayBegin t.world p start → Sound t → (o : Option (Flight T)) → first_of t.world.kind t.world.capacity start ≡ o → Sound record { world = after_begin t.world p start o; events = t.events ++ Begun p start ∷ [] }
-    begin_sound t p start may s None e =
+    begin_sound : (t : Trace T) (p : ℕ) (start : Start T) → May t → MayBegin t.world p start → Sound t → (o : Option (Flight T)) → first_of t.world.kind t.world.capacity start ≡ o → Sound record { world = after_begin t.world p start o; events = t.events ++ Begun p start ∷ [] }
+    begin_sound t p start small may s None e =
         let call = rw e at may.call in
         absurd (cc)
-    begin_sound t p start may s (Some flight) e =
+    begin_sound t p start small may s (Some flight) e =
         let w = t.world in
-        let comes = laws.begin t p start flight s may e in
+        let comes = laws.begin t p start flight s small may e in
         record {
           coding = s.coding;
           kind = s.kind;
@@ -313,15 +313,37 @@ module _ {T : Type 0} (F : Family T) where
               };
         }
 
-    pub turn_sound : (t : Trace T) (turn : Turn T) → refusal_of t.world turn ≡ None → Sound t → Sound (after_turn t turn)
-    turn_sound t (Begin p start) e s = begin_sound t p start (may_begin t.world p start e) s (first_of t.world.kind t.world.capacity start) refl
-    turn_sound t (Next p) e s = next_sound t p (may_next t.world p e) (next_passes t.world p e) s (party_of p t.world.latest) refl
-    turn_sound t (Decide p said) e s =
-        decision_sound t p said (may_decide t.world p said e) (decision_passes t.world p said e) (is_true (is_due t.world.coding (flight_in t.world p)) (must_be_due t.world p said e)) s (party_of p t.world.latest) refl
-    turn_sound t (Die owner) e s = death_sound t owner (may_die t.world owner e) s
+    pub turn_sound : (t : Trace T) (turn : Turn T) → call_refusal t.world turn ≡ None → May t → Sound t → Sound (after_turn t turn)
+    turn_sound t (Begin p start) e may s = begin_sound t p start may (may_begin t.world p start e) s (first_of t.world.kind t.world.capacity start) refl
+    turn_sound t (Next p) e may s = next_sound t p may (next_passes t.world p e) s (party_of p t.world.latest) refl
+    turn_sound t (Decide p said) e may s =
+        decision_sound t p said may (decision_passes t.world p said e) (is_true (is_due t.world.coding (flight_in t.world p)) (must_be_due t.world p said e)) s (party_of p t.world.latest) refl
+    turn_sound t (Die owner) e may s = death_sound t owner (may_die t.world owner e) s
 
-    pub reached_sound : (t : Trace T) → Sound (opening t.world.coding t.world.kind t.world.capacity t.world.parties) → IsReached t → Sound t
-    reached_sound t first r = kept_by_runs Sound (λ u turn e h. turn_sound u turn e h) t first r
+  -- the laws of a machine that can take a turn more
+  abbrev pub Laws : Type 0
+  Laws = LawsWhere (λ t. t.world.turns < 2 ^ 64 - 2)
+
+  -- the laws of a machine without an end
+  abbrev pub LawsOn : Type 0
+  LawsOn = LawsWhere (λ t. Unit {0})
+
+  pub reached_sound : Laws → (t : Trace T) → Sound (opening t.world.coding t.world.kind t.world.capacity t.world.parties) → IsReached t → Sound t
+  reached_sound laws t first r =
+      kept_by_runs Sound (λ u turn e h. turn_sound (λ t. t.world.turns < 2 ^ 64 - 2) laws u turn (passes u.world turn e).on (passes u.world turn e).turns h) t first r
+
+  pub reached_on_sound : LawsOn → (t : Trace T) → Sound (opening t.world.coding t.world.kind t.world.capacity t.world.parties) → IsReachedOn t → Sound t
+  reached_on_sound laws t first r = kept_by_runs_on Sound (λ u turn e h. turn_sound (λ t. Unit {0}) laws u turn e tt h) t first r
+
+  -- laws without an end are laws of a machine with one
+  pub laws_within : LawsOn → Laws
+  laws_within laws =
+      record {
+        step = λ t p x flight since s small passed found doing. laws.step t p x flight since s tt passed found doing;
+        decision = λ t p x flight since said s small passed found doing asks. laws.decision t p x flight since said s tt passed found doing asks;
+        begin = λ t p start flight s small may e. laws.begin t p start flight s tt may e;
+        death = laws.death;
+      }
 
   -- ---- progress
 

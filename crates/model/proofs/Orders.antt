@@ -19,7 +19,7 @@ use Rattle.model.specs.Turns.{old_of, ask_of_doing, number_of, step_in, events_o
 use Rattle.model.specs.World.{Trace, flight_in}
 use Rattle.model.proofs.Frame.{Family, Sound, is_true}
 use Rattle.model.proofs.Reached.{reached_more}
-use Rattle.model.proofs.Rows.{may_next, may_decide, must_be_due}
+use Rattle.model.proofs.Rows.{passes, must_be_due}
 use Rattle.model.proofs.Small.{reached_small}
 use Rattle.model.proofs.Turns.{one_turn_later, writes_one_word, goes_on, counts_turn, counts_others}
 
@@ -62,18 +62,18 @@ module _ {T : Type 0} (F : Family T) where
 
   writes_down : Orders → (t : Trace T) (turn : Turn T) → refusal_of t.world turn ≡ None → Sound F t → WritesDown F.promise t turn (after_turn t turn)
   writes_down orders t (Begin p start) e s = refl
-  writes_down orders t (Next p) e s = next_in_order orders t s (may_next t.world p e).turns p (party_of p t.world.latest) refl
+  writes_down orders t (Next p) e s = next_in_order orders t s (passes t.world (Next p) e).turns p (party_of p t.world.latest) refl
   writes_down orders t (Decide p said) e s =
-      decision_in_order orders t s (may_decide t.world p said e).turns p said (is_true (is_due t.world.coding (flight_in t.world p)) (must_be_due t.world p said e)) (party_of p t.world.latest) refl
+      decision_in_order orders t s (passes t.world (Decide p said) e).turns p said (is_true (is_due t.world.coding (flight_in t.world p)) (must_be_due t.world p said (passes t.world (Decide p said) e).on)) (party_of p t.world.latest) refl
   writes_down orders t (Die owner) e s = refl
 
   pub turn_is : Orders → (t : Trace T) (turn : Turn T) → refusal_of t.world turn ≡ None → IsReached t → Sound F t → IsTurnBy F.promise t turn (after_turn t turn)
   turn_is orders t turn e r s =
       record {
-        later = one_turn_later t.world turn e;
+        later = one_turn_later t.world turn (passes t.world turn e).on;
         word = writes_one_word t.world turn;
-        call = goes_on t.world turn (λ p x flight since answer found doing. orders.after t p x flight since answer s found doing) e;
-        counts = counts_turn t.world turn e;
+        call = goes_on t.world turn (λ p x flight since answer found doing. orders.after t p x flight since answer s found doing) (passes t.world turn e).on;
+        counts = counts_turn t.world turn (passes t.world turn e).on;
         others = counts_others t.world turn (reached_small t r);
         events = writes_down orders t turn e s;
         tells = orders.tells t turn e s;

@@ -15,8 +15,8 @@ use Rattle.model.specs.Coding.{Coding, IsCoding}
 use Rattle.model.specs.Families.{first_of}
 use Rattle.model.specs.Parties.{party_of}
 use Rattle.model.specs.World.{World, Trace, opening, capacity_error}
-use Rattle.model.specs.Refusals.{refusal_of}
-use Rattle.model.specs.Turns.{after_begin, after_answer, after_next, after_decision, world_after, after_turn, unless_refused, attempt, run, after_turns, AreAllowed, IsReached, ask_of_doing, old_of, number_of}
+use Rattle.model.specs.Refusals.{refusal_of, call_refusal}
+use Rattle.model.specs.Turns.{after_begin, after_answer, after_next, after_decision, world_after, after_turn, unless_refused, attempt, run, attempt_on, run_on, IsReachedOn, after_turns, AreAllowed, IsReached, ask_of_doing, old_of, number_of}
 
 module _ {T : Type 0} where
   -- ---- what a machine is made with stays
@@ -117,3 +117,40 @@ module _ {T : Type 0} where
 
     pub kept_by_runs : (t : Trace T) → P (opening t.world.coding t.world.kind t.world.capacity t.world.parties) → IsReached t → P t
     kept_by_runs t first r = subst P (sym r.is) (run_keeps r.turns (opening t.world.coding t.world.kind t.world.capacity t.world.parties) first)
+
+  -- ---- where neither turns nor parties have a bound
+
+  run_on_more : (turns : List (Turn T)) (turn : Turn T) (t : Trace T) → run_on (turns ++ turn ∷ []) t ≡ attempt_on (run_on turns t) turn
+  run_on_more [] turn t = refl
+  run_on_more (x ∷ xs) turn t = run_on_more xs turn (attempt_on t x)
+
+  attempt_on_allowed : (t : Trace T) (turn : Turn T) → call_refusal t.world turn ≡ None → attempt_on t turn ≡ after_turn t turn
+  attempt_on_allowed t turn e = ap (unless_refused t (after_turn t turn)) e
+
+  pub reached_on_more : (t : Trace T) (turn : Turn T) → call_refusal t.world turn ≡ None → IsReachedOn t → IsReachedOn (after_turn t turn)
+  reached_on_more t turn e r =
+      let making = turn_making t.world turn in
+      let more : after_turn t turn ≡ run_on (r.turns ++ turn ∷ []) (opening t.world.coding t.world.kind t.world.capacity t.world.parties) =
+      sym (attempt_on_allowed t turn e) ∙ (ap (λ u. attempt_on u turn) r.is ∙ sym (run_on_more r.turns turn (opening t.world.coding t.world.kind t.world.capacity t.world.parties)))
+      in
+      record {
+        coded = rw making.coding r.coded;
+        admitted = rw (making.kind, making.capacity) r.admitted;
+        turns = r.turns ++ turn ∷ [];
+        is = rw (making.coding, making.kind, making.capacity, making.parties) more;
+      }
+
+  pub reached_on_opening : (code : Coding T) (kind : Kind) (capacity parties : ℕ) → IsCoding code → capacity_error kind capacity ≡ None → IsReachedOn (opening code kind capacity parties)
+  reached_on_opening code kind capacity parties coded e = record { coded = coded; admitted = e; turns = []; is = refl }
+
+  module _ (P : Trace T → Type 0) (keeps : (t : Trace T) (turn : Turn T) → call_refusal t.world turn ≡ None → P t → P (after_turn t turn)) where
+    attempt_on_keeps : (t : Trace T) (turn : Turn T) (o : Option Refusal) → call_refusal t.world turn ≡ o → P t → P (unless_refused t (after_turn t turn) o)
+    attempt_on_keeps t turn None e h = keeps t turn e h
+    attempt_on_keeps t turn (Some refusal) e h = h
+
+    run_on_keeps : (turns : List (Turn T)) (t : Trace T) → P t → P (run_on turns t)
+    run_on_keeps [] t h = h
+    run_on_keeps (turn ∷ turns) t h = run_on_keeps turns (attempt_on t turn) (attempt_on_keeps t turn (call_refusal t.world turn) refl h)
+
+    pub kept_by_runs_on : (t : Trace T) → P (opening t.world.coding t.world.kind t.world.capacity t.world.parties) → IsReachedOn t → P t
+    kept_by_runs_on t first r = subst P (sym r.is) (run_on_keeps r.turns (opening t.world.coding t.world.kind t.world.capacity t.world.parties) first)

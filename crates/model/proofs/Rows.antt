@@ -1,9 +1,10 @@
 -- What a turn that is not refused has passed.
-use Rattle.std.proofs.Common.{◌≡◌, ℕ, ◌^◌, ◌-◌, ◌<◌, Bool, true, false, cond, not, Option, Some, None, is_some, is_none, nat_le, refl, arith}
+use Rattle.std.proofs.Common.{◌≡◌, ℕ, ◌^◌, ◌-◌, ◌<◌, Bool, true, false, cond, not, Option, Some, None, is_some, is_none, List, ◌∷◌, nat_le, refl, arith}
 use Rattle.std.proofs.lemmas.Bool.Decides.{nat_tests}
 use Rattle.model.specs.declared.families.Flight.{Flight}
 use Rattle.model.specs.declared.event.Start.{Start}
 use Rattle.model.specs.declared.party.Party.{Party}
+use Rattle.model.specs.declared.turn.Turn.{Turn}
 use Rattle.model.specs.declared.turn.Turn.TheVariants.{Begin, Next, Decide, Die}
 use Rattle.model.specs.declared.turn.Refusal.{Refusal}
 use Rattle.model.specs.declared.turn.Refusal.TheVariants.{AtEnd, NoParty, Idle, Undecided, WrongCall, OwnerIsDead}
@@ -12,7 +13,7 @@ use Rattle.model.specs.World.{World, flight_in}
 use Rattle.model.specs.Families.{begin_of, first_of, going_rows, has_owners, is_dead}
 use Rattle.model.specs.Turns.{turn_of}
 use Rattle.model.specs.Rows.{first_row}
-use Rattle.model.specs.Refusals.{refusal_of, is_at_end, is_due}
+use Rattle.model.specs.Refusals.{refusal_of, call_refusal, call_rows, is_at_end, is_due}
 
 -- a row that did not apply
 pub row_passed : (b : Bool) (r : Refusal) (rest : Option Refusal) → cond b (Some r) rest ≡ None → (b ≡ false) × (rest ≡ None)
@@ -32,93 +33,87 @@ module _ {T : Type 0} where
   some_party None f e = absurd (cc)
   some_party (Some x) f e = (x, refl)
 
-  pub record MayBegin (w : World T) (p : ℕ) (start : Start T) : Type 0 where
+  -- ---- what a turn has passed that is not refused by its rows
+
+  -- neither the end nor a party's number refused it
+  pub record Passes (w : World T) (turn : Turn T) : Type 0 where
     pub turns : w.turns < 2 ^ 64 - 2
-    pub party : p < w.parties
+    pub on : call_refusal w turn ≡ None
+
+  more : (w : World T) (rest : List (Bool × Refusal)) → first_row ((is_at_end w, AtEnd) ∷ rest) ≡ None → (w.turns < 2 ^ 64 - 2) × (first_row rest ≡ None)
+  more w rest e =
+      let a = row_passed (is_at_end w) AtEnd _ e in
+      let at : nat_le (2 ^ 64 - 2) w.turns ≡ false = a.0 in
+      (grind (arith, nat_tests), a.1)
+
+  pub passes : (w : World T) (turn : Turn T) → refusal_of w turn ≡ None → Passes w turn
+  passes w (Begin p start) e =
+      let m = more w ((nat_le w.parties p, NoParty) ∷ call_rows w (Begin p start)) e in
+      record { turns = m.0; on = (row_passed (nat_le w.parties p) NoParty (call_refusal w (Begin p start)) m.1).1 }
+  passes w (Next p) e =
+      let m = more w ((nat_le w.parties p, NoParty) ∷ call_rows w (Next p)) e in
+      record { turns = m.0; on = (row_passed (nat_le w.parties p) NoParty (call_refusal w (Next p)) m.1).1 }
+  passes w (Decide p said) e =
+      let m = more w ((nat_le w.parties p, NoParty) ∷ call_rows w (Decide p said)) e in
+      record { turns = m.0; on = (row_passed (nat_le w.parties p) NoParty (call_refusal w (Decide p said)) m.1).1 }
+  passes w (Die owner) e = let m = more w (call_rows w (Die owner)) e in record { turns = m.0; on = m.1 }
+
+  pub record MayBegin (w : World T) (p : ℕ) (start : Start T) : Type 0 where
     pub free : flight_in w p ≡ None
     pub call : is_none (first_of w.kind w.capacity start) ≡ false
     pub rows : first_row ((begin_of w.kind w.capacity start).rows w.kept p) ≡ None
 
-  pub may_begin : (w : World T) (p : ℕ) (start : Start T) → refusal_of w (Begin p start) ≡ None → MayBegin w p start
+  pub may_begin : (w : World T) (p : ℕ) (start : Start T) → call_refusal w (Begin p start) ≡ None → MayBegin w p start
   may_begin w p start e =
-      let a = row_passed _ _ _ e in
-      let b = row_passed _ _ _ a.1 in
-      let c = row_passed _ _ _ b.1 in
+      let c = row_passed _ _ _ e in
       let d = row_passed _ _ _ c.1 in
-      let at : nat_le (2 ^ 64 - 2) w.turns ≡ false = a.0 in
-      let in_range : nat_le w.parties p ≡ false = b.0 in
-      record {
-        turns = grind (arith, nat_tests);
-        party = grind (arith, nat_tests);
-        free = not_some _ c.0;
-        call = d.0;
-        rows = d.1;
-      }
+      record { free = not_some _ c.0; call = d.0; rows = d.1 }
 
   pub record MayGoOn (w : World T) (p : ℕ) : Type 0 where
-    pub turns : w.turns < 2 ^ 64 - 2
-    pub party : p < w.parties
     pub flight : Flight T
     pub is : flight_in w p ≡ Some flight
 
-  pub may_next : (w : World T) (p : ℕ) → refusal_of w (Next p) ≡ None → MayGoOn w p
+  pub may_next : (w : World T) (p : ℕ) → call_refusal w (Next p) ≡ None → MayGoOn w p
   may_next w p e =
-      let a = row_passed _ _ _ e in
-      let b = row_passed _ _ _ a.1 in
-      let c = row_passed _ _ _ b.1 in
-      let at : nat_le (2 ^ 64 - 2) w.turns ≡ false = a.0 in
-      let in_range : nat_le w.parties p ≡ false = b.0 in
+      let c = row_passed _ _ _ e in
       let f = not_none _ c.0 in
-      record { turns = grind (arith, nat_tests); party = grind (arith, nat_tests); flight = f.0; is = f.1 }
+      record { flight = f.0; is = f.1 }
 
-  pub may_decide : (w : World T) (p : ℕ) (said : Bool) → refusal_of w (Decide p said) ≡ None → MayGoOn w p
+  pub may_decide : (w : World T) (p : ℕ) (said : Bool) → call_refusal w (Decide p said) ≡ None → MayGoOn w p
   may_decide w p said e =
-      let a = row_passed _ _ _ e in
-      let b = row_passed _ _ _ a.1 in
-      let c = row_passed _ _ _ b.1 in
-      let at : nat_le (2 ^ 64 - 2) w.turns ≡ false = a.0 in
-      let in_range : nat_le w.parties p ≡ false = b.0 in
+      let c = row_passed _ _ _ e in
       let f = not_none _ c.0 in
-      record { turns = grind (arith, nat_tests); party = grind (arith, nat_tests); flight = f.0; is = f.1 }
+      record { flight = f.0; is = f.1 }
 
-  pub may_resume : (w : World T) (p : ℕ) (said : Option Bool) → refusal_of w (turn_of p said) ≡ None → MayGoOn w p
+  pub may_resume : (w : World T) (p : ℕ) (said : Option Bool) → call_refusal w (turn_of p said) ≡ None → MayGoOn w p
   may_resume w p None e = may_next w p e
   may_resume w p (Some said) e = may_decide w p said e
 
-  pub must_be_due : (w : World T) (p : ℕ) (said : Bool) → refusal_of w (Decide p said) ≡ None → not (is_due w.coding (flight_in w p)) ≡ false
+  pub must_be_due : (w : World T) (p : ℕ) (said : Bool) → call_refusal w (Decide p said) ≡ None → not (is_due w.coding (flight_in w p)) ≡ false
   must_be_due w p said e =
-      let a = row_passed (is_at_end w) AtEnd _ e in
-      let b = row_passed (nat_le w.parties p) NoParty _ a.1 in
-      let c = row_passed (is_none (flight_in w p)) Idle _ b.1 in
+      let c = row_passed (is_none (flight_in w p)) Idle _ e in
       let d = row_passed (not (is_due w.coding (flight_in w p))) Undecided _ c.1 in
       d.0
 
   -- the family's rows of a call that goes on
-  pub next_passes : (w : World T) (p : ℕ) → refusal_of w (Next p) ≡ None → first_row (going_rows w.coding w.kept (flight_in w p) None) ≡ None
+  pub next_passes : (w : World T) (p : ℕ) → call_refusal w (Next p) ≡ None → first_row (going_rows w.coding w.kept (flight_in w p) None) ≡ None
   next_passes w p e =
-      let a = row_passed (is_at_end w) AtEnd _ e in
-      let b = row_passed (nat_le w.parties p) NoParty _ a.1 in
-      let c = row_passed (is_none (flight_in w p)) Idle _ b.1 in
+      let c = row_passed (is_none (flight_in w p)) Idle _ e in
       let d = row_passed (is_due w.coding (flight_in w p)) Undecided _ c.1 in
       d.1
 
-  pub decision_passes : (w : World T) (p : ℕ) (said : Bool) → refusal_of w (Decide p said) ≡ None → first_row (going_rows w.coding w.kept (flight_in w p) (Some said)) ≡ None
+  pub decision_passes : (w : World T) (p : ℕ) (said : Bool) → call_refusal w (Decide p said) ≡ None → first_row (going_rows w.coding w.kept (flight_in w p) (Some said)) ≡ None
   decision_passes w p said e =
-      let a = row_passed (is_at_end w) AtEnd _ e in
-      let b = row_passed (nat_le w.parties p) NoParty _ a.1 in
-      let c = row_passed (is_none (flight_in w p)) Idle _ b.1 in
+      let c = row_passed (is_none (flight_in w p)) Idle _ e in
       let d = row_passed (not (is_due w.coding (flight_in w p))) Undecided _ c.1 in
       d.1
 
   pub record MayDie (w : World T) (owner : ℕ) : Type 0 where
-    pub turns : w.turns < 2 ^ 64 - 2
     pub owners : not (has_owners w.kept) ≡ false
     pub lives : is_dead w.kept owner ≡ false
 
-  pub may_die : (w : World T) (owner : ℕ) → refusal_of w (Die owner) ≡ None → MayDie w owner
+  pub may_die : (w : World T) (owner : ℕ) → call_refusal w (Die owner) ≡ None → MayDie w owner
   may_die w owner e =
-      let a = row_passed (is_at_end w) AtEnd _ e in
-      let b = row_passed (not (has_owners w.kept)) WrongCall _ a.1 in
+      let b = row_passed (not (has_owners w.kept)) WrongCall _ e in
       let c = row_passed (is_dead w.kept owner) OwnerIsDead _ b.1 in
-      let at : nat_le (2 ^ 64 - 2) w.turns ≡ false = a.0 in
-      record { turns = grind (arith, nat_tests); owners = b.0; lives = c.0 }
+      record { owners = b.0; lives = c.0 }

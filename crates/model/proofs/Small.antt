@@ -23,7 +23,7 @@ use Rattle.model.specs.World.{World, Trace}
 use Rattle.model.proofs.Counts.{change_small, steps_small, back_small}
 use Rattle.model.proofs.Parties.{party_put_same, party_put_other}
 use Rattle.model.proofs.Reached.{kept_by_runs}
-use Rattle.model.proofs.Rows.{may_begin, may_next, may_decide, may_die}
+use Rattle.model.proofs.Rows.{passes}
 
 more_changes : {T : Type 0} (changes more : ℕ) (doing : Doing T) → HasSmallCount changes doing → HasSmallCount (changes + more) doing
 more_changes changes more (Going flight since) h = omega arith
@@ -116,10 +116,10 @@ module _ {T : Type 0} where
       }
 
   turn_small : (w : World T) (turn : Turn T) → refusal_of w turn ≡ None → IsSmall w → IsSmall (world_after w turn)
-  turn_small w (Begin p start) e h = begin_small w p start (first_of w.kind w.capacity start) (may_begin w p start e).turns h
-  turn_small w (Next p) e h = next_small w p (party_of p w.latest) refl (may_next w p e).turns h
-  turn_small w (Decide p said) e h = decision_small w p said (party_of p w.latest) refl (may_decide w p said e).turns h
-  turn_small w (Die owner) e h = death_small w owner (may_die w owner e).turns h
+  turn_small w (Begin p start) e h = begin_small w p start (first_of w.kind w.capacity start) (passes w (Begin p start) e).turns h
+  turn_small w (Next p) e h = next_small w p (party_of p w.latest) refl (passes w (Next p) e).turns h
+  turn_small w (Decide p said) e h = decision_small w p said (party_of p w.latest) refl (passes w (Decide p said) e).turns h
+  turn_small w (Die owner) e h = death_small w owner (passes w (Die owner) e).turns h
 
   pub reached_small : (t : Trace T) → IsReached t → IsSmall t.world
   reached_small t r =

@@ -19,7 +19,7 @@ use Rattle.model.specs.declared.turn.Turn.TheVariants.{Begin, Next, Decide, Die}
 use Rattle.model.specs.Families.{first_of, want_of, ask_of, after_of}
 use Rattle.model.specs.Parties.{party_of, doing_of, flight_of, progress_after}
 use Rattle.model.specs.Promises.Turns.{IsOneTurnLater, ask_of_flight, WritesOneWord, StandsAt, GoesOn, BothGoOn, CountsTurn, BothSee, CountsOthers}
-use Rattle.model.specs.Refusals.{refusal_of}
+use Rattle.model.specs.Refusals.{call_refusal}
 use Rattle.model.specs.Small.{HasSmallCount, IsSmall}
 use Rattle.model.specs.Step.{Step}
 use Rattle.model.specs.Turns.{old_of, words_after, change_of, step_count, ask_of_doing, number_of, one_if, after_begin, party_at_begin, after_step, party_after, doing_after, step_in, after_answer, after_next, after_decision, after_death, world_after}
@@ -104,7 +104,7 @@ module _ {T : Type 0} where
   decision_turns w p said flight None e = absurd (cc)
   decision_turns w p said flight (Some x) e = answer_turns w p x None (number_of said) flight x.doing e
 
-  pub one_turn_later : (w : World T) (turn : Turn T) → refusal_of w turn ≡ None → IsOneTurnLater w (world_after w turn)
+  pub one_turn_later : (w : World T) (turn : Turn T) → call_refusal w turn ≡ None → IsOneTurnLater w (world_after w turn)
   one_turn_later w (Begin p start) e =
       same_but_turns w (Begin p start) (begin_turns w p start (first_of w.kind w.capacity start) (may_begin w p start e).call)
   one_turn_later w (Next p) e =
@@ -185,7 +185,7 @@ module _ {T : Type 0} where
   begin_goes w p start None e = absurd (cc)
   begin_goes w p start (Some flight) e = ap (λ o. flight_of (doing_of o)) (party_put_same p (party_at_begin start flight w.changes) w.latest)
 
-  pub goes_on : (w : World T) (turn : Turn T) → GoesAsTold w → refusal_of w turn ≡ None → GoesOn w turn (world_after w turn)
+  pub goes_on : (w : World T) (turn : Turn T) → GoesAsTold w → call_refusal w turn ≡ None → GoesOn w turn (world_after w turn)
   goes_on w (Begin p start) tells e = begin_goes w p start (first_of w.kind w.capacity start) (may_begin w p start e).call
   goes_on w (Next p) tells e = next_goes w p tells (party_of p w.latest) refl
   goes_on w (Decide p said) tells e = decision_goes w p said tells (party_of p w.latest) refl
@@ -241,7 +241,7 @@ module _ {T : Type 0} where
       let none : w.changes - w.changes ≡ 0 = omega arith in
       rw (party_put_same p (party_at_begin start flight w.changes) w.latest, none) refl
 
-  pub counts_turn : (w : World T) (turn : Turn T) → refusal_of w turn ≡ None → CountsTurn w turn (world_after w turn)
+  pub counts_turn : (w : World T) (turn : Turn T) → call_refusal w turn ≡ None → CountsTurn w turn (world_after w turn)
   counts_turn w (Begin p start) e = begin_counts w p start (first_of w.kind w.capacity start) (may_begin w p start e).call
   counts_turn w (Next p) e = next_counts w p (party_of p w.latest) refl
   counts_turn w (Decide p said) e = decision_counts w p said (party_of p w.latest) refl

@@ -27,26 +27,33 @@ module _ {T : Type 0} where
   abbrev pub is_at_end : World T → Bool
   is_at_end w = nat_le (2 ^ 64 - 2) w.turns
 
-  -- what is tested of a turn, in order: the family's rows come last
-  abbrev pub rows_of : World T → Turn T → List (Bool × Refusal)
-  rows_of w (Begin p start) =
-      (is_at_end w, AtEnd)
-      ∷ (nat_le w.parties p, NoParty)
-      ∷ (is_some (flight_in w p), Busy)
-      ∷ begin_rows w.kind w.capacity w.kept p start
-  rows_of w (Next p) =
-      (is_at_end w, AtEnd)
-      ∷ (nat_le w.parties p, NoParty)
-      ∷ (is_none (flight_in w p), Idle)
+  -- what is tested of the call or the owner, in order: the family's rows come last
+  abbrev pub call_rows : World T → Turn T → List (Bool × Refusal)
+  call_rows w (Begin p start) =
+      (is_some (flight_in w p), Busy) ∷ begin_rows w.kind w.capacity w.kept p start
+  call_rows w (Next p) =
+      (is_none (flight_in w p), Idle)
       ∷ (is_due w.coding (flight_in w p), Undecided)
       ∷ going_rows w.coding w.kept (flight_in w p) None
-  rows_of w (Decide p said) =
-      (is_at_end w, AtEnd)
-      ∷ (nat_le w.parties p, NoParty)
-      ∷ (is_none (flight_in w p), Idle)
+  call_rows w (Decide p said) =
+      (is_none (flight_in w p), Idle)
       ∷ (not (is_due w.coding (flight_in w p)), Undecided)
       ∷ going_rows w.coding w.kept (flight_in w p) (Some said)
-  rows_of w (Die owner) = (is_at_end w, AtEnd) ∷ death_rows w.kept owner
+  call_rows w (Die owner) = death_rows w.kept owner
+
+  -- what is tested of a turn, in order
+  abbrev pub rows_of : World T → Turn T → List (Bool × Refusal)
+  rows_of w (Begin p start) =
+      (is_at_end w, AtEnd) ∷ (nat_le w.parties p, NoParty) ∷ call_rows w (Begin p start)
+  rows_of w (Next p) =
+      (is_at_end w, AtEnd) ∷ (nat_le w.parties p, NoParty) ∷ call_rows w (Next p)
+  rows_of w (Decide p said) =
+      (is_at_end w, AtEnd) ∷ (nat_le w.parties p, NoParty) ∷ call_rows w (Decide p said)
+  rows_of w (Die owner) = (is_at_end w, AtEnd) ∷ call_rows w (Die owner)
+
+  -- the refusal where neither turns nor parties have a bound
+  abbrev pub call_refusal : World T → Turn T → Option Refusal
+  call_refusal w turn = first_row (call_rows w turn)
 
   abbrev pub refusal_of : World T → Turn T → Option Refusal
   refusal_of w turn = first_row (rows_of w turn)

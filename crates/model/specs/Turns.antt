@@ -19,7 +19,7 @@ use Rattle.model.specs.declared.turn.Turn.TheVariants.{Begin, Next, Decide, Die}
 use Rattle.model.specs.Coding.{Coding, IsCoding}
 use Rattle.model.specs.Families.{first_of, want_of, ask_of, beside_of, step_of, kept_after_death}
 use Rattle.model.specs.Parties.{party_of, put}
-use Rattle.model.specs.Refusals.{refusal_of}
+use Rattle.model.specs.Refusals.{refusal_of, call_refusal}
 use Rattle.model.specs.Step.{Step, answer_in}
 use Rattle.model.specs.World.{World, Trace, opening, capacity_error}
 
@@ -205,6 +205,21 @@ module _ {T : Type 0} where
   abbrev pub run : List (Turn T) → Trace T → Trace T
   run [] t = t
   run (turn ∷ turns) t = run turns (attempt t turn)
+
+  -- the same where neither turns nor parties have a bound
+  abbrev pub attempt_on : Trace T → Turn T → Trace T
+  attempt_on t turn = unless_refused t (after_turn t turn) (call_refusal t.world turn)
+
+  abbrev pub run_on : List (Turn T) → Trace T → Trace T
+  run_on [] t = t
+  run_on (turn ∷ turns) t = run_on turns (attempt_on t turn)
+
+  pub record IsReachedOn (t : Trace T) : Type 0 where
+    pub coded : IsCoding t.world.coding
+    pub admitted : capacity_error t.world.kind t.world.capacity ≡ None
+    pub turns : List (Turn T)
+    pub is : t
+        ≡ run_on turns (opening t.world.coding t.world.kind t.world.capacity t.world.parties)
 
   -- some list of turns leads here from the opening, at a capacity that is admitted
   pub record IsReached (t : Trace T) : Type 0 where

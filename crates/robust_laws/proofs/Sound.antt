@@ -449,7 +449,7 @@ module _ {T : Type 0} where
       record {
         step = λ t p x flight since s small r found doing. step_comes code c t s p x since small found flight r doing;
         decision = λ t p x flight since said s small r found doing asks. decision_comes code c t s p x since small found flight said r asks doing;
-        begin = λ t p start flight s may e. begin_comes code c t s p start flight may e;
+        begin = λ t p start flight s small may e. begin_comes code c t s p start flight may e;
         death = λ t o s may. death_comes code c t s o may;
       }
 

@@ -38,12 +38,12 @@ use Rattle.model.specs.Families.Indices.Robust.Steps.{effects}
 use Rattle.model.specs.Families.Queues.Calls.{as_it_is}
 use Rattle.model.specs.Parties.{party_of, doing_of, flight_of}
 use Rattle.model.specs.Promises.Turns.{IsParty, IsEffectOf}
-use Rattle.model.specs.Refusals.{refusal_of, is_at_end, is_due}
+use Rattle.model.specs.Refusals.{refusal_of, is_at_end, is_due, call_refusal}
 use Rattle.model.specs.Step.{as_call, answer_in}
 use Rattle.model.specs.Turns.{old_of, number_of, events_of_step, events_of_answer, events_of_next, events_of_decision, events_of, ask_of_doing, ending_of, after_turn}
 use Rattle.model.specs.World.{World, Trace, flight_in}
 use Rattle.model.proofs.Frame as frame
-use Rattle.model.proofs.Rows.{row_passed, may_next, may_decide, must_be_due}
+use Rattle.model.proofs.Rows.{row_passed, passes, must_be_due}
 use Rattle.model.proofs.Scenes.{StandsThere, stands_there}
 use Rattle.robust_laws.proofs.Finds.{find_loads_all, find_asks_all}
 use Rattle.robust_laws.proofs.Invariant.{Scene, Inv, family}
@@ -227,20 +227,18 @@ module _ {T : Type 0} where
             stopped_there code c t s p x since small found (Decide p false) refl (number_of false) p owner number flight d e refl index (rw here at asks)
 
   -- no decision is due in a step
-  not_due : (w : World T) (q : ℕ) → refusal_of w (Next q) ≡ None → is_due w.coding (flight_in w q) ≡ false
+  not_due : (w : World T) (q : ℕ) → call_refusal w (Next q) ≡ None → is_due w.coding (flight_in w q) ≡ false
   not_due w q e =
-      let a = row_passed (is_at_end w) AtEnd _ e in
-      let b = row_passed (nat_le w.parties q) NoParty _ a.1 in
-      let c = row_passed (is_none (flight_in w q)) Idle _ b.1 in
+      let c = row_passed (is_none (flight_in w q)) Idle _ e in
       let d = row_passed (is_due w.coding (flight_in w q)) Undecided _ c.1 in
       d.0
 
   tells : (code : Coding T) (c : ℕ) (t : Trace T) (turn : Turn T) → refusal_of t.world turn ≡ None → frame.Sound (family code c) t → (p owner number : ℕ)
       → events_of t.world turn ≡ Finished p (Robust (starts.TheVariants.Find owner)) (Number number) ∷ [] → turn ≢ Decide p false → IsCount p (IsFilledWith owner) c number t.events
   tells code c t (Begin q start) r s p owner number e ne = absurd (cc)
-  tells code c t (Next q) r s p owner number e ne = next_tells code c t s p owner number q (may_next t.world q r).turns (not_due t.world q r) (party_of q t.world.latest) refl e
+  tells code c t (Next q) r s p owner number e ne = next_tells code c t s p owner number q (passes t.world (Next q) r).turns (not_due t.world q (passes t.world (Next q) r).on) (party_of q t.world.latest) refl e
   tells code c t (Decide q said) r s p owner number e ne =
-      decision_tells code c t s p owner number q said (may_decide t.world q said r).turns (frame.is_true (is_due t.world.coding (flight_in t.world q)) (must_be_due t.world q said r)) ne (party_of q t.world.latest) refl e
+      decision_tells code c t s p owner number q said (passes t.world (Decide q said) r).turns (frame.is_true (is_due t.world.coding (flight_in t.world q)) (must_be_due t.world q said (passes t.world (Decide q said) r).on)) ne (party_of q t.world.latest) refl e
   tells code c t (Die o) r s p owner number e ne = absurd (cc)
 
   pub finds_all : (code : Coding T) (c : ℕ) (t : Trace T) (turn : Turn T) → refusal_of t.world turn ≡ None → frame.Sound (family code c) t → FindsAll t turn (after_turn t turn)
@@ -254,5 +252,5 @@ module _ {T : Type 0} where
       λ p owner number index is no asks.
       let allowed : refusal_of t.world (Decide p false) ≡ None = subst (λ u. refusal_of t.world u ≡ None) no r in
       let wrote : events_of t.world turn ≡ Finished p (Robust (starts.TheVariants.Find owner)) (Number number) ∷ [] = append_cancel_left t.events (events_of t.world turn) _ is in
-      decision_stops code c t s p owner number index (may_decide t.world p false allowed).turns asks (party_of p t.world.latest) refl
+      decision_stops code c t s p owner number index (passes t.world (Decide p false) allowed).turns asks (party_of p t.world.latest) refl
       (subst (λ u. events_of t.world u ≡ Finished p (Robust (starts.TheVariants.Find owner)) (Number number) ∷ []) no wrote)

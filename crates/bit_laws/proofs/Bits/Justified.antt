@@ -1,5 +1,5 @@
 -- What a step writes down, and with it all that a bit set owes of its machine.
-use Rattle.std.proofs.Common.{◌≡◌, ℕ, ◌==◌, Bool, true, false, List, [], ◌∷◌, refl}
+use Rattle.std.proofs.Common.{◌≡◌, ℕ, ◌==◌, Bool, true, false, List, [], ◌∷◌, refl, sym, subst}
 use Rattle.std.specs.List.{AllByRecursion}
 use Rattle.steps.specs.declared.bits.bit_set.SetStage.{SetStage}
 use Rattle.steps.specs.declared.bits.bit_set.SetStage as setting
@@ -17,12 +17,15 @@ use Rattle.model.specs.Coding.{Coding}
 use Rattle.model.specs.Families.Bits.Steps.{set_events, reset_events, effects_of}
 use Rattle.model.specs.Promises.Turns.{IsEffectOf}
 use Rattle.model.proofs.Orders.{Keeps}
-use Rattle.bit_laws.proofs.Bits.Invariant.{bit_set, holds_more, call_still}
+use Rattle.bit_laws.proofs.Bits.Invariant.{bit_set, holds_more, call_still, Holds}
 use Rattle.bit_laws.proofs.Bits.Kept.{bits_kept, steps_most, backs_paid}
 use Rattle.bit_laws.proofs.Bits.Knows.{CallAt}
 use Rattle.bit_laws.proofs.Bits.Lists.{all_cleared}
 use Rattle.bit_laws.proofs.Bits.Sound.{opens, never_asks, step_shows, first_is, begins_own, begins_none}
-use Rattle.bit_laws.proofs.Laws.{SetLaws, sets_keep}
+use Rattle.bit_laws.proofs.Laws.{SetLaws, sets_keep, sound_on}
+use Rattle.model.specs.Families.Bits.Promises.{IsBitSet}
+use Rattle.model.specs.Turns.{IsReachedOn}
+use Rattle.model.specs.World.{Trace}
 
 module _ (T : Type 0) where
   set_effects : (p bit old : ℕ) (stage : SetStage) → AllByRecursion (IsEffectOf {T = T} (Next p)) (set_events p bit stage old)
@@ -61,7 +64,7 @@ module _ {T : Type 0} where
         opens = opens c;
         promise = refl;
         tells = λ old turn new. tt;
-        keeps_promise = bits_kept c;
+        keeps_promise = λ t same small. bits_kept c t same;
         holds = λ words events turns. holds_more c words events;
         still = λ q words events turns changes words' es changes' conserves none. call_still words words' changes changes' conserves.pays q events es none;
         begins_own = begins_own c;
@@ -71,9 +74,15 @@ module _ {T : Type 0} where
         effects = are_effects c;
         most = steps_most c;
         paid = backs_paid;
-        step = λ s events turns p changes since steps backs small holds. step_shows code c s events turns p changes since steps backs holds;
+        step = λ s events turns p changes since steps backs holds. step_shows code c s events turns p changes since steps backs holds;
       }
 
   -- what is proved of every run of a bit set
   pub bits_keep : Keeps T kinds.TheVariants.Bits
   bits_keep = sets_keep bit_set laws
+
+  -- all that is promised of a bit set holds without a bound of turns or parties
+  pub bits_go_on : (t : Trace T) → t.world.kind ≡ kinds.TheVariants.Bits → IsReachedOn t → IsBitSet t
+  bits_go_on t is r =
+      let s = sound_on bit_set laws t is r in
+      bits_kept t.world.capacity t refl (subst (λ ws. Holds t.world.capacity ws t.events) (sym s.fit.1) s.holds.0)

@@ -1,13 +1,13 @@
 -- What holds of a counting bit set's machine between any two turns beside what the frame says of every machine, and what a
 -- turn does to its counts that keeps it.
-use Rattle.std.proofs.Common.{◌≡◌, ℕ, ◌+◌, ◌<◌, ◌≤◌, List, [], ◌++◌, length, get_or, refl, ◌∙◌, arith}
+use Rattle.std.proofs.Common.{◌≡◌, ℕ, ◌+◌, ◌*◌, ◌^◌, ◌<◌, ◌≤◌, List, [], ◌++◌, length, get_or, refl, ◌∙◌, arith}
 use Rattle.model.specs.declared.event.Event.{Event}
 use Rattle.model.specs.declared.families.bits.BitsStart.{BitsStart}
 use Rattle.model.specs.declared.families.bits.BitsStart.TheVariants.{Set, ResetAll}
 use Rattle.model.specs.declared.families.bits.calls.BitsFlight.{BitsFlight}
 use Rattle.model.specs.declared.families.bits.calls.BitsFlight.TheVariants.{Count, TakeAll}
 use Rattle.model.specs.declared.turn.Kind as kinds
-use Rattle.model.specs.Families.Bits.Promises.{CountsAnswerRight, counts_promise}
+use Rattle.model.specs.Families.Bits.Promises.{CountsAnswerOn, counts_promise}
 use Rattle.model.specs.Families.Bits.Reading.{counts, takes}
 use Rattle.model.specs.Moments.{SinceBegin, BeginsNone}
 use Rattle.model.specs.Reading.{Each, Span}
@@ -24,10 +24,11 @@ number_of flight = 0
 module _ {T : Type 0} where
   pub record Holds (c : ℕ) (words : List ℕ) (events : List (Event T)) (turns : ℕ) : Type 0 where
     pub sized : length words ≡ c
-    pub conserved : (b : ℕ) → counts b events ≡ takes b events + get_or words b 0
+    pub conserved : (b : ℕ) → (wraps : ℕ) × (counts b events ≡ takes b events + get_or words b 0 + 2 ^ 64 * wraps)
     pub within : (b : ℕ) → c ≤ b → counts b events ≡ 0
-    pub low : (b : ℕ) → get_or words b 0 ≤ turns
-    pub answers : Each (CountsAnswerRight c) events
+    pub low : (b : ℕ) → get_or words b 0 < 2 ^ 64
+    pub few : (b : ℕ) → counts b events ≤ turns
+    pub answers : Each (CountsAnswerOn c) events
 
   -- ---- the calls
 
@@ -55,15 +56,16 @@ module _ {T : Type 0} where
   -- the counts after a turn beside those of which its events tell
   pub record Conserves (c : ℕ) (words : List ℕ) (events : List (Event T)) (turns : ℕ) (words' : List ℕ) (es : List (Event T)) : Type 0 where
     pub sized : length words' ≡ length words
-    pub moved : (b : ℕ) → counts b es + get_or words b 0 ≡ takes b es + get_or words' b 0
+    pub moved : (b : ℕ) → (wraps : ℕ) × (counts b es + get_or words b 0 ≡ takes b es + get_or words' b 0 + 2 ^ 64 * wraps)
     pub within : (b : ℕ) → c ≤ b → counts b es ≡ 0
-    pub low : (b : ℕ) → get_or words' b 0 ≤ turns + 1
-    pub right : AreRight (CountsAnswerRight c) events es
+    pub low : (b : ℕ) → get_or words' b 0 < 2 ^ 64
+    pub few : (b : ℕ) → counts b es ≤ 1
+    pub right : AreRight (CountsAnswerOn c) events es
 
   -- so does a turn that leaves the counts, and whose events tell of none
-  pub rest_conserves : (c : ℕ) (words : List ℕ) (events : List (Event T)) (turns : ℕ) (es : List (Event T)) → Holds c words events turns → ((b : ℕ) → counts b es ≡ 0) → ((b : ℕ) → takes b es ≡ 0) → AreRight (CountsAnswerRight c) events es → Conserves c words events turns words es
+  pub rest_conserves : (c : ℕ) (words : List ℕ) (events : List (Event T)) (turns : ℕ) (es : List (Event T)) → Holds c words events turns → ((b : ℕ) → counts b es ≡ 0) → ((b : ℕ) → takes b es ≡ 0) → AreRight (CountsAnswerOn c) events es → Conserves c words events turns words es
   rest_conserves c words events turns es h no_counts no_takes right =
-      record { sized = refl; moved = λ b. rw (no_counts b, no_takes b) refl; within = λ b past. no_counts b; low = λ b. (let low = h.low b in omega arith); right = right }
+      record { sized = refl; moved = λ b. (0, rw (no_counts b, no_takes b) (omega arith)); within = λ b past. no_counts b; low = h.low; few = λ b. (let none = no_counts b in omega arith); right = right }
 
   -- ---- the kind of the counting bit sets
 
@@ -88,16 +90,17 @@ module _ {T : Type 0} where
           conserved = conserved;
           within = λ b past. (let a = h.within b past in let e = conserves.within b past in counts_more b events es ∙ omega arith);
           low = conserves.low;
-          answers = Each-append (CountsAnswerRight c) events es h.answers conserves.right;
+          few = λ b. (let a = h.few b in let e = conserves.few b in let c = counts_more b events es in omega arith);
+          answers = Each-append (CountsAnswerOn c) events es h.answers conserves.right;
         }
       where
-        conserved : (b : ℕ) → counts b (events ++ es) ≡ takes b (events ++ es) + get_or words' b 0
+        conserved : (b : ℕ) → (wraps : ℕ) × (counts b (events ++ es) ≡ takes b (events ++ es) + get_or words' b 0 + 2 ^ 64 * wraps)
         conserved b =
-            let before = h.conserved b in
-            let moved = conserves.moved b in
+            let before = (h.conserved b).1 in
+            let moved = (conserves.moved b).1 in
             let c = counts_more b events es in
             let t = takes_more b events es in
-            omega arith
+            ((h.conserved b).0 + (conserves.moved b).0, omega arith)
 
   -- a turn of another party leaves what a call knows
   pub call_still : (p : ℕ) (events es : List (Event T)) (none : BeginsNone p es) (backs : ℕ) (flight : BitsFlight) → KnowsCall p events backs flight → KnowsCall p (events ++ es) backs flight

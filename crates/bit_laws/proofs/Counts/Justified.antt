@@ -1,5 +1,5 @@
 -- What a step writes down, and with it all that a counting bit set owes of its machine.
-use Rattle.std.proofs.Common.{◌≡◌, ℕ, ◌-◌, ◌==◌, Bool, true, false, List, refl}
+use Rattle.std.proofs.Common.{◌≡◌, ℕ, ◌-◌, ◌==◌, Bool, true, false, List, refl, sym, subst}
 use Rattle.std.specs.List.{AllByRecursion}
 use Rattle.model.specs.declared.event.Event.{Event}
 use Rattle.model.specs.declared.families.bits.BitsStart.{BitsStart}
@@ -12,10 +12,13 @@ use Rattle.model.specs.Coding.{Coding}
 use Rattle.model.specs.Families.Bits.Steps.{take_events, effects_of}
 use Rattle.model.specs.Promises.Turns.{IsEffectOf}
 use Rattle.model.proofs.Orders.{Keeps}
-use Rattle.bit_laws.proofs.Counts.Invariant.{CallAt, counting_set, holds_more, call_still}
-use Rattle.bit_laws.proofs.Counts.Kept.{counts_kept, steps_most, backs_paid}
+use Rattle.bit_laws.proofs.Counts.Invariant.{Holds, CallAt, counting_set, holds_more, call_still}
+use Rattle.bit_laws.proofs.Counts.Kept.{counts_kept, counts_on, steps_most, backs_paid}
 use Rattle.bit_laws.proofs.Counts.Sound.{opens, never_asks, step_shows, first_is, begins_own, begins_none}
-use Rattle.bit_laws.proofs.Laws.{SetLaws, sets_keep}
+use Rattle.bit_laws.proofs.Laws.{SetLaws, sets_keep, sound_on}
+use Rattle.model.specs.Families.Bits.Promises.{IsCountingOn}
+use Rattle.model.specs.Turns.{IsReachedOn}
+use Rattle.model.specs.World.{Trace}
 
 take_effects : (T : Type 0) (p place old : ℕ) → AllByRecursion (IsEffectOf {T = T} (Next p)) (take_events p place old)
 take_effects T p place old = go (old == 0) refl
@@ -30,7 +33,7 @@ are_effects T c p old wrote ResetAll (TakeAll run) at = take_effects T p run.cal
 are_effects T c p old wrote start flight at = absurd at
 
 module _ {T : Type 0} where
-  laws : (code : Coding T) (c : ℕ) → SetLaws counting_set code c
+  pub laws : (code : Coding T) (c : ℕ) → SetLaws counting_set code c
   laws code c =
       record {
         bare = refl;
@@ -53,3 +56,9 @@ module _ {T : Type 0} where
   -- what is proved of every run of a counting bit set
   pub counts_keep : Keeps T kinds.TheVariants.Counts
   counts_keep = sets_keep counting_set laws
+
+  -- what is so of every run without a bound of turns or parties
+  pub counts_go_on : (t : Trace T) → t.world.kind ≡ kinds.TheVariants.Counts → IsReachedOn t → IsCountingOn t
+  counts_go_on t is r =
+      let s = sound_on counting_set laws t is r in
+      counts_on t.world.capacity t refl (subst (λ ws. Holds t.world.capacity ws t.events t.world.turns) (sym s.fit.1) s.holds.0)

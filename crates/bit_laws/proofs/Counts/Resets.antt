@@ -1,5 +1,5 @@
 -- What each step of a reset of all counts shows: it swaps the next count with 0.
-use Rattle.std.proofs.Common.{◌≡◌, ◌≢◌, ℕ, ◌+◌, ◌<◌, ◌≤◌, ◌==◌, nat_lt, Bool, true, false, cond, Option, Some, None, List, [], ◌∷◌, ◌++◌, fold, length, get_or, set, refl, sym, ap, subst, ◌∙◌, append-nil, arith, length-set, get_or-set_same, get_or-set_other}
+use Rattle.std.proofs.Common.{◌≡◌, ◌≢◌, ℕ, ◌+◌, ◌*◌, ◌^◌, ◌<◌, ◌≤◌, ◌==◌, nat_lt, Bool, true, false, cond, Option, Some, None, List, [], ◌∷◌, ◌++◌, fold, length, get_or, set, refl, sym, ap, subst, ◌∙◌, append-nil, arith, length-set, get_or-set_same, get_or-set_other}
 use Rattle.std.proofs.lemmas.Bool.Decides.{nat_tests}
 use Rattle.steps.specs.declared.ask.Ask.{Ask}
 use Rattle.steps.specs.declared.ask.Op.TheVariants.{Swap}
@@ -22,7 +22,7 @@ use Rattle.model.specs.Families.Bits.Steps.{effects_of, take_events}
 use Rattle.model.specs.Moments.{SinceBegin, BeginsNone}
 use Rattle.model.specs.Reading.{Open, own_after, span_of}
 use Rattle.model.specs.Turns.{old_of, change_of}
-use Rattle.model.specs.Families.Bits.Promises.{CountsAnswerRight, HasTaken, counts_promise}
+use Rattle.model.specs.Families.Bits.Promises.{CountsAnswerOn, HasTakenOn, counts_promise}
 use Rattle.model.specs.Promises.Spans.{Stands}
 use Rattle.model.proofs.Moments.{since_more}
 use Rattle.model.proofs.Readings.{AreRight, AreOwn, AllFollow, span_of-own}
@@ -66,10 +66,10 @@ module _ {T : Type 0} (code : Coding T) (c : ℕ) (s : SetState T) (events : Lis
           let none : n ≡ 0 = rw t at e in
           omega arith
 
-  not_far : word < length ws → (b : ℕ) → get_or (set ws word 0) b 0 ≤ turns + 1
+  not_far : word < length ws → (b : ℕ) → get_or (set ws word 0) b 0 < 2 ^ 64
   not_far within b = go (word == b) refl
     where
-      go : (t : Bool) → (word == b) ≡ t → get_or (set ws word 0) b 0 ≤ turns + 1
+      go : (t : Bool) → (word == b) ≡ t → get_or (set ws word 0) b 0 < 2 ^ 64
       go true t =
           let same : word ≡ b = grind (arith, nat_tests) in
           let here = get_or-set_same ws word 0 0 within in
@@ -84,7 +84,7 @@ module _ {T : Type 0} (code : Coding T) (c : ℕ) (s : SetState T) (events : Lis
   record TakesOut (fx : List (Event T)) : Type 0 where
     pub own : AreOwn p fx
     pub none : BeginsNone p fx
-    pub right : AreRight (CountsAnswerRight c) events fx
+    pub right : AreRight (CountsAnswerOn c) events fx
     pub stands : AllFollow (Stands counts_promise c) (Open (Bits ResetAll) wrote) fx
     pub counts : (b : ℕ) → counts b fx ≡ 0
     pub takes : (b : ℕ) → takes b fx ≡ cond (word == b) count 0
@@ -96,11 +96,11 @@ module _ {T : Type 0} (code : Coding T) (c : ℕ) (s : SetState T) (events : Lis
         let t : (word == word) ≡ true = grind (arith, nat_tests) in
         let all : takes word fx ≡ count = rw t at (out.takes word) in
         let none = out.counts word in
-        let before = holds.conserved word in
+        let before = (holds.conserved word).1 in
         let c = counts_more word events fx in
         let m = takes_more word events fx in
-        let even : counts word (events ++ fx) ≡ takes word (events ++ fx) = omega arith in
-        since_more p (TakenBelow word) (TakenBelow (word + 1)) events fx out.none taken (taken_next word p taken.start events taken.before taken.since fx taken.is even taken.holds)
+        let even : counts word (events ++ fx) ≡ takes word (events ++ fx) + 2 ^ 64 * (holds.conserved word).0 = omega arith in
+        since_more p (TakenBelow word) (TakenBelow (word + 1)) events fx out.none taken (taken_next word p taken.start events taken.before taken.since fx (holds.conserved word).0 taken.is even taken.holds)
 
     span_then : span_of p (events ++ fx) ≡ Open (Bits ResetAll) (wrote ++ fx)
     span_then = span_of-own p events fx out.own ∙ (ap (λ s. fold own_after s fx) is ∙ out.span)
@@ -157,8 +157,8 @@ module _ {T : Type 0} (code : Coding T) (c : ℕ) (s : SetState T) (events : Lis
     done = Done answers.TheVariants.Done
 
     module _ (within : word < length ws) where
-      moved : (b n m : ℕ) → n ≡ 0 → m ≡ cond (word == b) count 0 → n + get_or ws b 0 ≡ m + get_or (set ws word 0) b 0
-      moved b n m none out = let s = swapped b m within out in omega arith
+      moved : (b n m : ℕ) → n ≡ 0 → m ≡ cond (word == b) count 0 → (wraps : ℕ) × (n + get_or ws b 0 ≡ m + get_or (set ws word 0) b 0 + 2 ^ 64 * wraps)
+      moved b n m none out = let s = swapped b m within out in (0, omega arith)
 
       goes_on : (fx : List (Event T)) → TakesOut fx → word + 1 < end → Does swaps next fx
       goes_on fx out more =
@@ -169,6 +169,7 @@ module _ {T : Type 0} (code : Coding T) (c : ℕ) (s : SetState T) (events : Lis
               moved = λ b. moved b (counts b fx) (takes b fx) (out.counts b) (out.takes b);
               within = λ b past. out.counts b;
               low = not_far within;
+              few = λ b. (let none = out.counts b in omega arith);
               right = out.right;
             };
             own = out.own;
@@ -182,7 +183,7 @@ module _ {T : Type 0} (code : Coding T) (c : ℕ) (s : SetState T) (events : Lis
             knows = (omega arith, taken_more fx out);
           })
 
-      all_taken : word + 1 ≡ c → (fx : List (Event T)) → TakesOut fx → SinceBegin p (HasTaken c) (events ++ fx)
+      all_taken : word + 1 ≡ c → (fx : List (Event T)) → TakesOut fx → SinceBegin p (HasTakenOn c) (events ++ fx)
       all_taken last fx out = subst (λ n. SinceBegin p (TakenBelow n) (events ++ fx)) last (taken_more fx out)
 
       ends_with_none : word + 1 ≡ c → count ≡ 0 → Does swaps done []
@@ -194,7 +195,8 @@ module _ {T : Type 0} (code : Coding T) (c : ℕ) (s : SetState T) (events : Lis
               moved = λ b. moved b 0 0 refl (out.takes b);
               within = λ b past. refl;
               low = not_far within;
-              right = (subst (λ es. SinceBegin p (HasTaken c) es) (append-nil events) (all_taken last [] out), tt);
+              few = λ b. omega arith;
+              right = (subst (λ es. SinceBegin p (HasTakenOn c) es) (append-nil events) (all_taken last [] out), tt);
             };
             own = (refl, tt);
             stands = ((refl, tt), tt);
@@ -208,9 +210,10 @@ module _ {T : Type 0} (code : Coding T) (c : ℕ) (s : SetState T) (events : Lis
           record {
             conserves = record {
               sized = length-set ws word 0;
-              moved = λ b. (let m = moved b 0 (cond (word == b) count 0) refl refl in omega arith);
+              moved = λ b. (0, (let m = swapped b (cond (word == b) count 0) within refl in omega arith));
               within = λ b past. refl;
               low = not_far within;
+              few = λ b. omega arith;
               right = (tt, (all_taken last (TakenOut p word count ∷ []) out, tt));
             };
             own = (refl, (refl, tt));

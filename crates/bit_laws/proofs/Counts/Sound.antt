@@ -48,15 +48,16 @@ module _ {T : Type 0} where
   opens c =
       record {
         sized = length-replicate c 0;
-        conserved = λ b. (let none = zeros c b 0 in omega arith);
+        conserved = λ b. (0, (let none = zeros c b 0 in omega arith));
         within = λ b past. refl;
         low = λ b. (let none = zeros c b 0 in omega arith);
+        few = λ b. omega arith;
         answers = Each-nil _;
       }
 
   -- ---- one step of a call
 
-  module _ (code : Coding T) (c : ℕ) (s : SetState T) (events : List (Event T)) (turns p changes since steps backs : ℕ) (small : turns < 2 ^ 64 - 2) (holds : Holds c s.words events turns) where
+  module _ (code : Coding T) (c : ℕ) (s : SetState T) (events : List (Event T)) (turns p changes since steps backs : ℕ) (holds : Holds c s.words events turns) where
     -- what its step shows, where its party's span was this
     abbrev Shown : List (Event T) → BitsStart → BitsFlight → Type 0
     Shown wrote start flight = ShowsStep counting_set code c s events turns p changes since steps backs wrote start flight
@@ -65,7 +66,7 @@ module _ {T : Type 0} where
     step_shows (Set place) (Count run) wrote at is from few knows =
         subst (λ n. Shown wrote (Set n) (Count run)) at.0
         (subst (λ xs. Shown xs (Set run.given) (Count run)) (sym from)
-        (set_shows code c s events turns p changes since steps backs small holds run.given (let below = at.1 in let same = at.0 in omega arith) few knows))
+        (set_shows code c s events turns p changes since steps backs holds run.given (let below = at.1 in let same = at.0 in omega arith) few knows))
     step_shows ResetAll (TakeAll run) wrote at is from few knows =
         reset_step code c s events turns p changes since steps backs holds wrote is run.call.word (λ b past. subst (λ xs. takes b xs ≡ 0) (sym from) (at.2 b past)) knows.1 knows.0 few run.room run.call.end at.0 at.1
     step_shows start flight wrote at is from few knows = absurd at

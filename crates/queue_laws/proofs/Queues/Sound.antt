@@ -332,7 +332,7 @@ module _ {T : Type 0} (en : Coding T) (law : IsCoding en) where
       record {
         step = λ t p x flight since s small passed found doing. step_comes en law kd c t s small p x since flight found doing;
         decision = λ t p x flight since said s small passed found doing asks. asks_nothing en kd c t p x flight since s found doing asks;
-        begin = λ t p start flight s may e. begin_comes en law kd c t s may.turns p start flight may e;
+        begin = λ t p start flight s small may e. begin_comes en law kd c t s small p start flight may e;
         death = frame.no_death (family en kd c) (λ kept words state fit. rw (kept_is kept words state fit).0 refl);
       }
 

@@ -1,5 +1,5 @@
 -- What holds of the machine of a bit set, and of one of a counting bit set, after any turns.
-use Rattle.std.specs.Prelude.{◌≡◌, ◌≤◌, ◌<◌, ℕ, ◌+◌, true, false, Option, List, [], ◌∷◌, ◌++◌, length, slice_index}
+use Rattle.std.specs.Prelude.{◌≡◌, ◌≤◌, ◌<◌, ◌⊎◌, ℕ, ◌+◌, ◌*◌, ◌^◌, ◌%◌, true, false, Option, List, [], ◌∷◌, ◌++◌, length, slice_index}
 use Rattle.steps.specs.declared.ask.Ask.{Ask}
 use Rattle.steps.specs.Bits.Words.{stands}
 use Rattle.model.specs.declared.event.Answer.{Answer}
@@ -116,6 +116,36 @@ module _ {T : Type 0} where
     pub conserved : (b : ℕ) → counts b t.events ≡ takes b t.events + slice_index t.world.words b
     pub within : (b : ℕ) → t.world.capacity ≤ b → counts b t.events ≡ 0
     pub answers : Each (CountsAnswerRight t.world.capacity) t.events
+
+  -- ---- where neither turns nor parties have a bound: a count wraps at 2^64
+
+  -- a set answers what its place had counted just before, less than 2^64
+  pub record AnswersCountOn (p place number : ℕ) (events : List (Event T)) : Type 0 where
+    pub before : List (Event T)
+    pub is : events ≡ before ++ Counted p place ∷ []
+    pub count : number ≡ count_at place before % 2 ^ 64
+
+  -- something was taken out of each place that counted above 0, unless it was counted 2^64 times
+  abbrev pub HasTakenOn : ℕ → List (Event T) → List (Event T) → Type 0
+  HasTakenOn capacity before since =
+      (b : ℕ) → b < capacity → 1 ≤ count_at b before
+      → (1 ≤ takes b since) ⊎ (2 ^ 64 ≤ counts b before + counts b since)
+
+  abbrev pub CountsAnswerOn : ℕ → List (Event T) → Event T → Type 0
+  CountsAnswerOn capacity before (Finished p (Bits (Set place)) (Number number)) =
+      AnswersCountOn p place number before
+  CountsAnswerOn capacity before (Finished p (Bits ResetAll) answer) =
+      SinceBegin p (HasTakenOn capacity) before
+  CountsAnswerOn capacity before e = Unit {0}
+
+  -- each place was counted as often as was taken out of it in all, and as its count says, and
+  -- 2^64 times for each time that the count wrapped
+  pub record IsCountingOn (t : Trace T) : Type 0 where
+    pub conserved : (b : ℕ)
+        → (wraps : ℕ)
+        × (counts b t.events ≡ takes b t.events + slice_index t.world.words b + 2 ^ 64 * wraps)
+    pub within : (b : ℕ) → t.world.capacity ≤ b → counts b t.events ≡ 0
+    pub answers : Each (CountsAnswerOn t.world.capacity) t.events
 
   abbrev pub MayCount : ℕ → Start T → List (Event T) → Type 0
   MayCount place (Bits (Set b)) wrote = (b ≡ place) × (wrote ≡ [])
