@@ -17,7 +17,7 @@ mod threads;
 mod users;
 mod value;
 
-// README.md shows the lines of this function, and of the body of the test below.
+// README.md shows this function and the test below.
 fn pop_one(rt: &impl Wait, queue: &IndexQueue, pass: Pass) -> Option<u64>
     requires { IsPassOf queue.now pass }
 {
@@ -35,7 +35,11 @@ fn readme_queue(rt: HostRuntime) -> Result<(), Fail> {
     let (queue, mut mine) = IndexQueue::new(rt.alloc(), 4)?;
     let other = mine.split().ok_or("no further pass")?;
     let mut producer = queue.acquire_producer(mine).map_err(|_| "taken")?;
-    let (pushed, popped) = thread::join(&rt, || producer.push(1234), || pop_one(&rt, &queue, other));
+    let (pushed, popped) = thread::join(
+        &rt,
+        || producer.push(1234),
+        || pop_one(&rt, &queue, other),
+    );
     assert!(rt; pushed && popped == Some(1234));
     Ok(())
 }
