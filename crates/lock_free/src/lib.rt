@@ -1,4 +1,4 @@
-//! Lock-free containers for zero-copy middleware, after the Rust crate iceoryx2-bb-lock-free, with its module paths.
+//! Lock-free containers for zero-copy middleware, after the Rust crate iceoryx2-bb-lock-free, under its module paths.
 #![tactic(auto)]
 
 pub mod mpmc;
