@@ -1,17 +1,17 @@
 -- A sender's book stays right.
-use Rattle.std.proofs.Common.{◌≡◌, ◌≢◌, ℕ, zero, suc, ◌+◌, ◌<◌, ◌≤◌, ◌==◌, ◌||◌, Bool, true, false, true≢false, ne_eqb, eq-eqb, List, [], ◌∷◌, ◌++◌, length, get_or, set, map, take, drop, count_by, add-one, get_or-set_same, get_or-set_other, length-set, if◌then◌else◌, subst, sym, refl, ap, ◌∙◌, ⊎_elim, arith}
+use Rattle.std.proofs.Common.{◌≡◌, ◌≢◌, ℕ, zero, suc, ◌+◌, ◌<◌, true, false, true≢false, List, [], ◌∷◌, ◌++◌, length, set, map, take, drop, count_by, add-one, get_or-set_same, get_or-set_other, length-set, subst, sym, refl, ap, ◌∙◌, ⊎_elim, arith}
 use Rattle.std.specs.List.{AllPairs, Contains}
 use Rattle.std.proofs.lemmas.List.Sums.{count_by_more_yes, count_by_more_no}
 use Rattle.std.proofs.lemmas.Bool.{cases_eq}
 use Rattle.lock_free.proofs.Held.{has_contained, has_acquired, has_beside, was_not_there, is_gone, has_kept, once_without}
 use Rattle.lock_free.specs.declared.unique.view.View.{View}
-use Rattle.lock_free.specs.Unique.Views.{has, without, acquired, released}
+use Rattle.lock_free.specs.Unique.Views.{has, without, released}
 use Rattle.lock_free.specs.Unique.Calls.{HasAcquired, WasRefused}
 use Rattle.steps.specs.declared.indices.enums.UniqueIndexSetAcquireFailure.{UniqueIndexSetAcquireFailure}
 use Rattle.steps.specs.declared.indices.enums.UniqueIndexSetAcquireFailure.TheVariants.{OutOfIndices, IsLocked}
 use Rattle.lock_free.specs.declared.spsc.loan.places.Place.{Place}
 use Rattle.lock_free.specs.declared.spsc.loan.places.Place.TheVariants.{Free, Loaned, Sent}
-use Rattle.lock_free.specs.Loan.Places.{IsBookOf, is_out, is_sent, place_at, returned, reclaimed}
+use Rattle.lock_free.specs.Loan.Places.{IsBookOf, is_out, is_sent, place_at, reclaimed}
 
 -- ---- places
 

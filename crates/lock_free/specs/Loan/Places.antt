@@ -1,5 +1,5 @@
 -- The table that a sender keeps of its indices, and what it says of its pass.
-use Rattle.std.specs.Prelude.{◌≡◌, ◌≢◌, ℕ, Bool, true, false, List, length, AllPairs, slice_index_or, slice_set, map, if◌then◌else◌}
+use Rattle.std.specs.Prelude.{◌≡◌, ◌≢◌, ℕ, Bool, true, false, List, length, AllPairs, slice_index_or, slice_set, if◌then◌else◌}
 use Rattle.lock_free.specs.Unique.Views.{has}
 use Rattle.lock_free.specs.declared.unique.view.View.{View}
 use Rattle.lock_free.specs.declared.spsc.loan.places.Place.{Place}

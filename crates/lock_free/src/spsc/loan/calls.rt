@@ -1,12 +1,13 @@
 //! The calls of a sender, each an equation on its table.
 ghost use Rattle.std.specs.Prelude.{◌≡◌, ◌⊎◌, ◌↔◌, [], IsTrue, IfOk, IfErr, IfSome, IfNone, slice_set, map, replicate, count_by};
 ghost use Rattle.lock_free.specs.UniqueIndexSet.{view, set_of, capacity_of, IsPassOf};
+ghost use Rattle.lock_free.specs.Unique.Views.{released};
 ghost use Rattle.lock_free.specs.Unique.Calls.{HasAcquired, WasRefused};
 ghost use Rattle.lock_free_sp.specs.Ends.{producer_view, producer_queue, consumer_view, consumer_queue};
 ghost use Rattle.lock_free_sp.specs.Ring.Calls.{HasAdded, HasReplaced, WasHandedBack, HasPopped, WasEmpty};
 ghost use Rattle.lock_free.specs.declared.spsc.loan.places.Place.TheVariants.{Free, Loaned, Sent};
 ghost use Rattle.lock_free.specs.Loan.Places.{is_out, is_sent, place_at, returned, reclaimed, IsBookOf};
-ghost use Rattle.lock_free.specs.Loan.Sender.{places_of, pass_view, submission_view, completion_view, submission_of, set_of_sender, IsSame, IsSenderOf, IsLoaned};
+ghost use Rattle.lock_free.specs.Loan.Sender.{places_of, pass_view, share_of, submission_view, completion_view, submission_of, KeepsQueues, set_of_sender, IsSame, IsSenderOf, IsLoaned};
 
 use super::places::Place;
 use super::{LoanError, LoanSender};
@@ -65,7 +66,9 @@ impl<'a> LoanSender<'a> {
             (λ i. HasAcquired i (pass_view self.old) (pass_view self.new)) }
         ensures refused { IfErr result (λ e. (places_of self.new ≡ places_of self.old)
             × WasRefused e (pass_view self.old) (pass_view self.new)) }
+        ensures queues { KeepsQueues self.old self.new }
         ensures same { IsSame self.old self.new }
+        ensures share { share_of self.new ≡ share_of self.old }
     {
         let index = self.set.acquire_raw_index(rt, &mut self.pass)?;
         self.places[index as usize] = Place::Loaned;
@@ -86,7 +89,10 @@ impl<'a> LoanSender<'a> {
     pub fn give_up(&mut self, index: u32)
         requires { IsLoaned index self.old }
         ensures places { places_of self.new ≡ slice_set (places_of self.old) index Free }
+        ensures released { pass_view self.new ≡ released index (pass_view self.old) }
+        ensures queues { KeepsQueues self.old self.new }
         ensures same { IsSame self.old self.new }
+        ensures share { share_of self.new ≡ share_of self.old }
     {
         self.places[index as usize] = Place::Free;
         self.set.release_raw_index(index, &mut self.pass);
@@ -103,23 +109,23 @@ impl<'a> LoanSender<'a> {
     }
 
     /// An index that was Sent is given back to the set.
-    fn free(&mut self, index: u32)
-        requires { IsTrue (is_sent (place_at (places_of self.old) index)) }
-        ensures places { places_of self.new ≡ slice_set (places_of self.old) index Free }
-        ensures submission { submission_view self.new ≡ submission_view self.old }
-        ensures completion { completion_view self.new ≡ completion_view self.old }
+    fn free(&mut self, sent: u32)
+        requires { IsTrue (is_sent (place_at (places_of self.old) sent)) }
+        ensures places { places_of self.new ≡ slice_set (places_of self.old) sent Free }
+        ensures queues { KeepsQueues self.old self.new }
         ensures same { IsSame self.old self.new }
+        ensures share { share_of self.new ≡ share_of self.old }
     {
-        self.places[index as usize] = Place::Free;
-        self.set.release_raw_index(index, &mut self.pass);
+        self.places[sent as usize] = Place::Free;
+        self.set.release_raw_index(sent, &mut self.pass);
     }
 
     /// A value came back: an index that is Sent is given back to the set, and any other changes nothing.
     fn settle(&mut self, value: u64)
         ensures places { places_of self.new ≡ returned value (places_of self.old) }
-        ensures submission { submission_view self.new ≡ submission_view self.old }
-        ensures completion { completion_view self.new ≡ completion_view self.old }
+        ensures queues { KeepsQueues self.old self.new }
         ensures same { IsSame self.old self.new }
+        ensures share { share_of self.new ≡ share_of self.old }
     {
         if value >= self.set.capacity() as u64 {
             return;
@@ -143,12 +149,16 @@ impl<'a> LoanSender<'a> {
         ensures handed_back { IfSome result
             (λ y. HasReplaced index y (submission_view self.old) (submission_view self.new)
             ⊎ WasHandedBack index y (submission_view self.old) (submission_view self.new)) }
+        ensures completion { completion_view self.new ≡ completion_view self.old }
         ensures same { IsSame self.old self.new }
+        ensures share { share_of self.new ≡ share_of self.old }
     {
+        let answer = self.submission.push(index as u64);
         self.places[index as usize] = Place::Sent;
-        let back = self.submission.push(index as u64)?;
-        self.settle(back);
-        Some(back)
+        if let Some(oldest) = answer {
+            self.settle(oldest);
+        }
+        answer
     }
 
     /// Takes the oldest value that the receiver gave back: it is Free again where it is an index that is Sent, and else
@@ -161,7 +171,9 @@ impl<'a> LoanSender<'a> {
         ensures none { IfNone result (places_of self.new ≡ places_of self.old) }
         ensures empty { IfNone result
             (WasEmpty (completion_view self.old) (completion_view self.new)) }
+        ensures submission { submission_view self.new ≡ submission_view self.old }
         ensures same { IsSame self.old self.new }
+        ensures share { share_of self.new ≡ share_of self.old }
     {
         let back = self.completion.pop()?;
         self.settle(back);
@@ -179,6 +191,7 @@ impl<'a> LoanSender<'a> {
         ensures places { places_of self.new ≡ map reclaimed (places_of self.old) }
         ensures number { result ≡ count_by is_sent (places_of self.old) }
         ensures same { IsSame self.old self.new }
+        ensures share { share_of self.new ≡ share_of self.old }
         ensures receiver { consumer_queue receiver.new ≡ consumer_queue receiver.old }
     {
         for _ in rt.forever() {
