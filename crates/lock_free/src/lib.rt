@@ -3,7 +3,8 @@
 
 pub mod mpmc;
 mod robust;
+pub mod spsc;
 mod unique;
 
-pub use lock_free_sp::{laws, spmc, spsc};
+pub use lock_free_sp::{laws, spmc};
 pub use steps::words;
