@@ -8,7 +8,7 @@ use crate::enums::OwnerId;
 use crate::words::Words;
 
 /// One operation on one word. Each answers the word's old value.
-#[derive(Debug, Clone, Copy, PartialEq, Eq)]
+#[derive(Clone, Copy, PartialEq, Eq)]
 pub enum Op {
     /// Leaves the word.
     Load,
@@ -47,14 +47,14 @@ impl Op {
 }
 
 /// An operation and the word that it is for.
-#[derive(Debug, Clone, Copy, PartialEq, Eq)]
+#[derive(Clone, Copy, PartialEq, Eq)]
 pub struct Ask {
     pub word: usize,
     pub op: Op,
 }
 
 /// What a call wants decided before it goes on.
-#[derive(Debug, Clone, Copy)]
+#[derive(Clone, Copy)]
 pub enum Question<T> {
     /// What to do about this index.
     Index(usize),
@@ -65,7 +65,7 @@ pub enum Question<T> {
 }
 
 /// What a call wants next.
-#[derive(Debug, Clone, Copy)]
+#[derive(Clone, Copy)]
 pub enum Want<T> {
     /// One operation on one word.
     Ask(Ask),
@@ -76,7 +76,7 @@ pub enum Want<T> {
 }
 
 /// A call after it was handed an answer.
-#[derive(Debug, Clone, Copy)]
+#[derive(Clone, Copy)]
 pub enum After<C, A> {
     GoOn(C),
     Done(A),

@@ -36,14 +36,14 @@ pub fn cell_word(words: u8, number: u64) -> usize
 /// It loads the version (u64::MAX: false, and nothing changes), stores the value's words, in their order, into the cell
 /// in which the value of that version does not stand, and adds 1 to the version: from then on its own value stands. One
 /// store at a time is the caller's concern. After `store` of the Rust crate's `UnrestrictedAtomic`.
-#[derive(Debug, Clone, Copy)]
+#[derive(Clone, Copy)]
 pub struct Store<T> {
     pub stage: StoreStage,
     pub of: PhantomData<T>,
 }
 
 /// What a store does next, and the first word of its cell.
-#[derive(Debug, Clone, Copy)]
+#[derive(Clone, Copy)]
 pub enum StoreStage {
     LoadsVersion,
     StoresCell { cell: usize, at: u8 },
@@ -63,7 +63,7 @@ pub struct Load<T, R> {
 }
 
 /// What a load does next, the version that it has loaded, and the first word of its cell.
-#[derive(Debug, Clone, Copy)]
+#[derive(Clone, Copy)]
 pub enum LoadStage {
     LoadsVersion,
     LoadsCell { version: u64, cell: usize, at: u8 },

@@ -224,6 +224,42 @@ where
     }
 }
 
+/// What is done with the call of its kind that is stopped, or with a new one.
+pub enum Does<A> {
+    /// A new one is taken to its end: its answer and its steps.
+    Whole(A, u64),
+    /// The stopped one, or a new one, takes so many steps, by which it does not end.
+    Stops(u64),
+    /// The stopped one ends with this answer after so many further steps.
+    Ends(A, u64),
+}
+
+/// Whether it comes out so.
+pub fn is_done<C: Routine + Drop, const N: usize>(
+    rt: &impl Abort,
+    stopped: &mut Option<Running<C, C::Given, C::Room>>,
+    new: Running<C, C::Given, C::Room>,
+    words: &mut [u64; N],
+    done: &Does<C::Answer>,
+) -> bool
+where
+    C::Given: Copy,
+    C::Room: Copy,
+    C::Answer: PartialEq + Copy + Drop,
+{
+    match *done {
+        Does::Whole(answer, steps) => ends(rt, new, words, answer, steps),
+        Does::Stops(steps) => {
+            *stopped = partly(rt, stopped.take().unwrap_or(new), steps, words);
+            stopped.is_some()
+        }
+        Does::Ends(answer, steps) => match stopped.take() {
+            Some(call) => ends(rt, call, words, answer, steps),
+            None => false,
+        },
+    }
+}
+
 /// These words, with others at some places.
 pub fn with<const N: usize>(mut words: [u64; N], places: &[(usize, u64)]) -> [u64; N] {
     for (at, word) in places {

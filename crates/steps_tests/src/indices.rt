@@ -1,145 +1,12 @@
 //! The unique index set, step by step.
-use crate::drive::{bare, partly, whole};
-use std::test::Fail;
+use crate::drive::{Does, bare, is_done};
+use std::process::Abort;
 use steps::indices::enums::{ReleaseMode, ReleaseState, UniqueIndexSetAcquireFailure};
 use steps::indices::head::{HeadDetails, LOCK_ACQUIRE};
 use steps::indices::layout::{HEAD, flag, flag_word, next_word};
 use steps::indices::looks::{BorrowedIndices, IsLocked};
 use steps::indices::unique::{Acquire, AcquireStage, DefaultMode, LockMode, Mode, Release};
 use steps::routine::Running;
-
-#[test]
-fn head_words(rt: HostRuntime) {
-    for (head, aba, borrowed_indices, value) in [
-        (12345, 6789, 54321, 0x0030_391a_8500_d431),
-        (0xff_ffff, 0, 0, 18446742974197923840),
-        (0, 65535, 0, 1099494850560),
-        (0, 0, LOCK_ACQUIRE, 16777215),
-    ] {
-        let details = HeadDetails {
-            head,
-            aba,
-            borrowed_indices,
-        };
-        assert_eq!(rt; details.value(), value);
-        assert_eq!(rt; HeadDetails::from(value), details);
-    }
-    let dropped = HeadDetails {
-        head: 0x100_0002,
-        aba: 0,
-        borrowed_indices: 0x100_0003,
-    };
-    assert_eq!(rt; HeadDetails::from(dropped.value()).head, 2);
-    assert_eq!(rt; HeadDetails::from(dropped.value()).borrowed_indices, 3);
-    assert_eq!(rt; ReleaseMode::default(), ReleaseMode::Default);
-}
-
-#[test]
-fn places(rt: HostRuntime) {
-    for (index, next, word, bit) in [(0, 1, 131, 1), (63, 64, 131, 1 << 63), (64, 65, 132, 1)] {
-        assert_eq!(rt; next_word(index), next);
-        assert_eq!(rt; flag_word(130, index), word);
-        assert_eq!(rt; flag(index), bit);
-    }
-}
-
-/// An answer of a call on the set, and the call.
-#[derive(Debug, Clone, Copy, PartialEq, Eq)]
-enum Answered {
-    Acquired(Result<u32, UniqueIndexSetAcquireFailure>),
-    Released(u32, ReleaseState),
-    ReleasedOrLocked(u32, ReleaseState),
-    Borrowed(usize),
-    Locked(bool),
-}
-
-fn giving_back<M: Mode>(capacity: u32, index: u32) -> Running<Release<M>, u32, ()> {
-    Running {
-        call: Release::new(capacity),
-        given: index,
-        room: (),
-    }
-}
-
-/// Runs each of these calls to its end, and compares its answer and its steps.
-fn rows(rt: &impl std::process::Abort, rows: &[(Answered, u64)], words: &mut [u64; 5]) {
-    for (row, steps) in rows {
-        let found = match *row {
-            Answered::Acquired(_) => whole(rt, bare(Acquire::new(3)), words).map(|(answer, steps)| (
-                Answered::Acquired(answer),
-                steps,
-            )),
-            Answered::Released(index, _) => {
-                whole(rt, giving_back::<DefaultMode>(3, index), words).map(|(answer, steps)| (
-                    Answered::Released(index, answer),
-                    steps,
-                ))
-            }
-            Answered::ReleasedOrLocked(index, _) => {
-                whole(rt, giving_back::<LockMode>(3, index), words).map(|(answer, steps)| (
-                    Answered::ReleasedOrLocked(index, answer),
-                    steps,
-                ))
-            }
-            Answered::Borrowed(_) => whole(rt, bare(BorrowedIndices), words).map(|(answer, steps)| (
-                Answered::Borrowed(answer),
-                steps,
-            )),
-            Answered::Locked(_) => whole(rt, bare(IsLocked), words).map(|(answer, steps)| (
-                Answered::Locked(answer),
-                steps,
-            )),
-        };
-        assert_eq!(rt; found, Some((*row, *steps)));
-    }
-}
-
-#[test]
-fn a_set_of_three(rt: HostRuntime) {
-    let out = Err(UniqueIndexSetAcquireFailure::OutOfIndices);
-    let locked = Err(UniqueIndexSetAcquireFailure::IsLocked);
-    let mut words = [0, 1, 2, 3, 0];
-    rows(
-        &rt,
-        &[
-            (Answered::Acquired(Ok(0)), 4),
-            (Answered::Acquired(Ok(1)), 4),
-            (Answered::Acquired(Ok(2)), 4),
-            (Answered::Acquired(out), 1),
-            (Answered::Borrowed(3), 1),
-            (Answered::Released(0, ReleaseState::Unlocked), 4),
-            (Answered::Released(2, ReleaseState::Unlocked), 4),
-            (Answered::Acquired(Ok(2)), 4),
-            (Answered::Acquired(Ok(0)), 4),
-            (Answered::ReleasedOrLocked(1, ReleaseState::Unlocked), 4),
-            (Answered::Locked(false), 1),
-        ],
-        &mut words,
-    );
-    assert_eq!(rt; (words[2], words[4]), (3, 0b101));
-    let mut words = [0, 1, 2, 3, 0];
-    rows(
-        &rt,
-        &[
-            (Answered::Acquired(Ok(0)), 4),
-            (Answered::ReleasedOrLocked(0, ReleaseState::Locked), 4),
-            (Answered::Acquired(locked), 1),
-            (Answered::Borrowed(0), 1),
-            (Answered::Locked(true), 1),
-        ],
-        &mut words,
-    );
-    // The neighbours of a flag stay.
-    let mut words = [0, 1, 2, 3, 0b110];
-    rows(&rt, &[(Answered::Acquired(Ok(0)), 4)], &mut words);
-    assert_eq!(rt; words[4], 0b111);
-    rows(
-        &rt,
-        &[(Answered::Released(1, ReleaseState::Unlocked), 4)],
-        &mut words,
-    );
-    assert_eq!(rt; words[4], 0b101);
-}
 
 fn head(head: u32, aba: u16, borrowed_indices: u32) -> HeadDetails {
     HeadDetails {
@@ -149,85 +16,287 @@ fn head(head: u32, aba: u16, borrowed_indices: u32) -> HeadDetails {
     }
 }
 
-/// Each exchange of the head counts up its aba, which wraps alone; a subtraction leaves it.
-#[test]
-fn heads_that_are_exchanged(rt: HostRuntime) -> Result<(), Fail> {
-    let mut words = [head(0, 65534, 0).value(), 1, 2, 0];
-    for (index, left) in [(0, head(1, 65535, 1)), (1, head(2, 0, 2))] {
-        let acquire = bare(Acquire::new(2));
-        assert_eq!(rt; whole(&rt, acquire, &mut words), Some((Ok(index), 4)));
-        assert_eq!(rt; HeadDetails::from(words[HEAD]), left);
-    }
-    let release = giving_back::<DefaultMode>(2, 0);
-    let unlocked = Some((ReleaseState::Unlocked, 4));
-    assert_eq!(rt; whole(&rt, release, &mut words), unlocked);
-    assert_eq!(rt; HeadDetails::from(words[HEAD]), head(0, 1, 1));
-    assert_eq!(rt; words[1], 2);
-    let release = giving_back::<DefaultMode>(2, 1);
-    let release = partly(&rt, release, 3, &mut words).ok_or("it ended")?;
-    words[HEAD] = head(0, 65535, 2).value();
-    let subtracted = Some((ReleaseState::Unlocked, 2));
-    assert_eq!(rt; whole(&rt, release, &mut words), subtracted);
-    assert_eq!(rt; HeadDetails::from(words[HEAD]), head(0, 65535, 1));
-    let release = giving_back::<LockMode>(2, 0);
-    let locked = Some((ReleaseState::Locked, 4));
-    assert_eq!(rt; whole(&rt, release, &mut words), locked);
-    assert_eq!(rt; HeadDetails::from(words[HEAD]), head(0, 0, LOCK_ACQUIRE));
-    Ok(())
-}
+const HEADS: [(u32, u16, u32, u64); 4] = [
+    (12345, 6789, 54321, 0x0030_391a_8500_d431),
+    (0xff_ffff, 0, 0, 18446742974197923840),
+    (0, 65535, 0, 1099494850560),
+    (0, 0, LOCK_ACQUIRE, 16777215),
+];
 
 #[test]
-fn calls_that_meet(rt: HostRuntime) -> Result<(), Fail> {
+fn head_words(rt: HostRuntime) {
+    for (index, aba, borrowed, value) in &HEADS {
+        let details = head(*index, *aba, *borrowed);
+        assert!(rt; details.value() == *value && HeadDetails::from(*value) == details);
+    }
+    let dropped = HeadDetails::from(head(0x100_0002, 0, 0x100_0003).value());
+    assert!(rt; dropped == head(2, 0, 3));
+    assert!(rt; ReleaseMode::default() == ReleaseMode::Default);
+}
+
+const PLACES: [(u32, usize, usize, u64); 3] = [
+    (0, 1, 131, 1),
+    (63, 64, 131, 1 << 63),
+    (64, 65, 132, 1),
+];
+
+#[test]
+fn places(rt: HostRuntime) {
+    for (index, next, word, bit) in &PLACES {
+        assert!(rt; next_word(*index) == *next && flag_word(130, *index) == *word);
+        assert!(rt; flag(*index) == *bit);
+    }
+}
+
+type Acquired = Result<u32, UniqueIndexSetAcquireFailure>;
+
+const OUT: Acquired = Err(UniqueIndexSetAcquireFailure::OutOfIndices);
+
+const SHUT: Acquired = Err(UniqueIndexSetAcquireFailure::IsLocked);
+
+const UNLOCKED: ReleaseState = ReleaseState::Unlocked;
+
+const LOCKED: ReleaseState = ReleaseState::Locked;
+
+fn giving_back<M: Mode>(capacity: u32, index: u32) -> Running<Release<M>, u32, ()> {
+    Running {
+        call: Release::new(capacity),
+        given: index,
+        room: (),
+    }
+}
+
+/// The words of a set of at most three, and the calls on it that are stopped, one of a kind.
+#[derive(Drop)]
+struct Set {
+    capacity: u32,
+    words: [u64; 5],
+    acquire: Option<Running<Acquire, (), ()>>,
+    release: Option<Running<Release<DefaultMode>, u32, ()>>,
+    lock: Option<Running<Release<LockMode>, u32, ()>>,
+    count: Option<Running<BorrowedIndices, (), ()>>,
+    look: Option<Running<IsLocked, (), ()>>,
+}
+
+/// What is done, and what has to come of it.
+enum Row {
+    Acquire(Does<Acquired>),
+    /// In mode `Default`.
+    Release(u32, Does<ReleaseState>),
+    /// In mode `LockIfLastIndex`.
+    Lock(u32, Does<ReleaseState>),
+    Borrowed(Does<usize>),
+    Locked(Does<bool>),
+    Shared(Shared),
+    Back(Back),
+}
+
+/// What is done with the words alone.
+enum Shared {
+    /// They are these from now on.
+    Sets([u64; 5]),
+    /// This one has to be this.
+    Word(usize, u64),
+    /// Another party writes this one.
+    Writes(usize, u64),
+    /// The head says this.
+    Head(u32, u16, u32),
+    WritesHead(u32, u16, u32),
+}
+
+/// Whether the call that is stopped goes back where it is handed this.
+enum Back {
+    Acquire(u64, bool),
+    Release(u64, bool),
+    Lock(u64, bool),
+    /// The acquire scans the flags, at this index.
+    Scans(u32),
+}
+
+impl Set {
+    fn shares(&mut self, row: &Shared) -> bool {
+        match *row {
+            Shared::Sets(words) => {
+                self.words = words;
+                true
+            }
+            Shared::Word(at, word) => self.words[at % 5] == word,
+            Shared::Writes(at, word) => {
+                self.words[at % 5] = word;
+                true
+            }
+            Shared::Head(index, aba, borrowed) => {
+                HeadDetails::from(self.words[HEAD]) == head(index, aba, borrowed)
+            }
+            Shared::WritesHead(index, aba, borrowed) => {
+                self.words[HEAD] = head(index, aba, borrowed).value();
+                true
+            }
+        }
+    }
+
+    fn goes_back(&self, back: &Back) -> bool {
+        match *back {
+            Back::Acquire(word, goes) => match &self.acquire {
+                Some(call) => call.call.goes_back(word) == goes,
+                None => false,
+            },
+            Back::Release(word, goes) => match &self.release {
+                Some(call) => call.call.goes_back(word) == goes,
+                None => false,
+            },
+            Back::Lock(word, goes) => match &self.lock {
+                Some(call) => call.call.goes_back(word) == goes,
+                None => false,
+            },
+            Back::Scans(at) => match &self.acquire {
+                Some(call) => match call.call.stage {
+                    AcquireStage::Scans { index } => index == at,
+                    _ => false,
+                },
+                None => false,
+            },
+        }
+    }
+
+    fn does(&mut self, rt: &impl Abort, row: &Row) -> bool {
+        match row {
+            Row::Acquire(done) => {
+                let new = bare(Acquire::new(self.capacity));
+                is_done(rt, &mut self.acquire, new, &mut self.words, done)
+            }
+            Row::Release(index, done) => {
+                let new = giving_back::<DefaultMode>(self.capacity, *index);
+                is_done(rt, &mut self.release, new, &mut self.words, done)
+            }
+            Row::Lock(index, done) => {
+                let new = giving_back::<LockMode>(self.capacity, *index);
+                is_done(rt, &mut self.lock, new, &mut self.words, done)
+            }
+            Row::Borrowed(done) => {
+                is_done(
+                    rt,
+                    &mut self.count,
+                    bare(BorrowedIndices),
+                    &mut self.words,
+                    done,
+                )
+            }
+            Row::Locked(done) => is_done(rt, &mut self.look, bare(IsLocked), &mut self.words, done),
+            Row::Shared(shared) => self.shares(shared),
+            Row::Back(back) => self.goes_back(back),
+        }
+    }
+}
+
+/// Goes through these rows of a set of this capacity, each of which has to come out so.
+fn play(rt: &impl Abort, name: &str, capacity: u32, rows: &[Row]) {
+    let mut set = Set {
+        capacity,
+        words: [0; 5],
+        acquire: None,
+        release: None,
+        lock: None,
+        count: None,
+        look: None,
+    };
+    for (at, row) in rows.iter().enumerate() {
+        assert!(rt; set.does(rt, row), "{name}: row {at}");
+    }
+}
+
+/// At capacity 3.
+const THREE: [Row; 26] = [
+    Row::Shared(Shared::Sets([0, 1, 2, 3, 0])),
+    Row::Acquire(Does::Whole(Ok(0), 4)),
+    Row::Acquire(Does::Whole(Ok(1), 4)),
+    Row::Acquire(Does::Whole(Ok(2), 4)),
+    Row::Acquire(Does::Whole(OUT, 1)),
+    Row::Borrowed(Does::Whole(3, 1)),
+    Row::Release(0, Does::Whole(UNLOCKED, 4)),
+    Row::Release(2, Does::Whole(UNLOCKED, 4)),
+    Row::Acquire(Does::Whole(Ok(2), 4)),
+    Row::Acquire(Does::Whole(Ok(0), 4)),
+    Row::Lock(1, Does::Whole(UNLOCKED, 4)),
+    Row::Locked(Does::Whole(false, 1)),
+    Row::Shared(Shared::Word(2, 3)),
+    Row::Shared(Shared::Word(4, 0b101)),
+    Row::Shared(Shared::Sets([0, 1, 2, 3, 0])),
+    Row::Acquire(Does::Whole(Ok(0), 4)),
+    Row::Lock(0, Does::Whole(LOCKED, 4)),
+    Row::Acquire(Does::Whole(SHUT, 1)),
+    Row::Borrowed(Does::Whole(0, 1)),
+    Row::Locked(Does::Whole(true, 1)),
+    // The neighbours of a flag stay.
+    Row::Shared(Shared::Sets([0, 1, 2, 3, 0b110])),
+    Row::Acquire(Does::Whole(Ok(0), 4)),
+    Row::Shared(Shared::Word(4, 0b111)),
+    Row::Release(1, Does::Whole(UNLOCKED, 4)),
+    Row::Shared(Shared::Word(4, 0b101)),
+    Row::Locked(Does::Whole(false, 1)),
+];
+
+/// At capacity 2: each exchange of the head counts up its aba, which wraps alone; a subtraction leaves it.
+const HEADS_EXCHANGED: [Row; 15] = [
+    Row::Shared(Shared::Sets([0, 1, 2, 0, 0])),
+    Row::Shared(Shared::WritesHead(0, 65534, 0)),
+    Row::Acquire(Does::Whole(Ok(0), 4)),
+    Row::Shared(Shared::Head(1, 65535, 1)),
+    Row::Acquire(Does::Whole(Ok(1), 4)),
+    Row::Shared(Shared::Head(2, 0, 2)),
+    Row::Release(0, Does::Whole(UNLOCKED, 4)),
+    Row::Shared(Shared::Head(0, 1, 1)),
+    Row::Shared(Shared::Word(1, 2)),
+    Row::Release(1, Does::Stops(3)),
+    Row::Shared(Shared::WritesHead(0, 65535, 2)),
+    Row::Release(1, Does::Ends(UNLOCKED, 2)),
+    Row::Shared(Shared::Head(0, 65535, 1)),
+    Row::Lock(0, Does::Whole(LOCKED, 4)),
+    Row::Shared(Shared::Head(0, 0, LOCK_ACQUIRE)),
+];
+
+/// At capacity 2: calls that meet.
+const MEETS: [Row; 32] = [
     // A release in mode Default whose exchange fails subtracts: 5 steps, and the index is found by a scan.
-    let mut words = [0, 1, 2, 0];
-    assert_eq!(rt;
-        whole(&rt, bare(Acquire::new(2)), &mut words),
-        Some((Ok(0), 4))
-    );
-    let release = giving_back::<DefaultMode>(2, 0);
-    let release = partly(&rt, release, 3, &mut words).ok_or("it ended")?;
-    assert_eq!(rt;
-        whole(&rt, bare(Acquire::new(2)), &mut words),
-        Some((Ok(1), 4))
-    );
-    assert!(rt; !release.call.goes_back(words[HEAD]));
-    assert_eq!(rt;
-        whole(&rt, release, &mut words),
-        Some((ReleaseState::Unlocked, 2))
-    );
-    let acquire = bare(Acquire::new(2));
-    let acquire = partly(&rt, acquire, 2, &mut words).ok_or("it ended")?;
-    assert!(rt; matches!(acquire.call.stage, AcquireStage::Scans { index: 0 }));
-    assert!(rt; !acquire.call.goes_back(3));
-    assert_eq!(rt; whole(&rt, acquire, &mut words), Some((Ok(0), 1)));
+    Row::Shared(Shared::Sets([0, 1, 2, 0, 0])),
+    Row::Acquire(Does::Whole(Ok(0), 4)),
+    Row::Release(0, Does::Stops(3)),
+    Row::Acquire(Does::Whole(Ok(1), 4)),
+    Row::Shared(Shared::Head(2, 2, 2)),
+    Row::Back(Back::Release(0x200_0200_0002, false)),
+    Row::Release(0, Does::Ends(UNLOCKED, 2)),
+    Row::Acquire(Does::Stops(2)),
+    Row::Back(Back::Scans(0)),
+    Row::Back(Back::Acquire(3, false)),
+    Row::Acquire(Does::Ends(Ok(0), 1)),
     // In mode lock it goes back to the store.
-    let release = giving_back::<LockMode>(2, 1);
-    let release = partly(&rt, release, 3, &mut words).ok_or("it ended")?;
-    assert_eq!(rt;
-        whole(&rt, giving_back::<DefaultMode>(2, 0), &mut words),
-        Some((ReleaseState::Unlocked, 4))
-    );
-    assert!(rt; release.call.goes_back(words[HEAD]));
-    assert_eq!(rt;
-        whole(&rt, release, &mut words),
-        Some((ReleaseState::Locked, 3))
-    );
-    assert_eq!(rt; words[3], 0);
+    Row::Lock(1, Does::Stops(3)),
+    Row::Release(0, Does::Whole(UNLOCKED, 4)),
+    Row::Shared(Shared::Head(0, 4, 1)),
+    Row::Back(Back::Lock(0x400_0001, true)),
+    Row::Lock(1, Does::Ends(LOCKED, 3)),
+    Row::Shared(Shared::Word(3, 0)),
     // An acquire whose exchange fails goes back to the tests, and one whose scan finds no free flag begins it anew.
-    let mut words = [0, 1, 2, 0];
-    let acquire = partly(&rt, bare(Acquire::new(2)), 2, &mut words).ok_or("it ended")?;
-    assert_eq!(rt;
-        whole(&rt, bare(Acquire::new(2)), &mut words),
-        Some((Ok(0), 4))
-    );
-    assert!(rt; acquire.call.goes_back(words[HEAD]));
-    assert!(rt; !acquire.call.goes_back(0));
-    words[3] = 3;
-    let acquire = partly(&rt, acquire, 5, &mut words).ok_or("it ended")?;
-    assert!(rt; matches!(acquire.call.stage, AcquireStage::Scans { index: 1 }));
-    assert!(rt; acquire.call.goes_back(3));
-    let acquire = partly(&rt, acquire, 1, &mut words).ok_or("it ended")?;
-    words[3] = 1;
-    assert_eq!(rt; whole(&rt, acquire, &mut words), Some((Ok(1), 2)));
-    Ok(())
+    Row::Shared(Shared::Sets([0, 1, 2, 0, 0])),
+    Row::Acquire(Does::Stops(2)),
+    Row::Acquire(Does::Whole(Ok(0), 4)),
+    Row::Shared(Shared::Head(1, 1, 1)),
+    Row::Back(Back::Acquire(0x100_0100_0001, true)),
+    Row::Back(Back::Acquire(0, false)),
+    Row::Shared(Shared::Writes(3, 3)),
+    Row::Acquire(Does::Stops(5)),
+    Row::Back(Back::Scans(1)),
+    Row::Back(Back::Acquire(3, true)),
+    Row::Acquire(Does::Stops(1)),
+    Row::Back(Back::Scans(0)),
+    Row::Shared(Shared::Writes(3, 1)),
+    Row::Acquire(Does::Ends(Ok(1), 2)),
+    Row::Shared(Shared::Word(3, 3)),
+];
+
+#[test]
+fn rows(rt: HostRuntime) {
+    play(&rt, "THREE", 3, &THREE);
+    play(&rt, "HEADS_EXCHANGED", 2, &HEADS_EXCHANGED);
+    play(&rt, "MEETS", 2, &MEETS);
 }

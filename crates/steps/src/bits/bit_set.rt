@@ -12,13 +12,13 @@ use crate::routine::Routine;
 /// It loads the element; where the flag stands: false, and nothing changes. Else it exchanges the element for the one
 /// with the flag: true. Where the element has changed, it goes back to the test, with the element found. A place below
 /// the capacity is the caller's concern. After `set` of the Rust crate's `BitSet`.
-#[derive(Debug, Clone, Copy)]
+#[derive(Clone, Copy)]
 pub struct Set {
     pub stage: SetStage,
 }
 
 /// What the call does next, and the element that it has found.
-#[derive(Debug, Clone, Copy)]
+#[derive(Clone, Copy)]
 pub enum SetStage {
     LoadsElement,
     ExchangesElement { found: u64 },
@@ -33,14 +33,14 @@ pub enum SetStage {
 /// element has changed, it goes back to the test of the same place, with the element found. None comes after all places
 /// were passed, and each was clear at some moment of the call. With capacity 0 it takes one step.
 /// After `reset_next` of the Rust crate's `BitSet`.
-#[derive(Debug, Clone, Copy)]
+#[derive(Clone, Copy)]
 pub struct ResetNext {
     pub capacity: u32,
     pub stage: ResetNextStage,
 }
 
 /// What the call does next: the place from which it started, how many it has passed since, and the element found.
-#[derive(Debug, Clone, Copy)]
+#[derive(Clone, Copy)]
 pub enum ResetNextStage {
     LoadsPosition,
     LoadsElement { start: u32, passed: u32 },

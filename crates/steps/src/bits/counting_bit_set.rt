@@ -33,7 +33,7 @@ impl BitState {
 
 /// Adds 1 to the count of the place that it is given, and answers what the count was. One step. The count wraps. A place
 /// below the capacity is the caller's concern. After `set` of the Rust crate's `CountingBitSet`.
-#[derive(Debug, Clone, Copy)]
+#[derive(Clone, Copy)]
 pub struct Set;
 
 impl Routine for Set {

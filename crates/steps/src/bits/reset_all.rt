@@ -12,7 +12,7 @@ use crate::routine::{Ends, Routine};
 /// Each step swaps one word with 0, and what stood in it lies in the room until the next step: whoever drives the call
 /// hands it out. Each place is emptied at another step, or with the others of its element. Where there is no such word
 /// it takes no step. After `reset_all` of the Rust crate's `BitSet` and `CountingBitSet`.
-#[derive(Debug, Clone, Copy)]
+#[derive(Clone, Copy)]
 pub struct ResetAll {
     /// The word that is swapped next.
     pub word: u32,

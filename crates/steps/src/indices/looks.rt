@@ -8,11 +8,11 @@ use crate::routine::{Ends, Routine};
 
 /// How many indices are borrowed, 0 where the set is locked. One step, a load of the head. After `borrowed_indices` of
 /// the Rust crate's `UniqueIndexSet`.
-#[derive(Debug, Clone, Copy)]
+#[derive(Clone, Copy)]
 pub struct BorrowedIndices;
 
 /// Whether the set is locked. One step, a load of the head. After `is_locked` of the Rust crate's `UniqueIndexSet`.
-#[derive(Debug, Clone, Copy)]
+#[derive(Clone, Copy)]
 pub struct IsLocked;
 
 impl Routine for BorrowedIndices {

@@ -25,14 +25,14 @@ use std::marker::PhantomData;
 /// found. Then it claims the flag of the proposed index; where that is taken, or none was proposed, it claims the
 /// flags from 0 ascending until it finds one free, again from 0 at the end of a scan. After `acquire_raw_index` of the
 /// Rust crate's `UniqueIndexSet`, which trusts the proposal.
-#[derive(Debug, Clone, Copy)]
+#[derive(Clone, Copy)]
 pub struct Acquire {
     pub capacity: u32,
     pub stage: AcquireStage,
 }
 
 /// What an acquire does next, with the head that it has loaded, or the index that it claims.
-#[derive(Debug, Clone, Copy)]
+#[derive(Clone, Copy)]
 pub enum AcquireStage {
     LoadsHead,
     LoadsNext { head: u64 },
@@ -92,7 +92,7 @@ impl<M> Clone for Release<M> {
 impl<M> Copy for Release<M> {}
 
 /// What a release does next, with the head that it has loaded.
-#[derive(Debug, Clone, Copy)]
+#[derive(Clone, Copy)]
 pub enum ReleaseStage {
     ClearsFlag,
     LoadsHead,

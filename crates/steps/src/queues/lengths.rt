@@ -15,14 +15,14 @@ use crate::routine::Routine;
 /// capacity 0 has no value, whatever its words say. In an overflowing queue the number can be one more than the
 /// capacity, while a push is between its two moves. After `len`, `is_empty` and `is_full` of the
 /// Rust crate's queues, which compare this number with 0 and the capacity.
-#[derive(Debug, Clone, Copy)]
+#[derive(Clone, Copy)]
 pub struct Len {
     pub capacity: u32,
     pub stage: LenStage,
 }
 
 /// What the call does next, and the positions that it has loaded.
-#[derive(Debug, Clone, Copy)]
+#[derive(Clone, Copy)]
 pub enum LenStage {
     LoadsWrite,
     LoadsRead { write: u64 },

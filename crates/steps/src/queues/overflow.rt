@@ -27,14 +27,14 @@ pub fn cell_word(capacity: u32, position: u64) -> usize
 /// read position on from where it was; where that fails, a pop has made room: None. Else it loads the cell of the
 /// position that it took. A queue of capacity 0 hands the value itself back, and takes no step. One push at a time is
 /// the caller's concern. After `push` of the Rust crate's `SafelyOverflowingIndexQueue`.
-#[derive(Debug, Clone, Copy)]
+#[derive(Clone, Copy)]
 pub struct Push {
     pub capacity: u32,
     pub stage: PushStage,
 }
 
 /// What a push does next, and the positions that it has loaded.
-#[derive(Debug, Clone, Copy)]
+#[derive(Clone, Copy)]
 pub enum PushStage {
     HandsBack,
     LoadsWrite,
@@ -46,7 +46,7 @@ pub enum PushStage {
 }
 
 /// How a push ends.
-#[derive(Debug, Clone, Copy, PartialEq, Eq)]
+#[derive(Clone, Copy, PartialEq, Eq)]
 pub enum PushEnd {
     /// Its value was taken, and none left.
     Added,
@@ -63,14 +63,14 @@ pub enum PushEnd {
 /// it goes back to the load of the cell, with the position found. A queue of capacity 0 is
 /// empty, and no step is taken. One pop at a time is the caller's concern. After `pop` of the
 /// Rust crate's `SafelyOverflowingIndexQueue`.
-#[derive(Debug, Clone, Copy)]
+#[derive(Clone, Copy)]
 pub struct Pop {
     pub capacity: u32,
     pub stage: PopStage,
 }
 
 /// What a pop does next, and the position that it has loaded.
-#[derive(Debug, Clone, Copy)]
+#[derive(Clone, Copy)]
 pub enum PopStage {
     FindsNone,
     LoadsRead,

@@ -43,7 +43,7 @@ pub fn cell_word(capacity: u32, words: u8, position: u64) -> usize
 /// (`capacity` behind: false, and nothing changes), stores the value's words into its cell, and
 /// stores the next write position. One push at a time is the caller's concern. After `push` of
 /// the Rust crate's `IndexQueue` and `Queue`.
-#[derive(Debug, Clone, Copy)]
+#[derive(Clone, Copy)]
 pub struct Push<T> {
     pub capacity: u32,
     pub stage: PushStage,
@@ -51,7 +51,7 @@ pub struct Push<T> {
 }
 
 /// What a push does next, the positions that it has loaded, and the first word of its cell.
-#[derive(Debug, Clone, Copy)]
+#[derive(Clone, Copy)]
 pub enum PushStage {
     LoadsWrite,
     LoadsRead { write: u64 },
@@ -71,7 +71,7 @@ pub struct Pop<T, R> {
 }
 
 /// What a pop does next, the position that it has loaded, and the first word of its cell.
-#[derive(Debug, Clone, Copy)]
+#[derive(Clone, Copy)]
 pub enum PopStage {
     LoadsRead,
     LoadsWrite { read: u64 },

@@ -12,14 +12,14 @@ pub enum Role {
 
 /// Takes a role: true where it was free, else false and nothing changes. One step, an exchange of 1 to 0.
 /// After `acquire_producer` and `acquire_consumer` of the Rust crate's queues.
-#[derive(Debug, Clone, Copy)]
+#[derive(Clone, Copy)]
 pub struct AcquireRole {
     /// The role's word, 1 while the role is free and 0 while it is taken.
     pub word: usize,
 }
 
 /// Gives a role back. One step, a store of 1. After the drop of the Rust crate's `Producer` and `Consumer`.
-#[derive(Debug, Clone, Copy)]
+#[derive(Clone, Copy)]
 pub struct ReleaseRole {
     /// The role's word.
     pub word: usize,

@@ -17,14 +17,14 @@ use crate::routine::Routine;
 /// the index; where the set is locked by then, `IsLocked`, and the cell keeps the owner. If no exchange succeeded, it
 /// exchanges the counter for itself: `OutOfIndices`, since each cell was filled; on failure it goes back to the tests,
 /// with the counter found. After `acquire` of the Rust crate's `RobustUniqueIndexSet`.
-#[derive(Debug, Clone, Copy)]
+#[derive(Clone, Copy)]
 pub struct Acquire {
     pub capacity: u32,
     pub stage: AcquireStage,
 }
 
 /// What an acquire does next, with the counter that it has loaded, or the index whose cell it has filled.
-#[derive(Debug, Clone, Copy)]
+#[derive(Clone, Copy)]
 pub enum AcquireStage {
     LoadsCounter,
     FillsCell { counter: u64, index: u32 },

@@ -12,14 +12,14 @@ use crate::routine::{Ends, Routine};
 ///
 /// It loads the cells ascending. At each that holds the owner it counts one more, and asks about the index: a no stops
 /// it there. After `find` of the Rust crate's `RobustUniqueIndexSet`.
-#[derive(Debug, Clone, Copy)]
+#[derive(Clone, Copy)]
 pub struct Find {
     pub capacity: u32,
     pub stage: FindStage,
 }
 
 /// What a find does next, and how many indices it has come to.
-#[derive(Debug, Clone, Copy)]
+#[derive(Clone, Copy)]
 pub enum FindStage {
     LoadsCell { index: u32, found: usize },
     Asks { index: u32, found: usize },

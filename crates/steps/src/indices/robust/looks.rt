@@ -12,7 +12,7 @@ use crate::routine::{Ends, Routine};
 /// It is a count: the number is that of the cells that had an owner when it loaded them, and the counter has not moved
 /// since it was loaded. It raises the counter. Where the counter is at its end, the number is that of one pass over the
 /// cells, whatever has changed meanwhile. After `borrowed_indices` of the Rust crate's `RobustUniqueIndexSet`.
-#[derive(Debug, Clone, Copy)]
+#[derive(Clone, Copy)]
 pub struct BorrowedIndices {
     pub capacity: u32,
     pub count: Count,
@@ -20,7 +20,7 @@ pub struct BorrowedIndices {
 
 /// Whether the set is locked. One step, a load of the counter. After `is_locked` of the Rust crate's
 /// `RobustUniqueIndexSet`.
-#[derive(Debug, Clone, Copy)]
+#[derive(Clone, Copy)]
 pub struct IsLocked;
 
 impl BorrowedIndices {

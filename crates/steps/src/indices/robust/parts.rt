@@ -29,7 +29,7 @@ pub fn cell_word(index: u32) -> usize
 ///
 /// It loads the counter. Where that says locked: `Locked`. Where it is at its end: `Unlocked`. Then it exchanges it for
 /// the next number; on failure it goes back to the tests, with the counter found.
-#[derive(Debug, Clone, Copy)]
+#[derive(Clone, Copy)]
 pub enum Raise {
     LoadsCounter,
     ExchangesCounter { counter: u64 },
@@ -40,7 +40,7 @@ pub enum Raise {
 /// It loads the counter: `Locked` where that says so. It loads the cells ascending, and counts those with an owner.
 /// Where the counter is at its end, that is the number. Else it exchanges the counter for the next number; on failure
 /// it goes back to the load of the counter.
-#[derive(Debug, Clone, Copy)]
+#[derive(Clone, Copy)]
 pub enum Count {
     LoadsCounter,
     LoadsCell {
@@ -55,7 +55,7 @@ pub enum Count {
 }
 
 /// How a count ends.
-#[derive(Debug, Clone, Copy)]
+#[derive(Clone, Copy)]
 pub enum Counted {
     Locked,
     /// So many cells have an owner, and the counter stands here now.
@@ -67,7 +67,7 @@ pub enum Counted {
 ///
 /// It counts: `Locked` where the count says so. Where a cell has an owner, or the counter is at its end now: `Unlocked`.
 /// Else it exchanges the counter, as the count has left it, for `u64::MAX`; on failure it goes back to the count.
-#[derive(Debug, Clone, Copy)]
+#[derive(Clone, Copy)]
 pub enum Lock {
     Counts { count: Count },
     ExchangesCounter { counter: u64 },

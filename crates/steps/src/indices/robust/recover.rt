@@ -18,14 +18,14 @@ use crate::routine::Routine;
 /// with `Locked`; in mode `LockIfLastIndex` it locks the set where no cell has an owner, and goes on whatever that
 /// answers. At the end it loads the counter, which says `Locked` or `Unlocked`. That an owner whose index it frees is
 /// dead is the concern of whoever answers. After `recover` of the Rust crate's `RobustUniqueIndexSet`.
-#[derive(Debug, Clone, Copy)]
+#[derive(Clone, Copy)]
 pub struct Recover {
     pub capacity: u32,
     pub stage: RecoverStage,
 }
 
 /// What a recovery does next, the index that it has come to, and the owner that it has found there.
-#[derive(Debug, Clone, Copy)]
+#[derive(Clone, Copy)]
 pub enum RecoverStage {
     LoadsCounter,
     LoadsCell { index: u32 },

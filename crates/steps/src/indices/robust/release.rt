@@ -16,14 +16,14 @@ use crate::routine::Routine;
 /// It exchanges the cell of the index from the owner to empty; on failure it ends with the error. Then it raises the
 /// counter, and in mode `Default` answers `Unlocked`. In mode `LockIfLastIndex` it locks the set where no cell has an
 /// owner, and answers what that answers. After `release` of the Rust crate's `RobustUniqueIndexSet`.
-#[derive(Debug, Clone, Copy)]
+#[derive(Clone, Copy)]
 pub struct Release {
     pub capacity: u32,
     pub stage: ReleaseStage,
 }
 
 /// What a release is given.
-#[derive(Debug, Clone, Copy)]
+#[derive(Clone, Copy)]
 pub struct GiveBack {
     pub index: u32,
     pub owner: OwnerId,
@@ -31,7 +31,7 @@ pub struct GiveBack {
 }
 
 /// What a release does next.
-#[derive(Debug, Clone, Copy)]
+#[derive(Clone, Copy)]
 pub enum ReleaseStage {
     EmptiesCell,
     Raises { raise: Raise },

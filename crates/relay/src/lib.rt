@@ -1,0 +1,5 @@
+//! Sends numbers from one thread to another.
+#![tactic(auto)]
+
+pub mod error;
+pub mod numbers;

@@ -1,0 +1,4 @@
+//! Sends numbers from one thread to another through a queue that overflows.
+#![tactic(auto)]
+
+pub mod overflow;
