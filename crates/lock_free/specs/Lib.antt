@@ -8,8 +8,12 @@ pub use Rattle.lock_free_sp.specs.Parts
 pub use Rattle.lock_free_sp.specs.Orders
 pub use Rattle.steps.specs.Enums
 -- The types that they speak of.
+pub use Rattle.atomic_table.specs.Seated.{TableId}
 pub use Rattle.lock_free_sp.specs.declared.ring.view as QueueView
+pub use Rattle.lock_free_sp.specs.declared.ring.ends as QueueEnds
 pub use Rattle.lock_free_sp.specs.declared.value.view as ValueView
+pub use Rattle.lock_free.specs.declared.unique.view as UniqueView
+pub use Rattle.lock_free.specs.declared.spsc.loan.places.Place
 pub use Rattle.lock_free_sp.specs.declared.share.Share
 pub use Rattle.steps.specs.declared.enums.UniqueIndexCreationError
 pub use Rattle.steps.specs.declared.enums.CallbackProgression
@@ -24,3 +28,4 @@ pub mod Unique
 pub mod UniqueIndexSet
 pub mod Sets
 pub mod Facts
+pub mod Loan

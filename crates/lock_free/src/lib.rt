@@ -1,9 +1,10 @@
-//! Lock-free containers for zero-copy middleware, after the Rust crate iceoryx2-bb-lock-free, with its module paths.
+//! Lock-free containers for zero-copy middleware, after the Rust crate iceoryx2-bb-lock-free, under its module paths.
 #![tactic(auto)]
 
 pub mod mpmc;
 mod robust;
+pub mod spsc;
 mod unique;
 
-pub use lock_free_sp::{laws, spmc, spsc};
+pub use lock_free_sp::{laws, spmc};
 pub use steps::words;

@@ -83,7 +83,7 @@ pub enum Refusal {
     OwnerLives = 9,
     #[error("a decision is due, or none is")]
     Undecided = 10,
-    #[error("there is no room for the events")]
+    #[error("there is no memory for what the turn writes down")]
     NoMemory = 11,
     #[error("as many turns were taken as a machine takes")]
     AtEnd = 12,

@@ -1,7 +1,7 @@
 //! Why a schedule was not run to its end.
 use thiserror::Error;
 
-/// What is wrong with a line: the first cause that is met from left to right.
+/// What is wrong with a line: the first cause that is met from left to right. A capacity is tested last.
 #[derive(Debug, Clone, Copy, PartialEq, Eq, Error)]
 pub enum Cause {
     /// A word is missing.

@@ -11,6 +11,9 @@ mod input;
 pub mod line;
 mod output;
 mod queues;
-pub mod run;
-pub mod status;
+pub mod runs;
 mod text;
+mod told;
+
+pub use runs::run;
+pub use told::status;

@@ -1,5 +1,5 @@
 //! Whole runs: worked schedules and broken texts.
-use schedule::status::status;
+use super::run_and_tell;
 use std::alloc::{AllocError, Global};
 use std::test::Fail;
 
@@ -23,7 +23,7 @@ pub fn runs_so(alloc: Global, input: &[u8], output: &[u8], told: &[u8], exit: u8
     let mut reader = input;
     let mut written = Vec::new(alloc);
     let mut errors = Vec::new(alloc);
-    let ended = status(alloc, alloc, &mut reader, &mut written, &mut errors);
+    let ended = run_and_tell(alloc, alloc, &mut reader, &mut written, &mut errors);
     written.as_slice() == output && errors.as_slice() == told && ended == exit
 }
 

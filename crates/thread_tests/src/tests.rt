@@ -1,7 +1,11 @@
 //! Real calls, by the paths that a caller names.
+ghost use Rattle.lock_free.specs.Ends.{IsPassOf};
+
 use lock_free::spmc::unrestricted_atomic::UnrestrictedAtomic;
-use lock_free::spsc::index_queue::FixedSizeIndexQueue;
+use lock_free::spsc::index_queue::{IndexQueue, Pass};
+use std::sync::Wait;
 use std::test::Fail;
+use std::thread;
 
 mod index_queue;
 mod long_values;
@@ -13,19 +17,34 @@ mod threads;
 mod users;
 mod value;
 
-/// The first test under `Single calls` in README.md, as it stands there but for its imports.
+// README.md shows this function and the test below.
+fn pop_one(rt: &impl Wait, queue: &IndexQueue, pass: Pass) -> Option<u64>
+    requires { IsPassOf queue.now pass }
+{
+    let mut consumer = queue.acquire_consumer(pass).ok()?;
+    for _ in rt.forever() {
+        if let Some(number) = consumer.pop() {
+            return Some(number);
+        }
+    }
+    None
+}
+
 #[test]
 fn readme_queue(rt: HostRuntime) -> Result<(), Fail> {
-    let (queue, mut pass) = FixedSizeIndexQueue::<128>::new(rt.alloc())?;
-    let other = pass.split().ok_or("no further pass")?;
-    let mut producer = queue.acquire_producer(pass).map_err(|_| "taken")?; // a pass comes back where the role is taken
-    let mut consumer = queue.acquire_consumer(other).map_err(|_| "taken")?;
-    assert!(rt; producer.push(1234)); // false where the queue is full
-    assert_eq!(rt; consumer.pop(), Some(1234)); // None where it is empty
+    let (queue, mut mine) = IndexQueue::new(rt.alloc(), 4)?;
+    let other = mine.split().ok_or("no further pass")?;
+    let mut producer = queue.acquire_producer(mine).map_err(|_| "taken")?;
+    let (pushed, popped) = thread::join(
+        &rt,
+        || producer.push(1234),
+        || pop_one(&rt, &queue, other),
+    );
+    assert!(rt; pushed && popped == Some(1234));
     Ok(())
 }
 
-/// The second one, likewise.
+// crates/lock_free/CALLING.md shows these lines.
 #[test]
 fn readme_value(rt: HostRuntime) -> Result<(), Fail> {
     let (value, mut pass) = UnrestrictedAtomic::new(rt.alloc(), 7u64)?;

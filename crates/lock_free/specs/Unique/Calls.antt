@@ -7,7 +7,7 @@ use Rattle.steps.specs.declared.indices.enums.UniqueIndexSetAcquireFailure.{Uniq
 use Rattle.steps.specs.declared.indices.enums.UniqueIndexSetAcquireFailure.TheVariants as failures
 use Rattle.lock_free.specs.declared.unique.token.Token.{Token}
 use Rattle.lock_free.specs.declared.unique.view.View.{View}
-use Rattle.lock_free.specs.Unique.Views.{acquired, released, saw_lock}
+use Rattle.lock_free.specs.Unique.Views.{acquired, released, saw_lock, IsWhole}
 use Rattle.lock_free.specs.Unique.Between.{Sound}
 
 -- what the token's seat knows
@@ -38,7 +38,8 @@ pub record HasAcquired (i : ℕ) (v w : View) : Type 0 where
 
 -- an acquire that took none
 abbrev pub WasRefused : UniqueIndexSetAcquireFailure → View → View → Type 0
-WasRefused failures.OutOfIndices v w = (w ≡ v) × (v.locked ≡ false)
+WasRefused failures.OutOfIndices v w =
+    (w ≡ v) × (v.locked ≡ false) × (IsWhole v → length v.held ≡ v.capacity)
 WasRefused failures.IsLocked v w = FoundLocked v w
 
 -- a release of the index i
@@ -51,3 +52,4 @@ pub record WasCounted (v : View) (n : ℕ) : Type 0 where
   pub least : length v.held ≤ n
   pub most : n ≤ v.capacity
   pub lock : v.locked ≡ true → n ≡ 0
+  pub whole : IsWhole v → n ≡ length v.held

@@ -8,6 +8,7 @@ use Rattle.atomic_table.specs.Table.{State}
 use Rattle.steps.specs.Indices.Head.{flag_word, has_flag, borrowed, locked}
 use Rattle.lock_free.specs.declared.unique.view.View.{View}
 use Rattle.lock_free.specs.Unique.Views.{weight}
+use Rattle.lock_free_sp.specs.Shares.{Shares}
 
 -- the head, the next indices and the flags
 abbrev pub size : ℕ → ℕ
@@ -39,9 +40,15 @@ abbrev pub Tally : ℕ → ℕ → ℕ → Type 0
 Tally capacity counted total =
     ((counted ≡ total) × (total ≤ capacity)) ⊎ ((counted ≡ locked) × (total ≡ 0))
 
+-- who has no share holds nothing, and is of a set of no capacity
+abbrev pub Bare : View → Type 0
+Bare v = v.share.part ≡ 0 → (v.capacity ≡ 0) × (weight v ≡ 0)
+
 pub record Kept (capacity : ℕ) (s : State (Unit {0}) View) : Type 0 where
   pub owner : ℕ → ℕ  -- the seat that holds an index
   pub few : capacity < locked
   pub wide : length s.words ≡ size capacity
   pub tally : Tally capacity (count s.words) (out s.views)
   pub seats : (j : ℕ) (v : View) → get_elem? s.views j ≡ some v → Knows capacity s.words owner j v
+  pub shares : Shares (λ v. v.share) s.views
+  pub bare : (j : ℕ) (v : View) → get_elem? s.views j ≡ some v → Bare v

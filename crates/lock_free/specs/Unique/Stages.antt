@@ -1,6 +1,6 @@
 -- What the view of a seat is while a call is at a stage, and how the call ends: of the
 -- view with which it began, and the view now.
-use Rattle.std.specs.Prelude.{◌≡◌, ℕ, ◌<◌, Bool, true, false, Contains, Ok, Err}
+use Rattle.std.specs.Prelude.{◌≡◌, ◌≢◌, ℕ, ◌<◌, Bool, true, false, [], Contains, Ok, Err}
 use Rattle.steps.specs.Indices.Head.{proposed, borrowed}
 use Rattle.steps.specs.Indices.Unique.{Acquired}
 use Rattle.steps.specs.declared.indices.enums.ReleaseState.{ReleaseState}
@@ -11,7 +11,7 @@ use Rattle.steps.specs.declared.indices.unique.Release.{Release}
 use Rattle.steps.specs.declared.indices.unique.ReleaseStage as releases
 use Rattle.lock_free.specs.declared.unique.view.Stage.TheVariants.{Idle, Taking, Giving}
 use Rattle.lock_free.specs.declared.unique.view.View.{View}
-use Rattle.lock_free.specs.Unique.Views.{with_stage, released}
+use Rattle.lock_free.specs.Unique.Views.{with_stage, released, IsWhole}
 use Rattle.lock_free.specs.Unique.Calls.{FoundLocked, HasAcquired, WasRefused, HasReleased, WasCounted}
 
 -- ---- acquire
@@ -43,25 +43,30 @@ AcquireEnds base (Err failure) room w = WasRefused failure base w
 abbrev pub giving : ℕ → View → View
 giving index base = released index (with_stage Giving base)
 
-abbrev pub ReleaseStands : ℕ → View → View → releases.ReleaseStage → Type 0
-ReleaseStands index base v releases.TheVariants.ClearsFlag = v ≡ base
-ReleaseStands index base v releases.TheVariants.LoadsHead = v ≡ giving index base
-ReleaseStands index base v (releases.TheVariants.StoresNext head) = v ≡ giving index base
-ReleaseStands index base v (releases.TheVariants.ExchangesHead head) = v ≡ giving index base
-ReleaseStands index base v releases.TheVariants.Subtracts = v ≡ giving index base
+-- only a release that never locks comes to subtract
+abbrev pub ReleaseStands : Bool → ℕ → View → View → releases.ReleaseStage → Type 0
+ReleaseStands lock index base v releases.TheVariants.ClearsFlag = v ≡ base
+ReleaseStands lock index base v releases.TheVariants.LoadsHead = v ≡ giving index base
+ReleaseStands lock index base v (releases.TheVariants.StoresNext head) = v ≡ giving index base
+ReleaseStands lock index base v (releases.TheVariants.ExchangesHead head) = v ≡ giving index base
+ReleaseStands lock index base v releases.TheVariants.Subtracts =
+    (v ≡ giving index base) × (lock ≡ false)
 
-abbrev pub MayEnd : Bool → ReleaseState → Type 0
-MayEnd lock states.Locked = lock ≡ true
-MayEnd lock states.Unlocked = Unit {0}
+-- who has the whole share and could lock is told that something else is held
+abbrev pub MayEnd : Bool → ℕ → View → ReleaseState → Type 0
+MayEnd lock index base states.Locked = lock ≡ true
+MayEnd lock index base states.Unlocked =
+    lock ≡ true → IsWhole base → (released index base).held ≢ []
 
 module _ {M : Type 0} where
-  abbrev pub ReleaseAt : ℕ → View → View → Release M → Unit {0} → Type 0
-  ReleaseAt index base v c room =
+  abbrev pub ReleaseAt : Bool → ℕ → View → View → Release M → Unit {0} → Type 0
+  ReleaseAt lock index base v c room =
       (base.stage ≡ Idle) × (c.capacity ≡ base.capacity) × (index < base.capacity)
-      × Contains base.held index × ReleaseStands index base v c.stage
+      × Contains base.held index × ReleaseStands lock index base v c.stage
 
 abbrev pub ReleaseEnds : Bool → ℕ → View → ReleaseState → Unit {0} → View → Type 0
-ReleaseEnds lock index base end room w = HasReleased end index base w × MayEnd lock end
+ReleaseEnds lock index base end room w =
+    HasReleased end index base w × MayEnd lock index base end
 
 -- ---- looks at the head
 

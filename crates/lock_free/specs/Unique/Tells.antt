@@ -6,7 +6,7 @@ use Rattle.steps.specs.Indices.Head.{borrowed, locked, has_flag}
 use Rattle.steps.specs.Indices.Unique.{locks}
 use Rattle.lock_free.specs.declared.unique.view.Stage.TheVariants.{Idle, Taking, Giving}
 use Rattle.lock_free.specs.declared.unique.view.View.{View}
-use Rattle.lock_free.specs.Unique.Views.{with_stage, acquired, released, saw_lock, weight}
+use Rattle.lock_free.specs.Unique.Views.{with_stage, acquired, released, saw_lock, weight, IsWhole}
 use Rattle.lock_free.specs.Unique.Between.{Sound}
 
 -- no slot is out with the seat that was not
@@ -19,6 +19,7 @@ pub record IsOpen (v : View) (n : ℕ) : Type 0 where
   pub unseen : v.locked ≡ false
   pub least : weight v ≤ borrowed n
   pub most : borrowed n ≤ v.capacity
+  pub whole : IsWhole v → weight v ≡ borrowed n
 
 -- the head was found to be n
 pub record SawHead (v : View) (n : ℕ) (w : View) : Type 0 where
@@ -44,6 +45,7 @@ pub record TookHead (head : ℕ) (v : View) (n : ℕ) (w : View) : Type 0 where
 pub record GaveHead (lock : Bool) (head : ℕ) (v : View) (n : ℕ) (w : View) : Type 0 where
   pub gave : n ≡ head
       → w ≡ (if locks lock head then saw_lock (with_stage Idle v) else with_stage Idle v)
+  pub whole : n ≡ head → IsWhole v → weight v ≡ borrowed head
   pub sound : Sound w
   pub moved : n ≢ head → w ≡ v
 

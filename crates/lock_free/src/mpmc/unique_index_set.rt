@@ -2,7 +2,9 @@
 //!
 //! What a caller holds is told by its pass, which each call but `capacity` is made with. Passes of one set never hold
 //! the same index, and once any of them has seen the lock, none holds one.
-ghost use Rattle.std.specs.Prelude.{IsTrue};
+ghost use Rattle.std.specs.Prelude.{◌≡◌, IsTrue};
+ghost use Rattle.std.specs.Arc.{arc_value};
+ghost use Rattle.lock_free.specs.Unique.Kept.{size};
 ghost use Rattle.lock_free.specs.Unique.Views.{IsIdle, has};
 
 use crate::unique::rule::Board;
@@ -20,6 +22,7 @@ mod make;
 pub struct UniqueIndexSet {
     table: Arc<Board, Global>,
     capacity: u32,
+    ghost sized: { (arc_value table).shared.table_id.words ≡ size capacity },
 }
 
 /// The same with a capacity of at most CAPACITY, which is from 1 to 2^24 - 2. It is used as the set that it has. After
@@ -29,9 +32,9 @@ pub struct FixedSizeUniqueIndexSet<const CAPACITY: usize> {
     set: UniqueIndexSet,
 }
 
-/// What a caller knows of a set: the indices that it holds, and whether it has seen the lock. Each call is made with a
-/// pass of its set, which is the caller's concern, and only the caller's own calls change it. An index that a dropped
-/// pass holds stays out for good. This project's own.
+/// What a caller knows of a set: the indices that it holds, whether it has seen the lock, and its share of the right to
+/// know the whole. Each call is made with a pass of its set, which is the caller's concern, and only the caller's own
+/// calls change it. An index that a dropped pass holds stays out for good. This project's own.
 #[derive(Drop)]
 pub struct Pass {
     token: Token,

@@ -1,7 +1,7 @@
 //! How a unique index set's table is made.
 ghost use Rattle.std.specs.Prelude.{◌≡◌, ◌-◌, ◌^◌, ◌<◌, IfOk};
 ghost use Rattle.std.specs.Arc.{arc_value};
-ghost use Rattle.lock_free.specs.Unique.Views.{blank};
+ghost use Rattle.lock_free.specs.Unique.Views.{opened};
 ghost use Rattle.lock_free.specs.Unique.Calls.{seen, table_of};
 
 use super::rule::Board;
@@ -16,7 +16,7 @@ use steps::indices::layout::FIRST_NEXT;
 pub fn open(alloc: Global, capacity: u32) -> Result<(Arc<Board, Global>, Token), AllocError>
     requires { capacity < 2 ^ 24 - 1 }
     ensures table { IfOk result (λ r. table_of r.1 ≡ (arc_value r.0).shared.table_id) }
-    ensures view { IfOk result (λ r. seen r.1 ≡ blank capacity) }
+    ensures view { IfOk result (λ r. seen r.1 ≡ opened capacity) }
 {
     let flags = (capacity as usize + 63) / 64;
     let mut words = Vec::from_elem(alloc, 0u64, FIRST_NEXT + capacity as usize + flags)?;

@@ -1,7 +1,7 @@
 //! The calls on a unique index set's table: the calls of `steps`, driven.
-ghost use Rattle.std.specs.Prelude.{◌≡◌, false, Contains, IsTrue, IsFalse, IfOk, IfErr};
+ghost use Rattle.std.specs.Prelude.{◌≡◌, ◌≢◌, false, [], Contains, IsTrue, IsFalse, IfOk, IfErr};
 ghost use Rattle.steps.specs.declared.indices.enums.ReleaseState.TheVariants.{Unlocked};
-ghost use Rattle.lock_free.specs.Unique.Views.{IsIdle};
+ghost use Rattle.lock_free.specs.Unique.Views.{IsIdle, IsWhole, released};
 ghost use Rattle.lock_free.specs.Unique.Calls.{seen, IsSame, FoundLocked, HasAcquired, WasRefused, HasReleased, WasCounted};
 
 use super::drives::{Acquires, Counts, Looks, Releases};
@@ -31,7 +31,7 @@ impl Token {
         requires held { Contains (seen self.old).held index }
         ensures same { IsSame self.old self.new }
         ensures idle { IsIdle (seen self.new) }
-        ensures released { HasReleased result index (seen self.old) (seen self.new) }
+        ensures released { seen self.new ≡ released index (seen self.old) }
         ensures unlocked { result ≡ Unlocked }
     {
         let call = Release::<DefaultMode>::new(self.capacity);
@@ -46,6 +46,8 @@ impl Token {
         ensures same { IsSame self.old self.new }
         ensures idle { IsIdle (seen self.new) }
         ensures released { HasReleased result index (seen self.old) (seen self.new) }
+        ensures whole { IsWhole (seen self.old) → result ≡ Unlocked
+            → (released index (seen self.old)).held ≢ [] }
     {
         let call = Release::<LockMode>::new(self.capacity);
         self.seated

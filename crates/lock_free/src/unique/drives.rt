@@ -25,7 +25,7 @@ pub struct Releases<M> {
 impl<M: Mode> Drives<View, Release<M>> for Releases<M> {
     ghost use Rattle.lock_free.specs.Unique.Stages.{ReleaseAt, ReleaseEnds};
 
-    ghost at = { ReleaseAt };
+    ghost at = { ReleaseAt M.LOCKS };
 
     ghost ends = { ReleaseEnds M.LOCKS };
 }

@@ -1,7 +1,7 @@
 //! How tokens are made of one another.
-ghost use Rattle.std.specs.Prelude.{◌≡◌, IfSome};
+ghost use Rattle.std.specs.Prelude.{◌≡◌, IfSome, IfNone};
 ghost use Rattle.lock_free.specs.declared.unique.view.Stage.TheVariants.{Idle};
-ghost use Rattle.lock_free.specs.Unique.Views.{blank, joined};
+ghost use Rattle.lock_free.specs.Unique.Views.{halved, half, joined};
 ghost use Rattle.lock_free.specs.Unique.Between.{Sound, Ruled};
 ghost use Rattle.lock_free.specs.Unique.Calls.{seen, table_of, IsSame};
 
@@ -16,9 +16,10 @@ impl Token {
     /// when).
     pub fn split(&mut self) -> Option<Token>
         ensures same { IsSame self.old self.new }
-        ensures left { seen self.new ≡ seen self.old }
+        ensures left { IfSome result (λ t. seen self.new ≡ halved (seen self.old)) }
+        ensures none { IfNone result (seen self.new ≡ seen self.old) }
         ensures table { IfSome result (λ t. table_of t ≡ table_of self.old) }
-        ensures right { IfSome result (λ t. seen t ≡ blank (seen self.old).capacity) }
+        ensures right { IfSome result (λ t. seen t ≡ half (seen self.old)) }
     {
         let seated = &mut self.seated;
         let Ok(table) = Arc::try_clone(&seated.table) else {

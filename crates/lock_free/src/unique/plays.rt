@@ -1,6 +1,6 @@
 //! What splitting a seat and joining two leaves, and what a look at the table
 //! tells. These types are for the proofs alone.
-ghost use Rattle.lock_free.specs.Unique.Views.{blank, joined};
+ghost use Rattle.lock_free.specs.Unique.Views.{blank, halved, half, joined};
 ghost use Rattle.lock_free.specs.Unique.Tells.{tells, learned};
 
 use super::view::View;
@@ -17,9 +17,9 @@ impl Play<(), View> for Learns {
 pub struct Cut;
 
 impl Split<View> for Cut {
-    ghost left = { λ v. v };
+    ghost left = { halved };
 
-    ghost right = { λ v. blank v.capacity };
+    ghost right = { half };
 }
 
 /// Both views in one.

@@ -12,11 +12,11 @@ pub struct UniqueRule;
 
 impl TableRule<(), View, u64> for UniqueRule {
     ghost use Rattle.lock_free.specs.Unique.Kept.{Kept};
-    ghost use Rattle.lock_free.specs.Unique.Views.{blank};
+    ghost use Rattle.lock_free.specs.Unique.Views.{opened};
 
     ghost holds = { Kept };
 
-    ghost first = { blank };
+    ghost first = { opened };
 }
 
 impl Rule<View, u64> for UniqueRule {

@@ -1,5 +1,6 @@
 //! What a seat at the table of a unique index set knows. No value of these types is made: they are for contracts and
 //! proofs.
+use lock_free_sp::share::Share;
 use std::collections::LinkedList;
 
 /// Where a seat's call stands.
@@ -20,4 +21,6 @@ pub struct View {
     pub held: LinkedList<u64>,
     /// Whether it has seen the lock.
     pub locked: bool,
+    /// Its share of the right to know the whole.
+    pub share: Share,
 }

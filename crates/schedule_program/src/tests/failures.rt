@@ -1,8 +1,8 @@
 //! Reads and writes that fail, and what is told of them.
+use super::super::run_and_tell;
 use super::{STOPPED_PUSH, STOPPED_PUSH_OUTPUT};
 use schedule::error::{Cause, ScheduleError};
-use schedule::run::run;
-use schedule::status::{status, tell};
+use schedule::{run, status};
 use std::alloc::{AllocError, Global};
 use std::io;
 use std::io::{ErrorKind, Read, Write};
@@ -90,7 +90,7 @@ fn ran<R: Read, W: Write>(
     reader: &mut R,
     writer: &mut W,
 ) -> Result<(), ScheduleError> {
-    run(alloc, alloc, reader, writer)
+    run(alloc, reader, writer)
 }
 
 /// How a run ends whose reads fail so, and whether it has written what it must.
@@ -208,10 +208,10 @@ const TOLD: [Told; 6] = [
 
 fn is_told(alloc: Global, ran: &Result<(), ScheduleError>, told: &[u8], exit: u8) -> bool {
     let mut errors = Vec::new(alloc);
-    let answer = tell(ran, &mut errors);
+    let answer = status(ran, &mut errors);
     // What is told may fail, and the answer stays.
     let mut broken = Faulty::new(Vec::new(alloc), 5, 1, ErrorKind::Other);
-    let same = tell(ran, &mut broken);
+    let same = status(ran, &mut broken);
     answer == exit
         && errors.as_slice() == told
         && same == exit
@@ -228,7 +228,7 @@ fn what_is_told(rt: HostRuntime) {
 /// Whether a run ends with exit 1 and this line.
 fn fails<R: Read, W: Write>(alloc: Global, reader: &mut R, output: &mut W, told: &[u8]) -> bool {
     let mut errors = Vec::new(alloc);
-    let exit = status(alloc, alloc, reader, output, &mut errors);
+    let exit = run_and_tell(alloc, alloc, reader, output, &mut errors);
     exit == 1 && errors.as_slice() == told
 }
 

@@ -1,5 +1,5 @@
 -- An acquire keeps the rule of a unique index set at each of its stages.
-use Rattle.std.proofs.Common.{◌≡◌, ℕ, ◌+◌, ◌<◌, if◌then◌else◌, Bool, true, false, nat_lt, bit_or, [], Ok, Err, sym, refl, ap, subst, ◌∙◌, arith}
+use Rattle.std.proofs.Common.{◌≡◌, ℕ, ◌+◌, ◌<◌, length, if◌then◌else◌, Bool, true, false, nat_lt, bit_or, [], Ok, Err, sym, refl, ap, subst, ◌∙◌, arith}
 use Rattle.std.specs.List.{Contains}
 use Rattle.std.proofs.lemmas.Bool.Decides.{nat_tests}
 use Rattle.std.proofs.lemmas.List.Elements.{Contains-push}
@@ -17,7 +17,7 @@ use Rattle.lock_free_sp.specs.Driver.{Next, Told, Owes, OwesAsk, KeepsRule, move
 use Rattle.lock_free_sp.proofs.Driving.{weaker}
 use Rattle.lock_free.specs.declared.unique.view.Stage.TheVariants.{Idle, Taking}
 use Rattle.lock_free.specs.declared.unique.view.View.{View}
-use Rattle.lock_free.specs.Unique.Views.{with_stage, acquired, saw_lock}
+use Rattle.lock_free.specs.Unique.Views.{with_stage, acquired, saw_lock, IsWhole, busy}
 use Rattle.lock_free.specs.Unique.Kept.{size, Kept}
 use Rattle.lock_free.specs.Unique.Tells.{SawHead, TookHead, Claimed, stayed}
 use Rattle.lock_free.specs.Unique.Stages.{AcquireAt, AcquireEnds}
@@ -56,7 +56,7 @@ module _ (v : View) (c : Acquire) (cap words slots id : ℕ) (sized : words ≡ 
       let stays : w ≡ base = fine.0 ∙ same in
       let size : v.capacity ≡ base.capacity = ap (λ (z : View). z.capacity) same in (
         ap (λ (z : View). z.capacity) fine.0,
-        by_eq (Goes base w) (borrowed k) c.capacity (Done (Err failures.OutOfIndices)) _ (λ e. (stays, unlocked))
+        by_eq (Goes base w) (borrowed k) c.capacity (Done (Err failures.OutOfIndices)) _ (λ e. (stays, unlocked, subst (λ (z : View). IsWhole z → length z.held ≡ z.capacity) same (λ all. let count = fine.1.whole all in let light : busy v.stage ≡ 0 = ap busy (ap (λ (z : View). z.stage) same ∙ idle) in omega arith)))
             (λ less.
             let below : borrowed k < base.capacity = omega arith in
             by_test (Goes base w) (nat_lt (proposed k) c.capacity) (GoOn (at_acquire c (acquires.TheVariants.LoadsNext k))) (GoOn (at_acquire c (acquires.TheVariants.ExchangesHead k (proposed k))))

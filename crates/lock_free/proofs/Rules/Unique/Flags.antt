@@ -89,7 +89,7 @@ module _ (cap : ℕ) where
         claim true is =
             let passes : (j : ℕ) → Passes cap s.words ws r.owner r.owner j = λ j. record { held = λ q h. (h.0, stands q h.1, h.2); lock = locks_stay } in (
               v,
-              steps cap s r ws id v r.owner (length-set s.words word (bit_or found (flag i))) (tally v refl) (stays cap s.words ws r.owner r.owner id (passes id) v k) (λ j ne. passes j),
+              steps cap s r ws id v r.owner (length-set s.words word (bit_or found (flag i))) (tally v refl) (stays cap s.words ws r.owner r.owner id (passes id) v k) (λ j ne. passes j) v at refl (r.bare id v at),
               record { free = λ e. absurd (true≢false (sym is ∙ e)); taken = λ _. refl },
             )
         claim false is =
@@ -109,7 +109,7 @@ module _ (cap : ℕ) where
             } in
             let unlocked : v.locked ≡ true → ⊥ = λ e. let none = none_out cap s r (k.lock e) in let most = out_most s.views id v at in absurd (omega arith) in (
               w,
-              steps cap s r ws id w owner (length-set s.words word (bit_or found (flag i))) (tally w (omega arith)) knows (λ j ne. passes j),
+              steps cap s r ws id w owner (length-set s.words word (bit_or found (flag i))) (tally w (omega arith)) knows (λ j ne. passes j) v at refl (λ none. let b = r.bare id v at none in let light = b.1 in absurd (omega arith)),
               record { free = λ _. (refl, record { once = once; lock = λ e. absurd (unlocked e) }); taken = λ e. absurd (true≢false (sym e ∙ is)) },
             )
 
@@ -145,6 +145,6 @@ module _ (cap : ℕ) where
           w,
           keeps,
           tt,
-          steps cap s r ws id w r.owner (length-set s.words word x) (subst (λ z. Tally cap z (out (set s.views id w))) (sym (head_stays s.words i x)) (tally_same cap s r id v w at (omega arith))) knows passes,
+          steps cap s r ws id w r.owner (length-set s.words word x) (subst (λ z. Tally cap z (out (set s.views id w))) (sym (head_stays s.words i x)) (tally_same cap s r id v w at (omega arith))) knows passes v at refl (λ none. let b = r.bare id v at none in let nothing = b.1 in absurd (omega arith)),
           (refl, refl),
         )

@@ -8,12 +8,13 @@ use Rattle.steps.specs.Indices.Head.{aba, borrowed, locked}
 use Rattle.steps.specs.Indices.Unique.{locks, head_taken, head_given_back, head_locked, head_released}
 use Rattle.lock_free.specs.declared.unique.view.Stage.TheVariants.{Idle, Taking, Giving}
 use Rattle.lock_free.specs.declared.unique.view.View.{View}
-use Rattle.lock_free.specs.Unique.Views.{with_stage, saw_lock, busy, weight}
+use Rattle.lock_free.specs.Unique.Views.{with_stage, saw_lock, busy, weight, IsWhole}
 use Rattle.lock_free.specs.Unique.Between.{Sound}
 use Rattle.lock_free.specs.Unique.Kept.{count, IsHeld, Knows, out, Tally, Kept}
 use Rattle.lock_free.specs.Unique.Tells.{tells, IsOpen, SawHead, CountedHead, TookHead, GaveHead, subtracted}
 use Rattle.lock_free.proofs.Rules.Unique.Words.{number_of}
-use Rattle.lock_free.proofs.Rules.Unique.Lists.{at_get, out_set, out_most}
+use Rattle.lock_free_sp.proofs.Shares.{others_none}
+use Rattle.lock_free.proofs.Rules.Unique.Lists.{at_get, out_set, out_most, out_alone}
 use Rattle.lock_free.proofs.Rules.Unique.Stays.{St, steps, stays, passes_low, looks, none_out, holds_none, sound}
 use mathlib.Core.Logic.{dite}
 use mathlib.Core.Option.{some, none}
@@ -47,6 +48,14 @@ module _ (cap slots id : ℕ) (m : Me (Unit {0}) View) where
   unseen true h = absurd (h refl)
   unseen false h = refl
 
+  -- who has the whole share: nobody else holds one
+  pub counts_whole : (s : St) (r : Kept cap s) → get_elem? s.views id ≡ some v → count s.words ≢ locked → IsWhole v → weight v ≡ count s.words
+  counts_whole s r at ne all_of =
+      let all = counts_all cap (count s.words) (count s.words) (out s.views) (out s.views) r.few r.tally ne in
+      let same = all.0 in
+      let one = out_alone s.views id v at (λ j u ne e. (r.bare j u e (others_none (λ (z : View). z.share) s.views id v at r.shares all_of j u ne e)).1) in
+      omega arith
+
   -- what a look at the head shows
   pub is_open : (s : St) (r : Kept cap s) → v.capacity ≡ cap → get_elem? s.views id ≡ some v → count s.words ≢ locked → IsOpen v (get_or s.words 0 0)
   is_open s r known at ne =
@@ -54,7 +63,7 @@ module _ (cap slots id : ℕ) (m : Me (Unit {0}) View) where
       let same = all.0 in
       let most = all.1 in
       let mine = out_most s.views id v at in
-      record { unseen = unseen v.locked (λ e. ne ((r.seats id v at).lock e)); least = omega arith; most = omega arith }
+      record { unseen = unseen v.locked (λ e. ne ((r.seats id v at).lock e)); least = omega arith; most = omega arith; whole = counts_whole s r at ne }
 
   pub counts_none : (s : St) (r : Kept cap s) → get_elem? s.views id ≡ some v → count s.words ≡ locked → weight v ≡ 0
   counts_none s r at e = let none = none_out cap s r e in let most = out_most s.views id v at in omega arith
@@ -73,7 +82,7 @@ module _ (cap slots id : ℕ) (m : Me (Unit {0}) View) where
         saw_lock v,
         keeps,
         tt,
-        looks cap s r 0 id m.1 v (saw_lock v) at refl mine,
+        looks cap s r 0 id m.1 v (saw_lock v) at refl refl refl mine,
         (
           record {
             shut = λ _. (refl, none);
@@ -83,19 +92,19 @@ module _ (cap slots id : ℕ) (m : Me (Unit {0}) View) where
           refl,
         ),
       ))
-      (λ ne. (v, keeps, tt, looks cap s r 0 id m.1 v v at refl k, (record { shut = λ e. absurd (ne e); unlocked = λ _. (refl, is_open s r known at ne); sound = sound cap s r id v at }, refl)))
+      (λ ne. (v, keeps, tt, looks cap s r 0 id m.1 v v at refl refl refl k, (record { shut = λ e. absurd (ne e); unlocked = λ _. (refl, is_open s r known at ne); sound = sound cap s r id v at }, refl)))
 
   pub sees_head : v.capacity ≡ cap → Allows (Kept cap) slots id m 0 (λ x. x) (tells SawHead (step slots 0 0 0 none) m)
   sees_head known s r wide at small = sees s r known at
 
   pub counts_head : v.capacity ≡ cap → Allows (Kept cap) slots id m 0 (λ x. x) (tells CountedHead (step slots 0 0 0 none) m)
   counts_head known s r wide at small =
-      (v, keeps, tt, looks cap s r 0 id m.1 v v at refl (r.seats id v at), (record { view = refl; shut = counts_none s r at; unlocked = is_open s r known at }, refl))
+      (v, keeps, tt, looks cap s r 0 id m.1 v v at refl refl refl (r.seats id v at), (record { view = refl; shut = counts_none s r at; unlocked = is_open s r known at }, refl))
 
   -- the head changes: the set was not locked, and the others know what they knew
   moves : (s : St) (r : Kept cap s) (x : ℕ) (w : View) → get_elem? s.views id ≡ some v → count s.words ≢ locked → w.held ≡ v.held → (w.locked ≡ true → borrowed x ≡ locked)
-      → Tally cap (borrowed x) (out (set s.views id w)) → Kept cap (stepped s 0 x id m.1 w keeps)
-  moves s r x w at ne held lock tally =
+      → w.share ≡ v.share → (v.share.part ≡ 0 → ⊥) → Tally cap (borrowed x) (out (set s.views id w)) → Kept cap (stepped s 0 x id m.1 w keeps)
+  moves s r x w at ne held lock share some_share tally =
       let k = r.seats id v at in
       let long = r.wide in
       let head : count (set s.words 0 x) ≡ borrowed x = ap borrowed (get_or-set_same s.words 0 x 0 (omega arith)) in
@@ -107,7 +116,7 @@ module _ (cap slots id : ℕ) (m : Me (Unit {0}) View) where
         once = subst (AllPairs (λ y z. y ≢ z)) (sym held) k.once;
         lock = λ e. head ∙ lock e;
       })
-      (λ j other. passes j)
+      (λ j other. passes j) v at share (λ none. absurd (some_share (sym (ap (λ z. z.part) share) ∙ none)))
 
   -- the exchange of an acquire
   pub takes_head : (head next : ℕ) → v.capacity ≡ cap → v.stage ≡ Idle → v.locked ≡ false → borrowed head < cap
@@ -132,7 +141,7 @@ module _ (cap slots id : ℕ) (m : Me (Unit {0}) View) where
             w,
             keeps,
             tt,
-            moves s r to w at (λ shut. absurd (omega arith)) refl (λ t. absurd (true≢false (sym t ∙ unlocked))) tally,
+            moves s r to w at (λ shut. absurd (omega arith)) refl (λ t. absurd (true≢false (sym t ∙ unlocked))) refl (λ none. let b = r.bare id v at none in let empty = b.0 in absurd (omega arith)) tally,
             (record { took = λ _. refl; moved = λ ne. absurd (ne e) }, refl),
           )
 
@@ -147,6 +156,9 @@ module _ (cap slots id : ℕ) (m : Me (Unit {0}) View) where
       let heavy : busy v.stage ≡ 1 = ap busy giving in
       let e : out (set s.views id w) + 1 ≡ out s.views = omega arith in
       let some = counts_some cap (count s.words) 0 (out s.views) (out (set s.views id w)) r.few r.tally e in (some.0, some.1, e)
+
+  has_share : (s : St) (r : Kept cap s) → v.stage ≡ Giving → get_elem? s.views id ≡ some v → v.share.part ≡ 0 → ⊥
+  has_share s r giving at empty = let b = r.bare id v at empty in let light = b.1 in let heavy : busy v.stage ≡ 1 = ap busy giving in absurd (omega arith)
 
   lighter : v.stage ≡ Giving → weight (with_stage Idle v) + 1 ≡ weight v
   lighter giving = let heavy : busy v.stage ≡ 1 = ap busy giving in omega arith
@@ -165,7 +177,7 @@ module _ (cap slots id : ℕ) (m : Me (Unit {0}) View) where
         w,
         keeps,
         tt,
-        moves s r ((found + (2 ^ 64 - 1)) % 2 ^ 64) w at (λ shut. absurd (omega arith)) refl (λ t. let shut = k.lock t in absurd (omega arith))
+        moves s r ((found + (2 ^ 64 - 1)) % 2 ^ 64) w at (λ shut. absurd (omega arith)) refl (λ t. let shut = k.lock t in absurd (omega arith)) refl (has_share s r giving at)
             (tally_down cap (count s.words) (borrowed ((found + (2 ^ 64 - 1)) % 2 ^ 64)) (out s.views) (out (set s.views id w)) few r.tally h.2 down),
         (refl, refl),
       )
@@ -196,7 +208,7 @@ module _ (cap slots id : ℕ) (m : Me (Unit {0}) View) where
       known = sound cap s r id v at
 
       moved : get_or s.words 0 0 ≢ head → Shows s shown (get_or s.words 0 0)
-      moved ne = (v, keeps, tt, looks cap s r 0 id m.1 v v at refl (r.seats id v at), (record { gave = λ e. absurd (ne e); sound = known; moved = λ _. refl }, refl))
+      moved ne = (v, keeps, tt, looks cap s r 0 id m.1 v v at refl refl refl (r.seats id v at), (record { gave = λ e. absurd (ne e); whole = λ e. absurd (ne e); sound = known; moved = λ _. refl }, refl))
 
       -- what the new head is, and what the seat has seen then
       Comes : ℕ → View → Type 0
@@ -213,7 +225,7 @@ module _ (cap slots id : ℕ) (m : Me (Unit {0}) View) where
           let first = out_set s.views id v w at in
           let kept : out (set s.views id (saw_lock w)) ≡ out (set s.views id w) = omega arith in
           let none : out (set s.views id w) ≡ 0 = let all = counts_all cap (count s.words) (count s.words) (out s.views) (out s.views) r.few r.tally not_shut in let is = all.0 in omega arith in (
-            moves s r (head_locked head index) (saw_lock w) at not_shut refl (λ _. last) (subst (λ z. Tally cap (borrowed (head_locked head index)) z) (sym kept) tally),
+            moves s r (head_locked head index) (saw_lock w) at not_shut refl (λ _. last) refl (has_share s r giving at) (subst (λ z. Tally cap (borrowed (head_locked head index)) z) (sym kept) tally),
             record { once = known.once; lock = λ _. holds_none cap v.held (omega arith) },
           )
 
@@ -224,7 +236,7 @@ module _ (cap slots id : ℕ) (m : Me (Unit {0}) View) where
           let same : count s.words ≡ borrowed head = ap borrowed e in
           let number : borrowed (head_given_back head index) ≡ (borrowed head + (2 ^ 32 - 1)) % 2 ^ 32 % 2 ^ 24 = number_of (record { head = index; aba = (aba head + 1) % 2 ^ 16; borrowed_indices = (borrowed head + (2 ^ 32 - 1)) % 2 ^ 32 }) in
           let less : borrowed (head_given_back head index) + 1 ≡ count s.words = omega arith in (
-            moves s r (head_given_back head index) w at not_shut refl (λ t. absurd (unseen_here t))
+            moves s r (head_given_back head index) w at not_shut refl (λ t. absurd (unseen_here t)) refl (has_share s r giving at)
                 (tally_down cap (count s.words) (borrowed (head_given_back head index)) (out s.views) (out (set s.views id w)) r.few r.tally more less),
             record { once = known.once; lock = λ t. absurd (unseen_here t) },
           )
@@ -237,4 +249,4 @@ module _ (cap slots id : ℕ) (m : Me (Unit {0}) View) where
       gave : get_or s.words 0 0 ≡ head → Shows s shown to
       gave e =
           let c = comes e (locks lock head) refl in
-          ((if locks lock head then saw_lock w else w), keeps, tt, c.0, (record { gave = λ _. refl; sound = c.1; moved = λ ne. absurd (ne e) }, refl))
+          ((if locks lock head then saw_lock w else w), keeps, tt, c.0, (record { gave = λ _. refl; whole = λ _ all. counts_whole s r at not_shut all ∙ ap borrowed e; sound = c.1; moved = λ ne. absurd (ne e) }, refl))

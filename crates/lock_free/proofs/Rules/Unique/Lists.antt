@@ -3,7 +3,7 @@ use Rattle.std.proofs.Common.{◌≡◌, ◌≢◌, ℕ, zero, suc, ◌+◌, ◌
 use Rattle.std.specs.List.{All, AllPairs, Contains}
 use Rattle.std.proofs.lemmas.List.Elements.{All-nil, All-cons, All-head, All-tail, All-weaker}
 use Rattle.std.proofs.lemmas.List.Kept.{AllPairs-cons}
-use Rattle.std.proofs.lemmas.List.Sums.{sum_by-set}
+use Rattle.std.proofs.lemmas.List.Sums.{sum_by-set, sum_by-append}
 use Rattle.std.proofs.lemmas.Bool.{eqb-true, or_cases}
 use Rattle.steps.specs.Picks.{by_eq}
 use Rattle.lock_free.specs.declared.unique.view.View.{View}
@@ -95,3 +95,21 @@ out_set views id v w at =
 -- a seat counts at most what all count
 pub out_most : (views : List View) (id : ℕ) (v : View) → get_elem? views id ≡ some v → weight v ≤ out views
 out_most views id v at = let h = out_set views id v (blank 0) at in omega arith
+
+-- where all others count none
+out_none : (views : List View) → ((j : ℕ) (u : View) → get_elem? views j ≡ some u → weight u ≡ 0) → out views ≡ 0
+out_none [] h = refl
+out_none (x ∷ xs) h = let one = h 0 x refl in let more = out_none xs (λ j u e. h (suc j) u e) in let all = sum_by-append weight (x ∷ []) xs in omega arith
+
+pub out_alone : (views : List View) (id : ℕ) (v : View) → get_elem? views id ≡ some v → ((j : ℕ) (u : View) → j ≢ id → get_elem? views j ≡ some u → weight u ≡ 0) → out views ≡ weight v
+out_alone [] id v at h = absurd (some-ne-none v (sym at))
+out_alone (x ∷ xs) zero v at h =
+    let same = ap weight (some-injective x v at) in
+    let more = out_none xs (λ j u e. h (suc j) u (λ z. absurd (omega arith)) e) in
+    let all = sum_by-append weight (x ∷ []) xs in
+    omega arith
+out_alone (x ∷ xs) (suc id) v at h =
+    let one = h 0 x (λ z. absurd (omega arith)) refl in
+    let more = out_alone xs id v at (λ j u ne e. h (suc j) u (λ z. ne (omega arith)) e) in
+    let all = sum_by-append weight (x ∷ []) xs in
+    omega arith

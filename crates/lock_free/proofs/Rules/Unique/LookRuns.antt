@@ -45,12 +45,12 @@ count_rule base₀ v c room key words slots id sized known at₀ =
         h.view ∙ at.1,
         subst (λ z. WasCounted z (if borrowed k == locked then 0 else borrowed k)) at.1
             (by_eq (WasCounted v) (borrowed k) locked 0 (borrowed k)
-            (λ e. let none = h.shut e in record { least = omega arith; most = omega arith; lock = λ _. refl })
+            (λ e. let none = h.shut e in record { least = omega arith; most = omega arith; lock = λ _. refl; whole = λ all. omega arith })
             (λ ne.
             let fine = h.unlocked ne in
             let light : busy v.stage ≡ 0 = ap busy (ap (λ (z : View). z.stage) at.1 ∙ at.0) in
             let least = fine.least in
-            record { least = omega arith; most = fine.most; lock = λ e. absurd (true≢false (sym e ∙ fine.unseen)) })),
+            record { least = omega arith; most = fine.most; lock = λ e. absurd (true≢false (sym e ∙ fine.unseen)); whole = λ all. let n = fine.whole all in omega arith })),
       ),
     ))
     (omega arith, counts_head key slots id (v, []) known)

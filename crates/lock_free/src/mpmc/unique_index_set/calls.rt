@@ -1,7 +1,7 @@
 //! The calls on a set by a pass, and how passes are made of one another.
-ghost use Rattle.std.specs.Prelude.{◌≡◌, false, Contains, IsTrue, IsFalse, IfOk, IfErr, IfSome};
+ghost use Rattle.std.specs.Prelude.{◌≡◌, ◌≢◌, ◌<◌, false, [], Contains, IsTrue, IsFalse, IfOk, IfErr, IfSome, IfNone};
 ghost use Rattle.steps.specs.declared.indices.enums.ReleaseState.TheVariants.{Unlocked};
-ghost use Rattle.lock_free.specs.Unique.Views.{blank, joined};
+ghost use Rattle.lock_free.specs.Unique.Views.{halved, half, joined, released, IsWhole};
 ghost use Rattle.lock_free.specs.Unique.Between.{Sound, Ruled};
 ghost use Rattle.lock_free.specs.Unique.Calls.{FoundLocked, HasAcquired, WasRefused, HasReleased, WasCounted};
 ghost use Rattle.lock_free.specs.UniqueIndexSet.{view, set_of, capacity_of, IsPassOf, value_of, index_view, index_set};
@@ -12,7 +12,8 @@ use steps::indices::enums::{ReleaseState, UniqueIndexSetAcquireFailure};
 
 impl UniqueIndexSet {
     /// Takes an index that no other pass holds; the answer owns the pass. Else the pass comes back: `OutOfIndices`
-    /// where as many are borrowed as the capacity (no clause says so), or `IsLocked`, which leaves the lock seen.
+    /// where as many are borrowed as the capacity (a clause says so of who has the whole share), or `IsLocked`, which
+    /// leaves the lock seen.
     ///
     /// A pass that has seen the lock gets `IsLocked`. Four atomic steps where nobody else steps in between and no
     /// release has fallen back to a subtraction; else it may try again for as long as others step. After `acquire` of
@@ -49,6 +50,7 @@ impl UniqueIndexSet {
         requires { IsPassOf self.now pass.old }
         ensures set { set_of pass.new ≡ set_of pass.old }
         ensures acquired { IfOk result (λ i. HasAcquired i (view pass.old) (view pass.new)) }
+        ensures within { IfOk result (λ i. i < capacity_of self.now) }
         ensures refused { IfErr result (λ e. WasRefused e (view pass.old) (view pass.new)) }
     {
         pass.token.acquire(rt)
@@ -60,26 +62,29 @@ impl UniqueIndexSet {
         requires pass { IsPassOf self.now pass.old }
         requires held { Contains (view pass.old).held index }
         ensures set { set_of pass.new ≡ set_of pass.old }
-        ensures released { HasReleased result index (view pass.old) (view pass.new) }
+        ensures released { view pass.new ≡ released index (view pass.old) }
         ensures unlocked { result ≡ Unlocked }
     {
         pass.token.release(index)
     }
 
-    /// Gives an index back that the pass holds, in mode `LockIfLastIndex`: `Locked` where it was the last one out (no
-    /// clause says so), which leaves the lock seen, else `Unlocked`. Four atomic steps where nobody else steps in
-    /// between; else it may try again for as long as others step. After `release_raw_index` of the Rust crate.
+    /// Gives an index back that the pass holds, in mode `LockIfLastIndex`: `Locked` where it was the last one out, which
+    /// leaves the lock seen, else `Unlocked`. That it was the last one a clause says of who has the whole share. Four
+    /// atomic steps where nobody else steps in between; else it may try again for as long as others step. After
+    /// `release_raw_index` of the Rust crate.
     pub fn release_or_lock(&self, rt: &impl Wait, index: u32, pass: &mut Pass) -> ReleaseState
         requires pass { IsPassOf self.now pass.old }
         requires held { Contains (view pass.old).held index }
         ensures set { set_of pass.new ≡ set_of pass.old }
         ensures released { HasReleased result index (view pass.old) (view pass.new) }
+        ensures whole { IsWhole (view pass.old) → result ≡ Unlocked
+            → (released index (view pass.old)).held ≢ [] }
     {
         pass.token.release_or_lock(rt, index)
     }
 
-    /// A number of borrowed indices: at least those that the pass holds and at most the capacity, and 0 where the pass
-    /// has seen the lock. One atomic step. After `borrowed_indices` of the Rust crate.
+    /// A number of borrowed indices: at least those that the pass holds and at most the capacity, 0 where the pass has
+    /// seen the lock, and just those that the pass holds where it has the whole share. One atomic step. After `borrowed_indices` of the Rust crate.
     pub fn borrowed_indices(&self, pass: &mut Pass) -> usize
         requires { IsPassOf self.now pass.old }
         ensures set { set_of pass.new ≡ set_of pass.old }
@@ -107,22 +112,29 @@ impl UniqueIndexSet {
     {
         self.capacity
     }
+
+    /// A pass of the set has its capacity: for a caller's proof. It does nothing. This project's own.
+    pub fn sizes(&self, pass: &Pass)
+        requires { IsPassOf self.now pass.now }
+        ensures { (view pass.now).capacity ≡ capacity_of self.now }
+    {}
 }
 
 impl Pass {
-    /// A new pass of the same set that holds nothing; this one keeps all that it holds. None, and nothing changes,
-    /// where no further pass can be counted (no clause says when). This project's own.
+    /// A new pass of the same set that holds nothing; this one keeps all that it holds, and each has half of the share.
+    /// None, and nothing changes, where no further pass can be counted (no clause says when). This project's own.
     pub fn split(&mut self) -> Option<Pass>
         ensures set { set_of self.new ≡ set_of self.old }
-        ensures view { view self.new ≡ view self.old }
+        ensures view { IfSome result (λ p. view self.new ≡ halved (view self.old)) }
         ensures new { IfSome result
-            (λ p. (set_of p ≡ set_of self.old) × (view p ≡ blank (view self.old).capacity)) }
+            (λ p. (set_of p ≡ set_of self.old) × (view p ≡ half (view self.old))) }
+        ensures none { IfNone result (view self.new ≡ view self.old) }
     {
         let token = self.token.split()?;
         Some(Pass { token })
     }
 
-    /// Takes in what the other pass of the set holds and has seen. This project's own.
+    /// Takes in what the other pass of the set holds and has seen, with its share. This project's own.
     pub fn join(&mut self, other: Pass)
         requires { set_of other ≡ set_of self.old }
         ensures set { set_of self.new ≡ set_of self.old }

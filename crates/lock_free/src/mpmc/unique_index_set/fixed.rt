@@ -1,7 +1,7 @@
 //! A set whose greatest capacity is part of its type.
 ghost use Rattle.std.specs.Prelude.{◌≡◌, ◌≢◌, ◌⊎◌, ◌<◌, ◌≤◌, None, Some, IfOk, IfErr, OnOk};
 ghost use Rattle.steps.specs.declared.enums.UniqueIndexCreationError.TheVariants.{NoMemory};
-ghost use Rattle.lock_free.specs.Unique.Views.{blank};
+ghost use Rattle.lock_free.specs.Unique.Views.{opened};
 ghost use Rattle.lock_free.specs.UniqueIndexSet.{view, capacity_of, IsPassOf, set_in, set_refusal, reduced_refusal};
 
 use super::make::GREATEST;
@@ -31,7 +31,7 @@ impl<const CAPACITY: usize> FixedSizeUniqueIndexSet<CAPACITY> {
     pub fn new(
         alloc: Global,
     ) -> Result<(FixedSizeUniqueIndexSet<CAPACITY>, Pass), UniqueIndexCreationError>
-        ensures pass { IfOk result (λ r. IsPassOf (set_in r.0) r.1 × (view r.1 ≡ blank CAPACITY)) }
+        ensures pass { IfOk result (λ r. IsPassOf (set_in r.0) r.1 × (view r.1 ≡ opened CAPACITY)) }
         ensures capacity { IfOk result (λ r. capacity_of (set_in r.0) ≡ CAPACITY) }
         ensures admitted { OnOk result (set_refusal CAPACITY ≡ None) }
         ensures refused { IfErr result (λ e. (set_refusal CAPACITY ≡ Some e)
@@ -50,7 +50,7 @@ impl<const CAPACITY: usize> FixedSizeUniqueIndexSet<CAPACITY> {
         alloc: Global,
         capacity: usize,
     ) -> Result<(FixedSizeUniqueIndexSet<CAPACITY>, Pass), UniqueIndexCreationError>
-        ensures pass { IfOk result (λ r. IsPassOf (set_in r.0) r.1 × (view r.1 ≡ blank capacity)) }
+        ensures pass { IfOk result (λ r. IsPassOf (set_in r.0) r.1 × (view r.1 ≡ opened capacity)) }
         ensures capacity { IfOk result (λ r. capacity_of (set_in r.0) ≡ capacity) }
         ensures admitted { OnOk result (reduced_refusal CAPACITY capacity ≡ None) }
         ensures refused { IfErr result (λ e. (reduced_refusal CAPACITY capacity ≡ Some e)

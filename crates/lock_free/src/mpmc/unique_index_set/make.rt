@@ -1,7 +1,7 @@
 //! How a set is made.
 ghost use Rattle.std.specs.Prelude.{◌≡◌, ◌⊎◌, None, Some, IfOk, IfErr, OnOk};
 ghost use Rattle.steps.specs.declared.enums.UniqueIndexCreationError.TheVariants.{NoMemory};
-ghost use Rattle.lock_free.specs.Unique.Views.{blank};
+ghost use Rattle.lock_free.specs.Unique.Views.{opened};
 ghost use Rattle.lock_free.specs.UniqueIndexSet.{view, capacity_of, IsPassOf, set_refusal};
 
 use super::{Pass, UniqueIndexSet};
@@ -23,7 +23,7 @@ impl UniqueIndexSet {
         alloc: Global,
         capacity: usize,
     ) -> Result<(UniqueIndexSet, Pass), UniqueIndexCreationError>
-        ensures pass { IfOk result (λ r. IsPassOf r.0 r.1 × (view r.1 ≡ blank capacity)) }
+        ensures pass { IfOk result (λ r. IsPassOf r.0 r.1 × (view r.1 ≡ opened capacity)) }
         ensures capacity { IfOk result (λ r. capacity_of r.0 ≡ capacity) }
         ensures admitted { OnOk result (set_refusal capacity ≡ None) }
         ensures refused { IfErr result (λ e. (set_refusal capacity ≡ Some e)

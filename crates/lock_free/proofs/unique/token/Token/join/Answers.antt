@@ -5,7 +5,7 @@ use Rattle.lock_free.proofs.Rules.Unique.Comings.{joins, ruled}
 use Rattle.lock_free.proofs.unique.token.Token.join.Goals as goal
 
 pub join_seat-requires : goal.join_seat-requires
-join_seat-requires c = (search rules, search rules, search rules, search rules, joins _ _ _ _ _ _ c.requires.idle)
+join_seat-requires c = (search rules, search rules, search rules, search rules, joins _ _ _ _ _ c.requires.idle)
 
 pub load-requires : goal.load-requires
 load-requires c = (search rules, search rules, learns _ _ _ _ _)

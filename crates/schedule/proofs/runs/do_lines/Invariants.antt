@@ -2,7 +2,7 @@ use Rattle.std.proofs.Common.{◌≡◌, ℕ, ◌+◌, ◌<◌, ◌^◌, ◌++�
 use Rattle.std.specs.Io.KnownBytes.{Appends}
 use Rattle.schedule.specs.Output.{world_of, lines_from, before}
 use Rattle.schedule.specs.Text.{words_left}
-use Rattle.schedule.proofs.run.do_lines.Given as goal
+use Rattle.schedule.proofs.runs.do_lines.Given as goal
 
 abbrev pub invariant-loop-line : goal.invariant-loop-line
 invariant-loop-line g l = record {

@@ -1,6 +1,6 @@
 use Rattle.std.proofs.Common.{arith}
 use Rattle.schedule.proofs.Whole.{flushed_end, flush_failed}
-use Rattle.schedule.proofs.run.run.Goals as goal
+use Rattle.schedule.proofs.runs.run_in.Goals as goal
 
 pub do_text-requires : goal.do_text-requires
 do_text-requires g c = omega (arith, c.deref.ensures.len, c.in-Ok.input.ok, c.in-Ok.input.small)

@@ -5,7 +5,7 @@ use Rattle.schedule.specs.Print.{events_text}
 use Rattle.schedule.specs.Written.{AppendsPart}
 use Rattle.schedule.specs.Output.{world_of}
 use Rattle.schedule.proofs.Turns.{events_behind, taken_written, taken_failed, refused_written, refused_failed}
-use Rattle.schedule.proofs.run.take_turn.Goals as goal
+use Rattle.schedule.proofs.runs.take_turn.Goals as goal
 
 pub returns-in-Ok-put_events : goal.returns-in-Ok-put_events
 returns-in-Ok-put_events g c =

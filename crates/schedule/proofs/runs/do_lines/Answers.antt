@@ -2,8 +2,8 @@ use Rattle.std.proofs.Common.{[], refl, ap, length, arith}
 use Rattle.std.proofs.KnownBytes.{Appends-nil}
 use Rattle.schedule.specs.Output.{world_of}
 use Rattle.schedule.proofs.Lines.{some_of, none_of, done_command, done_empty, lines_ended, lines_malformed, lines_failed}
-use Rattle.schedule.proofs.run.do_lines.Goals as goal
-use Rattle.schedule.proofs.run.do_lines.Goals.{then-not-is_empty+in-Ok+in-Ok-do_command, else-not-is_empty}
+use Rattle.schedule.proofs.runs.do_lines.Goals as goal
+use Rattle.schedule.proofs.runs.do_lines.Goals.{then-not-is_empty+in-Ok+in-Ok-do_command, else-not-is_empty}
 
 pub loop-line-init : goal.loop-line-init
 loop-line-init g c = record { numbered = omega arith; written = ([], [], λ more. refl, Appends-nil _) }

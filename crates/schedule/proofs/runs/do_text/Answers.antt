@@ -1,7 +1,7 @@
 use Rattle.std.proofs.Common.{sym, ap, ◌∙◌, arith}
 use Rattle.schedule.specs.Output.{world_of}
 use Rattle.schedule.proofs.Whole.{few_lines, text_missing, text_malformed, text_lines}
-use Rattle.schedule.proofs.run.do_text.Goals as goal
+use Rattle.schedule.proofs.runs.do_text.Goals as goal
 
 pub returns-in_default : goal.returns-in_default
 returns-in_default g c = text_missing c.args.input.now _ (sym c.lines.ensures ∙ c.in_default.ensures)

@@ -1,7 +1,7 @@
 use Rattle.std.proofs.Common.{◌≡◌, ℕ, ◌-◌, ◌++◌, List, Bool}
 use Rattle.std.specs.Io.KnownBytes.{Appends}
 use Rattle.schedule.specs.Output.{world_of, nexts, after_text}
-use Rattle.schedule.proofs.run.take_nexts.Given as goal
+use Rattle.schedule.proofs.runs.take_nexts.Given as goal
 
 abbrev pub invariant-loop : goal.invariant-loop
 invariant-loop g l =

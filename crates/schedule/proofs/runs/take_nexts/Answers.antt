@@ -1,7 +1,7 @@
 use Rattle.std.proofs.Common.{◌≡◌, ◌-◌, ◌+◌, suc, sym, ◌∙◌, arith}
 use Rattle.schedule.specs.Output.{world_of}
 use Rattle.schedule.proofs.Turns.{done_none, done_more, done_all, done_ending, done_failed}
-use Rattle.schedule.proofs.run.take_nexts.Goals as goal
+use Rattle.schedule.proofs.runs.take_nexts.Goals as goal
 
 pub loop-init : goal.loop-init
 loop-init g c = done_none c.args.most c.args.party _ _ _ (omega arith)

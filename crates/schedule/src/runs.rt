@@ -159,15 +159,8 @@ fn do_text<W: Write>(alloc: Global, input: &[u8], writer: &mut W) -> Result<(), 
     }
 }
 
-/// Reads a schedule to its end, and then writes what each of its turns did, line by line.
-///
-/// Malformed text, or a capacity that the kind does not admit, is `Malformed`; the output of all earlier lines has
-/// then been written. A failed read is `ReadFailed`. Where there is no memory for the input or the machine it is
-/// `NoMemory`. A failed write, also of what a writer kept back, is `WriteFailed`. A turn to which memory is refused is
-/// printed as refused, and the run goes on.
-///
-/// The input is kept in the memory of `buffers`, and the machine in that of `alloc`.
-pub fn run<A: Allocator, R: Read, W: Write>(
+/// The same as `run`, with the input kept in the memory of `buffers`, and the machine in that of `alloc`.
+pub fn run_in<A: Allocator, R: Read, W: Write>(
     buffers: A,
     alloc: Global,
     reader: &mut R,
@@ -188,4 +181,21 @@ pub fn run<A: Allocator, R: Read, W: Write>(
         },
         Err(e) => Err(e),
     }
+}
+
+/// Reads a schedule to its end, and then writes what each of its turns did, line by line.
+///
+/// Malformed text, or a capacity that the kind does not admit, is `Malformed`; the output of all earlier lines has
+/// then been written. A failed read is `ReadFailed`. Where there is no memory for the input or the machine it is
+/// `NoMemory`. A failed write, also of what a writer kept back, is `WriteFailed`. A turn to which memory is refused is
+/// printed as refused, and the run goes on.
+pub fn run<R: Read, W: Write>(
+    alloc: Global,
+    reader: &mut R,
+    writer: &mut W,
+) -> Result<(), ScheduleError>
+    ensures { IsRun (R.remaining reader.old)
+        (W.contents writer.old) (W.contents writer.new) result }
+{
+    run_in(alloc, alloc, reader, writer)
 }

@@ -1,0 +1,11 @@
+use Rattle.std.proofs.Common.{ap}
+use Rattle.lock_free.specs.Loan.Places.{is_out}
+use Rattle.lock_free.proofs.Loan.Books.{out_held, is_freed}
+use Rattle.lock_free.proofs.spsc.loan.LoanSender.give_up.Goals as goal
+
+pub release_raw_index-requires-clause-held : goal.release_raw_index-requires-clause-held
+release_raw_index-requires-clause-held c = out_held c.args.self.now.book c.args.index (ap is_out c.requires)
+
+pub invariant_of-self-clause-book : goal.invariant_of-self-clause-book
+invariant_of-self-clause-book c =
+    is_freed c.args.self.now.book c.args.index _ (ap is_out c.requires) c.release_raw_index.ensures.released

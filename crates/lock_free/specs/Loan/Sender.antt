@@ -1,0 +1,52 @@
+-- What clauses see of a sender.
+use Rattle.std.specs.Prelude.{◌≡◌, ℕ, List}
+use Rattle.atomic_table.specs.Seated.{TableId}
+use Rattle.lock_free.specs.UniqueIndexSet.{view, set_of, IsPassOf}
+use Rattle.lock_free.specs.declared.unique.view.View.{View}
+use Rattle.lock_free_sp.specs.declared.share.Share.{Share}
+use Rattle.lock_free_sp.specs.declared.ring.view.View as queue
+use Rattle.lock_free_sp.specs.Ends.{producer_view, producer_queue, consumer_view}
+use Rattle.lock_free.specs.declared.mpmc.unique_index_set.UniqueIndexSet.{UniqueIndexSet}
+use Rattle.lock_free.specs.declared.spsc.loan.places.Place.{Place}
+use Rattle.lock_free.specs.declared.spsc.loan.places.Place.TheVariants.{Loaned}
+use Rattle.lock_free.specs.declared.spsc.loan.LoanSender.{LoanSender}
+use Rattle.lock_free.specs.Loan.Places.{place_at}
+
+-- the table: where each index is
+abbrev pub places_of : LoanSender → List Place
+places_of s = s.places.items
+
+abbrev pub IsLoaned : ℕ → LoanSender → Type 0
+IsLoaned i s = place_at (places_of s) i ≡ Loaned
+
+-- what its pass knows, and of which set it is
+abbrev pub pass_view : LoanSender → View
+pass_view s = view s.pass
+
+abbrev pub share_of : LoanSender → Share
+share_of s = (pass_view s).share
+
+abbrev pub set_of_sender : LoanSender → TableId
+set_of_sender s = set_of s.pass
+
+abbrev pub IsSenderOf : UniqueIndexSet → LoanSender → Type 0
+IsSenderOf set s = IsPassOf set s.pass
+
+-- what its ends of the two queues know, and through which queue it sends
+abbrev pub submission_view : LoanSender → queue.View ℕ
+submission_view s = producer_view s.submission
+
+abbrev pub completion_view : LoanSender → queue.View ℕ
+completion_view s = consumer_view s.completion
+
+abbrev pub submission_of : LoanSender → TableId
+submission_of s = producer_queue s.submission
+
+-- what is known of the queues stays
+abbrev pub KeepsQueues : LoanSender → LoanSender → Type 0
+KeepsQueues s t =
+    (submission_view t ≡ submission_view s) × (completion_view t ≡ completion_view s)
+
+-- it loans from the same set, and sends through the same queue
+abbrev pub IsSame : LoanSender → LoanSender → Type 0
+IsSame s t = (set_of_sender t ≡ set_of_sender s) × (submission_of t ≡ submission_of s)

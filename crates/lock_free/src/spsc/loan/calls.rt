@@ -1,0 +1,236 @@
+//! The calls of a sender, each an equation on its table.
+ghost use Rattle.std.specs.Prelude.{◌≡◌, ◌⊎◌, ◌↔◌, [], IsTrue, IfOk, IfErr, IfSome, IfNone, slice_set, map, replicate, count_by};
+ghost use Rattle.lock_free.specs.UniqueIndexSet.{view, set_of, capacity_of, IsPassOf};
+ghost use Rattle.lock_free.specs.Unique.Views.{released};
+ghost use Rattle.lock_free.specs.Unique.Calls.{HasAcquired, WasRefused};
+ghost use Rattle.lock_free_sp.specs.Ends.{producer_view, producer_queue, consumer_view, consumer_queue};
+ghost use Rattle.lock_free_sp.specs.Ring.Calls.{HasAdded, HasReplaced, WasHandedBack, HasPopped, WasEmpty};
+ghost use Rattle.lock_free.specs.declared.spsc.loan.places.Place.TheVariants.{Free, Loaned, Sent};
+ghost use Rattle.lock_free.specs.Loan.Places.{is_out, is_sent, place_at, returned, reclaimed, IsBookOf};
+ghost use Rattle.lock_free.specs.Loan.Sender.{places_of, pass_view, share_of, submission_view, completion_view, submission_of, KeepsQueues, set_of_sender, IsSame, IsSenderOf, IsLoaned};
+
+use super::places::Place;
+use super::{LoanError, LoanSender};
+use crate::mpmc::unique_index_set::{Pass, UniqueIndexSet};
+use crate::mpmc::unique_index_set_enums::UniqueIndexSetAcquireFailure;
+use lock_free_sp::spsc::{index_queue, safely_overflowing_index_queue as overflow};
+use std::alloc::Global;
+use std::sync::Wait;
+
+impl<'a> LoanSender<'a> {
+    /// A sender with nothing loaned, over a pass of the set that holds nothing and the guards of the two queues.
+    ///
+    /// Refused is memory alone (`NoMemory`): then the guards are dropped, so that both roles are free, and the pass comes
+    /// back as it was. No atomic step, but one for each guard that is dropped.
+    pub fn new(
+        alloc: Global,
+        set: &'a UniqueIndexSet,
+        pass: Pass,
+        submission: overflow::Producer<'a>,
+        completion: index_queue::Consumer<'a>,
+    ) -> Result<LoanSender<'a>, (LoanError, Pass)>
+        requires pass { IsPassOf set.now pass }
+        requires nothing { (view pass).held ≡ [] }
+        ensures free { IfOk result (λ s. places_of s ≡ replicate (capacity_of set.now) Free) }
+        ensures set { IfOk result (λ s. IsSenderOf set.now s) }
+        ensures pass { IfOk result (λ s. pass_view s ≡ view pass) }
+        ensures queue { IfOk result (λ s. submission_of s ≡ producer_queue submission.entry) }
+        ensures submission { IfOk result
+            (λ s. submission_view s ≡ producer_view submission.entry) }
+        ensures completion { IfOk result
+            (λ s. completion_view s ≡ consumer_view completion.entry) }
+        ensures refused { IfErr result
+            (λ r. (set_of r.1 ≡ set_of pass) × (view r.1 ≡ view pass)) }
+    {
+        set.sizes(&pass);
+        match vec![in alloc; Place::Free; set.capacity() as usize] {
+            Ok(places) => Ok(LoanSender {
+                set,
+                pass,
+                submission,
+                completion,
+                places,
+            }),
+            Err(_) => Err((LoanError::NoMemory, pass)),
+        }
+    }
+
+    /// Takes an index that was Free: it is Loaned. Refused as `acquire_raw_index` of the set: `OutOfIndices` or
+    /// `IsLocked`, and the table stays. Four atomic steps where nobody else steps in between; else it may try again for
+    /// as long as others step.
+    pub fn loan(&mut self, rt: &impl Wait) -> Result<u32, UniqueIndexSetAcquireFailure>
+        ensures loaned { IfOk result (λ i. (place_at (places_of self.old) i ≡ Free)
+            × (places_of self.new ≡ slice_set (places_of self.old) i Loaned)) }
+        ensures is { IfOk result (λ i. IsLoaned i self.new) }
+        ensures acquired { IfOk result
+            (λ i. HasAcquired i (pass_view self.old) (pass_view self.new)) }
+        ensures refused { IfErr result (λ e. (places_of self.new ≡ places_of self.old)
+            × WasRefused e (pass_view self.old) (pass_view self.new)) }
+        ensures queues { KeepsQueues self.old self.new }
+        ensures same { IsSame self.old self.new }
+        ensures share { share_of self.new ≡ share_of self.old }
+    {
+        let index = self.set.acquire_raw_index(rt, &mut self.pass)?;
+        self.places[index as usize] = Place::Loaned;
+        Ok(index)
+    }
+
+    /// Whether the index is Loaned, which `send` and `give_up` ask for. No atomic step.
+    pub fn is_loaned(&self, index: u32) -> bool
+        ensures { IsTrue result ↔ IsLoaned index self.now }
+    {
+        match self.places.get(index as usize) {
+            Some(place) => *place == Place::Loaned,
+            None => false,
+        }
+    }
+
+    /// Gives a Loaned index back unsent: it is Free. At most 5 atomic steps.
+    pub fn give_up(&mut self, index: u32)
+        requires { IsLoaned index self.old }
+        ensures places { places_of self.new ≡ slice_set (places_of self.old) index Free }
+        ensures released { pass_view self.new ≡ released index (pass_view self.old) }
+        ensures queues { KeepsQueues self.old self.new }
+        ensures same { IsSame self.old self.new }
+        ensures share { share_of self.new ≡ share_of self.old }
+    {
+        self.places[index as usize] = Place::Free;
+        self.set.release_raw_index(index, &mut self.pass);
+    }
+
+    /// Whether the index is Sent.
+    fn has_sent(&self, index: u32) -> bool
+        ensures { result ≡ is_sent (place_at (places_of self.now) index) }
+    {
+        match self.places.get(index as usize) {
+            Some(place) => *place == Place::Sent,
+            None => false,
+        }
+    }
+
+    /// An index that was Sent is given back to the set.
+    fn free(&mut self, sent: u32)
+        requires { IsTrue (is_sent (place_at (places_of self.old) sent)) }
+        ensures places { places_of self.new ≡ slice_set (places_of self.old) sent Free }
+        ensures queues { KeepsQueues self.old self.new }
+        ensures same { IsSame self.old self.new }
+        ensures share { share_of self.new ≡ share_of self.old }
+    {
+        self.places[sent as usize] = Place::Free;
+        self.set.release_raw_index(sent, &mut self.pass);
+    }
+
+    /// A value came back: an index that is Sent is given back to the set, and any other changes nothing.
+    fn settle(&mut self, value: u64)
+        ensures places { places_of self.new ≡ returned value (places_of self.old) }
+        ensures queues { KeepsQueues self.old self.new }
+        ensures same { IsSame self.old self.new }
+        ensures share { share_of self.new ≡ share_of self.old }
+    {
+        if value >= self.set.capacity() as u64 {
+            return;
+        }
+        let index = value as u32;
+        if self.has_sent(index) {
+            self.free(index);
+        }
+    }
+
+    /// Sends a Loaned index: it is Sent. The answer is that of the push. Where the queue is full, that is the oldest value,
+    /// which is Free again where it is an index that is Sent, and else changes nothing. At most 11 atomic steps.
+    pub fn send(&mut self, index: u32) -> Option<u64>
+        requires { IsLoaned index self.old }
+        ensures sent { IfNone result
+            (places_of self.new ≡ slice_set (places_of self.old) index Sent) }
+        ensures back { IfSome result (λ y. places_of self.new
+            ≡ returned y (slice_set (places_of self.old) index Sent)) }
+        ensures added { IfNone result
+            (HasAdded index (submission_view self.old) (submission_view self.new)) }
+        ensures handed_back { IfSome result
+            (λ y. HasReplaced index y (submission_view self.old) (submission_view self.new)
+            ⊎ WasHandedBack index y (submission_view self.old) (submission_view self.new)) }
+        ensures completion { completion_view self.new ≡ completion_view self.old }
+        ensures same { IsSame self.old self.new }
+        ensures share { share_of self.new ≡ share_of self.old }
+    {
+        let answer = self.submission.push(index as u64);
+        self.places[index as usize] = Place::Sent;
+        if let Some(oldest) = answer {
+            self.settle(oldest);
+        }
+        answer
+    }
+
+    /// Takes the oldest value that the receiver gave back: it is Free again where it is an index that is Sent, and else
+    /// changes nothing. None where nothing waits, and then nothing changes. At most 9 atomic steps.
+    pub fn take_back(&mut self) -> Option<u64>
+        ensures back { IfSome result
+            (λ y. places_of self.new ≡ returned y (places_of self.old)) }
+        ensures popped { IfSome result
+            (λ y. HasPopped y (completion_view self.old) (completion_view self.new)) }
+        ensures none { IfNone result (places_of self.new ≡ places_of self.old) }
+        ensures empty { IfNone result
+            (WasEmpty (completion_view self.old) (completion_view self.new)) }
+        ensures submission { submission_view self.new ≡ submission_view self.old }
+        ensures same { IsSame self.old self.new }
+        ensures share { share_of self.new ≡ share_of self.old }
+    {
+        let back = self.completion.pop()?;
+        self.settle(back);
+        Some(back)
+    }
+
+    /// Empties both queues, and then frees each index that is Sent, in ascending order: how many. For a sender whose
+    /// receiver is gone, with the receiver's guard of the same queue. What is Loaned stays. That nothing waits then, tests
+    /// say and no clause does.
+    ///
+    /// Both queues are popped until they are empty, so no bound stands where another thread gives back at the same time;
+    /// at most 5 atomic steps for each index that is freed.
+    pub fn reclaim(&mut self, rt: &impl Wait, receiver: &mut overflow::Consumer<'_>) -> usize
+        requires { consumer_queue receiver.old ≡ submission_of self.old }
+        ensures places { places_of self.new ≡ map reclaimed (places_of self.old) }
+        ensures number { result ≡ count_by is_sent (places_of self.old) }
+        ensures same { IsSame self.old self.new }
+        ensures share { share_of self.new ≡ share_of self.old }
+        ensures receiver { consumer_queue receiver.new ≡ consumer_queue receiver.old }
+    {
+        for _ in rt.forever() {
+            if receiver.pop(rt).is_none() {
+                break;
+            }
+        }
+        for _ in rt.forever() {
+            if self.completion.pop().is_none() {
+                break;
+            }
+        }
+        let mut number = 0;
+        for index in 0..self.set.capacity() {
+            if self.has_sent(index) {
+                self.free(index);
+                number += 1;
+            }
+        }
+        number
+    }
+
+    /// Hands the pass out, which holds what is Loaned or Sent, and gives both roles back. Two atomic steps.
+    pub fn finish(self) -> Pass
+        ensures view { view result ≡ pass_view self.entry }
+        ensures set { set_of result ≡ set_of_sender self.entry }
+    {
+        let LoanSender {
+            set: _,
+            pass,
+            submission: _,
+            completion: _,
+            places: _,
+        } = self;
+        pass
+    }
+
+    /// The pass holds exactly the indices that are Loaned or Sent, each once: for a caller's proof. It does nothing.
+    pub fn holds(&self)
+        ensures { IsBookOf (pass_view self.now) (places_of self.now) }
+    {}
+}
