@@ -4,18 +4,15 @@
 
 ghost use Rattle.std.specs.Prelude.{◌≡◌, ◌≤◌, ◌<◌, None, OnOk, OnErr, IfOk, IfErr, IfSome, length, take, slice_get};
 
+use event::Event;
+use model::coding::Coded;
+pub use model::{event, families, party, turn};
+use parts::parts::Parts;
+use party::{Progress, flight_of, progress_of};
 use std::alloc::Global;
 use std::marker::Model;
 use steps::enums::UniqueIndexCreationError;
 use steps::words::Words;
-
-mod parts;
-
-use event::Event;
-use model::coding::Coded;
-pub use model::{event, families, party, turn};
-use parts::Parts;
-use party::{Progress, flight_of, progress_of};
 use turn::{Kind, Refusal, Turn};
 
 /// One structure and its parties, with what they have done so far. `T` is the type of the values of the structures
@@ -35,7 +32,7 @@ pub struct Stopped {
 impl<T: Words> Model for Machine<T> {
     ghost use Rattle.model.specs.Coding.{coding_of};
     ghost use Rattle.model.specs.World.{State};
-    ghost use Rattle.machine.specs.Parts.{state_of, trace_of};
+    ghost use Rattle.parts.specs.Parts.{state_of, trace_of};
     ghost use Rattle.model.specs.Turns.{IsReached};
 
     ghost Value = { State T };

@@ -1,6 +1,6 @@
 //! The single value: the worked row, refusals, and values of three words.
 use crate::rows::made;
-use crate::values::{Reading, step};
+use crate::values::{self, Reading, step};
 use machine::Machine;
 use machine::event::{Answer, Event, Start};
 use machine::families::atomic::AtomicStart;
@@ -21,6 +21,15 @@ const SECOND: Start<u128> = Start::Atomic(AtomicStart::Store(5534023222112865485
 /// One turn. No test needs what its contract says, and each call through it is proved without.
 fn go(machine: &mut Machine<u128>, turn: Turn<u128>) -> Result<(), Refusal> {
     machine.step(turn)
+}
+
+/// Whether so many turns of the party's call are taken.
+fn goes(machine: &mut Machine<u128>, party: u32, turns: u64) -> bool {
+    let mut taken = true;
+    for _ in 0..turns {
+        taken &= go(machine, Turn::Next(party)).is_ok();
+    }
+    taken
 }
 
 /// The party, its call where it begins one, the turns that it takes, the last event then, and the words.
@@ -59,19 +68,21 @@ const STOPPED_LOAD: [Row; 5] = [
     ),
 ];
 
+/// Whether the row comes out as it says. A call that is under way goes on.
+fn does(machine: &mut Machine<u128>, row: &Row) -> bool {
+    let (party, start, turns, last, words) = row;
+    let begins = machine.is_going(*party) || go(machine, Turn::Begin(*party, *start)).is_ok();
+    begins
+        & goes(machine, *party, *turns)
+        & (machine.events().last() == Some(last))
+        & (machine.words() == words.as_slice())
+}
+
 #[test]
 fn a_load_that_stops_in_its_cell(rt: HostRuntime) -> Result<(), Fail> {
     let mut machine = made(rt.alloc(), Kind::Atomic, 1, 2)?;
-    for (at, (party, start, turns, last, words)) in STOPPED_LOAD.iter().enumerate() {
-        // A call that is under way goes on.
-        if !machine.is_going(*party) {
-            go(&mut machine, Turn::Begin(*party, *start))?;
-        }
-        for _ in 0..*turns {
-            go(&mut machine, Turn::Next(*party))?;
-        }
-        assert_eq!(rt; machine.events().last(), Some(last), "{at}");
-        assert_eq!(rt; machine.words(), words.as_slice(), "{at}");
+    for (at, row) in STOPPED_LOAD.iter().enumerate() {
+        assert!(rt; does(&mut machine, row), "{at}");
     }
     let progress = Progress {
         steps: 7,
@@ -83,69 +94,88 @@ fn a_load_that_stops_in_its_cell(rt: HostRuntime) -> Result<(), Fail> {
     Ok(())
 }
 
+const CAPACITIES: [(usize, Option<UniqueIndexCreationError>); 3] = [
+    (0, Some(UniqueIndexCreationError::ProvidedCapacityIsZero)),
+    (1, None),
+    (
+        2,
+        Some(UniqueIndexCreationError::ProvidedCapacityGreaterThanMaxCapacity),
+    ),
+];
+
 #[test]
-fn refusals_of_one_value(rt: HostRuntime) -> Result<(), Fail> {
-    let above = UniqueIndexCreationError::ProvidedCapacityGreaterThanMaxCapacity;
-    let capacities = [
-        (0, Some(UniqueIndexCreationError::ProvidedCapacityIsZero)),
-        (1, None),
-        (2, Some(above)),
-    ];
-    for (capacity, error) in capacities {
+fn capacities_of_one_value(rt: HostRuntime) {
+    for (capacity, error) in &CAPACITIES {
         assert!(rt;
-            capacity_error(Kind::Atomic, capacity) == error,
+            capacity_error(Kind::Atomic, *capacity) == *error,
             "{capacity}"
         );
     }
+}
+
+/// A call of the second party, and how it is refused while the first has the role.
+const REFUSED: [(Start<u128>, Refusal); 3] = [
+    (Start::Queues(QueueStart::Pop), Refusal::WrongCall),
+    (FIRST, Refusal::NoRole),
+    (Start::Atomic(AtomicStart::ReleaseProducer), Refusal::NoRole),
+];
+
+#[test]
+fn refusals_of_one_value(rt: HostRuntime) -> Result<(), Fail> {
     let mut machine = made(rt.alloc(), Kind::Atomic, 1, 2)?;
-    go(&mut machine, Turn::Begin(0, ACQUIRE))?;
-    go(&mut machine, Turn::Next(0))?;
-    let calls = [
-        (Start::Queues(QueueStart::Pop), Refusal::WrongCall),
-        (FIRST, Refusal::NoRole),
-        (Start::Atomic(AtomicStart::ReleaseProducer), Refusal::NoRole),
-    ];
-    for (at, (start, refusal)) in calls.into_iter().enumerate() {
+    assert!(rt; go(&mut machine, Turn::Begin(0, ACQUIRE)).is_ok() & goes(&mut machine, 0, 1));
+    for (at, (start, refusal)) in REFUSED.iter().enumerate() {
         assert!(rt;
-            go(&mut machine, Turn::Begin(1, start)) == Err(refusal),
+            go(&mut machine, Turn::Begin(1, *start)) == Err(*refusal),
             "{at}"
         );
     }
-    let mut queue = made(rt.alloc(), Kind::IndexQueue, 1, 2)?;
-    assert!(rt; go(&mut queue, Turn::Begin(0, LOAD)) == Err(Refusal::WrongCall));
     Ok(())
+}
+
+const ZEROS: Reading = Reading {
+    time: 0,
+    level: 0,
+    state: 0,
+};
+
+const VALUE: Reading = Reading {
+    time: 7,
+    level: u64::MAX,
+    state: 9,
+};
+
+/// A party, its call, the turns that it takes, and its answer.
+const THREE_WORDS: [(u32, AtomicStart<Reading>, u64, Answer<Reading>); 4] = [
+    (0, AtomicStart::AcquireProducer, 1, Answer::Truth(true)),
+    (1, AtomicStart::Load, 5, Answer::Loaded(ZEROS)),
+    (0, AtomicStart::Store(VALUE), 5, Answer::Truth(true)),
+    (1, AtomicStart::Load, 5, Answer::Loaded(VALUE)),
+];
+
+/// Whether the call takes so many turns, of which the last gives this answer.
+fn answers(
+    machine: &mut Machine<Reading>,
+    party: u32,
+    start: AtomicStart<Reading>,
+    turns: u64,
+    answer: Answer<Reading>,
+) -> bool {
+    let last = Event::Finished(party, Start::Atomic(start), answer);
+    step(machine, Turn::Begin(party, Start::Atomic(start))).is_ok()
+        & values::goes(machine, party, turns)
+        & (machine.events().last() == Some(&last))
 }
 
 #[test]
 fn three_words_in_one_value(rt: HostRuntime) -> Result<(), Fail> {
-    let zeros = Reading {
-        time: 0,
-        level: 0,
-        state: 0,
-    };
-    let value = Reading {
-        time: 7,
-        level: u64::MAX,
-        state: 9,
-    };
-    let acquire = AtomicStart::AcquireProducer;
-    let load = AtomicStart::Load;
-    let store = AtomicStart::Store(value);
     let mut machine: Machine<Reading> = Machine::new(rt.alloc(), Kind::Atomic, 1, 2)?;
-    let table = [
-        (0, acquire, 1, Answer::Truth(true)),
-        (1, load, 5, Answer::Loaded(zeros)),
-        (0, store, 5, Answer::Truth(true)),
-        (1, load, 5, Answer::Loaded(value)),
-    ];
-    for (at, (party, start, turns, answer)) in table.into_iter().enumerate() {
-        step(&mut machine, Turn::Begin(party, Start::Atomic(start)))?;
-        for _ in 0..turns {
-            step(&mut machine, Turn::Next(party))?;
-        }
-        let last = Event::Finished(party, Start::Atomic(start), answer);
-        assert_eq!(rt; machine.events().last(), Some(&last), "{at}");
+    for (at, (party, start, turns, answer)) in THREE_WORDS.iter().enumerate() {
+        assert!(rt;
+            answers(&mut machine, *party, *start, *turns, *answer),
+            "{at}"
+        );
     }
-    assert_eq!(rt; machine.words(), [2, 0, 0, 0, 0, 7, u64::MAX, 9].as_slice());
+    assert!(rt; machine.words() == [2, 0, 0, 0, 0, 7, u64::MAX, 9].as_slice());
     Ok(())
 }

@@ -4,14 +4,10 @@
 #[cfg(test)]
 mod atomic;
 #[cfg(test)]
-mod bits;
-#[cfg(test)]
-mod indices;
-#[cfg(test)]
-mod robust;
-#[cfg(test)]
 mod rows;
 #[cfg(test)]
 mod runs;
 #[cfg(test)]
 mod values;
+#[cfg(test)]
+mod wrong;

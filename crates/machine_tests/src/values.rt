@@ -68,108 +68,126 @@ pub fn step(machine: &mut Machine<Reading>, turn: Turn<Reading>) -> Result<(), R
     machine.step(turn)
 }
 
+const FIRST: Reading = Reading {
+    time: 1,
+    level: u64::MAX,
+    state: 3,
+};
+
+const SECOND: Reading = Reading {
+    time: 4,
+    level: 5,
+    state: 6,
+};
+
+const PUSH_FIRST: QueueStart<Reading> = QueueStart::Push(FIRST);
+
+const PUSH_SECOND: QueueStart<Reading> = QueueStart::Push(SECOND);
+
+/// The party, its call, the turns that it takes of it, and the last event and the words then.
+type Row = (u32, QueueStart<Reading>, u64, Event<Reading>, [u64; 7]);
+
+const ROWS: [Row; 9] = [
+    (
+        0,
+        QueueStart::AcquireProducer,
+        1,
+        Event::Finished(0, ACQUIRE_PRODUCER, Answer::Truth(true)),
+        [0, 0, 0, 1, 0, 0, 0],
+    ),
+    (
+        1,
+        QueueStart::AcquireConsumer,
+        1,
+        Event::Finished(1, ACQUIRE_CONSUMER, Answer::Truth(true)),
+        [0, 0, 0, 0, 0, 0, 0],
+    ),
+    // All but the last step of a push: its words stand in the cell, and nothing waits.
+    (
+        0,
+        PUSH_FIRST,
+        5,
+        Event::Begun(0, Start::Queues(PUSH_FIRST)),
+        [0, 0, 0, 0, 1, u64::MAX, 3],
+    ),
+    (
+        1,
+        QueueStart::Pop,
+        2,
+        Event::Finished(1, POP, Answer::PoppedNone),
+        [0, 0, 0, 0, 1, u64::MAX, 3],
+    ),
+    (
+        1,
+        QueueStart::Len,
+        0,
+        Event::Begun(1, LEN),
+        [0, 0, 0, 0, 1, u64::MAX, 3],
+    ),
+    (
+        0,
+        PUSH_FIRST,
+        1,
+        Event::Finished(0, Start::Queues(PUSH_FIRST), Answer::Truth(true)),
+        [1, 0, 0, 0, 1, u64::MAX, 3],
+    ),
+    (
+        0,
+        PUSH_SECOND,
+        2,
+        Event::Finished(0, Start::Queues(PUSH_SECOND), Answer::Truth(false)),
+        [1, 0, 0, 0, 1, u64::MAX, 3],
+    ),
+    (
+        1,
+        QueueStart::Len,
+        4,
+        Event::Finished(1, LEN, Answer::Number(1)),
+        [1, 0, 0, 0, 1, u64::MAX, 3],
+    ),
+    (
+        1,
+        QueueStart::Pop,
+        6,
+        Event::Finished(1, POP, Answer::Popped(FIRST)),
+        [1, 1, 0, 0, 1, u64::MAX, 3],
+    ),
+];
+
+const TOLD: [Event<Reading>; 4] = [
+    Event::Begun(1, POP),
+    Event::HandedOut(1, Item::Value(FIRST)),
+    Event::Acted(1, POP, Answer::Popped(FIRST)),
+    Event::Finished(1, POP, Answer::Popped(FIRST)),
+];
+
+/// Whether so many turns of the party's call are taken.
+pub fn goes(machine: &mut Machine<Reading>, party: u32, turns: u64) -> bool {
+    let mut taken = true;
+    for _ in 0..turns {
+        taken &= step(machine, Turn::Next(party)).is_ok();
+    }
+    taken
+}
+
+/// Whether the row comes out as it says. A call that is under way goes on.
+fn does(machine: &mut Machine<Reading>, row: &Row) -> bool {
+    let (party, start, turns, last, words) = row;
+    let begins = machine.is_going(*party)
+        || step(machine, Turn::Begin(*party, Start::Queues(*start))).is_ok();
+    begins
+        & goes(machine, *party, *turns)
+        & (machine.events().last() == Some(last))
+        & (machine.words() == words.as_slice())
+}
+
 #[test]
 fn three_words_at_once(rt: HostRuntime) -> Result<(), Fail> {
-    let first = Reading {
-        time: 1,
-        level: u64::MAX,
-        state: 3,
-    };
-    let second = Reading {
-        time: 4,
-        level: 5,
-        state: 6,
-    };
-    let (push_first, push_second) = (QueueStart::Push(first), QueueStart::Push(second));
     let mut machine: Machine<Reading> = Machine::new(rt.alloc(), Kind::Queue, 1, 2)?;
-    // The party, its call, the turns that it takes of it, and the last event and the words then.
-    let table: [(u32, QueueStart<Reading>, u64, Event<Reading>, [u64; 7]); 9] = [
-        (
-            0,
-            QueueStart::AcquireProducer,
-            1,
-            Event::Finished(0, ACQUIRE_PRODUCER, Answer::Truth(true)),
-            [0, 0, 0, 1, 0, 0, 0],
-        ),
-        (
-            1,
-            QueueStart::AcquireConsumer,
-            1,
-            Event::Finished(1, ACQUIRE_CONSUMER, Answer::Truth(true)),
-            [0, 0, 0, 0, 0, 0, 0],
-        ),
-        // All but the last step of a push: its words stand in the cell, and nothing waits.
-        (
-            0,
-            push_first,
-            5,
-            Event::Begun(0, Start::Queues(push_first)),
-            [0, 0, 0, 0, 1, u64::MAX, 3],
-        ),
-        (
-            1,
-            QueueStart::Pop,
-            2,
-            Event::Finished(1, POP, Answer::PoppedNone),
-            [0, 0, 0, 0, 1, u64::MAX, 3],
-        ),
-        (
-            1,
-            QueueStart::Len,
-            0,
-            Event::Begun(1, LEN),
-            [0, 0, 0, 0, 1, u64::MAX, 3],
-        ),
-        (
-            0,
-            push_first,
-            1,
-            Event::Finished(0, Start::Queues(push_first), Answer::Truth(true)),
-            [1, 0, 0, 0, 1, u64::MAX, 3],
-        ),
-        (
-            0,
-            push_second,
-            2,
-            Event::Finished(0, Start::Queues(push_second), Answer::Truth(false)),
-            [1, 0, 0, 0, 1, u64::MAX, 3],
-        ),
-        (
-            1,
-            QueueStart::Len,
-            4,
-            Event::Finished(1, LEN, Answer::Number(1)),
-            [1, 0, 0, 0, 1, u64::MAX, 3],
-        ),
-        (
-            1,
-            QueueStart::Pop,
-            6,
-            Event::Finished(1, POP, Answer::Popped(first)),
-            [1, 1, 0, 0, 1, u64::MAX, 3],
-        ),
-    ];
-    let mut at = 0u64;
-    for (party, start, turns, last, words) in table {
-        at = at.wrapping_add(1);
-        // A call that is under way goes on.
-        if !machine.is_going(party) {
-            step(&mut machine, Turn::Begin(party, Start::Queues(start)))?;
-        }
-        for _ in 0..turns {
-            step(&mut machine, Turn::Next(party))?;
-        }
-        assert_eq!(rt; machine.events().last(), Some(&last), "{at}");
-        assert_eq!(rt; machine.words(), words.as_slice(), "{at}");
+    for (at, row) in ROWS.iter().enumerate() {
+        assert!(rt; does(&mut machine, row), "{at}");
     }
-    let told = [
-        Event::Begun(1, POP),
-        Event::HandedOut(1, Item::Value(first)),
-        Event::Acted(1, POP, Answer::Popped(first)),
-        Event::Finished(1, POP, Answer::Popped(first)),
-    ];
-    let events = machine.events();
-    let late = events.len().saturating_sub(told.len());
-    assert_eq!(rt; events.get(late..), Some(told.as_slice()));
+    let late = machine.events().len().saturating_sub(4);
+    assert!(rt; machine.events().get(late..) == Some(TOLD.as_slice()));
     Ok(())
 }

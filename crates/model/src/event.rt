@@ -1,16 +1,19 @@
 //! Calls by their names and arguments, their answers, and what a run writes down.
+ghost use Rattle.std.specs.Prelude.{◌≡◌, ⊤};
+
 use crate::families::atomic::AtomicStart;
 use crate::families::bits::BitsStart;
 use crate::families::indices::IndexStart;
 use crate::families::indices::robust::RobustStart;
 use crate::families::queues::QueueStart;
+use std::alloc::AllocError;
 use steps::enums::OwnerId;
 use steps::indices::enums::{
     ReleaseState, RobustUniqueIndexSetReleaseError, UniqueIndexSetAcquireFailure,
 };
 
 /// A value of a queue.
-#[derive(Debug, Clone, Copy, PartialEq, Eq)]
+#[derive(Clone, Copy, PartialEq, Eq)]
 pub enum Item<T> {
     /// A number of one word, in the queues of indices.
     Index(u64),
@@ -19,7 +22,7 @@ pub enum Item<T> {
 }
 
 /// A call and its arguments, by families.
-#[derive(Debug, Clone, Copy, PartialEq, Eq)]
+#[derive(Copy, PartialEq, Eq)]
 pub enum Start<T> {
     /// A call of a queue, or on one of its roles.
     Queues(QueueStart<T>),
@@ -33,8 +36,20 @@ pub enum Start<T> {
     Robust(RobustStart),
 }
 
+// `clone` by hand, here and below, and no `Debug`: a derive goes through every field of every case, and the proof of
+// that takes a minute.
+impl<T: Copy> Clone for Start<T> {
+    ghost is_clone = { λ x y. y ≡ x };
+
+    ghost is_infallible = { λ _. ⊤ };
+
+    fn clone(&self) -> Result<Start<T>, AllocError> {
+        Ok(*self)
+    }
+}
+
 /// What a call answers.
-#[derive(Debug, Clone, Copy, PartialEq, Eq)]
+#[derive(Copy, PartialEq, Eq)]
 pub enum Answer<T> {
     /// Of giving a role back, and of resetting all bits or counts.
     Done,
@@ -66,8 +81,18 @@ pub enum Answer<T> {
     NotOwned(RobustUniqueIndexSetReleaseError),
 }
 
+impl<T: Copy> Clone for Answer<T> {
+    ghost is_clone = { λ x y. y ≡ x };
+
+    ghost is_infallible = { λ _. ⊤ };
+
+    fn clone(&self) -> Result<Answer<T>, AllocError> {
+        Ok(*self)
+    }
+}
+
 /// What a run writes down. The first number is the party's.
-#[derive(Debug, Clone, Copy, PartialEq, Eq)]
+#[derive(Copy, PartialEq, Eq)]
 pub enum Event<T> {
     /// The party began this call.
     Begun(u32, Start<T>),
@@ -106,4 +131,14 @@ pub enum Event<T> {
     Acted(u32, Start<T>, Answer<T>),
     /// The call is done, in this turn.
     Finished(u32, Start<T>, Answer<T>),
+}
+
+impl<T: Copy> Clone for Event<T> {
+    ghost is_clone = { λ x y. y ≡ x };
+
+    ghost is_infallible = { λ _. ⊤ };
+
+    fn clone(&self) -> Result<Event<T>, AllocError> {
+        Ok(*self)
+    }
 }

@@ -1,9 +1,10 @@
 //! What a machine is made of, its turns, and why one is refused.
-ghost use Rattle.std.specs.Prelude.{◌≡◌};
+ghost use Rattle.std.specs.Prelude.{◌≡◌, ⊤};
 ghost use Rattle.model.specs.World.{capacity_error};
 
 use crate::event::Start;
 use crate::families::capacities;
+use std::alloc::AllocError;
 use steps::enums::{OwnerId, UniqueIndexCreationError, capacity_refusal};
 use thiserror::Error;
 
@@ -37,7 +38,7 @@ pub fn capacity_error(kind: Kind, capacity: usize) -> Option<UniqueIndexCreation
 }
 
 /// One turn of a run. The number is the party's.
-#[derive(Debug, Clone, Copy, PartialEq, Eq)]
+#[derive(Copy, PartialEq, Eq)]
 pub enum Turn<T> {
     /// The party begins a call. No word is touched.
     Begin(u32, Start<T>),
@@ -47,6 +48,16 @@ pub enum Turn<T> {
     Decide(u32, bool),
     /// The owner dies. From here on no call acquires or releases for it.
     Die(OwnerId),
+}
+
+impl<T: Copy> Clone for Turn<T> {
+    ghost is_clone = { λ x y. y ≡ x };
+
+    ghost is_infallible = { λ _. ⊤ };
+
+    fn clone(&self) -> Result<Turn<T>, AllocError> {
+        Ok(*self)
+    }
 }
 
 /// Why a turn was refused. A refused turn changes nothing.

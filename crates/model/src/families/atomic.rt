@@ -5,7 +5,7 @@ pub mod effects;
 pub mod opening;
 
 /// A call of the single value by its name and arguments.
-#[derive(Debug, Clone, Copy, PartialEq, Eq)]
+#[derive(Clone, Copy, PartialEq, Eq)]
 pub enum AtomicStart<T> {
     AcquireProducer,
     ReleaseProducer,

@@ -4,7 +4,7 @@ pub mod effects;
 pub mod opening;
 
 /// A call of a bit set or of a counting bit set by its name and arguments.
-#[derive(Debug, Clone, Copy, PartialEq, Eq)]
+#[derive(Clone, Copy, PartialEq, Eq)]
 pub enum BitsStart {
     /// Sets the bit, or adds 1 to the count of the place.
     Set(u64),

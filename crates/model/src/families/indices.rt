@@ -9,7 +9,7 @@ pub mod robust;
 use steps::indices::enums::ReleaseMode;
 
 /// A call of the unique index set by its name and arguments.
-#[derive(Debug, Clone, Copy, PartialEq, Eq)]
+#[derive(Clone, Copy, PartialEq, Eq)]
 pub enum IndexStart {
     Acquire,
     /// Only the holder of the index releases it.

@@ -14,7 +14,7 @@ pub enum QueueKind {
 }
 
 /// A call of a queue by its name and arguments. Which of the pushes a kind has depends on its values.
-#[derive(Debug, Clone, Copy, PartialEq, Eq)]
+#[derive(Clone, Copy, PartialEq, Eq)]
 pub enum QueueStart<T> {
     AcquireProducer,
     ReleaseProducer,

@@ -1,6 +1,6 @@
 use Rattle.model.specs.Coding.{coding_of, IsCoding}
 use Rattle.model.specs.World.{opening}
-use Rattle.machine.specs.Parts.{trace_of}
+use Rattle.parts.specs.Parts.{trace_of}
 use Rattle.model.proofs.Reached.{reached_is, reached_opening}
 use Rattle.machine.proofs.Machine.new.Goals as goal
 

@@ -1,7 +1,7 @@
 use Rattle.std.proofs.Common.{◌≡◌, ap, sym, subst}
 use Rattle.model.specs.Coding.{coding_of}
 use Rattle.model.specs.World.{trace_in}
-use Rattle.machine.specs.Parts.{trace_of}
+use Rattle.parts.specs.Parts.{trace_of}
 use Rattle.model.specs.Turns.{after_turn}
 use Rattle.model.specs.Promises.{IsKept}
 use Rattle.model.proofs.Orders.{reached_kept, step_turn}

@@ -9,7 +9,7 @@ use steps::enums::OwnerId;
 use steps::indices::enums::ReleaseMode;
 
 /// A call of the robust index set by its name and arguments.
-#[derive(Debug, Clone, Copy, PartialEq, Eq)]
+#[derive(Clone, Copy, PartialEq, Eq)]
 pub enum RobustStart {
     /// An index for this owner.
     Acquire(OwnerId),

@@ -1,5 +1,5 @@
 //! What a step of a call writes down.
-ghost use Rattle.std.specs.Prelude.{◌≡◌, ◌+◌, ◌≤◌, ◌<◌, ◌++◌, vec_len, vec_capacity, option_copied};
+ghost use Rattle.std.specs.Prelude.{◌≡◌, ⊤, ◌+◌, ◌≤◌, ◌<◌, ◌++◌, vec_len, vec_capacity, option_copied};
 ghost use Rattle.steps.specs.Ask.{CameTo};
 ghost use Rattle.model.specs.Families.Queues.Steps.{pending_at, pending, beside, push_effect, pop_effect, overflow_push_effect, overflow_pop_effect, effect_of, acts_if_done, effects_of, roles_after, step};
 
@@ -11,6 +11,7 @@ use crate::event::{Answer, Event, Item, Start};
 use crate::families::{Flight, Went};
 use crate::party::{Latest, flight_of};
 use crate::words::word_at;
+use std::alloc::AllocError;
 use steps::copied::Room;
 use steps::queues::overflow::cell_word;
 use steps::queues::ring::READ;
@@ -21,7 +22,7 @@ use steps::words::Words;
 pub const MOST_EFFECTS: usize = 3;
 
 /// What the next step of a call does to the structure, and whether the call acts there.
-#[derive(Clone, Copy)]
+#[derive(Copy)]
 pub enum Effect<T> {
     /// Nothing that is written down.
     Quiet,
@@ -37,6 +38,16 @@ pub enum Effect<T> {
     TakesOut(u64),
     /// As `HandsOut`, and then the push of this value by this party acts with None.
     MakesRoom(Item<T>, u32, u64),
+}
+
+impl<T: Copy> Clone for Effect<T> {
+    ghost is_clone = { λ x y. y ≡ x };
+
+    ghost is_infallible = { λ _. ⊤ };
+
+    fn clone(&self) -> Result<Effect<T>, AllocError> {
+        Ok(*self)
+    }
 }
 
 /// The value of the push that has published over a full queue, and acts once the read position goes on from here.

@@ -5,9 +5,9 @@ use Rattle.std.specs.Ordering.{nat_cmp}
 use Rattle.model.specs.Coding.{coding_of}
 use Rattle.model.specs.Parties.{party_of, put}
 use Rattle.model.proofs.Parties.{set_is_put}
-use Rattle.machine.specs.Parts.{trace_of}
-use Rattle.machine.proofs.Going.{refusal_is, is_refusal, going_is, goes_on_nowhere, is_idle}
-use Rattle.machine.proofs.parts.Parts.resume.Goals as goal
+use Rattle.parts.specs.Parts.{trace_of}
+use Rattle.parts.proofs.Going.{refusal_is, is_refusal, going_is, goes_on_nowhere, is_idle}
+use Rattle.parts.proofs.parts.Parts.resume.Goals as goal
 
 pub go_on-gone-requires-clause-small : goal.go_on-gone-requires-clause-small
 go_on-gone-requires-clause-small g c = c.requires.small.latest c.args.number c.in-Some.party.now (sym c.in-Some.ensures.value)

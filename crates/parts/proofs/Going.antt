@@ -16,7 +16,7 @@ use Rattle.model.specs.Refusals.{refusal_of, IsRefusal}
 use Rattle.model.specs.Rows.{first_row}
 use Rattle.model.specs.Turns.{turn_of, after_turn}
 use Rattle.model.specs.World.{World, flight_in}
-use Rattle.machine.specs.Parts.{turn_rows, going_refusal, IsGoingRefusal, Around, after_turn_of}
+use Rattle.parts.specs.Parts.{turn_rows, going_refusal, IsGoingRefusal, Around, after_turn_of}
 
 module _ {T : Type 0} (w : World T) (p : ℕ) (said : Option Bool) where
   -- what is tested of the turn, once its party is there

@@ -17,7 +17,7 @@ use Rattle.model.specs.Rows.{first_row}
 use Rattle.model.specs.Step.{Step}
 use Rattle.model.specs.Turns.{old_of, words_after, change_of, step_count, number_of, party_after, events_of_step}
 use Rattle.model.specs.World.{Trace, State, trace_in}
-use Rattle.machine.specs.declared.parts.Parts.{Parts}
+use Rattle.parts.specs.declared.parts.Parts.{Parts}
 
 -- what these parts hold
 abbrev pub state_of : {T : Type 0} → Parts T → State T

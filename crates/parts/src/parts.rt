@@ -4,7 +4,7 @@ ghost use Rattle.model.specs.World.{opening, capacity_error, IsCreationError};
 ghost use Rattle.model.specs.Refusals.{refusal_of, IsRefusal};
 ghost use Rattle.model.specs.Small.{IsSmall, HasSmallCounts};
 ghost use Rattle.model.specs.Turns.{turn_of, number_of, one_if, after_turn};
-ghost use Rattle.machine.specs.Parts.{state_of, trace_of, going_refusal, IsGoingRefusal, around, after_turn_of};
+ghost use Rattle.parts.specs.Parts.{state_of, trace_of, going_refusal, IsGoingRefusal, around, after_turn_of};
 
 use model::coding::Coded;
 use model::event::{Event, Start};

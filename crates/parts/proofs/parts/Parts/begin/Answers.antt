@@ -5,9 +5,9 @@ use Rattle.model.specs.declared.turn.Turn.TheVariants.{Begin}
 use Rattle.model.specs.Coding.{coding_of}
 use Rattle.model.specs.Refusals.{IsRefusal}
 use Rattle.model.specs.World.{flight_in}
-use Rattle.machine.specs.Parts.{trace_of}
-use Rattle.machine.proofs.Going.{begin_passes, begin_refuses, begins_nowhere, is_busy, none_found, some_found}
-use Rattle.machine.proofs.parts.Parts.begin.Goals as goal
+use Rattle.parts.specs.Parts.{trace_of}
+use Rattle.parts.proofs.Going.{begin_passes, begin_refuses, begins_nowhere, is_busy, none_found, some_found}
+use Rattle.parts.proofs.parts.Parts.begin.Goals as goal
 
 pub returns-clause-allowed : goal.returns-clause-allowed
 returns-clause-allowed g c =
