@@ -1,3 +1,5 @@
 pub mod Alone
-pub mod Words
 pub mod Lists
+pub mod Stacks
+pub mod Values
+pub mod Words

@@ -1,5 +1,8 @@
 -- Words that are read and written one after another.
 use Rattle.std.proofs.Common.{◌≡◌, ℕ, zero, suc, ◌+◌, ◌^◌, ◌<◌, ◌≤◌, ◌⊎◌, inl, inr, ⊎_elim, List, [], ◌∷◌, length, refl, sym, ap, subst, ◌∙◌, arith, slice_index, slice_set, get_or-set_same, get_or-set_other, length-set, take}
+use Rattle.std.specs.Prelude.{replicate, nat_lt, if◌then◌else◌, false}
+use Rattle.std.proofs.lemmas.Bool.Decides.{nat_tests}
+use Rattle.steps.specs.Copied.{value_in}
 use Rattle.steps.specs.Queues.Ring.{word_at}
 use Rattle.plain.specs.Queues.{words_from}
 
@@ -106,3 +109,37 @@ take_words xs zero within = refl
 take_words [] (suc n) within = absurd (omega arith)
 take_words (x ∷ xs) (suc n) within =
     ap (λ z. x ∷ z) (take_words xs n (omega arith) ∙ sym (shifted x xs 0 n))
+
+-- ---- words of a cell, from one place on, read into a room
+
+module _ {R : Type 0} (with_word : R → ℕ → ℕ → R) where
+  abbrev pub read_in : R → List ℕ → ℕ → ℕ → ℕ → R
+  read_in room ws k at zero = room
+  read_in room ws k at (suc n) =
+      read_in (with_word room at (slice_index ws (word_at k at))) ws k (at + 1) n
+
+module _ {V R : Type 0} (value_of : List ℕ → V) (size : ℕ) (words_in : R → List ℕ)
+    (with_word : R → ℕ → ℕ → R)
+    (put_in : (x : R) (at word : ℕ) → words_in (with_word x at word) ≡ slice_set (words_in x) at word) where
+  read_words : (room : R) (ws : List ℕ) (k at n : ℕ)
+      → words_in (read_in with_word room ws k at n) ≡ loaded (words_in room) ws k at n
+  read_words room ws k at zero = refl
+  read_words room ws k at (suc n) =
+      read_words (with_word room at (slice_index ws (word_at k at))) ws k (at + 1) n
+      ∙ ap (λ xs. loaded xs ws k (at + 1) n) (put_in room at (slice_index ws (word_at k at)))
+
+  -- the value that a room then has
+  pub value_read : (room : R) (ws : List ℕ) (k : ℕ) → size ≤ length (words_in room)
+      → k + 0 + size < 2 ^ 64
+      → value_in value_of size (words_in (read_in with_word room ws k 0 size)) ≡ value_of (words_from ws k size)
+  value_read room ws k wide small =
+      let is : words_in (read_in with_word room ws k 0 size) ≡ loaded (words_in room) ws k 0 size = read_words room ws k 0 size in
+      let long : length (loaded (words_in room) ws k 0 size) ≡ length (words_in room) = loaded_length (words_in room) ws k 0 size in
+      let enough : nat_lt (length (loaded (words_in room) ws k 0 size)) size ≡ false = grind (arith, nat_tests, long, wide) in
+      let words_are : take size (loaded (words_in room) ws k 0 size) ≡ words_from ws k size =
+      take_words (loaded (words_in room) ws k 0 size) size (omega arith)
+      ∙ loaded_words (words_in room) ws k 0 size small (omega arith)
+      ∙ ap (λ j. words_from ws j size) (omega arith) in
+      ap (value_in value_of size) is
+      ∙ ap (λ b. if b then value_of (take size (replicate 128 0)) else value_of (take size (loaded (words_in room) ws k 0 size))) enough
+      ∙ ap value_of words_are

@@ -4,5 +4,9 @@
 
 mod drive;
 pub mod queues;
+pub mod unique;
+pub mod value;
 
 pub use queues::{IndexQueue, Queue};
+pub use unique::UniqueIndexSet;
+pub use value::UnrestrictedAtomic;

@@ -14,7 +14,7 @@ use Rattle.plain.specs.Alone.{EndsFrom, EndsIn, Turns}
 use Rattle.steps.specs.Objects.Lists.{Bounded, front, popped}
 use Rattle.plain.specs.Queues.{words_from, value_at, values_from, list_in, Fits}
 use Rattle.plain.proofs.Alone.{Runs}
-use Rattle.plain.proofs.Words.{words_same, loaded, loaded_length, loaded_words, take_words}
+use Rattle.plain.proofs.Words.{words_same, read_in, value_read}
 use Rattle.plain.proofs.Lists.Cells.{cell_within, values_same, values_length}
 
 module _ {V R : Type 0} (value_of : List ℕ → V) (size : ℕ) (some : 1 ≤ size) (few : size ≤ 128)
@@ -29,30 +29,18 @@ module _ {V R : Type 0} (value_of : List ℕ → V) (size : ℕ) (some : 1 ≤ s
   From n end last_room last a room words =
       EndsFrom (λ c (given : Unit {0}). pop_want c) (λ c given old. pop_after size c old) (pop_kept with_word) tt n end last_room last a room words
 
-  abbrev pub read_in : R → List ℕ → ℕ → ℕ → ℕ → R
-  read_in room ws k at zero = room
-  read_in room ws k at (suc n) =
-      read_in (with_word room at (slice_index ws (word_at k at))) ws k (at + 1) n
-
-  read_words : (room : R) (ws : List ℕ) (k at n : ℕ)
-      → words_in (read_in room ws k at n) ≡ loaded (words_in room) ws k at n
-  read_words room ws k at zero = refl
-  read_words room ws k at (suc n) =
-      read_words (with_word room at (slice_index ws (word_at k at))) ws k (at + 1) n
-      ∙ ap (λ xs. loaded xs ws k (at + 1) n) (put_in room at (slice_index ws (word_at k at)))
-
   -- the words of the cell, and then the read position
   loads : (p cell n at : ℕ) → at + suc n ≡ size → (room : R) (words : List ℕ)
-      → Ends (suc (suc n)) true (read_in room words cell at (suc n)) (slice_set words 1 (after_position p))
+      → Ends (suc (suc n)) true (read_in with_word room words cell at (suc n)) (slice_set words 1 (after_position p))
       (at_pop (first_pop capacity) (pops.TheVariants.LoadsCell p cell at)) room words
   loads p cell zero at end room words =
-      by_test (λ a. From 1 true (read_in room words cell at 1) (slice_set words 1 (after_position p)) a (with_word room at (slice_index words (word_at cell at))) words)
+      by_test (λ a. From 1 true (read_in with_word room words cell at 1) (slice_set words 1 (after_position p)) a (with_word room at (slice_index words (word_at cell at))) words)
       (nat_lt (at + 1) size) _ _
       (λ t. let more : at + 1 < size = grind (arith, nat_tests) in absurd (omega arith))
       (λ t. (refl, refl, refl))
   loads p cell (suc n) at end room words =
       let next = with_word room at (slice_index words (word_at cell at)) in
-      by_test (λ a. From (suc (suc n)) true (read_in room words cell at (suc (suc n))) (slice_set words 1 (after_position p)) a next words)
+      by_test (λ a. From (suc (suc n)) true (read_in with_word room words cell at (suc (suc n))) (slice_set words 1 (after_position p)) a next words)
       (nat_lt (at + 1) size) _ _
       (λ t. loads p cell n (at + 1) (omega arith) next words)
       (λ t. let less : size ≤ at + 1 = grind (arith, nat_tests) in absurd (omega arith))
@@ -69,10 +57,10 @@ module _ {V R : Type 0} (value_of : List ℕ → V) (size : ℕ) (some : 1 ≤ s
   comes_out : (n : ℕ) → suc n ≡ size → (room : R) (words : List ℕ) → capacity ≢ 0
       → slice_index words 0 ≢ slice_index words 1
       → Ends (suc (suc (suc (suc n)))) true
-      (read_in room words (cell_word capacity size (slice_index words 1)) 0 (suc n))
+      (read_in with_word room words (cell_word capacity size (slice_index words 1)) 0 (suc n))
       (slice_set words 1 (after_position (slice_index words 1))) (first_pop capacity) room words
   comes_out n is room words there other =
-      by_either (λ a. From (suc (suc n)) true (read_in room words (cell_word capacity size (slice_index words 1)) 0 (suc n)) (slice_set words 1 (after_position (slice_index words 1))) a room words)
+      by_either (λ a. From (suc (suc n)) true (read_in with_word room words (cell_word capacity size (slice_index words 1)) 0 (suc n)) (slice_set words 1 (after_position (slice_index words 1))) a room words)
       capacity 0 (slice_index words 0) (slice_index words 1) _ _
       (λ e. absurd (there e)) (λ e. absurd (other e))
       (λ _ _. loads (slice_index words 1) (cell_word capacity size (slice_index words 1)) n 0 (omega arith) room words)
@@ -115,7 +103,7 @@ module _ {V R : Type 0} (value_of : List ℕ → V) (size : ℕ) (some : 1 ≤ s
     cell = cell_word capacity size r
 
     abbrev last_room : R
-    last_room = read_in room words cell 0 size
+    last_room = read_in with_word room words cell 0 size
 
     abbrev last : List ℕ
     last = slice_set words 1 (after_position r)
@@ -152,16 +140,8 @@ module _ {V R : Type 0} (value_of : List ℕ → V) (size : ℕ) (some : 1 ≤ s
 
     own : value_in value_of size (words_in last_room) ≡ value_at value_of size capacity words r
     own =
-        let is : words_in last_room ≡ loaded (words_in room) words cell 0 size = read_words room words cell 0 size in
-        let long : length (loaded (words_in room) words cell 0 size) ≡ length (words_in room) = loaded_length (words_in room) words cell 0 size in
-        let enough : nat_lt (length (loaded (words_in room) words cell 0 size)) size ≡ false = grind (arith, nat_tests, long, wide) in
-        let words_are : take size (loaded (words_in room) words cell 0 size) ≡ words_from words (4 + size * (r % capacity)) size =
-        take_words (loaded (words_in room) words cell 0 size) size (omega arith)
-        ∙ loaded_words (words_in room) words cell 0 size small (omega arith)
-        ∙ ap (λ k. words_from words k size) (let c = cell_is in omega arith) in
-        ap (value_in value_of size) is
-        ∙ ap (λ b. if b then value_of (take size (replicate 128 0)) else value_of (take size (loaded (words_in room) words cell 0 size))) enough
-        ∙ ap value_of words_are
+        value_read value_of size words_in with_word put_in room words cell wide small
+        ∙ ap (λ k. value_of (words_from words k size)) cell_is
 
     comes_off : list last ≡ popped (list words)
     comes_off =
@@ -189,7 +169,7 @@ module _ {V R : Type 0} (value_of : List ℕ → V) (size : ℕ) (some : 1 ≤ s
     goes : Ends (suc (suc (suc (suc (size - 1))))) true last_room last (first_pop capacity) room words
     goes =
         let n : suc (size - 1) ≡ size = omega arith in
-        subst (λ k. Ends (suc (suc (suc (suc (size - 1))))) true (read_in room words cell 0 k) last (first_pop capacity) room words)
+        subst (λ k. Ends (suc (suc (suc (suc (size - 1))))) true (read_in with_word room words cell 0 k) last (first_pop capacity) room words)
         n (comes_out (size - 1) n room words has_room (λ e. absurd (omega arith)))
 
   abbrev pub PopRuns : Pop V R → R → List ℕ → Type 0
