@@ -5,6 +5,7 @@ pub mod Copied
 pub mod Enums
 pub mod Indices
 pub mod Laws
+pub mod Objects
 pub mod Picks
 pub mod Queues
 pub mod Routine

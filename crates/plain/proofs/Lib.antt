@@ -1,0 +1,5 @@
+pub mod Alone
+pub mod Lists
+pub mod Stacks
+pub mod Values
+pub mod Words

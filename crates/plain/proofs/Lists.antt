@@ -1,0 +1,4 @@
+pub mod Cells
+pub mod Pushes
+pub mod Pops
+pub mod Counts

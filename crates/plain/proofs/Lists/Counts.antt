@@ -1,0 +1,69 @@
+-- The number of values, counted alone.
+use Rattle.std.proofs.Common.{◌≡◌, ℕ, ◌+◌, ◌-◌, ◌≤◌, ◌<◌, ◌^◌, List, length, refl, sym, subst, ◌∙◌, arith, slice_index}
+use Rattle.steps.specs.Picks.{by_eq}
+use Rattle.steps.specs.Objects.Lists.{Bounded}
+use Rattle.steps.specs.Queues.Ring.{distance}
+use Rattle.steps.specs.Queues.Lengths.{number_waiting, first_len, len_want, len_after}
+use Rattle.steps.specs.declared.ask.After.{After}
+use Rattle.steps.specs.declared.queues.lengths.Len.{Len}
+use Rattle.plain.specs.Alone.{EndsFrom, Turns}
+use Rattle.plain.specs.Queues.{list_in, Fits}
+use Rattle.plain.specs.Overflowing as over
+use Rattle.plain.proofs.Alone.{Runs}
+use Rattle.plain.proofs.Lists.Cells.{values_length}
+
+module _ (capacity : ℕ) (words : List ℕ) where
+  abbrev From : ℕ → ℕ → After Len ℕ → Type 0
+  From n end a =
+      EndsFrom (λ c (given : Unit {0}). len_want c) (λ c given old. len_after c old) (λ c (room : Unit {0}) old. room) tt n end tt words a tt words
+
+  abbrev pub CountsTo : (ℕ → Type 0) → Len → Type 0
+  CountsTo P call =
+      Runs (λ (c : Len) (given : Unit {0}). len_want c) (λ c given old. len_after c old) (λ c (room : Unit {0}) old. room) tt
+      (λ end room last. P end × (last ≡ words)) call tt words
+
+  -- the positions stand, so that both are found twice
+  counts : (P : ℕ → Type 0) → slice_index words 1 ≤ slice_index words 0
+      → slice_index words 0 ≤ slice_index words 1 + capacity → slice_index words 0 < 2 ^ 64
+      → P (slice_index words 0 - slice_index words 1) → CountsTo P (first_len capacity)
+  counts P behind near fits holds =
+      let w = slice_index words 0 in
+      let r = slice_index words 1 in
+      let end = number_waiting capacity w r in
+      let is : end ≡ w - r =
+      by_eq (λ x. x ≡ w - r) capacity 0 0 (distance w r) (λ e. omega arith) (λ ne. omega arith) in
+      record {
+        steps = 4;
+        few = omega arith;
+        end = end;
+        last_room = tt;
+        last_words = words;
+        ends = by_eq (λ a. From 1 end a) w w _ _
+            (λ _. by_eq (λ a. From 0 end a) r r _ _ (λ _. (refl, refl, refl)) (λ ne. absurd (ne refl)))
+            (λ ne. absurd (ne refl));
+        holds = (subst P (sym is) holds, refl);
+      }
+
+module _ {V : Type 0} (value_of : List ℕ → V) (size capacity : ℕ) (call : Len)
+    (is : call ≡ first_len capacity) (words : List ℕ) (fits : Fits size capacity words) where
+  abbrev pub CountRuns : Type 0
+  CountRuns =
+      CountsTo capacity words (λ end. end ≡ length (list_in value_of size capacity words).values) call
+
+  pub count_runs : CountRuns
+  count_runs =
+      subst (CountsTo capacity words (λ end. end ≡ length (list_in value_of size capacity words).values)) (sym is)
+      (counts capacity words (λ end. end ≡ length (list_in value_of size capacity words).values) fits.behind fits.near fits.fits
+      (sym (values_length value_of size capacity words (slice_index words 1) (slice_index words 0 - slice_index words 1))))
+
+module _ (capacity : ℕ) (call : Len) (is : call ≡ first_len capacity) (words : List ℕ)
+    (fits : over.Fits capacity words) where
+  abbrev pub OverCountRuns : Type 0
+  OverCountRuns =
+      CountsTo capacity words (λ end. end ≡ length (over.list_in capacity words).values) call
+
+  pub over_count_runs : OverCountRuns
+  over_count_runs =
+      subst (CountsTo capacity words (λ end. end ≡ length (over.list_in capacity words).values)) (sym is)
+      (counts capacity words (λ end. end ≡ length (over.list_in capacity words).values) fits.behind fits.near fits.fits
+      (sym (values_length over.number_of 1 (capacity + 1) words (slice_index words 1) (slice_index words 0 - slice_index words 1))))

@@ -1,0 +1,210 @@
+-- A pop that runs alone.
+use Rattle.std.proofs.Common.{◌≡◌, ◌≢◌, ℕ, zero, suc, ◌+◌, ◌-◌, ◌*◌, ◌%◌, ◌^◌, ◌<◌, ◌≤◌, ◌⊎◌, inr, ⊎_elim, Bool, true, false, nat_lt, min, List, [], ◌∷◌, length, drop, take, replicate, Some, slice_get, refl, sym, ap, subst, ◌∙◌, arith, slice_index, slice_set, get_or-set_same, get_or-set_other, length-set, ne_eqb, if◌then◌else◌}
+use Rattle.std.proofs.Math.Nat.{mul-le-mul_right}
+use Rattle.std.proofs.lemmas.Bool.Decides.{nat_tests}
+use mathlib.Core.Logic.{dite}
+use native.Mathlib.Decide.{ℕ_discrete}
+use Rattle.steps.specs.Copied.{value_in}
+use Rattle.steps.specs.Picks.{by_test, by_either}
+use Rattle.steps.specs.Queues.Ring.{cell_word, after_position, word_at, at_pop, first_pop, pop_want, pop_after, pop_kept, pop_answer}
+use Rattle.steps.specs.declared.ask.After.{After}
+use Rattle.steps.specs.declared.queues.ring.Pop.{Pop}
+use Rattle.steps.specs.declared.queues.ring.PopStage as pops
+use Rattle.plain.specs.Alone.{EndsFrom, EndsIn, Turns}
+use Rattle.steps.specs.Objects.Lists.{Bounded, front, popped}
+use Rattle.plain.specs.Queues.{words_from, value_at, values_from, list_in, Fits}
+use Rattle.plain.proofs.Alone.{Runs}
+use Rattle.plain.proofs.Words.{words_same, read_in, value_read}
+use Rattle.plain.proofs.Lists.Cells.{cell_within, values_same, values_length}
+
+module _ {V R : Type 0} (value_of : List ℕ → V) (size : ℕ) (some : 1 ≤ size) (few : size ≤ 128)
+    (words_in : R → List ℕ) (with_word : R → ℕ → ℕ → R)
+    (put_in : (x : R) (at word : ℕ) → words_in (with_word x at word) ≡ slice_set (words_in x) at word)
+    (capacity : ℕ) where
+  abbrev Ends : ℕ → Bool → R → List ℕ → Pop V R → R → List ℕ → Type 0
+  Ends n end last_room last call room words =
+      EndsIn (λ c (given : Unit {0}). pop_want c) (λ c given old. pop_after size c old) (pop_kept with_word) tt n end last_room last call room words
+
+  abbrev From : ℕ → Bool → R → List ℕ → After (Pop V R) Bool → R → List ℕ → Type 0
+  From n end last_room last a room words =
+      EndsFrom (λ c (given : Unit {0}). pop_want c) (λ c given old. pop_after size c old) (pop_kept with_word) tt n end last_room last a room words
+
+  -- the words of the cell, and then the read position
+  loads : (p cell n at : ℕ) → at + suc n ≡ size → (room : R) (words : List ℕ)
+      → Ends (suc (suc n)) true (read_in with_word room words cell at (suc n)) (slice_set words 1 (after_position p))
+      (at_pop (first_pop capacity) (pops.TheVariants.LoadsCell p cell at)) room words
+  loads p cell zero at end room words =
+      by_test (λ a. From 1 true (read_in with_word room words cell at 1) (slice_set words 1 (after_position p)) a (with_word room at (slice_index words (word_at cell at))) words)
+      (nat_lt (at + 1) size) _ _
+      (λ t. let more : at + 1 < size = grind (arith, nat_tests) in absurd (omega arith))
+      (λ t. (refl, refl, refl))
+  loads p cell (suc n) at end room words =
+      let next = with_word room at (slice_index words (word_at cell at)) in
+      by_test (λ a. From (suc (suc n)) true (read_in with_word room words cell at (suc (suc n))) (slice_set words 1 (after_position p)) a next words)
+      (nat_lt (at + 1) size) _ _
+      (λ t. loads p cell n (at + 1) (omega arith) next words)
+      (λ t. let less : size ≤ at + 1 = grind (arith, nat_tests) in absurd (omega arith))
+
+  -- ---- two ways through
+
+  finds_none : (room : R) (words : List ℕ) → (capacity ≡ 0) ⊎ (slice_index words 0 ≡ slice_index words 1)
+      → Ends 2 false room words (first_pop capacity) room words
+  finds_none room words empty =
+      by_either (λ a. From 0 false room words a room words) capacity 0 (slice_index words 0) (slice_index words 1) _ _
+      (λ _. (refl, refl, refl)) (λ _. (refl, refl, refl))
+      (λ there other. ⊎_elim (λ e. absurd (there e)) (λ e. absurd (other e)) empty)
+
+  comes_out : (n : ℕ) → suc n ≡ size → (room : R) (words : List ℕ) → capacity ≢ 0
+      → slice_index words 0 ≢ slice_index words 1
+      → Ends (suc (suc (suc (suc n)))) true
+      (read_in with_word room words (cell_word capacity size (slice_index words 1)) 0 (suc n))
+      (slice_set words 1 (after_position (slice_index words 1))) (first_pop capacity) room words
+  comes_out n is room words there other =
+      by_either (λ a. From (suc (suc n)) true (read_in with_word room words (cell_word capacity size (slice_index words 1)) 0 (suc n)) (slice_set words 1 (after_position (slice_index words 1))) a room words)
+      capacity 0 (slice_index words 0) (slice_index words 1) _ _
+      (λ e. absurd (there e)) (λ e. absurd (other e))
+      (λ _ _. loads (slice_index words 1) (cell_word capacity size (slice_index words 1)) n 0 (omega arith) room words)
+
+  -- ---- what it makes of the list
+
+  abbrev list : List ℕ → Bounded V
+  list words = list_in value_of size capacity words
+
+  abbrev pub Popped : List ℕ → Bool → R → List ℕ → Type 0
+  Popped words end room last =
+      Turns (Fits size capacity) list front popped words
+      (pop_answer (value_in value_of size (words_in room)) end) last
+
+  stays_empty : (room : R) (words : List ℕ) → Fits size capacity words
+      → slice_index words 0 ≡ slice_index words 1 → Popped words false room words
+  stays_empty room words fits e =
+      let none : slice_index words 0 - slice_index words 1 ≡ 0 = omega arith in
+      let empty : values_from value_of size capacity words (slice_index words 1) (slice_index words 0 - slice_index words 1) ≡ [] =
+      ap (values_from value_of size capacity words (slice_index words 1)) none in
+      let first : slice_index words 1 ≡ slice_index words 1 + min 1 0 = omega arith in (
+        fits,
+        ap (λ xs. slice_get xs 0) (sym empty),
+        λ i. record {
+          capacity = capacity;
+          first = (first ∙ ap (λ xs. slice_index words 1 + min 1 (length xs)) (sym empty)) i;
+          values = (empty ∙ ap (drop 1) (sym empty)) i;
+        },
+      )
+
+  module _ (room : R) (wide : size ≤ length (words_in room)) (words : List ℕ) (fits : Fits size capacity words)
+      (m : ℕ) (there : slice_index words 0 - slice_index words 1 ≡ suc m) where
+    abbrev w : ℕ
+    w = slice_index words 0
+
+    abbrev r : ℕ
+    r = slice_index words 1
+
+    abbrev cell : ℕ
+    cell = cell_word capacity size r
+
+    abbrev last_room : R
+    last_room = read_in with_word room words cell 0 size
+
+    abbrev last : List ℕ
+    last = slice_set words 1 (after_position r)
+
+    has_room : capacity ≢ 0
+    has_room e = let near = fits.near in let behind = fits.behind in absurd (omega arith)
+
+    cell_is : cell ≡ 4 + size * (r % capacity)
+    cell_is = ap (λ b. if b then 4 else 4 + size * (r % capacity)) (ne_eqb capacity 0 has_room)
+
+    small : cell + 0 + size < 2 ^ 64
+    small =
+        let c = cell_is in
+        let i = cell_within capacity size r (omega (arith, has_room)) in
+        let t : size * capacity ≤ 128 * capacity = mul-le-mul_right capacity few in
+        let s = fits.small in omega arith
+
+    read_is : slice_index last 1 ≡ r + 1
+    read_is =
+        let f = fits.fits in let b = fits.behind in let long = fits.long in
+        get_or-set_same words 1 (after_position r) 0 (omega arith) ∙ omega arith
+
+    kept_word : (j : ℕ) → j ≢ 1 → slice_index last j ≡ slice_index words j
+    kept_word j other = get_or-set_other words 1 j (after_position r) 0 other
+
+    last_fits : Fits size capacity last
+    last_fits =
+        let a = read_is in
+        let b = kept_word 0 (omega arith) in
+        let near = fits.near in
+        let behind = fits.behind in
+        let f = fits.fits in
+        record { long = length-set words 1 (after_position r) ∙ fits.long; small = fits.small; behind = omega arith; near = omega arith; fits = omega arith }
+
+    own : value_in value_of size (words_in last_room) ≡ value_at value_of size capacity words r
+    own =
+        value_read value_of size words_in with_word put_in room words cell wide small
+        ∙ ap (λ k. value_of (words_from words k size)) cell_is
+
+    comes_off : list last ≡ popped (list words)
+    comes_off =
+        let a = read_is in
+        let b = kept_word 0 (omega arith) in
+        let behind = fits.behind in
+        let many : slice_index last 0 - slice_index last 1 ≡ m = omega arith in
+        let all : values_from value_of size capacity words r (w - r) ≡ value_at value_of size capacity words r ∷ values_from value_of size capacity words (r + 1) m =
+        ap (values_from value_of size capacity words r) there in
+        let same : values_from value_of size capacity last (r + 1) m ≡ values_from value_of size capacity words (r + 1) m =
+        values_same value_of size capacity last words (r + 1) m
+        (λ q low high. ap value_of (words_same last words (4 + size * (q % capacity)) size (λ i from below. kept_word i (omega arith)))) in
+        let first : slice_index last 1 ≡ r + min 1 (length (values_from value_of size capacity words r (w - r))) =
+        let long = values_length value_of size capacity words r (w - r) in omega arith in
+        let values : values_from value_of size capacity last (slice_index last 1) (slice_index last 0 - slice_index last 1) ≡ drop 1 (values_from value_of size capacity words r (w - r)) =
+        (λ i. values_from value_of size capacity last (a i) (many i)) ∙ same ∙ ap (drop 1) (sym all) in
+        λ i. record { capacity = capacity; first = first i; values = values i }
+
+    last_popped : Popped words true last_room last
+    last_popped =
+        let all : values_from value_of size capacity words r (w - r) ≡ value_at value_of size capacity words r ∷ values_from value_of size capacity words (r + 1) m =
+        ap (values_from value_of size capacity words r) there in
+        (last_fits, ap Some own ∙ sym (ap (λ xs. slice_get xs 0) all), comes_off)
+
+    goes : Ends (suc (suc (suc (suc (size - 1))))) true last_room last (first_pop capacity) room words
+    goes =
+        let n : suc (size - 1) ≡ size = omega arith in
+        subst (λ k. Ends (suc (suc (suc (suc (size - 1))))) true (read_in with_word room words cell 0 k) last (first_pop capacity) room words)
+        n (comes_out (size - 1) n room words has_room (λ e. absurd (omega arith)))
+
+  abbrev pub PopRuns : Pop V R → R → List ℕ → Type 0
+  PopRuns call room words =
+      Runs (λ (c : Pop V R) (given : Unit {0}). pop_want c) (λ c given old. pop_after size c old) (pop_kept with_word) tt
+      (Popped words) call room words
+
+  runs_first : (room : R) → size ≤ length (words_in room) → (words : List ℕ) → Fits size capacity words
+      → PopRuns (first_pop capacity) room words
+  runs_first room wide words fits =
+      dite (ℕ_discrete (slice_index words 0) (slice_index words 1))
+      (λ e. record {
+        steps = 2;
+        few = omega arith;
+        end = false;
+        last_room = room;
+        last_words = words;
+        ends = finds_none room words (inr e);
+        holds = stays_empty room words fits e;
+      })
+      (λ other.
+      let m = slice_index words 0 - slice_index words 1 - 1 in
+      let there : slice_index words 0 - slice_index words 1 ≡ suc m = let b = fits.behind in omega (arith, other) in
+      record {
+        steps = suc (suc (suc (suc (size - 1))));
+        few = omega arith;
+        end = true;
+        last_room = last_room room wide words fits m there;
+        last_words = last room wide words fits m there;
+        ends = goes room wide words fits m there;
+        holds = last_popped room wide words fits m there;
+      })
+
+  pub pop_runs : (call : Pop V R) → call ≡ first_pop capacity → (room : R)
+      → size ≤ length (words_in room) → (words : List ℕ) → Fits size capacity words
+      → PopRuns call room words
+  pop_runs call is room wide words fits =
+      subst (λ c. PopRuns c room words) (sym is) (runs_first room wide words fits)

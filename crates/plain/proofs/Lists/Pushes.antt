@@ -1,0 +1,291 @@
+-- A push that runs alone.
+use Rattle.std.proofs.Common.{◌≡◌, ◌≢◌, ℕ, zero, suc, ◌+◌, ◌-◌, ◌*◌, ◌%◌, ◌^◌, ◌<◌, ◌≤◌, ◌⊎◌, inl, inr, ⊎_elim, Bool, true, false, not, ◌&&◌, ◌==◌, nat_lt, List, [], ◌∷◌, ◌++◌, length, refl, sym, ap, subst, ◌∙◌, arith, slice_index, slice_set, get_or-set_same, get_or-set_other, length-set, eq-eqb, ne_eqb, if◌then◌else◌, true≢false}
+use Rattle.std.proofs.Math.Nat.{mul-le-mul_right}
+use Rattle.std.proofs.lemmas.Bool.Decides.{nat_tests}
+use Rattle.std.proofs.lemmas.Bool.{cases_lt}
+use Rattle.steps.specs.Picks.{by_test, by_eq, by_either}
+use Rattle.steps.specs.Queues.Ring.{cell_word, distance, after_position, word_at, at_push, first_push, push_want, push_after}
+use Rattle.steps.specs.declared.ask.After.{After}
+use Rattle.steps.specs.declared.queues.ring.Push.{Push}
+use Rattle.steps.specs.declared.queues.ring.PushStage as pushes
+use Rattle.plain.specs.Alone.{EndsFrom, EndsIn, Turns}
+use Rattle.steps.specs.Objects.Lists.{Bounded, takes_more, pushed}
+use Rattle.plain.specs.Queues.{words_from, value_at, values_from, list_in, Fits}
+use mathlib.Core.Logic.{dite}
+use native.Mathlib.Decide.{ℕ_discrete}
+use Rattle.plain.proofs.Alone.{Runs}
+use Rattle.plain.proofs.Words.{words_same, words_all, stored, stored_length, stored_other, stored_words}
+use Rattle.plain.proofs.Lists.Cells.{cell_within, cells_apart, values_same, values_length, values_more}
+
+-- a push that does not take its value, and one that does
+module _ {V : Type 0} (value : V) (q : Bounded V) where
+  abbrev made : Bool → Bool → Bounded V
+  made room position =
+      if position then record q { values = if room then q.values ++ value ∷ [] else q.values } else q
+
+  left_out : (room position : Bool) → (room && position) ≡ false → made room position ≡ q
+  left_out true true h = absurd (true≢false h)
+  left_out true false h = refl
+  left_out false true h = refl
+  left_out false false h = refl
+
+  let_in : (room position : Bool) → (room && position) ≡ true
+      → made room position ≡ record q { values = q.values ++ value ∷ [] }
+  let_in true true h = refl
+  let_in true false h = absurd (true≢false (sym h))
+  let_in false true h = absurd (true≢false (sym h))
+  let_in false false h = absurd (true≢false (sym h))
+
+module _ {V : Type 0} (words_of : V → List ℕ) (value_of : List ℕ → V) (size : ℕ)
+    (sized : (x : V) → length (words_of x) ≡ size) (given_back : (x : V) → value_of (words_of x) ≡ x)
+    (some : 1 ≤ size) (few : size ≤ 128) (capacity : ℕ) (value : V) where
+  abbrev Ends : ℕ → Bool → List ℕ → Push V → List ℕ → Type 0
+  Ends n end last call words =
+      EndsIn (push_want words_of) (λ c given old. push_after size c old) (λ c (room : Unit {0}) old. room) value n end tt last call tt words
+
+  abbrev From : ℕ → Bool → List ℕ → After (Push V) Bool → List ℕ → Type 0
+  From n end last a words =
+      EndsFrom (push_want words_of) (λ c given old. push_after size c old) (λ c (room : Unit {0}) old. room) value n end tt last a tt words
+
+  -- the words of the value, and then the write position
+  stores : (p cell n at : ℕ) → at + suc n ≡ size → (words : List ℕ)
+      → Ends (suc (suc n)) true
+      (slice_set (stored words cell (words_of value) at (suc n)) 0 (after_position p))
+      (at_push (first_push capacity) (pushes.TheVariants.StoresCell p cell at)) words
+  stores p cell zero at end words =
+      by_test (λ a. From 1 true (slice_set (stored words cell (words_of value) at 1) 0 (after_position p)) a (slice_set words (word_at cell at) (slice_index (words_of value) at)))
+      (nat_lt (at + 1) size) _ _
+      (λ t. let more : at + 1 < size = grind (arith, nat_tests) in absurd (omega arith))
+      (λ t. (refl, refl, refl))
+  stores p cell (suc n) at end words =
+      let next = slice_set words (word_at cell at) (slice_index (words_of value) at) in
+      by_test (λ a. From (suc (suc n)) true (slice_set (stored words cell (words_of value) at (suc (suc n))) 0 (after_position p)) a next)
+      (nat_lt (at + 1) size) _ _
+      (λ t. stores p cell n (at + 1) (omega arith) next)
+      (λ t. let less : size ≤ at + 1 = grind (arith, nat_tests) in absurd (omega arith))
+
+  -- ---- three ways through
+
+  no_position : (words : List ℕ) → slice_index words 0 ≡ 2 ^ 64 - 1
+      → Ends 1 false words (first_push capacity) words
+  no_position words e =
+      by_eq (λ a. From 0 false words a words) (slice_index words 0) (2 ^ 64 - 1) _ _
+      (λ _. (refl, refl, refl)) (λ other. absurd (other e))
+
+  no_room : (words : List ℕ) → slice_index words 0 ≢ 2 ^ 64 - 1
+      → (capacity ≡ 0) ⊎ (distance (slice_index words 0) (slice_index words 1) ≡ capacity)
+      → Ends 2 false words (first_push capacity) words
+  no_room words position full =
+      by_eq (λ a. From 1 false words a words) (slice_index words 0) (2 ^ 64 - 1) _ _
+      (λ e. absurd (position e))
+      (λ _. by_either (λ a. From 0 false words a words) capacity 0
+      (distance (slice_index words 0) (slice_index words 1)) capacity _ _
+      (λ _. (refl, refl, refl)) (λ _. (refl, refl, refl))
+      (λ some_room near. ⊎_elim (λ e. absurd (some_room e)) (λ e. absurd (near e)) full))
+
+  abbrev taken : List ℕ → List ℕ
+  taken words =
+      slice_set (stored words (cell_word capacity size (slice_index words 0)) (words_of value) 0 size) 0
+      (after_position (slice_index words 0))
+
+  goes_in : (n : ℕ) → suc n ≡ size → (words : List ℕ) → slice_index words 0 ≢ 2 ^ 64 - 1 → capacity ≢ 0
+      → distance (slice_index words 0) (slice_index words 1) ≢ capacity
+      → Ends (suc (suc (suc (suc n)))) true
+      (slice_set (stored words (cell_word capacity size (slice_index words 0)) (words_of value) 0 (suc n)) 0
+      (after_position (slice_index words 0))) (first_push capacity) words
+  goes_in n is words position room near =
+      let last = slice_set (stored words (cell_word capacity size (slice_index words 0)) (words_of value) 0 (suc n)) 0 (after_position (slice_index words 0)) in
+      by_eq (λ a. From (suc (suc (suc n))) true last a words) (slice_index words 0) (2 ^ 64 - 1) _ _
+      (λ e. absurd (position e))
+      (λ _. by_either (λ a. From (suc (suc n)) true last a words) capacity 0
+      (distance (slice_index words 0) (slice_index words 1)) capacity _ _
+      (λ e. absurd (room e)) (λ e. absurd (near e))
+      (λ _ _. stores (slice_index words 0) (cell_word capacity size (slice_index words 0)) n 0 (omega arith) words))
+
+  -- ---- what it makes of the list
+
+  abbrev list : List ℕ → Bounded V
+  list words = list_in value_of size capacity words
+
+  abbrev pub Pushed : List ℕ → Bool → Unit {0} → List ℕ → Type 0
+  Pushed words end room last =
+      Turns (Fits size capacity) list takes_more (λ q. pushed q value) words end last
+
+  -- in numbers
+  takes_numbers : (words : List ℕ) → Fits size capacity words
+      → takes_more (list words) ≡ nat_lt (slice_index words 0 - slice_index words 1) capacity && not (slice_index words 0 == 2 ^ 64 - 1)
+  takes_numbers words fits =
+      let r : ℕ = slice_index words 1 in
+      let w : ℕ = slice_index words 0 in
+      let behind = fits.behind in
+      let long = values_length value_of size capacity words r (w - r) in
+      ap (λ n. nat_lt n capacity && not (r + n == 2 ^ 64 - 1)) long
+      ∙ ap (λ n. nat_lt (w - r) capacity && not (n == 2 ^ 64 - 1)) (omega arith)
+
+  stays_out : (words : List ℕ) → Fits size capacity words → takes_more (list words) ≡ false
+      → Pushed words false tt words
+  stays_out words fits refused =
+      (fits, sym refused, sym (left_out value (list words) _ _ refused))
+
+  same_place : (k : ℕ) (words vs : List ℕ) → ((i : ℕ) → k ≤ i → i < k + size → slice_index words i ≡ slice_index vs i)
+      → value_of (words_from words k size) ≡ value_of (words_from vs k size)
+  same_place k words vs h = ap value_of (words_same words vs k size h)
+
+  module _ (words : List ℕ) (fits : Fits size capacity words) (position : slice_index words 0 ≢ 2 ^ 64 - 1)
+      (room : capacity ≢ 0) (near : slice_index words 0 - slice_index words 1 < capacity) where
+    abbrev w : ℕ
+    w = slice_index words 0
+
+    abbrev r : ℕ
+    r = slice_index words 1
+
+    abbrev cell : ℕ
+    cell = cell_word capacity size w
+
+    abbrev cells : List ℕ
+    cells = stored words cell (words_of value) 0 size
+
+    abbrev last : List ℕ
+    last = slice_set cells 0 (after_position w)
+
+    cell_is : cell ≡ 4 + size * (w % capacity)
+    cell_is = ap (λ b. if b then 4 else 4 + size * (w % capacity)) (ne_eqb capacity 0 room)
+
+    table : size * capacity ≤ 128 * capacity
+    table = mul-le-mul_right capacity few
+
+    long : length words ≡ 4 + size * capacity
+    long = fits.long
+
+    in_cell : cell + size ≤ 4 + size * capacity
+    in_cell = let c = cell_is in let i = cell_within capacity size w (omega (arith, room)) in omega arith
+
+    small : cell + 0 + size < 2 ^ 64
+    small = let i = in_cell in let t = table in let s = fits.small in omega arith
+
+    cells_long : length cells ≡ length words
+    cells_long = stored_length words cell (words_of value) 0 size
+
+    last_long : length last ≡ 4 + size * capacity
+    last_long = length-set cells 0 (after_position w) ∙ cells_long ∙ long
+
+    next_is : after_position w ≡ w + 1
+    next_is = let f = fits.fits in omega (arith, position)
+
+    write_is : slice_index last 0 ≡ w + 1
+    write_is = get_or-set_same cells 0 (after_position w) 0 (let a = cells_long in let b = long in omega arith) ∙ next_is
+
+    -- a word before the cell, or behind it
+    kept_word : (j : ℕ) → j ≢ 0 → (j < cell) ⊎ (cell + size ≤ j) → slice_index last j ≡ slice_index words j
+    kept_word j other out =
+        get_or-set_other cells 0 j (after_position w) 0 other
+        ∙ stored_other words cell (words_of value) 0 size j small (⊎_elim (λ h. inl (omega arith)) (λ h. inr (omega arith)) out)
+
+    read_is : slice_index last 1 ≡ r
+    read_is = kept_word 1 (omega arith) (inl (let c = cell_is in omega arith))
+
+    last_fits : Fits size capacity last
+    last_fits =
+        let a = write_is in
+        let b = read_is in
+        let f = fits.fits in
+        let h = fits.behind in
+        record { long = last_long; small = fits.small; behind = omega arith; near = omega arith; fits = omega (arith, position) }
+
+    own : value_at value_of size capacity last w ≡ value
+    own =
+        let at : words_from cells cell size ≡ words_of value =
+        subst (λ k. words_from cells k size ≡ words_of value) (omega arith)
+        (stored_words words cell (words_of value) 0 size small (let a = in_cell in let b = long in omega arith)
+        ∙ subst (λ n. words_from (words_of value) 0 n ≡ words_of value) (sized value) (words_all (words_of value))) in
+        let same : words_from last cell size ≡ words_from cells cell size =
+        words_same last cells cell size (λ i low high. get_or-set_other cells 0 i (after_position w) 0 (λ e. let c = cell_is in absurd (omega arith))) in
+        subst (λ k. value_of (words_from last k size) ≡ value) cell_is (ap value_of (same ∙ at) ∙ given_back value)
+
+    kept_value : (q : ℕ) → r ≤ q → q < w → value_at value_of size capacity last q ≡ value_at value_of size capacity words q
+    kept_value q low high =
+        let apart = cells_apart capacity size q w high (omega arith) in
+        let c = cell_is in
+        same_place (4 + size * (q % capacity)) last words
+        (λ i from below. kept_word i (λ e. absurd (omega arith))
+        (⊎_elim (λ h. inl (omega arith)) (λ h. inr (omega arith)) apart))
+
+    comes_in : list last ≡ record (list words) { values = (list words).values ++ value ∷ [] }
+    comes_in =
+        let a = write_is in
+        let b = read_is in
+        let behind = fits.behind in
+        let many : slice_index last 0 - slice_index last 1 ≡ suc (w - r) = omega arith in
+        let end : r + (w - r) ≡ w = omega arith in
+        let front : values_from value_of size capacity last r (w - r) ≡ values_from value_of size capacity words r (w - r) =
+        values_same value_of size capacity last words r (w - r) (λ q low high. kept_value q low (omega arith)) in
+        let back : value_at value_of size capacity last (r + (w - r)) ≡ value =
+        ap (value_at value_of size capacity last) end ∙ own in
+        let values : values_from value_of size capacity last (slice_index last 1) (slice_index last 0 - slice_index last 1) ≡ values_from value_of size capacity words r (w - r) ++ value ∷ [] =
+        subst (λ (z : ℕ × ℕ). values_from value_of size capacity last z.0 z.1 ≡ values_from value_of size capacity words r (w - r) ++ value ∷ [])
+        (λ i. (sym b i, sym many i))
+        (values_more value_of size capacity last r (w - r) ∙ (λ i. front i ++ back i ∷ [])) in
+        λ i. record { capacity = capacity; first = b i; values = values i }
+
+    last_pushed : Pushed words true tt last
+    last_pushed =
+        let takes : takes_more (list words) ≡ true =
+        takes_numbers words fits
+        ∙ (let a : nat_lt (w - r) capacity ≡ true = grind (arith, nat_tests, near) in
+        let b : (w == 2 ^ 64 - 1) ≡ false = ne_eqb w (2 ^ 64 - 1) position in
+        λ i. a i && not (b i)) in
+        (last_fits, sym takes, comes_in ∙ sym (let_in value (list words) _ _ takes))
+
+    goes : Ends (suc (suc (suc (suc (size - 1))))) true last (first_push capacity) words
+    goes =
+        let n : suc (size - 1) ≡ size = omega arith in
+        let apart : distance w r ≢ capacity = λ e. let b = fits.behind in let f = fits.fits in absurd (omega arith) in
+        subst (λ k. Ends (suc (suc (suc (suc (size - 1))))) true (slice_set (stored words cell (words_of value) 0 k) 0 (after_position w)) (first_push capacity) words)
+        n (goes_in (size - 1) n words position room apart)
+
+  abbrev pub PushRuns : Push V → List ℕ → Type 0
+  PushRuns call words =
+      Runs (push_want words_of) (λ c given old. push_after size c old) (λ c (room : Unit {0}) old. room) value
+      (Pushed words) call tt words
+
+  runs_first : (words : List ℕ) → Fits size capacity words → PushRuns (first_push capacity) words
+  runs_first words fits =
+      dite (ℕ_discrete (slice_index words 0) (2 ^ 64 - 1))
+      (λ e. record {
+        steps = 1;
+        few = omega arith;
+        end = false;
+        last_room = tt;
+        last_words = words;
+        ends = no_position words e;
+        holds = stays_out words fits (takes_numbers words fits ∙ (let b : (slice_index words 0 == 2 ^ 64 - 1) ≡ true = eq-eqb _ _ e in grind (arith, b, nat_tests)));
+      })
+      (λ position.
+      ⊎_elim (λ (near : slice_index words 0 - slice_index words 1 < capacity).
+      let room : capacity ≢ 0 = λ e. absurd (omega arith) in
+      record {
+        steps = suc (suc (suc (suc (size - 1))));
+        few = omega arith;
+        end = true;
+        last_room = tt;
+        last_words = last words fits position room near;
+        ends = goes words fits position room near;
+        holds = last_pushed words fits position room near;
+      })
+      (λ (far : capacity ≤ slice_index words 0 - slice_index words 1).
+      let full : (capacity ≡ 0) ⊎ (distance (slice_index words 0) (slice_index words 1) ≡ capacity) =
+      inr (let a = fits.near in let b = fits.behind in let c = fits.fits in omega arith) in
+      record {
+        steps = 2;
+        few = omega arith;
+        end = false;
+        last_room = tt;
+        last_words = words;
+        ends = no_room words position full;
+        holds = stays_out words fits (takes_numbers words fits ∙ (let b : nat_lt (slice_index words 0 - slice_index words 1) capacity ≡ false = grind (arith, nat_tests, far) in ap (λ z. z && not (slice_index words 0 == 2 ^ 64 - 1)) b));
+      })
+      (cases_lt (slice_index words 0 - slice_index words 1) capacity))
+
+  pub push_runs : (call : Push V) → call ≡ first_push capacity → (words : List ℕ)
+      → Fits size capacity words → PushRuns call words
+  push_runs call is words fits = subst (λ c. PushRuns c words) (sym is) (runs_first words fits)

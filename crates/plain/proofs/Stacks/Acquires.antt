@@ -1,0 +1,260 @@
+-- An acquire that runs alone.
+use Rattle.std.proofs.Common.{◌≡◌, ◌≢◌, ℕ, suc, ◌+◌, ◌-◌, ◌%◌, ◌^◌, ◌<◌, ⊎_elim, true, false, not, ◌==◌, eqb, eq-eqb, ne_eqb, if◌then◌else◌, nat_lt, List, [], ◌∷◌, length, drop, refl, sym, ap, subst, ◌∙◌, arith, slice_index, slice_set, get_or-set_same, get_or-set_other, length-set, true≢false}
+use Rattle.std.specs.Prelude.{bit_or, Ok, Err}
+use Rattle.std.specs.List.{IsDistinct}
+use Rattle.std.proofs.lemmas.Bool.Decides.{nat_tests, eqb_tells}
+use Rattle.std.proofs.lemmas.Bool.{cases_Bool}
+use Rattle.steps.specs.Picks.{by_test, by_eq}
+use Rattle.steps.specs.Indices.Head.{next_word, flag_word, flag, proposed, borrowed, locked, says_locked}
+use Rattle.steps.specs.Indices.Unique.{Acquired, first_acquire, at_acquire, head_taken, first_claim, acquire_want, acquire_after, borrowed_number}
+use Rattle.steps.specs.declared.ask.After.{After}
+use Rattle.steps.specs.declared.ask.After.TheVariants.{GoOn}
+use Rattle.steps.specs.declared.indices.enums.UniqueIndexSetAcquireFailure.TheVariants as failures
+use Rattle.steps.specs.declared.indices.unique.Acquire.{Acquire}
+use Rattle.plain.specs.Alone.{EndsFrom, EndsIn, Turns}
+use Rattle.steps.specs.Objects.Stacks.{top, acquired, after_acquire}
+use Rattle.plain.specs.Unique.{chain, free_in, stack_in, claimed, Fits}
+use Rattle.plain.proofs.Alone.{Runs}
+use Rattle.plain.proofs.Stacks.Chains.{is_in, in_first, in_rest, in_other, one_less, chain_same, claimed_elsewhere, claims, claims_leave}
+
+module _ (capacity : ℕ) where
+  abbrev Ends : ℕ → Acquired → List ℕ → Acquire → List ℕ → Type 0
+  Ends n end last call words =
+      EndsIn (λ c (given : Unit {0}). acquire_want c) (λ c given old. acquire_after c old) (λ c (room : Unit {0}) old. room) tt n end tt last call tt words
+
+  abbrev From : ℕ → Acquired → List ℕ → After Acquire Acquired → List ℕ → Type 0
+  From n end last a words =
+      EndsFrom (λ c (given : Unit {0}). acquire_want c) (λ c given old. acquire_after c old) (λ c (room : Unit {0}) old. room) tt n end tt last a tt words
+
+  abbrev pub Took : List ℕ → Acquired → Unit {0} → List ℕ → Type 0
+  Took words end room last =
+      Turns (Fits capacity) (stack_in capacity) acquired after_acquire words end last
+
+  abbrev pub TakeRuns : Acquire → List ℕ → Type 0
+  TakeRuns call words =
+      Runs (λ (c : Acquire) (given : Unit {0}). acquire_want c) (λ c given old. acquire_after c old) (λ c (room : Unit {0}) old. room) tt
+      (Took words) call tt words
+
+  -- ---- the three ways through
+
+  finds_locked : (words : List ℕ) → says_locked (slice_index words 0) ≡ true → Ends 1 (Err failures.IsLocked) words (first_acquire capacity) words
+  finds_locked words shut =
+      by_test (λ a. From 0 (Err failures.IsLocked) words a words) (says_locked (slice_index words 0)) _ _
+      (λ _. (refl, refl, refl)) (λ unlocked. absurd (true≢false (sym shut ∙ unlocked)))
+
+  finds_none : (words : List ℕ) → says_locked (slice_index words 0) ≡ false → borrowed (slice_index words 0) ≡ capacity
+      → Ends 1 (Err failures.OutOfIndices) words (first_acquire capacity) words
+  finds_none words unlocked all =
+      by_test (λ a. From 0 (Err failures.OutOfIndices) words a words) (says_locked (slice_index words 0)) _ _
+      (λ shut. absurd (true≢false (sym shut ∙ unlocked)))
+      (λ _. by_eq (λ a. From 0 (Err failures.OutOfIndices) words a words) (borrowed (slice_index words 0)) capacity _ _
+      (λ _. (refl, refl, refl)) (λ other. absurd (other all)))
+
+  module _ (words : List ℕ) where
+    abbrev h : ℕ
+    h = slice_index words 0
+
+    abbrev p : ℕ
+    p = proposed h
+
+    abbrev next : ℕ
+    next = slice_index words (next_word p) % 2 ^ 24
+
+    abbrev headed : List ℕ
+    headed = slice_set words 0 (head_taken h next)
+
+    abbrev last : List ℕ
+    last = slice_set headed (flag_word capacity p) (bit_or (slice_index headed (flag_word capacity p)) (flag p))
+
+    takes_top : says_locked h ≡ false → borrowed h ≢ capacity → p < capacity → claimed capacity headed p ≡ false
+        → Ends 4 (Ok p) last (first_acquire capacity) words
+    takes_top unlocked some own clear =
+        let below : nat_lt p capacity ≡ true = grind (arith, nat_tests, own) in
+        let written : (if h == h then headed else words) ≡ headed = ap (λ b. if b then headed else words) (eq-eqb h h refl) in
+        by_test (λ a. From 3 (Ok p) last a words) (says_locked h) _ _
+        (λ shut. absurd (true≢false (sym shut ∙ unlocked)))
+        (λ _. by_eq (λ a. From 3 (Ok p) last a words) (borrowed h) capacity _ _
+        (λ all. absurd (some all))
+        (λ _. by_test (λ a. From 3 (Ok p) last a words) (nat_lt p capacity) _ _
+        (λ _. by_eq (λ a. From 1 (Ok p) last a (if h == h then headed else words)) h h _ _
+        (λ _. subst (λ ws. From 1 (Ok p) last (GoOn (at_acquire (first_acquire capacity) (first_claim capacity h))) ws) (sym written)
+        (by_test (λ stage. Ends 1 (Ok p) last (at_acquire (first_acquire capacity) stage) headed) (nat_lt p capacity) _ _
+        (λ _. by_test (λ a. From 0 (Ok p) last a last) (claimed capacity headed p) _ _
+        (λ stood. absurd (true≢false (sym stood ∙ clear)))
+        (λ _. (refl, refl, refl)))
+        (λ t. absurd (true≢false (sym below ∙ t)))))
+        (λ other. absurd (other refl)))
+        (λ t. absurd (true≢false (sym below ∙ t)))))
+
+  -- ---- what it makes of the stack
+
+  number_of : (words : List ℕ) → says_locked (slice_index words 0) ≡ false → borrowed_number (slice_index words 0) ≡ borrowed (slice_index words 0)
+  number_of words unlocked = ap (λ b. if b then 0 else borrowed (slice_index words 0)) unlocked
+
+  stays_locked : (words : List ℕ) → Fits capacity words → says_locked (slice_index words 0) ≡ true → Took words (Err failures.IsLocked) tt words
+  stays_locked words fits shut = (
+    fits,
+    sym (ap (λ b. if b then Err failures.IsLocked else top (free_in capacity words)) shut),
+    sym (ap (λ b. if b then stack_in capacity words else record (stack_in capacity words) { free = drop 1 (free_in capacity words) }) shut),
+  )
+
+  -- an unlocked set answers with the top
+  answers : (words : List ℕ) → says_locked (slice_index words 0) ≡ false → acquired (stack_in capacity words) ≡ top (free_in capacity words)
+  answers words unlocked = ap (λ b. if b then Err failures.IsLocked else top (free_in capacity words)) unlocked
+
+  leaves : (words : List ℕ) → says_locked (slice_index words 0) ≡ false → after_acquire (stack_in capacity words) ≡ record (stack_in capacity words) { free = drop 1 (free_in capacity words) }
+  leaves words unlocked = ap (λ b. if b then stack_in capacity words else record (stack_in capacity words) { free = drop 1 (free_in capacity words) }) unlocked
+
+  stays_empty : (words : List ℕ) → Fits capacity words → says_locked (slice_index words 0) ≡ false → borrowed (slice_index words 0) ≡ capacity
+      → Took words (Err failures.OutOfIndices) tt words
+  stays_empty words fits unlocked all =
+      let number = number_of words unlocked in
+      let none : capacity - borrowed_number (slice_index words 0) ≡ 0 = omega arith in
+      let free : free_in capacity words ≡ [] = ap (chain words (proposed (slice_index words 0))) none in (
+        fits,
+        sym (answers words unlocked ∙ ap top free),
+        sym (leaves words unlocked ∙ (λ i. record { capacity = capacity; free = (ap (drop 1) free ∙ sym free) i; locked = says_locked (slice_index words 0) })),
+      )
+
+  module _ (words : List ℕ) (fits : Fits capacity words) (unlocked : says_locked (slice_index words 0) ≡ false)
+      (m : ℕ) (there : capacity - borrowed (slice_index words 0) ≡ suc m) where
+    rest : List ℕ
+    rest = chain words (next words) m
+
+    free_is : free_in capacity words ≡ p words ∷ chain words (next words) m
+    free_is = ap (λ n. chain words (p words) (capacity - n)) (number_of words unlocked) ∙ ap (chain words (p words)) there
+
+    first_in : is_in (p words) (free_in capacity words) ≡ true
+    first_in = ap (is_in (p words)) free_is ∙ in_first (p words) (chain words (next words) m)
+
+    own : p words < capacity
+    own = fits.below (p words) first_in
+
+    rest_below : (i : ℕ) → is_in i (chain words (next words) m) ≡ true → i < capacity
+    rest_below i h = fits.below i (ap (is_in i) free_is ∙ in_rest i (p words) (chain words (next words) m) h)
+
+    new : ℕ
+    new = head_taken (h words) (next words)
+
+    clear : claimed capacity (headed words) (p words) ≡ false
+    clear =
+        claimed_elsewhere capacity words 0 (head_taken (h words) (next words)) (p words) (omega arith)
+        ∙ (fits.flags (p words) own ∙ ap not first_in)
+
+    near : flag_word capacity (p words) < length (headed words)
+    near =
+        let long = length-set words 0 (head_taken (h words) (next words)) in
+        let all = fits.long in
+        let o = own in omega arith
+
+    head_is : slice_index (last words) 0 ≡ head_taken (h words) (next words)
+    head_is =
+        get_or-set_other (headed words) (flag_word capacity (p words)) 0 (bit_or (slice_index (headed words) (flag_word capacity (p words))) (flag (p words))) 0 (λ e. absurd (omega arith))
+        ∙ get_or-set_same words 0 (head_taken (h words) (next words)) 0 (let all = fits.long in omega arith)
+
+    open_head : borrowed (h words) < locked
+    open_head = let few = fits.few in omega arith
+
+    new_number : borrowed (head_taken (h words) (next words)) ≡ borrowed (h words) + 1
+    new_number = let o = open_head in omega arith
+
+    new_next : proposed (head_taken (h words) (next words)) ≡ next words
+    new_next = let o = open_head in omega arith
+
+    new_small : head_taken (h words) (next words) < 2 ^ 64
+    new_small = omega arith
+
+    new_unlocked : says_locked (head_taken (h words) (next words)) ≡ false
+    new_unlocked = ne_eqb _ locked (let n = new_number in let few = fits.few in λ e. absurd (omega arith))
+
+    last_unlocked : says_locked (slice_index (last words) 0) ≡ false
+    last_unlocked = ap says_locked head_is ∙ new_unlocked
+
+    kept_next : (i : ℕ) → i < capacity → slice_index (last words) (next_word i) ≡ slice_index words (next_word i)
+    kept_next i low =
+        get_or-set_other (headed words) (flag_word capacity (p words)) (next_word i) (bit_or (slice_index (headed words) (flag_word capacity (p words))) (flag (p words))) 0 (λ e. absurd (omega arith))
+        ∙ get_or-set_other words 0 (next_word i) (head_taken (h words) (next words)) 0 (λ e. absurd (omega arith))
+
+    last_free : free_in capacity (last words) ≡ chain words (next words) m
+    last_free =
+        let number : capacity - borrowed_number (slice_index (last words) 0) ≡ m =
+        let a = number_of (last words) last_unlocked in
+        let b = ap borrowed head_is in
+        let c = new_number in omega arith in
+        let start : proposed (slice_index (last words) 0) ≡ next words = ap proposed head_is ∙ new_next in
+        (λ i. chain (last words) (start i) (number i))
+        ∙ sym (chain_same words (last words) (next words) m (λ i h. sym (kept_next i (rest_below i h))))
+
+    last_fits : Fits capacity (last words)
+    last_fits =
+        let apart = one_less (p words) (chain words (next words) m) (subst (IsDistinct eqb) free_is fits.distinct) in
+        record {
+          long = length-set (headed words) _ _ ∙ (length-set words 0 _ ∙ fits.long);
+          some = fits.some;
+          few = fits.few;
+          small = subst (λ n. n < 2 ^ 64) (sym head_is) new_small;
+          count = (let a = number_of (last words) last_unlocked in let b = ap borrowed head_is in let c = new_number in omega arith);
+          distinct = subst (IsDistinct eqb) (sym last_free) apart.1;
+          below = λ i h. rest_below i (sym (ap (is_in i) last_free) ∙ h);
+          flags = λ i low.
+              ⊎_elim (λ (t : (eqb i (p words) ≡ true) × (i ≡ p words)).
+              subst (λ j. claimed capacity (last words) j ≡ not (is_in j (free_in capacity (last words)))) (sym t.1)
+              (claims capacity (headed words) (p words) near ∙ sym (ap not (ap (is_in (p words)) last_free ∙ apart.0))))
+              (λ t. claims_leave capacity (headed words) (p words) near i t.1
+              ∙ (claimed_elsewhere capacity words 0 (head_taken (h words) (next words)) i (omega arith)
+              ∙ (fits.flags i low
+              ∙ ap not (ap (is_in i) free_is ∙ (in_other i (p words) (chain words (next words) m) t.1 ∙ sym (ap (is_in i) last_free))))))
+              (eqb_tells i (p words));
+        }
+
+    last_took : Took words (Ok (p words)) tt (last words)
+    last_took = (
+      last_fits,
+      sym (answers words unlocked ∙ ap top free_is),
+      (λ i. record { capacity = capacity; free = (last_free ∙ ap (drop 1) (sym free_is)) i; locked = (last_unlocked ∙ sym unlocked) i })
+          ∙ sym (leaves words unlocked),
+    )
+
+  runs_first : (words : List ℕ) → Fits capacity words → TakeRuns (first_acquire capacity) words
+  runs_first words fits =
+      ⊎_elim (λ shut. record {
+        steps = 1;
+        few = omega arith;
+        end = Err failures.IsLocked;
+        last_room = tt;
+        last_words = words;
+        ends = finds_locked words shut;
+        holds = stays_locked words fits shut;
+      })
+      (λ unlocked. ⊎_elim
+      (λ (t : (eqb (borrowed (slice_index words 0)) capacity ≡ true) × (borrowed (slice_index words 0) ≡ capacity)).
+      record {
+        steps = 1;
+        few = omega arith;
+        end = Err failures.OutOfIndices;
+        last_room = tt;
+        last_words = words;
+        ends = finds_none words unlocked t.1;
+        holds = stays_empty words fits unlocked t.1;
+      })
+      (λ (t : (eqb (borrowed (slice_index words 0)) capacity ≡ false) × (borrowed (slice_index words 0) ≢ capacity)).
+      let number = number_of words unlocked in
+      let count = fits.count in
+      let other = t.1 in
+      let m = capacity - borrowed (slice_index words 0) - 1 in
+      let there : capacity - borrowed (slice_index words 0) ≡ suc m = omega (arith, other) in
+      record {
+        steps = 4;
+        few = omega arith;
+        end = Ok (p words);
+        last_room = tt;
+        last_words = last words;
+        ends = takes_top words unlocked t.1 (own words fits unlocked m there) (clear words fits unlocked m there);
+        holds = last_took words fits unlocked m there;
+      })
+      (eqb_tells (borrowed (slice_index words 0)) capacity))
+      (cases_Bool (says_locked (slice_index words 0)))
+
+  pub take_runs : (call : Acquire) → call ≡ first_acquire capacity → (words : List ℕ)
+      → Fits capacity words → TakeRuns call words
+  take_runs call is words fits = subst (λ c. TakeRuns c words) (sym is) (runs_first words fits)

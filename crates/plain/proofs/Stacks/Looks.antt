@@ -1,0 +1,49 @@
+-- The looks at a set, each a load of its head.
+use Rattle.std.proofs.Common.{◌≡◌, ℕ, ◌-◌, Bool, List, refl, arith, slice_index}
+use Rattle.steps.specs.Queues.Ring.{load}
+use Rattle.steps.specs.Indices.Head.{proposed, says_locked}
+use Rattle.steps.specs.Indices.Unique.{borrowed_after, borrowed_number, locked_after}
+use Rattle.steps.specs.Objects.Stacks.{Stack, out}
+use Rattle.steps.specs.declared.indices.looks.BorrowedIndices.{BorrowedIndices}
+use Rattle.steps.specs.declared.indices.looks.IsLocked.{IsLocked}
+use Rattle.plain.specs.Alone.{Turns}
+use Rattle.plain.specs.Unique.{stack_in, Fits}
+use Rattle.plain.proofs.Alone.{Runs}
+use Rattle.plain.proofs.Stacks.Chains.{chain_length}
+
+module _ (capacity : ℕ) (words : List ℕ) where
+  abbrev pub CountRuns : BorrowedIndices → Type 0
+  CountRuns call =
+      Runs (λ (c : BorrowedIndices) (given : Unit {0}). load 0) (λ c given old. borrowed_after c old) (λ c (room : Unit {0}) old. room) tt
+      (λ end room last. Turns (Fits capacity) (stack_in capacity) out (λ s. s) words end last) call tt words
+
+  pub count_runs : (call : BorrowedIndices) → Fits capacity words → CountRuns call
+  count_runs call fits =
+      let long = chain_length words (proposed (slice_index words 0)) (capacity - borrowed_number (slice_index words 0)) in
+      let count = fits.count in
+      record {
+        steps = 1;
+        few = omega arith;
+        end = borrowed_number (slice_index words 0);
+        last_room = tt;
+        last_words = words;
+        ends = (refl, refl, refl);
+        holds = (fits, omega arith, refl);
+      }
+
+  abbrev pub LookRuns : IsLocked → Type 0
+  LookRuns call =
+      Runs (λ (c : IsLocked) (given : Unit {0}). load 0) (λ c given old. locked_after c old) (λ c (room : Unit {0}) old. room) tt
+      (λ end room last. Turns (Fits capacity) (stack_in capacity) (λ (s : Stack). s.locked) (λ s. s) words end last) call tt words
+
+  pub look_runs : (call : IsLocked) → Fits capacity words → LookRuns call
+  look_runs call fits =
+      record {
+        steps = 1;
+        few = omega arith;
+        end = says_locked (slice_index words 0);
+        last_room = tt;
+        last_words = words;
+        ends = (refl, refl, refl);
+        holds = (fits, refl, refl);
+      }

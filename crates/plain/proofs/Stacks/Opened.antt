@@ -1,0 +1,106 @@
+-- The words of a set of which all indices are free.
+use Rattle.std.proofs.Common.{◌≡◌, ◌≢◌, ℕ, zero, suc, ◌+◌, ◌-◌, ◌%◌, ◌/◌, ◌^◌, ◌<◌, ◌≤◌, ⊎_elim, Bool, true, false, not, ◌||◌, eqb, List, [], ◌∷◌, length, refl, sym, ap, subst, ◌∙◌, arith, slice_index, slice_set, get_or-set_same, get_or-set_other, length-set, true≢false}
+use Rattle.std.specs.List.{IsDistinct, range_with_len}
+use Rattle.std.proofs.lemmas.Bool.Decides.{eqb_tells}
+use Rattle.std.proofs.lemmas.Bool.{cases_Bool}
+use Rattle.steps.specs.Indices.Head.{next_word, flag_word, has_flag, proposed, says_locked}
+use Rattle.steps.specs.Indices.Unique.{borrowed_number}
+use Rattle.steps.specs.Objects.Stacks.{opened}
+use Rattle.plain.specs.Unique.{chain, free_in, stack_in, claimed, Fits}
+use Rattle.plain.proofs.Stacks.Chains.{is_in, in_first, in_rest, in_other, one_more}
+
+-- the next indices of the first few are linked, and all other words are 0
+pub record Linked (n capacity : ℕ) (words : List ℕ) : Type 0 where
+  pub long : length words ≡ 1 + capacity + (capacity + 63) / 64
+  pub head : slice_index words 0 ≡ 0
+  pub next : (i : ℕ) → i < n → slice_index words (1 + i) ≡ i + 1
+  pub flags : (j : ℕ) → capacity < j → slice_index words j ≡ 0
+
+pub one_linked : (n capacity : ℕ) (words : List ℕ) → n < capacity → Linked n capacity words
+    → Linked (n + 1) capacity (slice_set words (1 + n) (n + 1))
+one_linked n capacity words low h =
+    let long = h.long in
+    record {
+      long = length-set words (1 + n) (n + 1) ∙ long;
+      head = get_or-set_other words (1 + n) 0 (n + 1) 0 (λ e. absurd (omega arith)) ∙ h.head;
+      next = λ i below.
+          ⊎_elim (λ (t : (eqb i n ≡ true) × (i ≡ n)).
+          subst (λ k. slice_index (slice_set words (1 + n) (n + 1)) (1 + k) ≡ k + 1) (sym t.1)
+          (get_or-set_same words (1 + n) (n + 1) 0 (omega arith)))
+          (λ (t : (eqb i n ≡ false) × (i ≢ n)).
+          let other = t.1 in
+          get_or-set_other words (1 + n) (1 + i) (n + 1) 0 (λ e. other (omega arith))
+          ∙ h.next i (omega (arith, other)))
+          (eqb_tells i n);
+      flags = λ j high. get_or-set_other words (1 + n) j (n + 1) 0 (λ e. absurd (omega arith)) ∙ h.flags j high;
+    }
+
+-- ---- the numbers of a range
+
+pub in_range : (i a n : ℕ) → a ≤ i → i < a + n → is_in i (range_with_len a n) ≡ true
+in_range i a zero low high = absurd (omega arith)
+in_range i a (suc n) low high =
+    ⊎_elim (λ (t : (eqb i a ≡ true) × (i ≡ a)).
+    subst (λ k. is_in i (k ∷ range_with_len (a + 1) n) ≡ true) t.1 (in_first i (range_with_len (a + 1) n)))
+    (λ (t : (eqb i a ≡ false) × (i ≢ a)). let other = t.1 in
+    in_rest i a (range_with_len (a + 1) n) (in_range i (a + 1) n (omega (arith, other)) (omega arith)))
+    (eqb_tells i a)
+
+pub range_within : (i a n : ℕ) → is_in i (range_with_len a n) ≡ true → (a ≤ i) × (i < a + n)
+range_within i a zero h = absurd (true≢false (sym h))
+range_within i a (suc n) h =
+    ⊎_elim (λ (t : (eqb i a ≡ true) × (i ≡ a)). let e = t.1 in (omega arith, omega arith))
+    (λ (t : (eqb i a ≡ false) × (i ≢ a)).
+    let r = range_within i (a + 1) n (sym (in_other i a (range_with_len (a + 1) n) t.1) ∙ h) in
+    let low = r.0 in let high = r.1 in (omega arith, omega arith))
+    (eqb_tells i a)
+
+range_distinct : (a n : ℕ) → IsDistinct eqb (range_with_len a n)
+unfolding IsDistinct
+range_distinct a zero = tt
+range_distinct a (suc n) =
+    one_more a (range_with_len (a + 1) n)
+    (⊎_elim (λ h. let r = range_within a (a + 1) n h in let low = r.0 in absurd (omega arith)) (λ h. h)
+    (cases_Bool (is_in a (range_with_len (a + 1) n))))
+    (range_distinct (a + 1) n)
+
+-- ---- the stack
+
+module _ (capacity : ℕ) (words : List ℕ) (some : 1 ≤ capacity) (few : capacity ≤ 2 ^ 24 - 2)
+    (h : Linked capacity capacity words) where
+  chain_is : (i n : ℕ) → i + n ≡ capacity → chain words i n ≡ range_with_len i n
+  chain_is i zero end = refl
+  chain_is i (suc n) end =
+      let next : slice_index words (next_word i) % 2 ^ 24 ≡ i + 1 =
+      ap (λ w. w % 2 ^ 24) (h.next i (omega arith)) ∙ omega arith in
+      ap (λ k. i ∷ chain words k n) next ∙ ap (λ xs. i ∷ xs) (chain_is (i + 1) n (omega arith))
+
+  free_is : free_in capacity words ≡ range_with_len 0 capacity
+  free_is =
+      let all : capacity - 0 ≡ capacity = omega arith in
+      ap (λ w. chain words (proposed w) (capacity - borrowed_number w)) h.head
+      ∙ (ap (chain words 0) all ∙ chain_is 0 capacity (omega arith))
+
+  none_claimed : (i : ℕ) → claimed capacity words i ≡ false
+  none_claimed i = ap (λ w. has_flag w i) (h.flags (flag_word capacity i) (omega arith))
+
+  fits : Fits capacity words
+  fits =
+      record {
+        long = h.long;
+        some = some;
+        few = few;
+        small = subst (λ w. w < 2 ^ 64) (sym h.head) (omega arith);
+        count = subst (λ w. borrowed_number w ≤ capacity) (sym h.head) (omega arith);
+        distinct = subst (IsDistinct eqb) (sym free_is) (range_distinct 0 capacity);
+        below = λ i there.
+            let r = range_within i 0 capacity (sym (ap (is_in i) free_is) ∙ there) in
+            let high = r.1 in omega arith;
+        flags = λ i low.
+            none_claimed i
+            ∙ sym (ap not (ap (is_in i) free_is ∙ in_range i 0 capacity (omega arith) (omega arith)));
+      }
+
+  pub all_free : Fits capacity words × (stack_in capacity words ≡ opened capacity)
+  all_free =
+      (fits, λ i. record { capacity = capacity; free = free_is i; locked = ap says_locked h.head i })

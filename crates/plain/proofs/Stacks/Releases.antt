@@ -1,0 +1,297 @@
+-- A release that runs alone, in either mode.
+use Rattle.std.proofs.Common.{◌≡◌, ◌≢◌, ℕ, suc, ◌+◌, ◌-◌, ◌%◌, ◌^◌, ◌<◌, ◌≤◌, ⊎_elim, Bool, true, false, not, ◌||◌, ◌==◌, eqb, eq-eqb, ne_eqb, if◌then◌else◌, List, ◌∷◌, length, refl, sym, ap, subst, ◌∙◌, arith, slice_index, slice_set, get_or-set_same, get_or-set_other, length-set, true≢false}
+use Rattle.std.specs.Prelude.{bit_and}
+use Rattle.std.specs.List.{IsDistinct}
+use Rattle.std.proofs.lemmas.Bool.Decides.{nat_tests, eqb_tells}
+use Rattle.std.proofs.lemmas.Bool.{cases_Bool}
+use Rattle.std.proofs.lemmas.Map.Steps.{length-le_from_distinct_below}
+use Rattle.steps.specs.Picks.{by_eq}
+use Rattle.steps.specs.Indices.Head.{next_word, flag_word, flag, proposed, borrowed, locked, says_locked}
+use Rattle.steps.specs.Indices.Unique.{first_release, at_release, head_given_back, head_locked, head_released, state_after, release_want, release_after, borrowed_number}
+use Rattle.steps.specs.declared.ask.After.{After}
+use Rattle.steps.specs.declared.indices.enums.ReleaseState.{ReleaseState}
+use Rattle.steps.specs.declared.indices.enums.ReleaseState.TheVariants.{Locked, Unlocked}
+use Rattle.steps.specs.declared.indices.unique.Release.{Release}
+use Rattle.steps.specs.declared.indices.unique.ReleaseStage as releases
+use Rattle.plain.specs.Alone.{EndsFrom, EndsIn, Turns}
+use Rattle.steps.specs.Objects.Stacks.{IsOut, out, released, released_or_locked, release_state}
+use Rattle.plain.specs.Unique.{chain, free_in, stack_in, claimed, Fits}
+use Rattle.plain.proofs.Alone.{Runs}
+use Rattle.plain.proofs.Stacks.Chains.{is_in, in_first, in_other, one_more, chain_same, chain_length, claimed_elsewhere, frees, frees_leave}
+
+module _ (lock : Bool) (capacity index : ℕ) (words : List ℕ) where
+  abbrev h : ℕ
+  h = slice_index words 0
+
+  abbrev cleared : List ℕ
+  cleared = slice_set words (flag_word capacity index) (bit_and (slice_index words (flag_word capacity index)) (2 ^ 64 - 1 - flag index))
+
+  abbrev linked : List ℕ
+  linked = slice_set cleared (next_word index) (proposed h)
+
+  abbrev last : List ℕ
+  last = slice_set linked 0 (head_released lock h index)
+
+  module _ (M : Type 0) where
+    abbrev pub Ends : ℕ → ReleaseState → Release M → List ℕ → Type 0
+    Ends n end call now =
+        EndsIn (release_want lock) (λ c given old. release_after lock c old) (λ c (room : Unit {0}) old. room) index n end tt last call tt now
+
+    abbrev From : ℕ → ReleaseState → After (Release M) ReleaseState → List ℕ → Type 0
+    From n end a now =
+        EndsFrom (release_want lock) (λ c given old. release_after lock c old) (λ c (room : Unit {0}) old. room) index n end tt last a tt now
+
+    -- the head stands while the flag is cleared and the index is linked
+    goes : slice_index cleared 0 ≡ h → slice_index linked 0 ≡ h
+        → Ends 4 (state_after lock h) (first_release {M = M} capacity) words
+    goes one two =
+        subst (λ n. Ends 2 (state_after lock h) (at_release (first_release {M = M} capacity) (releases.TheVariants.StoresNext n)) cleared) (sym one)
+        (by_eq (λ a. From 0 (state_after lock h) a (if slice_index linked 0 == h then last else linked)) (slice_index linked 0) h _ _
+        (λ _. (refl, refl, sym (ap (λ b. if b then last else linked) (eq-eqb (slice_index linked 0) h two)))) (λ other. absurd (other two)))
+
+  -- ---- what it makes of the stack
+
+  module _ (fits : Fits capacity words) (is_out : IsOut (stack_in capacity words) index) where
+    abbrev free : List ℕ
+    free = free_in capacity words
+
+    abbrev count : ℕ
+    count = capacity - borrowed_number h
+
+    free_length : length free ≡ count
+    free_length = chain_length words (proposed h) count
+
+    -- it is none of the free ones, so that not all are free
+    some_out : count + 1 ≤ capacity
+    some_out =
+        let all = length-le_from_distinct_below (index ∷ free) capacity (one_more index free is_out.1 fits.distinct)
+        (λ q there. ⊎_elim (λ (t : (eqb q index ≡ true) × (q ≡ index)). subst (λ z. z < capacity) (sym t.1) is_out.0)
+        (λ t. fits.below q (sym (in_other q index free t.1) ∙ there)) (eqb_tells q index)) in
+        let n = free_length in omega arith
+
+    unlocked : says_locked h ≡ false
+    unlocked = ⊎_elim (λ (shut : says_locked h ≡ true).
+        let none : borrowed_number h ≡ 0 = ap (λ b. if b then 0 else borrowed h) shut in
+        let some = some_out in absurd (omega arith)) (λ t. t) (cases_Bool (says_locked h))
+
+    number : borrowed_number h ≡ borrowed h
+    number = ap (λ b. if b then 0 else borrowed h) unlocked
+
+    low : flag_word capacity index < length words
+    low = let l = fits.long in let o = is_out.0 in omega arith
+
+    one : slice_index cleared 0 ≡ h
+    one = get_or-set_other words (flag_word capacity index) 0 _ 0 (λ e. absurd (omega arith))
+
+    two : slice_index linked 0 ≡ h
+    two = get_or-set_other cleared (next_word index) 0 _ 0 (λ e. absurd (omega arith)) ∙ one
+
+    cleared_long : length cleared ≡ length words
+    cleared_long = length-set words _ _
+
+    linked_long : length linked ≡ length words
+    linked_long = length-set cleared _ _ ∙ cleared_long
+
+    last_long : length last ≡ length words
+    last_long = length-set linked _ _ ∙ linked_long
+
+    head_is : slice_index last 0 ≡ head_released lock h index
+    head_is = get_or-set_same linked 0 (head_released lock h index) 0 (let l = fits.long in let m = linked_long in omega arith)
+
+    -- the index leads to what was the top, and the other free ones as before
+    link_is : slice_index last (next_word index) ≡ proposed h
+    link_is =
+        get_or-set_other linked 0 (next_word index) (head_released lock h index) 0 (λ e. absurd (omega arith))
+        ∙ get_or-set_same cleared (next_word index) (proposed h) 0 (let l = fits.long in let m = cleared_long in let o = is_out.0 in omega arith)
+
+    kept_next : (i : ℕ) → i < capacity → i ≢ index → slice_index last (next_word i) ≡ slice_index words (next_word i)
+    kept_next i below other =
+        get_or-set_other linked 0 (next_word i) (head_released lock h index) 0 (λ e. absurd (omega arith))
+        ∙ (get_or-set_other cleared (next_word index) (next_word i) (proposed h) 0 (λ e. other (omega arith))
+        ∙ get_or-set_other words (flag_word capacity index) (next_word i) _ 0 (λ e. absurd (omega arith)))
+
+    apart : (i : ℕ) → is_in i free ≡ true → i ≢ index
+    apart i there e = true≢false (sym there ∙ (ap (λ j. is_in j free) e ∙ is_out.1))
+
+    longer : chain last index (suc count) ≡ index ∷ free
+    longer =
+        let small : proposed h % 2 ^ 24 ≡ proposed h = let s = fits.small in omega arith in
+        ap (λ k. index ∷ chain last (k % 2 ^ 24) count) link_is
+        ∙ (ap (λ k. index ∷ chain last k count) small
+        ∙ ap (λ xs. index ∷ xs) (sym (chain_same words last (proposed h) count (λ i there. sym (kept_next i (fits.below i there) (apart i there))))))
+
+    flags_are : (i : ℕ) → i < capacity → claimed capacity last i ≡ not (is_in i (index ∷ free))
+    flags_are i below =
+        claimed_elsewhere capacity linked 0 (head_released lock h index) i (omega arith)
+        ∙ (claimed_elsewhere capacity cleared (next_word index) (proposed h) i (let o = is_out.0 in omega arith)
+        ∙ ⊎_elim (λ (t : (eqb i index ≡ true) × (i ≡ index)).
+        subst (λ j. claimed capacity cleared j ≡ not (is_in j (index ∷ free))) (sym t.1)
+        (frees capacity words index low ∙ sym (ap not (in_first index free))))
+        (λ t. frees_leave capacity words index low i t.1 ∙ (fits.flags i below ∙ sym (ap not (in_other i index free t.1))))
+        (eqb_tells i index))
+
+    -- the head says so many free ones, and this index first
+    module _ (new : proposed (head_released lock h index) ≡ index) (counts : capacity - borrowed_number (head_released lock h index) ≡ suc count)
+        (within : borrowed_number (head_released lock h index) ≤ capacity) (small : head_released lock h index < 2 ^ 64) where
+      last_free : free_in capacity last ≡ index ∷ free
+      last_free =
+          (λ i. chain last ((ap proposed head_is ∙ new) i) ((ap (λ n. capacity - borrowed_number n) head_is ∙ counts) i)) ∙ longer
+
+      last_fits : Fits capacity last
+      last_fits =
+          record {
+            long = last_long ∙ fits.long;
+            some = fits.some;
+            few = fits.few;
+            small = subst (λ n. n < 2 ^ 64) (sym head_is) small;
+            count = subst (λ n. borrowed_number n ≤ capacity) (sym head_is) within;
+            distinct = subst (IsDistinct eqb) (sym last_free) (one_more index free is_out.1 fits.distinct);
+            below = λ i there.
+                ⊎_elim (λ (t : (eqb i index ≡ true) × (i ≡ index)). subst (λ z. z < capacity) (sym t.1) is_out.0)
+                (λ t. fits.below i (sym (in_other i index free t.1) ∙ (sym (ap (is_in i) last_free) ∙ there))) (eqb_tells i index);
+            flags = λ i below. flags_are i below ∙ sym (ap not (ap (is_in i) last_free));
+          }
+
+-- ---- mode Default
+
+abbrev pub Gave : ℕ → ℕ → List ℕ → ReleaseState → Unit {0} → List ℕ → Type 0
+Gave capacity index words end room now =
+    Turns (Fits capacity) (stack_in capacity) (λ s. Unlocked) (λ s. released s index) words end now
+
+module _ (M : Type 0) (capacity index : ℕ) (words : List ℕ) (fits : Fits capacity words) (is_out : IsOut (stack_in capacity words) index) where
+  abbrev pub GiveRuns : Release M → Type 0
+  GiveRuns call =
+      Runs (release_want {M = M} false) (λ c given old. release_after false c old) (λ c (room : Unit {0}) old. room) index
+      (Gave capacity index words) call tt words
+
+  gives_first : GiveRuns (first_release capacity)
+  gives_first =
+      let free_one = unlocked false capacity index words fits is_out in
+      let is = number false capacity index words fits is_out in
+      let some = some_out false capacity index words fits is_out in
+      let few = fits.few in
+      let in_set = is_out.0 in
+      let here : proposed (head_given_back (slice_index words 0) index) ≡ index = omega arith in
+      let less : borrowed (head_given_back (slice_index words 0) index) + 1 ≡ borrowed (slice_index words 0) = omega arith in
+      let still : says_locked (head_given_back (slice_index words 0) index) ≡ false = ne_eqb _ locked (λ e. absurd (omega arith)) in
+      let now : borrowed_number (head_given_back (slice_index words 0) index) ≡ borrowed (head_given_back (slice_index words 0) index) =
+      ap (λ b. if b then 0 else borrowed (head_given_back (slice_index words 0) index)) still in
+      let all = last_free false capacity index words fits is_out here (omega arith) (omega arith) (omega arith) in
+      record {
+        steps = 4;
+        few = omega arith;
+        end = Unlocked;
+        last_room = tt;
+        last_words = last false capacity index words;
+        ends = goes false capacity index words M (one false capacity index words fits is_out) (two false capacity index words fits is_out);
+        holds = (
+          last_fits false capacity index words fits is_out here (omega arith) (omega arith) (omega arith),
+          refl,
+          λ i. record {
+            capacity = capacity;
+            free = all i;
+            locked = (ap says_locked (head_is false capacity index words fits is_out) ∙ (still ∙ sym free_one)) i;
+          },
+        );
+      }
+
+  pub give_runs : (call : Release M) → call ≡ first_release capacity → GiveRuns call
+  give_runs call is = subst GiveRuns (sym is) gives_first
+
+-- ---- mode LockIfLastIndex
+
+abbrev pub GaveOrLocked : ℕ → ℕ → List ℕ → ReleaseState → Unit {0} → List ℕ → Type 0
+GaveOrLocked capacity index words end room now =
+    Turns (Fits capacity) (stack_in capacity) release_state (λ s. released_or_locked s index) words
+    end now
+
+module _ (M : Type 0) (capacity index : ℕ) (words : List ℕ) (fits : Fits capacity words) (is_out : IsOut (stack_in capacity words) index) where
+  abbrev pub LockRuns : Release M → Type 0
+  LockRuns call =
+      Runs (release_want {M = M} true) (λ c given old. release_after true c old) (λ c (room : Unit {0}) old. room) index
+      (GaveOrLocked capacity index words) call tt words
+
+  -- a release of the last one makes a locked head, and any other one counts one less
+  shaped : (b : Bool) → (borrowed (slice_index words 0) == 1) ≡ b
+      → Fits capacity (last true capacity index words)
+      × (stack_in capacity (last true capacity index words) ≡ record { capacity = capacity; free = index ∷ free_in capacity words; locked = b })
+  shaped true only =
+      let is = number true capacity index words fits is_out in
+      let some = some_out true capacity index words fits is_out in
+      let some_one = fits.some in
+      let one_only : borrowed (slice_index words 0) ≡ 1 = grind (arith, nat_tests, only) in
+      let head : head_released true (slice_index words 0) index ≡ head_locked (slice_index words 0) index =
+      ap (λ b. if b then head_locked (slice_index words 0) index else head_given_back (slice_index words 0) index) only in
+      let in_set = is_out.0 in
+      let few = fits.few in
+      let here : proposed (head_locked (slice_index words 0) index) ≡ index = omega arith in
+      let shut : borrowed (head_locked (slice_index words 0) index) ≡ locked = omega arith in
+      let says : says_locked (head_locked (slice_index words 0) index) ≡ true = eq-eqb _ locked shut in
+      let none : borrowed_number (head_locked (slice_index words 0) index) ≡ 0 = ap (λ b. if b then 0 else borrowed (head_locked (slice_index words 0) index)) says in
+      let a : proposed (head_released true (slice_index words 0) index) ≡ index = ap proposed head ∙ here in
+      let n : borrowed_number (head_released true (slice_index words 0) index) ≡ 0 = ap borrowed_number head ∙ none in
+      let low : head_locked (slice_index words 0) index < 2 ^ 64 = omega arith in
+      let small : head_released true (slice_index words 0) index < 2 ^ 64 = subst (λ z. z < 2 ^ 64) (sym head) low in
+      let all = last_free true capacity index words fits is_out a (omega arith) (omega arith) small in (
+        last_fits true capacity index words fits is_out a (omega arith) (omega arith) small,
+        λ i. record {
+          capacity = capacity;
+          free = all i;
+          locked = (ap says_locked (head_is true capacity index words fits is_out ∙ head) ∙ says) i;
+        },
+      )
+  shaped false more =
+      let is = number true capacity index words fits is_out in
+      let some = some_out true capacity index words fits is_out in
+      let head : head_released true (slice_index words 0) index ≡ head_given_back (slice_index words 0) index =
+      ap (λ b. if b then head_locked (slice_index words 0) index else head_given_back (slice_index words 0) index) more in
+      let in_set = is_out.0 in
+      let few = fits.few in
+      let here : proposed (head_given_back (slice_index words 0) index) ≡ index = omega arith in
+      let less : borrowed (head_given_back (slice_index words 0) index) + 1 ≡ borrowed (slice_index words 0) = omega arith in
+      let still : says_locked (head_given_back (slice_index words 0) index) ≡ false = ne_eqb _ locked (λ e. absurd (omega arith)) in
+      let now : borrowed_number (head_given_back (slice_index words 0) index) ≡ borrowed (head_given_back (slice_index words 0) index) =
+      ap (λ b. if b then 0 else borrowed (head_given_back (slice_index words 0) index)) still in
+      let a : proposed (head_released true (slice_index words 0) index) ≡ index = ap proposed head ∙ here in
+      let n : borrowed_number (head_released true (slice_index words 0) index) ≡ borrowed (head_given_back (slice_index words 0) index) = ap borrowed_number head ∙ now in
+      let low : head_given_back (slice_index words 0) index < 2 ^ 64 = omega arith in
+      let small : head_released true (slice_index words 0) index < 2 ^ 64 = subst (λ z. z < 2 ^ 64) (sym head) low in
+      let all = last_free true capacity index words fits is_out a (omega arith) (omega arith) small in (
+        last_fits true capacity index words fits is_out a (omega arith) (omega arith) small,
+        λ i. record {
+          capacity = capacity;
+          free = all i;
+          locked = (ap says_locked (head_is true capacity index words fits is_out ∙ head) ∙ still) i;
+        },
+      )
+
+  locks_first : LockRuns (first_release capacity)
+  locks_first =
+      let free_one = unlocked true capacity index words fits is_out in
+      let is = number true capacity index words fits is_out in
+      let some = some_out true capacity index words fits is_out in
+      let long = free_length true capacity index words fits is_out in
+      let now = shaped (borrowed (slice_index words 0) == 1) refl in
+      let count : out (stack_in capacity words) ≡ borrowed (slice_index words 0) = omega arith in
+      let said : (says_locked (slice_index words 0) || (out (stack_in capacity words) == 1)) ≡ (borrowed (slice_index words 0) == 1) =
+      λ j. free_one j || (count j == 1) in
+      record {
+        steps = 4;
+        few = omega arith;
+        end = state_after true (slice_index words 0);
+        last_room = tt;
+        last_words = last true capacity index words;
+        ends = goes true capacity index words M (one true capacity index words fits is_out) (two true capacity index words fits is_out);
+        holds = (
+          now.0,
+          ap (λ n. if n == 1 then Locked else Unlocked) (sym count),
+          now.1 ∙ (λ i. record {
+            capacity = capacity;
+            free = index ∷ free_in capacity words;
+            locked = sym said i;
+          }),
+        );
+      }
+
+  pub lock_runs : (call : Release M) → call ≡ first_release capacity → LockRuns call
+  lock_runs call is = subst LockRuns (sym is) locks_first

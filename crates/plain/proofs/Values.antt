@@ -1,0 +1,245 @@
+-- A store and a load of the single value that run alone.
+use Rattle.std.proofs.Common.{◌≡◌, ◌≢◌, ℕ, zero, suc, ◌+◌, ◌-◌, ◌*◌, ◌%◌, ◌^◌, ◌<◌, ◌≤◌, inl, inr, ⊎_elim, Bool, true, false, not, ◌==◌, nat_lt, List, length, refl, sym, ap, subst, ◌∙◌, arith, slice_index, slice_set, get_or-set_same, get_or-set_other, length-set, eq-eqb, ne_eqb, if◌then◌else◌}
+use Rattle.std.proofs.Math.Nat.{mul-le-mul_left}
+use Rattle.std.proofs.lemmas.Bool.Decides.{nat_tests}
+use mathlib.Core.Logic.{dite}
+use native.Mathlib.Decide.{ℕ_discrete}
+use Rattle.steps.specs.Ask.{written}
+use Rattle.steps.specs.Atomic.{before_version, cell_word, at_store, first_store, store_want, store_after, at_load, first_load, load_want, load_after, load_kept}
+use Rattle.steps.specs.Copied as copied
+use Rattle.steps.specs.Picks.{by_test, by_eq}
+use Rattle.steps.specs.Queues.Ring.{word_at}
+use Rattle.steps.specs.Objects.Values.{Versioned, has_version, stored}
+use Rattle.steps.specs.declared.ask.After.{After}
+use Rattle.steps.specs.declared.ask.Op.TheVariants.{Add}
+use Rattle.steps.specs.declared.atomic.Store.{Store}
+use Rattle.steps.specs.declared.atomic.StoreStage as stores
+use Rattle.steps.specs.declared.atomic.Load.{Load}
+use Rattle.steps.specs.declared.atomic.LoadStage as loads
+use Rattle.plain.specs.Alone.{EndsFrom, EndsIn, Turns}
+use Rattle.plain.specs.Queues.{words_from}
+use Rattle.plain.specs.Value.{value_in, Fits}
+use Rattle.plain.proofs.Alone.{Runs}
+use Rattle.plain.proofs.Words as words
+use Rattle.plain.proofs.Words.{words_same, words_all, stored_length, stored_other, stored_words, read_in, value_read}
+
+-- a cell lies within the words
+cell_within : (size p : ℕ) → cell_word size p + size ≤ 2 + 2 * size
+cell_within size p =
+    let step : size * (p % 2 + 1) ≤ size * 2 = mul-le-mul_left size (omega arith) in omega arith
+
+module _ {V : Type 0} (words_of : V → List ℕ) (value_of : List ℕ → V) (size : ℕ)
+    (sized : (x : V) → length (words_of x) ≡ size) (given_back : (x : V) → value_of (words_of x) ≡ x)
+    (some : 1 ≤ size) (few : size ≤ 128) (value : V) where
+  abbrev Ends : ℕ → Bool → List ℕ → Store V → List ℕ → Type 0
+  Ends n end last call ws =
+      EndsIn (store_want words_of) (λ c given old. store_after size c old) (λ c (room : Unit {0}) old. room) value n end tt last call tt ws
+
+  abbrev From : ℕ → Bool → List ℕ → After (Store V) Bool → List ℕ → Type 0
+  From n end last a ws =
+      EndsFrom (store_want words_of) (λ c given old. store_after size c old) (λ c (room : Unit {0}) old. room) value n end tt last a tt ws
+
+  abbrev counted : List ℕ → List ℕ
+  counted ws = slice_set ws 0 (written (Add 1) (slice_index ws 0))
+
+  -- the words of the value, and then the version
+  goes_in : (cell n at : ℕ) → at + suc n ≡ size → (ws : List ℕ)
+      → Ends (suc (suc n)) true (counted (words.stored ws cell (words_of value) at (suc n)))
+      (at_store first_store (stores.TheVariants.StoresCell cell at)) ws
+  goes_in cell zero at end ws =
+      by_test (λ a. From 1 true (counted (words.stored ws cell (words_of value) at 1)) a (slice_set ws (word_at cell at) (slice_index (words_of value) at)))
+      (nat_lt (at + 1) size) _ _
+      (λ t. let more : at + 1 < size = grind (arith, nat_tests) in absurd (omega arith))
+      (λ t. (refl, refl, refl))
+  goes_in cell (suc n) at end ws =
+      let next = slice_set ws (word_at cell at) (slice_index (words_of value) at) in
+      by_test (λ a. From (suc (suc n)) true (counted (words.stored ws cell (words_of value) at (suc (suc n)))) a next)
+      (nat_lt (at + 1) size) _ _
+      (λ t. goes_in cell n (at + 1) (omega arith) next)
+      (λ t. let less : size ≤ at + 1 = grind (arith, nat_tests) in absurd (omega arith))
+
+  abbrev pub Stored : List ℕ → Bool → Unit {0} → List ℕ → Type 0
+  Stored ws end room last =
+      Turns (Fits size) (value_in value_of size) has_version (λ s. stored s value) ws end last
+
+  abbrev pub StoreRuns : Store V → List ℕ → Type 0
+  StoreRuns call ws =
+      Runs (store_want words_of) (λ c given old. store_after size c old) (λ c (room : Unit {0}) old. room) value
+      (Stored ws) call tt ws
+
+  at_end : (ws : List ℕ) → Fits size ws → slice_index ws 0 ≡ 2 ^ 64 - 1 → StoreRuns first_store ws
+  at_end ws fits e =
+      let is : (slice_index ws 0 == 2 ^ 64 - 1) ≡ true = eq-eqb _ _ e in
+      record {
+        steps = 1;
+        few = omega arith;
+        end = false;
+        last_room = tt;
+        last_words = ws;
+        ends = by_eq (λ a. From 0 false ws a ws) (slice_index ws 0) (2 ^ 64 - 1) _ _
+            (λ _. (refl, refl, refl)) (λ other. absurd (other e));
+        holds = (
+          fits,
+          sym (ap not is),
+          sym (ap (λ b. if not b then record { value = value; version = slice_index ws 0 + 1 } else value_in value_of size ws) is),
+        );
+      }
+
+  module _ (ws : List ℕ) (fits : Fits size ws) (more : slice_index ws 0 ≢ 2 ^ 64 - 1) where
+    abbrev v : ℕ
+    v = slice_index ws 0
+
+    abbrev cell : ℕ
+    cell = cell_word size v
+
+    abbrev cells : List ℕ
+    cells = words.stored ws cell (words_of value) 0 size
+
+    abbrev last : List ℕ
+    last = counted cells
+
+    within : cell + size ≤ 2 + 2 * size
+    within = cell_within size v
+
+    small : cell + 0 + size < 2 ^ 64
+    small = let w = within in omega arith
+
+    stands : slice_index cells 0 ≡ v
+    stands = stored_other ws cell (words_of value) 0 size 0 small (inl (omega arith))
+
+    cells_long : length cells ≡ 2 + 2 * size
+    cells_long = stored_length ws cell (words_of value) 0 size ∙ fits.long
+
+    version_is : slice_index last 0 ≡ v + 1
+    version_is =
+        let long = cells_long in let is = stands in let f = fits.fits in
+        get_or-set_same cells 0 (written (Add 1) (slice_index cells 0)) 0 (omega arith) ∙ omega (arith, more)
+
+    before : before_version (slice_index last 0) ≡ v
+    before = let is = version_is in let f = fits.fits in omega (arith, more)
+
+    own : value_of (words_from last cell size) ≡ value
+    own =
+        let at : words_from cells cell size ≡ words_of value =
+        subst (λ k. words_from cells k size ≡ words_of value) (omega arith)
+        (stored_words ws cell (words_of value) 0 size small (let a = within in let b = fits.long in omega arith)
+        ∙ subst (λ n. words_from (words_of value) 0 n ≡ words_of value) (sized value) (words_all (words_of value))) in
+        let same : words_from last cell size ≡ words_from cells cell size =
+        words_same last cells cell size (λ i low high. get_or-set_other cells 0 i (written (Add 1) (slice_index cells 0)) 0 (λ e. absurd (omega arith))) in
+        ap value_of (same ∙ at) ∙ given_back value
+
+    goes : Ends (suc (suc (suc (size - 1)))) true last first_store ws
+    goes =
+        let n : suc (size - 1) ≡ size = omega arith in
+        by_eq (λ a. From (suc (suc (size - 1))) true last a ws) v (2 ^ 64 - 1) _ _
+        (λ e. absurd (more e))
+        (λ _. subst (λ k. Ends (suc (suc (size - 1))) true (counted (words.stored ws cell (words_of value) 0 k)) (at_store first_store (stores.TheVariants.StoresCell cell 0)) ws)
+        n (goes_in cell (size - 1) 0 (omega arith) ws))
+
+    stores_one : StoreRuns first_store ws
+    stores_one =
+        let is = version_is in
+        let f = fits.fits in
+        let open_end : (v == 2 ^ 64 - 1) ≡ false = ne_eqb _ _ more in
+        let value_is : value_of (words_from last (cell_word size (before_version (slice_index last 0))) size) ≡ value =
+        ap (λ p. value_of (words_from last (cell_word size p) size)) before ∙ own in
+        record {
+          steps = suc (suc (suc (size - 1)));
+          few = omega arith;
+          end = true;
+          last_room = tt;
+          last_words = last;
+          ends = goes;
+          holds = (
+            record { long = length-set cells 0 _ ∙ cells_long; fits = omega (arith, more) },
+            sym (ap not open_end),
+            (λ i. record { value = value_is i; version = is i })
+                ∙ sym (ap (λ b. if not b then record { value = value; version = v + 1 } else value_in value_of size ws) open_end),
+          );
+        }
+
+  pub store_runs : (call : Store V) → call ≡ first_store → (ws : List ℕ) → Fits size ws
+      → StoreRuns call ws
+  store_runs call is ws fits =
+      subst (λ c. StoreRuns c ws) (sym is)
+      (dite (ℕ_discrete (slice_index ws 0) (2 ^ 64 - 1)) (at_end ws fits) (stores_one ws fits))
+
+-- ---- load
+
+module _ {V R : Type 0} (value_of : List ℕ → V) (size : ℕ) (some : 1 ≤ size) (few : size ≤ 128)
+    (words_in : R → List ℕ) (with_word : R → ℕ → ℕ → R)
+    (put_in : (x : R) (at word : ℕ) → words_in (with_word x at word) ≡ slice_set (words_in x) at word)
+    (ws : List ℕ) where
+  abbrev LoadEnds : ℕ → R → List ℕ → Load V R → R → Type 0
+  LoadEnds n last_room last call room =
+      EndsIn (λ c (given : Unit {0}). load_want c) (λ c given old. load_after size c old) (load_kept with_word) tt n tt last_room last call room ws
+
+  abbrev LoadFrom : ℕ → R → List ℕ → After (Load V R) (Unit {0}) → R → List ℕ → Type 0
+  LoadFrom n last_room last a room now =
+      EndsFrom (λ c (given : Unit {0}). load_want c) (λ c given old. load_after size c old) (load_kept with_word) tt n tt last_room last a room now
+
+  abbrev version : ℕ
+  version = slice_index ws 0
+
+  abbrev checked : List ℕ
+  checked = slice_set ws 0 version
+
+  -- the words of the cell, and then the version for itself
+  reads : (cell n at : ℕ) → at + suc n ≡ size → (room : R)
+      → LoadEnds (suc (suc n)) (read_in with_word room ws cell at (suc n)) checked
+      (at_load first_load (loads.TheVariants.LoadsCell version cell at)) room
+  reads cell zero at end room =
+      let here = read_in with_word room ws cell at 1 in
+      let written : (if version == version then checked else ws) ≡ checked =
+      ap (λ b. if b then checked else ws) (eq-eqb version version refl) in
+      by_test (λ a. LoadFrom 1 here checked a here ws)
+      (nat_lt (at + 1) size) _ _
+      (λ t. let more : at + 1 < size = grind (arith, nat_tests) in absurd (omega arith))
+      (λ t. by_eq (λ a. LoadFrom 0 here checked a here (if version == version then checked else ws)) version version _ _
+      (λ _. (refl, refl, sym written)) (λ ne. absurd (ne refl)))
+  reads cell (suc n) at end room =
+      let next = with_word room at (slice_index ws (word_at cell at)) in
+      by_test (λ a. LoadFrom (suc (suc n)) (read_in with_word room ws cell at (suc (suc n))) checked a next ws)
+      (nat_lt (at + 1) size) _ _
+      (λ t. reads cell n (at + 1) (omega arith) next)
+      (λ t. let less : size ≤ at + 1 = grind (arith, nat_tests) in absurd (omega arith))
+
+  abbrev pub Loaded : Unit {0} → R → List ℕ → Type 0
+  Loaded end room last =
+      Turns (Fits size) (value_in value_of size) (λ (s : Versioned V). s.value) (λ s. s) ws
+      (copied.value_in value_of size (words_in room)) last
+
+  abbrev pub LoadRuns : Load V R → R → Type 0
+  LoadRuns call room =
+      Runs (λ (c : Load V R) (given : Unit {0}). load_want c) (λ c given old. load_after size c old) (load_kept with_word) tt
+      Loaded call room ws
+
+  loads_first : (room : R) → size ≤ length (words_in room) → Fits size ws → LoadRuns first_load room
+  loads_first room wide fits =
+      let cell = cell_word size (before_version version) in
+      let within = cell_within size (before_version version) in
+      let long = fits.long in
+      let n : suc (size - 1) ≡ size = omega arith in
+      let version_is : slice_index checked 0 ≡ version = get_or-set_same ws 0 version 0 (omega arith) in
+      let same : words_from checked cell size ≡ words_from ws cell size =
+      words_same checked ws cell size (λ i low high. get_or-set_other ws 0 i version 0 (λ e. absurd (omega arith))) in
+      let value_is : value_of (words_from checked (cell_word size (before_version (slice_index checked 0))) size) ≡ value_of (words_from ws cell size) =
+      ap (λ p. value_of (words_from checked (cell_word size (before_version p)) size)) version_is ∙ ap value_of same in
+      record {
+        steps = suc (suc (suc (size - 1)));
+        few = omega arith;
+        end = tt;
+        last_room = read_in with_word room ws cell 0 size;
+        last_words = checked;
+        ends = subst (λ k. LoadEnds (suc (suc (suc (size - 1)))) (read_in with_word room ws cell 0 k) checked first_load room)
+            n (reads cell (size - 1) 0 (omega arith) room);
+        holds = (
+          record { long = length-set ws 0 version ∙ long; fits = subst (λ x. x < 2 ^ 64) (sym version_is) fits.fits },
+          value_read value_of size words_in with_word put_in room ws cell wide (omega arith),
+          λ i. record { value = value_is i; version = version_is i },
+        );
+      }
+
+  pub load_runs : (call : Load V R) → call ≡ first_load → (room : R)
+      → size ≤ length (words_in room) → Fits size ws → LoadRuns call room
+  load_runs call is room wide fits = subst (λ c. LoadRuns c room) (sym is) (loads_first room wide fits)

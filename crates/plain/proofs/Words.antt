@@ -1,0 +1,145 @@
+-- Words that are read and written one after another.
+use Rattle.std.proofs.Common.{◌≡◌, ℕ, zero, suc, ◌+◌, ◌^◌, ◌<◌, ◌≤◌, ◌⊎◌, inl, inr, ⊎_elim, List, [], ◌∷◌, length, refl, sym, ap, subst, ◌∙◌, arith, slice_index, slice_set, get_or-set_same, get_or-set_other, length-set, take}
+use Rattle.std.specs.Prelude.{replicate, nat_lt, if◌then◌else◌, false}
+use Rattle.std.proofs.lemmas.Bool.Decides.{nat_tests}
+use Rattle.steps.specs.Copied.{value_in}
+use Rattle.steps.specs.Queues.Ring.{word_at}
+use Rattle.plain.specs.Queues.{words_from}
+
+pub words_same : (ws vs : List ℕ) (at n : ℕ)
+    → ((i : ℕ) → at ≤ i → i < at + n → slice_index ws i ≡ slice_index vs i)
+    → words_from ws at n ≡ words_from vs at n
+words_same ws vs at zero h = refl
+words_same ws vs at (suc n) h =
+    let head = h at (omega arith) (omega arith) in
+    let tail = words_same ws vs (suc at) n (λ i low high. h i (omega arith) (omega arith)) in
+    λ i. head i ∷ tail i
+
+shifted : (x : ℕ) (xs : List ℕ) (at n : ℕ) → words_from (x ∷ xs) (suc at) n ≡ words_from xs at n
+shifted x xs at zero = refl
+shifted x xs at (suc n) = ap (λ z. slice_index xs at ∷ z) (shifted x xs (suc at) n)
+
+pub words_all : (xs : List ℕ) → words_from xs 0 (length xs) ≡ xs
+words_all [] = refl
+words_all (x ∷ xs) = ap (λ z. x ∷ z) (shifted x xs 0 (length xs) ∙ words_all xs)
+
+-- these words, from one place on, stored to a cell
+abbrev pub stored : List ℕ → ℕ → List ℕ → ℕ → ℕ → List ℕ
+stored ws k xs at zero = ws
+stored ws k xs at (suc n) =
+    stored (slice_set ws (word_at k at) (slice_index xs at)) k xs (at + 1) n
+
+pub stored_length : (ws : List ℕ) (k : ℕ) (xs : List ℕ) (at n : ℕ)
+    → length (stored ws k xs at n) ≡ length ws
+stored_length ws k xs at zero = refl
+stored_length ws k xs at (suc n) =
+    stored_length (slice_set ws (word_at k at) (slice_index xs at)) k xs (at + 1) n
+    ∙ length-set ws (word_at k at) (slice_index xs at)
+
+pub stored_other : (ws : List ℕ) (k : ℕ) (xs : List ℕ) (at n j : ℕ) → k + at + n < 2 ^ 64
+    → (j < k + at) ⊎ (k + at + n ≤ j)
+    → slice_index (stored ws k xs at n) j ≡ slice_index ws j
+stored_other ws k xs at zero j small out = refl
+stored_other ws k xs at (suc n) j small out =
+    stored_other (slice_set ws (word_at k at) (slice_index xs at)) k xs (at + 1) n j (omega arith)
+    (⊎_elim (λ h. inl (omega arith)) (λ h. inr (omega arith)) out)
+    ∙ get_or-set_other ws (word_at k at) j (slice_index xs at) 0
+    (λ e. ⊎_elim (λ h. absurd (omega arith)) (λ h. absurd (omega arith)) out)
+
+pub stored_words : (ws : List ℕ) (k : ℕ) (xs : List ℕ) (at n : ℕ) → k + at + n < 2 ^ 64
+    → k + at + n ≤ length ws → words_from (stored ws k xs at n) (k + at) n ≡ words_from xs at n
+stored_words ws k xs at zero small within = refl
+stored_words ws k xs at (suc n) small within =
+    let vs : List ℕ = slice_set ws (word_at k at) (slice_index xs at) in
+    let long : length vs ≡ length ws = length-set ws (word_at k at) (slice_index xs at) in
+    let place : word_at k at ≡ k + at = omega arith in
+    let head : slice_index (stored vs k xs (at + 1) n) (k + at) ≡ slice_index xs at =
+    stored_other vs k xs (at + 1) n (k + at) (omega arith) (inl (omega arith))
+    ∙ subst (λ p. slice_index (slice_set ws p (slice_index xs at)) (k + at) ≡ slice_index xs at)
+    (sym place) (get_or-set_same ws (k + at) (slice_index xs at) 0 (omega arith)) in
+    let tail : words_from (stored vs k xs (at + 1) n) (k + (at + 1)) n ≡ words_from xs (at + 1) n =
+    stored_words vs k xs (at + 1) n (omega arith) (omega arith) in
+    let there : k + (at + 1) ≡ suc (k + at) = omega arith in
+    let here : at + 1 ≡ suc at = omega arith in
+    let tail₂ : words_from (stored vs k xs (at + 1) n) (suc (k + at)) n ≡ words_from xs (suc at) n =
+    subst (λ (z : ℕ × ℕ). words_from (stored vs k xs (at + 1) n) z.0 n ≡ words_from xs z.1 n) (λ i. (there i, here i)) tail in
+    λ i. head i ∷ tail₂ i
+
+-- words of a cell, from one place on, loaded to a room
+abbrev pub loaded : List ℕ → List ℕ → ℕ → ℕ → ℕ → List ℕ
+loaded xs ws k at zero = xs
+loaded xs ws k at (suc n) = loaded (slice_set xs at (slice_index ws (word_at k at))) ws k (at + 1) n
+
+loaded_other : (xs ws : List ℕ) (k at n j : ℕ) → (j < at) ⊎ (at + n ≤ j)
+    → slice_index (loaded xs ws k at n) j ≡ slice_index xs j
+loaded_other xs ws k at zero j out = refl
+loaded_other xs ws k at (suc n) j out =
+    loaded_other (slice_set xs at (slice_index ws (word_at k at))) ws k (at + 1) n j
+    (⊎_elim (λ h. inl (omega arith)) (λ h. inr (omega arith)) out)
+    ∙ get_or-set_other xs at j (slice_index ws (word_at k at)) 0
+    (λ e. ⊎_elim (λ h. absurd (omega arith)) (λ h. absurd (omega arith)) out)
+
+pub loaded_length : (xs ws : List ℕ) (k at n : ℕ) → length (loaded xs ws k at n) ≡ length xs
+loaded_length xs ws k at zero = refl
+loaded_length xs ws k at (suc n) =
+    loaded_length (slice_set xs at (slice_index ws (word_at k at))) ws k (at + 1) n
+    ∙ length-set xs at (slice_index ws (word_at k at))
+
+pub loaded_words : (xs ws : List ℕ) (k at n : ℕ) → k + at + n < 2 ^ 64 → at + n ≤ length xs
+    → words_from (loaded xs ws k at n) at n ≡ words_from ws (k + at) n
+loaded_words xs ws k at zero small within = refl
+loaded_words xs ws k at (suc n) small within =
+    let ys : List ℕ = slice_set xs at (slice_index ws (word_at k at)) in
+    let long : length ys ≡ length xs = length-set xs at (slice_index ws (word_at k at)) in
+    let place : word_at k at ≡ k + at = omega arith in
+    let head : slice_index (loaded ys ws k (at + 1) n) at ≡ slice_index ws (k + at) =
+    loaded_other ys ws k (at + 1) n at (inl (omega arith))
+    ∙ get_or-set_same xs at (slice_index ws (word_at k at)) 0 (omega arith)
+    ∙ ap (slice_index ws) place in
+    let tail : words_from (loaded ys ws k (at + 1) n) (at + 1) n ≡ words_from ws (k + (at + 1)) n =
+    loaded_words ys ws k (at + 1) n (omega arith) (omega arith) in
+    let there : k + (at + 1) ≡ suc (k + at) = omega arith in
+    let here : at + 1 ≡ suc at = omega arith in
+    let tail₂ : words_from (loaded ys ws k (at + 1) n) (suc at) n ≡ words_from ws (suc (k + at)) n =
+    subst (λ (z : ℕ × ℕ). words_from (loaded ys ws k (at + 1) n) z.0 n ≡ words_from ws z.1 n) (λ i. (here i, there i)) tail in
+    λ i. head i ∷ tail₂ i
+
+pub take_words : (xs : List ℕ) (n : ℕ) → n ≤ length xs → take n xs ≡ words_from xs 0 n
+take_words xs zero within = refl
+take_words [] (suc n) within = absurd (omega arith)
+take_words (x ∷ xs) (suc n) within =
+    ap (λ z. x ∷ z) (take_words xs n (omega arith) ∙ sym (shifted x xs 0 n))
+
+-- ---- words of a cell, from one place on, read into a room
+
+module _ {R : Type 0} (with_word : R → ℕ → ℕ → R) where
+  abbrev pub read_in : R → List ℕ → ℕ → ℕ → ℕ → R
+  read_in room ws k at zero = room
+  read_in room ws k at (suc n) =
+      read_in (with_word room at (slice_index ws (word_at k at))) ws k (at + 1) n
+
+module _ {V R : Type 0} (value_of : List ℕ → V) (size : ℕ) (words_in : R → List ℕ)
+    (with_word : R → ℕ → ℕ → R)
+    (put_in : (x : R) (at word : ℕ) → words_in (with_word x at word) ≡ slice_set (words_in x) at word) where
+  read_words : (room : R) (ws : List ℕ) (k at n : ℕ)
+      → words_in (read_in with_word room ws k at n) ≡ loaded (words_in room) ws k at n
+  read_words room ws k at zero = refl
+  read_words room ws k at (suc n) =
+      read_words (with_word room at (slice_index ws (word_at k at))) ws k (at + 1) n
+      ∙ ap (λ xs. loaded xs ws k (at + 1) n) (put_in room at (slice_index ws (word_at k at)))
+
+  -- the value that a room then has
+  pub value_read : (room : R) (ws : List ℕ) (k : ℕ) → size ≤ length (words_in room)
+      → k + 0 + size < 2 ^ 64
+      → value_in value_of size (words_in (read_in with_word room ws k 0 size)) ≡ value_of (words_from ws k size)
+  value_read room ws k wide small =
+      let is : words_in (read_in with_word room ws k 0 size) ≡ loaded (words_in room) ws k 0 size = read_words room ws k 0 size in
+      let long : length (loaded (words_in room) ws k 0 size) ≡ length (words_in room) = loaded_length (words_in room) ws k 0 size in
+      let enough : nat_lt (length (loaded (words_in room) ws k 0 size)) size ≡ false = grind (arith, nat_tests, long, wide) in
+      let words_are : take size (loaded (words_in room) ws k 0 size) ≡ words_from ws k size =
+      take_words (loaded (words_in room) ws k 0 size) size (omega arith)
+      ∙ loaded_words (words_in room) ws k 0 size small (omega arith)
+      ∙ ap (λ j. words_from ws j size) (omega arith) in
+      ap (value_in value_of size) is
+      ∙ ap (λ b. if b then value_of (take size (replicate 128 0)) else value_of (take size (loaded (words_in room) ws k 0 size))) enough
+      ∙ ap value_of words_are

@@ -1,0 +1,9 @@
+use Rattle.plain.proofs.Alone.{can_end, ends_so}
+use Rattle.plain.proofs.Stacks.Acquires.{take_runs}
+use Rattle.plain.proofs.unique.acquire.Goals as goal
+
+pub drive-requires : goal.drive-requires
+drive-requires c = record { ends = can_end _ _ _ _ _ _ _ _ (take_runs c.args.capacity c.new.result c.new.ensures c.args.words.now.items c.requires) }
+
+pub returns : goal.returns
+returns c = ends_so _ _ _ _ _ _ _ _ (take_runs c.args.capacity c.new.result c.new.ensures c.args.words.now.items c.requires) _ _ _ c.drive.ensures.alone

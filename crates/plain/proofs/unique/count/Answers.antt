@@ -1,0 +1,9 @@
+use Rattle.plain.proofs.Alone.{can_end, ends_so}
+use Rattle.plain.proofs.Stacks.Looks.{count_runs}
+use Rattle.plain.proofs.unique.count.Goals as goal
+
+pub drive-requires : goal.drive-requires
+drive-requires c = record { ends = can_end _ _ _ _ _ _ _ _ (count_runs c.args.capacity c.args.words.now.items _ c.requires) }
+
+pub returns : goal.returns
+returns c = ends_so _ _ _ _ _ _ _ _ (count_runs c.args.capacity c.args.words.now.items _ c.requires) _ _ _ c.drive.ensures.alone

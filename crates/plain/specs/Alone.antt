@@ -1,0 +1,125 @@
+-- A call that runs alone over a list of words, to its end or to a question.
+use Rattle.std.specs.Prelude.{◌≡◌, ℕ, zero, suc, ◌^◌, ◌-◌, ◌≤◌, List, slice_index, slice_set, ◌==◌, if◌then◌else◌, bit_and, bit_or}
+use Rattle.steps.specs.Ask.{written}
+use Rattle.steps.specs.declared.ask.Ask.{Ask}
+use Rattle.steps.specs.declared.ask.Op.{Op}
+use Rattle.steps.specs.declared.ask.Op.TheVariants.{Load, Store, Swap, Add, Sub, And, Or, Exchange}
+use Rattle.steps.specs.declared.ask.Want.{Want}
+use Rattle.steps.specs.declared.ask.Want as wants
+use Rattle.steps.specs.declared.ask.After.{After}
+use Rattle.steps.specs.declared.ask.After.TheVariants.{GoOn, Done}
+use Rattle.plain.specs.declared.drive.Stop.{Stop}
+use Rattle.plain.specs.declared.drive.Stop.TheVariants.{Asked, Ended}
+
+-- ---- one step
+
+-- the words once the operation is done on this one
+abbrev pub written_by : List ℕ → ℕ → Op → List ℕ
+written_by words at Load = words
+written_by words at (Store new) = slice_set words at new
+written_by words at (Swap new) = slice_set words at new
+written_by words at (Add by) = slice_set words at (written (Add by) (slice_index words at))
+written_by words at (Sub by) = slice_set words at (written (Sub by) (slice_index words at))
+written_by words at (And bits) = slice_set words at (bit_and (slice_index words at) bits)
+written_by words at (Or bits) = slice_set words at (bit_or (slice_index words at) bits)
+written_by words at (Exchange from to) =
+    if slice_index words at == from then slice_set words at to else words
+
+abbrev pub written_at : List ℕ → Ask → List ℕ
+written_at words ask = written_by words ask.word ask.op
+
+-- what the call is handed: the word's old value, or 0 where it asks for none
+abbrev pub answer_in : List ℕ → Want (Unit {0}) → ℕ
+answer_in words (wants.TheVariants.Ask ask) = slice_index words ask.word
+answer_in words (wants.TheVariants.Question question) = 0
+answer_in words wants.TheVariants.Nothing = 0
+
+abbrev pub words_then : List ℕ → Want (Unit {0}) → List ℕ
+words_then words (wants.TheVariants.Ask ask) = written_at words ask
+words_then words (wants.TheVariants.Question question) = words
+words_then words wants.TheVariants.Nothing = words
+
+-- a question changes nothing
+abbrev pub room_then : {M : Type 0} → Want (Unit {0}) → M → M → M
+room_then (wants.TheVariants.Ask ask) room new = new
+room_then (wants.TheVariants.Question question) room new = room
+room_then wants.TheVariants.Nothing room new = new
+
+module _ {C E : Type 0} where
+  abbrev pub goes : After C E → After C (Stop C E)
+  goes (GoOn d) = GoOn d
+  goes (Done e) = Done (Ended e)
+
+  -- it stops at a question
+  abbrev pub stepped : Want (Unit {0}) → C → After C E → After C (Stop C E)
+  stepped (wants.TheVariants.Ask ask) call next = goes next
+  stepped (wants.TheVariants.Question question) call next = Done (Asked question call)
+  stepped wants.TheVariants.Nothing call next = goes next
+
+-- ---- all steps
+
+module _ {C G M E : Type 0} (want_of : C → G → Want (Unit {0})) (after : C → G → ℕ → After C E)
+    (kept : C → M → ℕ → M) (given : G) where
+  -- it has stopped so, or stops so from where it stands
+  abbrev pub StopsFrom : (C → M → List ℕ → Type 0) → After C (Stop C E) → M → List ℕ → Stop C E → M → List ℕ → Type 0
+  StopsFrom rest (GoOn d) room words stop last_room last_words = rest d room words
+  StopsFrom rest (Done s) room words stop last_room last_words =
+      (stop ≡ s) × (last_room ≡ room) × (last_words ≡ words)
+
+  -- run alone from here it takes so many steps, and stops with these
+  abbrev pub StopsIn : ℕ → Stop C E → M → List ℕ → C → M → List ℕ → Type 0
+  StopsIn zero stop last_room last_words call room words = ⊥
+  StopsIn (suc n) stop last_room last_words call room words =
+      StopsFrom (StopsIn n stop last_room last_words)
+      (stepped (want_of call given) call (after call given (answer_in words (want_of call given))))
+      (room_then (want_of call given) room
+      (kept call room (answer_in words (want_of call given))))
+      (words_then words (want_of call given)) stop last_room last_words
+
+  -- it comes to a stop
+  pub record CanStop (call : C) (room : M) (words : List ℕ) : Type 0 where
+    pub steps : ℕ
+    pub few : steps ≤ 2 ^ 64 - 1
+    pub stop : Stop C E
+    pub last_room : M
+    pub last_words : List ℕ
+    pub stops : StopsIn steps stop last_room last_words call room words
+
+  -- it stops just as a call alone stops
+  abbrev pub StopsAlike : C → M → List ℕ → Stop C E → M → List ℕ → Type 0
+  StopsAlike call room words stop last_room last_words =
+      (n : ℕ) (s : Stop C E) (r : M) (ws : List ℕ) → StopsIn n s r ws call room words
+      → (stop ≡ s) × (last_room ≡ r) × (last_words ≡ ws)
+
+  -- ---- the same for a call that puts no question
+
+  abbrev pub EndsIn : ℕ → E → M → List ℕ → C → M → List ℕ → Type 0
+  EndsIn n end last_room last_words call room words =
+      StopsIn n (Ended end) last_room last_words call room words
+
+  abbrev pub EndsFrom : ℕ → E → M → List ℕ → After C E → M → List ℕ → Type 0
+  EndsFrom n end last_room last_words next room words =
+      StopsFrom (StopsIn n (Ended end) last_room last_words) (goes next) room words (Ended end)
+      last_room last_words
+
+  pub record CanEnd (call : C) (room : M) (words : List ℕ) : Type 0 where
+    pub steps : ℕ
+    pub few : steps ≤ 2 ^ 64 - 1
+    pub end : E
+    pub last_room : M
+    pub last_words : List ℕ
+    pub ends : EndsIn steps end last_room last_words call room words
+
+  -- it ends just as a call alone ends
+  abbrev pub EndsAlike : C → M → List ℕ → E → M → List ℕ → Type 0
+  EndsAlike call room words end last_room last_words =
+      (n : ℕ) (e : E) (r : M) (ws : List ℕ) → EndsIn n e r ws call room words
+      → (end ≡ e) × (last_room ≡ r) × (last_words ≡ ws)
+
+-- ---- a call of an object
+
+-- It took one state of an object to the next, and answered as the object does; the words fit again.
+abbrev pub Turns : {S A : Type 0} → (List ℕ → Type 0) → (List ℕ → S) → (S → A) → (S → S)
+    → List ℕ → A → List ℕ → Type 0
+Turns Fits read answer next old answered new =
+    Fits new × (answered ≡ answer (read old)) × (read new ≡ next (read old))

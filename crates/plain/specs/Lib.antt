@@ -1,0 +1,5 @@
+pub mod Alone
+pub mod Overflowing
+pub mod Queues
+pub mod Unique
+pub mod Value

@@ -1,0 +1,19 @@
+-- The words of a single value, read as a value with its version.
+use Rattle.std.specs.Prelude.{◌≡◌, ◌<◌, ℕ, ◌+◌, ◌*◌, ◌^◌, List, length, slice_index}
+use Rattle.steps.specs.Atomic.{before_version, cell_word}
+use Rattle.steps.specs.Objects.Values.{Versioned}
+use Rattle.plain.specs.Queues.{words_from}
+
+-- it stands in the cell of the version before
+abbrev pub value_in : {V : Type 0} → (List ℕ → V) → ℕ → List ℕ → Versioned V
+value_in value_of size words =
+    record {
+      value = value_of (words_from words
+          (cell_word size (before_version (slice_index words 0))) size);
+      version = slice_index words 0;
+    }
+
+-- there are two cells
+pub record Fits (size : ℕ) (words : List ℕ) : Type 0 where
+  pub long : length words ≡ 2 + 2 * size
+  pub fits : slice_index words 0 < 2 ^ 64

@@ -1,0 +1,176 @@
+//! The bounded queue of one caller, over values of any number of words.
+ghost use Rattle.std.specs.Prelude.{◌≡◌, ◌-◌, ◌^◌, ◌⊎◌, length, nat_eq, IfOk, IfErr, OnOk, Some, None};
+ghost use Rattle.steps.specs.Enums.{capacity_refusal};
+ghost use Rattle.steps.specs.Objects.Lists.{Bounded, opened_at, takes_more, pushed, front, popped};
+ghost use Rattle.steps.specs.declared.enums.UniqueIndexCreationError.TheVariants.{NoMemory};
+ghost use Rattle.plain.specs.Alone.{Turns};
+ghost use Rattle.plain.specs.Queues.{list_in, Fits};
+
+use crate::drive::drive;
+use std::alloc::Global;
+use std::marker::{Model, PhantomData};
+use steps::copied::Copied;
+use steps::enums::{UniqueIndexCreationError, capacity_refusal};
+use steps::queues::lengths::Len;
+use steps::queues::ring::{CONSUMER, FIRST_CELL, PRODUCER, Pop, Push, READ, WRITE};
+use steps::routine::Routine;
+use steps::words::Words;
+
+/// A list of at most so many values: what goes in first comes out first. After `Queue` of the Rust crate, for one
+/// caller.
+#[derive(Drop)]
+pub struct Queue<T: Words> {
+    words: Vec<u64>,
+    capacity: u32,
+    of: PhantomData<T>,
+}
+
+/// The same for numbers of 64 bits. After `IndexQueue` of the Rust crate, for one caller.
+pub type IndexQueue = Queue<u64>;
+
+impl<T: Words> Model for Queue<T> {
+    ghost Value = { Bounded T };
+
+    ghost view = { λ q. list_in T.value_of T.WORDS q.capacity q.words.items };
+
+    ghost invariant = { λ q. Fits T.WORDS q.capacity q.words.items };
+}
+
+/// A push, over the words of a queue.
+fn push<T: Words>(words: &mut Vec<u64>, capacity: u32, value: &T) -> bool
+    requires { Fits T.WORDS capacity words.old.items }
+    ensures { Turns (Fits T.WORDS capacity) (list_in T.value_of T.WORDS capacity) takes_more
+        (λ q. pushed q value.now) words.old.items result words.new.items }
+{
+    let mut room = ();
+    drive(words, Push::new(capacity), value, &mut room)
+}
+
+/// A pop, over the words of a queue.
+fn pop<T: Words>(words: &mut Vec<u64>, capacity: u32) -> Option<T>
+    requires { Fits T.WORDS capacity words.old.items }
+    ensures { Turns (Fits T.WORDS capacity) (list_in T.value_of T.WORDS capacity) front popped
+        words.old.items result words.new.items }
+{
+    let mut room = Copied::new();
+    let end = drive(words, Pop::<T, Copied>::new(capacity), &(), &mut room);
+    Pop::<T, Copied>::answer(end, &(), &room)
+}
+
+/// A count of the values, over the words of a queue.
+fn len<T: Words>(words: &mut Vec<u64>, capacity: u32) -> u64
+    requires { Fits T.WORDS capacity words.old.items }
+    ensures { Turns (Fits T.WORDS capacity) (list_in T.value_of T.WORDS capacity)
+        (λ q. length q.values) (λ q. q) words.old.items result words.new.items }
+{
+    let mut room = ();
+    drive(words, Len::new(capacity), &(), &mut room)
+}
+
+impl<T: Words> Queue<T> {
+    /// Appends the value, and answers true; where there is no room, or no position, false.
+    pub fn push(&mut self, value: T) -> bool
+        ensures answer { result ≡ takes_more self.old }
+        ensures list { self.new ≡ pushed self.old value }
+    {
+        push(&mut self.words, self.capacity, &value)
+    }
+
+    /// Takes the oldest value, or None where there is none.
+    pub fn pop(&mut self) -> Option<T>
+        ensures answer { result ≡ front self.old }
+        ensures list { self.new ≡ popped self.old }
+    {
+        pop::<T>(&mut self.words, self.capacity)
+    }
+
+    /// The number of values.
+    pub fn len(&mut self) -> usize
+        ensures answer { result ≡ length self.old.values }
+        ensures list { self.new ≡ self.old }
+    {
+        len::<T>(&mut self.words, self.capacity) as usize
+    }
+
+    /// Whether there is no value.
+    pub fn is_empty(&mut self) -> bool
+        ensures answer { result ≡ nat_eq (length self.old.values) 0 }
+        ensures list { self.new ≡ self.old }
+    {
+        self.len() == 0
+    }
+
+    /// Whether there are as many values as the capacity.
+    pub fn is_full(&mut self) -> bool
+        ensures answer { result ≡ nat_eq (length self.old.values) self.old.capacity }
+        ensures list { self.new ≡ self.old }
+    {
+        let len = self.len();
+        len == self.capacity()
+    }
+
+    /// The greatest number of values.
+    pub fn capacity(&self) -> usize
+        ensures { result ≡ self.now.capacity }
+    {
+        self.capacity as usize
+    }
+
+    /// An empty list, whose first value has position 0.
+    ///
+    /// Refused are, in this order, a capacity above 2^32 - 1 (`ProvidedCapacityGreaterThanMaxCapacity`) and memory
+    /// (`NoMemory`).
+    pub fn new(alloc: Global, capacity: usize) -> Result<Queue<T>, UniqueIndexCreationError>
+        ensures list { IfOk result (λ q. q ≡ opened_at capacity 0) }
+        ensures admitted { OnOk result (capacity_refusal 0 (2 ^ 32 - 1) capacity ≡ None) }
+        ensures refused { IfErr result (λ e. (capacity_refusal 0 (2 ^ 32 - 1) capacity ≡ Some e)
+            ⊎ (capacity_refusal 0 (2 ^ 32 - 1) capacity ≡ None) × (e ≡ NoMemory)) }
+    {
+        Queue::new_at(alloc, capacity, 0)
+    }
+
+    /// An empty list, whose first value has this position. It is refused as `new` is.
+    pub fn new_at(
+        alloc: Global,
+        capacity: usize,
+        position: u64,
+    ) -> Result<Queue<T>, UniqueIndexCreationError>
+        ensures list { IfOk result (λ q. q ≡ opened_at capacity position) }
+        ensures admitted { OnOk result (capacity_refusal 0 (2 ^ 32 - 1) capacity ≡ None) }
+        ensures refused { IfErr result (λ e. (capacity_refusal 0 (2 ^ 32 - 1) capacity ≡ Some e)
+            ⊎ (capacity_refusal 0 (2 ^ 32 - 1) capacity ≡ None) × (e ≡ NoMemory)) }
+    {
+        if let Some(error) = capacity_refusal(capacity as u64, 0, u32::MAX as u64) {
+            return Err(error);
+        }
+        let capacity = capacity as u32;
+        let mut words = Vec::new(alloc);
+        if words
+            .resize(FIRST_CELL + T::WORDS * capacity as usize, 0)
+            .is_err()
+        {
+            return Err(UniqueIndexCreationError::NoMemory);
+        }
+        words[WRITE] = position;
+        words[READ] = position;
+        words[PRODUCER] = 1;
+        words[CONSUMER] = 1;
+        Ok(Queue {
+            words,
+            capacity,
+            of: PhantomData,
+        })
+    }
+
+    /// The list that these words of a queue are.
+    pub fn of_words(words: Vec<u64>, capacity: u32) -> Queue<T>
+        requires { Fits T.WORDS capacity words.items }
+        ensures { result ≡ list_in T.value_of T.WORDS capacity words.items }
+    {
+        Queue {
+            words,
+            capacity,
+            of: PhantomData,
+        }
+    }
+}
