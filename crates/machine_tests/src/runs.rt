@@ -278,14 +278,9 @@ const SCRIPTS: [Script; 20] = [
 
 #[test]
 fn scripts(rt: HostRuntime) -> Result<(), Fail> {
-    for (name, kind, capacity, parties, rows) in SCRIPTS {
-        play(
-            &rt,
-            rt.alloc(),
-            made(rt.alloc(), kind, capacity, parties)?,
-            name,
-            rows,
-        )?;
+    for (name, kind, capacity, parties, rows) in &SCRIPTS {
+        let machine = made(rt.alloc(), *kind, *capacity, *parties)?;
+        play(&rt, rt.alloc(), machine, name, rows)?;
     }
     Ok(())
 }

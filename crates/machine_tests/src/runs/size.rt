@@ -1,9 +1,9 @@
 //! Runs of many turns, of large queues, of many parties and of calls that go back a thousand times.
 use crate::rows::{QueueEvent, Row, made, run, run_all, tells_rounds};
-use machine::Stopped;
 use machine::event::{Answer, Event, Start};
 use machine::families::queues::QueueStart;
 use machine::turn::{Kind, Refusal, Turn};
+use machine::{Machine, Stopped};
 use std::alloc::{AllocError, Global};
 use std::test::Fail;
 
@@ -134,31 +134,33 @@ fn run_takes_the_turns_up_to_a_refusal(rt: HostRuntime) -> Result<(), Fail> {
     Ok(())
 }
 
+const POP: Turn<u128> = Turn::Begin(1, Start::Queues(QueueStart::Pop));
+
+/// Whether a run of these turns stops so.
+fn stops(
+    machine: &mut Machine<u128>,
+    turns: &[Turn<u128>],
+    taken: usize,
+    refusal: Refusal,
+) -> bool {
+    run_all(machine, turns) == Err(Stopped { taken, refusal })
+}
+
+/// Whether a pop of the empty queue is taken, and is over once it has answered None.
+fn pops_none(machine: &mut Machine<u128>) -> bool {
+    let none = Event::Finished(1, Start::Queues(QueueStart::Pop), Answer::PoppedNone);
+    stops(machine, &[POP, POP], 1, Refusal::Busy)
+        && run_all(machine, &[Turn::Next(1), Turn::Next(1)]) == Ok(())
+        && machine.events().last() == Some(&none)
+        && run_all(machine, &[]) == Ok(())
+}
+
 #[test]
 fn why_a_run_stopped(rt: HostRuntime) -> Result<(), Fail> {
     let mut machine = made(rt.alloc(), Kind::IndexQueue, 3, 2)?;
     let mut turns = many_turns(rt.alloc())?;
-    turns.extend_from_slice(&[
-        Turn::Next(1),
-        Turn::Begin(1, Start::Queues(QueueStart::Pop)),
-    ])?;
-    let stopped = Stopped {
-        taken: 10_004,
-        refusal: Refusal::Idle,
-    };
-    assert!(rt; run_all(&mut machine, turns.as_slice()) == Err(stopped));
-    let turns = [
-        Turn::Begin(1, Start::Queues(QueueStart::Pop)),
-        Turn::Begin(1, Start::Queues(QueueStart::Pop)),
-    ];
-    let stopped = Stopped {
-        taken: 1,
-        refusal: Refusal::Busy,
-    };
-    assert!(rt; run_all(&mut machine, &turns) == Err(stopped));
-    assert!(rt; run_all(&mut machine, &[Turn::Next(1), Turn::Next(1)]) == Ok(()));
-    let none = Event::Finished(1, Start::Queues(QueueStart::Pop), Answer::PoppedNone);
-    assert!(rt; machine.events().last() == Some(&none));
-    assert!(rt; run_all(&mut machine, &[]) == Ok(()));
+    turns.extend_from_slice(&[Turn::Next(1), POP])?;
+    assert!(rt; stops(&mut machine, turns.as_slice(), 10_004, Refusal::Idle));
+    assert!(rt; pops_none(&mut machine));
     Ok(())
 }
