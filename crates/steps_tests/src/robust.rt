@@ -61,7 +61,7 @@ fn recover(capacity: u32, mode: ReleaseMode) -> Running<Recover, ReleaseMode, ()
 
 /// Where a call has come to: its end, a question about an index and maybe its owner, or neither.
 #[derive(Debug, Clone, Copy, PartialEq, Eq)]
-enum Came<A> {
+pub enum Came<A> {
     Ended(A),
     Asked(usize),
     AskedOf(OwnerId, usize),
@@ -78,7 +78,7 @@ fn asks<A: Drop>(question: Question<()>) -> Came<A> {
 }
 
 /// Takes at most so many steps of the call, up to its end or a question.
-fn goes_on<C: Routine>(
+pub fn goes_on<C: Routine>(
     call: &mut Running<C, C::Given, C::Room>,
     most: u64,
     words: &mut [u64],
