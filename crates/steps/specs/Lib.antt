@@ -1,6 +1,7 @@
 pub mod Ask
 pub mod Atomic
 pub mod Bits
+pub mod Container
 pub mod Copied
 pub mod Enums
 pub mod Indices

@@ -9,6 +9,7 @@
 pub mod ask;
 pub mod atomic;
 pub mod bits;
+pub mod container;
 pub mod copied;
 pub mod enums;
 pub mod indices;

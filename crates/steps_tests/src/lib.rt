@@ -5,6 +5,8 @@
 #[cfg(test)]
 mod bits;
 #[cfg(test)]
+mod container;
+#[cfg(test)]
 mod drive;
 #[cfg(test)]
 mod indices;

@@ -136,7 +136,7 @@ enum Asks {
 
 /// Where a call has come to: its end, a question about an index and maybe its owner, or neither.
 #[derive(Clone, Copy, PartialEq, Eq)]
-enum Came<A> {
+pub enum Came<A> {
     Ended(A),
     Asked(usize),
     AskedOf(u64, usize),
@@ -153,7 +153,7 @@ fn came_to<A: Drop>(question: Question<()>) -> Came<A> {
 }
 
 /// Takes at most so many steps of the call, up to its end or a question.
-fn goes_on<C: Routine>(
+pub fn goes_on<C: Routine>(
     call: &mut Running<C, C::Given, C::Room>,
     most: u64,
     words: &mut [u64],

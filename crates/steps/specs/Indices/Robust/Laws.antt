@@ -28,11 +28,11 @@ use Rattle.steps.specs.Indices.Robust.Acquire.{acquire_asks, acquire_takes}
 use Rattle.steps.specs.Indices.Robust.Release.{release_asks, release_takes}
 use Rattle.steps.specs.Indices.Robust.Find.{at_find, find_asks, find_comes_to, find_takes, find_after, find_left}
 use Rattle.steps.specs.Indices.Robust.Recover.{recover_asks, recover_takes}
-use Rattle.steps.specs.Indices.Robust.Looks.{borrowed_counted, borrowed_after, locked_after}
+use Rattle.steps.specs.Indices.Robust.Looks.{borrowed_after, locked_after}
 
 -- ---- the parts ask for no store
 
-raise_stores_not : {A : Type 0} (raise : raises.Raise) → IsTrue (is_store (raise_want raise)) → A
+pub raise_stores_not : {A : Type 0} (raise : raises.Raise) → IsTrue (is_store (raise_want raise)) → A
 raise_stores_not raises.TheVariants.LoadsCounter t = no_store t
 raise_stores_not (raises.TheVariants.ExchangesCounter counter) t = no_store t
 
@@ -41,7 +41,7 @@ count_stores_not counts.TheVariants.LoadsCounter t = no_store t
 count_stores_not (counts.TheVariants.LoadsCell counter index filled) t = no_store t
 count_stores_not (counts.TheVariants.ExchangesCounter counter filled) t = no_store t
 
-lock_stores_not : {A : Type 0} (lock : locks.Lock) → IsTrue (is_store (lock_want lock)) → A
+pub lock_stores_not : {A : Type 0} (lock : locks.Lock) → IsTrue (is_store (lock_want lock)) → A
 lock_stores_not (locks.TheVariants.Counts count) t = count_stores_not count t
 lock_stores_not (locks.TheVariants.ExchangesCounter counter) t = no_store t
 

@@ -1,0 +1,162 @@
+-- The elements of a state: their numbers, and the values that are shown.
+use Rattle.std.proofs.Common.{◌≡◌, ℕ, zero, suc, ◌+◌, ◌%◌, ◌≤◌, List, [], ◌∷◌, ◌++◌, length, take, drop, refl, ap, sym, subst, ◌∙◌, inl, inr, arith, add-one}
+use Rattle.std.specs.Prelude.{Option, Some, None, slice_get, slice_set}
+use Rattle.std.specs.List.{FoldsTo}
+use Rattle.std.proofs.lemmas.Fn.{FoldsTo-push}
+use Rattle.std.proofs.lemmas.List.{take_all, append-nil}
+use denote.Ref.{Bor}
+use Rattle.steps.specs.Picks.{by_eq}
+use Rattle.steps.specs.Container.State.{value_shown, shown_first, shown_from, at_value, HasShown, numbers_over}
+use Rattle.steps.specs.declared.enums.CallbackProgression.{CallbackProgression}
+use Rattle.steps.specs.declared.enums.CallbackProgression.TheVariants.{Continue, Stop}
+use Rattle.steps.specs.declared.container.state.Element.{Element}
+
+module _ {T : Type 0} where
+  -- one more element
+  numbers_next : (counts : List ℕ) (es : List (Element T)) (i : ℕ) (e : Element T)
+      → slice_get es i ≡ Some e
+      → numbers_over counts (take (suc i) es)
+      ≡ slice_set (numbers_over counts (take i es)) i e.count
+  numbers_next counts [] i e at = cc
+  numbers_next [] (x ∷ es) zero e at = refl
+  numbers_next [] (x ∷ es) (suc i) e at = refl
+  numbers_next (n ∷ counts) (x ∷ es) zero e at = let same : x ≡ e = cc in ap (λ (y : Element T). y.count ∷ counts) same
+  numbers_next (n ∷ counts) (x ∷ es) (suc i) e at =
+      ap (λ r. x.count ∷ r) (numbers_next counts es i e at)
+
+  pub numbers_more : (counts : List ℕ) (es : List (Element T)) (i : ℕ) (e : Element T)
+      → slice_get es i ≡ Some e
+      → numbers_over counts (take (i + 1) es)
+      ≡ slice_set (numbers_over counts (take i es)) i e.count
+  numbers_more counts es i e at = rw (add-one) (numbers_next counts es i e at)
+
+  -- what is shown by the first elements and by the others
+  shown_first-append : (shown : Option T) (index : ℕ) (xs ys : List (ℕ × T))
+      → shown_first shown index (xs ++ ys) ≡ shown_first shown index xs ++ ys
+  shown_first-append None index xs ys = refl
+  shown_first-append (Some value) index xs ys = refl
+
+  shown_next : (index : ℕ) (es : List (Element T)) (i : ℕ) (e : Element T)
+      → slice_get es i ≡ Some e
+      → shown_from index (take (suc i) es)
+      ≡ shown_from index (take i es) ++ shown_first (value_shown e) (index + i) []
+  shown_next index [] i e at = cc
+  shown_next index (x ∷ es) zero e at =
+      let same : x ≡ e = cc in
+      let here : index + 0 ≡ index = omega arith in
+      rw (here, same) refl
+  shown_next index (x ∷ es) (suc i) e at =
+      let on : index + suc i ≡ index + 1 + i = omega arith in
+      rw on
+      (ap (shown_first (value_shown x) index) (shown_next (index + 1) es i e at)
+      ∙ shown_first-append (value_shown x) index (shown_from (index + 1) (take i es))
+      (shown_first (value_shown e) (index + 1 + i) []))
+
+  shown_more : (es : List (Element T)) (i : ℕ) (e : Element T)
+      → slice_get es i ≡ Some e
+      → shown_from 0 (take (i + 1) es)
+      ≡ shown_from 0 (take i es) ++ shown_first (value_shown e) i []
+  shown_more es i e at =
+      let here : 0 + i ≡ i = omega arith in
+      rw add-one
+      (shown_next 0 es i e at
+      ∙ ap (λ n. shown_from 0 (take i es) ++ shown_first (value_shown e) n []) here)
+
+  shown_splits : (index : ℕ) (es : List (Element T)) (i : ℕ) (e : Element T)
+      → slice_get es i ≡ Some e
+      → shown_from index es
+      ≡ shown_from index (take i es)
+      ++ shown_first (value_shown e) (index + i) (shown_from (index + i + 1) (drop (suc i) es))
+  shown_splits index [] i e at = cc
+  shown_splits index (x ∷ es) zero e at =
+      let same : x ≡ e = cc in
+      let here : index + 0 ≡ index = omega arith in
+      rw (here, same) refl
+  shown_splits index (x ∷ es) (suc i) e at =
+      let on : index + suc i ≡ index + 1 + i = omega arith in
+      rw on
+      (ap (shown_first (value_shown x) index) (shown_splits (index + 1) es i e at)
+      ∙ shown_first-append (value_shown x) index (shown_from (index + 1) (take i es))
+      (shown_first (value_shown e) (index + 1 + i)
+      (shown_from (index + 1 + i + 1) (drop (suc i) es))))
+
+  shown_parts : (es : List (Element T)) (i : ℕ) (e : Element T)
+      → slice_get es i ≡ Some e
+      → shown_from 0 es
+      ≡ shown_from 0 (take i es)
+      ++ shown_first (value_shown e) i (shown_from (i + 1) (drop (suc i) es))
+  shown_parts es i e at =
+      let here : 0 + i ≡ i = omega arith in
+      shown_splits 0 es i e at
+      ∙ ap (λ n. shown_from 0 (take i es)
+      ++ shown_first (value_shown e) n (shown_from (n + 1) (drop (suc i) es))) here
+
+  value_even : (e : Element T) → e.count % 2 ≡ 0 → value_shown e ≡ None
+  value_even e even =
+      by_eq (λ v. v ≡ None) (e.count % 2) 0 None (Some e.value) (λ h. refl)
+      (λ no. absurd (no even))
+
+  value_odd : (e : Element T) → e.count % 2 ≡ 1 → value_shown e ≡ Some e.value
+  value_odd e odd =
+      by_eq (λ v. v ≡ Some e.value) (e.count % 2) 0 None (Some e.value)
+      (λ h. absurd (omega arith)) (λ no. refl)
+
+  module _ {F : Type 0} where
+    -- the calls so far, at an element that is not shown and after a call at one that is
+    pub folds_even : (R : F → ℕ × T → F → Type 0) (f q : F) (es : List (Element T)) (i : ℕ)
+        (e : Element T) → slice_get es i ≡ Some e → e.count % 2 ≡ 0
+        → FoldsTo R f (shown_from 0 (take i es)) q
+        → FoldsTo R f (shown_from 0 (take (i + 1) es)) q
+    folds_even R f q es i e at even calls =
+        let more = shown_more es i e at in
+        let none = value_even e even in
+        let same = more
+        ∙ ap (λ v. shown_from 0 (take i es) ++ shown_first v i []) none
+        ∙ append-nil (shown_from 0 (take i es)) in
+        subst (λ xs. FoldsTo R f xs q) (sym same) calls
+
+    pub folds_odd : (R : F → ℕ × T → F → Type 0) (f q h : F) (es : List (Element T)) (i : ℕ)
+        (e : Element T) → slice_get es i ≡ Some e → e.count % 2 ≡ 1
+        → FoldsTo R f (shown_from 0 (take i es)) q → R q (i, e.value) h
+        → FoldsTo R f (shown_from 0 (take (i + 1) es)) h
+    folds_odd R f q h es i e at odd calls call =
+        let same = shown_more es i e at
+        ∙ ap (λ v. shown_from 0 (take i es) ++ shown_first v i []) (value_odd e odd) in
+        subst (λ xs. FoldsTo R f xs h) (sym same)
+        (FoldsTo-push R f (shown_from 0 (take i es)) q (i, e.value) h calls call)
+
+    -- a call through a reference
+    pub called_at : (R : F → ℕ → Bor T → CallbackProgression → F → Type 0) (p : F) (i : ℕ)
+        (r : Bor T) (said : CallbackProgression) (q : F) (value : T) (s : CallbackProgression)
+        → R p i r said q → said ≡ s → r.now ≡ value → at_value R p (i, value) s q
+    called_at R p i r said q value s call is same =
+        (r, subst (λ z. R p i r z q) is call, same)
+
+    module _ (step : F → ℕ × T → CallbackProgression → F → Type 0) (f q : F)
+        (es : List (Element T)) (i : ℕ) where
+      -- all of them were called, or one said Stop
+      pub shown_all : length es ≤ i
+          → FoldsTo (λ p x r. step p x Continue r) f (shown_from 0 (take i es)) q
+          → HasShown step (shown_from 0 es) f
+      shown_all past calls =
+          record {
+            before = shown_from 0 (take i es);
+            now = q;
+            calls = calls;
+            ended = inl (ap (shown_from 0) (take_all i es past));
+          }
+
+      pub shown_stopped : (e : Element T) (last : F) → slice_get es i ≡ Some e
+          → e.count % 2 ≡ 1
+          → FoldsTo (λ p x r. step p x Continue r) f (shown_from 0 (take i es)) q
+          → step q (i, e.value) Stop last → HasShown step (shown_from 0 es) f
+      shown_stopped e last at odd calls call =
+          let rest = shown_from (i + 1) (drop (suc i) es) in
+          let parts = shown_parts es i e at
+          ∙ ap (λ v. shown_from 0 (take i es) ++ shown_first v i rest) (value_odd e odd) in
+          record {
+            before = shown_from 0 (take i es);
+            now = q;
+            calls = calls;
+            ended = inr ((i, e.value), rest, last, parts, call);
+          }

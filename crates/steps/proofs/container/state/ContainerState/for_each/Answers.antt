@@ -1,0 +1,4 @@
+use Rattle.steps.proofs.container.state.ContainerState.for_each.Goals as goal
+
+pub returns : goal.returns
+returns g c = rw c.elements.ensures at c.visit_elements.ensures

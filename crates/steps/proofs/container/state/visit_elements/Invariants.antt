@@ -1,0 +1,12 @@
+use Rattle.std.proofs.Common.{take}
+use Rattle.std.specs.List.{FoldsTo}
+use Rattle.steps.specs.Container.State.{at_value, shown_from}
+use Rattle.steps.specs.declared.enums.CallbackProgression.TheVariants.{Continue}
+use Rattle.steps.proofs.container.state.visit_elements.Given as goal
+
+abbrev pub invariant-elements : goal.invariant-elements
+invariant-elements g l =
+    goal.F-IsAlwaysCallable g l.visit
+    × FoldsTo
+    (λ p x q. at_value (λ f i r said h. goal.F-step g f i r said h) p x Continue q)
+    l.fn.visit (shown_from 0 (take l.index l.elements)) l.visit

@@ -1,0 +1,198 @@
+-- What the calls of the container keep to: a store tells them nothing, and those
+-- that end by themselves come nearer to their end at each step.
+use Rattle.std.specs.Prelude.{◌≡◌, ℕ, ◌+◌, ◌-◌, ◌*◌, ◌<◌, ◌≤◌, IsTrue, List, nat_lt, refl}
+use Rattle.std.proofs.Common.{arith, ap}
+use Rattle.std.proofs.lemmas.Bool.Decides.{nat_tests}
+use Rattle.steps.specs.Ask.{is_store}
+use Rattle.steps.specs.Laws.{no_store}
+use Rattle.steps.specs.Picks.{by_eq, by_test}
+use Rattle.steps.specs.Indices.Robust.Parts.{one_more}
+use Rattle.steps.specs.Indices.Robust.Laws.{raise_stores_not, lock_stores_not, acquire_tells, release_tells}
+use Rattle.steps.specs.declared.ask.After.{After}
+use Rattle.steps.specs.declared.ask.After.TheVariants.{GoOn, Done}
+use Rattle.steps.specs.declared.indices.robust.release.GiveBack.{GiveBack}
+use Rattle.steps.specs.declared.container.add.Add.{Add}
+use Rattle.steps.specs.declared.container.add.AddStage as adds
+use Rattle.steps.specs.declared.container.add.Owned.{Owned}
+use Rattle.steps.specs.declared.container.remove.Remove.{Remove}
+use Rattle.steps.specs.declared.container.remove.RemoveStage as removes
+use Rattle.steps.specs.declared.container.replace.Replace.{Replace}
+use Rattle.steps.specs.declared.container.replace.ReplaceStage as replaces
+use Rattle.steps.specs.declared.container.replace.Replacement.{Replacement}
+use Rattle.steps.specs.declared.container.find.Find.{Find}
+use Rattle.steps.specs.declared.container.find.FindStage as finds
+use Rattle.steps.specs.declared.container.recover.Recover.{Recover}
+use Rattle.steps.specs.declared.container.recover.RecoverStage as recovers
+use Rattle.steps.specs.declared.container.recover.DeadOwner.{DeadOwner}
+use Rattle.steps.specs.declared.container.look.Look.{Look}
+use Rattle.steps.specs.declared.container.look.LookStage as looks
+use Rattle.steps.specs.Container.Layout.{is_even}
+use Rattle.steps.specs.Container.Add.{inner_acquire, add_asks, add_acquired, add_takes}
+use Rattle.steps.specs.Container.Remove.{inner_release, remove_asks, remove_released, remove_takes}
+use Rattle.steps.specs.Container.Replace.{Replaced, at_replace, replace_asks, replace_takes, replace_after, replace_left}
+use Rattle.steps.specs.Container.Find.{at_find, find_asks, find_comes_to, find_takes, find_after, find_keeps, find_left}
+use Rattle.steps.specs.Container.Recover.{recover_asks, recover_takes, recover_keeps}
+use Rattle.steps.specs.Container.State.{Numbers, Showing}
+use Rattle.steps.specs.Container.Look.{look_asks, look_takes, look_keeps}
+
+-- ---- a store tells them nothing
+
+module _ {T : Type 0} (words_of : T → List ℕ) (size : ℕ) where
+  pub add_tells : (c : Add T) (stage : adds.AddStage) (given : Owned T) (room : Unit {0}) (m n : ℕ)
+      → IsTrue (is_store (add_asks words_of size c.capacity stage given))
+      → (add_takes size c stage m ≡ add_takes size c stage n) × (room ≡ room)
+  add_tells c (adds.TheVariants.Acquires stage) given room m n t = (
+    ap (add_acquired c)
+        (acquire_tells (inner_acquire c.capacity stage) stage given.owner room m n t).0,
+    refl,
+  )
+  add_tells c (adds.TheVariants.LoadsCount index) given room m n t = no_store t
+  add_tells c (adds.TheVariants.Hides index count) given room m n t = no_store t
+  add_tells c (adds.TheVariants.Stores index at) given room m n t = (refl, refl)
+  add_tells c (adds.TheVariants.AddsCount index) given room m n t = no_store t
+  add_tells c (adds.TheVariants.AddsChange index) given room m n t = no_store t
+
+  pub replace_tells : (c : Replace T) (stage : replaces.ReplaceStage) (given : Replacement T)
+      (room : Unit {0}) (m n : ℕ)
+      → IsTrue (is_store (replace_asks words_of size c.capacity stage given))
+      → (replace_takes size c stage given m ≡ replace_takes size c stage given n) × (room ≡ room)
+  replace_tells c replaces.TheVariants.Refuses given room m n t = no_store t
+  replace_tells c replaces.TheVariants.LoadsCell given room m n t = no_store t
+  replace_tells c replaces.TheVariants.LoadsCount given room m n t = no_store t
+  replace_tells c (replaces.TheVariants.Hides count) given room m n t = no_store t
+  replace_tells c (replaces.TheVariants.Stores at) given room m n t = (refl, refl)
+  replace_tells c replaces.TheVariants.AddsCount given room m n t = no_store t
+  replace_tells c replaces.TheVariants.AddsChange given room m n t = no_store t
+
+pub remove_tells : (c : Remove) (stage : removes.RemoveStage) (given : GiveBack)
+    (room : Unit {0}) (m n : ℕ) → IsTrue (is_store (remove_asks c.capacity stage given))
+    → (remove_takes c stage given m ≡ remove_takes c stage given n) × (room ≡ room)
+remove_tells c removes.TheVariants.Refuses given room m n t = no_store t
+remove_tells c removes.TheVariants.LoadsCount given room m n t = no_store t
+remove_tells c (removes.TheVariants.Releases count stage) given room m n t = (
+  ap (remove_released c count)
+      (release_tells (inner_release c.capacity stage) stage given room m n t).0,
+  refl,
+)
+remove_tells c (removes.TheVariants.Hides count state) given room m n t = no_store t
+remove_tells c (removes.TheVariants.AddsChange state) given room m n t = no_store t
+
+module _ {T R : Type 0} (with_word : R → ℕ → ℕ → R) (size : ℕ) where
+  pub find_tells : (c : Find T R) (stage : finds.FindStage) (owner : ℕ) (room : R) (m n : ℕ)
+      → IsTrue (is_store (find_asks size c.capacity stage))
+      → (find_takes size c stage owner m ≡ find_takes size c stage owner n)
+      × (find_keeps with_word stage room m ≡ find_keeps with_word stage room n)
+  find_tells c (finds.TheVariants.LoadsCell index found) owner room m n t = no_store t
+  find_tells c (finds.TheVariants.LoadsCount index found) owner room m n t = no_store t
+  find_tells c (finds.TheVariants.LoadsWord index found count at) owner room m n t = no_store t
+  find_tells c (finds.TheVariants.ChecksCount index found count) owner room m n t = no_store t
+  find_tells c (finds.TheVariants.Asks index found) owner room m n t = no_store t
+
+  pub recover_tells : (c : Recover T R) (stage : recovers.RecoverStage) (given : DeadOwner)
+      (room : R) (m n : ℕ) → IsTrue (is_store (recover_asks size c.capacity stage given.owner))
+      → (recover_takes size c stage given m ≡ recover_takes size c stage given n)
+      × (recover_keeps with_word stage room m ≡ recover_keeps with_word stage room n)
+  recover_tells c recovers.TheVariants.LoadsCounter given room m n t = no_store t
+  recover_tells c (recovers.TheVariants.LoadsCell index) given room m n t = no_store t
+  recover_tells c (recovers.TheVariants.LoadsCount index) given room m n t = no_store t
+  recover_tells c (recovers.TheVariants.LoadsWord index count at) given room m n t = no_store t
+  recover_tells c (recovers.TheVariants.ChecksCount index count) given room m n t = no_store t
+  recover_tells c (recovers.TheVariants.Asks index count) given room m n t = no_store t
+  recover_tells c (recovers.TheVariants.EmptiesCell index count) given room m n t = no_store t
+  recover_tells c (recovers.TheVariants.Hides index count) given room m n t = no_store t
+  recover_tells c (recovers.TheVariants.Raises index raise) given room m n t =
+      raise_stores_not raise t
+  recover_tells c (recovers.TheVariants.Locks index lock) given room m n t = lock_stores_not lock t
+  recover_tells c recovers.TheVariants.LoadsCounterAgain given room m n t = no_store t
+  recover_tells c (recovers.TheVariants.AddsChange state) given room m n t = no_store t
+
+module _ {T : Type 0} (value_of : List ℕ → T) (size : ℕ) where
+  pub look_tells : (c : Look T) (stage : looks.LookStage) (seen : Numbers) (s : Showing T)
+      (m n : ℕ) → IsTrue (is_store (look_asks size c.capacity stage))
+      → (look_takes size c stage seen m ≡ look_takes size c stage seen n)
+      × (look_keeps value_of size stage s m ≡ look_keeps value_of size stage s n)
+  look_tells c looks.TheVariants.LoadsChange seen s m n t = no_store t
+  look_tells c (looks.TheVariants.LoadsCount index) seen s m n t = no_store t
+  look_tells c (looks.TheVariants.LoadsWord index count at) seen s m n t = no_store t
+  look_tells c (looks.TheVariants.ChecksCount index count) seen s m n t = no_store t
+
+-- ---- replace and find end by themselves
+
+module _ {T : Type 0} (size : ℕ) where
+  -- one more than is left once it has gone on, nothing once it is done
+  abbrev replace_then : After (Replace T) Replaced → ℕ
+  replace_then (GoOn d) = replace_left size d.stage + 1
+  replace_then (Done e) = 0
+
+  replace_stage_fewer : (c : Replace T) (stage : replaces.ReplaceStage) (given : Replacement T)
+      (k : ℕ) → replace_then (replace_takes size c stage given k) ≤ replace_left size stage
+  replace_stage_fewer c replaces.TheVariants.Refuses given k = omega arith
+  replace_stage_fewer c replaces.TheVariants.LoadsCell given k =
+      by_eq (λ a. replace_then a ≤ size + 5) k given.owner
+      (GoOn (at_replace c replaces.TheVariants.LoadsCount)) _ (λ e. omega arith) (λ e. omega arith)
+  replace_stage_fewer c replaces.TheVariants.LoadsCount given k =
+      by_test (λ a. replace_then a ≤ size + 4) (is_even k)
+      (GoOn (at_replace c (replaces.TheVariants.Stores 0)))
+      (GoOn (at_replace c (replaces.TheVariants.Hides k))) (λ e. omega arith) (λ e. omega arith)
+  replace_stage_fewer c (replaces.TheVariants.Hides count) given k = omega arith
+  replace_stage_fewer c (replaces.TheVariants.Stores at) given k =
+      by_test (λ a. replace_then a ≤ size - at + 2) (nat_lt (at + 1) size)
+      (GoOn (at_replace c (replaces.TheVariants.Stores (at + 1))))
+      (GoOn (at_replace c replaces.TheVariants.AddsCount))
+      (λ t. let further : at + 1 < size = grind (arith, nat_tests) in omega arith)
+      (λ t. omega arith)
+  replace_stage_fewer c replaces.TheVariants.AddsCount given k = omega arith
+  replace_stage_fewer c replaces.TheVariants.AddsChange given k = omega arith
+
+  pub replace_fewer : (c d : Replace T) (given : Replacement T) (k : ℕ)
+      → replace_after size c given k ≡ GoOn d
+      → replace_left size d.stage < replace_left size c.stage
+  replace_fewer c d given k goes =
+      let e = ap replace_then goes in let f = replace_stage_fewer c c.stage given k in omega arith
+
+module _ {T R : Type 0} (size : ℕ) (few : size ≤ 128) where
+  abbrev find_then : After (Find T R) ℕ → ℕ
+  find_then (GoOn d) = find_left size d.capacity d.stage + 1
+  find_then (Done e) = 0
+
+  next_nearer : (c : Find T R) (index found : ℕ)
+      → find_then (find_comes_to c (index + 1) found) ≤ 140 * (c.capacity - index)
+  next_nearer c index found =
+      by_test (λ a. find_then a ≤ 140 * (c.capacity - index)) (nat_lt (index + 1) c.capacity)
+      (GoOn (at_find c (finds.TheVariants.LoadsCell (index + 1) found))) (Done found)
+      (λ t. let further : index + 1 < c.capacity = grind (arith, nat_tests) in omega arith)
+      (λ t. omega arith)
+
+  find_stage_fewer : (c : Find T R) (stage : finds.FindStage) (owner k : ℕ)
+      → find_then (find_takes size c stage owner k) ≤ find_left size c.capacity stage
+  find_stage_fewer c (finds.TheVariants.LoadsCell index found) owner k =
+      by_eq (λ a. find_then a ≤ 140 * (c.capacity - index) + 139) k owner
+      (GoOn (at_find c (finds.TheVariants.LoadsCount index (one_more found))))
+      (find_comes_to c (index + 1) found)
+      (λ e. omega arith) (λ e. let next = next_nearer c index found in omega arith)
+  find_stage_fewer c (finds.TheVariants.LoadsCount index found) owner k =
+      by_test (λ a. find_then a ≤ 140 * (c.capacity - index) + 138) (is_even k)
+      (find_comes_to c (index + 1) found)
+      (GoOn (at_find c (finds.TheVariants.LoadsWord index found k 0)))
+      (λ e. let next = next_nearer c index found in omega arith) (λ e. omega arith)
+  find_stage_fewer c (finds.TheVariants.LoadsWord index found count at) owner k =
+      by_test (λ a. find_then a ≤ 140 * (c.capacity - index) + 2 + (size - at))
+      (nat_lt (at + 1) size)
+      (GoOn (at_find c (finds.TheVariants.LoadsWord index found count (at + 1))))
+      (GoOn (at_find c (finds.TheVariants.ChecksCount index found count)))
+      (λ t. let further : at + 1 < size = grind (arith, nat_tests) in omega arith)
+      (λ t. omega arith)
+  find_stage_fewer c (finds.TheVariants.ChecksCount index found count) owner k =
+      by_eq (λ a. find_then a ≤ 140 * (c.capacity - index) + 1) k count
+      (GoOn (at_find c (finds.TheVariants.Asks index found)))
+      (find_comes_to c (index + 1) found)
+      (λ e. omega arith) (λ e. let next = next_nearer c index found in omega arith)
+  find_stage_fewer c (finds.TheVariants.Asks index found) owner k =
+      by_eq (λ a. find_then a ≤ 140 * (c.capacity - index)) k 0 (Done found)
+      (find_comes_to c (index + 1) found)
+      (λ e. omega arith) (λ e. next_nearer c index found)
+
+  pub find_fewer : (c d : Find T R) (owner n : ℕ) → find_after size c owner n ≡ GoOn d
+      → find_left size d.capacity d.stage < find_left size c.capacity c.stage
+  find_fewer c d owner n goes =
+      let e = ap find_then goes in let f = find_stage_fewer c c.stage owner n in omega arith
