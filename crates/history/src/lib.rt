@@ -3,5 +3,4 @@
 #![tactic(auto)]
 
 pub mod plays;
-pub mod rule;
 pub mod view;

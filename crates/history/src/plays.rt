@@ -1,10 +1,7 @@
-//! How seats are made of one another, and a look at the whole history. These types are for the proofs alone.
-ghost use Rattle.std.specs.Prelude.{◌≡◌, []};
+//! How seats are made of one another. These types are for the proofs alone.
 
-use super::rule::MachineRule;
 use super::view::View;
-use atomic_table::{Join, Play, Split};
-use std::marker::PhantomData;
+use atomic_table::{Join, Split};
 
 /// A new seat of the same table.
 pub struct Cut;
@@ -26,17 +23,4 @@ impl Join<View<u64>> for Both {
     ghost both = { joined_view };
 
     ghost spent = { spent_view };
-}
-
-/// A look at the whole history of a table with this rule.
-pub struct Look<Q> {
-    of: PhantomData<Q>,
-}
-
-impl<Q: MachineRule> Play<(), View<u64>> for Look<Q> {
-    ghost use Rattle.model.specs.Coding.{one_word};
-    ghost use Rattle.history.specs.Views.{Looks};
-
-    ghost then = { λ step old found new.
-        Looks one_word Q.kind old.0.capacity old.0 new.0 × (new.1 ≡ []) };
 }

@@ -7,3 +7,4 @@ pub use Rattle.lock_free_sp.proofs.Shares
 pub use Rattle.lock_free_sp.proofs.Rules.Ring.Lists
 pub mod Rules
 pub mod Sets
+pub mod Counts

@@ -23,4 +23,5 @@ pub mod RobustUniqueIndexSet
 pub mod Unique
 pub mod UniqueIndexSet
 pub mod Sets
+pub mod Counts
 pub mod Facts
