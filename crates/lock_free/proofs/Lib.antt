@@ -9,3 +9,4 @@ pub mod Held
 pub mod Loan
 pub mod Rules
 pub mod Sets
+pub mod Counts

@@ -27,5 +27,6 @@ pub mod RobustUniqueIndexSet
 pub mod Unique
 pub mod UniqueIndexSet
 pub mod Sets
+pub mod Counts
 pub mod Facts
 pub mod Loan

@@ -1,5 +1,6 @@
 //! Bit sets and counting bit sets: alone, and between threads.
 ghost use Rattle.lock_free.specs.Sets.Calls.{IsPassOf};
+ghost use Rattle.lock_free.specs.Counts.Calls.{IsPassOf as IsCountsPassOf};
 
 use lock_free::mpmc::bit_set::{BitSet, FixedSizeBitSet};
 use lock_free::mpmc::counting_bit_set::{BitState, CountingBitSet, FixedSizeCountingBitSet};
@@ -88,12 +89,12 @@ impl<'a> BitUser<'a> {
 struct CountUser<'a> {
     set: &'a CountingBitSet,
     pass: counting_bit_set::Pass,
-    ghost of: { IsPassOf set.now pass },
+    ghost of: { IsCountsPassOf set.now pass },
 }
 
 impl<'a> CountUser<'a> {
     fn new(set: &'a CountingBitSet, pass: counting_bit_set::Pass) -> CountUser<'a>
-        requires { IsPassOf set.now pass }
+        requires { IsCountsPassOf set.now pass }
     {
         CountUser { set, pass }
     }

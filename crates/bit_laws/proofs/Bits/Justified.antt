@@ -57,7 +57,7 @@ module _ {T : Type 0} where
   are_effects c p old wrote starts.TheVariants.ResetAll (calls.TheVariants.ResetAll run) at = all_effects T p (places_in run.call.word old)
   are_effects c p old wrote start flight at = absurd at
 
-  laws : (code : Coding T) (c : ℕ) → SetLaws bit_set code c
+  pub laws : (code : Coding T) (c : ℕ) → SetLaws bit_set code c
   laws code c =
       record {
         bare = refl;

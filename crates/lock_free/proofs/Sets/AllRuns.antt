@@ -14,11 +14,9 @@ use Rattle.steps.proofs.Flags.Words.{none_stands}
 use Rattle.lock_free_sp.specs.Driver.{Next, Told, Owes, KeepsRule}
 use Rattle.lock_free_sp.proofs.Driving.{weaker}
 use Rattle.lock_free.specs.declared.mpmc.sets.view.View.{View}
-use Rattle.lock_free.specs.Sets.Kept.{BitsKept, CountsKept}
-use Rattle.lock_free.specs.Sets.Stages.{FoundClear, EmptiesBits, EmptiesCounts, BitsAt, BitsEnd, CountsAt, CountsEnd}
-use Rattle.lock_free.proofs.Sets.Tables.{stays}
+use Rattle.lock_free.specs.Sets.Kept.{BitsKept}
+use Rattle.lock_free.specs.Sets.Stages.{FoundClear, EmptiesBits, BitsAt, BitsEnd}
 use Rattle.lock_free.proofs.Sets.Bits as bits
-use Rattle.lock_free.proofs.Sets.Counts as counts
 
 -- ---- bits
 
@@ -108,48 +106,3 @@ module _ (c : ResetAll) (n : ℕ) where
       (λ l. subst (λ z. FoundClear base.capacity z room.0) (let last = ends_last e in let end : c.end ≡ 1 + elements base.capacity = at.0 in let is : elements base.capacity ≡ c.word = omega arith in is) h.1)
       (λ zero place is past. subst (λ z. FoundClear base.capacity c.word z) (sym (h.2 zero)) (λ p _ _. none_stands p) place is past)
       at.2
-
--- ---- counts
-
-module _ (v : View) (c : ResetAll) (room : OneWord) (key words slots id : ℕ) (wide : words ≡ key + 1) where
-  abbrev TellCounts : View → ℕ → View → Type 0
-  TellCounts = Told (λ z. z.capacity) CountsAt CountsEnd reset_all_after (λ c. reset_all_kept) c room
-
-  counted : (base w : View) (k : ℕ) → w ≡ base → c.end ≡ base.capacity → (base.capacity ≡ 0 → k ≡ 0)
-      → Next (λ z. z.capacity) CountsAt CountsEnd base (reset_all_after c k) (reset_all_kept room k) w
-  counted base w k same end none =
-      by_test (λ a. Next (λ z. z.capacity) CountsAt CountsEnd base a (reset_all_kept room k) w) (nat_lt (c.word + 1) c.end)
-      (GoOn (record { word = c.word + 1; end = c.end })) (Done tt)
-      (λ t. let further : c.word + 1 < c.end = grind (arith, nat_tests) in (same, (end, inl further)))
-      (λ t. (same, none))
-
-  swaps_count : (base : View) → CountsAt base v c room → base.capacity ≡ key → c.word < c.end → Owes (CountsKept key) words slots id TellCounts (wants.TheVariants.Ask (record { word = c.word; op = Swap 0 })) (v, [])
-  swaps_count base₀ at₀ is₀ inside =
-      weaker (CountsKept key) words slots id stays TellCounts c.word (Swap 0) (v, [])
-      (λ k small w h. (
-        ap (λ (z : View). z.capacity) h,
-        λ base at. counted base w k (h ∙ at.0) at.1.0 (λ e. let end : c.end ≡ base.capacity = at.1.0 in absurd (omega arith)),
-      ))
-      (let end : c.end ≡ base₀.capacity = at₀.1.0 in omega arith, counts.changes key slots id (v, []) c.word (λ _. 0))
-
-pub all_counts_rule : KeepsRule (λ z. z.capacity) CountsAt CountsEnd (λ key. key + 1) (λ key. key) CountsKept reset_all_want reset_all_after (λ c. reset_all_kept)
-all_counts_rule base v c room key words slots id wide known at =
-    let is : base.capacity ≡ key = sym (ap (λ (z : View). z.capacity) at.0) ∙ known in
-    by_test (λ want. Owes (CountsKept key) words slots id (TellCounts v c room key words slots id wide) want (v, [])) (nat_lt c.word c.end)
-    (wants.TheVariants.Ask (record { word = c.word; op = Swap 0 })) wants.TheVariants.Nothing
-    (λ t. swaps_count v c room key words slots id wide base at is (let l : c.word < c.end = grind (arith, nat_tests) in l))
-    (λ t. (refl, λ base' at'. counted v c room key words slots id wide base' v 0 at'.0 at'.1.0 (λ e. refl)))
-
--- where a count was found, its place is below the capacity
-pub found_counted : (c : ResetAll) (n : ℕ) (base w : View) (room : OneWord) (a : After ResetAll (Unit {0})) → a ≡ reset_all_after c n → EmptiesCounts base.capacity c
-    → Next (λ z. z.capacity) CountsAt CountsEnd base a room w → 0 < room.0 → c.word < base.capacity
-found_counted c n base w room (GoOn d) e at h some =
-    let goes = goes_next c n d e in
-    let end : d.end ≡ c.end = ap (λ (z : ResetAll). z.end) goes.0 in
-    let word : d.word ≡ c.word + 1 = ap (λ (z : ResetAll). z.word) goes.0 in
-    let last = goes.1 in
-    let all : c.end ≡ base.capacity = at.0 in
-    omega arith
-found_counted c n base w room (Done tt) e at h some =
-    let all : c.end ≡ base.capacity = at.0 in
-    ⊎_elim (λ l. omega arith) (λ zero. let none = h.1 zero in absurd (omega arith)) at.1

@@ -4,8 +4,7 @@ use Rattle.std.specs.List.{All, FoldsTo}
 use Rattle.std.proofs.lemmas.Fn.{FoldsTo-push}
 use Rattle.std.proofs.lemmas.List.Elements.{All-nil, All-push, All-weaker}
 use Rattle.std.proofs.lemmas.List.Quantifiers.{all_pairs_push}
-use Rattle.steps.specs.declared.bits.counting_bit_set.BitState.{BitState}
-use Rattle.lock_free.specs.Sets.Callable.{Ascends, CountsAscend, TakesPlaces, TakesCounts}
+use Rattle.lock_free.specs.Sets.Callable.{Ascends, TakesPlaces}
 
 -- ---- places
 
@@ -34,43 +33,7 @@ module _ {F : Type 0} (R : F → ℕ → F → Type 0) (cap : ℕ) (v : F) where
       }
   handed_more low p q false within hit miss h = subst (λ z. Handed R cap (low + 1) v z) (sym (miss refl)) (handed_on low (low + 1) p (omega arith) h)
 
--- ---- places with their counts
-
-pub record Counted {F : Type 0} (R : F → BitState → F → Type 0) (cap low : ℕ) (v p : F) : Type 0 where
-  pub states : List BitState
-  pub ascend : CountsAscend cap states
-  pub below : All (λ (x : BitState). x.bit < low) states
-  pub folds : FoldsTo R v states p
-
-module _ {F : Type 0} (R : F → BitState → F → Type 0) (cap : ℕ) (v : F) where
-  pub none_counted : (low : ℕ) → Counted R cap low v v
-  none_counted low =
-      record {
-        states = [];
-        ascend = ((λ i j d lt within. absurd (omega arith)), All-nil (λ (x : BitState). (x.bit < cap) × (0 < x.count)));
-        below = All-nil (λ (x : BitState). x.bit < low);
-        folds = refl;
-      }
-
-  pub counted_on : (low : ℕ) (p q : F) → q ≡ p → Counted R cap low v p → Counted R cap (low + 1) v q
-  counted_on low p q same h =
-      subst (λ z. Counted R cap (low + 1) v z) (sym same)
-      (record { states = h.states; ascend = h.ascend; below = All-weaker (λ (x : BitState). x.bit < low) (λ (x : BitState). x.bit < low + 1) (λ x l. omega arith) h.states h.below; folds = h.folds })
-
-  pub counted_more : (low count : ℕ) (p q : F) → low < cap → 0 < count → R p (record { bit = low; count = count }) q → Counted R cap low v p → Counted R cap (low + 1) v q
-  counted_more low count p q within some hit h =
-      let x : BitState = record { bit = low; count = count } in
-      record {
-        states = h.states ++ x ∷ [];
-        ascend = (all_pairs_push (λ (y z : BitState). y.bit < z.bit) h.states x h.ascend.0 h.below, All-push (λ (y : BitState). (y.bit < cap) × (0 < y.count)) h.states x h.ascend.1 (within, some));
-        below = All-push (λ (y : BitState). y.bit < low + 1) h.states x (All-weaker (λ (y : BitState). y.bit < low) (λ (y : BitState). y.bit < low + 1) (λ y l. omega arith) h.states h.below) (omega arith);
-        folds = FoldsTo-push R v h.states p x q h.folds hit;
-      }
-
 -- ---- the closure at an equal capacity
 
 pub takes_places_at : {F : Type 0} {pre : F → ℕ → Type 0} {step : F → ℕ → F → Type 0} {a b : ℕ} {f : F} → a ≡ b → TakesPlaces pre step a f → TakesPlaces pre step b f
 takes_places_at {F} {pre} {step} {a} {b} {f} e h = subst (λ z. TakesPlaces pre step z f) e h
-
-pub takes_counts_at : {F : Type 0} {pre : F → BitState → Type 0} {step : F → BitState → F → Type 0} {a b : ℕ} {f : F} → a ≡ b → TakesCounts pre step a f → TakesCounts pre step b f
-takes_counts_at {F} {pre} {step} {a} {b} {f} e h = subst (λ z. TakesCounts pre step z f) e h

@@ -1,17 +1,10 @@
 -- What a closure is called with: places that ascend below the capacity, each at most once.
 use Rattle.std.specs.Prelude.{ℕ, ◌<◌, List, All, AllPairs}
 use Rattle.std.specs.List.{FoldsTo}
-use Rattle.steps.specs.declared.bits.counting_bit_set.BitState.{BitState}
 
 -- each place is below the capacity, and above the one before
 abbrev pub Ascends : ℕ → List ℕ → Type 0
 Ascends capacity places = AllPairs (λ x y. x < y) places × All (λ place. place < capacity) places
-
--- the same of places with their counts, which are above 0
-abbrev pub CountsAscend : ℕ → List BitState → Type 0
-CountsAscend capacity states =
-    AllPairs (λ (x y : BitState). x.bit < y.bit) states
-    × All (λ (state : BitState). (state.bit < capacity) × (0 < state.count)) states
 
 -- after calls at places that ascend, the closure may be called at any place above them
 -- and below the capacity
@@ -20,10 +13,3 @@ pub record TakesPlaces {F : Type 0} (pre : F → ℕ → Type 0) (step : F → �
   pub at : (before : List ℕ) (now : F) (place : ℕ) → FoldsTo step f before now
       → Ascends capacity before → All (λ p. p < place) before → place < capacity
       → pre now place
-
--- the same of places with their counts
-pub record TakesCounts {F : Type 0} (pre : F → BitState → Type 0)
-    (step : F → BitState → F → Type 0) (capacity : ℕ) (f : F) : Type 0 where
-  pub at : (before : List BitState) (now : F) (state : BitState) → FoldsTo step f before now
-      → CountsAscend capacity before → All (λ (s : BitState). s.bit < state.bit) before
-      → state.bit < capacity → 0 < state.count → pre now state

@@ -18,6 +18,3 @@ IsClearPast capacity words = (place : ℕ) → capacity ≤ place → IsFalse (s
 pub record BitsKept (capacity : ℕ) (s : Tables) : Type 0 where
   pub wide : length s.words ≡ 1 + elements capacity
   pub clear : IsClearPast capacity s.words
-
-pub record CountsKept (capacity : ℕ) (s : Tables) : Type 0 where
-  pub wide : length s.words ≡ capacity + 1

@@ -5,7 +5,7 @@ use Rattle.std.proofs.lemmas.List.{length-replicate}
 use Rattle.atomic_table.specs.Table.{opening}
 use Rattle.steps.specs.Bits.Words.{elements, element_of, has_flag}
 use Rattle.steps.proofs.Flags.Words.{none_stands}
-use Rattle.lock_free.specs.Sets.Kept.{Tables, IsOfWords, IsClearPast, BitsKept, CountsKept}
+use Rattle.lock_free.specs.Sets.Kept.{Tables, IsOfWords, IsClearPast, BitsKept}
 
 pub bits_of_words : (capacity : ℕ) → IsOfWords (BitsKept capacity)
 bits_of_words capacity s t same kept =
@@ -13,10 +13,6 @@ bits_of_words capacity s t same kept =
       wide = ap length (sym same) ∙ kept.wide;
       clear = subst (IsClearPast capacity) same kept.clear;
     }
-
-pub counts_of_words : (capacity : ℕ) → IsOfWords (CountsKept capacity)
-counts_of_words capacity s t same kept =
-    record { wide = ap length (sym same) ∙ kept.wide }
 
 abbrev opened : ℕ → ℕ → Tables
 opened size capacity = opening (replicate size 0) [] (record { capacity = capacity })
@@ -35,11 +31,5 @@ bits_open capacity =
     all_zero (suc size) zero = refl
     all_zero (suc size) (suc at) = all_zero size at
 
-pub counts_open : (capacity : ℕ) → CountsKept capacity (opened (capacity + 1) capacity)
-counts_open capacity = record { wide = length-replicate (capacity + 1) 0 }
-
 pub bits_some : (capacity : ℕ) → 0 < 1 + elements capacity
 bits_some capacity = omega arith
-
-pub counts_some : (capacity : ℕ) → 0 < capacity + 1
-counts_some capacity = omega arith

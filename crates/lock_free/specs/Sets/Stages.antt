@@ -5,7 +5,6 @@ use Rattle.steps.specs.Bits.Words.{element_of, elements, has_flag}
 use Rattle.steps.specs.declared.bits.bit_set.Set.{Set}
 use Rattle.steps.specs.declared.bits.bit_set.ResetNext.{ResetNext}
 use Rattle.steps.specs.declared.bits.bit_set.ResetNextStage as resets
-use Rattle.steps.specs.declared.bits.counting_bit_set.Set as counts
 use Rattle.steps.specs.declared.bits.reset_all.ResetAll.{ResetAll}
 use Rattle.steps.specs.declared.copied.OneWord.{OneWord}
 use Rattle.lock_free.specs.declared.mpmc.sets.view.View.{View}
@@ -56,20 +55,3 @@ abbrev pub BitsEnd : View → Unit {0} → OneWord → View → Type 0
 BitsEnd base end room w =
     (w ≡ base) × FoundClear base.capacity (elements base.capacity) room.0
     × (base.capacity ≡ 0 → room.0 ≡ 0)
-
--- ---- counts
-
-abbrev pub CountAt : ℕ → View → View → counts.Set → Unit {0} → Type 0
-CountAt place base v call room = (v ≡ base) × (place < base.capacity)
-
-abbrev pub CountEnds : ℕ → View → ℕ → Unit {0} → View → Type 0
-CountEnds place base end room w = w ≡ base
-
-abbrev pub EmptiesCounts : ℕ → ResetAll → Type 0
-EmptiesCounts capacity call = (call.end ≡ capacity) × IsLeft capacity call
-
-abbrev pub CountsAt : View → View → ResetAll → OneWord → Type 0
-CountsAt base v call room = (v ≡ base) × EmptiesCounts base.capacity call
-
-abbrev pub CountsEnd : View → Unit {0} → OneWord → View → Type 0
-CountsEnd base end room w = (w ≡ base) × (base.capacity ≡ 0 → room.0 ≡ 0)

@@ -11,7 +11,6 @@ use std::alloc::Global;
 use std::sync::Arc;
 
 mod bits;
-mod counts;
 mod drives;
 mod fixed;
 mod make;

@@ -3,7 +3,6 @@
 use super::view::View;
 use lock_free_sp::driver::rule::Drives;
 use steps::bits::bit_set::{ResetNext, Set};
-use steps::bits::counting_bit_set;
 use steps::bits::reset_all::ResetAll;
 
 /// Setting a place.
@@ -37,26 +36,4 @@ impl Drives<View, ResetAll> for ResetsBits {
     ghost at = { λ given. BitsAt };
 
     ghost ends = { λ given. BitsEnd };
-}
-
-/// Counting a place.
-pub struct Counts;
-
-impl Drives<View, counting_bit_set::Set> for Counts {
-    ghost use Rattle.lock_free.specs.Sets.Stages.{CountAt, CountEnds};
-
-    ghost at = { CountAt };
-
-    ghost ends = { CountEnds };
-}
-
-/// Emptying the counts.
-pub struct ResetsCounts;
-
-impl Drives<View, ResetAll> for ResetsCounts {
-    ghost use Rattle.lock_free.specs.Sets.Stages.{CountsAt, CountsEnd};
-
-    ghost at = { λ given. CountsAt };
-
-    ghost ends = { λ given. CountsEnd };
 }

@@ -1,4 +1,4 @@
-//! The rules of the tables of bit sets and of counting bit sets. The words are those of `steps::bits`.
+//! The rule of the tables of bit sets. The words are those of `steps::bits`.
 ghost use Rattle.std.specs.Prelude.{◌≡◌, ℕ, ◌<◌, [], replicate};
 ghost use Rattle.atomic_table.specs.Table.{State, opening};
 ghost use Rattle.lock_free.specs.Sets.Kept.{IsOfWords};
@@ -27,9 +27,6 @@ pub trait SetRule: Rule<View, u64> {
 
 /// The rule of a bit set: the flags past the capacity are clear.
 pub struct BitsRule;
-
-/// The rule of a counting bit set: it has its counts, and one word more, since a pass is split at a word.
-pub struct CountsRule;
 
 impl TableRule<(), View, u64> for BitsRule {
     ghost use Rattle.lock_free.specs.Sets.Kept.{BitsKept};
@@ -64,40 +61,5 @@ impl SetRule for BitsRule {
 
     fn words(capacity: u32) -> usize {
         FIRST_ELEMENT + elements(capacity) as usize
-    }
-}
-
-impl TableRule<(), View, u64> for CountsRule {
-    ghost use Rattle.lock_free.specs.Sets.Kept.{CountsKept};
-
-    ghost holds = { CountsKept };
-
-    ghost first = { λ capacity. record { capacity = capacity } };
-}
-
-impl Rule<View, u64> for CountsRule {
-    ghost use Rattle.std.specs.Prelude.{◌+◌};
-
-    ghost size = { λ capacity. capacity + 1 };
-
-    ghost capacity = { λ capacity. capacity };
-
-    ghost capacity_seen = { λ v. v.capacity };
-}
-
-impl SetRule for CountsRule {
-    ghost use Rattle.std.specs.Prelude.{refl};
-    ghost use Rattle.lock_free.specs.Sets.Laws.{counts_of_words, counts_open, counts_some};
-
-    ghost of_words = { counts_of_words };
-
-    ghost opens = { λ capacity. counts_open capacity };
-
-    ghost knows = { λ capacity. refl };
-
-    ghost some = { counts_some };
-
-    fn words(capacity: u32) -> usize {
-        capacity as usize + 1
     }
 }

@@ -1,0 +1,122 @@
+-- Where the calls of a machine stand after a turn.
+use Rattle.std.proofs.Common.{◌≡◌, ◌≢◌, ℕ, zero, suc, ◌+◌, ◌<◌, Option, Some, None, List, [], ◌∷◌, ◌++◌, length, get_or, set, refl, ap, ◌∙◌, arith}
+use Rattle.steps.specs.declared.ask.After.{After}
+use Rattle.steps.specs.declared.ask.After.TheVariants.{GoOn, Done}
+use Rattle.model.specs.declared.event.Answer.{Answer}
+use Rattle.model.specs.declared.event.Event.{Event}
+use Rattle.model.specs.declared.event.Start.{Start}
+use Rattle.model.specs.declared.families.Flight.{Flight}
+use Rattle.model.specs.declared.families.Kept.{Kept}
+use Rattle.model.specs.declared.party.Doing.{Doing}
+use Rattle.model.specs.declared.party.Doing.TheVariants.{Going, Over}
+use Rattle.model.specs.declared.party.Party.{Party}
+use Rattle.model.specs.Families.{want_of, after_of, ask_of}
+use Rattle.model.specs.Parties.{party_of, doing_of, flight_of}
+use Rattle.model.specs.Step.{Step, answer_in}
+use Rattle.model.specs.Turns.{after_begin, after_next, after_answer, after_step, party_after, party_at_begin, step_count, change_of, step_in, events_of_next, events_of_answer, ending_of, old_of, ask_of_doing}
+use Rattle.model.specs.World.{World, flight_in}
+use Rattle.model.proofs.Parties.{party_put_same, party_put_other}
+use Rattle.history.specs.History.{call_at, call_of, call_in}
+
+module _ {T : Type 0} where
+  -- ---- the party of a call under way
+
+  pub record Stands (w : World T) (p : ℕ) (start : Start T) (flight : Flight T) : Type 0 where
+    pub x : Party T
+    pub since : ℕ
+    pub found : party_of p w.latest ≡ Some x
+    pub named : x.start ≡ start
+    pub doing : x.doing ≡ Going flight since
+
+  at_doing : (start : Start T) (doing : Doing T) (name : Start T) (flight : Flight T) → call_at start doing ≡ Some (name, flight) → (start ≡ name) × (since : ℕ) × (doing ≡ Going flight since)
+  at_doing start (Over others) name flight e = absurd (cc)
+  at_doing start (Going f since) name flight e =
+      let same : (start, f) ≡ (name, flight) = cc in
+      (ap (λ (z : Start T × Flight T). z.0) same, since, ap (λ (z : Start T × Flight T). Going z.1 since) same)
+
+  pub stands : (w : World T) (p : ℕ) (start : Start T) (flight : Flight T) → call_in w p ≡ Some (start, flight) → Stands w p start flight
+  stands w p start flight e = go (party_of p w.latest) refl e
+    where
+      go : (o : Option (Party T)) → party_of p w.latest ≡ o → call_of o ≡ Some (start, flight) → Stands w p start flight
+      go None f e = absurd (cc)
+      go (Some x) f e =
+          let d = at_doing x.start x.doing start flight e in
+          record { x = x; since = d.1; found = f; named = d.0; doing = d.2 }
+
+  pub flight_is : (w : World T) (p : ℕ) (start : Start T) (flight : Flight T) → Stands w p start flight → flight_in w p ≡ Some flight
+  flight_is w p start flight h = ap (λ o. flight_of (doing_of o)) h.found ∙ ap (λ d. flight_of (Some d)) h.doing
+
+  no_doing : (start : Start T) (doing : Doing T) → call_at start doing ≡ None → flight_of (Some doing) ≡ None
+  no_doing start (Going flight since) e = absurd (cc)
+  no_doing start (Over others) e = refl
+
+  pub no_flight : (w : World T) (p : ℕ) → call_in w p ≡ None → flight_in w p ≡ None
+  no_flight w p e = go (party_of p w.latest) e
+    where
+      go : (o : Option (Party T)) → call_of o ≡ None → flight_of (doing_of o) ≡ None
+      go None e = refl
+      go (Some x) e = no_doing x.start x.doing e
+
+  -- ---- the calls of other parties
+
+  pub next_other : (w : World T) (p q : ℕ) → q ≢ p → (o : Option (Party T)) → call_in (after_next w p o) q ≡ call_in w q
+  next_other w p q ne None = refl
+  next_other w p q ne (Some x) = go x.doing
+    where
+      go : (doing : Doing T) → call_in (after_answer w p x (ask_of_doing w.coding x.doing) (old_of w.words (ask_of_doing w.coding x.doing)) doing) q ≡ call_in w q
+      go (Over others) = refl
+      go (Going flight since) = ap call_of (party_put_other q p _ w.latest ne)
+
+  pub begin_other : (w : World T) (p q : ℕ) (start : Start T) → q ≢ p → (o : Option (Flight T)) → call_in (after_begin w p start o) q ≡ call_in w q
+  begin_other w p q start ne None = refl
+  begin_other w p q start ne (Some flight) = ap call_of (party_put_other q p _ w.latest ne)
+
+  -- ---- the own call
+
+  -- where it stands once it has gone on
+  abbrev pub call_then : Start T → After (Flight T) (Answer T) → Option (Start T × Flight T)
+  call_then start (GoOn flight) = Some (start, flight)
+  call_then start (Done answer) = None
+
+  pub begin_own : (w : World T) (p : ℕ) (start : Start T) (flight : Flight T) (o : Option (Flight T)) → o ≡ Some flight → call_in (after_begin w p start o) p ≡ Some (start, flight)
+  begin_own w p start flight None e = absurd (cc)
+  begin_own w p start flight (Some f) e =
+      let same : f ≡ flight = cc in
+      ap call_of (party_put_same p (party_at_begin start f w.changes) w.latest) ∙ ap (λ (g : Flight T). Some (start, g)) same
+
+  -- what a step of it comes to, where it writes this
+  pub record Moved (w : World T) (p : ℕ) (start : Start T) (flight : Flight T) (old : ℕ) (wrote : List (Event T)) : Type 0 where
+    pub going : call_in (after_next w p (party_of p w.latest)) p ≡ call_then start (after_of w.coding flight old)
+    pub events : events_of_next w p (party_of p w.latest) ≡ wrote ++ ending_of p start (answer_in (after_of w.coding flight old))
+
+  then_at : (start : Start T) (changes since : ℕ) (after : After (Flight T) (Answer T)) → call_at start (Rattle.model.specs.Turns.doing_after changes since after) ≡ call_then start after
+  then_at start changes since (GoOn flight) = refl
+  then_at start changes since (Done answer) = refl
+
+  -- where the family goes on as its table says
+  pub moved : (w : World T) (p : ℕ) (start : Start T) (flight : Flight T) (writes : ℕ → List (Event T)) → Stands w p start flight
+      → ((x : Party T) (n : ℕ) → party_of p w.latest ≡ Some x → (step_in w p x flight n).after ≡ after_of w.coding flight n)
+      → ((x : Party T) (n : ℕ) → party_of p w.latest ≡ Some x → (step_in w p x flight n).wrote ≡ writes n)
+      → Moved w p start flight (old_of w.words (ask_of (want_of w.coding flight))) (writes (old_of w.words (ask_of (want_of w.coding flight))))
+  moved w p start flight writes h goes same =
+      let old = old_of w.words (ask_of (want_of w.coding flight)) in
+      let s : Step (Flight T) Kept T = step_in w p h.x flight old in
+      let after = goes h.x old h.found in
+      let ask = ask_of (want_of w.coding flight) in
+      let there : call_in (after_step w p h.x h.since ask s) p ≡ call_at h.x.start (Rattle.model.specs.Turns.doing_after (w.changes + change_of w.words ask) (h.since + change_of w.words ask) s.after) = ap call_of (party_put_same p (party_after h.x h.since w.changes (step_count ask) (change_of w.words ask) s) w.latest) in
+      record {
+        going = rw (h.found, h.doing) (there ∙ (then_at h.x.start _ _ s.after ∙ (ap (call_then h.x.start) after ∙ ap (λ (z : Start T). call_then z (after_of w.coding flight old)) h.named)));
+        events = rw (h.found, h.doing) (ap (λ (a : After (Flight T) (Answer T)). s.wrote ++ ending_of p h.x.start (answer_in a)) after ∙ (ap (λ (z : Start T). s.wrote ++ ending_of p z (answer_in (after_of w.coding flight old))) h.named ∙ ap (λ es. es ++ ending_of p start (answer_in (after_of w.coding flight old))) (same h.x old h.found)));
+      }
+
+-- ---- words, and one more
+
+pub get_left : (xs ys : List ℕ) (i : ℕ) → i < length xs → get_or (xs ++ ys) i 0 ≡ get_or xs i 0
+get_left [] ys i below = absurd (omega arith)
+get_left (x ∷ xs) ys zero below = refl
+get_left (x ∷ xs) ys (suc i) below = get_left xs ys i (omega arith)
+
+pub set_left : (xs ys : List ℕ) (i n : ℕ) → i < length xs → set (xs ++ ys) i n ≡ set xs i n ++ ys
+set_left [] ys i n below = absurd (omega arith)
+set_left (x ∷ xs) ys zero n below = refl
+set_left (x ∷ xs) ys (suc i) n below = ap (λ (zs : List ℕ). x ∷ zs) (set_left xs ys i n (omega arith))

@@ -1,0 +1,284 @@
+-- Who has seen all of the history, and that the seats have made all of it together.
+use Rattle.std.proofs.Common.{◌≡◌, ◌≢◌, inl, inr, ⊎_elim, ℕ, zero, suc, ◌+◌, ◌<◌, Option, Some, None, IfSome, List, [], ◌∷◌, ◌++◌, length, set, refl, sym, ap, subst, ◌∙◌, arith, append_assoc, append-nil, sum_by, ◌==◌, true, false}
+use Rattle.std.proofs.lemmas.Bool.{cases_eq}
+use Rattle.std.proofs.lemmas.Bool.Decides.{nat_tests}
+use Rattle.std.proofs.lemmas.List.Sums.{sum_by-append}
+use Rattle.std.specs.List.{AllByRecursion}
+use mathlib.Core.Option.{some, some-injective, some-ne-none}
+use lib.ListN.{get_elem?}
+use Rattle.atomic_table.proofs.Lists.{at_longer, set_here, set_else}
+use Rattle.lock_free_sp.specs.Shares.{Shares, IsAll, all_shares}
+use Rattle.lock_free_sp.proofs.Shares.{shares_alone, shares_stay, shares_split, shares_join, others_none, positive}
+use Rattle.model.specs.declared.event.Event.{Event}
+use Rattle.model.specs.Reading.{whose}
+use Rattle.history.specs.declared.view.View.{View}
+use Rattle.history.specs.Views.{right_view, left_view, joined_view, spent_view}
+use Rattle.history.specs.History.{IsBeginning}
+use Rattle.history.specs.Known.{HasSeen, Known, own_of, events_by, made_of}
+
+pub within : {A : Type 0} → (xs : List A) (i : ℕ) (x : A) → get_elem? xs i ≡ some x → i < length xs
+within [] i x e = absurd (some-ne-none x (sym e))
+within (y ∷ ys) zero x e = omega arith
+within (y ∷ ys) (suc i) x e = let h = within ys i x e in omega arith
+
+nil_left : {A : Type 0} → (xs ys : List A) → xs ++ ys ≡ [] → xs ≡ []
+nil_left [] ys e = refl
+nil_left (x ∷ xs) ys e = absurd (cc)
+
+module _ {T : Type 0} where
+  -- ---- whose events
+
+  pub by_more : (p : ℕ) (xs ys : List (Event T)) → events_by p (xs ++ ys) ≡ events_by p xs ++ events_by p ys
+  by_more p [] ys = refl
+  by_more p (x ∷ xs) ys = ap (λ zs. own_of p x ++ zs) (by_more p xs ys) ∙ sym (append_assoc (own_of p x) (events_by p xs) (events_by p ys))
+
+  pub by_same : (p : ℕ) (xs ys : List (Event T)) → events_by p ys ≡ [] → events_by p (xs ++ ys) ≡ events_by p xs
+  by_same p xs ys none = by_more p xs ys ∙ (ap (λ zs. events_by p xs ++ zs) none ∙ append-nil (events_by p xs))
+
+  -- each is an event of this party
+  abbrev pub AreOf : ℕ → List (Event T) → Type 0
+  AreOf p es = AllByRecursion (λ e. whose e ≡ Some p) es
+
+  own_mine : (p : ℕ) (e : Event T) → whose e ≡ Some p → own_of p e ≡ e ∷ []
+  own_mine p e is = let t : (p == p) ≡ true = grind (arith, nat_tests) in rw (is, t) refl
+
+  own_other : (p q : ℕ) (e : Event T) → q ≢ p → whose e ≡ Some p → own_of q e ≡ []
+  own_other p q e ne is = let t : (p == q) ≡ false = grind (arith, nat_tests) in rw (is, t) refl
+
+  pub by_mine : (p : ℕ) (es : List (Event T)) → AreOf p es → events_by p es ≡ es
+  by_mine p [] are = refl
+  by_mine p (e ∷ es) are = ap (λ xs. xs ++ events_by p es) (own_mine p e are.0) ∙ ap (λ xs. e ∷ xs) (by_mine p es are.1)
+
+  pub by_other : (p q : ℕ) (es : List (Event T)) → q ≢ p → AreOf p es → events_by q es ≡ []
+  by_other p q [] ne are = refl
+  by_other p q (e ∷ es) ne are = ap (λ xs. xs ++ events_by q es) (own_other p q e ne are.0) ∙ by_other p q es ne are.1
+
+  -- who did nothing is seen to have done nothing
+  pub none_before : (p : ℕ) (seen events : List (Event T)) → IsBeginning seen events → events_by p events ≡ [] → events_by p seen ≡ []
+  none_before p seen events h none = nil_left (events_by p seen) (events_by p h.rest) (sym (by_more p seen h.rest) ∙ (ap (events_by p) (sym h.is) ∙ none))
+
+  -- ---- what the seats made
+
+  pub made_set : (f : Event T → ℕ) (views : List (View T)) (id : ℕ) (v w : View T) → get_elem? views id ≡ some v → made_of f (set views id w) + sum_by f v.made ≡ made_of f views + sum_by f w.made
+  made_set f [] id v w at = absurd (some-ne-none v (sym at))
+  made_set f (x ∷ xs) zero v w at =
+      let same : sum_by f x.made ≡ sum_by f v.made = ap (λ (z : View T). sum_by f z.made) (some-injective x v at) in
+      omega arith
+  made_set f (x ∷ xs) (suc id) v w at =
+      let h = made_set f xs id v w at in
+      let both : (sum_by f x.made + made_of f (set xs id w)) + sum_by f v.made ≡ (sum_by f x.made + made_of f xs) + sum_by f w.made = omega arith in
+      both
+
+  made_end : (f : Event T → ℕ) (views : List (View T)) (w : View T) → made_of f (views ++ w ∷ []) ≡ made_of f views + sum_by f w.made
+  made_end f [] w = omega arith
+  made_end f (x ∷ xs) w =
+      let h = made_end f xs w in
+      let both : sum_by f x.made + made_of f (xs ++ w ∷ []) ≡ (sum_by f x.made + made_of f xs) + sum_by f w.made = omega arith in
+      both
+
+  made_none : (f : Event T → ℕ) (views : List (View T)) → ((j : ℕ) (u : View T) → get_elem? views j ≡ some u → u.made ≡ []) → made_of f views ≡ 0
+  made_none f [] none = refl
+  made_none f (x ∷ xs) none =
+      let here : sum_by f x.made ≡ 0 = ap (sum_by f) (none 0 x refl) in
+      let rest = made_none f xs (λ j u at. none (suc j) u at) in
+      omega arith
+
+  -- where only one seat made something
+  pub made_one : (f : Event T → ℕ) (views : List (View T)) (id : ℕ) (v : View T) → get_elem? views id ≡ some v → ((j : ℕ) (u : View T) → j ≢ id → get_elem? views j ≡ some u → u.made ≡ []) → made_of f views ≡ sum_by f v.made
+  made_one f [] id v at none = absurd (some-ne-none v (sym at))
+  made_one f (x ∷ xs) zero v at none =
+      let same : sum_by f x.made ≡ sum_by f v.made = ap (λ (z : View T). sum_by f z.made) (some-injective x v at) in
+      let rest = made_none f xs (λ j u there. none (suc j) u (λ e. absurd (omega arith)) there) in
+      omega arith
+  made_one f (x ∷ xs) (suc id) v at none =
+      let here : sum_by f x.made ≡ 0 = ap (sum_by f) (none 0 x (λ e. absurd (omega arith)) refl) in
+      let rest = made_one f xs id v at (λ j u ne there. none (suc j) u (λ e. ne (omega arith)) there) in
+      omega arith
+
+  -- ---- what all seats know
+
+  abbrev share_of : View T → Rattle.lock_free_sp.specs.declared.share.Share.Share
+  share_of v = v.share
+
+  abbrev SpentIn : List (View T) → Type 0
+  SpentIn views = (j : ℕ) (u : View T) → get_elem? views j ≡ some u → u.share.part ≡ 0 → u.made ≡ []
+
+  pub known_alone : (v : View T) → v.share ≡ all_shares → v.seen ≡ [] → v.made ≡ [] → Known (v ∷ []) []
+  known_alone v all seen none =
+      record {
+        shares = shares_alone share_of v all;
+        by = 0;
+        last = v;
+        at = refl;
+        any = (let is = ap (λ s. s.part) all in omega arith);
+        all = inl seen;
+        made = λ f. (let here : sum_by f v.made ≡ 0 = ap (sum_by f) none in omega arith);
+        spent = spent;
+      }
+    where
+      spent : SpentIn (v ∷ [])
+      spent zero u at part = ap (λ (z : View T). z.made) (sym (some-injective v u at)) ∙ none
+      spent (suc j) u at part = absurd (some-ne-none u (sym at))
+
+  spent_set : (views : List (View T)) (id : ℕ) (w : View T) → SpentIn views → (w.share.part ≡ 0 → w.made ≡ []) → SpentIn (set views id w)
+  spent_set views id w spent own j u at part = ⊎_elim (λ (e : (j ≡ id) × (w ≡ u)). ap (λ (z : View T). z.made) (sym e.1) ∙ own (ap (λ (z : View T). z.share.part) e.1 ∙ part)) (λ (e : (j ≢ id) × (get_elem? views j ≡ some u)). spent j u e.1 part) (Rattle.atomic_table.proofs.Lists.at_set views id j w u at)
+
+  -- a seat with a share that has seen all now, and made this more
+  pub known_step : (views : List (View T)) (events gained : List (Event T)) (id : ℕ) (v w : View T) → id < length views → get_elem? views id ≡ some v → w.share ≡ v.share → 0 < v.share.part → w.seen ≡ events → w.made ≡ v.made ++ gained
+      → ((f : Event T → ℕ) → made_of f views + sum_by f gained ≡ sum_by f events) → SpentIn views → Shares share_of views → Known (set views id w) events
+  known_step views events gained id v w low at same part seen made sums spent shares =
+      record {
+        shares = shares_stay share_of views id v w at same shares;
+        by = id;
+        last = w;
+        at = set_here views id w low;
+        any = (let is = ap (λ s. s.part) same in omega arith);
+        all = inl seen;
+        made = λ f. (
+            let one = made_set f views id v w at in
+            let own : sum_by f w.made ≡ sum_by f v.made + sum_by f gained = ap (sum_by f) made ∙ sum_by-append f v.made gained in
+            let was = sums f in
+            omega arith);
+        spent = spent_set views id w spent (λ none. (let is = ap (λ s. s.part) same in absurd (omega arith)));
+      }
+
+  -- only the seat with the whole has a share
+  pub known_whole : (views : List (View T)) (events : List (Event T)) (id : ℕ) (v : View T) → get_elem? views id ≡ some v → IsAll v.share → Known views events → HasSeen v events
+  known_whole views events id v at whole k = ⊎_elim mine theirs (cases_eq k.by id)
+    where
+      mine : k.by ≡ id → HasSeen v events
+      mine e =
+          let there : some k.last ≡ some v = sym k.at ∙ (ap (get_elem? views) e ∙ at) in
+          subst (λ z. HasSeen z events) (some-injective k.last v there) k.all
+
+      theirs : k.by ≢ id → HasSeen v events
+      theirs ne =
+          let none = others_none share_of views id v at k.shares whole k.by k.last ne k.at in
+          let any = k.any in
+          absurd (omega arith)
+
+  -- and it made all
+  pub made_whole : (views : List (View T)) (events : List (Event T)) (id : ℕ) (v : View T) → get_elem? views id ≡ some v → IsAll v.share → Known views events → (f : Event T → ℕ) → sum_by f events ≡ sum_by f v.made
+  made_whole views events id v at whole k f =
+      sym (k.made f) ∙ made_one f views id v at (λ j u ne there. k.spent j u there (others_none share_of views id v at k.shares whole j u ne there))
+
+  pub known_split : (views : List (View T)) (events : List (Event T)) (id : ℕ) (v : View T) → id < length views → get_elem? views id ≡ some v → Known views events → Known (set views id (left_view v) ++ right_view v ∷ []) events
+  known_split views events id v low at k = ⊎_elim mine theirs (cases_eq k.by id)
+    where
+      cut : List (View T)
+      cut = set views id (left_view v) ++ right_view v ∷ []
+
+      sums : (f : Event T → ℕ) → made_of f cut ≡ sum_by f events
+      sums f =
+          let one = made_set f views id v (left_view v) at in
+          let two = made_end f (set views id (left_view v)) (right_view v) in
+          let was = k.made f in
+          omega arith
+
+      spent : SpentIn cut
+      spent = spent_end (set views id (left_view v)) (right_view v) (spent_set views id (left_view v) k.spent (λ none. k.spent id v at none)) refl
+        where
+          spent_end : (xs : List (View T)) (w : View T) → SpentIn xs → w.made ≡ [] → SpentIn (xs ++ w ∷ [])
+          spent_end [] w h none zero u e part = ap (λ (z : View T). z.made) (sym (some-injective w u e)) ∙ none
+          spent_end [] w h none (suc j) u e part = absurd (some-ne-none u (sym e))
+          spent_end (x ∷ xs) w h none zero u e part = h zero u e part
+          spent_end (x ∷ xs) w h none (suc j) u e part = spent_end xs w (λ i z. h (suc i) z) none j u e part
+
+      mine : k.by ≡ id → Known cut events
+      mine e =
+          let there : some k.last ≡ some v = sym k.at ∙ (ap (get_elem? views) e ∙ at) in
+          let same : k.last ≡ v = some-injective k.last v there in
+          let any : 0 < v.share.part = subst (λ (z : View T). 0 < z.share.part) same k.any in
+          let all : HasSeen v events = subst (λ z. HasSeen z events) same k.all in
+          record {
+            shares = shares_split share_of views id v (left_view v) (right_view v) at refl refl k.shares;
+            by = id;
+            last = left_view v;
+            at = at_longer (set views id (left_view v)) (right_view v ∷ []) id (left_view v) (set_here views id (left_view v) low);
+            any = any;
+            all = all;
+            made = sums;
+            spent = spent;
+          }
+
+      theirs : k.by ≢ id → Known cut events
+      theirs ne =
+          record {
+            shares = shares_split share_of views id v (left_view v) (right_view v) at refl refl k.shares;
+            by = k.by;
+            last = k.last;
+            at = at_longer (set views id (left_view v)) (right_view v ∷ []) k.by k.last (set_else views id k.by (left_view v) ne ∙ k.at);
+            any = k.any;
+            all = k.all;
+            made = sums;
+            spent = spent;
+          }
+
+  pub known_join : (views : List (View T)) (events : List (Event T)) (id other : ℕ) (v w : View T) → get_elem? views id ≡ some v → ¬ (other ≡ id) → get_elem? views other ≡ some w → 0 < v.share.part → IsBeginning v.seen events → v.other ≡ [] → w.other ≡ [] → Known views events
+      → Known (set (set views id (joined_view v w)) other spent_view) events
+  known_join views events id other v w at apart at' part mine_seen alone alone' k = ⊎_elim mine (λ ne. ⊎_elim theirs (third ne) (cases_eq k.by other)) (cases_eq k.by id)
+    where
+      both : List (View T)
+      both = set (set views id (joined_view v w)) other spent_view
+
+      shares : Shares share_of both
+      shares = shares_join share_of views id other v w (joined_view v w) spent_view at apart at' refl refl k.shares
+
+      there : get_elem? both id ≡ some (joined_view v w)
+      there = set_else (set views id (joined_view v w)) other id spent_view (λ e. apart (sym e)) ∙ set_here views id (joined_view v w) (within views id v at)
+
+      still : get_elem? (set views id (joined_view v w)) other ≡ some w
+      still = set_else views id other (joined_view v w) apart ∙ at'
+
+      more : 0 < v.share.part → 0 < (joined_view v w).share.part
+      more any = let h = positive v.share.part w.share.parts any (k.shares.fits other w at').0 in omega arith
+
+      sums : (f : Event T → ℕ) → made_of f both ≡ sum_by f events
+      sums f =
+          let one = made_set f views id v (joined_view v w) at in
+          let two = made_set f (set views id (joined_view v w)) other w spent_view still in
+          let all = sum_by-append f v.made w.made in
+          let was = k.made f in
+          omega arith
+
+      spent : SpentIn both
+      spent = spent_set (set views id (joined_view v w)) other spent_view (spent_set views id (joined_view v w) k.spent (λ none. (let h = more part in absurd (omega arith)))) (λ none. refl)
+
+      none_left : (xs rest : List (Event T)) → [] ≡ xs ++ rest → xs ≡ []
+      none_left [] rest e = refl
+      none_left (x ∷ xs) rest e = absurd (cc)
+
+      -- where nothing has happened all have seen all
+      early : events ≡ [] → v.seen ≡ events
+      early e = none_left v.seen mine_seen.rest (sym e ∙ mine_seen.is) ∙ sym e
+
+      mine : k.by ≡ id → Known both events
+      mine e =
+          let same : k.last ≡ v = some-injective k.last v (sym k.at ∙ (ap (get_elem? views) e ∙ at)) in
+          record { shares = shares; by = id; last = joined_view v w; at = there; any = more part; all = seen (subst (λ z. HasSeen z events) same k.all); made = sums; spent = spent }
+        where
+          seen : HasSeen v events → HasSeen (joined_view v w) events
+          seen (inl h) = inl h
+          seen (inr h) = inl (early (sym h ∙ alone))
+
+      theirs : k.by ≡ other → Known both events
+      theirs e =
+          let same : k.last ≡ w = some-injective k.last w (sym k.at ∙ (ap (get_elem? views) e ∙ at')) in
+          record { shares = shares; by = id; last = joined_view v w; at = there; any = more part; all = seen (subst (λ z. HasSeen z events) same k.all); made = sums; spent = spent }
+        where
+          seen : HasSeen w events → HasSeen (joined_view v w) events
+          seen (inl h) = inr h
+          seen (inr h) = inl (early (sym h ∙ alone'))
+
+      third : k.by ≢ id → k.by ≢ other → Known both events
+      third ne ne' =
+          record {
+            shares = shares;
+            by = k.by;
+            last = k.last;
+            at = set_else (set views id (joined_view v w)) other k.by spent_view ne' ∙ (set_else views id k.by (joined_view v w) ne ∙ k.at);
+            any = k.any;
+            all = k.all;
+            made = sums;
+            spent = spent;
+          }

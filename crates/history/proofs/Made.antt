@@ -1,0 +1,59 @@
+-- What a call that is told of step by step has made from its begin on.
+use Rattle.std.proofs.Common.{◌≡◌, ◌⊎◌, inl, inr, ℕ, Option, Some, None, IfSome, List, [], ◌∷◌, ◌++◌, refl, sym, ap, subst, ◌∙◌, append_assoc, append-nil}
+use Rattle.model.specs.declared.event.Event.{Event}
+use Rattle.model.specs.declared.event.Event.TheVariants.{Begun, Finished}
+use Rattle.model.specs.declared.event.Start.{Start}
+use Rattle.model.specs.declared.families.Flight.{Flight}
+use Rattle.history.specs.declared.view.View.{View}
+use Rattle.history.specs.Stages.{Since, opened}
+
+same_end : {A : Type 0} → (xs ys : List A) (z : A) → xs ++ z ∷ [] ≡ ys ++ z ∷ [] → xs ≡ ys
+same_end [] [] z e = refl
+same_end [] (y ∷ []) z e = absurd (cc)
+same_end [] (y ∷ w ∷ ys) z e = absurd (cc)
+same_end (x ∷ []) [] z e = absurd (cc)
+same_end (x ∷ w ∷ xs) [] z e = absurd (cc)
+same_end (x ∷ xs) (y ∷ ys) z e =
+    let first : x ≡ y = cc in
+    let rest : xs ++ z ∷ [] ≡ ys ++ z ∷ [] = cc in
+    ap (λ w. w ∷ xs) first ∙ ap (λ ws. y ∷ ws) (same_end xs ys z rest)
+
+same_rest : {A : Type 0} → (xs ys zs : List A) → xs ++ ys ≡ xs ++ zs → ys ≡ zs
+same_rest [] ys zs e = e
+same_rest (x ∷ xs) ys zs e = let rest : xs ++ ys ≡ xs ++ zs = cc in same_rest xs ys zs rest
+
+-- what stands between the same begin and the same end
+pub same_between : {A : Type 0} → (xs ys zs : List A) (b f : A) → xs ++ b ∷ (ys ++ f ∷ []) ≡ xs ++ b ∷ (zs ++ f ∷ []) → ys ≡ zs
+same_between xs ys zs b f e =
+    let behind = same_rest xs (b ∷ (ys ++ f ∷ [])) (b ∷ (zs ++ f ∷ [])) e in
+    let inner : ys ++ f ∷ [] ≡ zs ++ f ∷ [] = cc in
+    same_end ys zs f inner
+
+module _ {T : Type 0} (start : Start T) where
+  -- from the view with which the call began: it is to begin, or its party has begun it and written this
+  abbrev pub MadeSoFar : View T → View T → (ℕ → List (Event T)) → Type 0
+  MadeSoFar base v wrote =
+      ((v ≡ base) × ((p : ℕ) → wrote p ≡ []))
+      ⊎ ((p : ℕ) × (v.party ≡ Some p) × (flight : Flight T) × (v.going ≡ Some (start, flight)) × (v.made ≡ base.made ++ Begun p start ∷ wrote p))
+
+  -- one step more, which wrote `more` and then `last`
+  pub made_with : (base v w : View T) (wrote more : ℕ → List (Event T)) (last es : List (Event T)) (p : ℕ) → base.going ≡ None → MadeSoFar base v wrote → IfSome v.party (λ q. q ≡ p) → Since p start es last v w → es ≡ more p → w.made ≡ base.made ++ Begun p start ∷ ((wrote p ++ more p) ++ last)
+  made_with base v w wrote more last es p idle (inl first) known since is =
+      since.made
+      ∙ (ap (λ (z : View T). z.made ++ (opened p start z.going ++ (es ++ last))) first.0
+      ∙ (ap (λ o. base.made ++ (opened p start o ++ (es ++ last))) idle
+      ∙ (ap (λ zs. base.made ++ Begun p start ∷ (zs ++ last)) is
+      ∙ ap (λ zs. base.made ++ Begun p start ∷ ((zs ++ more p) ++ last)) (sym (first.1 p)))))
+  made_with base v w wrote more last es p idle (inr under) known since is =
+      let q = under.0 in
+      let same : q ≡ p = subst (λ (o : Option ℕ). IfSome o (λ z. z ≡ p)) under.1 known in
+      let was : v.made ≡ base.made ++ Begun p start ∷ wrote p = subst (λ z. v.made ≡ base.made ++ Begun z start ∷ wrote z) same under.4 in
+      since.made
+      ∙ (ap (λ o. v.made ++ (opened p start o ++ (es ++ last))) under.3
+      ∙ (ap (λ zs. zs ++ (es ++ last)) was
+      ∙ (ap (λ zs. (base.made ++ Begun p start ∷ wrote p) ++ (zs ++ last)) is
+      ∙ (append_assoc base.made (Begun p start ∷ wrote p) (more p ++ last) ∙ ap (λ zs. base.made ++ Begun p start ∷ zs) (sym (append_assoc (wrote p) (more p) last))))))
+
+  pub made_more : (base v w : View T) (wrote more : ℕ → List (Event T)) (es : List (Event T)) (p : ℕ) (flight : Flight T) → base.going ≡ None → MadeSoFar base v wrote → IfSome v.party (λ q. q ≡ p) → w.party ≡ Some p → w.going ≡ Some (start, flight) → Since p start es [] v w → es ≡ more p → MadeSoFar base w (λ z. wrote z ++ more z)
+  made_more base v w wrote more es p flight idle so_far known mine going since is =
+      inr (p, mine, flight, going, made_with base v w wrote more [] es p idle so_far known since is ∙ ap (λ zs. base.made ++ Begun p start ∷ zs) (append-nil (wrote p ++ more p)))

@@ -1,0 +1,147 @@
+-- What bit sets and counting bit sets owe, from their laws.
+use Rattle.std.proofs.Common.{◌≡◌, ◌≢◌, ℕ, ◌+◌, ◌-◌, ◌^◌, ◌<◌, nat_lt, Bool, true, false, Option, Some, None, IfSome, List, [], ◌∷◌, ◌++◌, length, replicate, refl, sym, ap, subst, ◌∙◌, arith}
+use Rattle.std.specs.List.{AllByRecursion}
+use Rattle.std.proofs.lemmas.Bool.Decides.{nat_tests}
+use Rattle.atomic_table.specs.Table.{opening}
+use Rattle.steps.specs.Bits.Words.{elements}
+use Rattle.model.specs.declared.event.Event.{Event}
+use Rattle.model.specs.declared.event.Event as events
+use Rattle.model.specs.declared.event.Start.{Start}
+use Rattle.model.specs.declared.event.Start.TheVariants.{Bits}
+use Rattle.model.specs.declared.families.Flight.{Flight}
+use Rattle.model.specs.declared.families.Flight as flights
+use Rattle.model.specs.declared.families.Kept.{Kept}
+use Rattle.model.specs.declared.families.Kept as kepts
+use Rattle.model.specs.declared.families.bits.BitsStart.{BitsStart}
+use Rattle.model.specs.declared.families.bits.calls.BitsFlight.{BitsFlight}
+use Rattle.model.specs.declared.party.Party.{Party}
+use Rattle.model.specs.declared.turn.Kind as kinds
+use Rattle.model.specs.declared.turn.Turn.TheVariants.{Next}
+use Rattle.model.specs.Coding.{Coding, one_word}
+use Rattle.model.specs.Families.{opening_of, step_of, beside_of, after_of, going_rows}
+use Rattle.model.specs.Families.Bits.Steps.{effects_of}
+use Rattle.model.specs.Parties.{party_of}
+use Rattle.model.specs.Promises.Turns.{IsEffectOf, IsParty}
+use Rattle.model.specs.Reading.{whose, span_of}
+use Rattle.model.specs.Rows.{first_row}
+use Rattle.model.specs.Turns.{step_in}
+use Rattle.model.specs.World.{Trace}
+use Rattle.model.proofs.Frame as frame
+use Rattle.model.proofs.Scenes.{stands_there}
+use Rattle.bit_laws.proofs.Family.{SetKind, FlightAt, family}
+use Rattle.bit_laws.proofs.Laws.{SetLaws, sound_on}
+use Rattle.bit_laws.proofs.Laws as sets
+use Rattle.bit_laws.proofs.Spans.{wrote_in}
+use Rattle.bit_laws.proofs.Counts.Invariant.{counting_set}
+use Rattle.bit_laws.proofs.Counts.Justified.{laws as counts_laws}
+use Rattle.bit_laws.proofs.Bits.Invariant.{bit_set}
+use Rattle.bit_laws.proofs.Bits.Justified.{laws as bits_laws}
+use Rattle.history.specs.History.{IsRun, IsMachine, call_in}
+use Rattle.history.specs.Views.{first_view}
+use Rattle.history.proofs.Known.{AreOf}
+use Rattle.history.proofs.Calls.{stands}
+use Rattle.history.proofs.Turns.{CallGoesOn, KindLaws}
+use Rattle.history.proofs.Passes.{opens, one_more}
+
+module _ {T : Type 0} where
+  -- what a step of a set's call writes
+  abbrev pub set_effects : ℕ → Flight T → ℕ → List (Event T)
+  set_effects p (flights.TheVariants.Bits flight) old = effects_of p flight old
+  set_effects p flight old = []
+
+  -- an effect is an event of its party
+  effect_own : (p : ℕ) (e : Event T) → IsEffectOf (Next p) e → whose e ≡ Some p
+  effect_own p (events.TheVariants.Begun q start) h = absurd h
+  effect_own p (events.TheVariants.Published q item) h = ap Some h
+  effect_own p (events.TheVariants.HandedOut q item) h = ap Some h
+  effect_own p (events.TheVariants.Set q bit) h = ap Some h
+  effect_own p (events.TheVariants.Cleared q bit) h = ap Some h
+  effect_own p (events.TheVariants.Counted q place) h = ap Some h
+  effect_own p (events.TheVariants.TakenOut q place number) h = ap Some h
+  effect_own p (events.TheVariants.Claimed q index) h = ap Some h
+  effect_own p (events.TheVariants.Freed q index) h = ap Some h
+  effect_own p (events.TheVariants.Locked q) h = ap Some h
+  effect_own p (events.TheVariants.Filled q index o) h = ap Some h
+  effect_own p (events.TheVariants.Granted q index o) h = ap Some h
+  effect_own p (events.TheVariants.FreedOf q index o) h = ap Some h
+  effect_own p (events.TheVariants.Asked q index o) h = ap Some h
+  effect_own p (events.TheVariants.Told q index o) h = ap Some h
+  effect_own p (events.TheVariants.Died o) h = absurd h
+  effect_own p (events.TheVariants.Acted q start answer) h = absurd h
+  effect_own p (events.TheVariants.Finished q start answer) h = absurd h
+
+  effects_own : (p : ℕ) (es : List (Event T)) → AllByRecursion (IsEffectOf (Next p)) es → AreOf p es
+  effects_own p [] h = tt
+  effects_own p (e ∷ es) h = (effect_own p e h.0, effects_own p es h.1)
+
+module _ {T : Type 0} (K : SetKind T) (laws : (code : Coding T) (c : ℕ) → SetLaws K code c) (code : Coding T) (capacity words : ℕ) (sized : (c : ℕ) (ws : List ℕ) (es : List (Event T)) (turns : ℕ) → c ≡ capacity → K.Holds c ws es turns → length ws ≡ words) where
+  abbrev IsSet : Trace T → Type 0
+  IsSet t = IsRun code K.kind capacity t
+
+  sound : (t : Trace T) → IsSet t → frame.Sound (family K t.world.coding t.world.capacity) t
+  sound t r = sound_on K laws t r.of_kind r.reached
+
+  bare : (t : Trace T) → IsSet t → t.world.kept ≡ (opening_of K.kind).kept capacity
+  bare t r = (sound t r).fit.0 ∙ sym ((laws code capacity).bare)
+
+  size : (t : Trace T) → IsSet t → length t.world.words ≡ words
+  size t r = let s = sound t r in ap length s.fit.1 ∙ sized t.world.capacity s.state.words t.events t.world.turns r.sized s.holds.0
+
+  no_rows : (t : Trace T) (At : BitsStart → BitsFlight → Type 0) (start : Start T) (flight : Flight T) → FlightAt At start flight → first_row (going_rows t.world.coding t.world.kept (Some flight) None) ≡ None
+  no_rows t At (Bits start) (flights.TheVariants.Bits flight) at = refl
+  no_rows t At start flight at = absurd at
+
+  writes_there : (t : Trace T) (p old : ℕ) (At : BitsStart → BitsFlight → Type 0) (kept : Kept) (start : Start T) (flight : Flight T) → kept ≡ kepts.TheVariants.Nothing → FlightAt At start flight
+      → (step_of t.world.coding t.world.words (beside_of t.world.words t.world.kept t.world.latest p) p start flight old kept).wrote ≡ set_effects p flight old
+  writes_there t p old At kepts.TheVariants.Nothing (Bits start) (flights.TheVariants.Bits flight) none at = refl
+  writes_there t p old At kept (Bits start) (flights.TheVariants.Bits flight) none at = absurd (cc)
+  writes_there t p old At kept start flight none at = absurd at
+
+  own_there : (c p old : ℕ) (wrote : List (Event T)) (start : Start T) (flight : Flight T) → FlightAt (K.At c wrote) start flight → AreOf p (set_effects p flight old)
+  own_there c p old wrote (Bits start) (flights.TheVariants.Bits flight) at = effects_own p (effects_of p flight old) ((laws code c).effects p old wrote start flight at)
+  own_there c p old wrote start flight at = absurd at
+
+  goes_on : (t : Trace T) → IsSet t → (p : ℕ) (start : Start T) (flight : Flight T) → call_in t.world p ≡ Some (start, flight) → CallGoesOn code K.kind capacity words set_effects t p flight
+  goes_on t r p start flight at =
+      let s = sound t r in
+      let here = stands t.world p start flight at in
+      let there = stands_there (family K t.world.coding t.world.capacity) t s p here.x here.since flight here.found here.doing in
+      let wrote : List (Event T) = wrote_in (span_of p s.state.events) in
+      let mine : FlightAt (K.At t.world.capacity wrote) here.x.start flight = there.at in
+      record {
+        may = no_rows t (K.At t.world.capacity wrote) here.x.start flight mine;
+        own = λ n. own_there t.world.capacity p n wrote here.x.start flight mine;
+        writes = λ x n found. (
+            let same : here.x ≡ x = (let both : Some here.x ≡ Some x = sym here.found ∙ found in cc) in
+            subst (λ (z : Party T). (step_in t.world p z flight n).wrote ≡ set_effects p flight n) same (writes_there t p n (K.At t.world.capacity wrote) t.world.kept here.x.start flight (s.fit.0) mine));
+        goes = λ x n found. (
+            let same : here.x ≡ x = (let both : Some here.x ≡ Some x = sym here.found ∙ found in cc) in
+            let orders = sets.orders K t.world.coding t.world.capacity (laws t.world.coding t.world.capacity) in
+            subst (λ (z : Party T). (step_in t.world p z flight n).after ≡ after_of t.world.coding flight n) same
+            (orders.after t p here.x flight here.since n (sound t r) here.found here.doing));
+      }
+
+  pub sets_owe : KindLaws code K.kind capacity words set_effects
+  sets_owe = record { kept = bare; size = size; goes_on = goes_on }
+
+module _ {T : Type 0} (code : Coding T) (capacity : ℕ) where
+  pub counts_owe : KindLaws code kinds.TheVariants.Counts capacity capacity set_effects
+  counts_owe = sets_owe counting_set counts_laws code capacity capacity (λ c ws es turns same holds. holds.sized ∙ same)
+
+  pub bits_owe : KindLaws code kinds.TheVariants.Bits capacity (1 + elements capacity) set_effects
+  bits_owe = sets_owe bit_set bits_laws code capacity (1 + elements capacity) (λ c ws es turns same holds. holds.sized ∙ ap (λ n. 1 + elements n) same)
+
+-- ---- how their tables open
+
+module _ (capacity : ℕ) (small : capacity < 2 ^ 32) where
+  most : nat_lt (2 ^ 32 - 1) capacity ≡ false
+  most = grind (arith, nat_tests)
+
+  least : nat_lt capacity 0 ≡ false
+  least = grind (arith, nat_tests)
+
+  pub counts_open : (words : List ℕ) → words ≡ replicate (capacity + 1) 0 → IsMachine one_word kinds.TheVariants.Counts capacity (opening words [] (first_view capacity))
+  counts_open words same = opens one_word kinds.TheVariants.Counts capacity words (record { some = omega arith; few = omega arith; sized = λ x. refl; given_back = λ x. refl }) (rw (most, least) refl) (same ∙ one_more capacity)
+
+  pub bits_open : (words : List ℕ) → words ≡ replicate (1 + elements capacity + 1) 0 → IsMachine one_word kinds.TheVariants.Bits capacity (opening words [] (first_view capacity))
+  bits_open words same = opens one_word kinds.TheVariants.Bits capacity words (record { some = omega arith; few = omega arith; sized = λ x. refl; given_back = λ x. refl }) (rw (most, least) refl) (same ∙ one_more (1 + elements capacity))

@@ -1,0 +1,95 @@
+-- The rule of a table that is a machine, and what a caller knows of one history.
+use Rattle.std.specs.Prelude.{◌≡◌, ◌≤◌, ◌<◌, ℕ, Option, Some, None, IfSome, List, [], ◌∷◌, ◌++◌, length}
+use mathlib.Core.Option.{some}
+use lib.ListN.{get_elem?}
+use Rattle.atomic_table.specs.Table.{State}
+use Rattle.model.specs.declared.event.Answer.{Answer}
+use Rattle.model.specs.declared.event.Event.{Event}
+use Rattle.model.specs.declared.event.Event.TheVariants.{Begun, Finished}
+use Rattle.model.specs.declared.event.Start.{Start}
+use Rattle.model.specs.declared.families.Flight.{Flight}
+use Rattle.model.specs.declared.party.Doing.{Doing}
+use Rattle.model.specs.declared.party.Doing.TheVariants.{Going, Over}
+use Rattle.model.specs.declared.party.Party.{Party}
+use Rattle.model.specs.declared.turn.Kind.{Kind}
+use Rattle.model.specs.Coding.{Coding}
+use Rattle.model.specs.Parties.{party_of}
+use Rattle.model.specs.Turns.{IsReachedOn}
+use Rattle.model.specs.World.{World, Trace}
+use Rattle.lock_free_sp.specs.Shares.{IsAll}
+use Rattle.history.specs.Known.{Known, events_by}
+use Rattle.history.specs.declared.view.View.{View}
+
+module _ {T : Type 0} where
+  -- ---- where a party's call stands
+
+  abbrev pub call_at : Start T → Doing T → Option (Start T × Flight T)
+  call_at start (Going flight since) = Some (start, flight)
+  call_at start (Over others) = None
+
+  abbrev pub call_of : Option (Party T) → Option (Start T × Flight T)
+  call_of None = None
+  call_of (Some x) = call_at x.start x.doing
+
+  -- the party's call under way, with its name
+  abbrev pub call_in : World T → ℕ → Option (Start T × Flight T)
+  call_in w p = call_of (party_of p w.latest)
+
+  -- ---- beginnings
+
+  -- the events that were seen are a beginning of these
+  pub record IsBeginning (seen events : List (Event T)) : Type 0 where
+    pub rest : List (Event T)
+    pub is : events ≡ seen ++ rest
+
+  -- ---- the rule
+
+  -- what the seat of this number knows is so of the machine; who has a share has seen all that
+  -- its party did
+  pub record Fits (t : Trace T) (j : ℕ) (v : View T) : Type 0 where
+    pub seen : IsBeginning v.seen t.events
+    pub other : IsBeginning v.other t.events
+    pub going : call_in t.world j ≡ v.going
+    pub party : IfSome v.party (λ p. p ≡ j)
+    pub own : 0 < v.share.part → events_by j v.seen ≡ events_by j t.events
+
+  -- a reached machine of this kind and capacity
+  pub record IsRun (code : Coding T) (kind : Kind) (capacity : ℕ) (t : Trace T) : Type 0 where
+    pub reached : IsReachedOn t
+    pub coded : t.world.coding ≡ code
+    pub of_kind : t.world.kind ≡ kind
+    pub sized : t.world.capacity ≡ capacity
+
+  -- the words of a table: the machine's, and one more, since passes are split at a word
+  pub record IsMachine (code : Coding T) (kind : Kind) (capacity : ℕ)
+      (s : State (Unit {0}) (View T)) : Type 0 where
+    pub trace : Trace T
+    pub run : IsRun code kind capacity trace
+    pub words : s.words ≡ trace.world.words ++ 0 ∷ []
+    pub seats : (j : ℕ) (v : View T) → get_elem? s.views j ≡ some v → Fits trace j v
+    pub further : (j : ℕ) → length s.views ≤ j → call_in trace.world j ≡ None
+    pub made_none : (j : ℕ) → length s.views ≤ j → events_by j trace.events ≡ []
+    pub known : Known s.views trace.events
+
+  -- ---- what a caller knows
+
+  -- the events of some run of a machine of this kind and capacity
+  pub record IsHistory (code : Coding T) (kind : Kind) (capacity : ℕ) (events : List (Event T))
+      : Type 0 where
+    pub trace : Trace T
+    pub run : IsRun code kind capacity trace
+    pub is : events ≡ trace.events
+
+  -- A pass that knew `old` made one call and knows `new`. After what it had seen come the doings
+  -- of others, none where it had the whole; then the call begins, things happen, among them what
+  -- the call wrote, and it ends with this answer, the last that was seen.
+  pub record Called (p : ℕ) (start : Start T) (answer : Answer T) (wrote : List (Event T))
+      (old new : View T) : Type 0 where
+    pub others : List (Event T)
+    pub during : List (Event T)
+    pub is : new.seen
+        ≡ (old.seen ++ others) ++ Begun p start ∷ (during ++ Finished p start answer ∷ [])
+    pub alone : IsAll old.share → others ≡ []
+    pub others_own : events_by p others ≡ []
+    pub during_own : events_by p during ≡ wrote
+    pub made : new.made ≡ old.made ++ Begun p start ∷ (wrote ++ Finished p start answer ∷ [])

@@ -1,0 +1,37 @@
+-- Which events are whose, who has seen all of them, and that the seats have made all of them together.
+use Rattle.std.specs.Prelude.{◌≡◌, ◌<◌, ◌⊎◌, ℕ, ◌+◌, List, [], ◌∷◌, ◌++◌, sum_by, if◌then◌else◌}
+use mathlib.Core.Option.{some}
+use lib.ListN.{get_elem?}
+use Rattle.lock_free_sp.specs.Shares.{Shares}
+use Rattle.model.specs.declared.event.Event.{Event}
+use Rattle.model.specs.Reading.{whose, is_party}
+use Rattle.history.specs.declared.view.View.{View}
+
+module _ {T : Type 0} where
+  abbrev pub own_of : ℕ → Event T → List (Event T)
+  own_of p e = if is_party p (whose e) then e ∷ [] else []
+
+  -- the events of one party, in their order
+  abbrev pub events_by : ℕ → List (Event T) → List (Event T)
+  events_by p [] = []
+  events_by p (e ∷ es) = own_of p e ++ events_by p es
+
+  abbrev pub HasSeen : View T → List (Event T) → Type 0
+  HasSeen v events = (v.seen ≡ events) ⊎ (v.other ≡ events)
+
+  -- what a measure gives to all that the seats made
+  abbrev pub made_of : (Event T → ℕ) → List (View T) → ℕ
+  made_of f [] = 0
+  made_of f (v ∷ vs) = sum_by f v.made + made_of f vs
+
+  -- the shares make the whole, some seat with a share has seen all, and each event was made by
+  -- one seat with a share: so every measure of them says
+  pub record Known (views : List (View T)) (events : List (Event T)) : Type 0 where
+    pub shares : Shares (λ (v : View T). v.share) views
+    pub by : ℕ
+    pub last : View T
+    pub at : get_elem? views by ≡ some last
+    pub any : 0 < last.share.part
+    pub all : HasSeen last events
+    pub made : (f : Event T → ℕ) → made_of f views ≡ sum_by f events
+    pub spent : (j : ℕ) (v : View T) → get_elem? views j ≡ some v → v.share.part ≡ 0 → v.made ≡ []

@@ -1,0 +1,4 @@
+pub mod Known
+pub mod History
+pub mod Stages
+pub mod Views

@@ -1,0 +1,97 @@
+-- What a seat knows while a call is driven on a table that is a machine: the same for any call.
+use Rattle.std.specs.Prelude.{◌≡◌, ◌<◌, ◌⊎◌, ℕ, Option, Some, None, IfSome, List, [], ◌∷◌, ◌++◌, sum_by}
+use Rattle.model.specs.declared.event.Answer.{Answer}
+use Rattle.model.specs.declared.event.Event.{Event}
+use Rattle.model.specs.declared.event.Event.TheVariants.{Begun, Finished}
+use Rattle.model.specs.declared.event.Start.{Start}
+use Rattle.model.specs.declared.families.Flight.{Flight}
+use Rattle.model.specs.declared.turn.Kind.{Kind}
+use Rattle.model.specs.Coding.{Coding}
+use Rattle.model.specs.Families.{begin_rows, opening_of, first_of}
+use Rattle.model.specs.Rows.{first_row}
+use Rattle.model.specs.World.{capacity_error}
+use Rattle.lock_free_sp.specs.Shares.{IsAll}
+use Rattle.history.specs.declared.view.View.{View}
+use Rattle.history.specs.Known.{events_by}
+use Rattle.history.specs.History.{IsHistory}
+
+-- A call of the driver as a call of the model.
+pub record Calling (T C M E : Type 0) : Type 1 where
+  pub start : Start T
+  -- what is so of it on a structure of this capacity
+  pub stands : ℕ → C → Type 0
+  pub flight : C → M → Flight T
+  pub answer : E → M → Answer T
+  -- what the party's call wrote there since it stood at this place, or since it began
+  pub wrote : ℕ → ℕ → Option (Start T × Flight T) → C → M → List (Event T) → Type 0
+  pub wrote_all : ℕ → ℕ → Option (Start T × Flight T) → E → M → List (Event T) → Type 0
+
+module _ {T : Type 0} where
+  -- a call that was not under way began
+  abbrev pub opened : ℕ → Start T → Option (Start T × Flight T) → List (Event T)
+  opened p start None = Begun p start ∷ []
+  opened p start (Some at) = []
+
+  -- from the one view to the other the party's call began, or went on, and wrote this, and then
+  -- these events came
+  pub record Since (p : ℕ) (start : Start T) (wrote last : List (Event T)) (base v : View T)
+      : Type 0 where
+    pub others : List (Event T)
+    pub during : List (Event T)
+    pub is : v.seen
+        ≡ (base.seen ++ others) ++ (opened p start base.going ++ (during ++ last))
+    pub alone : IsAll base.share → others ≡ []
+    pub others_own : events_by p others ≡ []
+    pub during_own : events_by p during ≡ wrote
+    pub made : v.made ≡ base.made ++ (opened p start base.going ++ (wrote ++ last))
+
+module _ {T C M E : Type 0} (code : Coding T) (kind : Kind) (call : Calling T C M E) where
+  -- the call is about to begin, as one that its family has and does not refuse
+  pub record IsFirst (base v : View T) (c : C) (m : M) : Type 0 where
+    pub is : v ≡ base
+    pub idle : base.going ≡ None
+    pub fresh : base.other ≡ []
+    pub standing : call.stands base.capacity c
+    pub some : 0 < base.share.part
+    pub first : first_of kind base.capacity call.start ≡ Some (call.flight c m)
+    pub may : (p : ℕ)
+        → first_row
+        (begin_rows kind base.capacity ((opening_of kind).kept base.capacity) p call.start)
+        ≡ None
+    pub wrote : (p : ℕ) → call.wrote base.capacity p None c m []
+
+  -- it is under way
+  pub record IsUnderWay (base v : View T) (c : C) (m : M) : Type 0 where
+    pub capacity : v.capacity ≡ base.capacity
+    pub standing : call.stands base.capacity c
+    pub share : v.share ≡ base.share
+    pub some : 0 < v.share.part
+    pub party : ℕ
+    pub mine : v.party ≡ Some party
+    pub same : IfSome base.party (λ p. p ≡ party)
+    pub going : v.going ≡ Some (call.start, call.flight c m)
+    pub alone : v.other ≡ []
+    pub wrote : List (Event T)
+    pub tells : call.wrote base.capacity party base.going c m wrote
+    pub since : Since party call.start wrote [] base v
+    pub history : IsHistory code kind base.capacity v.seen
+
+  abbrev pub At : View T → View T → C → M → Type 0
+  At base v c m = IsFirst base v c m ⊎ IsUnderWay base v c m
+
+  -- it has ended
+  pub record Ends (base : View T) (e : E) (m : M) (w : View T) : Type 0 where
+    pub capacity : w.capacity ≡ base.capacity
+    pub share : w.share ≡ base.share
+    pub party : ℕ
+    pub mine : w.party ≡ Some party
+    pub same : IfSome base.party (λ p. p ≡ party)
+    pub idle : w.going ≡ None
+    pub alone : w.other ≡ []
+    pub wrote : List (Event T)
+    pub tells : call.wrote_all base.capacity party base.going e m wrote
+    pub since : Since party call.start wrote
+        (Finished party call.start (call.answer e m) ∷ []) base w
+    pub history : IsHistory code kind base.capacity w.seen
+    -- who has the whole has made all of it
+    pub all : IsAll base.share → (f : Event T → ℕ) → sum_by f w.seen ≡ sum_by f w.made

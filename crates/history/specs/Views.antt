@@ -1,0 +1,77 @@
+-- The views of passes as they are made, cut, put together and looked through.
+use Rattle.std.specs.Prelude.{◌≡◌, ◌⊎◌, ℕ, Some, None, [], ◌++◌, sum_by}
+use Rattle.model.specs.declared.event.Event.{Event}
+use Rattle.model.specs.declared.turn.Kind.{Kind}
+use Rattle.model.specs.Coding.{Coding}
+use Rattle.lock_free_sp.specs.Shares.{all_shares, no_share, half_of, both_of, IsAll}
+use Rattle.history.specs.declared.view.View.{View}
+use Rattle.history.specs.Known.{events_by}
+use Rattle.history.specs.History.{IsBeginning, IsHistory}
+
+module _ {T : Type 0} where
+  -- the first seat is the party 0
+  abbrev pub first_view : ℕ → View T
+  first_view capacity =
+      record {
+        capacity = capacity;
+        party = Some 0;
+        share = all_shares;
+        seen = [];
+        other = [];
+        made = [];
+        going = None;
+      }
+
+  abbrev pub right_view : View T → View T
+  right_view v =
+      record {
+        capacity = v.capacity;
+        party = None;
+        share = half_of v.share;
+        seen = v.seen;
+        other = [];
+        made = [];
+        going = None;
+      }
+
+  abbrev pub left_view : View T → View T
+  left_view v = record v { share = half_of v.share }
+
+  abbrev pub joined_view : View T → View T → View T
+  joined_view v w =
+      record {
+        capacity = v.capacity;
+        party = v.party;
+        share = both_of v.share w.share;
+        seen = v.seen;
+        other = w.seen;
+        made = v.made ++ w.made;
+        going = v.going;
+      }
+
+  abbrev pub spent_view : View T
+  spent_view =
+      record {
+        capacity = 0;
+        party = None;
+        share = no_share;
+        seen = [];
+        other = [];
+        made = [];
+        going = None;
+      }
+
+  -- a look sees all of the history, of which both were beginnings
+  pub record Looks (code : Coding T) (kind : Kind) (size : ℕ) (v w : View T) : Type 0 where
+    pub capacity : w.capacity ≡ v.capacity
+    pub party : w.party ≡ v.party
+    pub going : w.going ≡ v.going
+    pub share : w.share ≡ v.share
+    pub other : w.other ≡ []
+    pub made : w.made ≡ v.made
+    pub mine : IsBeginning v.seen w.seen
+    pub theirs : IsBeginning v.other w.seen
+    -- who has the whole had seen all of it, and each event in it is its own or of who was taken in
+    pub whole : IsAll v.share → (w.seen ≡ v.seen) ⊎ (w.seen ≡ v.other)
+    pub all : IsAll v.share → (f : Event T → ℕ) → sum_by f w.seen ≡ sum_by f w.made
+    pub history : IsHistory code kind size w.seen

@@ -1,0 +1,26 @@
+//! How seats are made of one another. These types are for the proofs alone.
+
+use super::view::View;
+use atomic_table::{Join, Split};
+
+/// A new seat of the same table.
+pub struct Cut;
+
+impl Split<View<u64>> for Cut {
+    ghost use Rattle.history.specs.Views.{left_view, right_view};
+
+    ghost left = { left_view };
+
+    ghost right = { right_view };
+}
+
+/// One seat in place of two.
+pub struct Both;
+
+impl Join<View<u64>> for Both {
+    ghost use Rattle.history.specs.Views.{joined_view, spent_view};
+
+    ghost both = { joined_view };
+
+    ghost spent = { spent_view };
+}

@@ -1,0 +1,70 @@
+-- Counting a place: a call of the model in one step, and what it answers.
+use Rattle.std.proofs.Common.{◌≡◌, inl, ℕ, ◌+◌, ◌^◌, ◌<◌, nat_le, false, Some, None, List, [], ◌∷◌, ◌++◌, refl, sym, ap, subst, ◌∙◌, append-nil, arith}
+use Rattle.std.proofs.lemmas.Bool.Decides.{nat_tests}
+use Rattle.steps.specs.Bits.Counts.{set_want, set_after}
+use Rattle.steps.specs.declared.ask.Ask.{Ask}
+use Rattle.steps.specs.declared.ask.Op.TheVariants.{Add}
+use Rattle.steps.specs.declared.ask.After.TheVariants.{GoOn, Done}
+use Rattle.steps.specs.declared.ask.Want.TheVariants as wants
+use Rattle.steps.specs.declared.bits.counting_bit_set.Set as counting
+use Rattle.model.specs.declared.event.Answer.TheVariants.{Number}
+use Rattle.model.specs.declared.event.Event.{Event}
+use Rattle.model.specs.declared.event.Event.TheVariants.{Counted, Finished}
+use Rattle.model.specs.declared.event.Start.TheVariants.{Bits}
+use Rattle.model.specs.declared.families.bits.BitsStart.TheVariants.{Set}
+use Rattle.model.specs.declared.turn.Kind.TheVariants as kinds
+use Rattle.model.specs.Coding.{one_word}
+use Rattle.model.specs.Families.Bits.Promises.{IsCountingOn, AnswersCountOn}
+use Rattle.bit_laws.proofs.Counts.Justified.{counts_go_on}
+use Rattle.lock_free_sp.specs.Driver.{answered, KeepsRule}
+use Rattle.history.specs.declared.view.View.{View}
+use Rattle.history.specs.History.{IsMachine, Called}
+use Rattle.history.specs.Stages.{At, Ends}
+use Rattle.history.proofs.Drives.{IsCallOf, keeps, called}
+use Rattle.history.proofs.Sets.{set_effects, counts_owe}
+use Rattle.lock_free.specs.Counts.Driven.{IsIdle}
+use Rattle.lock_free.specs.Counts.Stages.{counts_place}
+use Rattle.lock_free.specs.Counts.Told.{HasCounted, AnswersCount}
+use Rattle.lock_free.proofs.Counts.Ends.{before_end, to_end}
+
+module _ (place : ℕ) where
+  is_call : IsCallOf one_word set_effects (λ capacity. capacity) (λ c. set_want c place) (λ c n. set_after c n) (λ c m n. m) (counts_place {T = ℕ} place)
+  is_call =
+      record {
+        same_want = λ c m. refl;
+        same_after = λ c m n. refl;
+        hears = λ c m a n e. (hears c a n e, refl);
+        stays = λ capacity c d n stands e. absurd (cc);
+        asks = λ capacity c stands. (record { word = place; op = Add 1 }, stands, refl);
+        tells = λ capacity p from c d m n es stands wrote e. absurd (cc);
+        tells_all = λ capacity p from c e m n es stands wrote is. ap (λ zs. zs ++ Counted p place ∷ []) wrote;
+      }
+    where
+      hears : (c : counting.Set) (a : Ask) (n : ℕ) → set_want c place ≡ wants.Ask a → set_after c (answered a.op n) ≡ set_after c n
+      hears c a n e =
+          let same : record { word = place; op = Add 1 } ≡ a = cc in
+          ap (λ (z : Ask). set_after c (answered z.op n)) (sym same)
+
+  pub count_keeps : KeepsRule (λ (z : View ℕ). z.capacity) (At one_word kinds.Counts (counts_place place)) (Ends one_word kinds.Counts (counts_place place)) (λ key. key + 1) (λ key. key) (λ key. IsMachine one_word kinds.Counts key) (λ c. set_want c place) (λ c n. set_after c n) (λ c m n. m)
+  count_keeps = keeps one_word kinds.Counts set_effects (λ capacity. capacity) (counts_owe one_word) (λ c. set_want c place) (λ c n. set_after c n) (λ c m n. m) (counts_place place) is_call
+
+  pub count_first : (v : View ℕ) (c : counting.Set) (m : Unit {0}) → IsIdle v.capacity v → place < v.capacity → At one_word kinds.Counts (counts_place place) v v c m
+  count_first v c m idle below =
+      let past : nat_le v.capacity place ≡ false = grind (arith, nat_tests) in
+      inl (record { is = refl; idle = idle.idle; fresh = idle.alone; standing = below; some = idle.some; first = refl; may = λ p. rw past refl; wrote = λ p. refl })
+
+  module _ (base w : View ℕ) (number : ℕ) (m : Unit {0}) (idle : base.going ≡ None) (ends : Ends one_word kinds.Counts (counts_place place) base number m w) where
+    pub counted : HasCounted place number base w
+    counted = record { by = ends.party; mine = ends.mine; called = subst (λ es. Called ends.party (Bits (Set place)) (Number number) es base w) ends.tells (called one_word kinds.Counts (counts_place place) base w number m idle ends) }
+
+    pub answers : AnswersCount place number w
+    unfolding counted
+    answers =
+        let p = ends.party in
+        let h = ends.history in
+        let last : Event ℕ = Finished p (Bits (Set place)) (Number number) in
+        let before : List (Event ℕ) = before_end counted.called in
+        let whole : w.seen ≡ before ++ last ∷ [] = to_end counted.called in
+        let set : IsCountingOn h.trace = counts_go_on h.trace h.run.of_kind h.run.reached in
+        let right : AnswersCountOn p place number before = set.answers before [] last (sym h.is ∙ whole) in
+        record { by = p; before = right.before; is = whole ∙ ap (λ es. es ++ last ∷ []) right.is; count = right.count }

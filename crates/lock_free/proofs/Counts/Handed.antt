@@ -1,0 +1,76 @@
+-- What a closure was called with so far, while a set is emptied, and that it is what the call wrote.
+use Rattle.std.proofs.Common.{◌≡◌, ◌==◌, false, ◌-◌, ℕ, zero, suc, ◌+◌, ◌<◌, ◌≤◌, List, [], ◌∷◌, ◌++◌, sym, refl, subst, arith, map, append-nil}
+use Rattle.std.specs.List.{All, FoldsTo}
+use Rattle.std.proofs.lemmas.Bool.Decides.{nat_tests}
+use Rattle.std.proofs.lemmas.Fn.{FoldsTo-push}
+use Rattle.std.proofs.lemmas.List.Elements.{All-nil, All-push, All-weaker}
+use Rattle.std.proofs.lemmas.List.Quantifiers.{all_pairs_push}
+use Rattle.steps.specs.declared.bits.counting_bit_set.BitState.{BitState}
+use Rattle.model.specs.Families.Bits.Steps.{take_events}
+use Rattle.lock_free.specs.Counts.Told.{taken_by}
+use Rattle.lock_free.specs.Counts.Callable.{CountsAscend, TakesCounts}
+
+-- ---- places with their counts
+
+pub record Counted {F : Type 0} (R : F → BitState → F → Type 0) (cap low : ℕ) (v p : F) : Type 0 where
+  pub states : List BitState
+  pub ascend : CountsAscend cap states
+  pub below : All (λ (x : BitState). x.bit < low) states
+  pub folds : FoldsTo R v states p
+
+module _ {F : Type 0} (R : F → BitState → F → Type 0) (cap : ℕ) (v : F) where
+  pub none_counted : (low : ℕ) → Counted R cap low v v
+  none_counted low =
+      record {
+        states = [];
+        ascend = ((λ i j d lt within. absurd (omega arith)), All-nil (λ (x : BitState). (x.bit < cap) × (0 < x.count)));
+        below = All-nil (λ (x : BitState). x.bit < low);
+        folds = refl;
+      }
+
+  pub none_states : (low : ℕ) → (none_counted low).states ≡ []
+  unfolding none_counted
+  none_states low = refl
+
+  pub counted_on : (low : ℕ) (p q : F) → q ≡ p → Counted R cap low v p → Counted R cap (low + 1) v q
+  counted_on low p q same h =
+      record {
+        states = h.states;
+        ascend = h.ascend;
+        below = All-weaker (λ (x : BitState). x.bit < low) (λ (x : BitState). x.bit < low + 1) (λ x l. omega arith) h.states h.below;
+        folds = subst (λ z. FoldsTo R v h.states z) (sym same) h.folds;
+      }
+
+  pub counted_more : (low count : ℕ) (p q : F) → low < cap → 0 < count → R p (record { bit = low; count = count }) q → Counted R cap low v p → Counted R cap (low + 1) v q
+  counted_more low count p q within some hit h =
+      let x : BitState = record { bit = low; count = count } in
+      record {
+        states = h.states ++ x ∷ [];
+        ascend = (all_pairs_push (λ (y z : BitState). y.bit < z.bit) h.states x h.ascend.0 h.below, All-push (λ (y : BitState). (y.bit < cap) × (0 < y.count)) h.states x h.ascend.1 (within, some));
+        below = All-push (λ (y : BitState). y.bit < low + 1) h.states x (All-weaker (λ (y : BitState). y.bit < low) (λ (y : BitState). y.bit < low + 1) (λ y l. omega arith) h.states h.below) (omega arith);
+        folds = FoldsTo-push R v h.states p x q h.folds hit;
+      }
+
+-- ---- what the call wrote is what the closure was called with
+
+module _ {F : Type 0} (R : F → BitState → F → Type 0) (cap : ℕ) (v : F) where
+  -- the count that a step found, where it is above 0
+  abbrev pub found : ℕ → ℕ → List BitState
+  found place zero = []
+  found place (suc n) = record { bit = place; count = suc n } ∷ []
+
+  pub found_events : (p place n : ℕ) → map (taken_by p) (found place n) ≡ take_events p place n
+  found_events p place zero = refl
+  found_events p place (suc n) = let t : (suc n == 0) ≡ false = grind (arith, nat_tests) in rw t refl
+
+  pub counted_found : (low n : ℕ) (p q : F) → low < cap → (0 < n → R p (record { bit = low; count = n }) q) → (n ≡ 0 → q ≡ p) → (h : Counted R cap low v p) → (g : Counted R cap (low + 1) v q) × (g.states ≡ h.states ++ found low n)
+  unfolding counted_on counted_more
+  counted_found low zero p q within hit miss h =
+      let g = counted_on R cap v low p q (miss refl) h in
+      (g, sym (append-nil h.states))
+  counted_found low (suc n) p q within hit miss h = (counted_more R cap v low (suc n) p q within (omega arith) (hit (omega arith)) h, refl)
+
+-- ---- the closure at an equal capacity
+
+pub takes_counts_at : {F : Type 0} {pre : F → BitState → Type 0} {step : F → BitState → F → Type 0} {a b : ℕ} {f : F} → a ≡ b → TakesCounts pre step a f → TakesCounts pre step b f
+takes_counts_at {F} {pre} {step} {a} {b} {f} e h = subst (λ z. TakesCounts pre step z f) e h

@@ -1,0 +1,6 @@
+-- The words of the contracts of counting bit sets.
+pub mod Callable
+pub mod Stages
+pub mod Driven
+pub mod Told
+pub mod Calls

@@ -1,0 +1,25 @@
+-- What a seat knows before and after a whole call on a set, whichever call it is.
+use Rattle.std.specs.Prelude.{◌≡◌, ◌<◌, ℕ, Some, None, IfSome, [], sum_by}
+use Rattle.model.specs.declared.event.Event.{Event}
+use Rattle.model.specs.declared.turn.Kind.{Kind}
+use Rattle.model.specs.Coding.{one_word}
+use Rattle.lock_free_sp.specs.Shares.{IsAll}
+use Rattle.history.specs.declared.view.View.{View}
+use Rattle.history.specs.History.{IsHistory}
+
+-- no call of it is under way
+pub record IsIdle (capacity : ℕ) (v : View ℕ) : Type 0 where
+  pub known : v.capacity ≡ capacity
+  pub idle : v.going ≡ None
+  pub alone : v.other ≡ []
+  pub some : 0 < v.share.part
+
+-- a call was made, and is over
+pub record HasDone (kind : Kind) (old new : View ℕ) : Type 0 where
+  pub capacity : new.capacity ≡ old.capacity
+  pub share : new.share ≡ old.share
+  pub party : IfSome old.party (λ p. new.party ≡ Some p)
+  pub idle : new.going ≡ None
+  pub alone : new.other ≡ []
+  pub history : IsHistory one_word kind old.capacity new.seen
+  pub all : IsAll old.share → (f : Event ℕ → ℕ) → sum_by f new.seen ≡ sum_by f new.made
