@@ -357,7 +357,7 @@ fn a_state_of_three(rt: HostRuntime) -> Result<(), Fail> {
     let mut state = ContainerState::new(rt.alloc(), 0, 3)?;
     assert_eq!(rt; looks(&mut state, 20, &mut words), Some((true, 10)));
     let mut seen = [(9, 0); 3];
-    let mut number = 0;
+    let mut number = 0usize;
     state.for_each(|index, value: &u128| {
         if number < 3 {
             seen[number] = (index, *value);
@@ -369,7 +369,7 @@ fn a_state_of_three(rt: HostRuntime) -> Result<(), Fail> {
         (number, seen[0], seen[1]),
         (2, (0, pair(10, 11)), (2, pair(30, 31)))
     );
-    let mut visited = 0;
+    let mut visited = 0u32;
     state.for_each(|_, _| {
         visited = visited.wrapping_add(1);
         CallbackProgression::Stop
