@@ -1,9 +1,5 @@
-//! The tests of the index sets and bit sets between threads: real calls, by the paths that a caller names.
+//! The tests of the bit sets between threads: real calls, by the paths that a caller names.
 #![tactic(auto)]
 
 #[cfg(test)]
-mod robust;
-#[cfg(test)]
 mod sets;
-#[cfg(test)]
-mod unique;

@@ -135,20 +135,20 @@ fn refused_capacities(rt: HostRuntime) {
     let alloc = rt.alloc();
     let zero = UniqueIndexCreationError::ProvidedCapacityIsZero;
     let above = UniqueIndexCreationError::ProvidedCapacityGreaterThanMaxCapacity;
-    assert_eq!(rt; UniqueIndexSet::new(alloc, 0).err(), Some(zero));
-    assert_eq!(rt; UniqueIndexSet::new(alloc, 0xff_ffff).err(), Some(above));
-    assert_eq!(rt; FixedSizeUniqueIndexSet::<0>::new(alloc).err(), Some(zero));
-    assert_eq!(rt;
+    let made = [
+        UniqueIndexSet::new(alloc, 0).err(),
+        UniqueIndexSet::new(alloc, 0xff_ffff).err(),
+        FixedSizeUniqueIndexSet::<0>::new(alloc).err(),
         FixedSizeUniqueIndexSet::<0xff_ffff>::new(alloc).err(),
-        Some(above)
-    );
+    ];
+    assert!(rt; made == [Some(zero), Some(above), Some(zero), Some(above)]);
     let reduced = [
         FixedSizeUniqueIndexSet::<8>::new_with_reduced_capacity(alloc, 0).err(),
         FixedSizeUniqueIndexSet::<8>::new_with_reduced_capacity(alloc, 9).err(),
         FixedSizeUniqueIndexSet::<0xff_ffff>::new_with_reduced_capacity(alloc, 1).err(),
         FixedSizeUniqueIndexSet::<0xff_fffe>::new_with_reduced_capacity(alloc, 1).err(),
     ];
-    assert_eq!(rt; reduced, [Some(zero), Some(above), Some(above), None]);
+    assert!(rt; reduced == [Some(zero), Some(above), Some(above), None]);
 }
 
 /// One who takes indices of a set and gives them back.

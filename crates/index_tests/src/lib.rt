@@ -1,0 +1,7 @@
+//! The tests of the index sets between threads: real calls, by the paths that a caller names.
+#![tactic(auto)]
+
+#[cfg(test)]
+mod robust;
+#[cfg(test)]
+mod unique;
