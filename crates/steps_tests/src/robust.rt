@@ -135,7 +135,7 @@ enum Asks {
 }
 
 /// Where a call has come to: its end, a question about an index and maybe its owner, or neither.
-#[derive(Clone, Copy, PartialEq, Eq)]
+#[derive(Debug, Clone, Copy, PartialEq, Eq)]
 pub enum Came<A> {
     Ended(A),
     Asked(usize),
