@@ -19,7 +19,7 @@ use Rattle.model.specs.Families.Bits.Promises.{bits_promise, counts_promise}
 use Rattle.model.specs.Families.Indices.Promises as index_promises
 use Rattle.model.specs.Families.Indices.Robust.Promises as robust_promises
 use Rattle.model.specs.Families.Queues.Promises as queue_promises
-use Rattle.model.specs.Progress.{Guarantee, WaitFree, ObstructionFree, IsGuaranteed, of_push, of_pop, in_queue, in_value, in_bits, in_counts, in_indices, in_robust, guarantee_of, AreGuaranteed, IsWithin, LatestIsWithin, KeepsGuarantees}
+use Rattle.model.specs.Progress.{Guarantee, WaitFree, ObstructionFree, IsGuaranteed, of_push, of_pop, in_queue, in_value, in_bits, in_counts, in_indices, in_robust, guarantee_of, IsWithin, LatestIsWithin, KeepsGuarantees}
 use Rattle.model.specs.Promise.{Promise}
 use Rattle.model.specs.Promises.{IsKept}
 use Rattle.model.specs.Promises.Bounds.{IsBounded, Progresses}
@@ -115,15 +115,15 @@ module _ {T : Type 0} where
   robust_guaranteed capacity size (starts.Robust robust.IsLocked) = λ backs. at_most _
   robust_guaranteed capacity size other = λ backs. at_most _
 
-pub guaranteed : (T : Type 0) (kind : Kind) → AreGuaranteed T kind
-guaranteed T IndexQueue capacity size start = queue_guaranteed queue_kinds.TheVariants.IndexQueue capacity size start
-guaranteed T Overflow capacity size start = queue_guaranteed queue_kinds.TheVariants.Overflow capacity size start
-guaranteed T Queue capacity size start = queue_guaranteed queue_kinds.TheVariants.Queue capacity size start
-guaranteed T Atomic capacity size start = value_guaranteed capacity size start
-guaranteed T Bits capacity size start = bits_guaranteed capacity size start
-guaranteed T Counts capacity size start = counts_guaranteed capacity size start
-guaranteed T Indices capacity size start = index_guaranteed capacity size start
-guaranteed T Robust capacity size start = robust_guaranteed capacity size start
+pub guaranteed : {T : Type 0} (kind : Kind) (capacity size : ℕ) (start : Start T) → IsGuaranteed (promise_of kind) capacity size start (guarantee_of kind capacity size start)
+guaranteed IndexQueue capacity size start = queue_guaranteed queue_kinds.TheVariants.IndexQueue capacity size start
+guaranteed Overflow capacity size start = queue_guaranteed queue_kinds.TheVariants.Overflow capacity size start
+guaranteed Queue capacity size start = queue_guaranteed queue_kinds.TheVariants.Queue capacity size start
+guaranteed Atomic capacity size start = value_guaranteed capacity size start
+guaranteed Bits capacity size start = bits_guaranteed capacity size start
+guaranteed Counts capacity size start = counts_guaranteed capacity size start
+guaranteed Indices capacity size start = index_guaranteed capacity size start
+guaranteed Robust capacity size start = robust_guaranteed capacity size start
 
 module _ {T : Type 0} where
   -- ---- every run
@@ -150,4 +150,4 @@ module _ {T : Type 0} where
   pub keeps_guarantees : (t : Trace T) → IsKept t → KeepsGuarantees t
   keeps_guarantees t kept p =
       latest_within (promise_of t.world.kind) t.world.capacity t.world.coding.size (guarantee_of t.world.kind t.world.capacity t.world.coding.size)
-      (guaranteed T t.world.kind t.world.capacity t.world.coding.size) (span_of p t.events) (progress_in t.world p) (kept.progress p)
+      (guaranteed t.world.kind t.world.capacity t.world.coding.size) (span_of p t.events) (progress_in t.world p) (kept.progress p)

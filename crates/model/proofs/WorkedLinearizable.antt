@@ -1,5 +1,5 @@
 -- Linearizability at worked histories: two that are linearizable, and one that is not.
-use Rattle.std.proofs.Common.{◌≡◌, ◌≢◌, ⊎_elim, ℕ, ◌<◌, true, Option, Some, None, IfSome, All, List, [], ◌∷◌, map, refl, sym, ap, subst, ◌∙◌, arith}
+use Rattle.std.proofs.Common.{◌≡◌, ◌≢◌, ⊎_elim, ℕ, ◌<◌, ◌≤◌, true, Option, Some, None, IfSome, All, List, [], ◌∷◌, map, refl, sym, ap, subst, ◌∙◌, arith}
 use Rattle.std.proofs.lemmas.List.Elements.{All-from_recursion}
 use Rattle.std.specs.List.{AllPairs, Contains}
 use Rattle.model.specs.declared.event.Answer.{Answer}
@@ -42,6 +42,9 @@ Completed sequential call =
 unequal : (m n : ℕ) → m < n → m ≡ n → ⊥
 unequal m n lt e = omega arith
 
+no_less : (m n : ℕ) → n ≤ m → m < n → ⊥
+no_less m n le lt = omega arith
+
 -- ---- a pop runs inside a push and finds nothing: it stands before the push, which was invoked first
 
 abbrev overlapping : List (Event ℕ)
@@ -67,7 +70,7 @@ pop_inside_push =
       invoked = All-from_recursion (Invoked overlapping) inside_around ((refl, (1, omega arith, refl)), ((refl, (0, omega arith, refl)), tt));
       completed = All-from_recursion (Completed inside_around) (calls_of overlapping) ((λ t. (1, omega arith, refl)), ((λ t. (0, omega arith, refl)), tt));
       once = pair_of (λ x y. x.0 ≢ y.0) (entry inside PoppedNone) (entry around (Truth true)) (λ e. unequal 0 1 (omega arith) (sym (ap (λ (c : Call ℕ). c.place) e)));
-      real_time = pair_of (λ x y. ¬ Precedes y.0 x.0) (entry inside PoppedNone) (entry around (Truth true)) (λ late. omega (arith, late));
+      real_time = pair_of (λ x y. ¬ Precedes y.0 x.0) (entry inside PoppedNone) (entry around (Truth true)) (no_less 3 1 (omega arith));
     }
 
 -- ---- a pop answers the value of a push that is pending: the push has an answer that it may yet give
@@ -92,7 +95,7 @@ pop_of_pending_push =
       invoked = All-from_recursion (Invoked pending) unfinished_finished ((refl, (0, omega arith, refl)), ((refl, (1, omega arith, refl)), tt));
       completed = All-from_recursion (Completed unfinished_finished) (calls_of pending) (tt, ((λ t. (1, omega arith, refl)), tt));
       once = pair_of (λ x y. x.0 ≢ y.0) (entry unfinished (Truth true)) (entry finished (PoppedIndex 5)) (λ e. unequal 0 1 (omega arith) (ap (λ (c : Call ℕ). c.place) e));
-      real_time = pair_of (λ x y. ¬ Precedes y.0 x.0) (entry unfinished (Truth true)) (entry finished (PoppedIndex 5)) (λ late. omega (arith, late));
+      real_time = pair_of (λ x y. ¬ Precedes y.0 x.0) (entry unfinished (Truth true)) (entry finished (PoppedIndex 5)) (no_less 2 0 (omega arith));
     }
 
 -- ---- a pop that begins after the push has ended, and finds nothing
@@ -137,7 +140,7 @@ refuted (x ∷ y ∷ []) legal invoked first second once real_time =
     swapped : x ≡ entry popped PoppedNone → y ≡ entry pushed (Truth true) → ⊥
     swapped e f =
         let never = real_time 0 1 x (omega arith) (omega arith) in
-        let before : Precedes pushed popped = omega arith in
+        let before : 1 < 2 = omega arith in
         never
         (subst (λ (x : Call ℕ × Answer ℕ). Precedes y.0 x.0) (sym e) (subst (λ (y : Call ℕ × Answer ℕ). Precedes y.0 popped) (sym f) before))
 refuted (x ∷ y ∷ z ∷ rest) legal invoked first second once real_time =

@@ -94,17 +94,17 @@ module _ {T : Type 0} (promise : Promise T) (capacity : ℕ) (is_call : Start T 
   follows (Begun p start ∷ es) before going agree right = (
     agree p ∙ shut (span_of p before) right.0,
     follows es (before ++ Begun p start ∷ []) (put p (Some (start, None)) going)
-    (own_step going before p (Begun p start) (Some (start, None)) agree refl refl) right.1,
+        (own_step going before p (Begun p start) (Some (start, None)) agree refl refl) right.1,
   )
   follows (Acted p start answer ∷ es) before going agree right = (
     agree p ∙ not_acted start (span_of p before) right.0,
     follows es (before ++ Acted p start answer ∷ []) (put p (Some (start, Some answer)) going)
-    (own_step going before p (Acted p start answer) (Some (start, Some answer)) agree refl (acted_now p start answer (span_of p before) right.0)) right.1,
+        (own_step going before p (Acted p start answer) (Some (start, Some answer)) agree refl (acted_now p start answer (span_of p before) right.0)) right.1,
   )
   follows (Finished p start answer ∷ es) before going agree right = (
     subst (Ends is_call start answer) (sym (agree p)) (ends start answer (span_of p before) right.0),
     follows es (before ++ Finished p start answer ∷ []) (put p None going)
-    (own_step going before p (Finished p start answer) None agree refl (sym (over (span_of p before) answer))) right.1,
+        (own_step going before p (Finished p start answer) None agree refl (sym (over (span_of p before) answer))) right.1,
   )
   follows (e ∷ es) before going agree right =
       follows es (before ++ e ∷ []) going (quiet_step going before e agree (λ span. refl) refl) right.1

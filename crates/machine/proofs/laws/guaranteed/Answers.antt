@@ -2,4 +2,4 @@ use Rattle.model.proofs.Progress as laws
 use Rattle.machine.proofs.laws.guaranteed.Goals as goal
 
 pub returns : goal.returns
-returns g c kind = laws.guaranteed _ kind
+returns g c kind capacity size start = laws.guaranteed kind capacity size start
