@@ -4,7 +4,7 @@
 
 ghost use Rattle.std.specs.Prelude.{◌≡◌, ◌≤◌, ◌<◌, None, OnOk, OnErr, IfOk, IfErr, IfSome, length, take, slice_get};
 
-pub mod laws;
+pub mod theorems;
 
 use event::Event;
 use model::coding::Coded;
