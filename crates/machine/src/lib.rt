@@ -4,6 +4,8 @@
 
 ghost use Rattle.std.specs.Prelude.{◌≡◌, ◌≤◌, ◌<◌, None, OnOk, OnErr, IfOk, IfErr, IfSome, length, take, slice_get};
 
+pub mod theorems;
+
 use event::Event;
 use model::coding::Coded;
 pub use model::{event, families, party, turn};
@@ -47,6 +49,8 @@ impl<T: Words> Machine<T> {
     ghost use Rattle.model.specs.World.{opening, capacity_error, IsCreationError, trace_in, world_in, progress_in};
     ghost use Rattle.model.specs.Refusals.{refusal_of, IsRefusal, is_going};
     ghost use Rattle.model.specs.Turns.{after_turn, after_turns, AreAllowed};
+    ghost use Rattle.model.specs.Linearized.{IsLinearizableRun};
+    ghost use Rattle.model.specs.Progress.{KeepsGuarantees};
     ghost use Rattle.model.specs.Promises.{IsKept, WritesEvents, TellsBeside, AreTurns};
     ghost use Rattle.model.specs.Promises.Turns.{IsOneTurnLater, WritesOneWord, GoesOn, CountsTurn, CountsOthers};
 
@@ -167,6 +171,22 @@ impl<T: Words> Machine<T> {
         ensures { result.now ≡ self.now.events }
     {
         &self.parts.events
+    }
+
+    /// A law of every machine, which does nothing: the pushes and pops so far of a queue are linearizable as those of a
+    /// bounded or an overflowing list, and the stores and loads of the single value as those of one value.
+    pub fn linearizable(&self)
+        ensures { IsLinearizableRun (trace_in ⟦<T as Coded>⟧.coding self.now) }
+    {
+        let _ = &self.parts;
+    }
+
+    /// A law of every machine, which does nothing: each party's latest call has taken no more steps than a wait-free call
+    /// of its name may take, or than an obstruction-free one may that pays for its retries by changes of others.
+    pub fn keeps_guarantees(&self)
+        ensures { KeepsGuarantees (trace_in ⟦<T as Coded>⟧.coding self.now) }
+    {
+        let _ = &self.parts;
     }
 
     /// The shared words as they are now. Of a queue: the write position, the read position, the producer's role, the

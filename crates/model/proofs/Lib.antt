@@ -1,10 +1,13 @@
 pub mod Counts
 pub mod Dead
 pub mod Frame
+pub mod Linearizable
+pub mod Looks
 pub mod Moments
 pub mod Orders
 pub mod Parties
 pub mod Places
+pub mod Progress
 pub mod Reached
 pub mod Readings
 pub mod Replays
@@ -17,5 +20,7 @@ pub mod Values
 pub mod Worked
 pub mod WorkedBits
 pub mod WorkedIndices
+pub mod WorkedLinearizable
+pub mod WorkedProgress
 pub mod WorkedRobust
 pub mod WorkedValue

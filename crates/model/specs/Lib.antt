@@ -1,9 +1,12 @@
 pub mod Coding
 pub mod Families
+pub mod Linearizable
+pub mod Linearized
 pub mod Moments
 pub mod Objects
 pub mod Opening
 pub mod Parties
+pub mod Progress
 pub mod Promise
 pub mod Promises
 pub mod Reading

@@ -1,0 +1,5 @@
+use Rattle.model.proofs.Progress as laws
+use Rattle.machine.proofs.theorems.keeps_guarantees.Goals as goal
+
+pub returns : goal.returns
+returns g c t kept = laws.keeps_guarantees t kept

@@ -1,0 +1,6 @@
+-- From moments to linearizability.
+pub mod Acting
+pub mod Kinds
+pub mod Members
+pub mod Order
+pub mod Spans

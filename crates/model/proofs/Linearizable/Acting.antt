@@ -1,0 +1,213 @@
+-- Calls of which each acts once, between its begin and its end and with its answer: in the order in which they act stand all
+-- that are completed, with their answers. No machine is in it.
+use Rattle.std.proofs.Common.{◌≡◌, ◌≢◌, ⊎_elim, ℕ, ◌+◌, ◌≤◌, ◌==◌, Bool, true, false, Option, Some, None, List, [], ◌∷◌, refl, sym, ap, subst, ◌∙◌, arith}
+use Rattle.std.proofs.lemmas.Bool.{cases_eq}
+use Rattle.std.proofs.lemmas.Bool.Decides.{nat_tests}
+use Rattle.std.specs.List.{Contains}
+use Rattle.model.specs.declared.event.Start.{Start}
+use Rattle.model.specs.declared.event.Answer.{Answer}
+use Rattle.model.specs.declared.event.Event.{Event}
+use Rattle.model.specs.declared.event.Event.TheVariants.{Begun, Acted, Finished}
+use Rattle.model.specs.Linearizable.{Response, Call, response_in, calls_from}
+use Rattle.model.proofs.Linearizable.Members.{put, put_same, put_other, kept_if, first, later, none_there, split}
+
+-- ---- what is known of a party's call under way: its name and, once it has acted, its answer
+
+abbrev pub Standing : Type 0 → Type 0
+Standing T = Option (Start T × Option (Answer T))
+
+module _ {T : Type 0} where
+  abbrev pub call_at : ℕ → ℕ → Start T → Option (Response T) → Call T
+  call_at place p start response = record { place = place; party = p; start = start; response = response }
+
+  abbrev pub entry_at : ℕ → ℕ → Start T → Option (Response T) → Answer T → Call T × Answer T
+  entry_at place p start response answer = (call_at place p start response, answer)
+
+  pub same_entry : (m n p q : ℕ) (s t : Start T) (x y : Option (Response T)) (a b : Answer T) → m ≡ n → p ≡ q → s ≡ t → x ≡ y → a ≡ b → entry_at m p s x a ≡ entry_at n q t y b
+  same_entry m n p q s t x y a b e f g h i = rw (e, f, g, h, i) refl
+
+  -- the parts of what is known, at None these
+  abbrev pub name_in : Start T → Standing T → Start T
+  name_in d None = d
+  name_in d (Some x) = x.0
+
+  abbrev pub acted_in : Option (Answer T) → Standing T → Option (Answer T)
+  acted_in d None = d
+  acted_in d (Some x) = x.1
+
+  abbrev pub under_way : Start T → Option (Answer T) → Standing T
+  under_way start acted = Some (start, acted)
+
+  pub acted_clash : (s t : Start T) (a : Answer T) → under_way s (Some a) ≡ under_way t None → ⊥
+  acted_clash s t a e =
+      let second : Some a ≡ None = ap (acted_in None) e in
+      cc
+
+  pub none_clash : (x : Start T × Option (Answer T)) → None ≡ Some x → ⊥
+  none_clash x e = cc
+
+  -- ---- responses
+
+  abbrev pub response_at : ℕ → Answer T → Response T
+  response_at place answer = record { place = place; answer = answer }
+
+  -- an event of another party is no response
+  pub passed : (p q : ℕ) (start : Start T) (answer : Answer T) (es : List (Event T)) (place : ℕ) → q ≢ p → response_in p (Finished q start answer ∷ es) place ≡ response_in p es (place + 1)
+  passed p q start answer es place ne = let t : (q == p) ≡ false = grind (arith, nat_tests) in rw t refl
+
+  pub responded : (p q : ℕ) (start : Start T) (answer : Answer T) (es : List (Event T)) (place : ℕ) → q ≡ p → response_in p (Finished q start answer ∷ es) place ≡ Some (response_at place answer)
+  responded p q start answer es place is = let t : (q == p) ≡ true = grind (arith, nat_tests) in rw t refl
+
+  pub place_of : Response T → Option (Response T) → ℕ
+  place_of d None = d.place
+  place_of d (Some r) = r.place
+
+  pub same_response : (r s : Response T) → Some r ≡ Some s → r ≡ s
+  same_response r s e = cc
+
+  -- a response that comes in these events stands among them
+  pub response_late : (p : ℕ) (es : List (Event T)) (place : ℕ) (r : Response T) → response_in p es place ≡ Some r → place ≤ r.place
+  response_late p [] place r e = absurd (cc)
+  response_late p (Finished q start answer ∷ es) place r e = ⊎_elim mine (theirs (response_late p es (place + 1) r)) (cases_eq q p)
+    where
+      mine : q ≡ p → place ≤ r.place
+      mine is =
+          let same : response_at place answer ≡ r = same_response (response_at place answer) r (sym (responded p q start answer es place is) ∙ e) in
+          let at : place ≡ r.place = ap (λ (r : Response T). r.place) same in
+          omega arith
+
+      theirs : (response_in p es (place + 1) ≡ Some r → place + 1 ≤ r.place) → q ≢ p → place ≤ r.place
+      theirs more ne = let le = more (sym (passed p q start answer es place ne) ∙ e) in omega arith
+  response_late p (e ∷ es) place r h = let le = response_late p es (place + 1) r h in omega arith
+
+  -- and so do the calls that begin in them
+  pub calls_late : (es : List (Event T)) (place : ℕ) (c : Call T) → Contains (calls_from es place) c → (place ≤ c.place) × ((r : Response T) → c.response ≡ Some r → place ≤ r.place)
+  calls_late [] place c h = absurd (none_there c h)
+  calls_late (Begun p start ∷ es) place c h = ⊎_elim mine (theirs (calls_late es (place + 1) c)) (split (call_at place p start (response_in p es (place + 1))) c (calls_from es (place + 1)) h)
+    where
+      mine : call_at place p start (response_in p es (place + 1)) ≡ c → (place ≤ c.place) × ((r : Response T) → c.response ≡ Some r → place ≤ r.place)
+      mine is =
+          let at : place ≡ c.place = ap (λ (c : Call T). c.place) is in
+          let its : response_in p es (place + 1) ≡ c.response = ap (λ (c : Call T). c.response) is in
+          (omega arith, λ r e. let le = response_late p es (place + 1) r (its ∙ e) in omega arith)
+
+      theirs : (Contains (calls_from es (place + 1)) c → (place + 1 ≤ c.place) × ((r : Response T) → c.response ≡ Some r → place + 1 ≤ r.place)) → Contains (calls_from es (place + 1)) c → (place ≤ c.place) × ((r : Response T) → c.response ≡ Some r → place ≤ r.place)
+      theirs more h = let far = more h in let le = far.0 in (omega arith, λ r e. let later = far.1 r e in omega arith)
+  calls_late (e ∷ es) place c h =
+      let far = calls_late es (place + 1) c h in
+      let le = far.0 in
+      (omega arith, λ r e. let later = far.1 r e in omega arith)
+
+module _ {T : Type 0} (is_call : Start T → Bool) where
+  -- ---- each call acts once, while it is under way, and ends with that answer
+
+  abbrev pub Ends : Start T → Answer T → Standing T → Type 0
+  Ends start answer None = ⊥
+  Ends start answer (Some call) = (call.0 ≡ start) × (is_call start ≡ true → call.1 ≡ Some answer)
+
+  abbrev pub ActsOnce : List (Event T) → (ℕ → Standing T) → Type 0
+  ActsOnce [] going = Unit {0}
+  ActsOnce (Begun p start ∷ es) going = (going p ≡ None) × ActsOnce es (put p (Some (start, None)) going)
+  ActsOnce (Acted p start answer ∷ es) going = (going p ≡ Some (start, None)) × ActsOnce es (put p (Some (start, Some answer)) going)
+  ActsOnce (Finished p start answer ∷ es) going = Ends start answer (going p) × ActsOnce es (put p None going)
+  ActsOnce (e ∷ es) going = ActsOnce es going
+
+  -- ---- the calls in the order in which they act, where the latest call of each party was begun there
+
+  abbrev pub order_in : List (Event T) → ℕ → (ℕ → ℕ) → List (Call T × Answer T)
+  order_in [] place begun = []
+  order_in (Begun p start ∷ es) place begun = order_in es (place + 1) (put p place begun)
+  order_in (Acted p start answer ∷ es) place begun =
+      kept_if (is_call start) (entry_at (begun p) p start (response_in p es (place + 1)) answer) (order_in es (place + 1) begun)
+  order_in (e ∷ es) place begun = order_in es (place + 1) begun
+
+  -- ---- completed calls stand there
+
+  pub ends_as : (start : Start T) (answer : Answer T) (x : Standing T) (call : Start T) (acted : Option (Answer T)) → x ≡ Some (call, acted) → is_call call ≡ true → Ends start answer x → acted ≡ Some answer
+  ends_as start answer None call acted e t h = absurd h
+  ends_as start answer (Some was) call acted e t h =
+      let first : was.0 ≡ call = ap (name_in call) e in
+      let second : was.1 ≡ acted = ap (acted_in acted) e in
+      let same : call ≡ start = sym first ∙ h.0 in
+      sym second ∙ h.1 (subst (λ s. is_call s ≡ true) same t)
+
+  -- a call that has acted ends with that answer
+  pub told : (p : ℕ) (start : Start T) (answer : Answer T) (r : Response T) (es : List (Event T)) (place : ℕ) (going : ℕ → Standing T) → is_call start ≡ true → going p ≡ Some (start, Some answer) → ActsOnce es going → response_in p es place ≡ Some r → answer ≡ r.answer
+  told p start answer r [] place going t is once e = absurd (cc)
+  told p start answer r (Begun q s ∷ es) place going t is once e =
+      ⊎_elim (λ (same : p ≡ q). let clash : None ≡ Some (start, Some answer) = sym once.0 ∙ (sym (ap going same) ∙ is) in absurd (cc))
+      (λ (ne : p ≢ q). told p start answer r es (place + 1) (put q (Some (s, None)) going) t (put_other q p (Some (s, None)) going ne ∙ is) once.1 e)
+      (cases_eq p q)
+  told p start answer r (Acted q s a ∷ es) place going t is once e =
+      ⊎_elim (λ (same : p ≡ q). absurd (acted_clash start s answer (sym is ∙ (ap going same ∙ once.0))))
+      (λ (ne : p ≢ q). told p start answer r es (place + 1) (put q (Some (s, Some a)) going) t (put_other q p (Some (s, Some a)) going ne ∙ is) once.1 e)
+      (cases_eq p q)
+  told p start answer r (Finished q s a ∷ es) place going t is once e =
+      ⊎_elim mine
+      (λ (ne : q ≢ p). told p start answer r es (place + 1) (put q None going) t (put_other q p None going (λ h. ne (sym h)) ∙ is) once.1 (sym (passed p q s a es place ne) ∙ e))
+      (cases_eq q p)
+    where
+      mine : q ≡ p → answer ≡ r.answer
+      mine same =
+          let here : Some answer ≡ Some a = ends_as s a (going q) start (Some answer) (ap going same ∙ is) t once.0 in
+          let its : response_at place a ≡ r = same_response (response_at place a) r (sym (responded p q s a es place same) ∙ e) in
+          let last : a ≡ r.answer = ap (λ (r : Response T). r.answer) its in
+          cc
+  told p start answer r (e ∷ es) place going t is once h = told p start answer r es (place + 1) going t is once h
+
+  -- a call that has not acted yet acts before it ends
+  pub acts_before : (p : ℕ) (start : Start T) (r : Response T) (es : List (Event T)) (place : ℕ) (going : ℕ → Standing T) (begun : ℕ → ℕ) → is_call start ≡ true → going p ≡ Some (start, None) → ActsOnce es going → response_in p es place ≡ Some r
+      → Contains (order_in es place begun) (entry_at (begun p) p start (Some r) r.answer)
+  acts_before p start r [] place going begun t is once e = absurd (cc)
+  acts_before p start r (Begun q s ∷ es) place going begun t is once e =
+      ⊎_elim (λ (same : p ≡ q). let clash : None ≡ Some (start, None) = sym once.0 ∙ (sym (ap going same) ∙ is) in absurd (cc))
+      (λ (ne : p ≢ q).
+      subst (λ n. Contains (order_in es (place + 1) (put q place begun)) (entry_at n p start (Some r) r.answer)) (put_other q p place begun ne)
+      (acts_before p start r es (place + 1) (put q (Some (s, None)) going) (put q place begun) t (put_other q p (Some (s, None)) going ne ∙ is) once.1 e))
+      (cases_eq p q)
+  acts_before p start r (Acted q s a ∷ es) place going begun t is once e =
+      ⊎_elim mine
+      (λ (ne : p ≢ q).
+      later (is_call s) (entry_at (begun q) q s (response_in q es (place + 1)) a) (entry_at (begun p) p start (Some r) r.answer) (order_in es (place + 1) begun)
+      (acts_before p start r es (place + 1) (put q (Some (s, Some a)) going) begun t (put_other q p (Some (s, Some a)) going ne ∙ is) once.1 e))
+      (cases_eq p q)
+    where
+      mine : p ≡ q → Contains (order_in (Acted q s a ∷ es) place begun) (entry_at (begun p) p start (Some r) r.answer)
+      mine same =
+          let whole : Some (s, None) ≡ Some (start, None) = sym once.0 ∙ (sym (ap going same) ∙ is) in
+          let name : s ≡ start = ap (name_in s) whole in
+          let now : put q (Some (s, Some a)) going p ≡ Some (start, Some a) =
+          ap (put q (Some (s, Some a)) going) same ∙ (put_same q (Some (s, Some a)) going ∙ ap (λ (n : Start T). Some (n, Some a)) name)
+          in
+          let its : a ≡ r.answer = told p start a r es (place + 1) (put q (Some (s, Some a)) going) t now once.1 e in
+          first (is_call s) (entry_at (begun q) q s (response_in q es (place + 1)) a) (entry_at (begun p) p start (Some r) r.answer) (order_in es (place + 1) begun)
+          (ap is_call name ∙ t)
+          (same_entry (begun q) (begun p) q p s start (response_in q es (place + 1)) (Some r) a r.answer (sym (ap begun same)) (sym same) name (ap (λ n. response_in n es (place + 1)) (sym same) ∙ e) its)
+  acts_before p start r (Finished q s a ∷ es) place going begun t is once e =
+      ⊎_elim (λ (same : q ≡ p). let clash : None ≡ Some a = ends_as s a (going q) start None (ap going same ∙ is) t once.0 in absurd (cc))
+      (λ (ne : q ≢ p). acts_before p start r es (place + 1) (put q None going) begun t (put_other q p None going (λ h. ne (sym h)) ∙ is) once.1 (sym (passed p q s a es place ne) ∙ e))
+      (cases_eq q p)
+  acts_before p start r (e ∷ es) place going begun t is once h = acts_before p start r es (place + 1) going begun t is once h
+
+  pub completed_act : (es : List (Event T)) (place : ℕ) (going : ℕ → Standing T) (begun : ℕ → ℕ) → ActsOnce es going → (c : Call T) (r : Response T) → Contains (calls_from es place) c → c.response ≡ Some r → is_call c.start ≡ true
+      → Contains (order_in es place begun) (c, r.answer)
+  completed_act [] place going begun once c r h e t = absurd (none_there c h)
+  completed_act (Begun p start ∷ es) place going begun once c r h e t =
+      ⊎_elim mine (λ more. completed_act es (place + 1) (put p (Some (start, None)) going) (put p place begun) once.1 c r more e t)
+      (split (call_at place p start (response_in p es (place + 1))) c (calls_from es (place + 1)) h)
+    where
+      mine : call_at place p start (response_in p es (place + 1)) ≡ c → Contains (order_in es (place + 1) (put p place begun)) (c, r.answer)
+      mine is =
+          let name : start ≡ c.start = ap (λ (c : Call T). c.start) is in
+          let its : response_in p es (place + 1) ≡ Some r = ap (λ (c : Call T). c.response) is ∙ e in
+          let whole : entry_at (put p place begun p) p start (Some r) r.answer ≡ entry_at c.place c.party c.start c.response r.answer =
+          same_entry (put p place begun p) c.place p c.party start c.start (Some r) c.response r.answer r.answer
+          (put_same p place begun ∙ ap (λ (c : Call T). c.place) is) (ap (λ (c : Call T). c.party) is) name (sym e) refl
+          in
+          subst (Contains (order_in es (place + 1) (put p place begun))) whole
+          (acts_before p start r es (place + 1) (put p (Some (start, None)) going) (put p place begun) (ap is_call name ∙ t) (put_same p (Some (start, None)) going) once.1 its)
+  completed_act (Acted p start answer ∷ es) place going begun once c r h e t =
+      later (is_call start) (entry_at (begun p) p start (response_in p es (place + 1)) answer) (c, r.answer) (order_in es (place + 1) begun)
+      (completed_act es (place + 1) (put p (Some (start, Some answer)) going) begun once.1 c r h e t)
+  completed_act (Finished p start answer ∷ es) place going begun once c r h e t = completed_act es (place + 1) (put p None going) begun once.1 c r h e t
+  completed_act (x ∷ es) place going begun once c r h e t = completed_act es (place + 1) going begun once c r h e t

@@ -1,0 +1,97 @@
+-- What is promised of every run of a queue and of the single value makes it linearizable.
+use Rattle.std.proofs.Common.{◌≡◌, ℕ, true, false, List, [], ◌∷◌, refl}
+use Rattle.model.specs.declared.event.Answer.{Answer}
+use Rattle.model.specs.declared.event.Event.{Event}
+use Rattle.model.specs.declared.event.Item.{Item}
+use Rattle.model.specs.declared.event.Start.{Start}
+use Rattle.model.specs.declared.event.Start.TheVariants as starts
+use Rattle.model.specs.declared.families.atomic.AtomicStart.TheVariants as atomics
+use Rattle.model.specs.declared.families.queues.QueueKind.{QueueKind}
+use Rattle.model.specs.declared.families.queues.QueueKind as queue_kinds
+use Rattle.model.specs.declared.families.queues.QueueStart.TheVariants as queues
+use Rattle.model.specs.declared.turn.Kind.{Kind}
+use Rattle.model.specs.declared.turn.Kind.TheVariants.{IndexQueue, Overflow, Queue, Atomic}
+use Rattle.model.specs.Coding.{Coding}
+use Rattle.model.specs.Families.Atomic.Promises as value_promises
+use Rattle.model.specs.Families.Queues.Objects.{list_of}
+use Rattle.model.specs.Families.Queues.Promises as queue_promises
+use Rattle.model.specs.Linearizable.{IsLinearizable}
+use Rattle.model.specs.Linearized.{is_push_or_pop, as_list, is_store_or_load, as_value, IsLinearized, IsLinearizableRun}
+use Rattle.model.specs.Promises.{IsKeptBy, IsKept}
+use Rattle.model.specs.Promises.Families.{promise_of}
+use Rattle.model.specs.Reading.{moments}
+use Rattle.model.specs.World.{Trace}
+use Rattle.model.proofs.Linearizable.Order.{linearizable}
+use Rattle.model.proofs.Linearizable.Spans.{acts_once}
+
+module _ {T : Type 0} where
+  -- ---- the queues
+
+  one_of_list : (kind : QueueKind) (capacity : ℕ) (start : Start T) (answer : Answer T) (wrote : List (Event T)) → is_push_or_pop start ≡ true → queue_promises.wrote kind capacity start answer wrote → moments wrote ≡ (start, answer) ∷ []
+  one_of_list kind capacity (starts.Queues (queues.PushIndex index)) answer wrote t h = h.moments
+  one_of_list kind capacity (starts.Queues (queues.Push value)) answer wrote t h = h.moments
+  one_of_list kind capacity (starts.Queues queues.Pop) answer wrote t h = h.moments
+  one_of_list kind capacity (starts.Queues other) answer wrote t h = absurd (cc)
+  one_of_list kind capacity other answer wrote t h = absurd h
+
+  others_of_list : (kind : QueueKind) (capacity : ℕ) (items : List (Item T)) (start : Start T) → is_push_or_pop start ≡ false → (list_of kind capacity).after items start ≡ items
+  others_of_list queue_kinds.TheVariants.IndexQueue capacity items start t = bounded start t
+    where
+      bounded : (start : Start T) → is_push_or_pop start ≡ false → (list_of queue_kinds.TheVariants.IndexQueue capacity).after items start ≡ items
+      bounded (starts.Queues (queues.PushIndex index)) t = absurd (cc)
+      bounded (starts.Queues (queues.Push value)) t = absurd (cc)
+      bounded (starts.Queues queues.Pop) t = absurd (cc)
+      bounded (starts.Queues other) t = refl
+      bounded other t = refl
+  others_of_list queue_kinds.TheVariants.Overflow capacity items start t = overflowing start t
+    where
+      overflowing : (start : Start T) → is_push_or_pop start ≡ false → (list_of queue_kinds.TheVariants.Overflow capacity).after items start ≡ items
+      overflowing (starts.Queues (queues.PushIndex index)) t = absurd (cc)
+      overflowing (starts.Queues (queues.Push value)) t = absurd (cc)
+      overflowing (starts.Queues queues.Pop) t = absurd (cc)
+      overflowing (starts.Queues other) t = refl
+      overflowing other t = refl
+  others_of_list queue_kinds.TheVariants.Queue capacity items start t = bounded start t
+    where
+      bounded : (start : Start T) → is_push_or_pop start ≡ false → (list_of queue_kinds.TheVariants.Queue capacity).after items start ≡ items
+      bounded (starts.Queues (queues.PushIndex index)) t = absurd (cc)
+      bounded (starts.Queues (queues.Push value)) t = absurd (cc)
+      bounded (starts.Queues queues.Pop) t = absurd (cc)
+      bounded (starts.Queues other) t = refl
+      bounded other t = refl
+
+  queue_linearizable : (kind : QueueKind) (t : Trace T) → IsKeptBy (queue_promises.promise kind) t → IsLinearizable (as_list kind t.world.capacity) t.events
+  queue_linearizable kind t kept =
+      linearizable (as_list kind t.world.capacity) (others_of_list kind t.world.capacity) t.events
+      (acts_once (queue_promises.promise kind) t.world.capacity is_push_or_pop (one_of_list kind t.world.capacity) t.events kept.spans) kept.promised.moments
+
+  -- ---- the single value
+
+  one_of_value : (capacity : ℕ) (start : Start T) (answer : Answer T) (wrote : List (Event T)) → is_store_or_load start ≡ true → value_promises.wrote capacity start answer wrote → moments wrote ≡ (start, answer) ∷ []
+  one_of_value capacity (starts.Atomic (atomics.Store value)) answer wrote t h = h
+  one_of_value capacity (starts.Atomic atomics.Load) answer wrote t h = h
+  one_of_value capacity (starts.Atomic other) answer wrote t h = absurd (cc)
+  one_of_value capacity other answer wrote t h = absurd h
+
+  others_of_value : (code : Coding T) (value : T) (start : Start T) → is_store_or_load start ≡ false → (value_promises.value_of_zeros code).after value start ≡ value
+  others_of_value code value (starts.Atomic (atomics.Store new)) t = absurd (cc)
+  others_of_value code value (starts.Atomic atomics.Load) t = absurd (cc)
+  others_of_value code value (starts.Atomic other) t = refl
+  others_of_value code value other t = refl
+
+  value_linearizable : (t : Trace T) → IsKeptBy value_promises.promise t → IsLinearizable (as_value t.world.coding) t.events
+  value_linearizable t kept =
+      linearizable (as_value t.world.coding) (others_of_value t.world.coding) t.events
+      (acts_once value_promises.promise t.world.capacity is_store_or_load (one_of_value t.world.capacity) t.events kept.spans) kept.promised.moments
+
+  -- ---- every kind
+
+  by_kind : (kind : Kind) (t : Trace T) → IsKeptBy (promise_of kind) t → IsLinearized kind t
+  by_kind IndexQueue t kept = queue_linearizable queue_kinds.TheVariants.IndexQueue t kept
+  by_kind Overflow t kept = queue_linearizable queue_kinds.TheVariants.Overflow t kept
+  by_kind Queue t kept = queue_linearizable queue_kinds.TheVariants.Queue t kept
+  by_kind Atomic t kept = value_linearizable t kept
+  by_kind kind t kept = tt
+
+  pub run_linearizable : (t : Trace T) → IsKept t → IsLinearizableRun t
+  run_linearizable t kept = by_kind t.world.kind t kept

@@ -1,0 +1,93 @@
+-- Members of lists, pairs of members, and functions of parties.
+use Rattle.std.proofs.Common.{◌≡◌, ◌≢◌, ◌⊎◌, inl, inr, ⊎_elim, ℕ, zero, suc, ◌<◌, ◌==◌, Bool, true, false, List, [], ◌∷◌, length, get_or, if◌then◌else◌, refl, sym, subst, ◌∙◌, arith}
+use Rattle.std.proofs.lemmas.Bool.Decides.{nat_tests}
+use Rattle.std.proofs.lemmas.List.Elements.{Contains-get_or}
+use Rattle.std.specs.List.{All, AllPairs, Contains}
+
+-- ---- functions of parties
+
+module _ {X : Type 0} where
+  abbrev pub put : ℕ → X → (ℕ → X) → ℕ → X
+  put p x f q = if q == p then x else f q
+
+  pub put_same : (p : ℕ) (x : X) (f : ℕ → X) → put p x f p ≡ x
+  put_same p x f = let t : (p == p) ≡ true = grind (arith, nat_tests) in rw t refl
+
+  pub put_other : (p q : ℕ) (x : X) (f : ℕ → X) → q ≢ p → put p x f q ≡ f q
+  put_other p q x f ne = let t : (q == p) ≡ false = grind (arith, nat_tests) in rw t refl
+
+-- ---- members of lists
+
+module _ {X : Type 0} where
+  abbrev pub kept_if : Bool → X → List X → List X
+  kept_if true x xs = x ∷ xs
+  kept_if false x xs = xs
+
+  pub there : (x y : X) (xs : List X) → Contains xs y → Contains (x ∷ xs) y
+  there x y xs h = let lt = h.1 in (suc h.0, omega arith, h.2)
+
+  pub here : (x y : X) (xs : List X) → x ≡ y → Contains (x ∷ xs) y
+  here x y xs e = (0, omega arith, e)
+
+  pub first : (b : Bool) (x y : X) (xs : List X) → b ≡ true → x ≡ y → Contains (kept_if b x xs) y
+  first true x y xs t e = here x y xs e
+  first false x y xs t e = absurd (cc)
+
+  pub later : (b : Bool) (x y : X) (xs : List X) → Contains xs y → Contains (kept_if b x xs) y
+  later true x y xs h = there x y xs h
+  later false x y xs h = h
+
+  pub none_there : (y : X) → Contains [] y → ⊥
+  none_there y h = let lt = h.1 in omega arith
+
+  pub split : (x y : X) (xs : List X) → Contains (x ∷ xs) y → (x ≡ y) ⊎ Contains xs y
+  split x y xs h = go h.0 h.1 h.2
+    where
+      go : (k : ℕ) → k < length (x ∷ xs) → get_or (x ∷ xs) k y ≡ y → (x ≡ y) ⊎ Contains xs y
+      go zero lt e = inl e
+      go (suc k) lt e = inr (k, omega arith, e)
+
+  pub split_if : (b : Bool) (x y : X) (xs : List X) → Contains (kept_if b x xs) y → (b ≡ true) × (x ≡ y) ⊎ Contains xs y
+  split_if true x y xs h = ⊎_elim (λ e. inl (refl, e)) (λ h. inr h) (split x y xs h)
+  split_if false x y xs h = inr h
+
+  -- P holds of each where it holds of each member
+  pub all_of : (P : X → Type 0) (xs : List X) → ((y : X) → Contains xs y → P y) → All P xs
+  all_of P xs f k d lt = f (get_or xs k d) (Contains-get_or xs k d lt)
+
+  -- R holds of each element and each later one
+  abbrev pub AllLater : (X → X → Type 0) → List X → Type 0
+  AllLater R [] = Unit {0}
+  AllLater R (x ∷ xs) = ((y : X) → Contains xs y → R x y) × AllLater R xs
+
+  pub later_if : (R : X → X → Type 0) (b : Bool) (x : X) (xs : List X) → (b ≡ true → (y : X) → Contains xs y → R x y) → AllLater R xs → AllLater R (kept_if b x xs)
+  later_if R true x xs f all = (f refl, all)
+  later_if R false x xs f all = all
+
+  pub pairs_of : (R : X → X → Type 0) (xs : List X) → AllLater R xs → AllPairs R xs
+  pairs_of R [] all i j d lt within = absurd (omega arith)
+  pairs_of R (x ∷ xs) all zero zero d lt within = absurd (omega arith)
+  pairs_of R (x ∷ xs) all zero (suc j) d lt within = all.0 (get_or xs j d) (Contains-get_or xs j d (omega arith))
+  pairs_of R (x ∷ xs) all (suc i) zero d lt within = absurd (omega arith)
+  pairs_of R (x ∷ xs) all (suc i) (suc j) d lt within = pairs_of R xs all.1 i j d (omega arith) (omega arith)
+
+  pub later_so : (R S : X → X → Type 0) → ((x y : X) → R x y → S x y) → (xs : List X) → AllLater R xs → AllLater S xs
+  later_so R S f [] all = tt
+  later_so R S f (x ∷ xs) all = (λ y h. f x y (all.0 y h), later_so R S f xs all.1)
+
+module _ {X : Type 0} where
+  -- R holds of a pair
+  pub pair_of : (R : X → X → Type 0) (x y : X) → R x y → AllPairs R (x ∷ y ∷ [])
+  pair_of R x y holds = pairs_of R (x ∷ y ∷ []) ((λ z h. ⊎_elim (λ e. subst (R x) e holds) (λ h. absurd (none_there z h)) (split y z [] h)), ((λ z h. absurd (none_there z h)), tt))
+
+  -- one of two
+  pub either : (x y z : X) → Contains (x ∷ y ∷ []) z → (x ≡ z) ⊎ (y ≡ z)
+  either x y z h = ⊎_elim (λ e. inl e) (λ more. ⊎_elim (λ e. inr e) (λ h. absurd (none_there z h)) (split y z [] more)) (split x z (y ∷ []) h)
+
+  -- three of two are not apart
+  pub three_of_two : (x y a b c : X) → (x ≡ a) ⊎ (y ≡ a) → (x ≡ b) ⊎ (y ≡ b) → (x ≡ c) ⊎ (y ≡ c) → a ≢ b → a ≢ c → b ≢ c → ⊥
+  three_of_two x y a b c is_a is_b is_c ab ac bc =
+      ⊎_elim
+      (λ xa. ⊎_elim (λ xb. ab (sym xa ∙ xb)) (λ yb. ⊎_elim (λ xc. ac (sym xa ∙ xc)) (λ yc. bc (sym yb ∙ yc)) is_c) is_b)
+      (λ ya. ⊎_elim (λ xb. ⊎_elim (λ xc. bc (sym xb ∙ xc)) (λ yc. ac (sym ya ∙ yc)) is_c) (λ yb. ab (sym ya ∙ yb)) is_b)
+      is_a

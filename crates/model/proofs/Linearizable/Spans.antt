@@ -1,0 +1,120 @@
+-- Where every event stands right in its party's span, each call acts once, while it is under way, and ends with that answer.
+use Rattle.std.proofs.Common.{◌≡◌, ◌≢◌, ⊎_elim, ℕ, Bool, true, false, Option, Some, None, IfSome, List, [], ◌∷◌, ◌++◌, refl, sym, ap, subst, ◌∙◌, append_assoc, append-nil}
+use Rattle.std.proofs.lemmas.Bool.{cases_eq}
+use Rattle.std.proofs.lemmas.List.Concat.{flat_map-append}
+use Rattle.std.proofs.lemmas.List.Sums.{fold-append}
+use Rattle.model.specs.declared.event.Answer.{Answer}
+use Rattle.model.specs.declared.event.Event.{Event}
+use Rattle.model.specs.declared.event.Event.TheVariants.{Begun, Acted, Finished}
+use Rattle.model.specs.declared.event.Start.{Start}
+use Rattle.model.specs.Promise.{Promise}
+use Rattle.model.specs.Promises.Spans.{Stands, StandsRight}
+use Rattle.model.specs.Reading.{Each, acts, moments, whose, is_party, Span, Never, Open, Ended, longer, ended, own_after, span_after, span_of}
+use Rattle.model.specs.Shape.{IsOpenFor, IsShut}
+use Rattle.model.proofs.Linearizable.Acting.{Standing, Ends, ActsOnce}
+use Rattle.model.proofs.Linearizable.Members.{put, put_same, put_other}
+use Rattle.model.proofs.Readings.{AreRight, span_of-own, span_of-other}
+
+module _ {T : Type 0} where
+  abbrev first_answer : List (Start T × Answer T) → Option (Answer T)
+  first_answer [] = None
+  first_answer (m ∷ ms) = Some m.1
+
+  -- what a span tells of the call under way
+  abbrev standing : Span T → Standing T
+  standing Never = None
+  standing (Open start wrote) = Some (start, first_answer (moments wrote))
+  standing (Ended start answer wrote) = None
+
+  abbrev Agree : (ℕ → Standing T) → List (Event T) → Type 0
+  Agree going before = (p : ℕ) → going p ≡ standing (span_of p before)
+
+  moments_more : (wrote : List (Event T)) (e : Event T) → moments (wrote ++ e ∷ []) ≡ moments wrote ++ moments (e ∷ [])
+  moments_more wrote e = flat_map-append acts wrote (e ∷ [])
+
+  shut : (span : Span T) → IsShut span → standing span ≡ None
+  shut Never h = refl
+  shut (Open start wrote) h = absurd h
+  shut (Ended start answer wrote) h = refl
+
+  not_acted : (start : Start T) (span : Span T) → IsOpenFor start (λ wrote. moments wrote ≡ []) span → standing span ≡ Some (start, None)
+  not_acted start Never h = absurd h
+  not_acted start (Open call wrote) h = rw (h.0, h.1) refl
+  not_acted start (Ended call answer wrote) h = absurd h
+
+  acted_now : (p : ℕ) (start : Start T) (answer : Answer T) (span : Span T) → IsOpenFor start (λ wrote. moments wrote ≡ []) span → Some (start, Some answer) ≡ standing (longer span (Acted p start answer))
+  acted_now p start answer Never h = absurd h
+  acted_now p start answer (Open call wrote) h = rw (h.0, moments_more wrote (Acted p start answer), h.1) refl
+  acted_now p start answer (Ended call was wrote) h = absurd h
+
+  over : (span : Span T) (answer : Answer T) → standing (ended span answer) ≡ None
+  over Never answer = refl
+  over (Open start wrote) answer = refl
+  over (Ended start was wrote) answer = refl
+
+  -- what an event that is no act makes of it
+  quiet : (span : Span T) (e : Event T) → acts e ≡ [] → standing (longer span e) ≡ standing span
+  quiet Never e none = refl
+  quiet (Open start wrote) e none =
+      ap (λ ms. Some (start, first_answer ms))
+      (moments_more wrote e ∙ (ap (λ xs. moments wrote ++ (xs ++ [])) none ∙ append-nil (moments wrote)))
+  quiet (Ended start answer wrote) e none = refl
+
+  -- ---- one event
+
+  own_step : (going : ℕ → Standing T) (before : List (Event T)) (p : ℕ) (e : Event T) (now : Standing T) → Agree going before → whose e ≡ Some p → now ≡ standing (own_after (span_of p before) e) → Agree (put p now going) (before ++ e ∷ [])
+  own_step going before p e now agree mine is q = ⊎_elim same other (cases_eq q p)
+    where
+      same : q ≡ p → put p now going q ≡ standing (span_of q (before ++ e ∷ []))
+      same h =
+          ap (put p now going) h ∙ (put_same p now going ∙ (is ∙ (ap standing (sym (span_of-own p before (e ∷ []) (mine, tt)))
+          ∙ ap (λ n. standing (span_of n (before ++ e ∷ []))) (sym h))))
+
+      other : q ≢ p → put p now going q ≡ standing (span_of q (before ++ e ∷ []))
+      other ne =
+          put_other p q now going ne ∙ (agree q ∙ ap standing (sym (span_of-other p q before (e ∷ []) ne (mine, tt))))
+
+  quiet_step : (going : ℕ → Standing T) (before : List (Event T)) (e : Event T) → Agree going before → ((span : Span T) → own_after span e ≡ longer span e) → acts e ≡ [] → Agree going (before ++ e ∷ [])
+  quiet_step going before e agree writes none q = agree q ∙ (sym (stays (is_party q (whose e)) refl) ∙ ap standing (sym (fold-append (span_after q) Never before (e ∷ []))))
+    where
+      stays : (b : Bool) → is_party q (whose e) ≡ b → standing (span_after q (span_of q before) e) ≡ standing (span_of q before)
+      stays true t = rw t (ap standing (writes (span_of q before)) ∙ quiet (span_of q before) e none)
+      stays false t = rw t refl
+
+-- ---- all events
+
+module _ {T : Type 0} (promise : Promise T) (capacity : ℕ) (is_call : Start T → Bool) (one : (start : Start T) (answer : Answer T) (wrote : List (Event T)) → is_call start ≡ true → promise.wrote capacity start answer wrote → moments wrote ≡ (start, answer) ∷ []) where
+  ends : (start : Start T) (answer : Answer T) (span : Span T) → IsOpenFor start (promise.wrote capacity start answer) span → Ends is_call start answer (standing span)
+  ends start answer Never h = absurd h
+  ends start answer (Open call wrote) h = (h.0, λ t. ap first_answer (one start answer wrote t h.1))
+  ends start answer (Ended call was wrote) h = absurd h
+
+  follows : (es before : List (Event T)) (going : ℕ → Standing T) → Agree going before → AreRight (StandsRight promise capacity) before es → ActsOnce is_call es going
+  follows [] before going agree right = tt
+  follows (Begun p start ∷ es) before going agree right = (
+    agree p ∙ shut (span_of p before) right.0,
+    follows es (before ++ Begun p start ∷ []) (put p (Some (start, None)) going)
+        (own_step going before p (Begun p start) (Some (start, None)) agree refl refl) right.1,
+  )
+  follows (Acted p start answer ∷ es) before going agree right = (
+    agree p ∙ not_acted start (span_of p before) right.0,
+    follows es (before ++ Acted p start answer ∷ []) (put p (Some (start, Some answer)) going)
+        (own_step going before p (Acted p start answer) (Some (start, Some answer)) agree refl (acted_now p start answer (span_of p before) right.0)) right.1,
+  )
+  follows (Finished p start answer ∷ es) before going agree right = (
+    subst (Ends is_call start answer) (sym (agree p)) (ends start answer (span_of p before) right.0),
+    follows es (before ++ Finished p start answer ∷ []) (put p None going)
+        (own_step going before p (Finished p start answer) None agree refl (sym (over (span_of p before) answer))) right.1,
+  )
+  follows (e ∷ es) before going agree right =
+      follows es (before ++ e ∷ []) going (quiet_step going before e agree (λ span. refl) refl) right.1
+
+  all_right : (before es : List (Event T)) → Each (StandsRight promise capacity) (before ++ es) → AreRight (StandsRight promise capacity) before es
+  all_right before [] each = tt
+  all_right before (e ∷ es) each = (
+    each before es e refl,
+    all_right (before ++ e ∷ []) es (subst (Each (StandsRight promise capacity)) (sym (append_assoc before (e ∷ []) es)) each),
+  )
+
+  pub acts_once : (events : List (Event T)) → Each (StandsRight promise capacity) events → ActsOnce is_call events (λ p. None)
+  acts_once events each = follows events [] (λ p. None) (λ p. refl) (all_right [] events each)

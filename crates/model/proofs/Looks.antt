@@ -1,0 +1,48 @@
+-- The calls that only look change no word: the lengths of a queue, and the load of the single value, whose exchange puts the
+-- version back that it found.
+use Rattle.std.proofs.Common.{◌≡◌, ℕ, ◌==◌, Bool, true, false, Some, List, get_or, set, refl, sym, ap, ◌∙◌, arith}
+use Rattle.std.proofs.lemmas.Bool.Decides.{nat_tests}
+use Rattle.std.proofs.lemmas.List.{set-get_or}
+use Rattle.steps.specs.declared.ask.Op.TheVariants.{Exchange}
+use Rattle.steps.specs.declared.atomic.LoadStage.{LoadStage}
+use Rattle.steps.specs.declared.atomic.LoadStage as loading
+use Rattle.steps.specs.declared.queues.lengths.LenStage.{LenStage}
+use Rattle.steps.specs.declared.queues.lengths.LenStage.TheVariants.{LoadsWrite, LoadsRead, LoadsWriteAgain, LoadsReadAgain}
+use Rattle.steps.specs.Atomic.{load_asks}
+use Rattle.steps.specs.Queues.Lengths.{len_asks}
+use Rattle.model.specs.declared.families.Flight.{Flight}
+use Rattle.model.specs.declared.families.Flight as flights
+use Rattle.model.specs.declared.families.atomic.calls.AtomicFlight as atomics
+use Rattle.model.specs.declared.families.queues.calls.QueueFlight as queues
+use Rattle.model.specs.Coding.{Coding}
+use Rattle.model.specs.Families.{ask_of}
+use Rattle.model.specs.Progress.{Looks, ChangesNothing}
+use Rattle.model.specs.Turns.{words_after}
+
+by_len : (words : List ℕ) (stage : LenStage) → words_after words (ask_of (len_asks stage)) ≡ words
+by_len words LoadsWrite = set-get_or words 0 0
+by_len words (LoadsRead write) = set-get_or words 1 0
+by_len words (LoadsWriteAgain write read) = set-get_or words 0 0
+by_len words (LoadsReadAgain write read) = set-get_or words 1 0
+
+by_check : (words : List ℕ) (version : ℕ) → words_after words (Some (record { word = 0; op = Exchange version version })) ≡ words
+by_check words version = go (get_or words 0 0 == version) refl
+  where
+    go : (b : Bool) → (get_or words 0 0 == version) ≡ b → words_after words (Some (record { word = 0; op = Exchange version version })) ≡ words
+    go true t =
+        let same : get_or words 0 0 ≡ version = grind (arith, nat_tests) in
+        rw t (ap (set words 0) (sym same) ∙ set-get_or words 0 0)
+    go false t = rw t (set-get_or words 0 0)
+
+by_load : (words : List ℕ) (stage : LoadStage) → words_after words (ask_of (load_asks stage)) ≡ words
+by_load words loading.TheVariants.LoadsVersion = set-get_or words 0 0
+by_load words (loading.TheVariants.LoadsCell version cell at) = set-get_or words _ 0
+by_load words (loading.TheVariants.ChecksVersion version) = by_check words version
+
+module _ {T : Type 0} where
+  pub looks_change_nothing : (code : Coding T) (flight : Flight T) → Looks flight → ChangesNothing code flight
+  looks_change_nothing code (flights.TheVariants.Queues (queues.TheVariants.Length which run)) looks = λ words. by_len words run.call.stage
+  looks_change_nothing code (flights.TheVariants.Queues other) looks = absurd looks
+  looks_change_nothing code (flights.TheVariants.Atomic (atomics.TheVariants.Load run)) looks = λ words. by_load words run.call.stage
+  looks_change_nothing code (flights.TheVariants.Atomic other) looks = absurd looks
+  looks_change_nothing code other looks = absurd looks

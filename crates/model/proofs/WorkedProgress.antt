@@ -1,0 +1,32 @@
+-- A worked run in which retries are paid by calls that do not end: two releases that would lock a robust index set make each
+-- other begin again.
+use Rattle.std.proofs.Common.{◌≡◌, ℕ, false, Some, List, ◌++◌, refl}
+use Rattle.steps.specs.declared.indices.enums.ReleaseMode.TheVariants.{LockIfLastIndex}
+use Rattle.model.specs.declared.event.Start.TheVariants.{Robust}
+use Rattle.model.specs.declared.families.indices.robust.RobustStart.TheVariants.{Acquire, Release}
+use Rattle.model.specs.declared.turn.Kind as kinds
+use Rattle.model.specs.declared.turn.Turn.{Turn}
+use Rattle.model.specs.Coding.{one_word}
+use Rattle.model.specs.World.{Trace, progress_in}
+use Rattle.model.proofs.Runs.{nexts, begins, ran}
+
+-- each has emptied its cell, and has counted that no cell has an owner
+abbrev both_count : List (Turn ℕ)
+both_count =
+    begins 0 (Robust (Acquire 1)) 4
+    ++ (begins 1 (Robust (Acquire 2)) 5
+    ++ (begins 0 (Robust (Release 0 1 LockIfLastIndex)) 3
+    ++ (begins 1 (Robust (Release 1 2 LockIfLastIndex)) 3 ++ (nexts 0 4 ++ nexts 1 4))))
+
+-- each finds the counter changed by the count of the other, and counts again
+abbrev round : List (Turn ℕ)
+round = nexts 0 5 ++ nexts 1 5
+
+abbrev after_three : Trace ℕ
+after_three = ran one_word kinds.TheVariants.Robust 2 2 (both_count ++ (round ++ (round ++ round)))
+
+pub first_goes_back : progress_in after_three.world 0 ≡ Some (record { steps = 22; backs = 3; others = 6; finished = false })
+first_goes_back = refl
+
+pub second_goes_back : progress_in after_three.world 1 ≡ Some (record { steps = 22; backs = 3; others = 4; finished = false })
+second_goes_back = refl

@@ -1,0 +1,193 @@
+-- How calls progress, in the field's words, by the bounds that are promised. Steps are operations on words, as everywhere.
+use Rattle.std.specs.Prelude.{◌≡◌, ◌≤◌, ℕ, ◌+◌, ◌*◌, max, Option, Some, None, List}
+use Rattle.steps.specs.Bits.Words.{elements}
+use Rattle.steps.specs.declared.indices.enums.ReleaseMode.TheVariants.{LockIfLastIndex, Default}
+use Rattle.model.specs.declared.event.Start.{Start}
+use Rattle.model.specs.declared.event.Start.TheVariants as starts
+use Rattle.model.specs.declared.families.Flight.{Flight}
+use Rattle.model.specs.declared.families.Flight as flights
+use Rattle.model.specs.declared.families.atomic.calls.AtomicFlight as atomic_flights
+use Rattle.model.specs.declared.families.atomic.AtomicStart.{AtomicStart}
+use Rattle.model.specs.declared.families.atomic.AtomicStart.TheVariants as atomics
+use Rattle.model.specs.declared.families.bits.BitsStart.{BitsStart}
+use Rattle.model.specs.declared.families.bits.BitsStart.TheVariants as bits
+use Rattle.model.specs.declared.families.indices.IndexStart.{IndexStart}
+use Rattle.model.specs.declared.families.indices.IndexStart.TheVariants as indices
+use Rattle.model.specs.declared.families.indices.robust.RobustStart.{RobustStart}
+use Rattle.model.specs.declared.families.indices.robust.RobustStart.TheVariants as robust
+use Rattle.model.specs.declared.families.queues.calls.QueueFlight as queue_flights
+use Rattle.model.specs.declared.families.queues.QueueKind.{QueueKind}
+use Rattle.model.specs.declared.families.queues.QueueKind as queue_kinds
+use Rattle.model.specs.declared.families.queues.QueueStart.{QueueStart}
+use Rattle.model.specs.declared.families.queues.QueueStart.TheVariants as queues
+use Rattle.model.specs.declared.party.Progress.{Progress}
+use Rattle.model.specs.declared.turn.Kind.{Kind}
+use Rattle.model.specs.declared.turn.Kind.TheVariants.{IndexQueue, Overflow, Queue, Atomic, Bits, Counts, Indices, Robust}
+use Rattle.model.specs.Coding.{Coding}
+use Rattle.model.specs.Families.{ask_of, want_of}
+use Rattle.model.specs.Promise.{Promise}
+use Rattle.model.specs.Promises.Families.{promise_of}
+use Rattle.model.specs.Reading.{Span, Never, Open, Ended, span_of}
+use Rattle.model.specs.Turns.{words_after}
+use Rattle.model.specs.World.{Trace, progress_in}
+
+pub data Guarantee : Type 0 where
+  WaitFree : (most : ℕ) → Guarantee
+  ObstructionFree : (alone retry : ℕ) → Guarantee
+
+module _ {T : Type 0} where
+  -- ---- what they say of a call, at this capacity, where a value has so many words
+
+  -- at most so many steps, whatever the other parties do: its retries do not count
+  abbrev pub IsWaitFree : Promise T → ℕ → ℕ → Start T → ℕ → Type 0
+  IsWaitFree promise capacity size start most =
+      (backs : ℕ) → promise.most_steps capacity size start backs ≤ most
+
+  -- at most so many steps alone, and so many more for each retry
+  abbrev pub IsObstructionFree : Promise T → ℕ → ℕ → Start T → ℕ → ℕ → Type 0
+  IsObstructionFree promise capacity size start alone retry =
+      (backs : ℕ) → promise.most_steps capacity size start backs ≤ alone + backs * retry
+
+  abbrev pub IsGuaranteed : Promise T → ℕ → ℕ → Start T → Guarantee → Type 0
+  IsGuaranteed promise capacity size start (WaitFree most) =
+      IsWaitFree promise capacity size start most
+  IsGuaranteed promise capacity size start (ObstructionFree alone retry) =
+      IsObstructionFree promise capacity size start alone retry
+
+-- ---- which of the two each call has, with its constants
+
+abbrev pub of_push : ℕ → QueueKind → Guarantee
+of_push size queue_kinds.TheVariants.IndexQueue = WaitFree 4
+of_push size queue_kinds.TheVariants.Overflow = WaitFree 6
+of_push size queue_kinds.TheVariants.Queue = WaitFree (3 + size)
+
+abbrev pub of_pop : ℕ → QueueKind → Guarantee
+of_pop size queue_kinds.TheVariants.IndexQueue = WaitFree 4
+of_pop size queue_kinds.TheVariants.Overflow = ObstructionFree 4 2
+of_pop size queue_kinds.TheVariants.Queue = WaitFree (3 + size)
+
+module _ {T : Type 0} where
+  abbrev pub of_queue : ℕ → QueueKind → QueueStart T → Guarantee
+  of_queue size kind queues.AcquireProducer = WaitFree 1
+  of_queue size kind queues.ReleaseProducer = WaitFree 1
+  of_queue size kind queues.AcquireConsumer = WaitFree 1
+  of_queue size kind queues.ReleaseConsumer = WaitFree 1
+  of_queue size kind (queues.PushIndex index) = of_push size kind
+  of_queue size kind (queues.Push value) = of_push size kind
+  of_queue size kind queues.Pop = of_pop size kind
+  of_queue size kind queues.Len = ObstructionFree 4 4
+  of_queue size kind queues.IsEmpty = ObstructionFree 4 4
+  of_queue size kind queues.IsFull = ObstructionFree 4 4
+
+  abbrev pub of_value : ℕ → AtomicStart T → Guarantee
+  of_value size atomics.AcquireProducer = WaitFree 1
+  of_value size atomics.ReleaseProducer = WaitFree 1
+  of_value size (atomics.Store value) = WaitFree (2 + size)
+  of_value size atomics.Load = ObstructionFree (2 + size) (1 + size)
+
+abbrev pub of_bits : ℕ → BitsStart → Guarantee
+of_bits capacity (bits.Set bit) = ObstructionFree 2 1
+of_bits capacity bits.ResetNext = ObstructionFree (3 + capacity) 1
+of_bits capacity bits.ResetAll = WaitFree (elements capacity)
+
+-- a counting bit set has no reset of the next one
+abbrev pub of_counts : ℕ → BitsStart → Guarantee
+of_counts capacity (bits.Set place) = WaitFree 1
+of_counts capacity bits.ResetNext = WaitFree 0
+of_counts capacity bits.ResetAll = WaitFree capacity
+
+abbrev pub of_indices : ℕ → IndexStart → Guarantee
+of_indices capacity indices.Acquire = ObstructionFree (4 + capacity) (max 2 capacity)
+of_indices capacity (indices.Release index Default) = WaitFree 5
+of_indices capacity (indices.Release index LockIfLastIndex) = ObstructionFree 4 2
+of_indices capacity indices.BorrowedIndices = WaitFree 1
+of_indices capacity indices.IsLocked = WaitFree 1
+
+abbrev pub of_robust : ℕ → RobustStart → Guarantee
+of_robust capacity (robust.Acquire owner) = ObstructionFree (capacity + 3) (capacity + 1)
+of_robust capacity (robust.Release index owner Default) = ObstructionFree 3 1
+of_robust capacity (robust.Release index owner LockIfLastIndex) =
+    ObstructionFree (capacity + 6) (capacity + 3)
+of_robust capacity (robust.Find owner) = WaitFree capacity
+of_robust capacity (robust.Recover Default) = ObstructionFree (2 + capacity * 4) 1
+of_robust capacity (robust.Recover LockIfLastIndex) =
+    ObstructionFree (2 + capacity * (capacity + 7)) (capacity + 3)
+of_robust capacity robust.BorrowedIndices = ObstructionFree (capacity + 2) (capacity + 2)
+of_robust capacity robust.IsLocked = WaitFree 1
+
+module _ {T : Type 0} where
+  -- a call of another family takes no step, since none begins
+  abbrev pub in_queue : ℕ → QueueKind → Start T → Guarantee
+  in_queue size kind (starts.Queues start) = of_queue size kind start
+  in_queue size kind other = WaitFree 0
+
+  abbrev pub in_value : ℕ → Start T → Guarantee
+  in_value size (starts.Atomic start) = of_value size start
+  in_value size other = WaitFree 0
+
+  abbrev pub in_bits : ℕ → Start T → Guarantee
+  in_bits capacity (starts.Bits start) = of_bits capacity start
+  in_bits capacity other = WaitFree 0
+
+  abbrev pub in_counts : ℕ → Start T → Guarantee
+  in_counts capacity (starts.Bits start) = of_counts capacity start
+  in_counts capacity other = WaitFree 0
+
+  abbrev pub in_indices : ℕ → Start T → Guarantee
+  in_indices capacity (starts.Indices start) = of_indices capacity start
+  in_indices capacity other = WaitFree 0
+
+  abbrev pub in_robust : ℕ → Start T → Guarantee
+  in_robust capacity (starts.Robust start) = of_robust capacity start
+  in_robust capacity other = WaitFree 0
+
+  -- the guarantee of a kind's call, at this capacity, where a value has so many words
+  abbrev pub guarantee_of : Kind → ℕ → ℕ → Start T → Guarantee
+  guarantee_of IndexQueue capacity size start = in_queue size queue_kinds.TheVariants.IndexQueue start
+  guarantee_of Overflow capacity size start = in_queue size queue_kinds.TheVariants.Overflow start
+  guarantee_of Queue capacity size start = in_queue size queue_kinds.TheVariants.Queue start
+  guarantee_of Atomic capacity size start = in_value size start
+  guarantee_of Bits capacity size start = in_bits capacity start
+  guarantee_of Counts capacity size start = in_counts capacity start
+  guarantee_of Indices capacity size start = in_indices capacity start
+  guarantee_of Robust capacity size start = in_robust capacity start
+
+-- the table is right by the promised bounds
+abbrev pub AreGuaranteed : Type 0 → Kind → Type 0
+AreGuaranteed T kind =
+    (capacity size : ℕ) (start : Start T)
+    → IsGuaranteed (promise_of kind) capacity size start (guarantee_of kind capacity size start)
+
+-- ---- what they say of a run
+
+-- the steps that a call has taken are within its guarantee: one that is obstruction-free pays so many for each change
+-- of a word that another party has made while it was under way
+abbrev pub IsWithin : Guarantee → Progress → Type 0
+IsWithin (WaitFree most) g = g.steps ≤ most
+IsWithin (ObstructionFree alone retry) g = g.steps ≤ alone + g.others * retry
+
+module _ {T : Type 0} where
+  abbrev pub LatestIsWithin : (Start T → Guarantee) → Span T → Option Progress → Type 0
+  LatestIsWithin guarantee (Open start wrote) (Some g) = IsWithin (guarantee start) g
+  LatestIsWithin guarantee (Ended start answer wrote) (Some g) = IsWithin (guarantee start) g
+  LatestIsWithin guarantee span g = Unit {0}
+
+  -- each party's latest call, under way or done
+  abbrev pub KeepsGuarantees : Trace T → Type 0
+  KeepsGuarantees t =
+      (p : ℕ)
+      → LatestIsWithin (guarantee_of t.world.kind t.world.capacity t.world.coding.size)
+      (span_of p t.events) (progress_in t.world p)
+
+  -- ---- calls that only look
+
+  -- the lengths of a queue and the load of the single value
+  abbrev pub Looks : Flight T → Type 0
+  Looks (flights.TheVariants.Queues (queue_flights.TheVariants.Length which run)) = Unit {0}
+  Looks (flights.TheVariants.Atomic (atomic_flights.TheVariants.Load run)) = Unit {0}
+  Looks flight = ⊥
+
+  -- what the call asks for leaves the words, whatever they are
+  abbrev pub ChangesNothing : Coding T → Flight T → Type 0
+  ChangesNothing code flight =
+      (words : List ℕ) → words_after words (ask_of (want_of code flight)) ≡ words
