@@ -2,3 +2,4 @@ pub mod Cells
 pub mod Pushes
 pub mod Pops
 pub mod Counts
+pub mod Overflows

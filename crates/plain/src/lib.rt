@@ -3,10 +3,12 @@
 #![tactic(auto)]
 
 mod drive;
+pub mod overflowing;
 pub mod queues;
 pub mod unique;
 pub mod value;
 
+pub use overflowing::SafelyOverflowingIndexQueue;
 pub use queues::{IndexQueue, Queue};
 pub use unique::UniqueIndexSet;
 pub use value::UnrestrictedAtomic;

@@ -1,0 +1,477 @@
+-- A push and a pop of the overflowing queue that run alone.
+use Rattle.std.proofs.Common.{◌≡◌, ◌≢◌, ℕ, zero, suc, ◌+◌, ◌-◌, ◌*◌, ◌%◌, ◌^◌, ◌<◌, ◌≤◌, ◌⊎◌, inl, inr, ⊎_elim, Bool, true, false, not, ◌&&◌, ◌==◌, nat_lt, min, Option, Some, None, slice_get, List, [], ◌∷◌, ◌++◌, length, drop, refl, sym, ap, subst, ◌∙◌, arith, slice_index, slice_set, get_or-set_same, get_or-set_other, length-set, eq-eqb, ne_eqb, if◌then◌else◌}
+use Rattle.std.proofs.lemmas.Bool.Decides.{nat_tests}
+use Rattle.std.proofs.lemmas.Bool.{cases_lt}
+use Rattle.std.proofs.lemmas.List.{length-append}
+use mathlib.Core.Logic.{dite}
+use native.Mathlib.Decide.{ℕ_discrete}
+use Rattle.steps.specs.Picks.{by_eq}
+use Rattle.steps.specs.Queues.Ring.{distance, after_position}
+use Rattle.steps.specs.Queues.Overflow.{cell_word, first_push, at_push, push_want, push_after, push_kept, push_answer, first_pop, at_pop, pop_want, pop_after, pop_kept, pop_answer}
+use Rattle.steps.specs.declared.ask.After.{After}
+use Rattle.steps.specs.declared.ask.After.TheVariants.{GoOn}
+use Rattle.steps.specs.declared.copied.OneWord.{OneWord}
+use Rattle.steps.specs.declared.queues.overflow.Push.{Push}
+use Rattle.steps.specs.declared.queues.overflow.PushStage as pushes
+use Rattle.steps.specs.declared.queues.overflow.PushEnd.{PushEnd}
+use Rattle.steps.specs.declared.queues.overflow.PushEnd.TheVariants.{Added, Own, Oldest}
+use Rattle.steps.specs.declared.queues.overflow.Pop.{Pop}
+use Rattle.steps.specs.declared.queues.overflow.PopStage as pops
+use Rattle.steps.specs.Objects.Lists.{Bounded, front, popped, takes_in, handed_back, pushed_over}
+use Rattle.plain.specs.Alone.{EndsFrom, EndsIn, Turns}
+use Rattle.plain.specs.Queues.{value_at}
+use Rattle.plain.specs.Overflowing.{number_of, numbers_from, list_in, Fits}
+use Rattle.plain.proofs.Alone.{Runs}
+use Rattle.plain.proofs.Lists.Cells.{cell_within, cells_apart, values_same, values_length, values_more}
+
+-- the object, by whether a push takes its value in and whether the list is then too long
+module _ (value : ℕ) (q : Bounded ℕ) where
+  abbrev all : List ℕ
+  all = q.values ++ value ∷ []
+
+  abbrev made : Bool → Bool → Bounded ℕ
+  made takes long =
+      if takes
+      then record q { first = q.first + (length q.values + 1 - q.capacity); values = if long then drop 1 all else all }
+      else q
+
+  abbrev handed : Bool → Bool → Option ℕ
+  handed takes long = if takes then (if long then slice_get all 0 else None) else Some value
+
+  made_of : (takes long : Bool) → takes_in q ≡ takes → nat_lt q.capacity (length all) ≡ long
+      → (pushed_over q value ≡ made takes long) × (handed_back q value ≡ handed takes long)
+  made_of takes long t l = (λ i. made (t i) (l i), λ i. handed (t i) (l i))
+
+module _ (capacity : ℕ) where
+  abbrev number_at : List ℕ → ℕ → ℕ
+  number_at words p = value_at number_of 1 (capacity + 1) words p
+
+  -- ---- the words of a push
+
+  module _ (value : ℕ) where
+    abbrev Ends : ℕ → PushEnd → OneWord → List ℕ → Push → OneWord → List ℕ → Type 0
+    Ends n end last_room last call room words =
+        EndsIn push_want (λ c given old. push_after c old) push_kept value n end last_room last call room words
+
+    abbrev From : ℕ → PushEnd → OneWord → List ℕ → After Push PushEnd → OneWord → List ℕ → Type 0
+    From n end last_room last a room words =
+        EndsFrom push_want (λ c given old. push_after c old) push_kept value n end last_room last a room words
+
+    hands_back : (room : OneWord) (words : List ℕ) → capacity ≡ 0
+        → Ends 1 Own room words (first_push capacity) room words
+    hands_back room words none =
+        by_eq (λ s. Ends 1 Own room words (record { capacity = capacity; stage = s }) room words) capacity 0
+        pushes.TheVariants.HandsBack pushes.TheVariants.LoadsWrite
+        (λ _. (refl, refl, refl)) (λ some. absurd (some none))
+
+    no_position : (room : OneWord) (words : List ℕ) → capacity ≢ 0 → slice_index words 0 ≡ 2 ^ 64 - 1
+        → Ends 1 Own room words (first_push capacity) room words
+    no_position room words some e =
+        by_eq (λ s. Ends 1 Own room words (record { capacity = capacity; stage = s }) room words) capacity 0
+        pushes.TheVariants.HandsBack pushes.TheVariants.LoadsWrite
+        (λ none. absurd (some none))
+        (λ _. by_eq (λ a. From 0 Own room words a room words) (slice_index words 0) (2 ^ 64 - 1) _ _
+        (λ _. (refl, refl, refl)) (λ other. absurd (other e)))
+
+    module _ (room : OneWord) (words : List ℕ) where
+      abbrev w : ℕ
+      w = slice_index words 0
+
+      abbrev r : ℕ
+      r = slice_index words 1
+
+      abbrev cells : List ℕ
+      cells = slice_set words (cell_word capacity w) value
+
+      abbrev stored : List ℕ
+      stored = slice_set cells 0 (after_position w)
+
+      abbrev moved : List ℕ
+      moved = slice_set stored 1 (after_position r)
+
+      abbrev oldest : OneWord
+      oldest = record { 0 = slice_index moved (cell_word capacity r) }
+
+      adds : capacity ≢ 0 → w ≢ 2 ^ 64 - 1 → distance w r ≢ capacity
+          → Ends 4 Added room stored (first_push capacity) room words
+      adds some position near =
+          by_eq (λ s. Ends 4 Added room stored (record { capacity = capacity; stage = s }) room words) capacity 0
+          pushes.TheVariants.HandsBack pushes.TheVariants.LoadsWrite
+          (λ none. absurd (some none))
+          (λ _. by_eq (λ a. From 3 Added room stored a room words) w (2 ^ 64 - 1) _ _
+          (λ e. absurd (position e))
+          (λ _. by_eq (λ a. From 0 Added room stored a room stored) (distance w r) capacity _ _
+          (λ e. absurd (near e)) (λ _. (refl, refl, refl))))
+
+      replaces : capacity ≢ 0 → w ≢ 2 ^ 64 - 1 → distance w r ≡ capacity → slice_index stored 1 ≡ r
+          → Ends 6 Oldest oldest moved (first_push capacity) room words
+      replaces some position full stands =
+          let written : (if slice_index stored 1 == r then moved else stored) ≡ moved =
+          ap (λ b. if b then moved else stored) (eq-eqb (slice_index stored 1) r stands) in
+          by_eq (λ s. Ends 6 Oldest oldest moved (record { capacity = capacity; stage = s }) room words) capacity 0
+          pushes.TheVariants.HandsBack pushes.TheVariants.LoadsWrite
+          (λ none. absurd (some none))
+          (λ _. by_eq (λ a. From 5 Oldest oldest moved a room words) w (2 ^ 64 - 1) _ _
+          (λ e. absurd (position e))
+          (λ _. by_eq (λ a. From 2 Oldest oldest moved a room stored) (distance w r) capacity _ _
+          (λ _. by_eq (λ a. From 1 Oldest oldest moved a room (if slice_index stored 1 == r then moved else stored)) (slice_index stored 1) r _ _
+          (λ _. subst (λ ws. From 1 Oldest oldest moved (GoOn (at_push (first_push capacity) (pushes.TheVariants.LoadsCell r))) room ws) (sym written)
+          (refl, refl, refl))
+          (λ other. absurd (other stands)))
+          (λ other. absurd (other full))))
+
+    -- ---- what it makes of the list
+
+    abbrev pub Pushed : List ℕ → PushEnd → OneWord → List ℕ → Type 0
+    Pushed words end room last =
+        Turns (Fits capacity) (list_in capacity) (λ q. handed_back q value)
+        (λ q. pushed_over q value) words (push_answer value room.0 end) last
+
+    stays_out : (room : OneWord) (words : List ℕ) → Fits capacity words
+        → takes_in (list_in capacity words) ≡ false → Pushed words Own room words
+    stays_out room words fits refused =
+        let m = made_of value (list_in capacity words) false _ refused refl in
+        (fits, sym m.1, sym m.0)
+
+    module _ (room : OneWord) (words : List ℕ) (fits : Fits capacity words) (some : capacity ≢ 0)
+        (position : slice_index words 0 ≢ 2 ^ 64 - 1) where
+      abbrev wp : ℕ
+      wp = slice_index words 0
+
+      abbrev rp : ℕ
+      rp = slice_index words 1
+
+      abbrev kept : List ℕ
+      kept = stored room words
+
+      abbrev waiting : List ℕ
+      waiting = numbers_from capacity words rp (wp - rp)
+
+      waits : length waiting ≡ wp - rp
+      waits = values_length number_of 1 (capacity + 1) words rp (wp - rp)
+
+      low : wp % (capacity + 1) < capacity + 1
+      low = omega arith
+
+      next_is : after_position wp ≡ wp + 1
+      next_is = let f = fits.fits in omega (arith, position)
+
+      cells_long : length (cells room words) ≡ length words
+      cells_long = length-set words (cell_word capacity wp) value
+
+      write_is : slice_index kept 0 ≡ wp + 1
+      write_is =
+          let long = fits.long in let same = cells_long in
+          get_or-set_same (cells room words) 0 (after_position wp) 0 (omega arith) ∙ next_is
+
+      kept_word : (j : ℕ) → j ≢ 0 → j ≢ cell_word capacity wp → slice_index kept j ≡ slice_index words j
+      kept_word j one two =
+          get_or-set_other (cells room words) 0 j (after_position wp) 0 one
+          ∙ get_or-set_other words (cell_word capacity wp) j value 0 two
+
+      read_is : slice_index kept 1 ≡ rp
+      read_is = kept_word 1 (λ e. absurd (omega arith)) (λ e. absurd (omega arith))
+
+      kept_long : length kept ≡ 5 + capacity
+      kept_long = length-set (cells room words) 0 (after_position wp) ∙ (cells_long ∙ fits.long)
+
+      own : number_at kept wp ≡ value
+      own =
+          let place : 4 + 1 * (wp % (capacity + 1)) ≡ cell_word capacity wp = omega arith in
+          let long = fits.long in
+          ap (slice_index kept) place
+          ∙ (get_or-set_other (cells room words) 0 (cell_word capacity wp) (after_position wp) 0 (λ e. absurd (omega arith))
+          ∙ get_or-set_same words (cell_word capacity wp) value 0 (let l = low in omega arith))
+
+      kept_number : (p : ℕ) → rp ≤ p → p < wp → number_at kept p ≡ number_at words p
+      kept_number p from below =
+          let near = fits.near in
+          let apart = cells_apart (capacity + 1) 1 p wp below (omega arith) in
+          kept_word (4 + 1 * (p % (capacity + 1))) (λ e. absurd (omega arith))
+          (λ e. ⊎_elim (λ h. absurd (omega arith)) (λ h. absurd (omega arith)) apart)
+
+      -- all that waited, and this one
+      all_kept : numbers_from capacity kept rp (suc (wp - rp)) ≡ waiting ++ value ∷ []
+      all_kept =
+          let behind = fits.behind in
+          let end : rp + (wp - rp) ≡ wp = omega arith in
+          let before : numbers_from capacity kept rp (wp - rp) ≡ waiting =
+          values_same number_of 1 (capacity + 1) kept words rp (wp - rp) (λ p from below. kept_number p from (omega arith)) in
+          let last : number_at kept (rp + (wp - rp)) ≡ value = ap (number_at kept) end ∙ own in
+          values_more number_of 1 (capacity + 1) kept rp (wp - rp) ∙ (λ i. before i ++ last i ∷ [])
+
+      takes : takes_in (list_in capacity words) ≡ true
+      takes =
+          let behind = fits.behind in
+          let n = waits in
+          let a : nat_lt 0 capacity ≡ true = let c : 0 < capacity = omega (arith, some) in grind (arith, nat_tests, c) in
+          let b : (rp + length waiting == 2 ^ 64 - 1) ≡ false = ne_eqb _ _ (λ e. position (omega arith)) in
+          λ i. a i && not (b i)
+
+      length_is : length (waiting ++ value ∷ []) ≡ wp - rp + 1
+      length_is = let n = waits in let m = length-append waiting (value ∷ []) in omega arith
+
+      -- ---- there was room
+
+      module _ (near : wp - rp < capacity) where
+        added : Pushed words Added room kept
+        added =
+            let behind = fits.behind in
+            let f = fits.fits in
+            let a = write_is in
+            let b = read_is in
+            let n = waits in
+            let long = length_is in
+            let short : nat_lt capacity (length (waiting ++ value ∷ [])) ≡ false = grind (arith, nat_tests, near, long) in
+            let m = made_of value (list_in capacity words) true false takes short in
+            let many : slice_index kept 0 - slice_index kept 1 ≡ suc (wp - rp) = omega arith in
+            let first : slice_index kept 1 ≡ rp + (length waiting + 1 - capacity) = omega arith in
+            let values : numbers_from capacity kept (slice_index kept 1) (slice_index kept 0 - slice_index kept 1) ≡ waiting ++ value ∷ [] =
+            (λ i. numbers_from capacity kept (b i) (many i)) ∙ all_kept in (
+              record { long = kept_long; small = fits.small; behind = omega arith; near = omega arith; fits = omega (arith, position) },
+              sym m.1,
+              (λ i. record { capacity = capacity; first = first i; values = values i }) ∙ sym m.0,
+            )
+
+      -- ---- there was none
+
+      module _ (full : wp - rp ≡ capacity) where
+        abbrev last : List ℕ
+        last = moved room words
+
+        read_moves : slice_index last 1 ≡ rp + 1
+        read_moves =
+            let long = kept_long in let f = fits.fits in let behind = fits.behind in
+            get_or-set_same kept 1 (after_position rp) 0 (omega arith) ∙ omega (arith, position)
+
+        moved_word : (j : ℕ) → j ≢ 1 → slice_index last j ≡ slice_index kept j
+        moved_word j other = get_or-set_other kept 1 j (after_position rp) 0 other
+
+        moved_number : (p : ℕ) → number_at last p ≡ number_at kept p
+        moved_number p = moved_word (4 + 1 * (p % (capacity + 1))) (λ e. absurd (omega arith))
+
+        oldest_is : slice_index last (cell_word capacity rp) ≡ number_at words rp
+        oldest_is =
+            let place : cell_word capacity rp ≡ 4 + 1 * (rp % (capacity + 1)) = omega arith in
+            ap (slice_index last) place ∙ (moved_number rp ∙ kept_number rp (omega arith) (omega (arith, some)))
+
+        -- the first of all is the oldest
+        head : (m : ℕ) → wp - rp ≡ suc m → slice_get (waiting ++ value ∷ []) 0 ≡ Some (number_at words rp)
+        head m is = ap (λ n. slice_get (numbers_from capacity words rp n ++ value ∷ []) 0) is
+
+        replaced : Pushed words Oldest (oldest room words) last
+        replaced =
+            let behind = fits.behind in
+            let f = fits.fits in
+            let a = write_is in
+            let a₂ = moved_word 0 (λ e. absurd (omega arith)) in
+            let b = read_moves in
+            let n = waits in
+            let length_now = length_is in
+            let long : nat_lt capacity (length (waiting ++ value ∷ [])) ≡ true = grind (arith, nat_tests, full, length_now) in
+            let m = made_of value (list_in capacity words) true true takes long in
+            let many : slice_index last 0 - slice_index last 1 ≡ wp - rp = omega arith in
+            let first : slice_index last 1 ≡ rp + (length waiting + 1 - capacity) = omega arith in
+            let same : numbers_from capacity last (rp + 1) (wp - rp) ≡ numbers_from capacity kept (rp + 1) (wp - rp) =
+            values_same number_of 1 (capacity + 1) last kept (rp + 1) (wp - rp) (λ p from below. moved_number p) in
+            let values : numbers_from capacity last (slice_index last 1) (slice_index last 0 - slice_index last 1) ≡ drop 1 (waiting ++ value ∷ []) =
+            (λ i. numbers_from capacity last (b i) (many i)) ∙ (same ∙ ap (drop 1) all_kept) in (
+              record { long = length-set kept 1 (after_position rp) ∙ kept_long; small = fits.small; behind = omega arith; near = omega arith; fits = omega (arith, position) },
+              ap Some oldest_is ∙ (sym (head (wp - rp - 1) (omega (arith, some))) ∙ sym m.1),
+              (λ i. record { capacity = capacity; first = first i; values = values i }) ∙ sym m.0,
+            )
+
+    abbrev pub PushRuns : Push → OneWord → List ℕ → Type 0
+    PushRuns call room words = Runs push_want (λ c given old. push_after c old) push_kept value (Pushed words) call room words
+
+    runs_first : (room : OneWord) (words : List ℕ) → Fits capacity words → PushRuns (first_push capacity) room words
+    runs_first room words fits =
+        let wp = slice_index words 0 in
+        let rp = slice_index words 1 in
+        let behind = fits.behind in
+        let n = values_length number_of 1 (capacity + 1) words rp (wp - rp) in
+        dite (ℕ_discrete capacity 0)
+        (λ none. record {
+          steps = 1;
+          few = omega arith;
+          end = Own;
+          last_room = room;
+          last_words = words;
+          ends = hands_back room words none;
+          holds = stays_out room words fits (let b : nat_lt 0 capacity ≡ false = grind (arith, nat_tests, none) in ap (λ b. b && not (rp + length (numbers_from capacity words rp (wp - rp)) == 2 ^ 64 - 1)) b);
+        })
+        (λ some. dite (ℕ_discrete wp (2 ^ 64 - 1))
+        (λ e. record {
+          steps = 1;
+          few = omega arith;
+          end = Own;
+          last_room = room;
+          last_words = words;
+          ends = no_position room words some e;
+          holds = stays_out room words fits
+              (let c : 0 < capacity = omega (arith, some) in
+              let a : nat_lt 0 capacity ≡ true = grind (arith, nat_tests, c) in
+              let b : (rp + length (numbers_from capacity words rp (wp - rp)) == 2 ^ 64 - 1) ≡ true = eq-eqb _ _ (omega arith) in
+              λ i. a i && not (b i));
+        })
+        (λ position. ⊎_elim
+        (λ (near : wp - rp < capacity). record {
+          steps = 4;
+          few = omega arith;
+          end = Added;
+          last_room = room;
+          last_words = stored room words;
+          ends = adds room words some position (λ e. let f = fits.fits in absurd (omega arith));
+          holds = added room words fits some position near;
+        })
+        (λ (far : capacity ≤ wp - rp).
+        let close = fits.near in
+        let f = fits.fits in
+        let full : wp - rp ≡ capacity = omega arith in
+        record {
+          steps = 6;
+          few = omega arith;
+          end = Oldest;
+          last_room = oldest room words;
+          last_words = moved room words;
+          ends = replaces room words some position (omega arith) (read_is room words fits some position);
+          holds = replaced room words fits some position full;
+        })
+        (cases_lt (wp - rp) capacity)))
+
+    pub push_runs : (call : Push) → call ≡ first_push capacity → (room : OneWord) (words : List ℕ)
+        → Fits capacity words → PushRuns call room words
+    push_runs call is room words fits =
+        subst (λ c. PushRuns c room words) (sym is) (runs_first room words fits)
+
+  -- ---- pop
+
+  abbrev PopEnds : ℕ → Bool → OneWord → List ℕ → Pop → OneWord → List ℕ → Type 0
+  PopEnds n end last_room last call room words =
+      EndsIn (λ c (given : Unit {0}). pop_want c) (λ c given old. pop_after c old) pop_kept tt n end last_room last call room words
+
+  abbrev PopFrom : ℕ → Bool → OneWord → List ℕ → After Pop Bool → OneWord → List ℕ → Type 0
+  PopFrom n end last_room last a room words =
+      EndsFrom (λ c (given : Unit {0}). pop_want c) (λ c given old. pop_after c old) pop_kept tt n end last_room last a room words
+
+  abbrev pub Popped : List ℕ → Bool → OneWord → List ℕ → Type 0
+  Popped words end room last =
+      Turns (Fits capacity) (list_in capacity) front popped words (pop_answer room.0 end) last
+
+  abbrev pub PopRuns : Pop → OneWord → List ℕ → Type 0
+  PopRuns call room words =
+      Runs (λ (c : Pop) (given : Unit {0}). pop_want c) (λ c given old. pop_after c old) pop_kept tt (Popped words) call room words
+
+  module _ (room : OneWord) (words : List ℕ) where
+    abbrev write : ℕ
+    write = slice_index words 0
+
+    abbrev read : ℕ
+    read = slice_index words 1
+
+    abbrev taken : List ℕ
+    taken = slice_set words 1 (after_position read)
+
+    abbrev found : OneWord
+    found = record { 0 = slice_index words (cell_word capacity read) }
+
+    no_capacity : capacity ≡ 0 → PopEnds 1 false room words (first_pop capacity) room words
+    no_capacity none =
+        by_eq (λ s. PopEnds 1 false room words (record { capacity = capacity; stage = s }) room words) capacity 0
+        pops.TheVariants.FindsNone pops.TheVariants.LoadsRead
+        (λ _. (refl, refl, refl)) (λ some. absurd (some none))
+
+    finds_none : capacity ≢ 0 → write ≡ read → PopEnds 2 false room words (first_pop capacity) room words
+    finds_none some e =
+        by_eq (λ s. PopEnds 2 false room words (record { capacity = capacity; stage = s }) room words) capacity 0
+        pops.TheVariants.FindsNone pops.TheVariants.LoadsRead
+        (λ none. absurd (some none))
+        (λ _. by_eq (λ a. PopFrom 0 false room words a room words) write read _ _
+        (λ _. (refl, refl, refl)) (λ other. absurd (other e)))
+
+    takes_one : capacity ≢ 0 → write ≢ read → PopEnds 4 true found taken (first_pop capacity) room words
+    takes_one some other =
+        let written : (if read == read then taken else words) ≡ taken =
+        ap (λ b. if b then taken else words) (eq-eqb read read refl) in
+        by_eq (λ s. PopEnds 4 true found taken (record { capacity = capacity; stage = s }) room words) capacity 0
+        pops.TheVariants.FindsNone pops.TheVariants.LoadsRead
+        (λ none. absurd (some none))
+        (λ _. by_eq (λ a. PopFrom 2 true found taken a room words) write read _ _
+        (λ e. absurd (other e))
+        (λ _. by_eq (λ a. PopFrom 0 true found taken a found (if read == read then taken else words)) read read _ _
+        (λ _. (refl, refl, sym written)) (λ ne. absurd (ne refl))))
+
+    stays_empty : Fits capacity words → write ≡ read → Popped words false room words
+    stays_empty fits e =
+        let none : write - read ≡ 0 = omega arith in
+        let empty : numbers_from capacity words read (write - read) ≡ [] = ap (numbers_from capacity words read) none in
+        let first : read ≡ read + min 1 0 = omega arith in (
+          fits,
+          ap (λ xs. slice_get xs 0) (sym empty),
+          λ i. record {
+            capacity = capacity;
+            first = (first ∙ ap (λ xs. read + min 1 (length xs)) (sym empty)) i;
+            values = (empty ∙ ap (drop 1) (sym empty)) i;
+          },
+        )
+
+    taken_out : (m : ℕ) → write - read ≡ suc m → Fits capacity words → Popped words true found taken
+    taken_out m is fits =
+        let behind = fits.behind in
+        let near = fits.near in
+        let f = fits.fits in
+        let long = fits.long in
+        let place : cell_word capacity read ≡ 4 + 1 * (read % (capacity + 1)) = omega arith in
+        let a : slice_index taken 1 ≡ read + 1 = get_or-set_same words 1 (after_position read) 0 (omega arith) ∙ omega arith in
+        let b : slice_index taken 0 ≡ write = get_or-set_other words 1 0 (after_position read) 0 (λ e. absurd (omega arith)) in
+        let many : slice_index taken 0 - slice_index taken 1 ≡ m = omega arith in
+        let all : numbers_from capacity words read (write - read) ≡ number_at words read ∷ numbers_from capacity words (read + 1) m =
+        ap (numbers_from capacity words read) is in
+        let same : numbers_from capacity taken (read + 1) m ≡ numbers_from capacity words (read + 1) m =
+        values_same number_of 1 (capacity + 1) taken words (read + 1) m
+        (λ p from below. get_or-set_other words 1 (4 + 1 * (p % (capacity + 1))) (after_position read) 0 (λ e. absurd (omega arith))) in
+        let n = values_length number_of 1 (capacity + 1) words read (write - read) in
+        let first : slice_index taken 1 ≡ read + min 1 (length (numbers_from capacity words read (write - read))) = omega arith in
+        let values : numbers_from capacity taken (slice_index taken 1) (slice_index taken 0 - slice_index taken 1) ≡ drop 1 (numbers_from capacity words read (write - read)) =
+        (λ i. numbers_from capacity taken (a i) (many i)) ∙ (same ∙ ap (drop 1) (sym all)) in (
+          record { long = length-set words 1 (after_position read) ∙ fits.long; small = fits.small; behind = omega arith; near = omega arith; fits = omega arith },
+          ap (λ p. Some (slice_index words p)) place ∙ sym (ap (λ xs. slice_get xs 0) all),
+          λ i. record { capacity = capacity; first = first i; values = values i },
+        )
+
+    pops_first : Fits capacity words → PopRuns (first_pop capacity) room words
+    pops_first fits =
+        let behind = fits.behind in
+        let near = fits.near in
+        dite (ℕ_discrete capacity 0)
+        (λ none. record {
+          steps = 1;
+          few = omega arith;
+          end = false;
+          last_room = room;
+          last_words = words;
+          ends = no_capacity none;
+          holds = stays_empty fits (omega arith);
+        })
+        (λ some. dite (ℕ_discrete write read)
+        (λ e. record {
+          steps = 2;
+          few = omega arith;
+          end = false;
+          last_room = room;
+          last_words = words;
+          ends = finds_none some e;
+          holds = stays_empty fits e;
+        })
+        (λ other. record {
+          steps = 4;
+          few = omega arith;
+          end = true;
+          last_room = found;
+          last_words = taken;
+          ends = takes_one some other;
+          holds = taken_out (write - read - 1) (omega (arith, other)) fits;
+        }))
+
+    pub pop_runs : (call : Pop) → call ≡ first_pop capacity → Fits capacity words → PopRuns call room words
+    pop_runs call is fits = subst (λ c. PopRuns c room words) (sym is) (pops_first fits)
