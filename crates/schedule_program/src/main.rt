@@ -1,5 +1,6 @@
 //! The program: a schedule on standard input, what its turns did on standard output.
 #![tactic(auto)]
+
 ghost use Rattle.std.specs.Prelude.{◌≡◌, ℕ, Option, List, Result};
 ghost use Rattle.schedule.specs.Print.{exit_of, message_text};
 ghost use Rattle.schedule.specs.Run.{IsRun};
