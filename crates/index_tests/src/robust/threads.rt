@@ -1,40 +1,47 @@
 //! The robust unique index set between threads.
-use super::{Calls, User, three_owners};
+use super::{Ask, Calls, Look, Row, User, owner, three_owners};
 use lock_free::mpmc::robust_unique_index_set::{
-    OwnerId, Pass, RobustUniqueIndexSet, StaticRobustUniqueIndexSet,
+    Pass, RobustUniqueIndexSet, StaticRobustUniqueIndexSet,
 };
 use lock_free::mpmc::unique_index_set_enums::{ReleaseMode, ReleaseState};
+use std::process::Abort;
 use std::sync::Wait;
 use std::test::Fail;
 use std::thread;
 use std::thread::Threads;
 
+/// A user who takes indices for the owner of this number.
+#[derive(Drop)]
+struct Turner<'a> {
+    user: User<'a>,
+    number: u64,
+}
+
+impl<'a> Turner<'a> {
+    fn turns<R: Wait + Abort>(mut self, rt: &R) -> bool {
+        let of = owner(rt, self.number);
+        self.user.turns(rt, of)
+    }
+}
+
+/// One who takes indices for this owner, with a pass of its own.
+fn joins<'a>(user: &mut User<'a>, number: u64) -> Option<Turner<'a>> {
+    let user = user.another()?;
+    Some(Turner { user, number })
+}
+
 /// Whether two users, each in a thread, get their indices back.
-fn two_turn<R: Wait + Threads + Sync>(
-    rt: &R,
-    one: (User<'_>, OwnerId),
-    other: (User<'_>, OwnerId),
-) -> bool {
-    let (mut one, first) = one;
-    let (mut other, second) = other;
-    let (left, right) = thread::join(
-        rt,
-        move || one.turns(rt, first),
-        move || other.turns(rt, second),
-    );
+fn two_turn<R: Wait + Threads + Abort + Sync>(rt: &R, one: Turner<'_>, other: Turner<'_>) -> bool {
+    let (left, right) = thread::join(rt, move || one.turns(rt), move || other.turns(rt));
     left & right
 }
 
 /// Whether four owners, each in a thread, get their indices back. None where there are no further passes.
-fn four_turn<R: Wait + Threads + Sync>(
-    rt: &R,
-    user: &mut User<'_>,
-    owners: [OwnerId; 4],
-) -> Option<bool> {
-    let first = (user.another()?, owners[0]);
-    let second = (user.another()?, owners[1]);
-    let third = (user.another()?, owners[2]);
-    let fourth = (user.another()?, owners[3]);
+fn four_turn<R: Wait + Threads + Abort + Sync>(rt: &R, user: &mut User<'_>) -> Option<bool> {
+    let first = joins(user, 1)?;
+    let second = joins(user, 2)?;
+    let third = joins(user, 3)?;
+    let fourth = joins(user, 4)?;
     let (left, right) = thread::join(
         rt,
         move || two_turn(rt, first, second),
@@ -46,56 +53,54 @@ fn four_turn<R: Wait + Threads + Sync>(
 #[test]
 fn four_owners_on_three_indices(rt: HostRuntime) -> Result<(), Fail> {
     let (set, pass) = RobustUniqueIndexSet::new(rt.alloc(), 3)?;
-    let owners = [
-        OwnerId::new(1)?,
-        OwnerId::new(2)?,
-        OwnerId::new(3)?,
-        OwnerId::new(4)?,
-    ];
     let mut user = User { set: &set, pass };
-    assert_eq!(rt; four_turn(&rt, &mut user, owners), Some(true));
-    assert_eq!(rt; user.borrowed(&rt), 0);
-    assert!(rt; !user.is_locked());
+    assert!(rt; four_turn(&rt, &mut user) == Some(true));
+    assert!(rt; user.borrowed(&rt) == 0 && !user.is_locked());
     Ok(())
 }
 
-/// Recovers the indices of a dead owner while two others take indices and give them back. None where there are no further
-/// passes.
-fn recovers_beside<R: Wait + Threads + Sync>(
+/// Recovers the indices of a dead owner.
+fn recovers<R: Wait + Abort>(rt: &R, mut user: User<'_>, dead: u64) -> (Calls, bool, ReleaseState) {
+    let dead = owner(rt, dead);
+    user.recover(rt, dead, ReleaseMode::LockIfLastIndex)
+}
+
+/// Recovers the indices of a dead owner while two others take indices and give them back: whether it told of so many,
+/// of that owner alone, and the two got theirs back. None where there are no further passes.
+fn recovers_beside<R: Wait + Threads + Abort + Sync>(
     rt: &R,
     user: &mut User<'_>,
-    dead: OwnerId,
-    owners: [OwnerId; 2],
-) -> Option<(Calls, bool, ReleaseState, bool)> {
-    let first = (user.another()?, owners[0]);
-    let second = (user.another()?, owners[1]);
-    let mut third = user.another()?;
+    dead: u64,
+    number: u64,
+) -> Option<bool> {
+    let first = joins(user, 1)?;
+    let second = joins(user, 2)?;
+    let third = user.another()?;
     let (turned, (told, alone, state)) = thread::join(
         rt,
         move || two_turn(rt, first, second),
-        move || third.recover(rt, dead, ReleaseMode::LockIfLastIndex),
+        move || recovers(rt, third, dead),
     );
-    Some((told, alone, state, turned))
+    Some(turned && alone && told.are(number) && state == ReleaseState::Unlocked)
 }
 
 #[test]
 fn a_recovery_beside_two_owners(rt: HostRuntime) -> Result<(), Fail> {
     let (set, pass) = RobustUniqueIndexSet::new(rt.alloc(), 70)?;
-    let dead = OwnerId::new(9)?;
-    let living = OwnerId::new(3)?;
     let mut user = User { set: &set, pass };
-    assert!(rt; three_owners(&rt, &mut user, [dead, living, dead], 68));
-    let owners = [OwnerId::new(1)?, OwnerId::new(2)?];
-    let (told, alone, state, turned) = recovers_beside(&rt, &mut user, dead, owners).expect(
-        &rt,
-        "there are passes enough",
-    );
-    assert!(rt; told.are(45) && alone && turned);
-    assert_eq!(rt; state, ReleaseState::Unlocked);
-    assert!(rt; user.finds(dead, 0) && user.finds(living, 23));
-    assert_eq!(rt; user.borrowed(&rt), 23);
+    let owners = [owner(&rt, 9), owner(&rt, 3), owner(&rt, 9)];
+    assert!(rt; three_owners(&rt, &mut user, owners, 68));
+    assert!(rt; recovers_beside(&rt, &mut user, 9, 45) == Some(true));
+    user.play(&rt, &BESIDE);
     Ok(())
 }
+
+/// What is left of 68 indices of two owners once one has died.
+const BESIDE: [Row; 3] = [
+    Row::Ask(Ask::Finds(9, 0)),
+    Row::Ask(Ask::Finds(3, 23)),
+    Row::Look(Look::Borrowed(23)),
+];
 
 fn may_be_sent<T: Send>() {}
 
