@@ -1,5 +1,7 @@
 pub mod Alone
+pub mod Emptied
 pub mod Lists
+pub mod Places
 pub mod Stacks
 pub mod Values
 pub mod Words

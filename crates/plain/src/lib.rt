@@ -2,12 +2,17 @@
 //! a stack of free indices and the like do, and the contracts say so by equations.
 #![tactic(auto)]
 
+pub mod bits;
+pub mod counts;
 mod drive;
 pub mod overflowing;
 pub mod queues;
+mod swaps;
 pub mod unique;
 pub mod value;
 
+pub use bits::BitSet;
+pub use counts::CountingBitSet;
 pub use overflowing::SafelyOverflowingIndexQueue;
 pub use queues::{IndexQueue, Queue};
 pub use unique::UniqueIndexSet;

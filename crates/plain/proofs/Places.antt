@@ -1,0 +1,4 @@
+pub mod Empties
+pub mod Flags
+pub mod Resets
+pub mod Sets

@@ -1,0 +1,88 @@
+-- The flags of places in the words of a bit set.
+use Rattle.std.proofs.Common.{◌≡◌, ◌≢◌, ℕ, zero, suc, ◌+◌, ◌<◌, ◌≤◌, ⊎_elim, Bool, true, false, eqb, List, [], ◌∷◌, length, refl, sym, ap, subst, ◌∙◌, arith, slice_index, slice_set, get_or-set_same, get_or-set_other}
+use Rattle.std.specs.Prelude.{map, slice_index_or}
+use Rattle.std.specs.List.{range_with_len}
+use Rattle.std.proofs.lemmas.Bool.Decides.{eqb_tells}
+use Rattle.std.proofs.lemmas.List.{get_or_past}
+use Rattle.std.proofs.lemmas.List.FromFn.{get_or-map-range_with_len, length-map-range_with_len}
+use Rattle.steps.specs.Bits.Words.{element_of, bit_of, has_flag, stands}
+use Rattle.steps.proofs.Flags.Words.{places_apart}
+use Rattle.plain.specs.Bits.{flags_in}
+
+-- ---- lists of flags
+
+pub map_same : (f g : ℕ → Bool) (n a : ℕ) → ((q : ℕ) → a ≤ q → q < a + n → g q ≡ f q)
+    → map g (range_with_len a n) ≡ map f (range_with_len a n)
+map_same f g zero a h = refl
+map_same f g (suc n) a h =
+    let head = h a (omega arith) (omega arith) in
+    let tail = map_same f g n (a + 1) (λ q low high. h q (omega arith) (omega arith)) in
+    λ i. head i ∷ tail i
+
+-- one of them changes
+pub map_changed : (f g : ℕ → Bool) (b : Bool) (n a k p : ℕ) → k < n → a + k ≡ p → g p ≡ b
+    → ((q : ℕ) → q ≢ p → g q ≡ f q)
+    → map g (range_with_len a n) ≡ slice_set (map f (range_with_len a n)) k b
+map_changed f g b zero a k p low is new same = absurd (omega arith)
+map_changed f g b (suc n) a zero p low is new same =
+    let here : a ≡ p = omega arith in
+    let head : g a ≡ b = ap g here ∙ new in
+    let tail = map_same f g n (a + 1) (λ q from below. same q (λ e. absurd (omega arith))) in
+    λ i. head i ∷ tail i
+map_changed f g b (suc n) a (suc k) p low is new same =
+    let head : g a ≡ f a = same a (λ e. absurd (omega arith)) in
+    let tail = map_changed f g b n (a + 1) k p (omega arith) (omega arith) new same in
+    λ i. head i ∷ tail i
+
+module _ (capacity : ℕ) (words : List ℕ) where
+  pub flag_at : (p : ℕ) → p < capacity
+      → slice_index_or (flags_in capacity words) p false ≡ stands words p
+  flag_at p low = get_or-map-range_with_len (stands words) 0 capacity p p false low (omega arith)
+
+  pub flags_length : length (flags_in capacity words) ≡ capacity
+  flags_length = length-map-range_with_len (stands words) 0 capacity
+
+  pub flag_past : (p : ℕ) → capacity ≤ p
+      → slice_index_or (flags_in capacity words) p false ≡ false
+  flag_past p high =
+      get_or_past (flags_in capacity words) p false (let n = flags_length in omega arith)
+
+pub same_flags : (capacity : ℕ) (ws vs : List ℕ)
+    → ((p : ℕ) → slice_index vs (element_of p) ≡ slice_index ws (element_of p))
+    → flags_in capacity vs ≡ flags_in capacity ws
+same_flags capacity ws vs same =
+    map_same (stands ws) (stands vs) capacity 0 (λ p low high. ap (λ w. has_flag w p) (same p))
+
+-- ---- one flag of the words changes
+
+module _ (words : List ℕ) (place new : ℕ) (near : element_of place < length words) (b : Bool)
+    (is : has_flag new place ≡ b)
+    (leaves : (q : ℕ) → bit_of place ≢ bit_of q
+    → has_flag new q ≡ has_flag (slice_index words (element_of place)) q) where
+  abbrev now : List ℕ
+  now = slice_set words (element_of place) new
+
+  pub changed : stands now place ≡ b
+  changed =
+      ap (λ w. has_flag w place) (get_or-set_same words (element_of place) new 0 near) ∙ is
+
+  elsewhere : (q : ℕ) → element_of q ≢ element_of place → stands now q ≡ stands words q
+  elsewhere q other =
+      ap (λ w. has_flag w q) (get_or-set_other words (element_of place) (element_of q) new 0 other)
+
+  pub unchanged : (q : ℕ) → q ≢ place → stands now q ≡ stands words q
+  unchanged q other =
+      ⊎_elim
+      (λ (t : (eqb (element_of q) (element_of place) ≡ true) × (element_of q ≡ element_of place)).
+      let e = t.1 in
+      ap (λ (k : ℕ). has_flag (slice_index now k) q) e
+      ∙ (ap (λ w. has_flag w q) (get_or-set_same words (element_of place) new 0 near)
+      ∙ (leaves q (λ bits. other (omega arith))
+      ∙ ap (λ (k : ℕ). has_flag (slice_index words k) q) (sym e))))
+      (λ t. elsewhere q t.1)
+      (eqb_tells (element_of q) (element_of place))
+
+  pub flags_change : (capacity : ℕ) → place < capacity
+      → flags_in capacity now ≡ slice_set (flags_in capacity words) place b
+  flags_change capacity low =
+      map_changed (stands words) (stands now) b capacity 0 place place low (omega arith) changed unchanged

@@ -1,0 +1,17 @@
+-- The words of a bit set, read as a set of places.
+use Rattle.std.specs.Prelude.{◌≡◌, ◌≤◌, ◌<◌, ℕ, ◌+◌, ◌^◌, Bool, List, length, map, slice_index}
+use Rattle.std.specs.List.{range_with_len}
+use Rattle.steps.specs.Bits.Words.{elements, stands}
+use Rattle.steps.specs.Objects.Places.{Places}
+
+abbrev pub flags_in : ℕ → List ℕ → List Bool
+flags_in capacity words = map (stands words) (range_with_len 0 capacity)
+
+abbrev pub places_in : ℕ → List ℕ → Places
+places_in capacity words =
+    record { flags = flags_in capacity words; start = slice_index words 0 }
+
+pub record Fits (capacity : ℕ) (words : List ℕ) : Type 0 where
+  pub long : length words ≡ 1 + elements capacity
+  pub small : capacity < 2 ^ 32
+  pub start : slice_index words 0 ≤ capacity

@@ -1,0 +1,134 @@
+//! The bit set of one caller.
+ghost use Rattle.std.specs.Prelude.{◌≡◌, ◌<◌, ◌-◌, ◌^◌, ◌⊎◌, not, length, IfOk, IfErr, OnOk, Some, None};
+ghost use Rattle.steps.specs.Enums.{capacity_refusal};
+ghost use Rattle.steps.specs.Objects.Places.{Places, unset, has, with_place, standing, next_place, after_next, emptied};
+ghost use Rattle.steps.specs.declared.enums.UniqueIndexCreationError.TheVariants.{NoMemory};
+ghost use Rattle.plain.specs.Alone.{Turns};
+ghost use Rattle.plain.specs.Bits.{places_in, Fits};
+ghost use Rattle.plain.specs.Visits.{Takes, WasCalled};
+
+use crate::drive::drive;
+use crate::swaps::{call_standing, refill};
+use std::alloc::Global;
+use std::marker::Model;
+use steps::bits::bit_set::{ResetNext, Set};
+use steps::bits::flags::{FIRST_ELEMENT, elements, has_flag};
+use steps::bits::reset_all::ResetAll;
+use steps::enums::{UniqueIndexCreationError, capacity_refusal};
+
+/// A set of places below a capacity. After `BitSet` of the Rust crate, for one caller.
+#[derive(Drop)]
+pub struct BitSet {
+    words: Vec<u64>,
+    capacity: u32,
+}
+
+impl Model for BitSet {
+    ghost Value = { Places };
+
+    ghost view = { λ s. places_in s.capacity s.words.items };
+
+    ghost invariant = { λ s. Fits s.capacity s.words.items };
+}
+
+/// A place is set, over the words of a set.
+fn set(words: &mut Vec<u64>, capacity: u32, place: u64) -> bool
+    requires fits { Fits capacity words.old.items }
+    requires below { place < capacity }
+    ensures { Turns (Fits capacity) (places_in capacity) (λ s. not (has s place))
+        (λ s. with_place s place) words.old.items result words.new.items }
+{
+    let mut room = ();
+    drive(words, Set::new(), &place, &mut room)
+}
+
+/// The next place is reset, over the words of a set.
+fn reset_next(words: &mut Vec<u64>, capacity: u32) -> Option<u64>
+    requires { Fits capacity words.old.items }
+    ensures { Turns (Fits capacity) (places_in capacity) next_place after_next words.old.items
+        result words.new.items }
+{
+    let mut room = ();
+    drive(words, ResetNext::new(capacity), &(), &mut room)
+}
+
+/// An emptying, over the words of a set.
+fn empty<F: FnMut(usize)>(words: &mut Vec<u64>, capacity: u32, mut visit: F)
+    requires fits { Fits capacity words.old.items }
+    requires takes { Takes F.pre F.step (standing (places_in capacity words.old.items)) visit }
+    ensures fits { Fits capacity words.new.items }
+    ensures places { places_in capacity words.new.items
+        ≡ emptied (places_in capacity words.old.items) }
+    ensures calls { WasCalled F.step (standing (places_in capacity words.old.items)) visit }
+{
+    let mut call = ResetAll::bits(capacity);
+    let mut found = 0;
+    for place in 0..capacity {
+        found = refill(words, &mut call, place, found);
+        visit = call_standing(visit, has_flag(found, place as u64), place);
+    }
+}
+
+impl BitSet {
+    /// Sets the place, and answers whether it was not set.
+    pub fn set(&mut self, place: usize) -> bool
+        requires { place < length self.old.flags }
+        ensures answer { result ≡ not (has self.old place) }
+        ensures places { self.new ≡ with_place self.old place }
+    {
+        set(&mut self.words, self.capacity, place as u64)
+    }
+
+    /// Resets the least place that stands and is not below the start, else the least that stands; the start is then
+    /// the place after it. None where no place stands.
+    pub fn reset_next(&mut self) -> Option<usize>
+        ensures answer { result ≡ next_place self.old }
+        ensures places { self.new ≡ after_next self.old }
+    {
+        match reset_next(&mut self.words, self.capacity) {
+            Some(place) => Some(place as usize),
+            None => None,
+        }
+    }
+
+    /// Calls `visit` with each place that stands, ascending, and resets all places.
+    pub fn reset_all<F: FnMut(usize)>(&mut self, visit: F)
+        requires { Takes F.pre F.step (standing self.old) visit }
+        ensures places { self.new ≡ emptied self.old }
+        ensures calls { WasCalled F.step (standing self.old) visit }
+    {
+        empty(&mut self.words, self.capacity, visit);
+    }
+
+    /// How many places there are.
+    pub fn capacity(&self) -> usize
+        ensures { result ≡ length self.now.flags }
+    {
+        self.capacity as usize
+    }
+
+    /// A set of which no place stands.
+    ///
+    /// Refused are, in this order, a capacity above 2^32 - 1 (`ProvidedCapacityGreaterThanMaxCapacity`) and memory
+    /// (`NoMemory`).
+    #[tactic(auto, using(crate::proofs::Places::Empties::opened))]
+    pub fn new(alloc: Global, capacity: usize) -> Result<BitSet, UniqueIndexCreationError>
+        ensures places { IfOk result (λ s. s ≡ unset capacity) }
+        ensures admitted { OnOk result (capacity_refusal 0 (2 ^ 32 - 1) capacity ≡ None) }
+        ensures refused { IfErr result (λ e. (capacity_refusal 0 (2 ^ 32 - 1) capacity ≡ Some e)
+            ⊎ (capacity_refusal 0 (2 ^ 32 - 1) capacity ≡ None) × (e ≡ NoMemory)) }
+    {
+        if let Some(error) = capacity_refusal(capacity as u64, 0, u32::MAX as u64) {
+            return Err(error);
+        }
+        let capacity = capacity as u32;
+        let mut words = Vec::new(alloc);
+        if words
+            .resize(FIRST_ELEMENT + elements(capacity) as usize, 0)
+            .is_err()
+        {
+            return Err(UniqueIndexCreationError::NoMemory);
+        }
+        Ok(BitSet { words, capacity })
+    }
+}
