@@ -4,9 +4,11 @@
 
 mod drive;
 pub mod queues;
+pub mod robust_unique_index_set;
 pub mod unique;
 pub mod value;
 
 pub use queues::{IndexQueue, Queue};
+pub use robust_unique_index_set::RobustUniqueIndexSet;
 pub use unique::UniqueIndexSet;
 pub use value::UnrestrictedAtomic;
