@@ -2,6 +2,8 @@ pub mod Alone
 pub mod Emptied
 pub mod Lists
 pub mod Places
+pub mod Robust
 pub mod Stacks
 pub mod Values
 pub mod Words
+pub mod Walks

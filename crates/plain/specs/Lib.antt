@@ -1,7 +1,9 @@
 pub mod Alone
 pub mod Bits
+pub mod Callable
 pub mod Overflowing
 pub mod Queues
+pub mod Robust
 pub mod Unique
 pub mod Value
 pub mod Visits

@@ -8,6 +8,7 @@ mod drive;
 pub mod overflowing;
 pub mod queues;
 mod swaps;
+pub mod robust_unique_index_set;
 pub mod unique;
 pub mod value;
 
@@ -15,5 +16,6 @@ pub use bits::BitSet;
 pub use counts::CountingBitSet;
 pub use overflowing::SafelyOverflowingIndexQueue;
 pub use queues::{IndexQueue, Queue};
+pub use robust_unique_index_set::RobustUniqueIndexSet;
 pub use unique::UniqueIndexSet;
 pub use value::UnrestrictedAtomic;

@@ -74,7 +74,8 @@ impl OwnerId {
 
     /// The owner's number.
     pub fn value(self) -> u64
-        ensures { result ≡ self }
+        ensures number { result ≡ self }
+        ensures named { result < 2 ^ 64 - 1 }
     {
         self.number
     }

@@ -1,0 +1,235 @@
+-- A find with its closure, from one question to the next.
+use Rattle.std.proofs.Common.{◌≡◌, ◌≢◌, ℕ, suc, ◌+◌, ◌-◌, ◌^◌, ◌<◌, ◌≤◌, inl, inr, ◌⊎◌, Bool, true, false, nat_lt, if◌then◌else◌, List, [], ◌∷◌, ◌++◌, length, drop, refl, sym, ap, subst, ◌∙◌, arith}
+use Rattle.std.specs.List.{FoldsTo}
+use Rattle.std.proofs.lemmas.List.{append_assoc, append-nil, length-append, length-drop}
+use Rattle.std.proofs.lemmas.Bool.Decides.{nat_tests}
+use Rattle.steps.specs.Indices.Robust.Parts.{empty}
+use Rattle.steps.specs.Indices.Robust.Find.{at_find, first_find, find_comes_to, find_want, find_after}
+use Rattle.steps.specs.declared.ask.After.{After}
+use Rattle.steps.specs.declared.ask.After.TheVariants.{GoOn, Done}
+use Rattle.steps.specs.declared.ask.Question.{Question}
+use Rattle.steps.specs.declared.enums.CallbackProgression.{CallbackProgression}
+use Rattle.steps.specs.declared.enums.CallbackProgression.TheVariants.{Continue, Stop}
+use Rattle.steps.specs.declared.indices.robust.find.Find.{Find}
+use Rattle.steps.specs.declared.indices.robust.find.FindStage as finds
+use Rattle.steps.specs.Objects.Owners.{indices_of}
+use Rattle.plain.specs.declared.drive.Stop as stops
+use Rattle.steps.specs.declared.ask.Want.{Want}
+use Rattle.plain.specs.Alone.{CanStop, StopsAlike}
+use Rattle.plain.specs.Callable.{TakesIndices, HasFound, index_in, as_answer}
+use Rattle.plain.specs.Robust.{owners_in, Fits}
+use Rattle.plain.proofs.Alone.{Halts, can_stop, stops_so}
+use Rattle.plain.proofs.Walks.{Walks, Goes, halts}
+use Rattle.plain.proofs.Robust.Finds.{mine, AsksAt, StopsAt, finds_on}
+
+pub folds_more : {P A : Type 0} (R : P → A → P → Type 0) (p q r : P) (xs : List A) (x : A)
+    → FoldsTo R p xs q → R q x r → FoldsTo R p (xs ++ x ∷ []) r
+folds_more R p q r [] x e h = (r, subst (λ z. R z x r) (sym e) h, refl)
+folds_more R p q r (y ∷ xs) x t h = (t.0, t.1, folds_more R t.0 q r xs x t.2 h)
+
+module _ {F : Type 0} (step : F → ℕ → CallbackProgression → F → Type 0) (f : F) (capacity owner g : ℕ) (cells : List ℕ)
+    (long : length cells ≡ capacity) (few : capacity < 2 ^ 32) (lives : owner < empty) where
+  abbrev all : List ℕ
+  all = indices_of (owners_in (g ∷ cells)) owner
+
+  abbrev HaltsAt : ℕ → List ℕ → Find → Type 0
+  HaltsAt count left call =
+      Halts (λ c (given : ℕ). find_want c) find_after (λ c (room : Unit {0}) old. room) owner (λ s room ws. StopsAt capacity owner g cells long few lives count left s ws) call tt (g ∷ cells)
+
+  -- it came to these, was told each time to go on, and these are left
+  pub record Finding (done : ℕ) (call : Find) (now : F) : Type 0 where
+    pub before : List ℕ
+    pub left : List ℕ
+    pub joined : before ++ left ≡ all
+    pub calls : FoldsTo (λ p x q. step p x Continue q) f before now
+    pub number : length before ≡ done
+    pub low : done ≤ capacity
+    pub run : HaltsAt done left call
+
+  abbrev pub Onward : ℕ → After Find ℕ → F → Type 0
+  Onward done (GoOn call) now = Finding done call now
+  Onward done (Done n) now = HasFound step all f n now
+
+  found_all : (before : List ℕ) (now : F) (n : ℕ) → before ++ [] ≡ all → FoldsTo (λ p x q. step p x Continue q) f before now
+      → n ≡ length before → HasFound step all f n now
+  found_all before now n joined calls number =
+      record { before = before; now = now; calls = calls; ended = inl (sym (append-nil before) ∙ joined, refl, number) }
+
+  goes_on : (rest before left : List ℕ) (now : F) (a : After Find ℕ) (done : ℕ) → length rest ≤ capacity → before ++ left ≡ all
+      → FoldsTo (λ p x q. step p x Continue q) f before now → length before ≡ done → done ≤ capacity
+      → Goes (λ c. find_want c) (λ c old. find_after c owner old) (suc (length rest)) (StopsAt capacity owner g cells long few lives done left) a (g ∷ cells)
+      → Onward done a now
+  goes_on rest before left now (GoOn d) done short joined calls number low t =
+      record {
+        before = before;
+        left = left;
+        joined = joined;
+        calls = calls;
+        number = number;
+        low = low;
+        run = halts (λ c (given : ℕ). find_want c) find_after owner (suc (length rest)) (StopsAt capacity owner g cells long few lives done left) d (g ∷ cells) (omega arith) t;
+      }
+  goes_on rest before left now (Done n) done short joined calls number low t =
+      found_all before now n (ap (λ l. before ++ l) (sym t.0) ∙ joined) calls (t.1 ∙ sym number)
+
+  pub begins : 1 ≤ capacity → Finding 0 (first_find capacity) f
+  begins some =
+      let starts : find_comes_to (first_find capacity) 0 0 ≡ GoOn (first_find capacity) =
+      ap (λ b. if b then GoOn (first_find capacity) else Done 0) (let t : nat_lt 0 capacity ≡ true = grind (arith, nat_tests, some) in t) in
+      subst (λ a. Onward 0 a f) starts
+      (goes_on cells [] all f (find_comes_to (first_find capacity) 0 0) 0 (omega arith) refl refl refl (omega arith)
+      (finds_on capacity owner g cells long few lives cells 0 0 all refl (omega arith) refl))
+
+  -- ---- where it stops
+
+  module _ (done : ℕ) (call : Find) (now : F) (so_far : Finding done call now) (last : List ℕ) where
+    pub ended : (n : ℕ) → StopsAt capacity owner g cells long few lives done so_far.left (stops.TheVariants.Ended n) last
+        → HasFound step all f n now × (last ≡ g ∷ cells)
+    ended n t =
+        (found_all so_far.before now n (ap (λ l. so_far.before ++ l) (sym t.0) ∙ so_far.joined) so_far.calls (t.1 ∙ sym so_far.number), t.2)
+
+    module _ (question : Question (Unit {0})) (asks : Find)
+        (at : StopsAt capacity owner g cells long few lives done so_far.left (stops.TheVariants.Asked question asks) last) where
+      index_is : index_in question ≡ at.index
+      index_is = ap index_in at.asks
+
+      pub may_visit : {pre : F → ℕ → Type 0} → TakesIndices pre step all f → pre now (index_in question)
+      may_visit {pre} may =
+          subst (pre now) (sym index_is)
+          (may.at so_far.before now at.index (mine owner (at.index + 1) at.rest) so_far.calls
+          (ap (λ l. so_far.before ++ l) (sym at.left_is) ∙ so_far.joined))
+
+      pub same : last ≡ g ∷ cells
+      same = at.same
+
+      pub onward : (a : CallbackProgression) (next : F) → step now (index_in question) a next
+          → Onward (done + 1) (find_after asks owner (as_answer a)) next
+      onward Continue next t =
+          let long_rest : length at.rest ≤ capacity =
+          let l = length-drop (at.index + 1) cells in let e = ap length at.rest_is in omega arith in
+          let near = at.near in
+          let low = at.low in
+          subst (λ c. Onward (done + 1) (find_after c owner 1) next) (sym at.stands)
+          (goes_on at.rest (so_far.before ++ at.index ∷ []) (mine owner (at.index + 1) at.rest) next
+          (find_comes_to (first_find capacity) (at.index + 1) (done + 1)) (done + 1) long_rest
+          (append_assoc so_far.before (at.index ∷ []) (mine owner (at.index + 1) at.rest) ∙ (ap (λ l. so_far.before ++ l) (sym at.left_is) ∙ so_far.joined))
+          (folds_more (λ p x q. step p x Continue q) f now next so_far.before at.index so_far.calls (subst (λ i. step now i Continue next) index_is t))
+          (length-append so_far.before (at.index ∷ []) ∙ ap (λ n. n + 1) so_far.number)
+          (omega arith)
+          (finds_on capacity owner g cells long few lives at.rest (at.index + 1) (done + 1) (mine owner (at.index + 1) at.rest) at.rest_is (omega arith) refl))
+      onward Stop next t =
+          subst (λ c. Onward (done + 1) (find_after c owner 0) next) (sym at.stands)
+          (record {
+            before = so_far.before;
+            now = now;
+            calls = so_far.calls;
+            ended = inr (
+              at.index,
+              mine owner (at.index + 1) at.rest,
+              ap (λ l. so_far.before ++ l) (sym at.left_is) ∙ so_far.joined,
+              subst (λ i. step now i Stop next) index_is t,
+              ap (λ n. n + 1) (sym so_far.number),
+            );
+          })
+
+-- ---- the same over any words
+
+module _ {F : Type 0} (step : F → ℕ → CallbackProgression → F → Type 0) (f : F) (capacity owner : ℕ) where
+  abbrev pub Searching : List ℕ → ℕ → Find → F → List ℕ → Type 0
+  Searching [] done call now words = ⊥
+  Searching (g ∷ cells) done call now words =
+      (long : length cells ≡ capacity) × (few : capacity < 2 ^ 32) × (lives : owner < empty) × (words ≡ g ∷ cells)
+      × Finding step f capacity owner g cells long few lives done call now
+
+  abbrev pub Further : List ℕ → ℕ → After Find ℕ → F → List ℕ → Type 0
+  Further first done (GoOn call) now words = Searching first done call now words
+  Further first done (Done n) now words =
+      HasFound step (indices_of (owners_in first) owner) f n now × (words ≡ first)
+
+  pub starts : (first : List ℕ) (call : Find) → call ≡ first_find capacity → Fits capacity first → owner < empty → Searching first 0 call f first
+  starts [] call is fits lives = let e : 0 ≡ 1 + capacity = fits.long in absurd (omega arith)
+  starts (g ∷ cells) call is fits lives =
+      let long : length cells ≡ capacity = let e : suc (length cells) ≡ 1 + capacity = fits.long in omega arith in (
+        long,
+        fits.few,
+        lives,
+        refl,
+        subst (λ c. Finding step f capacity owner g cells long fits.few lives 0 c f) (sym is) (begins step f capacity owner g cells long fits.few lives fits.some),
+      )
+
+  abbrev kept : Find → Unit {0} → ℕ → Unit {0}
+  kept c room old = room
+
+  abbrev want : Find → ℕ → Want (Unit {0})
+  want c given = find_want c
+
+  pub can_go : (first : List ℕ) (done : ℕ) (call : Find) (now : F) (words : List ℕ) → Searching first done call now words
+      → CanStop want find_after kept owner call tt words
+  can_go [] done call now words t = absurd t
+  can_go (g ∷ cells) done call now words t =
+      subst (λ ws. CanStop want find_after kept owner call tt ws) (sym t.3)
+      (can_stop want find_after kept owner _ call tt (g ∷ cells) t.4.run)
+
+  pub ended_so : (first : List ℕ) (done : ℕ) (call : Find) (now : F) (words : List ℕ) (n : ℕ) (r : Unit {0}) (last : List ℕ)
+      → Searching first done call now words
+      → StopsAlike want find_after kept owner call tt words (stops.TheVariants.Ended n) r last
+      → HasFound step (indices_of (owners_in first) owner) f n now × (last ≡ first)
+  ended_so [] done call now words n r last t alike = absurd t
+  ended_so (g ∷ cells) done call now words n r last t alike =
+      ended step f capacity owner g cells t.0 t.1 t.2 done call now t.4 last n
+      (stops_so want find_after kept owner _ call tt (g ∷ cells) t.4.run (stops.TheVariants.Ended n) r last
+      (subst (λ ws. StopsAlike want find_after kept owner call tt ws (stops.TheVariants.Ended n) r last) t.3 alike))
+
+  pub may_so : (first : List ℕ) (done : ℕ) (call : Find) (now : F) (words : List ℕ) (question : Question (Unit {0})) (asks : Find) (r : Unit {0}) (last : List ℕ)
+      → Searching first done call now words
+      → StopsAlike want find_after kept owner call tt words (stops.TheVariants.Asked question asks) r last
+      → (index : ℕ) → index ≡ index_in question
+      → {pre : F → ℕ → Type 0} → TakesIndices pre step (indices_of (owners_in first) owner) f → pre now index
+  may_so [] done call now words question asks r last t alike index is {pre} may = absurd t
+  may_so (g ∷ cells) done call now words question asks r last t alike index is {pre} may =
+      subst (pre now) (sym is)
+      (may_visit step f capacity owner g cells t.0 t.1 t.2 done call now t.4 last question asks
+      (stops_so want find_after kept owner _ call tt (g ∷ cells) t.4.run (stops.TheVariants.Asked question asks) r last
+      (subst (λ ws. StopsAlike want find_after kept owner call tt ws (stops.TheVariants.Asked question asks) r last) t.3 alike)) may)
+
+  further : (g : ℕ) (cells : List ℕ) (long : length cells ≡ capacity) (few : capacity < 2 ^ 32) (lives : owner < empty) (done : ℕ)
+      (a : After Find ℕ) (now : F) (words : List ℕ) → words ≡ g ∷ cells
+      → Onward step f capacity owner g cells long few lives done a now → Further (g ∷ cells) done a now words
+  further g cells long few lives done (GoOn call) now words same h = (long, few, lives, same, h)
+  further g cells long few lives done (Done n) now words same h = (h, same)
+
+  pub goes_further : (first : List ℕ) (done : ℕ) (call : Find) (now : F) (words : List ℕ) (question : Question (Unit {0})) (asks : Find) (r : Unit {0}) (last : List ℕ)
+      → Searching first done call now words
+      → StopsAlike want find_after kept owner call tt words (stops.TheVariants.Asked question asks) r last
+      → (a : CallbackProgression) (next : F) → step now (index_in question) a next
+      → Further first (done + 1) (find_after asks owner (as_answer a)) next last
+  goes_further [] done call now words question asks r last t alike a next called = absurd t
+  goes_further (g ∷ cells) done call now words question asks r last t alike a next called =
+      let at = stops_so want find_after kept owner _ call tt (g ∷ cells) t.4.run (stops.TheVariants.Asked question asks) r last
+      (subst (λ ws. StopsAlike want find_after kept owner call tt ws (stops.TheVariants.Asked question asks) r last) t.3 alike) in
+      further g cells t.0 t.1 t.2 (done + 1) (find_after asks owner (as_answer a)) next last
+      (same step f capacity owner g cells t.0 t.1 t.2 done call now t.4 last question asks at)
+      (onward step f capacity owner g cells t.0 t.1 t.2 done call now t.4 last question asks at a next called)
+
+  pub further_so : (first : List ℕ) (done : ℕ) (call : Find) (now : F) (words : List ℕ) (question : Question (Unit {0})) (asks : Find) (r : Unit {0}) (last : List ℕ)
+      → Searching first done call now words
+      → StopsAlike want find_after kept owner call tt words (stops.TheVariants.Asked question asks) r last
+      → (index : ℕ) → index ≡ index_in question → (a : CallbackProgression) (next : F) → step now index a next
+      → (answer : ℕ) → answer ≡ as_answer a → (b : After Find ℕ) → b ≡ find_after asks owner answer
+      → Further first (done + 1) b next last
+  further_so first done call now words question asks r last t alike index is a next called answer said b goes =
+      subst (λ z. Further first (done + 1) z next last) (sym (goes ∙ ap (find_after asks owner) said))
+      (goes_further first done call now words question asks r last t alike a next (subst (λ i. step now i a next) is called))
+
+  -- it does not go on for ever
+  pub few_rounds : (first : List ℕ) (done : ℕ) (call : Find) (now : F) (words : List ℕ) → Searching first done call now words → done < 2 ^ 64 - 1
+  few_rounds [] done call now words t = absurd t
+  few_rounds (g ∷ cells) done call now words t = let low = t.4.low in let few = t.1 in omega arith
+
+pub takes_at : {F : Type 0} {pre : F → ℕ → Type 0} {step : F → ℕ → CallbackProgression → F → Type 0} {a b : List ℕ} {f : F}
+    → a ≡ b → TakesIndices pre step a f → TakesIndices pre step b f
+takes_at {F} {pre} {step} {a} {b} {f} e h = subst (λ z. TakesIndices pre step z f) e h
+
+pub found_at : {F : Type 0} {step : F → ℕ → CallbackProgression → F → Type 0} {a b : List ℕ} {f last : F} {n : ℕ}
+    → a ≡ b → HasFound step a f n last → HasFound step b f n last
+found_at {F} {step} {a} {b} {f} {last} {n} e h = subst (λ z. HasFound step z f n last) e h

@@ -1,0 +1,82 @@
+-- The looks at a robust set that run alone.
+use Rattle.std.proofs.Common.{◌≡◌, ◌≢◌, ℕ, zero, suc, ◌+◌, ◌-◌, ◌^◌, ◌<◌, ◌≤◌, Bool, ◌==◌, List, [], ◌∷◌, length, map, replicate, slice_set, None, refl, sym, ap, subst, ◌∙◌, arith, eq-eqb, ne_eqb, if◌then◌else◌}
+use Rattle.steps.specs.Queues.Ring.{load}
+use Rattle.steps.specs.Indices.Robust.Parts.{empty, locked, count_want, count_after}
+use Rattle.steps.specs.Indices.Robust.Looks.{first_borrowed, borrowed_want, borrowed_after, borrowed_counted, locked_after}
+use Rattle.steps.specs.declared.indices.robust.parts.Count as counts
+use Rattle.steps.specs.declared.indices.robust.looks.BorrowedIndices.{BorrowedIndices}
+use Rattle.steps.specs.declared.indices.robust.looks.IsLocked.{IsLocked}
+use Rattle.plain.specs.Alone.{Turns}
+use Rattle.steps.specs.Objects.Owners.{Owners, opened_at, next_generation, is_locked, raised, borrowed}
+use Rattle.plain.specs.Robust.{owner_in, owners_in, Fits}
+use Rattle.plain.proofs.Alone.{Runs}
+use Rattle.plain.proofs.Walks.{plus, plus_sum, Walks, OnEnd, part_walks, runs}
+use Rattle.plain.proofs.Robust.Parts.{number, count_walks, next_there, next_small}
+
+module _ (capacity g : ℕ) (cells : List ℕ) (small : g < 2 ^ 64) (long : length cells ≡ capacity) (few : capacity < 2 ^ 32) where
+  abbrev pub Counted : ℕ → List ℕ → Type 0
+  Counted end last = Turns (Fits capacity) owners_in borrowed raised (g ∷ cells) end last
+
+  pub borrowed_walks : 1 ≤ capacity
+      → Walks (λ (c : BorrowedIndices). borrowed_want c) (λ c old. borrowed_after c old) (plus (suc (suc (suc (length cells)))) 0) (OnEnd Counted) (first_borrowed capacity) (g ∷ cells)
+  borrowed_walks some =
+      part_walks (λ c. borrowed_want c) (λ c old. borrowed_after c old) count_want (count_after capacity)
+      (λ count. record { capacity = capacity; count = count }) (borrowed_counted (first_borrowed capacity))
+      (λ d. refl) (λ d old. refl) (λ d. refl) (suc (suc (suc (length cells)))) 0 (OnEnd Counted) counts.TheVariants.LoadsCounter (g ∷ cells)
+      (count_walks capacity g cells small long few _
+      (λ e. (
+        record { long = omega arith; some = some; few = few; small = small },
+        sym (ap (λ b. if b then 0 else number cells) (eq-eqb g locked e)),
+        (λ i. record { owners = map owner_in cells; generation = sym (next_there g (omega arith)) i }),
+      ))
+      (λ other. (
+        record { long = omega arith; some = some; few = few; small = next_small g small },
+        sym (ap (λ b. if b then 0 else number cells) (ne_eqb g locked other)),
+        refl,
+      )))
+
+  pub borrowed_runs : 1 ≤ capacity
+      → Runs (λ (c : BorrowedIndices) (given : Unit {0}). borrowed_want c) (λ c given old. borrowed_after c old) (λ c (room : Unit {0}) old. room) tt (λ e room ws. Counted e ws) (first_borrowed capacity) tt (g ∷ cells)
+  borrowed_runs some =
+      runs (λ (c : BorrowedIndices) (given : Unit {0}). borrowed_want c) (λ c given old. borrowed_after c old) tt (plus (suc (suc (suc (length cells)))) 0) Counted (first_borrowed capacity) (g ∷ cells)
+      (let e = plus_sum (suc (suc (suc (length cells)))) 0 in omega arith) (borrowed_walks some)
+
+  abbrev pub Looked : Bool → List ℕ → Type 0
+  Looked end last = Turns (Fits capacity) owners_in is_locked (λ s. s) (g ∷ cells) end last
+
+  pub looked_runs : (call : IsLocked) → 1 ≤ capacity
+      → Runs (λ (c : IsLocked) (given : Unit {0}). load 0) (λ c given old. locked_after c old) (λ c (room : Unit {0}) old. room) tt (λ e room ws. Looked e ws) call tt (g ∷ cells)
+  looked_runs call some =
+      runs (λ (c : IsLocked) (given : Unit {0}). load 0) (λ c given old. locked_after c old) tt 1 Looked call (g ∷ cells) (omega arith)
+      (record { long = omega arith; some = some; few = few; small = small }, refl, refl)
+
+-- ---- the same over any words that fit
+
+pub borrowed_at : (capacity : ℕ) (call : BorrowedIndices) → call ≡ first_borrowed capacity → (words : List ℕ) → Fits capacity words
+    → Runs (λ (c : BorrowedIndices) (given : Unit {0}). borrowed_want c) (λ c given old. borrowed_after c old) (λ c (room : Unit {0}) old. room) tt
+    (λ e room ws. Turns (Fits capacity) owners_in borrowed raised words e ws) call tt words
+borrowed_at capacity call is [] fits = let e : 0 ≡ 1 + capacity = fits.long in absurd (omega arith)
+borrowed_at capacity call is (g ∷ cells) fits =
+    subst (λ c. Runs (λ (c : BorrowedIndices) (given : Unit {0}). borrowed_want c) (λ c given old. borrowed_after c old) (λ c (room : Unit {0}) old. room) tt
+    (λ e room ws. Turns (Fits capacity) owners_in borrowed raised (g ∷ cells) e ws) c tt (g ∷ cells)) (sym is)
+    (borrowed_runs capacity g cells fits.small (let e : suc (length cells) ≡ 1 + capacity = fits.long in omega arith) fits.few fits.some)
+
+pub looked_at : (capacity : ℕ) (call : IsLocked) (words : List ℕ) → Fits capacity words
+    → Runs (λ (c : IsLocked) (given : Unit {0}). load 0) (λ c given old. locked_after c old) (λ c (room : Unit {0}) old. room) tt
+    (λ e room ws. Turns (Fits capacity) owners_in is_locked (λ s. s) words e ws) call tt words
+looked_at capacity call [] fits = let e : 0 ≡ 1 + capacity = fits.long in absurd (omega arith)
+looked_at capacity call (g ∷ cells) fits =
+    looked_runs capacity g cells fits.small (let e : suc (length cells) ≡ 1 + capacity = fits.long in omega arith) fits.few call fits.some
+
+-- ---- as it opens
+
+none_taken : (n : ℕ) → map owner_in (replicate n empty) ≡ replicate n None
+none_taken zero = refl
+none_taken (suc n) = λ i. None ∷ none_taken n i
+
+pub opens : (items : List ℕ) (capacity generation : ℕ) → items ≡ replicate (1 + capacity) empty
+    → owners_in (slice_set items 0 generation) ≡ opened_at capacity generation
+opens items capacity generation is =
+    let one_more : 1 + capacity ≡ suc capacity = omega arith in
+    ap (λ l. owners_in (slice_set l 0 generation)) (is ∙ ap (λ n. replicate n empty) one_more)
+    ∙ (λ i. record { owners = none_taken capacity i; generation = generation })

@@ -1,0 +1,197 @@
+-- Raise, count and lock that run alone.
+use Rattle.std.proofs.Common.{◌≡◌, ◌≢◌, ℕ, zero, suc, ◌+◌, ◌-◌, ◌^◌, ◌<◌, ◌≤◌, ⊎_elim, Bool, true, false, not, ◌==◌, ◌&&◌, nat_lt, List, [], ◌∷◌, length, drop, map, refl, sym, ap, subst, ◌∙◌, arith, Option, Some, None, slice_index, slice_set, eq-eqb, ne_eqb, if◌then◌else◌}
+use Rattle.std.proofs.lemmas.Bool.Decides.{nat_tests}
+use Rattle.std.proofs.lemmas.Bool.{cases_lt}
+use Rattle.std.proofs.lemmas.List.{drop_more, drop_all, length-drop}
+use Rattle.steps.specs.Picks.{by_test, by_eq}
+use Rattle.steps.specs.Indices.Robust.Parts.{cell_word, empty, locked, greatest, one_more, raise_want, raise_after, raise_sees, count_want, count_after, count_comes_to, lock_want, lock_after, lock_counted, first_lock}
+use Rattle.steps.specs.declared.ask.After.{After}
+use Rattle.steps.specs.declared.ask.After.TheVariants.{GoOn, Done}
+use Rattle.steps.specs.declared.indices.enums.ReleaseState.{ReleaseState}
+use Rattle.steps.specs.declared.indices.enums.ReleaseState.TheVariants.{Locked, Unlocked}
+use Rattle.steps.specs.declared.indices.robust.parts.Raise as raises
+use Rattle.steps.specs.declared.indices.robust.parts.Count as counts
+use Rattle.steps.specs.declared.indices.robust.parts.Counted as ends
+use Rattle.steps.specs.declared.indices.robust.parts.Lock as locks
+use Rattle.steps.specs.Objects.Owners.{next_generation, taken_from}
+use Rattle.plain.specs.Robust.{owner_in}
+use Rattle.plain.proofs.Walks.{plus, Walks, Goes, OnEnd, part_walks}
+
+-- ---- a place in the cells, with what stands from there on
+
+pub record Here (cells : List ℕ) (index word : ℕ) (rest : List ℕ) : Type 0 where
+  pub near : index < length cells
+  pub word_is : slice_index cells index ≡ word
+  pub rest_is : drop (index + 1) cells ≡ rest
+
+abbrev head_or : ℕ → List ℕ → ℕ
+head_or d [] = d
+head_or d (x ∷ xs) = x
+
+abbrev tail_of : List ℕ → List ℕ
+tail_of [] = []
+tail_of (x ∷ xs) = xs
+
+pub here : (cells : List ℕ) (index word : ℕ) (rest : List ℕ) → drop index cells ≡ word ∷ rest
+    → Here cells index word rest
+here cells index word rest is =
+    ⊎_elim (λ (near : index < length cells).
+    let more = drop_more cells index 0 near in
+    record { near = near; word_is = ap (head_or 0) (sym more ∙ is); rest_is = ap tail_of (sym more ∙ is) })
+    (λ (far : length cells ≤ index).
+    let long = length-drop index cells in
+    let e : suc (length rest) ≡ length (drop index cells) = sym (ap length is) in absurd (omega arith))
+    (cases_lt index (length cells))
+
+pub past : (cells : List ℕ) (index : ℕ) → drop index cells ≡ [] → length cells ≤ index
+past cells index is =
+    let long = length-drop index cells in
+    let e : length (drop index cells) ≡ 0 = ap length is in omega arith
+
+-- a cell stands behind the counter
+pub next_cell : (g i : ℕ) (cells : List ℕ) → slice_index (g ∷ cells) (cell_word i) ≡ slice_index cells i
+next_cell g i cells = ap (slice_index (g ∷ cells)) (let e : 1 + i ≡ suc i = omega arith in e)
+
+pub next_set : (g i x : ℕ) (cells : List ℕ) → slice_set (g ∷ cells) (cell_word i) x ≡ g ∷ slice_set cells i x
+next_set g i x cells = ap (λ k. slice_set (g ∷ cells) k x) (let e : 1 + i ≡ suc i = omega arith in e)
+
+-- ---- raise
+
+pub next_below : (g : ℕ) → g ≢ locked → g ≢ greatest → g < 2 ^ 64 → next_generation g ≡ one_more g
+next_below g other less small =
+    let low : g < greatest = omega (arith, other, less) in
+    let t : nat_lt g greatest ≡ true = grind (arith, nat_tests, low) in
+    let more : g + 1 ≡ one_more g = omega arith in
+    ap (λ b. if b then g + 1 else g) t ∙ more
+
+pub next_there : (g : ℕ) → greatest ≤ g → next_generation g ≡ g
+next_there g far =
+    let t : nat_lt g greatest ≡ false = grind (arith, nat_tests, far) in
+    ap (λ b. if b then g + 1 else g) t
+
+module _ (g : ℕ) (cells : List ℕ) (small : g < 2 ^ 64) where
+  -- the exchange of the counter succeeds
+  exchanged : (new : ℕ) → (if g == g then slice_set (g ∷ cells) 0 new else g ∷ cells) ≡ new ∷ cells
+  exchanged new = ap (λ b. if b then new ∷ cells else g ∷ cells) (eq-eqb g g refl)
+
+  pub raise_walks : (P : ReleaseState → List ℕ → Type 0)
+      → (g ≡ locked → P Locked (next_generation g ∷ cells)) → (g ≢ locked → P Unlocked (next_generation g ∷ cells))
+      → Walks raise_want raise_after 2 (OnEnd P) raises.TheVariants.LoadsCounter (g ∷ cells)
+  raise_walks P shut opens =
+      by_eq (λ a. Goes raise_want raise_after 1 (OnEnd P) a (g ∷ cells)) g locked _ _
+      (λ e. subst (λ n. P Locked (n ∷ cells)) (next_there g (omega arith)) (shut e))
+      (λ other. by_eq (λ a. Goes raise_want raise_after 1 (OnEnd P) a (g ∷ cells)) g greatest _ _
+      (λ e. subst (λ n. P Unlocked (n ∷ cells)) (next_there g (omega arith)) (opens other))
+      (λ less. subst (λ ws. Goes raise_want raise_after 0 (OnEnd P) (if g == g then Done Unlocked else raise_sees g) ws) (sym (exchanged (one_more g)))
+      (by_eq (λ a. Goes raise_want raise_after 0 (OnEnd P) a (one_more g ∷ cells)) g g _ _
+      (λ _. subst (λ n. P Unlocked (n ∷ cells)) (next_below g other less small) (opens other))
+      (λ no. absurd (no refl)))))
+
+pub next_small : (g : ℕ) → g < 2 ^ 64 → next_generation g < 2 ^ 64
+next_small g small =
+    by_test (λ n. n < 2 ^ 64) (nat_lt g greatest) (g + 1) g
+    (λ t. let low : g < greatest = grind (arith, nat_tests) in omega arith) (λ _. small)
+
+-- ---- words and owners
+
+pub owner_free : (word : ℕ) → word ≡ empty → owner_in word ≡ None
+owner_free word e = ap (λ b. if b then None else Some word) (eq-eqb word empty e)
+
+pub owner_some : (word : ℕ) → word ≢ empty → owner_in word ≡ Some word
+owner_some word n = ap (λ b. if b then None else Some word) (ne_eqb word empty n)
+
+-- ---- count
+
+abbrev pub number : List ℕ → ℕ
+number cells = length (taken_from 0 (map owner_in cells))
+
+-- the counter that a lock leaves
+abbrev pub locking : ℕ → List ℕ → ℕ
+locking g cells =
+    if (number cells == 0) && not (next_generation g == greatest) then locked else next_generation g
+
+pub locking_small : (g : ℕ) (cells : List ℕ) → g < 2 ^ 64 → locking g cells < 2 ^ 64
+locking_small g cells small =
+    by_test (λ n. n < 2 ^ 64) ((number cells == 0) && not (next_generation g == greatest)) locked (next_generation g)
+    (λ _. omega arith) (λ _. next_small g small)
+
+abbrev pub state_number : ℕ → ReleaseState
+state_number n = if n == locked then Locked else Unlocked
+
+module _ (capacity g : ℕ) (cells : List ℕ) (small : g < 2 ^ 64) (long : length cells ≡ capacity) (few : capacity < 2 ^ 32) where
+  -- the cells from here on, and then the counter
+  scans : (P : ends.Counted → List ℕ → Type 0) (total : ℕ) → P (ends.TheVariants.Filled total (next_generation g)) (next_generation g ∷ cells)
+      → g ≢ locked → (rest : List ℕ) (index filled : ℕ) → drop index cells ≡ rest → filled ≤ index
+      → filled + length (taken_from index (map owner_in rest)) ≡ total
+      → Goes count_want (count_after capacity) (suc (suc (length rest))) (OnEnd P) (count_comes_to capacity g index filled) (g ∷ cells)
+  scans P total h other [] index filled is low sum =
+      let far = past cells index is in
+      let sum₀ : filled + 0 ≡ total = sum in
+      by_test (λ a. Goes count_want (count_after capacity) 2 (OnEnd P) a (g ∷ cells)) (nat_lt index capacity) _ _
+      (λ t. let near : index < capacity = grind (arith, nat_tests) in absurd (omega arith))
+      (λ _. by_eq (λ a. Goes count_want (count_after capacity) 2 (OnEnd P) a (g ∷ cells)) g greatest _ _
+      (λ e. let same : filled ≡ total = omega arith in
+      subst (λ (z : ℕ × ℕ). P (ends.TheVariants.Filled z.0 z.1) (z.1 ∷ cells)) (λ i. (sym same i, next_there g (omega arith) i)) h)
+      (λ less. subst (λ ws. Goes count_want (count_after capacity) 1 (OnEnd P) (if g == g then Done (ends.TheVariants.Filled filled (one_more g)) else GoOn counts.TheVariants.LoadsCounter) ws) (sym (exchanged g cells small (one_more g)))
+      (by_eq (λ a. Goes count_want (count_after capacity) 1 (OnEnd P) a (one_more g ∷ cells)) g g _ _
+      (λ _. let same : filled ≡ total = omega arith in
+      subst (λ (z : ℕ × ℕ). P (ends.TheVariants.Filled z.0 z.1) (z.1 ∷ cells)) (λ i. (sym same i, next_below g other less small i)) h)
+      (λ no. absurd (no refl)))))
+  scans P total h other (c ∷ rest) index filled is low sum =
+      let at = here cells index c rest is in
+      let near = at.near in
+      let word = next_cell g index cells ∙ at.word_is in
+      by_test (λ a. Goes count_want (count_after capacity) (suc (suc (suc (length rest)))) (OnEnd P) a (g ∷ cells)) (nat_lt index capacity) _ _
+      (λ _. by_eq (λ f. Goes count_want (count_after capacity) (suc (suc (length rest))) (OnEnd P) (count_comes_to capacity g (index + 1) f) (g ∷ cells)) (slice_index (g ∷ cells) (cell_word index)) empty filled (one_more filled)
+      (λ e. let free = owner_free c (sym word ∙ e) in
+      scans P total h other rest (index + 1) filled at.rest_is (omega arith)
+      (sym (ap (λ o. filled + length (taken_from index (o ∷ map owner_in rest))) free) ∙ sum))
+      (λ n. let some = owner_some c (λ e. n (word ∙ e)) in
+      let plain : one_more filled ≡ filled + 1 = omega arith in
+      let more : filled + suc (length (taken_from (index + 1) (map owner_in rest))) ≡ total =
+      sym (ap (λ o. filled + length (taken_from index (o ∷ map owner_in rest))) some) ∙ sum in
+      scans P total h other rest (index + 1) (one_more filled) at.rest_is (omega arith) (omega arith)))
+      (λ t. let far : capacity ≤ index = grind (arith, nat_tests) in absurd (omega arith))
+
+  pub count_walks : (P : ends.Counted → List ℕ → Type 0)
+      → (g ≡ locked → P ends.TheVariants.Locked (g ∷ cells))
+      → (g ≢ locked → P (ends.TheVariants.Filled (number cells) (next_generation g)) (next_generation g ∷ cells))
+      → Walks count_want (count_after capacity) (suc (suc (suc (length cells)))) (OnEnd P) counts.TheVariants.LoadsCounter (g ∷ cells)
+  count_walks P shut opens =
+      by_eq (λ a. Goes count_want (count_after capacity) (suc (suc (length cells))) (OnEnd P) a (g ∷ cells)) g locked _ _ shut
+      (λ other. scans P (number cells) (opens other) other cells 0 0 refl (omega arith) (let all : 0 + number cells ≡ number cells = omega arith in all))
+
+  -- ---- lock
+
+  next_open : g ≢ locked → next_generation g ≢ locked
+  next_open other e =
+      ⊎_elim (λ (low : g < greatest).
+      let b = next_below g other (λ e. absurd (omega arith)) small in absurd (omega arith))
+      (λ (far : greatest ≤ g). let t = next_there g far in absurd (omega (arith, other)))
+      (cases_lt g greatest)
+
+  pub lock_walks : (P : ReleaseState → List ℕ → Type 0) → P (state_number (locking g cells)) ((locking g cells) ∷ cells)
+      → Walks lock_want (lock_after capacity) (plus (suc (suc (suc (length cells)))) 1) (OnEnd P) first_lock (g ∷ cells)
+  lock_walks P h =
+      let at : (n : ℕ) → (locking g cells) ≡ n → P (state_number n) (n ∷ cells) =
+      λ n e. subst (λ m. P (state_number m) (m ∷ cells)) e h in
+      let as_locked : (locking g cells) ≡ locked → P Locked (locked ∷ cells) =
+      λ e. subst (λ s. P s (locked ∷ cells)) (ap (λ b. if b then Locked else Unlocked) (eq-eqb locked locked refl)) (at locked e) in
+      part_walks lock_want (lock_after capacity) count_want (count_after capacity) locks.TheVariants.Counts lock_counted
+      (λ d. refl) (λ d old. refl) (λ d. refl) (suc (suc (suc (length cells)))) 1 (OnEnd P) counts.TheVariants.LoadsCounter (g ∷ cells)
+      (count_walks _
+      (λ e. let same = next_there g (omega arith) in
+      let lock : (locking g cells) ≡ locked =
+      by_test (λ n. n ≡ locked) (((number cells) == 0) && not (next_generation g == greatest)) locked (next_generation g) (λ _. refl) (λ _. same ∙ e) in
+      subst (λ n. P Locked (n ∷ cells)) (sym e) (as_locked lock))
+      (λ other. by_test (λ a. Goes lock_want (lock_after capacity) 1 (OnEnd P) a (next_generation g ∷ cells))
+      (((number cells) == 0) && not (next_generation g == greatest)) (GoOn (locks.TheVariants.ExchangesCounter (next_generation g))) (Done Unlocked)
+      (λ t. let lock : (locking g cells) ≡ locked = ap (λ b. if b then locked else next_generation g) t in
+      let written : (if next_generation g == next_generation g then locked ∷ cells else next_generation g ∷ cells) ≡ locked ∷ cells =
+      ap (λ b. if b then locked ∷ cells else next_generation g ∷ cells) (eq-eqb (next_generation g) (next_generation g) refl) in
+      subst (λ ws. Goes lock_want (lock_after capacity) 0 (OnEnd P) (if next_generation g == next_generation g then Done Locked else GoOn first_lock) ws) (sym written)
+      (by_eq (λ a. Goes lock_want (lock_after capacity) 0 (OnEnd P) a (locked ∷ cells)) (next_generation g) (next_generation g) _ _
+      (λ _. as_locked lock) (λ no. absurd (no refl))))
+      (λ t. let stays : (locking g cells) ≡ next_generation g = ap (λ b. if b then locked else next_generation g) t in
+      subst (λ s. P s (next_generation g ∷ cells)) (ap (λ b. if b then Locked else Unlocked) (ne_eqb (next_generation g) locked (next_open other)))
+      (at (next_generation g) stays))))

@@ -1,0 +1,154 @@
+-- A recovery that runs alone, from one question to the next.
+use Rattle.std.proofs.Common.{◌≡◌, ◌≢◌, ℕ, suc, ◌+◌, ◌-◌, ◌^◌, ◌<◌, ◌≤◌, Bool, true, false, ◌==◌, nat_lt, List, [], ◌∷◌, length, drop, map, Option, Some, None, refl, sym, ap, subst, ◌∙◌, arith, slice_index, slice_set, length-set, eq-eqb, ne_eqb, if◌then◌else◌}
+use Rattle.std.proofs.lemmas.Bool.Decides.{nat_tests}
+use Rattle.std.proofs.lemmas.List.{drop-set-lt}
+use Rattle.steps.specs.Picks.{by_test, by_eq}
+use Rattle.steps.specs.Indices.Robust.Parts.{cell_word, empty, locked, raise_want, raise_after, lock_want, lock_after, first_lock}
+use Rattle.steps.specs.Indices.Robust.Recover.{at_recover, first_recover, recover_comes_to, recover_raised, recover_locked, recover_want, recover_after}
+use Rattle.steps.specs.declared.ask.Question.{Question}
+use Rattle.steps.specs.declared.ask.Question as questions
+use Rattle.steps.specs.declared.ask.Want.{Want}
+use Rattle.steps.specs.declared.ask.After.{After}
+use Rattle.steps.specs.declared.ask.After.TheVariants.{GoOn, Done}
+use Rattle.steps.specs.declared.indices.enums.ReleaseMode.{ReleaseMode}
+use Rattle.steps.specs.declared.indices.enums.ReleaseMode.TheVariants.{LockIfLastIndex, Default}
+use Rattle.steps.specs.declared.indices.enums.ReleaseState.{ReleaseState}
+use Rattle.steps.specs.declared.indices.robust.parts.Raise as raises
+use Rattle.steps.specs.declared.indices.robust.recover.Recover.{Recover}
+use Rattle.steps.specs.declared.indices.robust.recover.RecoverStage as recovers
+use Rattle.steps.specs.Objects.Owners.{Owned, taken_from, next_generation}
+use Rattle.plain.specs.declared.drive.Stop.{Stop}
+use Rattle.plain.specs.declared.drive.Stop.TheVariants.{Asked, Ended}
+use Rattle.plain.specs.Robust.{owner_in}
+use Rattle.plain.proofs.Walks.{plus, Walks, Goes, goes_longer, part_walks}
+use Rattle.plain.proofs.Robust.Parts.{here, past, next_cell, next_set, next_small, owner_free, owner_some, raise_walks, lock_walks, locking, state_number}
+use Rattle.plain.proofs.Robust.Releases.{counter_then, counter_small}
+
+-- it asks about the first of those that are left
+pub record AsksAt (capacity g : ℕ) (cells : List ℕ) (left : List Owned) (question : Question (Unit {0})) (call : Recover) (last : List ℕ) : Type 0 where
+  pub index : ℕ
+  pub owner : ℕ
+  pub rest : List ℕ
+  pub left_is : left ≡ record { owner = owner; index = index } ∷ taken_from (index + 1) (map owner_in rest)
+  pub rest_is : drop (index + 1) cells ≡ rest
+  pub word_is : slice_index (g ∷ cells) (cell_word index) ≡ owner
+  pub near : index < capacity
+  pub asks : question ≡ questions.TheVariants.Owned owner index
+  pub stands : call ≡ at_recover (first_recover capacity) (recovers.TheVariants.Asks index owner)
+  pub same : last ≡ g ∷ cells
+
+abbrev pub StopsAt : ℕ → ℕ → List ℕ → List Owned → Stop Recover ReleaseState → List ℕ → Type 0
+StopsAt capacity g cells left (Ended state) last = (left ≡ []) × (state ≡ state_number g) × (last ≡ g ∷ cells)
+StopsAt capacity g cells left (Asked question call) last = AsksAt capacity g cells left question call last
+
+module _ (capacity : ℕ) (mode : ReleaseMode) where
+  abbrev want : Recover → Want (Unit {0})
+  want c = recover_want c
+
+  abbrev after : Recover → ℕ → After Recover ReleaseState
+  after c old = recover_after c mode old
+
+  abbrev first : Recover
+  first = first_recover capacity
+
+  pub recovers_on : (g : ℕ) (cells : List ℕ) → length cells ≡ capacity → (rest : List ℕ) (index : ℕ) (left : List Owned)
+      → drop index cells ≡ rest → left ≡ taken_from index (map owner_in rest)
+      → Goes want after (suc (suc (length rest))) (StopsAt capacity g cells left) (recover_comes_to first index) (g ∷ cells)
+  recovers_on g cells long [] index left is all =
+      let far = past cells index is in
+      by_test (λ stage. Walks want after 2 (StopsAt capacity g cells left) (at_recover first stage) (g ∷ cells)) (nat_lt index capacity) _ _
+      (λ t. let near : index < capacity = grind (arith, nat_tests) in absurd (omega arith))
+      (λ _. (all, refl, refl))
+  recovers_on g cells long (c ∷ rest) index left is all =
+      let at = here cells index c rest is in
+      let near = at.near in
+      let word = next_cell g index cells ∙ at.word_is in
+      by_test (λ stage. Walks want after (suc (suc (suc (length rest)))) (StopsAt capacity g cells left) (at_recover first stage) (g ∷ cells)) (nat_lt index capacity) _ _
+      (λ _. by_eq (λ a. Goes want after (suc (suc (length rest))) (StopsAt capacity g cells left) a (g ∷ cells)) (slice_index (g ∷ cells) (cell_word index)) empty _ _
+      (λ e. recovers_on g cells long rest (index + 1) left at.rest_is
+      (all ∙ ap (λ o. taken_from index (o ∷ map owner_in rest)) (owner_free c (sym word ∙ e))))
+      (λ n. record {
+        index = index;
+        owner = slice_index (g ∷ cells) (cell_word index);
+        rest = rest;
+        left_is = all ∙ (ap (λ o. taken_from index (o ∷ map owner_in rest)) (owner_some c (λ e. n (word ∙ e)))
+            ∙ ap (λ w. record { owner = w; index = index } ∷ taken_from (index + 1) (map owner_in rest)) (sym word));
+        rest_is = at.rest_is;
+        word_is = refl;
+        near = omega arith;
+        asks = refl;
+        stands = refl;
+        same = refl;
+      }))
+      (λ t. let far : capacity ≤ index = grind (arith, nat_tests) in absurd (omega arith))
+
+-- ---- an index is given back
+
+module _ (capacity g : ℕ) (cells : List ℕ) (small : g < 2 ^ 64) (long : length cells ≡ capacity) (few : capacity < 2 ^ 32) (opens : g ≢ locked)
+    (index : ℕ) (rest : List ℕ) (rest_is : drop (index + 1) cells ≡ rest) where
+  abbrev pub emptied : List ℕ
+  emptied = slice_set cells index empty
+
+  abbrev pub left_then : List Owned
+  left_then = taken_from (index + 1) (map owner_in rest)
+
+  emptied_long : length emptied ≡ capacity
+  emptied_long = length-set cells index empty ∙ long
+
+  abbrev Ends : ReleaseMode → ℕ → ℕ → Recover → List ℕ → Type 0
+  Ends mode n counter call words =
+      Walks (λ c. recover_want c) (λ c old. recover_after c mode old) n (StopsAt capacity counter emptied left_then) call words
+
+  abbrev at : recovers.RecoverStage → Recover
+  at stage = at_recover (first_recover capacity) stage
+
+  abbrev scan : ℕ
+  scan = suc (suc (length rest))
+
+  abbrev pub rounds : ℕ
+  rounds = plus (plus (suc (suc (suc (length emptied)))) 1) scan
+
+  then_on : (mode : ReleaseMode) (n : ℕ)
+      → Goes (λ c. recover_want c) (λ c old. recover_after c mode old) scan (StopsAt capacity n emptied left_then) (recover_comes_to (first_recover capacity) (index + 1)) (n ∷ emptied)
+  then_on mode n =
+      recovers_on capacity mode n emptied emptied_long rest (index + 1) left_then
+      (drop-set-lt (index + 1) cells index empty (let t : index < index + 1 = omega arith in t) ∙ rest_is) refl
+
+  locks_on : (counter : ℕ) → counter < 2 ^ 64
+      → Ends LockIfLastIndex rounds (locking counter emptied) (at (recovers.TheVariants.Locks index first_lock)) (counter ∷ emptied)
+  locks_on counter low =
+      part_walks (λ c. recover_want c) (λ c old. recover_after c LockIfLastIndex old) lock_want (lock_after capacity)
+      (λ l. at (recovers.TheVariants.Locks index l)) (recover_locked (first_recover capacity) index)
+      (λ d. refl) (λ d old. refl) (λ d. refl) (plus (suc (suc (suc (length emptied)))) 1) scan
+      (StopsAt capacity (locking counter emptied) emptied left_then) first_lock (counter ∷ emptied)
+      (lock_walks capacity counter emptied low emptied_long few _ (then_on LockIfLastIndex (locking counter emptied)))
+
+  raises_on : (mode : ReleaseMode)
+      → Ends mode (suc (suc rounds)) (counter_then mode g emptied) (at (recovers.TheVariants.Raises index raises.TheVariants.LoadsCounter)) (g ∷ emptied)
+  raises_on Default =
+      part_walks (λ c. recover_want c) (λ c old. recover_after c Default old) raise_want raise_after
+      (λ r. at (recovers.TheVariants.Raises index r)) (recover_raised (first_recover capacity) index Default)
+      (λ d. refl) (λ d old. refl) (λ d. refl) 2 rounds
+      (StopsAt capacity (next_generation g) emptied left_then) raises.TheVariants.LoadsCounter (g ∷ emptied)
+      (raise_walks g emptied small _ (λ e. absurd (opens e))
+      (λ _. goes_longer (λ c. recover_want c) (λ c old. recover_after c Default old) (plus (suc (suc (suc (length emptied)))) 1) scan
+      (StopsAt capacity (next_generation g) emptied left_then) (recover_comes_to (first_recover capacity) (index + 1)) (next_generation g ∷ emptied)
+      (then_on Default (next_generation g))))
+  raises_on LockIfLastIndex =
+      part_walks (λ c. recover_want c) (λ c old. recover_after c LockIfLastIndex old) raise_want raise_after
+      (λ r. at (recovers.TheVariants.Raises index r)) (recover_raised (first_recover capacity) index LockIfLastIndex)
+      (λ d. refl) (λ d old. refl) (λ d. refl) 2 rounds
+      (StopsAt capacity (locking (next_generation g) emptied) emptied left_then) raises.TheVariants.LoadsCounter (g ∷ emptied)
+      (raise_walks g emptied small _ (λ e. absurd (opens e)) (λ _. locks_on (next_generation g) (next_small g small)))
+
+  -- from a yes to the next question, or to the end
+  pub frees_on : (mode : ReleaseMode) (owner : ℕ) → slice_index (g ∷ cells) (cell_word index) ≡ owner
+      → Ends mode (suc (suc (suc rounds))) (counter_then mode g emptied) (at (recovers.TheVariants.EmptiesCell index owner)) (g ∷ cells)
+  frees_on mode owner is =
+      by_eq (λ a. Goes (λ c. recover_want c) (λ c old. recover_after c mode old) (suc (suc rounds)) (StopsAt capacity (counter_then mode g emptied) emptied left_then) a
+      (if slice_index (g ∷ cells) (cell_word index) == owner then slice_set (g ∷ cells) (cell_word index) empty else g ∷ cells))
+      (slice_index (g ∷ cells) (cell_word index)) owner _ _
+      (λ e. subst (λ ws. Ends mode (suc (suc rounds)) (counter_then mode g emptied) (at (recovers.TheVariants.Raises index raises.TheVariants.LoadsCounter)) ws)
+      (sym (ap (λ b. if b then slice_set (g ∷ cells) (cell_word index) empty else g ∷ cells) (eq-eqb (slice_index (g ∷ cells) (cell_word index)) owner e) ∙ next_set g index empty cells))
+      (raises_on mode))
+      (λ other. absurd (other is))

@@ -1,0 +1,157 @@
+-- A release that runs alone.
+use Rattle.std.proofs.Common.{◌≡◌, ◌≢◌, ℕ, zero, suc, ◌+◌, ◌-◌, ◌^◌, ◌<◌, ◌≤◌, ⊎_elim, Bool, true, false, not, ◌==◌, ◌&&◌, List, [], ◌∷◌, length, map, Option, Some, None, Result, Ok, Err, refl, sym, ap, subst, ◌∙◌, arith, slice_index, slice_index_or, slice_set, length-set, eq-eqb, ne_eqb, if◌then◌else◌}
+use Rattle.std.proofs.lemmas.List.{map-set, get_or-map}
+use Rattle.steps.specs.Picks.{by_eq}
+use Rattle.steps.specs.Indices.Robust.Parts.{cell_word, empty, locked, greatest, raise_want, raise_after, lock_want, lock_after, first_lock}
+use Rattle.steps.specs.Indices.Robust.Release.{Released, first_release, at_release, release_raised, release_locked, release_want, release_after}
+use Rattle.steps.specs.declared.ask.After.{After}
+use Rattle.steps.specs.declared.ask.After.TheVariants.{GoOn, Done}
+use Rattle.steps.specs.declared.indices.enums.ReleaseMode.{ReleaseMode}
+use Rattle.steps.specs.declared.indices.enums.ReleaseMode.TheVariants.{LockIfLastIndex, Default}
+use Rattle.steps.specs.declared.indices.enums.RobustUniqueIndexSetReleaseError.TheVariants.{IndexIsNotOwnedByProvidedOwner}
+use Rattle.steps.specs.declared.indices.robust.parts.Raise as raises
+use Rattle.steps.specs.declared.indices.robust.parts.Lock as locks
+use Rattle.steps.specs.declared.indices.robust.release.Release.{Release}
+use Rattle.steps.specs.declared.indices.robust.release.GiveBack.{GiveBack}
+use Rattle.steps.specs.declared.indices.robust.release.ReleaseStage as releases
+use Rattle.plain.specs.Alone.{Turns}
+use Rattle.steps.specs.Objects.Owners.{Owners, next_generation, has, owns, locked_if_none, without, given_back, release_state, released, after_release}
+use Rattle.plain.specs.Robust.{owner_in, owners_in, Fits}
+use Rattle.plain.proofs.Alone.{Runs}
+use Rattle.plain.proofs.Walks.{plus, plus_sum, Walks, Goes, OnEnd, part_walks, runs}
+use Rattle.plain.proofs.Robust.Parts.{number, next_cell, next_set, raise_walks, next_below, next_there, next_small, lock_walks, locking, locking_small, owner_free}
+
+-- ---- what giving an index back makes of the counter
+
+abbrev pub counter_then : ReleaseMode → ℕ → List ℕ → ℕ
+counter_then Default g cells = next_generation g
+counter_then LockIfLastIndex g cells = locking (next_generation g) cells
+
+pick_generation : (b : Bool) (os : List (Option ℕ)) (m n : ℕ)
+    → ◌≡◌ {A = Owners} (if b then record { owners = os; generation = m } else record { owners = os; generation = n })
+    (record { owners = os; generation = if b then m else n })
+pick_generation true os m n = refl
+pick_generation false os m n = refl
+
+without_is : (g : ℕ) (cells : List ℕ) (index : ℕ)
+    → without (owners_in (g ∷ cells)) index
+    ≡ owners_in (next_generation g ∷ slice_set cells index empty)
+without_is g cells index =
+    let e : slice_set (map owner_in cells) index None ≡ map owner_in (slice_set cells index empty) =
+    ap (slice_set (map owner_in cells) index) (sym (owner_free empty refl)) ∙ sym (map-set owner_in cells index empty) in
+    λ i. record { owners = e i; generation = next_generation g }
+
+pub given_back_is : (mode : ReleaseMode) (g : ℕ) (cells : List ℕ) (index : ℕ)
+    → given_back mode (owners_in (g ∷ cells)) index
+    ≡ owners_in (counter_then mode g (slice_set cells index empty) ∷ slice_set cells index empty)
+given_back_is Default g cells index = without_is g cells index
+given_back_is LockIfLastIndex g cells index =
+    ap locked_if_none (without_is g cells index)
+    ∙ pick_generation ((number (slice_set cells index empty) == 0) && not (next_generation (next_generation g) == greatest))
+    (map owner_in (slice_set cells index empty)) locked (next_generation (next_generation g))
+
+pub counter_small : (mode : ReleaseMode) (g : ℕ) (cells : List ℕ) → g < 2 ^ 64 → counter_then mode g cells < 2 ^ 64
+counter_small Default g cells small = next_small g small
+counter_small LockIfLastIndex g cells small = locking_small (next_generation g) cells (next_small g small)
+
+module _ (capacity index owner g : ℕ) (cells : List ℕ) (small : g < 2 ^ 64) (long : length cells ≡ capacity) (few : capacity < 2 ^ 32)
+    (lives : owner < empty) (near : index < capacity) where
+  abbrev given : ReleaseMode → GiveBack
+  given mode = record { index = index; owner = owner; mode = mode }
+
+  abbrev Ends : ReleaseMode → ℕ → (Released → List ℕ → Type 0) → Release → List ℕ → Type 0
+  Ends mode n P call words = Walks (λ c. release_want c (given mode)) (λ c old. release_after c (given mode) old) n (OnEnd P) call words
+
+  abbrev From : ReleaseMode → ℕ → (Released → List ℕ → Type 0) → After Release Released → List ℕ → Type 0
+  From mode n P a words = Goes (λ c. release_want c (given mode)) (λ c old. release_after c (given mode) old) n (OnEnd P) a words
+
+  abbrev first : Release
+  first = first_release capacity
+
+  abbrev old : Owners
+  old = owners_in (g ∷ cells)
+
+  abbrev emptied : List ℕ
+  emptied = slice_set cells index empty
+
+  emptied_long : length emptied ≡ capacity
+  emptied_long = length-set cells index empty ∙ long
+
+  abbrev fuel : ℕ
+  fuel = plus (plus (suc (suc (suc (length emptied)))) 1) 0
+
+  abbrev answer : ReleaseMode → Released
+  answer mode = Ok (release_state mode (owners_in (counter_then mode g emptied ∷ emptied)))
+
+  raises_on : (mode : ReleaseMode) (P : Released → List ℕ → Type 0) → P (answer mode) (counter_then mode g emptied ∷ emptied)
+      → Ends mode (suc (suc fuel)) P (at_release first (releases.TheVariants.Raises raises.TheVariants.LoadsCounter)) (g ∷ emptied)
+  raises_on Default P h =
+      part_walks (λ c. release_want c (given Default)) (λ c old. release_after c (given Default) old) raise_want raise_after
+      (λ r. at_release first (releases.TheVariants.Raises r)) (release_raised first Default)
+      (λ d. refl) (λ d old. refl) (λ d. refl) 2 fuel (OnEnd P) raises.TheVariants.LoadsCounter (g ∷ emptied)
+      (raise_walks g emptied small _ (λ _. h) (λ _. h))
+  raises_on LockIfLastIndex P h =
+      let locks_on : Ends LockIfLastIndex fuel P (at_release first (releases.TheVariants.Locks first_lock)) (next_generation g ∷ emptied) =
+      part_walks (λ c. release_want c (given LockIfLastIndex)) (λ c old. release_after c (given LockIfLastIndex) old) lock_want (lock_after capacity)
+      (λ l. at_release first (releases.TheVariants.Locks l)) (release_locked first)
+      (λ d. refl) (λ d old. refl) (λ d. refl) (plus (suc (suc (suc (length emptied)))) 1) 0 (OnEnd P) first_lock (next_generation g ∷ emptied)
+      (lock_walks capacity (next_generation g) emptied (next_small g small) emptied_long few _ h) in
+      part_walks (λ c. release_want c (given LockIfLastIndex)) (λ c old. release_after c (given LockIfLastIndex) old) raise_want raise_after
+      (λ r. at_release first (releases.TheVariants.Raises r)) (release_raised first LockIfLastIndex)
+      (λ d. refl) (λ d old. refl) (λ d. refl) 2 fuel (OnEnd P) raises.TheVariants.LoadsCounter (g ∷ emptied)
+      (raise_walks g emptied small _ (λ _. locks_on) (λ _. locks_on))
+
+  -- ---- what it makes of the map
+
+  abbrev pub GaveBack : ReleaseMode → Released → List ℕ → Type 0
+  GaveBack mode end last =
+      Turns (Fits capacity) owners_in (λ s. released s index owner mode) (λ s. after_release s index owner mode) (g ∷ cells) end last
+
+  owns_is : (w : ℕ) → owns (owner_in w) owner ≡ (w == owner)
+  owns_is w =
+      by_eq (λ o. owns o owner ≡ (w == owner)) w empty None (Some w)
+      (λ e. sym (ne_eqb w owner (λ same. absurd (omega arith)))) (λ _. refl)
+
+  has_is : has old index owner ≡ (slice_index (g ∷ cells) (cell_word index) == owner)
+  has_is =
+      ap (λ o. owns o owner) (get_or-map owner_in cells index 0 None (omega arith))
+      ∙ (owns_is (slice_index cells index) ∙ ap (λ w. w == owner) (sym (next_cell g index cells)))
+
+  pub give_walks : (mode : ReleaseMode) → 1 ≤ capacity → Ends mode (suc (suc (suc fuel))) (GaveBack mode) first (g ∷ cells)
+  give_walks mode some =
+      by_eq (λ a. From mode (suc (suc fuel)) (GaveBack mode) a (if slice_index (g ∷ cells) (cell_word index) == owner then slice_set (g ∷ cells) (cell_word index) empty else g ∷ cells)) (slice_index (g ∷ cells) (cell_word index)) owner _ _
+      (λ e. let hit : has old index owner ≡ true = has_is ∙ eq-eqb (slice_index (g ∷ cells) (cell_word index)) owner e in
+      subst (λ ws. From mode (suc (suc fuel)) (GaveBack mode) (GoOn (at_release first (releases.TheVariants.Raises raises.TheVariants.LoadsCounter))) ws)
+      (sym (ap (λ b. if b then slice_set (g ∷ cells) (cell_word index) empty else g ∷ cells) (eq-eqb (slice_index (g ∷ cells) (cell_word index)) owner e) ∙ next_set g index empty cells))
+      (raises_on mode (GaveBack mode) (
+        let same = emptied_long in record { long = omega arith; some = some; few = few; small = counter_small mode g emptied small },
+        sym (ap (λ b. if b then Ok (release_state mode (given_back mode old index)) else Err IndexIsNotOwnedByProvidedOwner) hit
+            ∙ ap (λ s. Ok (release_state mode s)) (given_back_is mode g cells index)),
+        sym (ap (λ b. if b then given_back mode old index else old) hit ∙ given_back_is mode g cells index),
+      )))
+      (λ other. let miss : has old index owner ≡ false = has_is ∙ ne_eqb (slice_index (g ∷ cells) (cell_word index)) owner other in
+      subst (λ ws. GaveBack mode (Err IndexIsNotOwnedByProvidedOwner) ws)
+      (sym (ap (λ b. if b then slice_set (g ∷ cells) (cell_word index) empty else g ∷ cells) (ne_eqb (slice_index (g ∷ cells) (cell_word index)) owner other))) (
+        record { long = omega arith; some = some; few = few; small = small },
+        sym (ap (λ b. if b then Ok (release_state mode (given_back mode old index)) else Err IndexIsNotOwnedByProvidedOwner) miss),
+        sym (ap (λ b. if b then given_back mode old index else old) miss),
+      ))
+
+  pub give_runs : (mode : ReleaseMode) → 1 ≤ capacity
+      → Runs release_want release_after (λ c (room : Unit {0}) old. room) (given mode) (λ e room ws. GaveBack mode e ws) first tt (g ∷ cells)
+  give_runs mode some =
+      runs release_want release_after (given mode) (suc (suc (suc fuel))) (GaveBack mode) first (g ∷ cells)
+      (let a = plus_sum (plus (suc (suc (suc (length emptied)))) 1) 0 in let b = plus_sum (suc (suc (suc (length emptied)))) 1 in
+      let l = emptied_long in omega arith)
+      (give_walks mode some)
+
+-- the same over any words that fit
+pub give_at : (capacity index owner : ℕ) (mode : ReleaseMode) (number : ℕ) → number ≡ owner → number < empty → (call : Release)
+    → call ≡ first_release capacity → (words : List ℕ) → Fits capacity words → index < capacity
+    → Runs release_want release_after (λ c (room : Unit {0}) old. room) (record { index = index; owner = owner; mode = mode })
+    (λ e room ws. Turns (Fits capacity) owners_in (λ s. released s index owner mode) (λ s. after_release s index owner mode) words e ws) call tt words
+give_at capacity index owner mode number same lives call is [] fits near = let e : 0 ≡ 1 + capacity = fits.long in absurd (omega arith)
+give_at capacity index owner mode number same lives call is (g ∷ cells) fits near =
+    subst (λ c. Runs release_want release_after (λ c (room : Unit {0}) old. room) (record { index = index; owner = owner; mode = mode })
+    (λ e room ws. Turns (Fits capacity) owners_in (λ s. released s index owner mode) (λ s. after_release s index owner mode) (g ∷ cells) e ws) c tt (g ∷ cells)) (sym is)
+    (give_runs capacity index owner g cells fits.small (let e : suc (length cells) ≡ 1 + capacity = fits.long in omega arith) fits.few (omega arith) near mode fits.some)

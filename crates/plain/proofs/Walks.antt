@@ -1,0 +1,141 @@
+-- What holds where a call that runs alone stops, part by part.
+use Rattle.std.proofs.Common.{◌≡◌, ℕ, zero, suc, ◌+◌, ◌^◌, ◌-◌, ◌≤◌, List, refl, sym, subst, arith}
+use Rattle.steps.specs.declared.ask.Want.{Want}
+use Rattle.steps.specs.declared.ask.Want as wants
+use Rattle.steps.specs.declared.ask.After.{After}
+use Rattle.steps.specs.declared.ask.After.TheVariants.{GoOn, Done}
+use Rattle.plain.specs.declared.drive.Stop.{Stop}
+use Rattle.plain.specs.declared.drive.Stop.TheVariants.{Asked, Ended}
+use Rattle.plain.specs.Alone.{answer_in, words_then, room_then, goes, stepped, StopsFrom, StopsIn}
+use Rattle.plain.proofs.Alone.{Runs, Halts}
+
+-- a sum that computes in its first number
+abbrev pub plus : ℕ → ℕ → ℕ
+plus zero n = n
+plus (suc m) n = suc (plus m n)
+
+pub plus_sum : (m n : ℕ) → plus m n ≡ m + n
+plus_sum zero n = omega arith
+plus_sum (suc m) n = let e = plus_sum m n in omega arith
+
+module _ {C E : Type 0} where
+  -- it has stopped, and P holds of that, or it goes on
+  abbrev pub WalksFrom : (C → List ℕ → Type 0) → (Stop C E → List ℕ → Type 0) → After C (Stop C E) → List ℕ → Type 0
+  WalksFrom rest P (GoOn d) words = rest d words
+  WalksFrom rest P (Done s) words = P s words
+
+  -- it puts no question, and P holds of its end
+  abbrev pub OnEnd : (E → List ℕ → Type 0) → Stop C E → List ℕ → Type 0
+  OnEnd P (Ended e) words = P e words
+  OnEnd P (Asked question call) words = ⊥
+
+  from_map : (rest more : C → List ℕ → Type 0) (P : Stop C E → List ℕ → Type 0) (a : After C (Stop C E)) (words : List ℕ)
+      → ((d : C) → rest d words → more d words) → WalksFrom rest P a words → WalksFrom more P a words
+  from_map rest more P (GoOn d) words f t = f d t
+  from_map rest more P (Done s) words f t = t
+
+module _ {C E : Type 0} (want : C → Want (Unit {0})) (after : C → ℕ → After C E) where
+  -- in at most so many steps it stops, and P holds of the stop and of the words then
+  abbrev pub Walks : ℕ → (Stop C E → List ℕ → Type 0) → C → List ℕ → Type 0
+  Walks zero P call words = ⊥
+  Walks (suc n) P call words =
+      WalksFrom (Walks n P) P (stepped (want call) call (after call (answer_in words (want call)))) (words_then words (want call))
+
+  -- the same of what has become of it
+  abbrev pub Goes : ℕ → (Stop C E → List ℕ → Type 0) → After C E → List ℕ → Type 0
+  Goes n P a words = WalksFrom (Walks n P) P (goes a) words
+
+  longer_by_one : (n : ℕ) (P : Stop C E → List ℕ → Type 0) (call : C) (words : List ℕ)
+      → Walks n P call words → Walks (suc n) P call words
+  longer_by_one zero P call words t = absurd t
+  longer_by_one (suc n) P call words t =
+      from_map (Walks n P) (Walks (suc n) P) P (stepped (want call) call (after call (answer_in words (want call)))) (words_then words (want call))
+      (λ d u. longer_by_one n P d (words_then words (want call)) u) t
+
+  pub longer : (m n : ℕ) (P : Stop C E → List ℕ → Type 0) (call : C) (words : List ℕ)
+      → Walks n P call words → Walks (plus m n) P call words
+  longer zero n P call words t = t
+  longer (suc m) n P call words t =
+      longer_by_one (plus m n) P call words (longer m n P call words t)
+
+  pub goes_longer : (m n : ℕ) (P : Stop C E → List ℕ → Type 0) (a : After C E) (words : List ℕ)
+      → Goes n P a words → Goes (plus m n) P a words
+  goes_longer m n P a words t =
+      from_map (Walks n P) (Walks (plus m n) P) P (goes a) words (λ d u. longer m n P d words u) t
+
+-- a call within another: each step of the inner is one of the outer, which goes on from its end
+module _ {C E D X : Type 0} (want : C → Want (Unit {0})) (after : C → ℕ → After C E)
+    (part_want : D → Want (Unit {0})) (part_after : D → ℕ → After D X)
+    (within : D → C) (lift : After D X → After C E)
+    (wants_so : (d : D) → want (within d) ≡ part_want d)
+    (goes_so : (d : D) (old : ℕ) → after (within d) old ≡ lift (part_after d old))
+    (lifts : (d : D) → lift (GoOn d) ≡ GoOn (within d)) where
+  abbrev pub Then : ℕ → (Stop C E → List ℕ → Type 0) → X → List ℕ → Type 0
+  Then n P x words = Goes want after n P (lift (Done x)) words
+
+  part_goes : (m n : ℕ) (P : Stop C E → List ℕ → Type 0) (a : After D X) (words : List ℕ)
+      → ((d : D) → Walks part_want part_after m (OnEnd (Then n P)) d words → Walks want after (plus m n) P (within d) words)
+      → Goes part_want part_after m (OnEnd (Then n P)) a words
+      → Goes want after (plus m n) P (lift a) words
+  part_goes m n P (GoOn d) words on t =
+      subst (λ a. Goes want after (plus m n) P a words) (sym (lifts d)) (on d t)
+  part_goes m n P (Done x) words on t = goes_longer want after m n P (lift (Done x)) words t
+
+  part_from : (m n : ℕ) (P : Stop C E → List ℕ → Type 0) (w : Want (Unit {0})) (d : D) (a : After D X) (words : List ℕ)
+      → ((e : D) → Walks part_want part_after m (OnEnd (Then n P)) e words → Walks want after (plus m n) P (within e) words)
+      → WalksFrom (Walks part_want part_after m (OnEnd (Then n P))) (OnEnd (Then n P)) (stepped w d a) words
+      → WalksFrom (Walks want after (plus m n) P) P (stepped w (within d) (lift a)) words
+  part_from m n P (wants.TheVariants.Ask ask) d a words on t = part_goes m n P a words on t
+  part_from m n P (wants.TheVariants.Question question) d a words on t = absurd t
+  part_from m n P wants.TheVariants.Nothing d a words on t = part_goes m n P a words on t
+
+  pub part_walks : (m n : ℕ) (P : Stop C E → List ℕ → Type 0) (d : D) (words : List ℕ)
+      → Walks part_want part_after m (OnEnd (Then n P)) d words → Walks want after (plus m n) P (within d) words
+  part_walks zero n P d words t = absurd t
+  part_walks (suc m) n P d words t =
+      subst (λ w. WalksFrom (Walks want after (plus m n) P) P (stepped w (within d) (after (within d) (answer_in words w))) (words_then words w)) (sym (wants_so d))
+      (subst (λ a. WalksFrom (Walks want after (plus m n) P) P (stepped (part_want d) (within d) a) (words_then words (part_want d))) (sym (goes_so d (answer_in words (part_want d))))
+      (part_from m n P (part_want d) d (part_after d (answer_in words (part_want d))) (words_then words (part_want d))
+      (λ e u. part_walks m n P e (words_then words (part_want d)) u) t))
+
+-- a walk is a run of the driver
+module _ {C G E : Type 0} (want_of : C → G → Want (Unit {0})) (after : C → G → ℕ → After C E) (given : G) where
+  abbrev Found : ℕ → (Stop C E → List ℕ → Type 0) → C → Unit {0} → List ℕ → Type 0
+  Found n P call room words =
+      (s : Stop C E) × (r : Unit {0}) × (ws : List ℕ) × StopsIn want_of after (λ c (room : Unit {0}) old. room) given n s r ws call room words × P s ws
+
+  found_from : (n : ℕ) (P : Stop C E → List ℕ → Type 0) (a : After C (Stop C E)) (room : Unit {0}) (words : List ℕ)
+      → ((d : C) → Walks (λ c. want_of c given) (λ c old. after c given old) n P d words → Found n P d room words)
+      → WalksFrom (Walks (λ c. want_of c given) (λ c old. after c given old) n P) P a words
+      → (s : Stop C E) × (r : Unit {0}) × (ws : List ℕ) × StopsFrom want_of after (λ c (room : Unit {0}) old. room) given
+      (StopsIn want_of after (λ c (room : Unit {0}) old. room) given n s r ws) a room words s r ws × P s ws
+  found_from n P (GoOn d) room words on t = on d t
+  found_from n P (Done s) room words on t = (s, room, words, (refl, refl, refl), t)
+
+  found : (n : ℕ) (P : Stop C E → List ℕ → Type 0) (call : C) (room : Unit {0}) (words : List ℕ)
+      → Walks (λ c. want_of c given) (λ c old. after c given old) n P call words → Found n P call room words
+  found zero P call room words t = absurd t
+  found (suc n) P call room words t =
+      found_from n P (stepped (want_of call given) call (after call given (answer_in words (want_of call given))))
+      (room_then (want_of call given) room room) (words_then words (want_of call given))
+      (λ d u. found n P d (room_then (want_of call given) room room) (words_then words (want_of call given)) u) t
+
+  pub halts : (n : ℕ) (P : Stop C E → List ℕ → Type 0) (call : C) (words : List ℕ) → n ≤ 2 ^ 64 - 1
+      → Walks (λ c. want_of c given) (λ c old. after c given old) n P call words
+      → Halts want_of after (λ c (room : Unit {0}) old. room) given (λ s room ws. P s ws) call tt words
+  halts n P call words few t =
+      let f = found n P call tt words t in
+      record { steps = n; few = few; stop = f.0; last_room = f.1; last_words = f.2; stops = f.3; holds = f.4 }
+
+  ended : (n : ℕ) (P : E → List ℕ → Type 0) (call : C) (words : List ℕ) (s : Stop C E) (r : Unit {0}) (ws : List ℕ)
+      → n ≤ 2 ^ 64 - 1 → StopsIn want_of after (λ c (room : Unit {0}) old. room) given n s r ws call tt words → OnEnd P s ws
+      → Runs want_of after (λ c (room : Unit {0}) old. room) given (λ e room ws. P e ws) call tt words
+  ended n P call words (Ended e) r ws few t h =
+      record { steps = n; few = few; end = e; last_room = r; last_words = ws; ends = t; holds = h }
+  ended n P call words (Asked question next) r ws few t h = absurd h
+
+  pub runs : (n : ℕ) (P : E → List ℕ → Type 0) (call : C) (words : List ℕ) → n ≤ 2 ^ 64 - 1
+      → Walks (λ c. want_of c given) (λ c old. after c given old) n (OnEnd P) call words
+      → Runs want_of after (λ c (room : Unit {0}) old. room) given (λ e room ws. P e ws) call tt words
+  runs n P call words few t =
+      let f = found n (OnEnd P) call tt words t in ended n P call words f.0 f.1 f.2 few f.3 f.4

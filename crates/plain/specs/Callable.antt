@@ -1,0 +1,90 @@
+-- What the closures of a find and of a recovery are called with, in which order.
+use Rattle.std.specs.Prelude.{◌≡◌, ℕ, ◌+◌, ◌⊎◌, Bool, true, List, [], ◌∷◌, ◌++◌, length, map, filter}
+use Rattle.std.specs.List.{FoldsTo}
+use Rattle.steps.specs.declared.ask.Question.{Question}
+use Rattle.steps.specs.declared.ask.Question as put
+use Rattle.steps.specs.declared.enums.CallbackProgression.{CallbackProgression}
+use Rattle.steps.specs.declared.enums.CallbackProgression.TheVariants.{Continue, Stop}
+use Rattle.steps.specs.declared.indices.enums.ReleaseMode.{ReleaseMode}
+use Rattle.steps.specs.Objects.Owners.{Owners, Owned, to_recover, recovered}
+
+-- ---- find
+
+-- the closure may be called with each of these, once it was called with those before and said Continue
+pub record TakesIndices {F : Type 0} (pre : F → ℕ → Type 0)
+    (step : F → ℕ → CallbackProgression → F → Type 0) (indices : List ℕ) (f : F) : Type 0 where
+  pub at : (before : List ℕ) (now : F) (index : ℕ) (rest : List ℕ)
+      → FoldsTo (λ p x q. step p x Continue q) f before now → before ++ index ∷ rest ≡ indices
+      → pre now index
+
+-- It was called with these, up to the first on which it said Stop, and n is how many. These calls
+-- made it what it is at the end.
+pub record HasFound {F : Type 0} (step : F → ℕ → CallbackProgression → F → Type 0)
+    (indices : List ℕ) (f : F) (n : ℕ) (last : F) : Type 0 where
+  pub before : List ℕ
+  pub now : F
+  pub calls : FoldsTo (λ p x q. step p x Continue q) f before now
+  pub ended : ((before ≡ indices) × (now ≡ last) × (n ≡ length before))
+      ⊎ ((index : ℕ) × (rest : List ℕ) × (before ++ index ∷ rest ≡ indices)
+      × step now index Stop last × (n ≡ length before + 1))
+
+-- ---- recover
+
+-- a question about an index of an owner, and the answer
+pub record Asked : Type 0 where
+  pub of : Owned
+  pub yes : Bool
+
+abbrev pub questions : List Asked → List Owned
+questions asked = map (λ (a : Asked). a.of) asked
+
+-- those of a yes
+abbrev pub agreed : List Asked → List Owned
+agreed asked = map (λ (a : Asked). a.of) (filter (λ (a : Asked). a.yes) asked)
+
+-- the calls of a closure that is asked, and of one that is told
+abbrev pub asks : {F : Type 0} → (F → ℕ → ℕ → Bool → F → Type 0) → F → Asked → F → Type 0
+asks step p a q = step p a.of.owner a.of.index a.yes q
+
+abbrev pub tells : {S : Type 0} → (S → ℕ → ℕ → S → Type 0) → S → Owned → S → Type 0
+tells step p o q = step p o.owner o.index q
+
+-- the closure may be asked about each of these, once it was asked about those before
+pub record TakesQuestions {F : Type 0} (pre : F → ℕ → ℕ → Type 0)
+    (step : F → ℕ → ℕ → Bool → F → Type 0) (all : List Owned) (f : F) : Type 0 where
+  pub at : (before : List Asked) (now : F) (o : Owned) (rest : List Owned)
+      → FoldsTo (asks step) f before now → questions before ++ o ∷ rest ≡ all
+      → pre now o.owner o.index
+
+-- after a yes about one of these the other closure may be told of it, once it was told of those of a
+-- yes before
+pub record TakesFreed {F S : Type 0} (step : F → ℕ → ℕ → Bool → F → Type 0)
+    (pre : S → ℕ → ℕ → Type 0) (tell : S → ℕ → ℕ → S → Type 0) (all : List Owned)
+    (f : F) (s : S) : Type 0 where
+  pub at : (before : List Asked) (p q : F) (now : S) (o : Owned) (rest : List Owned)
+      → FoldsTo (asks step) f before p → step p o.owner o.index true q
+      → questions before ++ o ∷ rest ≡ all → FoldsTo (tells tell) s (agreed before) now
+      → pre now o.owner o.index
+
+-- The one closure was asked about all there is to recover, in its order, the other told of those of a
+-- yes, and these were given back. These calls made the closures what they are at the end.
+pub record HasRecovered {F S : Type 0} (step : F → ℕ → ℕ → Bool → F → Type 0)
+    (tell : S → ℕ → ℕ → S → Type 0) (mode : ReleaseMode) (old new : Owners)
+    (f : F) (s : S) (f_last : F) (s_last : S) : Type 0 where
+  pub asked : List Asked
+  pub all : questions asked ≡ to_recover old
+  pub answers : FoldsTo (asks step) f asked f_last
+  pub told : FoldsTo (tells tell) s (agreed asked) s_last
+  pub next : new ≡ recovered mode old (agreed asked)
+
+-- ---- the questions themselves
+
+abbrev pub index_in : Question (Unit {0}) → ℕ
+index_in (put.TheVariants.Index index) = index
+index_in (put.TheVariants.Owned owner index) = index
+index_in (put.TheVariants.Value index unit) = index
+
+-- as an answer to a call
+abbrev pub as_answer : CallbackProgression → ℕ
+as_answer Continue = 1
+as_answer Stop = 0

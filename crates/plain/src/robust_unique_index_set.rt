@@ -1,0 +1,273 @@
+//! The set of indices with owners of one caller.
+ghost use Rattle.std.specs.Prelude.{◌≡◌, ◌<◌, ◌^◌, ◌-◌, ◌⊎◌, None, Some, IfOk, IfErr, OnOk};
+ghost use Rattle.steps.specs.Enums.{capacity_refusal};
+ghost use Rattle.steps.specs.declared.enums.UniqueIndexCreationError.TheVariants.{NoMemory};
+ghost use Rattle.steps.specs.Objects.Owners.{Owners, opened_at, capacity, is_locked, raised, indices_of, borrowed, acquired, after_acquire, released, after_release};
+ghost use Rattle.plain.specs.Alone.{Turns};
+ghost use Rattle.plain.specs.Callable.{TakesIndices, HasFound, index_in, as_answer};
+ghost use Rattle.plain.specs.Robust.{owners_in, Fits};
+
+use crate::drive::{Stop, drive, drive_to_stop};
+use std::alloc::Global;
+use std::marker::Model;
+use steps::ask::{After, Question};
+use steps::enums::{CallbackProgression, OwnerId, UniqueIndexCreationError, capacity_refusal};
+use steps::indices::enums::{
+    ReleaseMode, ReleaseState, RobustUniqueIndexSetReleaseError, UniqueIndexSetAcquireFailure,
+};
+use steps::indices::robust::acquire::Acquire;
+use steps::indices::robust::find::Find;
+use steps::indices::robust::looks::{BorrowedIndices, IsLocked};
+use steps::indices::robust::parts::{COUNTER, EMPTY, FIRST_CELL};
+use steps::indices::robust::release::{GiveBack, Release};
+use steps::routine::Routine;
+
+/// A map from index to owner, and a lock. The indices of an owner that is dead are recovered. After
+/// `RobustUniqueIndexSet` of the Rust crate, for one caller.
+///
+/// Its generation goes up with each change and with each count, up to `u64::MAX - 1`: from there on no index is handed
+/// out, and the set is locked no more.
+#[derive(Drop)]
+pub struct RobustUniqueIndexSet {
+    words: Vec<u64>,
+    capacity: u32,
+}
+
+impl Model for RobustUniqueIndexSet {
+    ghost Value = { Owners };
+
+    ghost view = { λ s. owners_in s.words.items };
+
+    ghost invariant = { λ s. Fits s.capacity s.words.items };
+}
+
+/// An acquire, over the words of a set.
+fn acquire(
+    words: &mut Vec<u64>,
+    capacity: u32,
+    owner: OwnerId,
+) -> Result<u32, UniqueIndexSetAcquireFailure>
+    requires { Fits capacity words.old.items }
+    ensures { Turns (Fits capacity) owners_in acquired (λ s. after_acquire s owner) words.old.items
+        result words.new.items }
+{
+    let _ = owner.value();
+    let mut room = ();
+    drive(words, Acquire::new(capacity), &owner, &mut room)
+}
+
+/// A release, over the words of a set.
+fn release(
+    words: &mut Vec<u64>,
+    capacity: u32,
+    index: u32,
+    owner: OwnerId,
+    mode: ReleaseMode,
+) -> Result<ReleaseState, RobustUniqueIndexSetReleaseError>
+    requires fits { Fits capacity words.old.items }
+    requires index { index < capacity }
+    ensures { Turns (Fits capacity) owners_in (λ s. released s index owner mode)
+        (λ s. after_release s index owner mode) words.old.items result words.new.items }
+{
+    let _ = owner.value();
+    let mut room = ();
+    let given = GiveBack { index, owner, mode };
+    drive(words, Release::new(capacity), &given, &mut room)
+}
+
+/// A count of the indices that have an owner, over the words of a set.
+fn borrowed_indices(words: &mut Vec<u64>, capacity: u32) -> usize
+    requires { Fits capacity words.old.items }
+    ensures { Turns (Fits capacity) owners_in borrowed raised words.old.items result
+        words.new.items }
+{
+    let mut room = ();
+    drive(words, BorrowedIndices::new(capacity), &(), &mut room)
+}
+
+/// A look at the lock, over the words of a set.
+fn is_locked(words: &mut Vec<u64>, capacity: u32) -> bool
+    requires { Fits capacity words.old.items }
+    ensures { Turns (Fits capacity) owners_in is_locked (λ s. s) words.old.items result
+        words.new.items }
+{
+    let mut room = ();
+    drive(words, IsLocked, &(), &mut room)
+}
+
+/// The index that a question is about.
+fn index_in(question: Question<()>) -> usize
+    ensures { result ≡ index_in question }
+{
+    match question {
+        Question::Index(index) => index,
+        Question::Owned(_, index) => index,
+        Question::Value(index, ()) => index,
+    }
+}
+
+/// What a closure says, as the answer to a call.
+fn as_answer(progression: CallbackProgression) -> u64
+    ensures { result ≡ as_answer progression }
+{
+    match progression {
+        CallbackProgression::Continue => 1,
+        CallbackProgression::Stop => 0,
+    }
+}
+
+/// Calls the closure with the index, and hands it back.
+fn visit_at<F: FnMut(usize) -> CallbackProgression>(
+    mut visit: F,
+    index: usize,
+) -> (CallbackProgression, F)
+    requires { F.pre visit index }
+    ensures { F.step visit index result.0 result.1 }
+{
+    let said = visit(index);
+    (said, visit)
+}
+
+/// A find, over the words of a set. Hands the closure back.
+fn find<F: FnMut(usize) -> CallbackProgression>(
+    words: &mut Vec<u64>,
+    capacity: u32,
+    owner: OwnerId,
+    mut visit: F,
+) -> (usize, F)
+    requires fits { Fits capacity words.old.items }
+    requires owner { owner < 2 ^ 64 - 1 }
+    requires indices { TakesIndices F.pre (λ p x a q. F.step p x a q)
+        (indices_of (owners_in words.old.items) owner) visit }
+    ensures words { words.new.items ≡ words.old.items }
+    ensures found { HasFound (λ p x a q. F.step p x a q)
+        (indices_of (owners_in words.old.items) owner) visit result.0 result.1 }
+{
+    let mut call = Find::new(capacity);
+    for _ in 0..u64::MAX {
+        match drive_to_stop(words, call, &owner, &mut ()) {
+            Stop::Ended(found) => return (found, visit),
+            Stop::Asked(question, asks) => {
+                let (said, next_visit) = visit_at(visit, index_in(question));
+                visit = next_visit;
+                let answer = as_answer(said);
+                match asks.take(&owner, &mut (), answer) {
+                    After::GoOn(next) => call = next,
+                    After::Done(found) => return (found, visit),
+                }
+            }
+        }
+    }
+    unreachable!()
+}
+
+impl RobustUniqueIndexSet {
+    /// Takes the lowest index without an owner for `owner`. `IsLocked` where the set is locked, `OutOfIndices` where each
+    /// index has an owner or the generation is at its end; then nothing changes.
+    pub fn acquire(&mut self, owner: OwnerId) -> Result<usize, UniqueIndexSetAcquireFailure>
+        ensures answer { result ≡ acquired self.old }
+        ensures map { self.new ≡ after_acquire self.old owner }
+    {
+        match acquire(&mut self.words, self.capacity, owner) {
+            Ok(index) => Ok(index as usize),
+            Err(failure) => Err(failure),
+        }
+    }
+
+    /// Gives `index` back, where it is that of `owner`. Else `IndexIsNotOwnedByProvidedOwner`, and nothing changes. In
+    /// mode `LockIfLastIndex` it locks the set where no index has an owner then.
+    pub fn release(
+        &mut self,
+        index: usize,
+        owner: OwnerId,
+        mode: ReleaseMode,
+    ) -> Result<ReleaseState, RobustUniqueIndexSetReleaseError>
+        requires { index < capacity self.old }
+        ensures answer { result ≡ released self.old index owner mode }
+        ensures map { self.new ≡ after_release self.old index owner mode }
+    {
+        release(&mut self.words, self.capacity, index as u32, owner, mode)
+    }
+
+    /// Comes to the indices of `owner`, ascending, and calls `visit` with each, until it says `Stop`: how many it came to,
+    /// the one on which it was told to stop among them.
+    pub fn find<F: FnMut(usize) -> CallbackProgression>(
+        &mut self,
+        owner: OwnerId,
+        visit: F,
+    ) -> usize
+        requires { TakesIndices F.pre (λ p x a q. F.step p x a q) (indices_of self.old owner)
+            visit }
+        ensures found { (last : F) × HasFound (λ p x a q. F.step p x a q)
+            (indices_of self.old owner) visit result last }
+        ensures map { self.new ≡ self.old }
+    {
+        let _ = owner.value();
+        let (found, _) = find(&mut self.words, self.capacity, owner, visit);
+        found
+    }
+
+    /// How many indices have an owner, 0 where the set is locked. It raises the generation.
+    pub fn borrowed_indices(&mut self) -> usize
+        ensures answer { result ≡ borrowed self.old }
+        ensures map { self.new ≡ raised self.old }
+    {
+        borrowed_indices(&mut self.words, self.capacity)
+    }
+
+    /// Whether the set is locked.
+    pub fn is_locked(&mut self) -> bool
+        ensures answer { result ≡ is_locked self.old }
+        ensures map { self.new ≡ self.old }
+    {
+        is_locked(&mut self.words, self.capacity)
+    }
+
+    /// The capacity that it was made with.
+    pub fn capacity(&self) -> usize
+        ensures { result ≡ capacity self.now }
+    {
+        self.capacity as usize
+    }
+
+    /// A set of the indices below `capacity`, none of which has an owner, with generation 0.
+    ///
+    /// Refused are, in this order, a capacity above 2^32 - 1 (`ProvidedCapacityGreaterThanMaxCapacity`), 0
+    /// (`ProvidedCapacityIsZero`) and memory (`NoMemory`).
+    pub fn new(
+        alloc: Global,
+        capacity: usize,
+    ) -> Result<RobustUniqueIndexSet, UniqueIndexCreationError>
+        ensures map { IfOk result (λ s. s ≡ opened_at capacity 0) }
+        ensures admitted { OnOk result (capacity_refusal 1 (2 ^ 32 - 1) capacity ≡ None) }
+        ensures refused { IfErr result (λ e. (capacity_refusal 1 (2 ^ 32 - 1) capacity ≡ Some e)
+            ⊎ (capacity_refusal 1 (2 ^ 32 - 1) capacity ≡ None) × (e ≡ NoMemory)) }
+    {
+        RobustUniqueIndexSet::new_at(alloc, capacity, 0)
+    }
+
+    /// The same with this generation, hence locked for `u64::MAX`. It is refused as `new` is.
+    pub fn new_at(
+        alloc: Global,
+        capacity: usize,
+        generation: u64,
+    ) -> Result<RobustUniqueIndexSet, UniqueIndexCreationError>
+        ensures map { IfOk result (λ s. s ≡ opened_at capacity generation) }
+        ensures admitted { OnOk result (capacity_refusal 1 (2 ^ 32 - 1) capacity ≡ None) }
+        ensures refused { IfErr result (λ e. (capacity_refusal 1 (2 ^ 32 - 1) capacity ≡ Some e)
+            ⊎ (capacity_refusal 1 (2 ^ 32 - 1) capacity ≡ None) × (e ≡ NoMemory)) }
+    {
+        if let Some(error) = capacity_refusal(capacity as u64, 1, u32::MAX as u64) {
+            return Err(error);
+        }
+        let mut words = match Vec::from_elem(alloc, EMPTY, FIRST_CELL + capacity) {
+            Ok(words) => words,
+            Err(_) => return Err(UniqueIndexCreationError::NoMemory),
+        };
+        words[COUNTER] = generation;
+        Ok(RobustUniqueIndexSet {
+            words,
+            capacity: capacity as u32,
+        })
+    }
+}
