@@ -6,7 +6,7 @@ use steps::ask::{After, Ask, Op, Question, Want};
 use steps::routine::Routine;
 
 /// Where a driver stops: at a question, with the call that puts it, or at the end.
-#[derive(Debug, Clone, Copy)]
+#[derive(Clone, Copy)]
 pub enum Stop<C, E> {
     Asked(Question<()>, C),
     Ended(E),

@@ -7,8 +7,8 @@ pub mod counts;
 mod drive;
 pub mod overflowing;
 pub mod queues;
-mod swaps;
 pub mod robust_unique_index_set;
+mod swaps;
 pub mod unique;
 pub mod value;
 

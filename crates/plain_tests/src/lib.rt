@@ -2,4 +2,10 @@
 #![tactic(auto)]
 
 #[cfg(test)]
+mod queues;
+#[cfg(test)]
 mod robust;
+#[cfg(test)]
+mod sets;
+#[cfg(test)]
+mod values;
