@@ -6,5 +6,5 @@ pub use Rattle.lock_free_sp.proofs.Orders
 pub use Rattle.lock_free_sp.proofs.Shares
 pub use Rattle.lock_free_sp.proofs.Rules.Ring.Lists
 pub mod Rules
-pub mod Sets
+pub mod Bits
 pub mod Counts

@@ -22,6 +22,6 @@ pub mod Robust
 pub mod RobustUniqueIndexSet
 pub mod Unique
 pub mod UniqueIndexSet
-pub mod Sets
+pub mod Bits
 pub mod Counts
 pub mod Facts
