@@ -8,5 +8,5 @@ pub use Rattle.lock_free_sp.proofs.Rules.Ring.Lists
 pub mod Held
 pub mod Loan
 pub mod Rules
-pub mod Sets
+pub mod Bits
 pub mod Counts

@@ -26,7 +26,7 @@ pub mod Robust
 pub mod RobustUniqueIndexSet
 pub mod Unique
 pub mod UniqueIndexSet
-pub mod Sets
+pub mod Bits
 pub mod Counts
 pub mod Facts
 pub mod Loan

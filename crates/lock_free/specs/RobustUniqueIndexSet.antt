@@ -5,7 +5,7 @@ use Rattle.std.specs.Arc.{arc_value}
 use Rattle.steps.specs.Enums.{capacity_refusal}
 use Rattle.steps.specs.declared.enums.UniqueIndexCreationError.{UniqueIndexCreationError}
 use Rattle.steps.specs.declared.enums.UniqueIndexCreationError.TheVariants.{ProvidedCapacityGreaterThanMaxCapacity}
-use Rattle.lock_free.specs.Sets.Calls.{SetId}
+use Rattle.lock_free.specs.Bits.Calls.{SetId}
 use Rattle.lock_free.specs.declared.robust.view.View.{View}
 use Rattle.lock_free.specs.declared.mpmc.robust_unique_index_set.RobustUniqueIndexSet.{RobustUniqueIndexSet}
 use Rattle.lock_free.specs.declared.mpmc.robust_unique_index_set.StaticRobustUniqueIndexSet.{StaticRobustUniqueIndexSet}

@@ -3,6 +3,5 @@
 pub mod bit_set;
 pub mod counting_bit_set;
 pub mod robust_unique_index_set;
-pub mod sets;
 pub mod unique_index_set;
 pub mod unique_index_set_enums;

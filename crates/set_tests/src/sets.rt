@@ -1,5 +1,5 @@
 //! Bit sets and counting bit sets: alone, and between threads.
-ghost use Rattle.lock_free.specs.Sets.Calls.{IsPassOf};
+ghost use Rattle.lock_free.specs.Bits.Calls.{IsPassOf};
 ghost use Rattle.lock_free.specs.Counts.Calls.{IsPassOf as IsCountsPassOf};
 
 use lock_free::mpmc::bit_set::{BitSet, FixedSizeBitSet};

@@ -5,7 +5,7 @@ use Rattle.std.specs.List.{FoldsTo}
 use Rattle.steps.specs.Indices.Robust.Parts.{empty}
 use Rattle.steps.specs.declared.enums.CallbackProgression.{CallbackProgression}
 use Rattle.steps.specs.declared.enums.CallbackProgression.TheVariants.{Continue, Stop}
-use Rattle.lock_free.specs.Sets.Callable.{Ascends}
+use Rattle.lock_free.specs.Bits.Callable.{Ascends}
 
 -- ---- find
 

@@ -14,7 +14,7 @@ use Rattle.steps.specs.declared.indices.robust.find.FindStage as finds
 use Rattle.steps.specs.Indices.Robust.Parts.{one_more}
 use Rattle.steps.specs.Indices.Robust.Find.{at_find, find_comes_to, find_takes, find_after}
 use Rattle.lock_free.specs.declared.robust.view.View.{View}
-use Rattle.lock_free.specs.Sets.Callable.{Ascends, TakesPlaces}
+use Rattle.lock_free.specs.Bits.Callable.{Ascends, TakesPlaces}
 use Rattle.lock_free.specs.Robust.Callable.{HasFound}
 use Rattle.lock_free.specs.Robust.Stages.{FindStage, FindStands, FindAsks, FindMoves, says}
 

@@ -3,7 +3,7 @@ ghost use Rattle.std.specs.Prelude.{◌≡◌, ℕ, false, IsTrue, IsFalse};
 ghost use Rattle.steps.specs.declared.enums.CallbackProgression.TheVariants.{Continue};
 ghost use Rattle.steps.specs.Indices.Robust.Find.{find_after};
 ghost use Rattle.steps.specs.Indices.Robust.Recover.{recover_after};
-ghost use Rattle.lock_free.specs.Sets.Callable.{TakesPlaces};
+ghost use Rattle.lock_free.specs.Bits.Callable.{TakesPlaces};
 ghost use Rattle.lock_free.specs.Robust.Callable.{HasFound, TakesQuestions, TakesFreed, HasVisited};
 ghost use Rattle.lock_free.specs.Robust.Calls.{HasRecovered};
 ghost use Rattle.lock_free.specs.Robust.Stages.{FindStands, FindAsks, FindMoves, RecoverStands, RecoverGoes, RecoverAsks, RecoverMoves, has_freed};

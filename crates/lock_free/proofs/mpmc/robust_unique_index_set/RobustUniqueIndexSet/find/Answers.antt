@@ -1,7 +1,7 @@
 use Rattle.std.proofs.Common.{sym, ap, subst}
-use Rattle.lock_free.specs.Sets.Calls.{SetId}
+use Rattle.lock_free.specs.Bits.Calls.{SetId}
 use Rattle.lock_free.specs.Robust.Callable.{HasFound}
-use Rattle.lock_free.proofs.Sets.Handed.{takes_places_at}
+use Rattle.lock_free.proofs.Bits.Cleared.{takes_places_at}
 use Rattle.lock_free.proofs.mpmc.robust_unique_index_set.RobustUniqueIndexSet.find.Goals as goal
 use Rattle.lock_free.proofs.mpmc.robust_unique_index_set.RobustUniqueIndexSet.find.Given as given
 

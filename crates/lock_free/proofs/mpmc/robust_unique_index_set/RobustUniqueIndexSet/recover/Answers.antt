@@ -1,5 +1,5 @@
 use Rattle.std.proofs.Common.{sym, ap, subst, ◌∙◌}
-use Rattle.lock_free.specs.Sets.Calls.{SetId}
+use Rattle.lock_free.specs.Bits.Calls.{SetId}
 use Rattle.lock_free.specs.Robust.Callable.{HasVisited}
 use Rattle.lock_free.specs.RobustUniqueIndexSet.{view}
 use Rattle.lock_free.proofs.Rules.Robust.Recovering.{questions_at, freed_at}

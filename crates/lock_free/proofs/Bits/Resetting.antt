@@ -1,0 +1,166 @@
+-- Resetting the next place: a call of the model, and what it answers.
+use Rattle.std.proofs.Common.{◌≡◌, inl, ℕ, ◌+◌, ◌-◌, ◌/◌, ◌<◌, ◌≤◌, ◌==◌, nat_lt, Bool, true, false, Option, Some, None, IfSome, List, [], ◌∷◌, ◌++◌, refl, sym, ap, subst, ◌∙◌, arith, append-nil}
+use Rattle.std.proofs.lemmas.Bool.Decides.{nat_tests}
+use Rattle.steps.specs.Picks.{by_test, by_eq}
+use Rattle.steps.specs.Queues.Ring.{after_position}
+use Rattle.steps.specs.Bits.BitSet.{first_reset, at_reset, place_after, at_most, reset_asks, reset_want, reset_comes_to, reset_tests, reset_takes, reset_after}
+use Rattle.steps.specs.Bits.Words.{element_of, elements, has_flag, without_flag}
+use Rattle.steps.specs.declared.ask.Ask.{Ask}
+use Rattle.steps.specs.declared.ask.Op.TheVariants.{Load, Store, Exchange}
+use Rattle.steps.specs.declared.ask.After.{After}
+use Rattle.steps.specs.declared.ask.After.TheVariants.{GoOn, Done}
+use Rattle.steps.specs.declared.ask.Want.TheVariants as wants
+use Rattle.steps.specs.declared.bits.bit_set.ResetNext.{ResetNext as Resetting}
+use Rattle.steps.specs.declared.bits.bit_set.ResetNextStage.{ResetNextStage}
+use Rattle.steps.specs.declared.bits.bit_set.ResetNextStage as resets
+use Rattle.model.specs.declared.event.Answer.TheVariants.{ResetNone}
+use Rattle.model.specs.declared.event.Event.{Event}
+use Rattle.model.specs.declared.event.Event.TheVariants.{Cleared, Finished}
+use Rattle.model.specs.declared.event.Start.TheVariants.{Bits}
+use Rattle.model.specs.declared.families.bits.BitsStart.TheVariants.{ResetNext}
+use Rattle.model.specs.declared.turn.Kind.TheVariants as kinds
+use Rattle.model.specs.Coding.{one_word}
+use Rattle.model.specs.Families.{after_of}
+use Rattle.model.specs.Families.Bits.Calls.{reset_answer}
+use Rattle.model.specs.Families.Bits.Promises.{IsBitSet}
+use Rattle.model.specs.Families.Bits.Reading.{standing}
+use Rattle.model.specs.Moments.{HeldOnce}
+use Rattle.bit_laws.proofs.Bits.Justified.{bits_go_on}
+use Rattle.lock_free_sp.specs.Driver.{answered, KeepsRule}
+use Rattle.history.specs.declared.view.View.{View}
+use Rattle.history.specs.History.{IsMachine, Called}
+use Rattle.history.specs.Stages.{At, Ends}
+use Rattle.history.proofs.Drives.{IsCallOf, goes, keeps, called}
+use Rattle.history.proofs.Sets.{set_effects, bits_owe}
+use Rattle.lock_free.specs.Counts.Driven.{IsIdle}
+use Rattle.lock_free.specs.Bits.Stages.{ResetStands, reset_so_far, reset_wrote, IsPlace, resets_next}
+use Rattle.lock_free.specs.Bits.Told.{HasReset, AllClearOnce}
+use Rattle.lock_free.proofs.Counts.Ends.{before_end, to_end}
+
+place_below : (cap start passed : ℕ) → start ≤ cap → passed < cap → place_after cap start passed < cap
+place_below cap start passed low few =
+    by_test (λ p. p < cap) (nat_lt (start + passed) cap) (start + passed) (start + passed - cap)
+    (λ t. grind (arith, nat_tests)) (λ t. omega arith)
+
+at_most_below : (cap position : ℕ) → at_most cap position ≤ cap
+at_most_below cap position =
+    by_test (λ p. p ≤ cap) (nat_lt cap position) cap position (λ t. omega arith) (λ t. grind (arith, nat_tests))
+
+abbrev at_stage : ℕ → ResetNextStage → Resetting
+at_stage cap stage = record { capacity = cap; stage = stage }
+
+-- ---- how it goes on
+
+-- where it goes on it stands, and it has written this
+abbrev Stands : ℕ → ℕ → After Resetting (Option ℕ) → List (Event ℕ) → Type 0
+Stands cap p (GoOn d) es = (d.capacity ≡ cap) × ResetStands cap d.stage × (es ≡ reset_so_far p d.stage)
+Stands cap p (Done o) es = IsPlace cap o × (es ≡ reset_wrote p o)
+
+comes_to : (cap p start passed : ℕ) (from : ResetNextStage) → start ≤ cap → Stands cap p (reset_comes_to (at_stage cap from) start passed) []
+comes_to cap p start passed from low =
+    by_test (λ a. Stands cap p a []) (nat_lt passed cap) (GoOn (at_stage cap (resets.TheVariants.LoadsElement start passed))) (Done None)
+    (λ t. let further : passed < cap = grind (arith, nat_tests) in (refl, (low, further), refl))
+    (λ t. (tt, refl))
+
+tests : (cap p start passed k : ℕ) (from : ResetNextStage) → start ≤ cap → passed < cap → Stands cap p (reset_tests (at_stage cap from) start passed k) []
+tests cap p start passed k from low few =
+    by_test (λ a. Stands cap p a []) (has_flag k (place_after cap start passed)) (GoOn (at_stage cap (resets.TheVariants.ExchangesElement start passed k))) (reset_comes_to (at_stage cap from) start (passed + 1))
+    (λ t. (refl, (low, few), refl)) (λ t. comes_to cap p start (passed + 1) from low)
+
+-- what a step makes of what the call had written
+takes : (cap p n : ℕ) (m : Unit {0}) (stage : ResetNextStage) → ResetStands cap stage → Stands cap p (reset_after (at_stage cap stage) n) (reset_so_far p stage ++ set_effects p (resets_next.flight (at_stage cap stage) m) n)
+takes cap p n m resets.TheVariants.LoadsPosition h = comes_to cap p (at_most cap n) 0 resets.TheVariants.LoadsPosition (at_most_below cap n)
+takes cap p n m (resets.TheVariants.LoadsElement start passed) h = tests cap p start passed n (resets.TheVariants.LoadsElement start passed) h.0 h.1
+takes cap p n m (resets.TheVariants.ExchangesElement start passed found) h = go (n == found) refl
+  where
+    go : (b : Bool) → (n == found) ≡ b → Stands cap p (reset_after (at_stage cap (resets.TheVariants.ExchangesElement start passed found)) n) ([] ++ set_effects p (resets_next.flight (at_stage cap (resets.TheVariants.ExchangesElement start passed found)) m) n)
+    go true t = rw t (refl, place_below cap start passed h.0 h.1, refl)
+    go false t = rw t (tests cap p start passed n (resets.TheVariants.ExchangesElement start passed found) h.0 h.1)
+takes cap p n m (resets.TheVariants.StoresPosition place) h = (h, refl)
+
+stands_on : (cap p n : ℕ) (m : Unit {0}) (c : Resetting) → (c.capacity ≡ cap) × ResetStands cap c.stage → Stands cap p (reset_after c n) (reset_so_far p c.stage ++ set_effects p (resets_next.flight c m) n)
+stands_on cap p n m c h = subst (λ k. Stands cap p (reset_after (at_stage k c.stage) n) (reset_so_far p c.stage ++ set_effects p (resets_next.flight (at_stage k c.stage) m) n)) (sym h.0) (takes cap p n m c.stage h.1)
+
+-- ---- it is a call of the model
+
+abbrev Goes : Resetting → Unit {0} → ℕ → After Resetting (Option ℕ) → Type 0
+Goes c m n a = after_of one_word ((resets_next {T = ℕ}).flight c m) n ≡ goes resets_next a m
+
+same_after : (c : Resetting) (m : Unit {0}) (n : ℕ) → Goes c m n (reset_after c n)
+same_after c m n = go (reset_after c n) refl
+  where
+    go : (a : After Resetting (Option ℕ)) → reset_after c n ≡ a → Goes c m n a
+    go (GoOn d) e = rw e refl
+    go (Done o) e = rw e refl
+
+asks : (cap : ℕ) (c : Resetting) → (c.capacity ≡ cap) × ResetStands cap c.stage → (a : Ask) × (a.word < 1 + elements cap) × (reset_want c ≡ wants.Ask a)
+asks cap c h = subst (λ k. (a : Ask) × (a.word < 1 + elements cap) × (reset_asks k c.stage ≡ wants.Ask a)) (sym h.0) (at c.stage h.1)
+  where
+    near : (place : ℕ) → place < cap → element_of place < 1 + elements cap
+    near place below = omega arith
+
+    at : (stage : ResetNextStage) → ResetStands cap stage → (a : Ask) × (a.word < 1 + elements cap) × (reset_asks cap stage ≡ wants.Ask a)
+    at resets.TheVariants.LoadsPosition s = (record { word = 0; op = Load }, omega arith, refl)
+    at (resets.TheVariants.LoadsElement start passed) s = (record { word = element_of (place_after cap start passed); op = Load }, near (place_after cap start passed) (place_below cap start passed s.0 s.1), refl)
+    at (resets.TheVariants.ExchangesElement start passed found) s = (
+      record { word = element_of (place_after cap start passed); op = Exchange found (without_flag found (place_after cap start passed)) },
+      near (place_after cap start passed) (place_below cap start passed s.0 s.1),
+      refl,
+    )
+    at (resets.TheVariants.StoresPosition place) s = (record { word = 0; op = Store (after_position place) }, omega arith, refl)
+
+-- a load and an exchange tell what they found, and a store is heard by nobody
+hears : (c : Resetting) (a : Ask) (n : ℕ) → reset_want c ≡ wants.Ask a → reset_after c (answered a.op n) ≡ reset_after c n
+hears c a n e = at c.stage e
+  where
+    at : (stage : ResetNextStage) → reset_asks c.capacity stage ≡ wants.Ask a → reset_takes c stage (answered a.op n) ≡ reset_takes c stage n
+    at resets.TheVariants.LoadsPosition w =
+        let same : record { word = 0; op = Load } ≡ a = cc in
+        ap (λ (z : Ask). reset_takes c resets.TheVariants.LoadsPosition (answered z.op n)) (sym same)
+    at (resets.TheVariants.LoadsElement start passed) w =
+        let same : record { word = element_of (place_after c.capacity start passed); op = Load } ≡ a = cc in
+        ap (λ (z : Ask). reset_takes c (resets.TheVariants.LoadsElement start passed) (answered z.op n)) (sym same)
+    at (resets.TheVariants.ExchangesElement start passed found) w =
+        let same : record { word = element_of (place_after c.capacity start passed); op = Exchange found (without_flag found (place_after c.capacity start passed)) } ≡ a = cc in
+        ap (λ (z : Ask). reset_takes c (resets.TheVariants.ExchangesElement start passed found) (answered z.op n)) (sym same)
+    at (resets.TheVariants.StoresPosition place) w = refl
+
+is_call : IsCallOf one_word set_effects (λ capacity. 1 + elements capacity) reset_want reset_after (λ c m n. m) (resets_next {T = ℕ})
+is_call =
+    record {
+      same_want = λ c m. refl;
+      same_after = same_after;
+      hears = λ c m a n e. (hears c a n e, refl);
+      stays = λ capacity c d n stands e. (let h = subst (λ a. Stands capacity 0 a (reset_so_far 0 c.stage ++ set_effects 0 (resets_next.flight c tt) n)) e (stands_on capacity 0 n tt c stands) in (h.0, h.1));
+      asks = asks;
+      tells = λ capacity p from c d m n es stands wrote e none. (let h = subst (λ a. Stands capacity p a (reset_so_far p c.stage ++ set_effects p (resets_next.flight c m) n)) e (stands_on capacity p n m c stands) in ap (λ zs. zs ++ set_effects p (resets_next.flight c m) n) (wrote none) ∙ h.2);
+      tells_all = λ capacity p from c o m n es stands wrote e. (
+          let h = subst (λ a. Stands capacity p a (reset_so_far p c.stage ++ set_effects p (resets_next.flight c m) n)) e (stands_on capacity p n m c stands) in
+          (h.0, λ none. ap (λ zs. zs ++ set_effects p (resets_next.flight c m) n) (wrote none) ∙ h.1));
+    }
+
+pub next_keeps : KeepsRule (λ (z : View ℕ). z.capacity) (At one_word kinds.Bits resets_next) (Ends one_word kinds.Bits resets_next) (λ key. 1 + elements key + 1) (λ key. key) (λ key. IsMachine one_word kinds.Bits key) reset_want reset_after (λ c m n. m)
+next_keeps = keeps one_word kinds.Bits set_effects (λ capacity. 1 + elements capacity) (bits_owe one_word) reset_want reset_after (λ c m n. m) resets_next is_call
+
+pub next_first : (v : View ℕ) (m : Unit {0}) → IsIdle v.capacity v → At one_word kinds.Bits resets_next v v (first_reset v.capacity) m
+next_first v m idle = inl (record { is = refl; idle = idle.idle; fresh = idle.alone; standing = (refl, tt); some = idle.some; first = refl; may = λ p. refl; wrote = λ p e. refl })
+
+module _ (base w : View ℕ) (o : Option ℕ) (m : Unit {0}) (idle : base.going ≡ None) (ends : Ends one_word kinds.Bits resets_next base o m w) where
+  pub cleared : HasReset o base w
+  cleared = record { by = ends.party; mine = ends.mine; called = subst (λ es. Called ends.party (Bits ResetNext) (reset_answer o) es base w) (ends.tells.1 idle) (called one_word kinds.Bits resets_next base w o m idle ends) }
+
+  pub place_in : IfSome o (λ place. place < base.capacity)
+  place_in = go o ends.tells.0
+    where
+      go : (x : Option ℕ) → IsPlace base.capacity x → IfSome x (λ place. place < base.capacity)
+      go None h = tt
+      go (Some place) h = h
+
+  pub all_clear : o ≡ None → AllClearOnce base.capacity w
+  all_clear none =
+      let p = ends.party in
+      let h = ends.history in
+      let c : Called p (Bits ResetNext) ResetNone ends.wrote base w = subst (λ z. Called p (Bits ResetNext) (reset_answer z) ends.wrote base w) none (called one_word kinds.Bits resets_next base w o m idle ends) in
+      let set : IsBitSet h.trace = bits_go_on h.trace h.run.of_kind h.run.reached in
+      let right : (b : ℕ) → b < h.trace.world.capacity → HeldOnce p (λ part. standing b part ≡ 0) (before_end c) = set.answers (before_end c) [] (Finished p (Bits ResetNext) ResetNone) (sym h.is ∙ to_end c) in
+      record { by = p; before = before_end c; is = to_end c; clear = λ place below. right place (subst (λ n. place < n) (sym h.run.sized) below) }

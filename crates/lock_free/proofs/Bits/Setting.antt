@@ -1,0 +1,129 @@
+-- Setting a place: a call of the model, and what it answers.
+use Rattle.std.proofs.Common.{◌≡◌, inl, ℕ, ◌+◌, ◌/◌, ◌^◌, ◌<◌, ◌==◌, nat_le, Bool, true, false, true≢false, Some, None, List, [], ◌∷◌, ◌++◌, refl, sym, ap, subst, ◌∙◌, arith}
+use Rattle.std.proofs.lemmas.Bool.Decides.{nat_tests}
+use Rattle.steps.specs.Bits.BitSet.{first_set, set_want, set_tests, set_after}
+use Rattle.steps.specs.Bits.Words.{element_of, elements, has_flag, with_flag}
+use Rattle.steps.specs.declared.ask.Ask.{Ask}
+use Rattle.steps.specs.declared.ask.Op.TheVariants.{Load, Exchange}
+use Rattle.steps.specs.declared.ask.After.{After}
+use Rattle.steps.specs.declared.ask.After.TheVariants.{GoOn, Done}
+use Rattle.steps.specs.declared.ask.Want.TheVariants as wants
+use Rattle.steps.specs.declared.bits.bit_set.Set.{Set as Setting}
+use Rattle.steps.specs.declared.bits.bit_set.SetStage.{SetStage}
+use Rattle.steps.specs.declared.bits.bit_set.SetStage as sets
+use Rattle.model.specs.declared.event.Answer.TheVariants.{Truth}
+use Rattle.model.specs.declared.event.Event.{Event}
+use Rattle.model.specs.declared.event.Event.TheVariants.{Finished}
+use Rattle.model.specs.declared.event.Start.TheVariants.{Bits}
+use Rattle.model.specs.declared.families.bits.BitsStart.TheVariants.{Set}
+use Rattle.model.specs.declared.turn.Kind.TheVariants as kinds
+use Rattle.model.specs.Coding.{one_word}
+use Rattle.model.specs.Families.{after_of}
+use Rattle.model.specs.Families.Bits.Promises.{IsBitSet}
+use Rattle.bit_laws.proofs.Bits.Justified.{bits_go_on}
+use Rattle.lock_free_sp.specs.Driver.{answered, KeepsRule}
+use Rattle.history.specs.declared.view.View.{View}
+use Rattle.history.specs.History.{IsMachine, Called}
+use Rattle.history.specs.Stages.{At, Ends}
+use Rattle.history.proofs.Drives.{IsCallOf, goes, keeps, called}
+use Rattle.history.proofs.Sets.{set_effects, bits_owe}
+use Rattle.lock_free.specs.Counts.Driven.{IsIdle}
+use Rattle.lock_free.specs.Bits.Stages.{set_wrote, sets_place}
+use Rattle.lock_free.specs.Bits.Told.{HasSet, StoodOnce}
+use Rattle.lock_free.proofs.Counts.Ends.{before_end, to_end}
+
+module _ (place : ℕ) where
+  same_after : (c : Setting) (m : Unit {0}) (n : ℕ) → after_of one_word ((sets_place {T = ℕ} place).flight c m) n ≡ goes (sets_place place) (set_after c place n) m
+  same_after c m n = at c.stage
+    where
+      tests : (b : Bool) → has_flag n place ≡ b → (k : SetStage) → after_of one_word ((sets_place {T = ℕ} place).flight (record { stage = sets.TheVariants.LoadsElement }) m) n ≡ goes (sets_place place) (set_tests place n) m
+      tests true t k = rw t refl
+      tests false t k = rw t refl
+
+      at : (stage : SetStage) → after_of one_word ((sets_place {T = ℕ} place).flight (record { stage = stage }) m) n ≡ goes (sets_place place) (set_after (record { stage = stage }) place n) m
+      at sets.TheVariants.LoadsElement = tests (has_flag n place) refl sets.TheVariants.LoadsElement
+      at (sets.TheVariants.ExchangesElement found) = go (n == found) refl
+        where
+          go : (b : Bool) → (n == found) ≡ b → after_of one_word ((sets_place {T = ℕ} place).flight (record { stage = sets.TheVariants.ExchangesElement found }) m) n ≡ goes (sets_place place) (set_after (record { stage = sets.TheVariants.ExchangesElement found }) place n) m
+          go true t = rw t refl
+          go false t = test (has_flag n place) refl
+            where
+              test : (b : Bool) → has_flag n place ≡ b → after_of one_word ((sets_place {T = ℕ} place).flight (record { stage = sets.TheVariants.ExchangesElement found }) m) n ≡ goes (sets_place place) (set_after (record { stage = sets.TheVariants.ExchangesElement found }) place n) m
+              test true u = rw (t, u) refl
+              test false u = rw (t, u) refl
+
+  asks : (capacity : ℕ) (c : Setting) → place < capacity → (a : Ask) × (a.word < 1 + elements capacity) × (set_want c place ≡ wants.Ask a)
+  asks capacity c below = at c.stage
+    where
+      near : element_of place < 1 + elements capacity
+      near = omega arith
+
+      at : (stage : SetStage) → (a : Ask) × (a.word < 1 + elements capacity) × (set_want (record { stage = stage }) place ≡ wants.Ask a)
+      at sets.TheVariants.LoadsElement = (record { word = element_of place; op = Load }, near, refl)
+      at (sets.TheVariants.ExchangesElement found) = (record { word = element_of place; op = Exchange found (with_flag found place) }, near, refl)
+
+  hears : (c : Setting) (a : Ask) (n : ℕ) → set_want c place ≡ wants.Ask a → set_after c place (answered a.op n) ≡ set_after c place n
+  hears c a n e = at c.stage e
+    where
+      at : (stage : SetStage) → set_want (record { stage = stage }) place ≡ wants.Ask a → set_after (record { stage = stage }) place (answered a.op n) ≡ set_after (record { stage = stage }) place n
+      at sets.TheVariants.LoadsElement w =
+          let same : record { word = element_of place; op = Load } ≡ a = cc in
+          ap (λ (z : Ask). set_after (record { stage = sets.TheVariants.LoadsElement }) place (answered z.op n)) (sym same)
+      at (sets.TheVariants.ExchangesElement found) w =
+          let same : record { word = element_of place; op = Exchange found (with_flag found place) } ≡ a = cc in
+          ap (λ (z : Ask). set_after (record { stage = sets.TheVariants.ExchangesElement found }) place (answered z.op n)) (sym same)
+
+  -- what a step writes, by how it goes on
+  abbrev Wrote : ℕ → After Setting Bool → List (Event ℕ) → Type 0
+  Wrote p (GoOn d) es = es ≡ []
+  Wrote p (Done b) es = es ≡ set_wrote p place b
+
+  tested : (p n : ℕ) → Wrote p (set_tests place n) []
+  tested p n = go (has_flag n place) refl
+    where
+      go : (b : Bool) → has_flag n place ≡ b → Wrote p (set_tests place n) []
+      go true t = rw t refl
+      go false t = rw t refl
+
+  writes : (p : ℕ) (c : Setting) (m : Unit {0}) (n : ℕ) → Wrote p (set_after c place n) (set_effects p ((sets_place place).flight c m) n)
+  writes p c m n = at c.stage
+    where
+      at : (stage : SetStage) → Wrote p (set_after (record { stage = stage }) place n) (set_effects p ((sets_place place).flight (record { stage = stage }) m) n)
+      at sets.TheVariants.LoadsElement = tested p n
+      at (sets.TheVariants.ExchangesElement found) = go (n == found) refl
+        where
+          go : (b : Bool) → (n == found) ≡ b → Wrote p (set_after (record { stage = sets.TheVariants.ExchangesElement found }) place n) (set_effects p ((sets_place place).flight (record { stage = sets.TheVariants.ExchangesElement found }) m) n)
+          go true t = rw t refl
+          go false t = rw t (tested p n)
+
+  is_call : IsCallOf one_word set_effects (λ capacity. 1 + elements capacity) (λ c. set_want c place) (λ c n. set_after c place n) (λ c m n. m) (sets_place {T = ℕ} place)
+  is_call =
+      record {
+        same_want = λ c m. refl;
+        same_after = same_after;
+        hears = λ c m a n e. (hears c a n e, refl);
+        stays = λ capacity c d n stands e. stands;
+        asks = asks;
+        tells = λ capacity p from c d m n es stands wrote e. ap (λ zs. zs ++ set_effects p ((sets_place place).flight c m) n) wrote ∙ subst (λ a. Wrote p a (set_effects p ((sets_place place).flight c m) n)) e (writes p c m n);
+        tells_all = λ capacity p from c b m n es stands wrote e. ap (λ zs. zs ++ set_effects p ((sets_place place).flight c m) n) wrote ∙ subst (λ a. Wrote p a (set_effects p ((sets_place place).flight c m) n)) e (writes p c m n);
+      }
+
+  pub set_keeps : KeepsRule (λ (z : View ℕ). z.capacity) (At one_word kinds.Bits (sets_place place)) (Ends one_word kinds.Bits (sets_place place)) (λ key. 1 + elements key + 1) (λ key. key) (λ key. IsMachine one_word kinds.Bits key) (λ c. set_want c place) (λ c n. set_after c place n) (λ c m n. m)
+  set_keeps = keeps one_word kinds.Bits set_effects (λ capacity. 1 + elements capacity) (bits_owe one_word) (λ c. set_want c place) (λ c n. set_after c place n) (λ c m n. m) (sets_place place) is_call
+
+  pub set_first : (v : View ℕ) (m : Unit {0}) → IsIdle v.capacity v → place < v.capacity → At one_word kinds.Bits (sets_place place) v v first_set m
+  set_first v m idle below =
+      let past : nat_le v.capacity place ≡ false = grind (arith, nat_tests) in
+      inl (record { is = refl; idle = idle.idle; fresh = idle.alone; standing = below; some = idle.some; first = refl; may = λ p. rw past refl; wrote = λ p. refl })
+
+  module _ (base w : View ℕ) (b : Bool) (m : Unit {0}) (idle : base.going ≡ None) (ends : Ends one_word kinds.Bits (sets_place place) base b m w) where
+    pub added : HasSet place b base w
+    added = record { by = ends.party; mine = ends.mine; called = subst (λ es. Called ends.party (Bits (Set place)) (Truth b) es base w) ends.tells (called one_word kinds.Bits (sets_place place) base w b m idle ends) }
+
+    pub stood : b ≡ false → StoodOnce place w
+    stood not =
+        let p = ends.party in
+        let h = ends.history in
+        let c : Called p (Bits (Set place)) (Truth false) ends.wrote base w = subst (λ z. Called p (Bits (Set place)) (Truth z) ends.wrote base w) not (called one_word kinds.Bits (sets_place place) base w b m idle ends) in
+        let set : IsBitSet h.trace = bits_go_on h.trace h.run.of_kind h.run.reached in
+        record { by = p; before = before_end c; is = to_end c; stood = set.answers (before_end c) [] (Finished p (Bits (Set place)) (Truth false)) (sym h.is ∙ to_end c) }

@@ -1,0 +1,5 @@
+-- The words of the contracts of bit sets.
+pub mod Callable
+pub mod Stages
+pub mod Told
+pub mod Calls

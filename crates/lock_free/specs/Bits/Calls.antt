@@ -1,0 +1,68 @@
+-- Which bit set a pass is for, and what it knows of the set's history.
+use Rattle.std.specs.Prelude.{◌≡◌, ℕ, Option, Some, IfSome, List, sum_by}
+use Rattle.std.specs.Arc.{arc_value}
+use Rattle.atomic_table.specs.Seated.{TableId}
+use Rattle.model.specs.declared.event.Event.{Event}
+use Rattle.model.specs.declared.turn.Kind.TheVariants as kinds
+use Rattle.model.specs.Coding.{one_word}
+use Rattle.lock_free_sp.specs.declared.share.Share.{Share}
+use Rattle.lock_free_sp.specs.Shares.{IsAll}
+use Rattle.history.specs.declared.view.View.{View}
+use Rattle.history.specs.History.{IsHistory}
+use Rattle.lock_free.specs.declared.mpmc.bit_set.BitSet.{BitSet}
+use Rattle.lock_free.specs.declared.mpmc.bit_set.FixedSizeBitSet.{FixedSizeBitSet}
+use Rattle.lock_free.specs.declared.mpmc.bit_set.Pass.{Pass}
+
+-- what names a set
+pub record SetId : Type 0 where
+  pub table : TableId
+  pub capacity : ℕ
+
+abbrev pub set_id : BitSet → SetId
+set_id s = record { table = (arc_value s.table).shared.table_id; capacity = s.capacity }
+
+abbrev pub capacity_of : BitSet → ℕ
+capacity_of s = s.capacity
+
+-- the set of one whose capacity is part of its type
+abbrev pub inner : {CAPACITY : ℕ} → FixedSizeBitSet CAPACITY → BitSet
+inner s = s.set
+
+-- which set a pass is for
+abbrev pub set_of : Pass → SetId
+set_of p = record { table = p.seated.seat.table_id; capacity = p.capacity }
+
+abbrev pub IsPassOf : BitSet → Pass → Type 0
+IsPassOf s p = set_of p ≡ set_id s
+
+-- all that a pass knows
+abbrev pub view : Pass → View ℕ
+view p = p.seated.seat.me.0
+
+-- the beginning of the history that it has seen
+abbrev pub history : Pass → List (Event ℕ)
+history p = p.seated.seat.me.0.seen
+
+-- the events of its own calls, and of those of the passes that it took in
+abbrev pub made : Pass → List (Event ℕ)
+made p = p.seated.seat.me.0.made
+
+-- the party that it is in the history; None before its first call
+abbrev pub party : Pass → Option ℕ
+party p = p.seated.seat.me.0.party
+
+-- its share of the right to know the whole
+abbrev pub share : Pass → Share
+share p = p.seated.seat.me.0.share
+
+-- it has seen a history of its set
+abbrev pub HasHistory : Pass → Type 0
+HasHistory p = IsHistory one_word kinds.Bits (set_of p).capacity (history p)
+
+-- it is the same party, where it was one
+abbrev pub IsSameParty : Pass → Pass → Type 0
+IsSameParty old new = IfSome (party old) (λ p. party new ≡ Some p)
+
+-- with the whole share, the history is what it made: every measure of the events says so
+abbrev pub MissesNothing : Pass → Type 0
+MissesNothing p = IsAll (share p) → (f : Event ℕ → ℕ) → sum_by f (history p) ≡ sum_by f (made p)

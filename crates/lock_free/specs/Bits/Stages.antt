@@ -1,0 +1,90 @@
+-- The calls on bit sets as calls of the model: where each stands, and what it has written there.
+use Rattle.std.specs.Prelude.{◌≡◌, ℕ, ◌+◌, ◌<◌, ◌≤◌, Bool, true, false, Option, Some, None, List, [], ◌∷◌}
+use Rattle.steps.specs.Bits.Words.{elements}
+use Rattle.steps.specs.declared.bits.bit_set.Set.{Set as Setting}
+use Rattle.steps.specs.declared.bits.bit_set.ResetNext.{ResetNext as Resetting}
+use Rattle.steps.specs.declared.bits.bit_set.ResetNextStage as resets
+use Rattle.steps.specs.declared.bits.reset_all.ResetAll.{ResetAll as Emptying}
+use Rattle.steps.specs.declared.copied.OneWord.{OneWord}
+use Rattle.model.specs.declared.event.Answer.TheVariants.{Truth}
+use Rattle.model.specs.declared.event.Event.{Event}
+use Rattle.model.specs.declared.event.Event as events
+use Rattle.model.specs.declared.event.Start.TheVariants.{Bits}
+use Rattle.model.specs.declared.families.Flight.{Flight}
+use Rattle.model.specs.declared.families.Flight as flights
+use Rattle.model.specs.declared.families.bits.BitsStart.TheVariants.{Set, ResetNext}
+use Rattle.model.specs.declared.families.bits.calls.BitsFlight as calls
+use Rattle.model.specs.Families.Bits.Calls.{reset_answer}
+use Rattle.model.specs.Families.Bits.Steps.{clear_events}
+use Rattle.history.specs.Stages.{Calling}
+use Rattle.lock_free.specs.Counts.Stages.{empties}
+
+-- the place that it comes to, or has come to, is below the capacity
+abbrev pub ResetStands : ℕ → resets.ResetNextStage → Type 0
+ResetStands capacity resets.TheVariants.LoadsPosition = Unit {0}
+ResetStands capacity (resets.TheVariants.LoadsElement start passed) =
+    (start ≤ capacity) × (passed < capacity)
+ResetStands capacity (resets.TheVariants.ExchangesElement start passed found) =
+    (start ≤ capacity) × (passed < capacity)
+ResetStands capacity (resets.TheVariants.StoresPosition place) = place < capacity
+
+abbrev pub IsPlace : ℕ → Option ℕ → Type 0
+IsPlace capacity None = Unit {0}
+IsPlace capacity (Some place) = place < capacity
+
+module _ {T : Type 0} where
+  -- ---- setting a place
+
+  abbrev pub set_wrote : ℕ → ℕ → Bool → List (Event T)
+  set_wrote p place true = events.TheVariants.Set p place ∷ []
+  set_wrote p place false = []
+
+  abbrev pub sets_place : ℕ → Calling T Setting (Unit {0}) Bool
+  sets_place place =
+      record {
+        start = Bits (Set place);
+        stands = λ capacity c. place < capacity;
+        flight = λ c m.
+            flights.TheVariants.Bits
+            (calls.TheVariants.Set (record { call = c; given = place; room = m }));
+        answer = λ b m. Truth b;
+        wrote = λ capacity p from c m es. es ≡ [];
+        wrote_all = λ capacity p from b m es. es ≡ set_wrote p place b;
+      }
+
+  -- ---- resetting the next place
+
+  abbrev pub reset_so_far : ℕ → resets.ResetNextStage → List (Event T)
+  reset_so_far p resets.TheVariants.LoadsPosition = []
+  reset_so_far p (resets.TheVariants.LoadsElement start passed) = []
+  reset_so_far p (resets.TheVariants.ExchangesElement start passed found) = []
+  reset_so_far p (resets.TheVariants.StoresPosition place) =
+      events.TheVariants.Cleared p place ∷ []
+
+  abbrev pub reset_wrote : ℕ → Option ℕ → List (Event T)
+  reset_wrote p None = []
+  reset_wrote p (Some place) = events.TheVariants.Cleared p place ∷ []
+
+  abbrev pub resets_next : Calling T Resetting (Unit {0}) (Option ℕ)
+  resets_next =
+      record {
+        start = Bits ResetNext;
+        stands = λ capacity c. (c.capacity ≡ capacity) × ResetStands capacity c.stage;
+        flight = λ c m.
+            flights.TheVariants.Bits
+            (calls.TheVariants.ResetNext (record { call = c; given = tt; room = m }));
+        answer = λ o m. reset_answer o;
+        wrote = λ capacity p from c m es. from ≡ None → es ≡ reset_so_far p c.stage;
+        wrote_all = λ capacity p from o m es.
+            IsPlace capacity o × (from ≡ None → es ≡ reset_wrote p o);
+      }
+
+  -- ---- emptying the words
+
+  abbrev pub clearing : Emptying → OneWord → Flight T
+  clearing c m =
+      flights.TheVariants.Bits
+      (calls.TheVariants.ResetAll (record { call = c; given = tt; room = m }))
+
+  abbrev pub clears_all : Calling T Emptying OneWord (Unit {0})
+  clears_all = empties clearing clear_events 1 (λ capacity. 1 + elements capacity)

@@ -1,0 +1,64 @@
+-- What the calls on bit sets add to the history, and what they answer.
+use Rattle.std.specs.Prelude.{◌≡◌, ℕ, ◌<◌, Bool, false, Option, Some, List, [], ◌∷◌, ◌++◌, map}
+use Rattle.std.specs.List.{FoldsTo}
+use Rattle.model.specs.declared.event.Answer.TheVariants.{Truth, ResetNone, Done}
+use Rattle.model.specs.declared.event.Event.{Event}
+use Rattle.model.specs.declared.event.Event.TheVariants.{Cleared, Finished}
+use Rattle.model.specs.declared.event.Start.TheVariants.{Bits}
+use Rattle.model.specs.declared.families.bits.BitsStart.TheVariants.{Set, ResetNext, ResetAll}
+use Rattle.model.specs.Families.Bits.Calls.{reset_answer}
+use Rattle.model.specs.Families.Bits.Promises.{HasCleared}
+use Rattle.model.specs.Families.Bits.Reading.{standing}
+use Rattle.model.specs.Moments.{HeldOnce, SinceBegin}
+use Rattle.history.specs.declared.view.View.{View}
+use Rattle.history.specs.History.{Called}
+use Rattle.lock_free.specs.Bits.Callable.{Ascends}
+use Rattle.lock_free.specs.Bits.Stages.{set_wrote, reset_wrote}
+
+-- the call set the place where it answered true, and nothing else
+pub record HasSet (place : ℕ) (answer : Bool) (old new : View ℕ) : Type 0 where
+  pub by : ℕ
+  pub mine : new.party ≡ Some by
+  pub called : Called by (Bits (Set place)) (Truth answer) (set_wrote by place answer) old new
+
+-- the place stood at a moment of the call that ended last
+pub record StoodOnce (place : ℕ) (new : View ℕ) : Type 0 where
+  pub by : ℕ
+  pub before : List (Event ℕ)
+  pub is : new.seen ≡ before ++ Finished by (Bits (Set place)) (Truth false) ∷ []
+  pub stood : HeldOnce by (λ part. standing place part ≡ 1) before
+
+-- the call cleared the place that it answers, and nothing else
+pub record HasReset (answer : Option ℕ) (old new : View ℕ) : Type 0 where
+  pub by : ℕ
+  pub mine : new.party ≡ Some by
+  pub called : Called by (Bits ResetNext) (reset_answer answer) (reset_wrote by answer) old new
+
+-- each place was clear at some moment of the call that ended last
+pub record AllClearOnce (capacity : ℕ) (new : View ℕ) : Type 0 where
+  pub by : ℕ
+  pub before : List (Event ℕ)
+  pub is : new.seen ≡ before ++ Finished by (Bits ResetNext) ResetNone ∷ []
+  pub clear : (place : ℕ) → place < capacity
+      → HeldOnce by (λ part. standing place part ≡ 0) before
+
+abbrev pub cleared_by : ℕ → ℕ → Event ℕ
+cleared_by p place = Cleared p place
+
+-- the call cleared just these places, ascending, and the closure was called with each of them
+pub record HasCleanedOut {F : Type 0} (step : F → ℕ → F → Type 0) (capacity : ℕ) (visit : F)
+    (old new : View ℕ) : Type 0 where
+  pub places : List ℕ
+  pub ascend : Ascends capacity places
+  pub last : F
+  pub visited : FoldsTo step visit places last
+  pub by : ℕ
+  pub mine : new.party ≡ Some by
+  pub called : Called by (Bits ResetAll) Done (map (cleared_by by) places) old new
+
+-- each place that stood as the call began was cleared since, by it or by another
+pub record MissedNoPlace (capacity : ℕ) (new : View ℕ) : Type 0 where
+  pub by : ℕ
+  pub before : List (Event ℕ)
+  pub is : new.seen ≡ before ++ Finished by (Bits ResetAll) Done ∷ []
+  pub cleared : SinceBegin by (HasCleared capacity) before

@@ -1,0 +1,167 @@
+//! The calls on a bit set: the calls of `steps`, driven.
+ghost use Rattle.std.specs.Prelude.{◌≡◌, ◌+◌, ◌<◌, ◌^◌, ℕ, None, IfSome, IsTrue, IsFalse};
+ghost use Rattle.steps.specs.Bits.Words.{elements, has_flag as flag_of};
+ghost use Rattle.model.specs.declared.turn.Kind.TheVariants as kinds;
+ghost use Rattle.lock_free_sp.specs.Seats.{seen, IsSame, IsAt};
+ghost use Rattle.history.specs.declared.view.View.{View as Views};
+ghost use Rattle.lock_free.specs.Counts.Driven.{IsIdle, HasDone};
+ghost use Rattle.lock_free.specs.Bits.Calls.{set_of, capacity_of, IsPassOf, view, share, HasHistory, IsSameParty, MissesNothing};
+ghost use Rattle.lock_free.specs.Bits.Callable.{TakesPlaces, Visited};
+ghost use Rattle.lock_free.specs.Bits.Told.{HasSet, StoodOnce, HasReset, AllClearOnce, HasCleanedOut, MissedNoPlace};
+
+use super::drives::{ClearsNone, ResetsBits, ResetsNext, Sets};
+use super::rule::BitsRule;
+use super::{BitSet, Pass};
+use history::view::View;
+use lock_free_sp::driver::seated::Seated;
+use std::sync::Wait;
+use steps::ask::After;
+use steps::bits::bit_set::{ResetNext, Set};
+use steps::bits::flags::has_flag;
+use steps::bits::reset_all::ResetAll;
+use steps::copied::OneWord;
+use steps::routine::Routine;
+
+/// Calls the closure with the place where it stood, and hands the closure back.
+fn call_where<F: FnMut(usize)>(mut visit: F, stood: bool, place: u64) -> F
+    requires { IsTrue stood → F.pre visit place }
+    ensures called { IsTrue stood → F.step visit place tt result }
+    ensures passed { IsFalse stood → result ≡ visit }
+{
+    if stood {
+        visit(place as usize);
+    }
+    visit
+}
+
+/// Calls the closure with each of 64 places from `first` on whose flag was found, ascending, and hands it back.
+fn visit_word<F: FnMut(usize)>(mut visit: F, found: u64, first: u64) -> F
+    requires small { first + 64 < 2 ^ 64 }
+    requires visits { (n : ℕ) (now : F) → n < 64 → IsTrue (flag_of found (first + n))
+        → Visited (λ p x q. F.step p x tt q) found first visit n now → F.pre now (first + n) }
+    ensures { Visited (λ p x q. F.step p x tt q) found first visit 64 result }
+{
+    for bit in 0..64u64 {
+        let place = first + bit;
+        visit = call_where(visit, has_flag(found, place), place);
+    }
+    visit
+}
+
+/// Resets all places, and calls the closure with each one that stood, after the step that reset it.
+fn clear_all<F: FnMut(usize)>(
+    seated: &mut Seated<View<u64>, u64, BitsRule>,
+    capacity: u32,
+    mut visit: F,
+)
+    requires table { IsAt (λ (key : ℕ). 1 + elements key + 1) (λ (key : ℕ). key) (λ (v : Views ℕ). v.capacity) seated.old }
+    requires idle { IsIdle capacity (seen seated.old) }
+    requires places { 0 < capacity }
+    requires visits { TakesPlaces F.pre (λ p x q. F.step p x tt q) capacity visit }
+    ensures same { IsSame seated.old seated.new }
+    ensures done { HasDone kinds.Bits (seen seated.old) (seen seated.new) }
+    ensures cleared { HasCleanedOut (λ p x q. F.step p x tt q) capacity visit (seen seated.old) (seen seated.new) }
+{
+    let mut room = OneWord(0);
+    let mut call = ResetAll::bits(capacity);
+    loop {
+        let after = seated.step::<ResetAll, ResetsBits>(call, &(), &mut room);
+        visit = visit_word(visit, room.0, (call.word as u64 - 1) * 64);
+        match after {
+            After::GoOn(next) => call = next,
+            After::Done(()) => return,
+        }
+    }
+}
+
+/// The same of a set of no place: one look at a word, and the closure is not called.
+fn clear_none<F: FnMut(usize)>(
+    seated: &mut Seated<View<u64>, u64, BitsRule>,
+    capacity: u32,
+    visit: F,
+)
+    requires table { IsAt (λ (key : ℕ). 1 + elements key + 1) (λ (key : ℕ). key) (λ (v : Views ℕ). v.capacity) seated.old }
+    requires idle { IsIdle capacity (seen seated.old) }
+    requires places { capacity ≡ 0 }
+    ensures same { IsSame seated.old seated.new }
+    ensures done { HasDone kinds.Bits (seen seated.old) (seen seated.new) }
+    ensures cleared { HasCleanedOut (λ p x q. F.step p x tt q) capacity visit (seen seated.old) (seen seated.new) }
+{
+    let _ = seated.table.shared.load::<ClearsNone>(&mut seated.seat, 0);
+}
+
+impl BitSet {
+    /// Sets the place `id`, which is below the capacity: true where this call set it, false only where it stood at a
+    /// moment of the call. At most 2 steps, and 1 more for each time that another call changed its word
+    /// between them. After `set` of the Rust crate.
+    pub fn set(&self, rt: &impl Wait, id: usize, pass: &mut Pass) -> bool
+        requires pass { IsPassOf self.now pass.old }
+        requires place { id < capacity_of self.now }
+        ensures set { set_of pass.new ≡ set_of pass.old }
+        ensures share { share pass.new ≡ share pass.old }
+        ensures party { IsSameParty pass.old pass.new }
+        ensures history { HasHistory pass.new }
+        ensures all { MissesNothing pass.new }
+        ensures added { HasSet id result (view pass.old) (view pass.new) }
+        ensures stood { IsFalse result → StoodOnce id (view pass.new) }
+    {
+        let place = id as u64;
+        let end = pass
+            .seated
+            .drive_on::<Set, Sets>(rt, Set::new(), &place, &mut ());
+        Set::answer(end, &place, &())
+    }
+
+    /// Resets the next place that stands, and answers it: a place below the capacity. None only where each place was
+    /// clear at a moment of the call. It looks from the place after the last one that a
+    /// `reset_next` reset, and after the greatest place goes on at 0. At most 3 + capacity steps, and 1
+    /// more for each time that another call changed the word of a place between its load and its reset.
+    /// After `reset_next` of the Rust crate.
+    pub fn reset_next(&self, rt: &impl Wait, pass: &mut Pass) -> Option<usize>
+        requires { IsPassOf self.now pass.old }
+        ensures set { set_of pass.new ≡ set_of pass.old }
+        ensures share { share pass.new ≡ share pass.old }
+        ensures party { IsSameParty pass.old pass.new }
+        ensures history { HasHistory pass.new }
+        ensures all { MissesNothing pass.new }
+        ensures place { IfSome result (λ place. place < capacity_of self.now) }
+        ensures cleared { HasReset result (view pass.old) (view pass.new) }
+        ensures clear { result ≡ None → AllClearOnce (capacity_of self.now) (view pass.new) }
+    {
+        let call = ResetNext::new(pass.capacity);
+        let end = pass
+            .seated
+            .drive_on::<ResetNext, ResetsNext>(rt, call, &(), &mut ());
+        match ResetNext::answer(end, &(), &()) {
+            Some(place) => Some(place as usize),
+            None => None,
+        }
+    }
+
+    /// Resets all places, and calls `visit` with each one that it cleared: ascending, each at most once and below the
+    /// capacity. Each one that stood as the call began was cleared in its span, by it or by another.
+    ///
+    /// It takes one step for each 64 places, which resets them together; `visit` is called after that step and before
+    /// the next. What `visit` itself sets is handed out by this call where it lies at a place of a later step, and
+    /// stands afterwards else. After `reset_all` of the Rust crate, where each word has 8 places.
+    pub fn reset_all<F: FnMut(usize)>(&self, visit: F, pass: &mut Pass)
+        requires pass { IsPassOf self.now pass.old }
+        requires places { TakesPlaces F.pre (λ p x q. F.step p x tt q)
+            (capacity_of self.now) visit }
+        ensures set { set_of pass.new ≡ set_of pass.old }
+        ensures share { share pass.new ≡ share pass.old }
+        ensures party { IsSameParty pass.old pass.new }
+        ensures history { HasHistory pass.new }
+        ensures all { MissesNothing pass.new }
+        ensures cleared { HasCleanedOut (λ p x q. F.step p x tt q) (capacity_of self.now) visit
+            (view pass.old) (view pass.new) }
+        ensures stood { MissedNoPlace (capacity_of self.now) (view pass.new) }
+    {
+        let capacity = pass.capacity;
+        if capacity == 0 {
+            clear_none(&mut pass.seated, capacity, visit);
+        } else {
+            clear_all(&mut pass.seated, capacity, visit);
+        }
+    }
+}

@@ -1,0 +1,65 @@
+//! How passes are made of one another.
+ghost use Rattle.std.specs.Prelude.{◌≡◌, ◌⊎◌, ◌++◌, [], None, IfSome};
+ghost use Rattle.history.specs.History.{IsBeginning};
+ghost use Rattle.lock_free_sp.specs.Shares.{half_of, both_of, IsAll};
+ghost use Rattle.lock_free.specs.Bits.Calls.{set_of, history, made, party, share, HasHistory, MissesNothing};
+
+use super::Pass;
+use super::drives::Look;
+use history::plays::{Both, Cut};
+use lock_free_sp::driver::seated::Seated;
+use std::sync::Arc;
+use steps::bits::flags::{FIRST_ELEMENT, elements};
+
+impl Pass {
+    /// A new pass of the same set, which has seen the same and made nothing. None where no further pass can be counted
+    /// (no clause says when). This project's own.
+    pub fn split(&mut self) -> Option<Pass>
+        ensures set { set_of self.new ≡ set_of self.old }
+        ensures seen { history self.new ≡ history self.old }
+        ensures made { made self.new ≡ made self.old }
+        ensures party { party self.new ≡ party self.old }
+        ensures new { IfSome result (λ p. set_of p ≡ set_of self.old) }
+        ensures new_seen { IfSome result (λ p. history p ≡ history self.old) }
+        ensures new_made { IfSome result (λ p. made p ≡ []) }
+        ensures new_party { IfSome result (λ p. party p ≡ None) }
+        ensures halves { IfSome result (λ p. (share self.new ≡ half_of (share self.old)) × (share p ≡ half_of (share self.old))) }
+    {
+        let seated = &mut self.seated;
+        let Ok(table) = Arc::try_clone(&seated.table) else {
+            return None;
+        };
+        let seat = seated.table.shared.split_seat::<Cut>(&mut seated.seat);
+        Some(Pass {
+            seated: Seated { seat, table },
+            capacity: self.capacity,
+        })
+    }
+
+    /// Takes in the other pass of the set, and sees all of the history. Where it has the whole share now, one of the two
+    /// had seen all of it, and each event in it was made by one of them. This project's own.
+    pub fn join(&mut self, other: Pass)
+        requires { set_of other ≡ set_of self.old }
+        ensures set { set_of self.new ≡ set_of self.old }
+        ensures party { party self.new ≡ party self.old }
+        ensures made { made self.new ≡ made self.old ++ made other }
+        ensures share { share self.new ≡ both_of (share self.old) (share other) }
+        ensures mine { IsBeginning (history self.old) (history self.new) }
+        ensures theirs { IsBeginning (history other) (history self.new) }
+        ensures history { HasHistory self.new }
+        ensures whole { IsAll (share self.new)
+            → (history self.new ≡ history self.old) ⊎ (history self.new ≡ history other) }
+        ensures all { MissesNothing self.new }
+    {
+        let Pass { seated: other, .. } = other;
+        let Seated { seat, .. } = other;
+        let capacity = self.capacity;
+        let seated = &mut self.seated;
+        seated
+            .table
+            .shared
+            .join_seat::<Both>(&mut seated.seat, seat);
+        let last = FIRST_ELEMENT + elements(capacity) as usize;
+        let _ = seated.table.shared.load::<Look>(&mut seated.seat, last);
+    }
+}
