@@ -6,3 +6,4 @@ pub mod Releases
 pub mod Finds
 pub mod Finding
 pub mod Recovers
+pub mod Recovering

@@ -1,10 +1,10 @@
 //! The set of indices with owners of one caller.
-ghost use Rattle.std.specs.Prelude.{◌≡◌, ◌<◌, ◌^◌, ◌-◌, ◌⊎◌, None, Some, IfOk, IfErr, OnOk};
+ghost use Rattle.std.specs.Prelude.{◌≡◌, ◌<◌, ◌^◌, ◌-◌, ◌⊎◌, if◌then◌else◌, IsTrue, IsFalse, None, Some, IfOk, IfErr, OnOk};
 ghost use Rattle.steps.specs.Enums.{capacity_refusal};
 ghost use Rattle.steps.specs.declared.enums.UniqueIndexCreationError.TheVariants.{NoMemory};
-ghost use Rattle.steps.specs.Objects.Owners.{Owners, opened_at, capacity, is_locked, raised, indices_of, borrowed, acquired, after_acquire, released, after_release};
+ghost use Rattle.steps.specs.Objects.Owners.{Owners, opened_at, capacity, is_locked, state_of, raised, indices_of, to_recover, borrowed, acquired, after_acquire, released, after_release};
 ghost use Rattle.plain.specs.Alone.{Turns};
-ghost use Rattle.plain.specs.Callable.{TakesIndices, HasFound, index_in, as_answer};
+ghost use Rattle.plain.specs.Callable.{TakesIndices, HasFound, TakesQuestions, TakesFreed, HasRecovered, index_in, as_answer};
 ghost use Rattle.plain.specs.Robust.{owners_in, Fits};
 
 use crate::drive::{Stop, drive, drive_to_stop};
@@ -19,6 +19,7 @@ use steps::indices::robust::acquire::Acquire;
 use steps::indices::robust::find::Find;
 use steps::indices::robust::looks::{BorrowedIndices, IsLocked};
 use steps::indices::robust::parts::{COUNTER, EMPTY, FIRST_CELL};
+use steps::indices::robust::recover::Recover;
 use steps::indices::robust::release::{GiveBack, Release};
 use steps::routine::Routine;
 
@@ -161,6 +162,86 @@ fn find<F: FnMut(usize) -> CallbackProgression>(
     unreachable!()
 }
 
+/// Asks the closure about the owner and the index, and hands it back.
+fn ask_about<F: FnMut(OwnerId, usize) -> bool>(
+    mut predicate: F,
+    owner: OwnerId,
+    index: usize,
+) -> (bool, F)
+    requires { F.pre predicate owner index }
+    ensures { F.step predicate owner index result.0 result.1 }
+{
+    let yes = predicate(owner, index);
+    (yes, predicate)
+}
+
+/// Tells the closure of the owner and the index after a yes, and hands it back.
+fn tell_where<S: FnMut(OwnerId, usize)>(
+    mut recovered: S,
+    yes: bool,
+    owner: OwnerId,
+    index: usize,
+) -> S
+    requires { IsTrue yes → S.pre recovered owner index }
+    ensures told { IsTrue yes → S.step recovered owner index tt result }
+    ensures passed { IsFalse yes → result ≡ recovered }
+{
+    if yes {
+        recovered(owner, index);
+    }
+    recovered
+}
+
+/// Yes or no, as the answer to a call.
+fn as_yes(yes: bool) -> u64
+    ensures { result ≡ if yes then 1 else 0 }
+{
+    if yes { 1 } else { 0 }
+}
+
+/// A recovery, over the words of a set. Hands the closures back.
+fn recover<F: FnMut(OwnerId, usize) -> bool, S: FnMut(OwnerId, usize)>(
+    words: &mut Vec<u64>,
+    capacity: u32,
+    mode: ReleaseMode,
+    mut predicate: F,
+    mut recovered: S,
+) -> (ReleaseState, F, S)
+    requires fits { Fits capacity words.old.items }
+    requires questions { TakesQuestions F.pre (λ p o i b q. F.step p o i b q)
+        (to_recover (owners_in words.old.items)) predicate }
+    requires freed { TakesFreed (λ p o i b q. F.step p o i b q) S.pre
+        (λ s o i t. S.step s o i tt t) (to_recover (owners_in words.old.items)) predicate
+        recovered }
+    ensures fits { Fits capacity words.new.items }
+    ensures state { result.0 ≡ state_of (owners_in words.new.items) }
+    ensures calls { HasRecovered (λ p o i b q. F.step p o i b q) (λ s o i t. S.step s o i tt t)
+        mode (owners_in words.old.items) (owners_in words.new.items) predicate recovered
+        result.1 result.2 }
+{
+    let mut call = Recover::new(capacity);
+    for _ in 0..u64::MAX {
+        match drive_to_stop(words, call, &mode, &mut ()) {
+            Stop::Ended(state) => return (state, predicate, recovered),
+            Stop::Asked(question, asks) => match question {
+                Question::Owned(owner, index) => {
+                    let (yes, next_predicate) = ask_about(predicate, owner, index);
+                    predicate = next_predicate;
+                    recovered = tell_where(recovered, yes, owner, index);
+                    let answer = as_yes(yes);
+                    match asks.take(&mode, &mut (), answer) {
+                        After::GoOn(next) => call = next,
+                        After::Done(_) => unreachable!(),
+                    }
+                }
+                Question::Index(_) => unreachable!(),
+                Question::Value(..) => unreachable!(),
+            },
+        }
+    }
+    unreachable!()
+}
+
 impl RobustUniqueIndexSet {
     /// Takes the lowest index without an owner for `owner`. `IsLocked` where the set is locked, `OutOfIndices` where each
     /// index has an owner or the generation is at its end; then nothing changes.
@@ -205,6 +286,34 @@ impl RobustUniqueIndexSet {
         let _ = owner.value();
         let (found, _) = find(&mut self.words, self.capacity, owner, visit);
         found
+    }
+
+    /// Asks `predicate` about each index that has an owner, ascending, tells `recover_success` of those about which it said
+    /// true, and gives these back. In mode `LockIfLastIndex` it locks the set where no index has an owner after one was
+    /// given back. `Locked` where the set is locked then, else `Unlocked`. A locked set asks nothing.
+    pub fn recover<F: FnMut(OwnerId, usize) -> bool, S: FnMut(OwnerId, usize)>(
+        &mut self,
+        mode: ReleaseMode,
+        predicate: F,
+        recover_success: S,
+    ) -> ReleaseState
+        requires questions { TakesQuestions F.pre (λ p o i b q. F.step p o i b q)
+            (to_recover self.old) predicate }
+        requires freed { TakesFreed (λ p o i b q. F.step p o i b q) S.pre
+            (λ s o i t. S.step s o i tt t) (to_recover self.old) predicate recover_success }
+        ensures answer { result ≡ state_of self.new }
+        ensures calls { (f_last : F) × (s_last : S) × HasRecovered (λ p o i b q. F.step p o i b q)
+            (λ s o i t. S.step s o i tt t) mode self.old self.new predicate recover_success f_last
+            s_last }
+    {
+        let (state, _, _) = recover(
+            &mut self.words,
+            self.capacity,
+            mode,
+            predicate,
+            recover_success,
+        );
+        state
     }
 
     /// How many indices have an owner, 0 where the set is locked. It raises the generation.

@@ -1,0 +1,379 @@
+-- A recovery with its closures, from one question to the next.
+use Rattle.std.proofs.Common.{◌≡◌, ◌≢◌, ℕ, zero, suc, ◌+◌, ◌-◌, ◌^◌, ◌<◌, ◌≤◌, ⊎_elim, Bool, true, false, ◌==◌, not, ◌&&◌, nat_lt, if◌then◌else◌, List, [], ◌∷◌, ◌++◌, length, drop, map, filter, fold, Option, Some, None, refl, sym, ap, subst, ◌∙◌, arith, slice_set, length-set, eq-eqb, ne_eqb, IsTrue, IsFalse}
+use Rattle.std.specs.List.{FoldsTo}
+use Rattle.std.proofs.lemmas.List.{drop-set-lt, map-append, append_assoc, append-nil, length-append, length-map, length-drop}
+use Rattle.std.proofs.lemmas.List.Sums.{fold-append}
+use Rattle.std.proofs.lemmas.List.Elements.{filter-append}
+use Rattle.std.proofs.lemmas.Bool.{cases_Bool}
+use Rattle.std.proofs.lemmas.Bool.Decides.{nat_tests, eqb_tells}
+use Rattle.steps.specs.Picks.{by_test, by_eq}
+use Rattle.steps.specs.Indices.Robust.Parts.{empty, locked, greatest}
+use Rattle.steps.specs.Indices.Robust.Recover.{at_recover, first_recover, recover_comes_to, recover_want, recover_after}
+use Rattle.steps.specs.declared.ask.After.{After}
+use Rattle.steps.specs.declared.ask.After.TheVariants.{GoOn, Done}
+use Rattle.steps.specs.declared.ask.Question.{Question}
+use Rattle.steps.specs.declared.ask.Question as questions
+use Rattle.steps.specs.declared.ask.Want.{Want}
+use Rattle.steps.specs.declared.indices.enums.ReleaseMode.{ReleaseMode}
+use Rattle.steps.specs.declared.indices.enums.ReleaseMode.TheVariants.{LockIfLastIndex, Default}
+use Rattle.steps.specs.declared.indices.enums.ReleaseState.{ReleaseState}
+use Rattle.steps.specs.declared.indices.enums.ReleaseState.TheVariants.{Locked, Unlocked}
+use Rattle.steps.specs.declared.indices.robust.recover.Recover.{Recover}
+use Rattle.steps.specs.declared.indices.robust.recover.RecoverStage as recovers
+use Rattle.steps.specs.Objects.Owners.{Owners, Owned, taken_from, taken, next_generation, is_locked, state_of, given_back, to_recover, recovered}
+use Rattle.plain.specs.declared.drive.Stop as stops
+use Rattle.plain.specs.Alone.{CanStop, StopsAlike}
+use Rattle.plain.specs.Callable.{index_in, Asked, asks, tells, agreed, TakesQuestions, TakesFreed, HasRecovered}
+use Rattle.plain.specs.Callable as said
+use Rattle.plain.specs.Robust.{owner_in, owners_in, Fits}
+use Rattle.plain.proofs.Alone.{Halts, can_stop, stops_so}
+use Rattle.plain.proofs.Walks.{plus, plus_sum, Walks, Goes, halts}
+use Rattle.plain.proofs.Robust.Parts.{number, locking, next_below, next_there, next_small, state_number}
+use Rattle.plain.proofs.Robust.Releases.{counter_then, counter_small, given_back_is}
+use Rattle.plain.proofs.Robust.Finding.{folds_more}
+use Rattle.plain.proofs.Robust.Recovers.{AsksAt, StopsAt, recovers_on, frees_on, rounds}
+
+-- ---- numbers of taken indices
+
+taken_most : (i : ℕ) (os : List (Option ℕ)) → length (taken_from i os) ≤ length os
+taken_most i [] = (let z : 0 ≤ 0 = omega arith in z)
+taken_most i (None ∷ os) =
+    let h = taken_most (i + 1) os in
+    let z : length (taken_from (i + 1) os) ≤ suc (length os) = omega arith in z
+taken_most i (Some o ∷ os) =
+    let h = taken_most (i + 1) os in
+    let z : suc (length (taken_from (i + 1) os)) ≤ suc (length os) = omega arith in z
+
+taken_base : (i j : ℕ) (os : List (Option ℕ)) → length (taken_from i os) ≡ length (taken_from j os)
+taken_base i j [] = refl
+taken_base i j (None ∷ os) = taken_base (i + 1) (j + 1) os
+taken_base i j (Some o ∷ os) = ap suc (taken_base (i + 1) (j + 1) os)
+
+taken_less : (i k : ℕ) (o : Option ℕ) (os : List (Option ℕ)) → length (taken_from i os) ≤ length (taken_from k (o ∷ os))
+taken_less i k None os =
+    let h = taken_base i (k + 1) os in
+    let z : length (taken_from i os) ≤ length (taken_from (k + 1) os) = omega arith in z
+taken_less i k (Some o) os =
+    let h = taken_base i (k + 1) os in
+    let z : length (taken_from i os) ≤ suc (length (taken_from (k + 1) os)) = omega arith in z
+
+-- the taken ones from a place on are among all
+taken_within : (n i k : ℕ) (cells : List ℕ) → length (taken_from i (map owner_in (drop n cells))) ≤ length (taken_from k (map owner_in cells))
+taken_within zero i k cells =
+    let h = taken_base i k (map owner_in cells) in
+    let z : length (taken_from i (map owner_in cells)) ≤ length (taken_from k (map owner_in cells)) = omega arith in z
+taken_within (suc n) i k [] = (let z : 0 ≤ 0 = omega arith in z)
+taken_within (suc n) i k (c ∷ cells) =
+    let h = taken_within n i 0 cells in
+    let l = taken_less 0 k (owner_in c) (map owner_in cells) in
+    let z : length (taken_from i (map owner_in (drop n cells))) ≤ length (taken_from k (owner_in c ∷ map owner_in cells)) = omega arith in z
+
+none_left : (xs : List Owned) → length xs ≤ 0 → xs ≡ []
+none_left [] low = refl
+none_left (x ∷ xs) low = absurd (omega arith)
+
+next_opens : (g : ℕ) → g < 2 ^ 64 → g ≢ locked → next_generation g ≢ locked
+next_opens g small other e =
+    ⊎_elim
+    (λ (t : ((g == greatest) ≡ true) × (g ≡ greatest)). let far : greatest ≤ g = (let x = t.1 in omega arith) in let n = next_there g far in let x = t.1 in absurd (omega arith))
+    (λ (t : ((g == greatest) ≡ false) × (g ≢ greatest)). let n = next_below g other t.1 small in let x = t.1 in absurd (omega (arith, other, x)))
+    (eqb_tells g greatest)
+
+-- a lock leaves nothing to ask about
+locked_leaves : (mode : ReleaseMode) (g : ℕ) (emptied : List ℕ) (n i : ℕ) → g < 2 ^ 64 → g ≢ locked → counter_then mode g emptied ≡ locked
+    → taken_from i (map owner_in (drop n emptied)) ≡ []
+locked_leaves Default g emptied n i small other e = absurd (next_opens g small other e)
+locked_leaves LockIfLastIndex g emptied n i small other e =
+    ⊎_elim
+    (λ (t : ((number emptied == 0) ≡ true) × (number emptied ≡ 0)).
+      none_left (taken_from i (map owner_in (drop n emptied)))
+      (let h = taken_within n i 0 emptied in let z = t.1 in omega arith))
+    (λ (t : ((number emptied == 0) ≡ false) × (number emptied ≢ 0)).
+      let stays : locking (next_generation g) emptied ≡ next_generation (next_generation g) =
+          ap (λ b. if b && not (next_generation (next_generation g) == greatest) then locked else next_generation (next_generation g)) t.0 in
+      absurd (next_opens (next_generation g) (next_small g small) (next_opens g small other) (sym stays ∙ e)))
+    (eqb_tells (number emptied) 0)
+
+-- ---- one more question
+
+abbrev an_answer : Owned → Bool → Asked
+an_answer o yes = record { of = o; yes = yes }
+
+questions_more : (xs : List Asked) (a : Asked) → said.questions (xs ++ a ∷ []) ≡ said.questions xs ++ a.of ∷ []
+questions_more xs a = map-append (λ (a : Asked). a.of) xs (a ∷ [])
+
+agreed_more : (xs ys : List Asked) → agreed (xs ++ ys) ≡ agreed xs ++ agreed ys
+agreed_more xs ys =
+    ap (map (λ (a : Asked). a.of)) (filter-append (λ (a : Asked). a.yes) xs ys)
+    ∙ map-append (λ (a : Asked). a.of) (filter (λ (a : Asked). a.yes) xs) (filter (λ (a : Asked). a.yes) ys)
+
+agreed_no : (xs : List Asked) (o : Owned) → agreed (xs ++ an_answer o false ∷ []) ≡ agreed xs
+agreed_no xs o = agreed_more xs (an_answer o false ∷ []) ∙ append-nil (agreed xs)
+
+agreed_yes : (xs : List Asked) (o : Owned) → agreed (xs ++ an_answer o true ∷ []) ≡ agreed xs ++ o ∷ []
+agreed_yes xs o = agreed_more xs (an_answer o true ∷ [])
+
+module _ {F S : Type 0} (step : F → ℕ → ℕ → Bool → F → Type 0) (tell : S → ℕ → ℕ → S → Type 0) (mode : ReleaseMode)
+    (f : F) (s : S) (capacity : ℕ) (first : List ℕ) where
+  abbrev old : Owners
+  old = owners_in first
+
+  abbrev want : Recover → ReleaseMode → Want (Unit {0})
+  want c given = recover_want c
+
+  abbrev kept : Recover → Unit {0} → ℕ → Unit {0}
+  kept c room old = room
+
+  -- It asked about these, and these are left. Where it stops next, the words are these.
+  pub record Recovering (done : ℕ) (call : Recover) (p : F) (q : S) (words : List ℕ) : Type 0 where
+    pub g : ℕ
+    pub cells : List ℕ
+    pub fits : Fits capacity (g ∷ cells)
+    pub asked : List Asked
+    pub left : List Owned
+    pub joined : said.questions asked ++ left ≡ to_recover old
+    pub answers : FoldsTo (asks step) f asked p
+    pub told : FoldsTo (tells tell) s (agreed asked) q
+    pub map_is : owners_in (g ∷ cells) ≡ recovered mode old (agreed asked)
+    pub shut : g ≡ locked → left ≡ []
+    pub number : length asked ≡ done
+    pub run : Halts want recover_after kept mode (λ s room ws. StopsAt capacity g cells left s ws) call tt words
+
+  -- what there is to say at the end
+  pub record Gone (state : ReleaseState) (p : F) (q : S) (last : List ℕ) : Type 0 where
+    pub fits : Fits capacity last
+    pub state_is : state ≡ state_of (owners_in last)
+    pub calls : HasRecovered step tell mode old (owners_in last) f s p q
+
+  module _ (done : ℕ) (call : Recover) (p : F) (q : S) (words : List ℕ) (t : Recovering done call p q words) where
+    pub can_go : CanStop want recover_after kept mode call tt words
+    can_go = can_stop want recover_after kept mode _ call tt words t.run
+
+    pub ended_so : (state : ReleaseState) (r : Unit {0}) (last : List ℕ)
+        → StopsAlike want recover_after kept mode call tt words (stops.TheVariants.Ended state) r last → Gone state p q last
+    ended_so state r last alike =
+        let at = stops_so want recover_after kept mode _ call tt words t.run (stops.TheVariants.Ended state) r last alike in
+        subst (Gone state p q) (sym at.2)
+        (record {
+          fits = t.fits;
+          state_is = at.1;
+          calls = record {
+            asked = t.asked;
+            all = sym (append-nil (said.questions t.asked)) ∙ (ap (λ l. said.questions t.asked ++ l) (sym at.0) ∙ t.joined);
+            answers = t.answers;
+            told = t.told;
+            next = t.map_is;
+          };
+        })
+
+    pub asks_so : (question : Question (Unit {0})) (put : Recover) (r : Unit {0}) (last : List ℕ)
+        → StopsAlike want recover_after kept mode call tt words (stops.TheVariants.Asked question put) r last
+        → AsksAt capacity t.g t.cells t.left question put last
+    asks_so question put r last alike =
+        stops_so want recover_after kept mode _ call tt words t.run (stops.TheVariants.Asked question put) r last alike
+
+  -- ---- at a question
+
+  module _ (done : ℕ) (call : Recover) (p : F) (q : S) (words : List ℕ) (t : Recovering done call p q words)
+      (question : Question (Unit {0})) (put : Recover) (last : List ℕ) (at : AsksAt capacity t.g t.cells t.left question put last) where
+    abbrev it : Owned
+    it = record { owner = at.owner; index = at.index }
+
+    abbrev left_then : List Owned
+    left_then = taken_from (at.index + 1) (map owner_in at.rest)
+
+    long : length t.cells ≡ capacity
+    long = let e : suc (length t.cells) ≡ 1 + capacity = t.fits.long in omega arith
+
+    asked_so : said.questions t.asked ++ it ∷ left_then ≡ to_recover old
+    asked_so = ap (λ l. said.questions t.asked ++ l) (sym at.left_is) ∙ t.joined
+
+    joined_then : (yes : Bool) → said.questions (t.asked ++ an_answer it yes ∷ []) ++ left_then ≡ to_recover old
+    joined_then yes =
+        ap (λ l. l ++ left_then) (questions_more t.asked (an_answer it yes))
+        ∙ (append_assoc (said.questions t.asked) (it ∷ []) left_then ∙ asked_so)
+
+    number_then : (yes : Bool) → length (t.asked ++ an_answer it yes ∷ []) ≡ done + 1
+    number_then yes = length-append t.asked (an_answer it yes ∷ []) ∙ ap (λ n. n + 1) t.number
+
+    opens : t.g ≢ locked
+    opens e = let none = t.shut e in let some = at.left_is in absurd (let l : length t.left ≡ 0 = ap length none in let m : length t.left ≡ suc (length left_then) = ap length some in omega arith)
+
+    short : length at.rest ≤ capacity
+    short = let l = length-drop (at.index + 1) t.cells in let e = ap length at.rest_is in let k = long in omega arith
+
+    on_no : (p₂ : F) → step p at.owner at.index false p₂
+        → Recovering (done + 1)
+        (at_recover (first_recover capacity) (if nat_lt (at.index + 1) capacity then recovers.TheVariants.LoadsCell (at.index + 1) else recovers.TheVariants.LoadsCounterAgain)) p₂ q last
+    on_no p₂ called =
+        let size = short in
+        let few = t.fits.few in
+        record {
+          g = t.g;
+          cells = t.cells;
+          fits = t.fits;
+          asked = t.asked ++ an_answer it false ∷ [];
+          left = left_then;
+          joined = joined_then false;
+          answers = folds_more (asks step) f p p₂ t.asked (an_answer it false) t.answers called;
+          told = subst (λ l. FoldsTo (tells tell) s l q) (sym (agreed_no t.asked it)) t.told;
+          map_is = t.map_is ∙ ap (recovered mode old) (sym (agreed_no t.asked it));
+          shut = λ e. absurd (opens e);
+          number = number_then false;
+          run = subst (λ ws. Halts want recover_after kept mode (λ s room vs. StopsAt capacity t.g t.cells left_then s vs) _ tt ws) (sym at.same)
+              (halts want recover_after mode (suc (suc (length at.rest))) (StopsAt capacity t.g t.cells left_then) _ (t.g ∷ t.cells) (omega arith)
+              (recovers_on capacity mode t.g t.cells long at.rest (at.index + 1) left_then at.rest_is refl));
+        }
+
+    abbrev emptied : List ℕ
+    emptied = slice_set t.cells at.index empty
+
+    emptied_long : length emptied ≡ capacity
+    emptied_long = length-set t.cells at.index empty ∙ long
+
+    -- the question of the first that is left was answered by yes, and the other closure was told
+    on_yes : (p₂ : F) (q₂ : S) → step p at.owner at.index true p₂ → tell q at.owner at.index q₂
+        → Recovering (done + 1) (at_recover (first_recover capacity) (recovers.TheVariants.EmptiesCell at.index at.owner)) p₂ q₂ last
+    on_yes p₂ q₂ called heard =
+        let size = short in
+        let few = t.fits.few in
+        let k = emptied_long in
+        record {
+          g = counter_then mode t.g emptied;
+          cells = emptied;
+          fits = record { long = omega arith; some = t.fits.some; few = t.fits.few; small = counter_small mode t.g emptied t.fits.small };
+          asked = t.asked ++ an_answer it true ∷ [];
+          left = left_then;
+          joined = joined_then true;
+          answers = folds_more (asks step) f p p₂ t.asked (an_answer it true) t.answers called;
+          told = subst (λ l. FoldsTo (tells tell) s l q₂) (sym (agreed_yes t.asked it)) (folds_more (tells tell) s q q₂ (agreed t.asked) it t.told heard);
+          map_is = sym (given_back_is mode t.g t.cells at.index)
+              ∙ (ap (λ m. given_back mode m at.index) t.map_is
+              ∙ (sym (fold-append (λ m (o : Owned). given_back mode m o.index) old (agreed t.asked) (it ∷ []))
+              ∙ ap (recovered mode old) (sym (agreed_yes t.asked it))));
+          shut = λ e. ap (λ r. taken_from (at.index + 1) (map owner_in r)) (sym at.rest_is ∙ sym (drop-set-lt (at.index + 1) t.cells at.index empty (let l : at.index < at.index + 1 = omega arith in l)))
+              ∙ locked_leaves mode t.g emptied (at.index + 1) (at.index + 1) t.fits.small opens e;
+          number = number_then true;
+          run = subst (λ ws. Halts want recover_after kept mode (λ s room vs. StopsAt capacity (counter_then mode t.g emptied) emptied left_then s vs) _ tt ws) (sym at.same)
+              (halts want recover_after mode (suc (suc (suc (rounds capacity t.g t.cells t.fits.small long t.fits.few opens at.index at.rest at.rest_is))))
+              (StopsAt capacity (counter_then mode t.g emptied) emptied left_then) _ (t.g ∷ t.cells)
+              (let a = plus_sum (plus (suc (suc (suc (length emptied)))) 1) (suc (suc (length at.rest))) in let b = plus_sum (suc (suc (suc (length emptied)))) 1 in omega arith)
+              (frees_on capacity t.g t.cells t.fits.small long t.fits.few opens at.index at.rest at.rest_is mode at.owner at.word_is));
+        }
+
+    -- ---- as the question was matched
+
+    abbrev is_owned : Question (Unit {0}) → Type 0
+    is_owned (questions.TheVariants.Owned owner index) = Unit {0}
+    is_owned (questions.TheVariants.Index index) = ⊥
+    is_owned (questions.TheVariants.Value index unit) = ⊥
+
+    abbrev owner_of : Question (Unit {0}) → ℕ
+    owner_of (questions.TheVariants.Owned owner index) = owner
+    owner_of (questions.TheVariants.Index index) = 0
+    owner_of (questions.TheVariants.Value index unit) = 0
+
+    pub no_index : (index : ℕ) → question ≡ questions.TheVariants.Index index → ⊥
+    no_index index is = subst is_owned (sym at.asks ∙ is) tt
+
+    pub no_value : (index : ℕ) (unit : Unit {0}) → question ≡ questions.TheVariants.Value index unit → ⊥
+    no_value index unit is = subst is_owned (sym at.asks ∙ is) tt
+
+    module _ (owner index : ℕ) (is : question ≡ questions.TheVariants.Owned owner index) where
+      owner_is : owner ≡ at.owner
+      owner_is = ap owner_of (sym is ∙ at.asks)
+
+      index_is : index ≡ at.index
+      index_is = ap index_in (sym is ∙ at.asks)
+
+      pub may_ask : {pre : F → ℕ → ℕ → Type 0} → TakesQuestions pre step (to_recover old) f → pre p owner index
+      may_ask {pre} may =
+          subst (λ (z : ℕ × ℕ). pre p z.0 z.1) (λ i. (sym owner_is i, sym index_is i))
+          (may.at t.asked p it left_then t.answers asked_so)
+
+      pub may_tell : {pre : S → ℕ → ℕ → Type 0} → TakesFreed step pre tell (to_recover old) f s → (p₂ : F) (yes : Bool)
+          → step p owner index yes p₂ → IsTrue yes → pre q owner index
+      may_tell {pre} may p₂ true called yes =
+          subst (λ (z : ℕ × ℕ). pre q z.0 z.1) (λ i. (sym owner_is i, sym index_is i))
+          (may.at t.asked p p₂ q it left_then t.answers (subst (λ (z : ℕ × ℕ). step p z.0 z.1 true p₂) (λ i. (owner_is i, index_is i)) called) asked_so t.told)
+      may_tell {pre} may p₂ false called yes = absurd yes
+
+      abbrev pub Onward : F → S → After Recover ReleaseState → Type 0
+      Onward p₂ q₂ (GoOn next) = Recovering (done + 1) next p₂ q₂ last
+      Onward p₂ q₂ (Done state) = ⊥
+
+      onward : (yes : Bool) (p₂ : F) (q₂ : S) → step p owner index yes p₂ → (IsTrue yes → tell q owner index q₂) → (IsFalse yes → q₂ ≡ q)
+          → Onward p₂ q₂ (recover_after put mode (if yes then 1 else 0))
+      onward true p₂ q₂ called told passed =
+          subst (λ c. Onward p₂ q₂ (recover_after c mode 1)) (sym at.stands)
+          (on_yes p₂ q₂ (subst (λ (z : ℕ × ℕ). step p z.0 z.1 true p₂) (λ i. (owner_is i, index_is i)) called)
+          (subst (λ (z : ℕ × ℕ). tell q z.0 z.1 q₂) (λ i. (owner_is i, index_is i)) (told tt)))
+      onward false p₂ q₂ called told passed =
+          subst (λ c. Onward p₂ q₂ (recover_after c mode 0)) (sym at.stands)
+          (subst (λ z. Onward p₂ z (recover_after (at_recover (first_recover capacity) (recovers.TheVariants.Asks at.index at.owner)) mode 0)) (sym (passed tt))
+          (on_no p₂ (subst (λ (z : ℕ × ℕ). step p z.0 z.1 false p₂) (λ i. (owner_is i, index_is i)) called)))
+
+      pub onward_so : (yes : Bool) (p₂ : F) (q₂ : S) → step p owner index yes p₂ → (IsTrue yes → tell q owner index q₂) → (IsFalse yes → q₂ ≡ q)
+          → (answer : ℕ) → answer ≡ (if yes then 1 else 0) → (b : After Recover ReleaseState) → b ≡ recover_after put mode answer → Onward p₂ q₂ b
+      onward_so yes p₂ q₂ called told passed answer as b goes =
+          subst (Onward p₂ q₂) (sym (goes ∙ ap (recover_after put mode) as)) (onward yes p₂ q₂ called told passed)
+
+-- ---- as it begins
+
+module _ {F S : Type 0} (step : F → ℕ → ℕ → Bool → F → Type 0) (tell : S → ℕ → ℕ → S → Type 0) (mode : ReleaseMode)
+    (f : F) (s : S) (capacity : ℕ) where
+  begin_walk : (g : ℕ) (cells : List ℕ) → length cells ≡ capacity
+      → Walks (λ c. recover_want c) (λ c old. recover_after c mode old) (suc (suc (suc (length cells)))) (StopsAt capacity g cells (to_recover (owners_in (g ∷ cells)))) (first_recover capacity) (g ∷ cells)
+  begin_walk g cells long =
+      by_eq (λ a. Goes (λ c. recover_want c) (λ c old. recover_after c mode old) (suc (suc (length cells))) (StopsAt capacity g cells (to_recover (owners_in (g ∷ cells)))) a (g ∷ cells)) g locked _ _
+      (λ e. (ap (λ b. if b then [] else taken (owners_in (g ∷ cells))) (eq-eqb g locked e), sym (ap (λ b. if b then Locked else Unlocked) (eq-eqb g locked e)), refl))
+      (λ other. recovers_on capacity mode g cells long cells 0 (to_recover (owners_in (g ∷ cells))) refl (ap (λ b. if b then [] else taken (owners_in (g ∷ cells))) (ne_eqb g locked other)))
+
+  pub starts : (first : List ℕ) (call : Recover) → call ≡ first_recover capacity → Fits capacity first → Recovering step tell mode f s capacity first 0 call f s first
+  starts [] call is fits = let e : 0 ≡ 1 + capacity = fits.long in absurd (omega arith)
+  starts (g ∷ cells) call is fits =
+      let long : length cells ≡ capacity = let e : suc (length cells) ≡ 1 + capacity = fits.long in omega arith in
+      let few = fits.few in
+      record {
+        g = g;
+        cells = cells;
+        fits = fits;
+        asked = [];
+        left = to_recover (owners_in (g ∷ cells));
+        joined = refl;
+        answers = refl;
+        told = refl;
+        map_is = refl;
+        shut = λ e. ap (λ b. if b then [] else taken (owners_in (g ∷ cells))) (eq-eqb g locked e);
+        number = refl;
+        run = subst (λ c. Halts (λ c (given : ReleaseMode). recover_want c) recover_after (λ c (room : Unit {0}) old. room) mode (λ s room vs. StopsAt capacity g cells (to_recover (owners_in (g ∷ cells))) s vs) c tt (g ∷ cells)) (sym is)
+            (halts (λ c (given : ReleaseMode). recover_want c) recover_after mode (suc (suc (suc (length cells)))) (StopsAt capacity g cells (to_recover (owners_in (g ∷ cells)))) (first_recover capacity) (g ∷ cells) (omega arith) (begin_walk g cells long));
+      }
+
+pub few_rounds : {F S : Type 0} (step : F → ℕ → ℕ → Bool → F → Type 0) (tell : S → ℕ → ℕ → S → Type 0) (mode : ReleaseMode)
+    (f : F) (s : S) (capacity : ℕ) (first : List ℕ) → Fits capacity first → (done : ℕ) (call : Recover) (p : F) (q : S) (words : List ℕ)
+    → Recovering step tell mode f s capacity first done call p q words → done < 2 ^ 64 - 1
+few_rounds step tell mode f s capacity [] fits done call p q words t = let e : 0 ≡ 1 + capacity = fits.long in absurd (omega arith)
+few_rounds step tell mode f s capacity (g ∷ cells) fits done call p q words t =
+    let e : suc (length cells) ≡ 1 + capacity = fits.long in
+    let few = fits.few in
+    let all : length (said.questions t.asked) + length t.left ≡ length (to_recover (owners_in (g ∷ cells))) =
+        sym (length-append (said.questions t.asked) t.left) ∙ ap length t.joined in
+    let number : length (said.questions t.asked) ≡ done = length-map t.asked (λ (a : Asked). a.of) ∙ t.number in
+    let most : length (to_recover (owners_in (g ∷ cells))) ≤ length cells =
+        by_test (λ l. length l ≤ length cells) (g == locked) [] (taken (owners_in (g ∷ cells)))
+        (λ _. omega arith)
+        (λ _. let h = taken_most 0 (map owner_in cells) in let m = length-map cells owner_in in omega arith) in
+    omega arith
+
+pub questions_at : {F : Type 0} {pre : F → ℕ → ℕ → Type 0} {step : F → ℕ → ℕ → Bool → F → Type 0} {a b : List Owned} {f : F}
+    → a ≡ b → TakesQuestions pre step a f → TakesQuestions pre step b f
+questions_at {F} {pre} {step} {a} {b} {f} e h = subst (λ z. TakesQuestions pre step z f) e h
+
+pub freed_at : {F S : Type 0} {step : F → ℕ → ℕ → Bool → F → Type 0} {pre : S → ℕ → ℕ → Type 0} {tell : S → ℕ → ℕ → S → Type 0} {a b : List Owned} {f : F} {s : S}
+    → a ≡ b → TakesFreed step pre tell a f s → TakesFreed step pre tell b f s
+freed_at {F} {S} {step} {pre} {tell} {a} {b} {f} {s} e h = subst (λ z. TakesFreed step pre tell z f s) e h
+
+pub recovered_at : {F S : Type 0} {step : F → ℕ → ℕ → Bool → F → Type 0} {tell : S → ℕ → ℕ → S → Type 0} {mode : ReleaseMode} {a b new : Owners}
+    {f f_last : F} {s s_last : S} → a ≡ b → HasRecovered step tell mode a new f s f_last s_last → HasRecovered step tell mode b new f s f_last s_last
+recovered_at {F} {S} {step} {tell} {mode} {a} {b} {new} {f} {f_last} {s} {s_last} e h = subst (λ z. HasRecovered step tell mode z new f s f_last s_last) e h
