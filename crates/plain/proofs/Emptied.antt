@@ -1,5 +1,5 @@
 -- The words of a set that is emptied, one word after another.
-use Rattle.std.proofs.Common.{◌≡◌, ◌≢◌, ℕ, zero, suc, ◌+◌, ◌<◌, ◌≤◌, ⊎_elim, true, false, ◌==◌, eqb, nat_lt, List, [], ◌∷◌, length, drop, replicate, refl, sym, ap, subst, ◌∙◌, arith, slice_index, slice_set, eq-eqb, ne_eqb, if◌then◌else◌}
+use Rattle.std.proofs.Common.{◌≡◌, ◌≢◌, ℕ, zero, suc, ◌+◌, ◌<◌, ◌≤◌, ⊎_elim, true, nat_lt, List, [], ◌∷◌, length, drop, replicate, refl, sym, ap, subst, ◌∙◌, arith, slice_index, slice_set, eq-eqb, ne_eqb, if◌then◌else◌}
 use Rattle.std.specs.List.{FoldsTo}
 use Rattle.std.proofs.lemmas.Bool.{cases_lt}
 use Rattle.std.proofs.lemmas.Bool.Decides.{nat_tests}
@@ -8,14 +8,12 @@ use Rattle.steps.specs.Objects.Counts.{states_from, states, uncounted}
 use Rattle.steps.specs.declared.ask.Op.TheVariants.{Swap}
 use Rattle.steps.specs.declared.ask.Want.{Want}
 use Rattle.steps.specs.declared.ask.Want as wants
-use Rattle.steps.specs.declared.ask.After.{After}
 use Rattle.steps.specs.declared.ask.After.TheVariants.{GoOn, Done}
 use Rattle.steps.specs.declared.bits.counting_bit_set.BitState.{BitState}
 use Rattle.steps.specs.declared.bits.reset_all.ResetAll.{ResetAll}
 use Rattle.steps.specs.declared.copied.OneWord.{OneWord}
 use Rattle.plain.specs.Alone.{answer_in, words_then, room_then, stepped}
 use Rattle.plain.specs.Visits.{Takes, WasCalled}
-use Rattle.plain.specs.declared.drive.Stop.{Stop}
 
 -- ---- one step of the call
 

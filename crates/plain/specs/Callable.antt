@@ -1,5 +1,5 @@
 -- What the closures of a find and of a recovery are called with, in which order.
-use Rattle.std.specs.Prelude.{◌≡◌, ℕ, ◌+◌, ◌⊎◌, Bool, true, List, [], ◌∷◌, ◌++◌, length, map, filter}
+use Rattle.std.specs.Prelude.{◌≡◌, ℕ, ◌+◌, ◌⊎◌, Bool, true, List, ◌∷◌, ◌++◌, length, map, filter}
 use Rattle.std.specs.List.{FoldsTo}
 use Rattle.steps.specs.declared.ask.Question.{Question}
 use Rattle.steps.specs.declared.ask.Question as put

@@ -21,7 +21,7 @@ fn bounded(
     for (at, row) in rows.iter().enumerate() {
         let right = match *row {
             Row::Push(value, taken) => {
-                numbers.push(value) == taken && values.push((value, value + 1)) == taken
+                numbers.push(value) == taken && values.push((value, !value)) == taken
             }
             Row::Pop(value) => numbers.pop() == value && values.pop().map(|v| v.0) == value,
         };

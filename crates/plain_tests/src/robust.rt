@@ -112,3 +112,28 @@ fn find_that_stops(rt: HostRuntime) -> Result<(), Fail> {
     assert_eq!(rt; set.find(two, |_| CallbackProgression::Continue), 1);
     Ok(())
 }
+
+#[test]
+fn recoveries(rt: HostRuntime) -> Result<(), Fail> {
+    let owner = OwnerId::new(1)?;
+    let mut set = RobustUniqueIndexSet::new(rt.alloc(), 3)?;
+    assert_eq!(rt; set.acquire(owner), Ok(0));
+    assert_eq!(rt; set.acquire(owner), Ok(1));
+    assert_eq!(rt; set.acquire(owner), Ok(2));
+    let mut says = false;
+    let mut told: u64 = 0;
+    let state = set.recover(
+        ReleaseMode::Default,
+        |_, _| {
+            says = !says;
+            says
+        },
+        |_, index| told = told.wrapping_mul(10).wrapping_add(index as u64),
+    );
+    assert_eq!(rt; (state, told), (ReleaseState::Unlocked, 2));
+    assert_eq!(rt; set.find(owner, |_| CallbackProgression::Continue), 1);
+    assert_eq!(rt; set.borrowed_indices(), 1);
+    let state = set.recover(ReleaseMode::LockIfLastIndex, |_, _| true, |_, _| {});
+    assert_eq!(rt; (state, set.is_locked()), (ReleaseState::Locked, true));
+    Ok(())
+}

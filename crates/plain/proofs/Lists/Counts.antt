@@ -1,12 +1,11 @@
 -- The number of values, counted alone.
-use Rattle.std.proofs.Common.{◌≡◌, ℕ, ◌+◌, ◌-◌, ◌≤◌, ◌<◌, ◌^◌, List, length, refl, sym, subst, ◌∙◌, arith, slice_index}
+use Rattle.std.proofs.Common.{◌≡◌, ℕ, ◌+◌, ◌-◌, ◌≤◌, ◌<◌, ◌^◌, List, length, refl, sym, subst, arith, slice_index}
 use Rattle.steps.specs.Picks.{by_eq}
-use Rattle.steps.specs.Objects.Lists.{Bounded}
 use Rattle.steps.specs.Queues.Ring.{distance}
 use Rattle.steps.specs.Queues.Lengths.{number_waiting, first_len, len_want, len_after}
 use Rattle.steps.specs.declared.ask.After.{After}
 use Rattle.steps.specs.declared.queues.lengths.Len.{Len}
-use Rattle.plain.specs.Alone.{EndsFrom, Turns}
+use Rattle.plain.specs.Alone.{EndsFrom}
 use Rattle.plain.specs.Queues.{list_in, Fits}
 use Rattle.plain.specs.Overflowing as over
 use Rattle.plain.proofs.Alone.{Runs}

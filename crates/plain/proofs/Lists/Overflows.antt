@@ -1,5 +1,5 @@
 -- A push and a pop of the overflowing queue that run alone.
-use Rattle.std.proofs.Common.{◌≡◌, ◌≢◌, ℕ, zero, suc, ◌+◌, ◌-◌, ◌*◌, ◌%◌, ◌^◌, ◌<◌, ◌≤◌, ◌⊎◌, inl, inr, ⊎_elim, Bool, true, false, not, ◌&&◌, ◌==◌, nat_lt, min, Option, Some, None, slice_get, List, [], ◌∷◌, ◌++◌, length, drop, refl, sym, ap, subst, ◌∙◌, arith, slice_index, slice_set, get_or-set_same, get_or-set_other, length-set, eq-eqb, ne_eqb, if◌then◌else◌}
+use Rattle.std.proofs.Common.{◌≡◌, ◌≢◌, ℕ, suc, ◌+◌, ◌-◌, ◌*◌, ◌%◌, ◌^◌, ◌<◌, ◌≤◌, ⊎_elim, Bool, true, false, not, ◌&&◌, ◌==◌, nat_lt, min, Option, Some, None, slice_get, List, [], ◌∷◌, ◌++◌, length, drop, refl, sym, ap, subst, ◌∙◌, arith, slice_index, slice_set, get_or-set_same, get_or-set_other, length-set, eq-eqb, ne_eqb, if◌then◌else◌}
 use Rattle.std.proofs.lemmas.Bool.Decides.{nat_tests}
 use Rattle.std.proofs.lemmas.Bool.{cases_lt}
 use Rattle.std.proofs.lemmas.List.{length-append}
@@ -7,7 +7,7 @@ use mathlib.Core.Logic.{dite}
 use native.Mathlib.Decide.{ℕ_discrete}
 use Rattle.steps.specs.Picks.{by_eq}
 use Rattle.steps.specs.Queues.Ring.{distance, after_position}
-use Rattle.steps.specs.Queues.Overflow.{cell_word, first_push, at_push, push_want, push_after, push_kept, push_answer, first_pop, at_pop, pop_want, pop_after, pop_kept, pop_answer}
+use Rattle.steps.specs.Queues.Overflow.{cell_word, first_push, at_push, push_want, push_after, push_kept, push_answer, first_pop, pop_want, pop_after, pop_kept, pop_answer}
 use Rattle.steps.specs.declared.ask.After.{After}
 use Rattle.steps.specs.declared.ask.After.TheVariants.{GoOn}
 use Rattle.steps.specs.declared.copied.OneWord.{OneWord}
@@ -22,7 +22,7 @@ use Rattle.plain.specs.Alone.{EndsFrom, EndsIn, Turns}
 use Rattle.plain.specs.Queues.{value_at}
 use Rattle.plain.specs.Overflowing.{number_of, numbers_from, list_in, Fits}
 use Rattle.plain.proofs.Alone.{Runs}
-use Rattle.plain.proofs.Lists.Cells.{cell_within, cells_apart, values_same, values_length, values_more}
+use Rattle.plain.proofs.Lists.Cells.{cells_apart, values_same, values_length, values_more}
 
 -- the object, by whether a push takes its value in and whether the list is then too long
 module _ (value : ℕ) (q : Bounded ℕ) where

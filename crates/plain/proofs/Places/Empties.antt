@@ -1,5 +1,5 @@
 -- The words of a bit set that is emptied, one word after another, while its places are handed out.
-use Rattle.std.proofs.Common.{◌≡◌, ◌≢◌, ℕ, zero, suc, ◌+◌, ◌-◌, ◌*◌, ◌/◌, ◌%◌, ◌<◌, ◌≤◌, ⊎_elim, Bool, true, false, eqb, List, [], ◌∷◌, length, drop, replicate, refl, sym, ap, subst, ◌∙◌, arith, slice_index, slice_set, get_or-set_same, get_or-set_other, length-set, if◌then◌else◌}
+use Rattle.std.proofs.Common.{◌≡◌, ◌≢◌, ℕ, zero, suc, ◌+◌, ◌/◌, ◌%◌, ◌<◌, ◌≤◌, ⊎_elim, Bool, true, false, eqb, List, [], ◌∷◌, length, drop, replicate, refl, sym, ap, subst, ◌∙◌, arith, slice_index, slice_set, get_or-set_same, get_or-set_other, length-set, if◌then◌else◌}
 use Rattle.std.specs.List.{FoldsTo, range_with_len}
 use Rattle.std.specs.Prelude.{map, slice_index_or}
 use mathlib.Core.Logic.{dite}
@@ -12,7 +12,7 @@ use Rattle.steps.specs.declared.bits.reset_all.ResetAll.{ResetAll}
 use Rattle.steps.proofs.Flags.Words.{none_stands}
 use Rattle.plain.specs.Bits.{flags_in, places_in, Fits}
 use Rattle.plain.specs.Visits.{Takes, WasCalled}
-use Rattle.plain.proofs.Places.Flags.{map_same, flag_at, flags_length}
+use Rattle.plain.proofs.Places.Flags.{flag_at, flags_length}
 
 -- the word that is swapped once so many places have been handed out
 abbrev pub next_word : ℕ → ℕ

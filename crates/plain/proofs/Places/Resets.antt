@@ -1,13 +1,13 @@
 -- The next place that is reset, alone.
-use Rattle.std.proofs.Common.{◌≡◌, ◌≢◌, ℕ, zero, suc, ◌+◌, ◌-◌, ◌<◌, ◌≤◌, ◌^◌, ◌⊎◌, inl, inr, ⊎_elim, Bool, true, false, Option, Some, None, slice_get, List, [], ◌∷◌, length, drop, refl, sym, ap, subst, ◌∙◌, arith, slice_index, slice_set, get_or-set_same, get_or-set_other, length-set, eq-eqb, ◌==◌, nat_lt, if◌then◌else◌, true≢false}
+use Rattle.std.proofs.Common.{◌≡◌, ℕ, zero, suc, ◌+◌, ◌-◌, ◌<◌, ◌≤◌, ◌⊎◌, inl, inr, ⊎_elim, Bool, true, false, Option, Some, None, slice_get, List, [], ◌∷◌, length, drop, refl, sym, ap, subst, ◌∙◌, arith, slice_index, slice_set, get_or-set_same, get_or-set_other, length-set, eq-eqb, ◌==◌, nat_lt, if◌then◌else◌, true≢false}
 use Rattle.std.specs.Prelude.{slice_index_or}
 use Rattle.std.proofs.lemmas.Bool.{cases_Bool, cases_lt}
 use Rattle.std.proofs.lemmas.Bool.Decides.{nat_tests}
 use Rattle.std.proofs.lemmas.List.{get_or-drop}
-use Rattle.steps.specs.Bits.Words.{element_of, elements, has_flag, without_flag, stands}
+use Rattle.steps.specs.Bits.Words.{element_of, has_flag, without_flag, stands}
 use Rattle.steps.specs.Bits.BitSet.{first_reset, at_reset, place_after, at_most, reset_want, reset_after}
 use Rattle.steps.specs.Queues.Ring.{after_position}
-use Rattle.steps.specs.Objects.Places.{Places, standing_from, standing, or_else, next_place, without, after_next}
+use Rattle.steps.specs.Objects.Places.{standing_from, or_else, next_place, without, after_next}
 use Rattle.steps.specs.Picks.{by_test, by_eq}
 use Rattle.steps.specs.declared.ask.After.{After}
 use Rattle.steps.specs.declared.bits.bit_set.ResetNext.{ResetNext}

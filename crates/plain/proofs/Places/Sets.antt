@@ -1,7 +1,7 @@
 -- A place that is set, alone.
-use Rattle.std.proofs.Common.{◌≡◌, ◌≢◌, ℕ, ◌+◌, ◌<◌, ◌≤◌, ⊎_elim, Bool, true, false, not, List, length, refl, sym, ap, subst, ◌∙◌, arith, slice_index, slice_set, get_or-set_other, length-set, eq-eqb, ◌==◌, if◌then◌else◌, true≢false}
+use Rattle.std.proofs.Common.{◌≡◌, ℕ, ◌<◌, ◌≤◌, ⊎_elim, Bool, true, false, not, List, length, refl, sym, ap, subst, ◌∙◌, arith, slice_index, slice_set, get_or-set_other, length-set, eq-eqb, ◌==◌, if◌then◌else◌, true≢false}
 use Rattle.std.proofs.lemmas.Bool.{cases_Bool}
-use Rattle.steps.specs.Bits.Words.{element_of, elements, has_flag, with_flag, stands}
+use Rattle.steps.specs.Bits.Words.{element_of, has_flag, with_flag, stands}
 use Rattle.steps.specs.Bits.BitSet.{first_set, set_want, set_after}
 use Rattle.steps.specs.Objects.Places.{Places, has, with_place}
 use Rattle.steps.specs.Picks.{by_test, by_eq}

@@ -1,8 +1,7 @@
 -- An acquire that runs alone.
-use Rattle.std.proofs.Common.{◌≡◌, ◌≢◌, ℕ, zero, suc, ◌+◌, ◌-◌, ◌^◌, ◌<◌, ◌≤◌, ⊎_elim, Bool, true, false, cond, not, ◌==◌, ◌&&◌, nat_lt, List, [], ◌∷◌, length, drop, map, Option, Some, None, Result, Ok, Err, ok_or, position, is_none, refl, sym, ap, subst, ◌∙◌, arith, slice_index, slice_set, length-set, eq-eqb, ne_eqb, if◌then◌else◌}
+use Rattle.std.proofs.Common.{◌≡◌, ◌≢◌, ℕ, suc, ◌+◌, ◌^◌, ◌<◌, ◌≤◌, true, false, cond, ◌==◌, nat_lt, List, [], ◌∷◌, length, drop, map, Some, None, Ok, Err, ok_or, position, is_none, refl, sym, ap, subst, ◌∙◌, arith, slice_index, slice_set, length-set, eq-eqb, ne_eqb, if◌then◌else◌}
 use Rattle.std.specs.List.{position_or_len}
 use Rattle.std.proofs.lemmas.Bool.Decides.{nat_tests}
-use Rattle.std.proofs.lemmas.Bool.{cases_lt}
 use Rattle.std.proofs.lemmas.List.{length-map, map-set}
 use Rattle.steps.specs.Picks.{by_test, by_eq}
 use Rattle.steps.specs.Indices.Robust.Parts.{cell_word, empty, locked, greatest, raise_want, raise_after}

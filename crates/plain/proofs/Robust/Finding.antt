@@ -1,17 +1,16 @@
 -- A find with its closure, from one question to the next.
-use Rattle.std.proofs.Common.{◌≡◌, ◌≢◌, ℕ, suc, ◌+◌, ◌-◌, ◌^◌, ◌<◌, ◌≤◌, inl, inr, ◌⊎◌, Bool, true, false, nat_lt, if◌then◌else◌, List, [], ◌∷◌, ◌++◌, length, drop, refl, sym, ap, subst, ◌∙◌, arith}
+use Rattle.std.proofs.Common.{◌≡◌, ℕ, suc, ◌+◌, ◌-◌, ◌^◌, ◌<◌, ◌≤◌, inl, inr, true, nat_lt, if◌then◌else◌, List, [], ◌∷◌, ◌++◌, length, refl, sym, ap, subst, ◌∙◌, arith}
 use Rattle.std.specs.List.{FoldsTo}
 use Rattle.std.proofs.lemmas.List.{append_assoc, append-nil, length-append, length-drop}
 use Rattle.std.proofs.lemmas.Bool.Decides.{nat_tests}
 use Rattle.steps.specs.Indices.Robust.Parts.{empty}
-use Rattle.steps.specs.Indices.Robust.Find.{at_find, first_find, find_comes_to, find_want, find_after}
+use Rattle.steps.specs.Indices.Robust.Find.{first_find, find_comes_to, find_want, find_after}
 use Rattle.steps.specs.declared.ask.After.{After}
 use Rattle.steps.specs.declared.ask.After.TheVariants.{GoOn, Done}
 use Rattle.steps.specs.declared.ask.Question.{Question}
 use Rattle.steps.specs.declared.enums.CallbackProgression.{CallbackProgression}
 use Rattle.steps.specs.declared.enums.CallbackProgression.TheVariants.{Continue, Stop}
 use Rattle.steps.specs.declared.indices.robust.find.Find.{Find}
-use Rattle.steps.specs.declared.indices.robust.find.FindStage as finds
 use Rattle.steps.specs.Objects.Owners.{indices_of}
 use Rattle.plain.specs.declared.drive.Stop as stops
 use Rattle.steps.specs.declared.ask.Want.{Want}
@@ -19,8 +18,8 @@ use Rattle.plain.specs.Alone.{CanStop, StopsAlike}
 use Rattle.plain.specs.Callable.{TakesIndices, HasFound, index_in, as_answer}
 use Rattle.plain.specs.Robust.{owners_in, Fits}
 use Rattle.plain.proofs.Alone.{Halts, can_stop, stops_so}
-use Rattle.plain.proofs.Walks.{Walks, Goes, halts}
-use Rattle.plain.proofs.Robust.Finds.{mine, AsksAt, StopsAt, finds_on}
+use Rattle.plain.proofs.Walks.{Goes, halts}
+use Rattle.plain.proofs.Robust.Finds.{mine, StopsAt, finds_on}
 
 pub folds_more : {P A : Type 0} (R : P → A → P → Type 0) (p q r : P) (xs : List A) (x : A)
     → FoldsTo R p xs q → R q x r → FoldsTo R p (xs ++ x ∷ []) r

@@ -1,14 +1,13 @@
 -- A recovery with its closures, from one question to the next.
-use Rattle.std.proofs.Common.{◌≡◌, ◌≢◌, ℕ, zero, suc, ◌+◌, ◌-◌, ◌^◌, ◌<◌, ◌≤◌, ⊎_elim, Bool, true, false, ◌==◌, not, ◌&&◌, nat_lt, if◌then◌else◌, List, [], ◌∷◌, ◌++◌, length, drop, map, filter, fold, Option, Some, None, refl, sym, ap, subst, ◌∙◌, arith, slice_set, length-set, eq-eqb, ne_eqb, IsTrue, IsFalse}
+use Rattle.std.proofs.Common.{◌≡◌, ◌≢◌, ℕ, zero, suc, ◌+◌, ◌-◌, ◌^◌, ◌<◌, ◌≤◌, ⊎_elim, Bool, true, false, ◌==◌, not, ◌&&◌, nat_lt, if◌then◌else◌, List, [], ◌∷◌, ◌++◌, length, drop, map, filter, Option, Some, None, refl, sym, ap, subst, ◌∙◌, arith, slice_set, length-set, eq-eqb, ne_eqb, IsTrue, IsFalse}
 use Rattle.std.specs.List.{FoldsTo}
 use Rattle.std.proofs.lemmas.List.{drop-set-lt, map-append, append_assoc, append-nil, length-append, length-map, length-drop}
 use Rattle.std.proofs.lemmas.List.Sums.{fold-append}
 use Rattle.std.proofs.lemmas.List.Elements.{filter-append}
-use Rattle.std.proofs.lemmas.Bool.{cases_Bool}
-use Rattle.std.proofs.lemmas.Bool.Decides.{nat_tests, eqb_tells}
+use Rattle.std.proofs.lemmas.Bool.Decides.{eqb_tells}
 use Rattle.steps.specs.Picks.{by_test, by_eq}
 use Rattle.steps.specs.Indices.Robust.Parts.{empty, locked, greatest}
-use Rattle.steps.specs.Indices.Robust.Recover.{at_recover, first_recover, recover_comes_to, recover_want, recover_after}
+use Rattle.steps.specs.Indices.Robust.Recover.{at_recover, first_recover, recover_want, recover_after}
 use Rattle.steps.specs.declared.ask.After.{After}
 use Rattle.steps.specs.declared.ask.After.TheVariants.{GoOn, Done}
 use Rattle.steps.specs.declared.ask.Question.{Question}
@@ -20,7 +19,7 @@ use Rattle.steps.specs.declared.indices.enums.ReleaseState.{ReleaseState}
 use Rattle.steps.specs.declared.indices.enums.ReleaseState.TheVariants.{Locked, Unlocked}
 use Rattle.steps.specs.declared.indices.robust.recover.Recover.{Recover}
 use Rattle.steps.specs.declared.indices.robust.recover.RecoverStage as recovers
-use Rattle.steps.specs.Objects.Owners.{Owners, Owned, taken_from, taken, next_generation, is_locked, state_of, given_back, to_recover, recovered}
+use Rattle.steps.specs.Objects.Owners.{Owners, Owned, taken_from, taken, next_generation, state_of, given_back, to_recover, recovered}
 use Rattle.plain.specs.declared.drive.Stop as stops
 use Rattle.plain.specs.Alone.{CanStop, StopsAlike}
 use Rattle.plain.specs.Callable.{index_in, Asked, asks, tells, agreed, TakesQuestions, TakesFreed, HasRecovered}
@@ -28,10 +27,14 @@ use Rattle.plain.specs.Callable as said
 use Rattle.plain.specs.Robust.{owner_in, owners_in, Fits}
 use Rattle.plain.proofs.Alone.{Halts, can_stop, stops_so}
 use Rattle.plain.proofs.Walks.{plus, plus_sum, Walks, Goes, halts}
-use Rattle.plain.proofs.Robust.Parts.{number, locking, next_below, next_there, next_small, state_number}
+use Rattle.plain.proofs.Robust.Parts.{number, locking, next_below, next_there, next_small}
 use Rattle.plain.proofs.Robust.Releases.{counter_then, counter_small, given_back_is}
 use Rattle.plain.proofs.Robust.Finding.{folds_more}
 use Rattle.plain.proofs.Robust.Recovers.{AsksAt, StopsAt, recovers_on, frees_on, rounds}
+
+abbrev holds_none : Bool → Type 0
+holds_none true = ⊥
+holds_none false = Unit {0}
 
 -- ---- numbers of taken indices
 
@@ -86,18 +89,18 @@ locked_leaves Default g emptied n i small other e = absurd (next_opens g small o
 locked_leaves LockIfLastIndex g emptied n i small other e =
     ⊎_elim
     (λ (t : ((number emptied == 0) ≡ true) × (number emptied ≡ 0)).
-      none_left (taken_from i (map owner_in (drop n emptied)))
-      (let h = taken_within n i 0 emptied in let z = t.1 in omega arith))
+    none_left (taken_from i (map owner_in (drop n emptied)))
+    (let h = taken_within n i 0 emptied in let z = t.1 in omega arith))
     (λ (t : ((number emptied == 0) ≡ false) × (number emptied ≢ 0)).
-      let stays : locking (next_generation g) emptied ≡ next_generation (next_generation g) =
-          ap (λ b. if b && not (next_generation (next_generation g) == greatest) then locked else next_generation (next_generation g)) t.0 in
-      absurd (next_opens (next_generation g) (next_small g small) (next_opens g small other) (sym stays ∙ e)))
+    let stays : locking (next_generation g) emptied ≡ next_generation (next_generation g) =
+    ap (λ b. if b && not (next_generation (next_generation g) == greatest) then locked else next_generation (next_generation g)) t.0 in
+    absurd (next_opens (next_generation g) (next_small g small) (next_opens g small other) (sym stays ∙ e)))
     (eqb_tells (number emptied) 0)
 
 -- ---- one more question
 
 abbrev an_answer : Owned → Bool → Asked
-an_answer o yes = record { of = o; yes = yes }
+an_answer o told = record { of = o; yes = told }
 
 questions_more : (xs : List Asked) (a : Asked) → said.questions (xs ++ a ∷ []) ≡ said.questions xs ++ a.of ∷ []
 questions_more xs a = map-append (λ (a : Asked). a.of) xs (a ∷ [])
@@ -188,13 +191,13 @@ module _ {F S : Type 0} (step : F → ℕ → ℕ → Bool → F → Type 0) (te
     asked_so : said.questions t.asked ++ it ∷ left_then ≡ to_recover old
     asked_so = ap (λ l. said.questions t.asked ++ l) (sym at.left_is) ∙ t.joined
 
-    joined_then : (yes : Bool) → said.questions (t.asked ++ an_answer it yes ∷ []) ++ left_then ≡ to_recover old
-    joined_then yes =
-        ap (λ l. l ++ left_then) (questions_more t.asked (an_answer it yes))
+    joined_then : (b : Bool) → said.questions (t.asked ++ an_answer it b ∷ []) ++ left_then ≡ to_recover old
+    joined_then b =
+        ap (λ l. l ++ left_then) (questions_more t.asked (an_answer it b))
         ∙ (append_assoc (said.questions t.asked) (it ∷ []) left_then ∙ asked_so)
 
-    number_then : (yes : Bool) → length (t.asked ++ an_answer it yes ∷ []) ≡ done + 1
-    number_then yes = length-append t.asked (an_answer it yes ∷ []) ∙ ap (λ n. n + 1) t.number
+    number_then : (b : Bool) → length (t.asked ++ an_answer it b ∷ []) ≡ done + 1
+    number_then b = length-append t.asked (an_answer it b ∷ []) ∙ ap (λ n. n + 1) t.number
 
     opens : t.g ≢ locked
     opens e = let none = t.shut e in let some = at.left_is in absurd (let l : length t.left ≡ 0 = ap length none in let m : length t.left ≡ suc (length left_then) = ap length some in omega arith)
@@ -220,8 +223,8 @@ module _ {F S : Type 0} (step : F → ℕ → ℕ → Bool → F → Type 0) (te
           map_is = t.map_is ∙ ap (recovered mode old) (sym (agreed_no t.asked it));
           shut = λ e. absurd (opens e);
           number = number_then false;
-          run = subst (λ ws. Halts want recover_after kept mode (λ s room vs. StopsAt capacity t.g t.cells left_then s vs) _ tt ws) (sym at.same)
-              (halts want recover_after mode (suc (suc (length at.rest))) (StopsAt capacity t.g t.cells left_then) _ (t.g ∷ t.cells) (omega arith)
+          run = subst (λ ws. Halts want recover_after kept mode (λ s room vs. StopsAt capacity t.g t.cells left_then s vs) (at_recover (first_recover capacity) (if nat_lt (at.index + 1) capacity then recovers.TheVariants.LoadsCell (at.index + 1) else recovers.TheVariants.LoadsCounterAgain)) tt ws) (sym at.same)
+              (halts want recover_after mode (suc (suc (length at.rest))) (StopsAt capacity t.g t.cells left_then) (at_recover (first_recover capacity) (if nat_lt (at.index + 1) capacity then recovers.TheVariants.LoadsCell (at.index + 1) else recovers.TheVariants.LoadsCounterAgain)) (t.g ∷ t.cells) (omega arith)
               (recovers_on capacity mode t.g t.cells long at.rest (at.index + 1) left_then at.rest_is refl));
         }
 
@@ -254,9 +257,9 @@ module _ {F S : Type 0} (step : F → ℕ → ℕ → Bool → F → Type 0) (te
           shut = λ e. ap (λ r. taken_from (at.index + 1) (map owner_in r)) (sym at.rest_is ∙ sym (drop-set-lt (at.index + 1) t.cells at.index empty (let l : at.index < at.index + 1 = omega arith in l)))
               ∙ locked_leaves mode t.g emptied (at.index + 1) (at.index + 1) t.fits.small opens e;
           number = number_then true;
-          run = subst (λ ws. Halts want recover_after kept mode (λ s room vs. StopsAt capacity (counter_then mode t.g emptied) emptied left_then s vs) _ tt ws) (sym at.same)
+          run = subst (λ ws. Halts want recover_after kept mode (λ s room vs. StopsAt capacity (counter_then mode t.g emptied) emptied left_then s vs) (at_recover (first_recover capacity) (recovers.TheVariants.EmptiesCell at.index at.owner)) tt ws) (sym at.same)
               (halts want recover_after mode (suc (suc (suc (rounds capacity t.g t.cells t.fits.small long t.fits.few opens at.index at.rest at.rest_is))))
-              (StopsAt capacity (counter_then mode t.g emptied) emptied left_then) _ (t.g ∷ t.cells)
+              (StopsAt capacity (counter_then mode t.g emptied) emptied left_then) (at_recover (first_recover capacity) (recovers.TheVariants.EmptiesCell at.index at.owner)) (t.g ∷ t.cells)
               (let a = plus_sum (plus (suc (suc (suc (length emptied)))) 1) (suc (suc (length at.rest))) in let b = plus_sum (suc (suc (suc (length emptied)))) 1 in omega arith)
               (frees_on capacity t.g t.cells t.fits.small long t.fits.few opens at.index at.rest at.rest_is mode at.owner at.word_is));
         }
@@ -291,32 +294,32 @@ module _ {F S : Type 0} (step : F → ℕ → ℕ → Bool → F → Type 0) (te
           subst (λ (z : ℕ × ℕ). pre p z.0 z.1) (λ i. (sym owner_is i, sym index_is i))
           (may.at t.asked p it left_then t.answers asked_so)
 
-      pub may_tell : {pre : S → ℕ → ℕ → Type 0} → TakesFreed step pre tell (to_recover old) f s → (p₂ : F) (yes : Bool)
-          → step p owner index yes p₂ → IsTrue yes → pre q owner index
-      may_tell {pre} may p₂ true called yes =
+      pub may_tell : {pre : S → ℕ → ℕ → Type 0} → TakesFreed step pre tell (to_recover old) f s → (p₂ : F) (b : Bool)
+          → step p owner index b p₂ → IsTrue b → pre q owner index
+      may_tell {pre} may p₂ true called agrees =
           subst (λ (z : ℕ × ℕ). pre q z.0 z.1) (λ i. (sym owner_is i, sym index_is i))
           (may.at t.asked p p₂ q it left_then t.answers (subst (λ (z : ℕ × ℕ). step p z.0 z.1 true p₂) (λ i. (owner_is i, index_is i)) called) asked_so t.told)
-      may_tell {pre} may p₂ false called yes = absurd yes
+      may_tell {pre} may p₂ false called agrees = absurd (subst holds_none agrees tt)
 
       abbrev pub Onward : F → S → After Recover ReleaseState → Type 0
       Onward p₂ q₂ (GoOn next) = Recovering (done + 1) next p₂ q₂ last
       Onward p₂ q₂ (Done state) = ⊥
 
-      onward : (yes : Bool) (p₂ : F) (q₂ : S) → step p owner index yes p₂ → (IsTrue yes → tell q owner index q₂) → (IsFalse yes → q₂ ≡ q)
-          → Onward p₂ q₂ (recover_after put mode (if yes then 1 else 0))
+      onward : (b : Bool) (p₂ : F) (q₂ : S) → step p owner index b p₂ → (IsTrue b → tell q owner index q₂) → (IsFalse b → q₂ ≡ q)
+          → Onward p₂ q₂ (recover_after put mode (if b then 1 else 0))
       onward true p₂ q₂ called told passed =
           subst (λ c. Onward p₂ q₂ (recover_after c mode 1)) (sym at.stands)
           (on_yes p₂ q₂ (subst (λ (z : ℕ × ℕ). step p z.0 z.1 true p₂) (λ i. (owner_is i, index_is i)) called)
-          (subst (λ (z : ℕ × ℕ). tell q z.0 z.1 q₂) (λ i. (owner_is i, index_is i)) (told tt)))
+          (subst (λ (z : ℕ × ℕ). tell q z.0 z.1 q₂) (λ i. (owner_is i, index_is i)) (told refl)))
       onward false p₂ q₂ called told passed =
           subst (λ c. Onward p₂ q₂ (recover_after c mode 0)) (sym at.stands)
-          (subst (λ z. Onward p₂ z (recover_after (at_recover (first_recover capacity) (recovers.TheVariants.Asks at.index at.owner)) mode 0)) (sym (passed tt))
+          (subst (λ z. Onward p₂ z (recover_after (at_recover (first_recover capacity) (recovers.TheVariants.Asks at.index at.owner)) mode 0)) (sym (passed refl))
           (on_no p₂ (subst (λ (z : ℕ × ℕ). step p z.0 z.1 false p₂) (λ i. (owner_is i, index_is i)) called)))
 
-      pub onward_so : (yes : Bool) (p₂ : F) (q₂ : S) → step p owner index yes p₂ → (IsTrue yes → tell q owner index q₂) → (IsFalse yes → q₂ ≡ q)
-          → (answer : ℕ) → answer ≡ (if yes then 1 else 0) → (b : After Recover ReleaseState) → b ≡ recover_after put mode answer → Onward p₂ q₂ b
-      onward_so yes p₂ q₂ called told passed answer as b goes =
-          subst (Onward p₂ q₂) (sym (goes ∙ ap (recover_after put mode) as)) (onward yes p₂ q₂ called told passed)
+      pub onward_so : (agrees : Bool) (p₂ : F) (q₂ : S) → step p owner index agrees p₂ → (IsTrue agrees → tell q owner index q₂) → (IsFalse agrees → q₂ ≡ q)
+          → (answer : ℕ) → answer ≡ (if agrees then 1 else 0) → (b : After Recover ReleaseState) → b ≡ recover_after put mode answer → Onward p₂ q₂ b
+      onward_so agrees p₂ q₂ called told passed answer said_so b goes =
+          subst (Onward p₂ q₂) (sym (goes ∙ ap (recover_after put mode) said_so)) (onward agrees p₂ q₂ called told passed)
 
 -- ---- as it begins
 
@@ -358,12 +361,12 @@ few_rounds step tell mode f s capacity (g ∷ cells) fits done call p q words t 
     let e : suc (length cells) ≡ 1 + capacity = fits.long in
     let few = fits.few in
     let all : length (said.questions t.asked) + length t.left ≡ length (to_recover (owners_in (g ∷ cells))) =
-        sym (length-append (said.questions t.asked) t.left) ∙ ap length t.joined in
+    sym (length-append (said.questions t.asked) t.left) ∙ ap length t.joined in
     let number : length (said.questions t.asked) ≡ done = length-map t.asked (λ (a : Asked). a.of) ∙ t.number in
     let most : length (to_recover (owners_in (g ∷ cells))) ≤ length cells =
-        by_test (λ l. length l ≤ length cells) (g == locked) [] (taken (owners_in (g ∷ cells)))
-        (λ _. omega arith)
-        (λ _. let h = taken_most 0 (map owner_in cells) in let m = length-map cells owner_in in omega arith) in
+    by_test (λ l. length l ≤ length cells) (g == locked) [] (taken (owners_in (g ∷ cells)))
+    (λ _. omega arith)
+    (λ _. let h = taken_most 0 (map owner_in cells) in let m = length-map cells owner_in in omega arith) in
     omega arith
 
 pub questions_at : {F : Type 0} {pre : F → ℕ → ℕ → Type 0} {step : F → ℕ → ℕ → Bool → F → Type 0} {a b : List Owned} {f : F}

@@ -1,5 +1,5 @@
 -- A recovery that runs alone, from one question to the next.
-use Rattle.std.proofs.Common.{◌≡◌, ◌≢◌, ℕ, suc, ◌+◌, ◌-◌, ◌^◌, ◌<◌, ◌≤◌, Bool, true, false, ◌==◌, nat_lt, List, [], ◌∷◌, length, drop, map, Option, Some, None, refl, sym, ap, subst, ◌∙◌, arith, slice_index, slice_set, length-set, eq-eqb, ne_eqb, if◌then◌else◌}
+use Rattle.std.proofs.Common.{◌≡◌, ◌≢◌, ℕ, suc, ◌+◌, ◌^◌, ◌<◌, ◌≤◌, ◌==◌, nat_lt, List, [], ◌∷◌, length, drop, map, refl, sym, ap, subst, ◌∙◌, arith, slice_index, slice_set, length-set, eq-eqb, if◌then◌else◌}
 use Rattle.std.proofs.lemmas.Bool.Decides.{nat_tests}
 use Rattle.std.proofs.lemmas.List.{drop-set-lt}
 use Rattle.steps.specs.Picks.{by_test, by_eq}
@@ -9,7 +9,6 @@ use Rattle.steps.specs.declared.ask.Question.{Question}
 use Rattle.steps.specs.declared.ask.Question as questions
 use Rattle.steps.specs.declared.ask.Want.{Want}
 use Rattle.steps.specs.declared.ask.After.{After}
-use Rattle.steps.specs.declared.ask.After.TheVariants.{GoOn, Done}
 use Rattle.steps.specs.declared.indices.enums.ReleaseMode.{ReleaseMode}
 use Rattle.steps.specs.declared.indices.enums.ReleaseMode.TheVariants.{LockIfLastIndex, Default}
 use Rattle.steps.specs.declared.indices.enums.ReleaseState.{ReleaseState}
@@ -22,7 +21,7 @@ use Rattle.plain.specs.declared.drive.Stop.TheVariants.{Asked, Ended}
 use Rattle.plain.specs.Robust.{owner_in}
 use Rattle.plain.proofs.Walks.{plus, Walks, Goes, goes_longer, part_walks}
 use Rattle.plain.proofs.Robust.Parts.{here, past, next_cell, next_set, next_small, owner_free, owner_some, raise_walks, lock_walks, locking, state_number}
-use Rattle.plain.proofs.Robust.Releases.{counter_then, counter_small}
+use Rattle.plain.proofs.Robust.Releases.{counter_then}
 
 -- it asks about the first of those that are left
 pub record AsksAt (capacity g : ℕ) (cells : List ℕ) (left : List Owned) (question : Question (Unit {0})) (call : Recover) (last : List ℕ) : Type 0 where

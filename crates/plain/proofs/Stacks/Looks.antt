@@ -1,5 +1,5 @@
 -- The looks at a set, each a load of its head.
-use Rattle.std.proofs.Common.{◌≡◌, ℕ, ◌-◌, Bool, List, refl, arith, slice_index}
+use Rattle.std.proofs.Common.{ℕ, ◌-◌, List, refl, arith, slice_index}
 use Rattle.steps.specs.Queues.Ring.{load}
 use Rattle.steps.specs.Indices.Head.{proposed, says_locked}
 use Rattle.steps.specs.Indices.Unique.{borrowed_after, borrowed_number, locked_after}

@@ -1,5 +1,5 @@
 -- The words of a set of which all indices are free.
-use Rattle.std.proofs.Common.{◌≡◌, ◌≢◌, ℕ, zero, suc, ◌+◌, ◌-◌, ◌%◌, ◌/◌, ◌^◌, ◌<◌, ◌≤◌, ⊎_elim, Bool, true, false, not, ◌||◌, eqb, List, [], ◌∷◌, length, refl, sym, ap, subst, ◌∙◌, arith, slice_index, slice_set, get_or-set_same, get_or-set_other, length-set, true≢false}
+use Rattle.std.proofs.Common.{◌≡◌, ◌≢◌, ℕ, zero, suc, ◌+◌, ◌-◌, ◌%◌, ◌/◌, ◌^◌, ◌<◌, ◌≤◌, ⊎_elim, true, false, not, eqb, List, ◌∷◌, length, refl, sym, ap, subst, ◌∙◌, arith, slice_index, slice_set, get_or-set_same, get_or-set_other, length-set, true≢false}
 use Rattle.std.specs.List.{IsDistinct, range_with_len}
 use Rattle.std.proofs.lemmas.Bool.Decides.{eqb_tells}
 use Rattle.std.proofs.lemmas.Bool.{cases_Bool}

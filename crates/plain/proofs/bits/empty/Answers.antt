@@ -1,5 +1,5 @@
 use Rattle.std.proofs.Common.{◌≡◌, subst, arith}
-use Rattle.plain.proofs.Places.Empties.{Emptying, may_swap, refilled, callable, hands_out, all_emptied, still_fits, all_called}
+use Rattle.plain.proofs.Places.Empties.{Emptying, may_swap, refilled, callable, hands_out, all_emptied, all_called}
 use Rattle.plain.proofs.bits.empty.Given as given
 use Rattle.plain.proofs.bits.empty.Goals as goal
 
