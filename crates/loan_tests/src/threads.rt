@@ -153,8 +153,8 @@ fn send_some<'a>(
     Some(sender)
 }
 
-/// Receives one and keeps it, and gives one back.
-fn receive_two(
+/// Receives one and keeps it, and gives two back.
+fn receive_three(
     rt: &impl Wait,
     submission: &SafelyOverflowingIndexQueue,
     from: overflow::Pass,
@@ -174,20 +174,21 @@ fn receive_two(
         }
         thread::yield_now();
     }
-    let (pass, _) = receive_all(rt, submission, consumer.release(), completion, into, 1)?;
+    let (pass, _) = receive_all(rt, submission, consumer.release(), completion, into, 2)?;
     Some(pass)
 }
 
-/// Three slots are sent, of which the receiver gets two: it keeps one, gives one back, and ends. The sender loans one
-/// more and reclaims: whether then both queues are empty, and each index is free or with the sender.
+/// Six slots are sent, of which the receiver gets three: it keeps one, gives two back, and ends, so three wait in one
+/// queue and two in the other. The sender loans one more and reclaims: whether then both queues are empty, and each index
+/// is free or with the sender.
 fn ends_early<R: Wait + Threads + Sync>(rt: &R, alloc: Global) -> Option<bool> {
-    let Ok((set, pass)) = UniqueIndexSet::new(alloc, 4) else {
+    let Ok((set, pass)) = UniqueIndexSet::new(alloc, 8) else {
         return None;
     };
-    let Ok((submission, mut into)) = SafelyOverflowingIndexQueue::new(alloc, 4) else {
+    let Ok((submission, mut into)) = SafelyOverflowingIndexQueue::new(alloc, 8) else {
         return None;
     };
-    let Ok((completion, mut from)) = IndexQueue::new(alloc, 4) else {
+    let Ok((completion, mut from)) = IndexQueue::new(alloc, 8) else {
         return None;
     };
     let receiving = into.split()?;
@@ -196,8 +197,8 @@ fn ends_early<R: Wait + Threads + Sync>(rt: &R, alloc: Global) -> Option<bool> {
     let (slots, sends, returns) = (&set, &submission, &completion);
     let (sent, received) = thread::join(
         rt,
-        move || send_some(rt, alloc, slots, pass, sends, into, returns, from, 3),
-        move || receive_two(rt, sends, receiving, returns, giving),
+        move || send_some(rt, alloc, slots, pass, sends, into, returns, from, 6),
+        move || receive_three(rt, sends, receiving, returns, giving),
     );
     let mut sender = sent?;
     let receiving = received?;
@@ -216,7 +217,7 @@ fn ends_early<R: Wait + Threads + Sync>(rt: &R, alloc: Global) -> Option<bool> {
         return None;
     };
     let none_back = consumer.pop().is_none();
-    Some(freed == 3 && none_sent && none_back && with_sender && borrowed == 1)
+    Some(freed == 6 && none_sent && none_back && with_sender && borrowed == 1)
 }
 
 #[test]

@@ -3,3 +3,4 @@ pub mod Emptying
 pub mod Cleared
 pub mod Setting
 pub mod Resetting
+pub mod Sums

@@ -5,3 +5,4 @@ pub mod Counting
 pub mod Emptying
 pub mod Emptied
 pub mod Taken
+pub mod Sums

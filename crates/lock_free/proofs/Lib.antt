@@ -5,6 +5,7 @@ pub use Rattle.lock_free_sp.proofs.Fractions
 pub use Rattle.lock_free_sp.proofs.Orders
 pub use Rattle.lock_free_sp.proofs.Shares
 pub use Rattle.lock_free_sp.proofs.Rules.Ring.Lists
+pub mod Sums
 pub mod Held
 pub mod Loan
 pub mod Rules

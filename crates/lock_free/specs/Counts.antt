@@ -3,4 +3,5 @@ pub mod Callable
 pub mod Stages
 pub mod Driven
 pub mod Told
+pub mod Sums
 pub mod Calls

@@ -7,8 +7,12 @@ pub use Rattle.lock_free_sp.specs.Shares
 pub use Rattle.lock_free_sp.specs.Parts
 pub use Rattle.lock_free_sp.specs.Orders
 pub use Rattle.steps.specs.Enums
+pub use Rattle.history.specs.History
+pub use Rattle.model.specs.Families.Bits.Reading as Sums
 -- The types that they speak of.
 pub use Rattle.atomic_table.specs.Seated.{TableId}
+pub use Rattle.model.specs.declared.event.Event
+pub use Rattle.history.specs.declared.view as HistoryView
 pub use Rattle.lock_free_sp.specs.declared.ring.view as QueueView
 pub use Rattle.lock_free_sp.specs.declared.ring.ends as QueueEnds
 pub use Rattle.lock_free_sp.specs.declared.value.view as ValueView

@@ -125,7 +125,7 @@ module _ {T : Type 0} where
 module _ {V : Type 0} where
   -- ---- views in lists
 
-  at_below : (l : List V) (i : ℕ) (a : V) → get_elem? l i ≡ some a → i < length l
+  pub at_below : (l : List V) (i : ℕ) (a : V) → get_elem? l i ≡ some a → i < length l
   at_below [] i a e = absurd (some-ne-none a (sym e))
   at_below (x ∷ xs) zero a e = omega arith
   at_below (x ∷ xs) (suc i) a e = let h = at_below xs i a e in omega arith
@@ -157,7 +157,7 @@ module _ {V : Type 0} where
   alone F v mine (suc j) u e = absurd (some-ne-none u (sym e))
 
   -- what a seat's view had, it has after the change of one seat's view
-  moved : (P : V → Type 0) (views : List V) (id : ℕ) (v w : V) → get_elem? views id ≡ some v → (P v → P w) → (j : ℕ)
+  pub moved : (P : V → Type 0) (views : List V) (id : ℕ) (v w : V) → get_elem? views id ≡ some v → (P v → P w) → (j : ℕ)
       → (u : V) × (get_elem? views j ≡ some u) × P u → (u : V) × (get_elem? (set views id w) j ≡ some u) × P u
   moved P views id v w at through j t =
       dite (ℕ_discrete j id)

@@ -4,3 +4,4 @@ pub mod Tells
 pub mod Kept
 pub mod Calls
 pub mod Stages
+pub mod Closes

@@ -1,7 +1,8 @@
 //! The structures with one producer at a time, shared between threads.
 //!
 //! Each call drives a value of the crate `steps` on the words of a table of `atomic_table`, of the
-//! type that the machine runs but for the room in which a value's words are read.
+//! type that the machine runs but for the room in which a value's words are read. A split, a join, a look
+//! and a close load words by themselves.
 //! What a caller knows of a structure is the view of its pass; the rule of the table says
 //! how the views of all passes fit together. No contract here counts the steps of a call.
 //! The tests stand in the crate `thread_tests`.

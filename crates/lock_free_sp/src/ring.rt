@@ -8,6 +8,7 @@ pub mod ends;
 mod overflowing;
 mod passes;
 mod plays;
+mod reads;
 pub mod rule;
 pub mod token;
 pub mod view;

@@ -18,7 +18,7 @@ use Rattle.model.specs.declared.turn.Refusal.TheVariants.{BadIndex, OwnerIsDead,
 use Rattle.model.specs.declared.turn.Turn.{Turn}
 use Rattle.model.specs.declared.turn.Turn.TheVariants.{Begin, Next, Decide, Die}
 use Rattle.model.specs.Coding.{one_word}
-use Rattle.model.specs.Families.Indices.Robust.Promises.{IsFilled, IsFilledWith, HeldThrough, HoldsRight, DoesRight, AnswersRight, HasRecovered, IsCount, FreesRight, IsProper, count_below}
+use Rattle.model.specs.Families.Indices.Robust.Promises.{IsFilled, IsFilledWith, HeldThrough, HoldsRight, SetDoes, AsksRight, AnswersRight, HasRecovered, IsCount, FreesRight, IsProper, count_below}
 use Rattle.model.specs.Families.Indices.Robust.Reading.{Deed, Frees, Asks, Yes, IsOneOf, deeds_of, filled_after, filled_of}
 use Rattle.model.specs.Families.Indices.Robust.Spans.{may_stand}
 use Rattle.model.specs.Moments.{BeginsNone, HeldOnce}
@@ -199,19 +199,19 @@ no_lock_over_a_holder : HoldsRight held (events.TheVariants.Locked 0) → ⊥
 no_lock_over_a_holder free = let none = free 0 in cc
 
 -- an acquire that fills a filled cell
-no_second_owner : DoesRight 1 held (Filled 0 0 9) → ⊥
+no_second_owner : SetDoes 1 held (Filled 0 0 9) → ⊥
 no_second_owner right = let free = right.1 in cc
 
 -- a release that frees whatever owner stands there
-no_other_owner : DoesRight 1 held (FreedOf 0 0 9) → ⊥
+no_other_owner : SetDoes 1 held (FreedOf 0 0 9) → ⊥
 no_other_owner same = cc
 
 -- a yes about an owner who lives
-no_yes_of_the_living : DoesRight 1 held (Told 0 0 7) → ⊥
+no_yes_of_the_living : AsksRight held (Told 0 0 7) → ⊥
 no_yes_of_the_living died = cc
 
 -- a grant after the lock
-no_grant_once_locked : DoesRight {T = ℕ} 1 (Filled 1 0 7 ∷ events.TheVariants.Locked 0 ∷ []) (Granted 1 0 7) → ⊥
+no_grant_once_locked : SetDoes {T = ℕ} 1 (Filled 1 0 7 ∷ events.TheVariants.Locked 0 ∷ []) (Granted 1 0 7) → ⊥
 no_grant_once_locked unlocked = cc
 
 -- a recovery that frees before a yes

@@ -5,5 +5,6 @@ pub mod Places
 pub mod Robust
 pub mod Stacks
 pub mod Values
+pub mod Visits
 pub mod Words
 pub mod Walks

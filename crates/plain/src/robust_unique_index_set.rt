@@ -27,7 +27,7 @@ use steps::routine::Routine;
 /// `RobustUniqueIndexSet` of the Rust crate, for one caller.
 ///
 /// Its generation goes up with each change and with each count, up to `u64::MAX - 1`: from there on no index is handed
-/// out, and the set is locked no more.
+/// out, and the set can no longer be locked.
 #[derive(Drop)]
 pub struct RobustUniqueIndexSet {
     words: Vec<u64>,
@@ -256,7 +256,7 @@ impl RobustUniqueIndexSet {
     }
 
     /// Gives `index` back, where it is that of `owner`. Else `IndexIsNotOwnedByProvidedOwner`, and nothing changes. In
-    /// mode `LockIfLastIndex` it locks the set where no index has an owner then.
+    /// mode `LockIfLastIndex` it locks the set where no index has an owner then, unless its generation comes to its end.
     pub fn release(
         &mut self,
         index: usize,
@@ -290,7 +290,7 @@ impl RobustUniqueIndexSet {
 
     /// Asks `predicate` about each index that has an owner, ascending, tells `recover_success` of those about which it said
     /// true, and gives these back. In mode `LockIfLastIndex` it locks the set where no index has an owner after one was
-    /// given back. `Locked` where the set is locked then, else `Unlocked`. A locked set asks nothing.
+    /// given back, unless its generation comes to its end. `Locked` where the set is locked then, else `Unlocked`. A locked set asks nothing.
     pub fn recover<F: FnMut(OwnerId, usize) -> bool, S: FnMut(OwnerId, usize)>(
         &mut self,
         mode: ReleaseMode,

@@ -1,7 +1,7 @@
 //! The unique index set of one caller.
-ghost use Rattle.std.specs.Prelude.{◌≡◌, ◌≤◌, ◌-◌, ◌^◌, ◌⊎◌, IfOk, IfErr, OnOk, Some, None};
+ghost use Rattle.std.specs.Prelude.{◌≡◌, ◌≤◌, ◌<◌, ◌-◌, ◌^◌, ◌⊎◌, not, IsTrue, IfOk, IfErr, OnOk, Some, None};
 ghost use Rattle.steps.specs.Enums.{capacity_refusal};
-ghost use Rattle.steps.specs.Objects.Stacks.{Stack, IsOut, opened, acquired, after_acquire, released, released_or_locked, release_state, out};
+ghost use Rattle.steps.specs.Objects.Stacks.{Stack, IsOut, is_free, opened, acquired, after_acquire, released, released_or_locked, release_state, out};
 ghost use Rattle.steps.specs.declared.enums.UniqueIndexCreationError.TheVariants.{NoMemory};
 ghost use Rattle.steps.specs.declared.indices.enums.ReleaseState.TheVariants.{Unlocked};
 ghost use Rattle.plain.specs.Alone.{Turns};
@@ -12,7 +12,7 @@ use std::alloc::{AllocError, Global};
 use std::marker::Model;
 use steps::enums::{UniqueIndexCreationError, capacity_refusal};
 use steps::indices::enums::{ReleaseState, UniqueIndexSetAcquireFailure};
-use steps::indices::layout::{FIRST_NEXT, next_word};
+use steps::indices::layout::{FIRST_NEXT, flag_word, has_flag, next_word};
 use steps::indices::looks::{BorrowedIndices, IsLocked};
 use steps::indices::unique::{Acquire, DefaultMode, LockMode, Release};
 
@@ -107,6 +107,15 @@ fn look(words: &mut Vec<u64>, capacity: u32) -> bool
     drive(words, IsLocked, &(), &mut room)
 }
 
+/// Whether the claim flag of an index stands, in the words of a set.
+fn is_claimed(words: &Vec<u64>, capacity: u32, index: u32) -> bool
+    requires fits { Fits capacity words.now.items }
+    requires below { index < capacity }
+    ensures { result ≡ not (is_free (stack_in capacity words.now.items) index) }
+{
+    has_flag(words[flag_word(capacity, index)], index)
+}
+
 impl UniqueIndexSet {
     /// A set of which all indices are free, 0 on top.
     ///
@@ -152,6 +161,14 @@ impl UniqueIndexSet {
         ensures stack { self.new ≡ released_or_locked self.old index }
     {
         release_or_lock(&mut self.words, self.capacity, index)
+    }
+
+    /// Whether the index is one that is out, as a release requires.
+    pub fn is_out(&self, index: u32) -> bool
+        ensures out { IsTrue result → IsOut self.now index }
+        ensures all { IsOut self.now index → IsTrue result }
+    {
+        index < self.capacity && is_claimed(&self.words, self.capacity, index)
     }
 
     /// How many indices are out.

@@ -2,6 +2,8 @@
 #![tactic(auto)]
 
 #[cfg(test)]
+mod bits;
+#[cfg(test)]
 mod queues;
 #[cfg(test)]
 mod robust;

@@ -128,9 +128,12 @@ fn recoveries(rt: HostRuntime) -> Result<(), Fail> {
             says = !says;
             says
         },
-        |_, index| told = told.wrapping_mul(10).wrapping_add(index as u64),
+        |_, index| told = told
+            .wrapping_mul(10)
+            .wrapping_add(index as u64)
+            .wrapping_add(1),
     );
-    assert_eq!(rt; (state, told), (ReleaseState::Unlocked, 2));
+    assert_eq!(rt; (state, told), (ReleaseState::Unlocked, 13));
     assert_eq!(rt; set.find(owner, |_| CallbackProgression::Continue), 1);
     assert_eq!(rt; set.borrowed_indices(), 1);
     let state = set.recover(ReleaseMode::LockIfLastIndex, |_, _| true, |_, _| {});

@@ -17,6 +17,10 @@ fn unique_sets(rt: HostRuntime) -> Result<(), Fail> {
     assert_eq!(rt; set.release_raw_index(0), ReleaseState::Unlocked);
     assert_eq!(rt; set.release_raw_index(2), ReleaseState::Unlocked);
     assert_eq!(rt; set.borrowed_indices(), 1);
+    assert_eq!(rt;
+        [set.is_out(0), set.is_out(1), set.is_out(3)],
+        [false, true, false]
+    );
     assert_eq!(rt; set.acquire_raw_index(), Ok(2));
     assert_eq!(rt; set.acquire_raw_index(), Ok(0));
     Ok(())

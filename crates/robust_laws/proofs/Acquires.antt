@@ -1,24 +1,17 @@
 -- The steps of an acquire.
-use Rattle.std.proofs.Common.{◌≡◌, ◌≢◌, ℕ, ◌+◌, ◌*◌, ◌<◌, ◌≤◌, ◌==◌, ⊎_elim, inl, inr, if◌then◌else◌, nat_lt, Bool, true, false, not, Option, Some, None, is_some, List, [], ◌∷◌, ◌++◌, set, refl, sym, ap, ◌∙◌, arith}
+use Rattle.std.proofs.Common.{◌≡◌, ℕ, ◌+◌, ◌<◌, ◌≤◌, Bool, false, Option, List, [], ◌∷◌, ◌++◌, set, refl, ap, ◌∙◌, arith}
 use Rattle.std.specs.Prelude.{Err}
-use Rattle.std.proofs.lemmas.Bool.{cases_lt}
-use Rattle.std.proofs.lemmas.Bool.Decides.{nat_tests}
-use Rattle.std.proofs.lemmas.List.{set-get_or}
 use Rattle.std.proofs.lemmas.List.Concat.{flat_map-append}
-use Rattle.std.proofs.lemmas.List.Sums.{fold-append}
 use Rattle.steps.specs.declared.ask.Ask.{Ask}
 use Rattle.steps.specs.declared.ask.After.{After}
-use Rattle.steps.specs.declared.ask.After.TheVariants.{GoOn, Done}
-use Rattle.steps.specs.declared.indices.enums.ReleaseState.{ReleaseState}
+use Rattle.steps.specs.declared.ask.After.TheVariants.{Done}
 use Rattle.steps.specs.declared.indices.enums.UniqueIndexSetAcquireFailure as failures
 use Rattle.steps.specs.declared.indices.robust.acquire.Acquire as calls
 use Rattle.steps.specs.declared.indices.robust.acquire.AcquireStage.{AcquireStage}
 use Rattle.steps.specs.declared.indices.robust.acquire.AcquireStage as acquires
-use Rattle.steps.specs.declared.indices.robust.parts.Raise.{Raise}
 use Rattle.steps.specs.declared.indices.robust.parts.Raise as raises
-use Rattle.steps.specs.Indices.Robust.Acquire.{Acquired, at_acquire, acquire_tries, acquire_sees, acquire_raised}
-use Rattle.steps.specs.Indices.Robust.Parts.{cell_word, empty, locked, greatest, raise_after, raise_goes_back}
-use Rattle.steps.specs.Picks.{by_test, by_eq}
+use Rattle.steps.specs.Indices.Robust.Acquire.{Acquired}
+use Rattle.steps.specs.Indices.Robust.Parts.{empty}
 use Rattle.steps.specs.Routine.{went_on}
 use Rattle.model.specs.declared.event.Answer.TheVariants.{Index, NoIndex}
 use Rattle.model.specs.declared.event.Event.{Event}
@@ -26,26 +19,17 @@ use Rattle.model.specs.declared.event.Event.TheVariants.{Filled, Granted}
 use Rattle.model.specs.declared.families.indices.robust.RobustStart.TheVariants.{Acquire}
 use Rattle.model.specs.declared.families.indices.robust.calls.RobustFlight as flights
 use Rattle.model.specs.Families.Indices.Robust.Calls.{acquire_answer}
-use Rattle.model.specs.Families.Indices.Robust.Promises.{IsFilled, IsUnlocked, IsProper}
-use Rattle.model.specs.Families.Indices.Robust.Reading.{Fills, Grants, deed, deeds, filled_after, filled_of, holder_after, holder_of, is_dead}
-use Rattle.model.specs.Families.Indices.Robust.Steps.{granted}
+use Rattle.model.specs.Families.Indices.Robust.Reading.{Fills, Grants, deed, deeds, is_dead}
 use Rattle.model.specs.Families.Queues.Calls.{as_it_is}
-use Rattle.model.specs.Moments.{HeldOnce}
 use Rattle.model.specs.Step.{as_call}
-use Rattle.model.specs.Turns.{words_after, step_count}
-use Rattle.model.proofs.Moments.{held_now}
-use Rattle.robust_laws.proofs.Core.{counter_of, cell}
-use Rattle.robust_laws.proofs.Effects.{at_same, proper_less, before_end, unlocked, is_shut, stays_same, filled_none, filled_some, fills}
+use Rattle.model.specs.Turns.{words_after}
+use Rattle.robust_laws.proofs.Effects.{stays_same}
 use Rattle.robust_laws.proofs.Grants.{grants}
-use Rattle.robust_laws.proofs.Invariant.{Scene, Inv, Good, wrote_of}
+use Rattle.robust_laws.proofs.Held.{Caller, WhyNot, FewEnd, held_step}
+use Rattle.robust_laws.proofs.Invariant.{Scene, Inv, wrote_of}
 use Rattle.robust_laws.proofs.Knows.{Knows, IsPaid}
-use Rattle.robust_laws.proofs.Standing.{acquire_at, acquire_number, raise_number, AcquireAt}
-use Rattle.robust_laws.proofs.Parts.{raise_ask, raise_step, none_holds, finds_counter}
-use Rattle.robust_laws.proofs.Rights.{By, right_after, right_of, IsBy}
-use Rattle.robust_laws.proofs.Stages.{IsHere, all, now, sees, backs_then, loads, exchanges, loads_same, fails_same, exchange_sets, paid_of, paid_back, holds_on, StepOf, Leads, goes_on, ends, goes_quietly, ends_quietly}
-
-some_is : (o : Option ℕ) (owner : ℕ) → o ≡ Some owner → is_some o ≡ true
-some_is o owner e = ap is_some e
+use Rattle.robust_laws.proofs.Standing.{acquire_at, acquire_number, AcquireAt}
+use Rattle.robust_laws.proofs.Stages.{IsHere, all, now, sees, StepOf, Leads, goes_on, ends, goes_quietly, ends_quietly}
 
 module _ {T : Type 0} (scene : Scene T) (inv : Inv scene) (owner : ℕ) (fits : owner < empty) (alive : is_dead owner scene.events ≡ false) (here : IsHere scene (Acquire owner)) where
   open scene use {capacity as c, party as p, steps as steps, backs as backs, events as events}
@@ -53,165 +37,35 @@ module _ {T : Type 0} (scene : Scene T) (inv : Inv scene) (owner : ℕ) (fits : 
   abbrev ws : List ℕ
   ws = scene.set.words
 
-  g : Good c ws scene.set.dead events scene.turns
-  g = inv.holds.good
-
-  abbrev call_at : AcquireStage → calls.Acquire
-  call_at stage = record { capacity = c; stage = stage }
-
   -- what a step leads to that did this, by how the call goes on
   abbrev Lead : Option Ask → Bool → List (Event T) → After calls.Acquire Acquired → Type 0
   Lead ask back did a =
       Leads scene (Acquire owner) ask back did (as_call flights.TheVariants.Acquire acquire_answer (went_on as_it_is owner tt a))
 
-  -- ---- a counter was found, by a load or by an exchange that failed
+  refuses : (failure : failures.UniqueIndexSetAcquireFailure) (ask : Option Ask) (back : Bool) → words_after ws ask ≡ ws → WhyNot scene inv owner fits alive 0 failure → IsPaid (sees scene ask back) → FewEnd scene inv owner fits alive 0 ask back → Lead ask back [] (Done (Err failure))
+  refuses failures.TheVariants.IsLocked ask back same why paid few =
+      ends_quietly scene inv (Acquire owner) (NoIndex failures.TheVariants.IsLocked) ask back here (stays_same scene inv (words_after ws ask) same) (λ i o. refl) (λ i r. refl) why.0 why.1 (omega arith) paid
+  refuses failures.TheVariants.OutOfIndices ask back same why paid few =
+      ends_quietly scene inv (Acquire owner) (NoIndex failures.TheVariants.OutOfIndices) ask back here (stays_same scene inv (words_after ws ask) same) (λ i o. refl) (λ i r. refl) (why.0, why.1) why.2 (omega arith) paid
 
-  module _ (stage : AcquireStage) (ask : Option Ask) (back : Bool) (same : words_after ws ask ≡ ws) (none : all scene ≡ []) (low : steps + step_count ask ≤ 1 + backs_then scene back * (c + 1)) (paid : IsPaid (sees scene ask back)) where
-    finds_locked : counter_of ws ≡ locked → Lead ask back [] (Done (Err failures.TheVariants.IsLocked))
-    finds_locked shut =
-        ends_quietly scene inv (Acquire owner) (NoIndex failures.TheVariants.IsLocked) ask back here (stays_same scene inv (words_after ws ask) same) (λ i o. refl) (λ i r. refl) (is_shut scene inv shut) (inl none) (omega arith) paid
-
-    begins_cells : counter_of ws ≢ locked → Lead ask back [] (GoOn (at_acquire (call_at stage) (acquires.TheVariants.FillsCell (counter_of ws) 0)))
-    begins_cells open_now =
-        let some = g.some in
-        goes_quietly scene inv (Acquire owner) (acquire_at c owner (acquires.TheVariants.FillsCell (counter_of ws) 0)) ask back here (stays_same scene inv (words_after ws ask) same) low
-        (refl, refl, fits, (omega arith, none))
-        (record { paid = finds_counter scene inv ask back same open_now paid; scanned = tt; owns = tt; says = (held_now p IsUnlocked events (unlocked scene inv open_now), λ i below. absurd (omega arith)); gone = tt })
-
-    finds : Lead ask back [] (acquire_sees (call_at stage) (counter_of ws))
-    finds =
-        by_eq (Lead ask back []) (counter_of ws) locked (Done (Err failures.TheVariants.IsLocked)) _ finds_locked
-        (λ open_now. by_eq (Lead ask back []) (counter_of ws) greatest (Done (Err failures.TheVariants.OutOfIndices)) _
-        (λ end. let before = before_end scene inv open_now in absurd (omega arith))
-        (λ less. by_test (λ s. Lead ask back [] (GoOn (at_acquire (call_at stage) s))) (nat_lt 0 c) (acquires.TheVariants.FillsCell (counter_of ws) 0) (acquires.TheVariants.ChecksCounter (counter_of ws))
-        (λ t. begins_cells open_now)
-        (λ t. let some = g.some in let nothing : c ≤ 0 = grind (arith, nat_tests) in absurd (omega arith))))
-
-  -- ---- the exchange of a cell
-
-  module _ (number i : ℕ) (below : i < c) (none : all scene ≡ []) (s : steps ≤ 1 + i + backs * (c + 1)) (k : Knows c (acquire_at c owner (acquires.TheVariants.FillsCell number i)) (now scene)) where
-    abbrev filling : AcquireStage
-    filling = acquires.TheVariants.FillsCell number i
-
-    abbrev exchange : Option Ask
-    exchange = Some (exchanges (cell_word i) empty owner)
-
-    abbrev fill : List (Event T)
-    fill = Filled p i owner ∷ []
-
-    paid_now : IsPaid (now scene)
-    paid_now = paid_of scene (counter_of ws ≡ number) k.paid.paid
-
-    fills_cell : cell ws i ≡ empty → Lead exchange false fill (GoOn (at_acquire (call_at filling) (acquires.TheVariants.Raises i raises.TheVariants.LoadsCounter)))
-    fills_cell is =
-        let free = filled_none scene inv i below is in
-        let new : words_after ws exchange ≡ set ws (cell_word i) owner = exchange_sets ws (cell_word i) empty owner is in
-        goes_on scene (Acquire owner) (acquire_at c owner (acquires.TheVariants.Raises i raises.TheVariants.LoadsCounter)) exchange false fill here (λ start w. refl)
-        (fills scene inv (words_after ws exchange) i owner below fits free alive k.says.0 new)
-        ((refl, none), tt) (omega arith)
-        (refl, refl, fits, (below, ap (λ d. d ++ Fills i owner ∷ []) none))
-        (record {
-          paid = omega arith;
-          scanned = tt;
-          owns = λ proper lives. (
-            record {
-              right = fold-append (right_after i) _ events fill ∙ at_same i i (By p) (right_of i events) refl;
-              filled = fold-append (filled_after i) None events fill ∙ at_same i i (Some owner) (filled_of i events) refl;
-            },
-            fold-append (holder_after i) None events fill ∙ none_holds scene inv (proper_less events fill proper) i free,
-          );
-          says = tt;
-          gone = tt;
-        })
-
-    was_filled : cell ws i ≢ empty → (j : ℕ) → j < i + 1 → HeldOnce p (IsFilled j) events
-    was_filled other j less =
-        ⊎_elim (λ before. k.says.1 j before)
-        (λ last.
-        let same : j ≡ i = omega arith in
-        held_now p (IsFilled j) events (some_is (filled_of j events) (cell ws i) (ap (λ n. filled_of n events) same ∙ (filled_some scene inv i below other).1)))
-        (cases_lt j i)
-
-    passes : cell ws i ≢ empty → Lead exchange false [] (acquire_tries (call_at filling) number (i + 1))
-    passes other =
-        let same : words_after ws exchange ≡ ws = fails_same ws (cell_word i) empty owner other in
-        let stays = stays_same scene inv (words_after ws exchange) same in
-        let held = holds_on scene number exchange events (ap counter_of same) k.paid in
-        by_test (λ stage. Lead exchange false [] (GoOn (at_acquire (call_at filling) stage))) (nat_lt (i + 1) c) (acquires.TheVariants.FillsCell number (i + 1)) (acquires.TheVariants.ChecksCounter number)
-        (λ t.
-        let more : i + 1 < c = grind (arith, nat_tests) in
-        goes_quietly scene inv (Acquire owner) (acquire_at c owner (acquires.TheVariants.FillsCell number (i + 1))) exchange false here stays (omega arith) (refl, refl, fits, (more, none))
-        (record { paid = held; scanned = tt; owns = tt; says = (k.says.0, was_filled other); gone = tt }))
-        (λ t.
-        let last : c ≤ i + 1 = grind (arith, nat_tests) in
-        goes_quietly scene inv (Acquire owner) (acquire_at c owner (acquires.TheVariants.ChecksCounter number)) exchange false here stays (omega arith) (refl, refl, fits, none)
-        (record { paid = held; scanned = tt; owns = tt; says = λ j less. was_filled other j (omega arith); gone = tt }))
-
-    fills_step : StepOf scene (Acquire owner) (acquire_at c owner filling)
-    fills_step = go (cell ws i == empty) refl
-      where
-        go : (b : Bool) → (cell ws i == empty) ≡ b → Lead (Some (exchanges (cell_word i) empty owner)) false (if b then Filled p i owner ∷ [] else [])
-            (if b then GoOn (at_acquire (call_at (acquires.TheVariants.FillsCell number i)) (acquires.TheVariants.Raises i raises.TheVariants.LoadsCounter)) else acquire_tries
-            (call_at (acquires.TheVariants.FillsCell number i)) number (i + 1))
-        go true t = let is : cell ws i ≡ empty = grind (arith, nat_tests) in fills_cell is
-        go false t = let other : cell ws i ≢ empty = grind (arith, nat_tests) in passes other
-
-  -- ---- the exchange of the counter for itself
-
-  checks_step : (number : ℕ) → all scene ≡ [] → steps ≤ 1 + c + backs * (c + 1) → Knows c (acquire_at c owner (acquires.TheVariants.ChecksCounter number)) (now scene)
-      → StepOf scene (Acquire owner) (acquire_at c owner (acquires.TheVariants.ChecksCounter number))
-  checks_step number none s k = go (counter_of ws == number) refl
-    where
-      go : (b : Bool) → (counter_of ws == number) ≡ b → Lead (Some (exchanges 0 number number)) (not b) []
-          (if b then Done (Err failures.TheVariants.OutOfIndices) else acquire_sees (call_at (acquires.TheVariants.ChecksCounter number)) (counter_of ws))
-      go true t =
-          let is : counter_of ws ≡ number = grind (arith, nat_tests) in
-          let paid_now = paid_of scene (counter_of ws ≡ number) k.paid.paid in
-          let same : words_after ws (Some (exchanges 0 number number)) ≡ ws = exchange_sets ws 0 number number is ∙ (ap (set ws 0) (sym is) ∙ set-get_or ws 0 0) in
-          ends_quietly scene inv (Acquire owner) (NoIndex failures.TheVariants.OutOfIndices) (Some (exchanges 0 number number)) false here (stays_same scene inv (words_after ws (Some (exchanges 0 number number))) same)
-          (λ i o. refl) (λ i r. refl) (unlocked scene inv (λ shut. let end = k.paid.before_end in absurd (omega arith)), k.says) none (omega arith) (omega arith)
-      go false t =
-          let other : counter_of ws ≢ number = grind (arith, nat_tests) in
-          finds (acquires.TheVariants.ChecksCounter number) (Some (exchanges 0 number number)) true (fails_same ws 0 number number other) none (omega arith) (paid_back scene number (Some (exchanges 0 number number)) events other k.paid)
-
-  -- ---- the raise of the counter
-
-  module _ (i : ℕ) (raise : Raise) (below : i < c) (done : all scene ≡ Fills i owner ∷ []) (s : steps ≤ 1 + c + raise_number raise + backs * (c + 1)) (k : Knows c (acquire_at c owner (acquires.TheVariants.Raises i raise)) (now scene)) where
-    abbrev raising : AcquireStage
-    raising = acquires.TheVariants.Raises i raise
-
-    abbrev raises_to : Option Ask → Bool → After Raise ReleaseState → Type 0
-    raises_to ask back r = Lead ask back (granted p i owner r) (acquire_raised (call_at raising) i r)
-
-    mine : IsProper events → IsBy p i owner events × (holder_of i events ≡ None)
-    mine proper = k.owns proper alive
-
-    all_done : deeds (wrote_of p events ++ Granted p i owner ∷ []) ≡ Fills i owner ∷ Grants i owner ∷ []
-    all_done = flat_map-append deed (wrote_of p events) (Granted p i owner ∷ []) ∙ ap (λ d. d ++ Grants i owner ∷ []) done
-
-    raises_step : raises_to (Some (raise_ask raise)) (raise_goes_back raise (counter_of ws)) (raise_after raise (counter_of ws))
-    raises_step =
-        raise_step scene inv raises_to raise k.paid
-        (λ number ask back same held few.
-        let low = few (1 + c) (c + 1) (omega arith) s in
-        goes_quietly scene inv (Acquire owner) (acquire_at c owner (acquires.TheVariants.Raises i (raises.TheVariants.ExchangesCounter number))) ask back here (stays_same scene inv (words_after ws ask) same) low
-        (refl, refl, fits, (below, done))
-        (record { paid = held; scanned = tt; owns = k.owns; says = tt; gone = tt }))
-        (λ ask back same shut paid few.
-        let low = few (1 + c) (c + 1) (omega arith) s in
-        ends_quietly scene inv (Acquire owner) (NoIndex failures.TheVariants.IsLocked) ask back here (stays_same scene inv (words_after ws ask) same) (λ j o. refl) (λ j r. refl) (is_shut scene inv shut)
-        (inr (record { index = i; is = done })) (omega arith) paid)
-        (λ ask open_now new paid few.
-        let low = few (1 + c) (c + 1) (omega arith) s in
-        ends scene (Acquire owner) (Index i) ask false (Granted p i owner ∷ []) here (λ start w. refl)
-        (grants scene inv (words_after ws ask) i owner mine alive open_now new)
-        ((refl, done), ((refl, all_done), tt)) (omega arith) paid)
-
-  -- ---- any step
+  caller : Caller scene inv owner fits alive 0 Lead
+  caller =
+      record {
+        quiet = λ next ask back same at known few. goes_quietly scene inv (Acquire owner) (acquire_at c owner next) ask back here (stays_same scene inv (words_after ws ask) same) (omega arith) (refl, refl, fits, at) known;
+        filled = λ i ask new does below none known few.
+            goes_on scene (Acquire owner) (acquire_at c owner (acquires.TheVariants.Raises i raises.TheVariants.LoadsCounter)) ask false (Filled p i owner ∷ []) here (λ start w. refl) does
+            ((refl, none), tt) (tt, tt) (omega arith) (refl, refl, fits, (below, ap (λ d. d ++ Fills i owner ∷ []) none)) known;
+        fails = refuses;
+        grants = λ i ask below done mine open_now new paid few.
+            let all_done : deeds (wrote_of p events ++ Granted p i owner ∷ []) ≡ Fills i owner ∷ Grants i owner ∷ [] =
+            flat_map-append deed (wrote_of p events) (Granted p i owner ∷ []) ∙ ap (λ d. d ++ Grants i owner ∷ []) done in
+            ends scene (Acquire owner) (Index i) ask false (Granted p i owner ∷ []) here (λ start w. refl)
+            (grants scene inv (words_after ws ask) i owner mine alive open_now new)
+            ((refl, done), ((refl, all_done), tt)) (tt, (tt, tt)) (omega arith) paid;
+      }
 
   pub acquire_step : (stage : AcquireStage) → AcquireAt c owner (all scene) stage → Knows c (acquire_at c owner stage) (now scene) → steps ≤ acquire_number c stage backs → StepOf scene (Acquire owner) (acquire_at c owner stage)
-  acquire_step acquires.TheVariants.LoadsCounter at k s = finds acquires.TheVariants.LoadsCounter (Some (loads 0)) false (loads_same ws 0) at (omega arith) (let paid = k.paid in omega arith)
-  acquire_step (acquires.TheVariants.FillsCell number i) at k s = fills_step number i at.0 at.1 s k
-  acquire_step (acquires.TheVariants.ChecksCounter number) at k s = checks_step number at s k
-  acquire_step (acquires.TheVariants.Raises i raises.TheVariants.LoadsCounter) at k s = raises_step i raises.TheVariants.LoadsCounter at.0 at.1 s k
-  acquire_step (acquires.TheVariants.Raises i (raises.TheVariants.ExchangesCounter number)) at k s = raises_step i (raises.TheVariants.ExchangesCounter number) at.0 at.1 s k
+  acquire_step acquires.TheVariants.LoadsCounter at k s = held_step scene inv owner fits alive 0 Lead caller acquires.TheVariants.LoadsCounter at k (omega arith)
+  acquire_step (acquires.TheVariants.FillsCell number i) at k s = held_step scene inv owner fits alive 0 Lead caller (acquires.TheVariants.FillsCell number i) at k (omega arith)
+  acquire_step (acquires.TheVariants.ChecksCounter number) at k s = held_step scene inv owner fits alive 0 Lead caller (acquires.TheVariants.ChecksCounter number) at k (omega arith)
+  acquire_step (acquires.TheVariants.Raises i raise) at k s = held_step scene inv owner fits alive 0 Lead caller (acquires.TheVariants.Raises i raise) at k (omega arith)

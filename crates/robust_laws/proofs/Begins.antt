@@ -9,13 +9,13 @@ use Rattle.model.specs.declared.event.Start.TheVariants.{Robust}
 use Rattle.model.specs.declared.families.indices.robust.RobustStart.{RobustStart}
 use Rattle.model.specs.declared.families.indices.robust.RobustStart.TheVariants.{Release}
 use Rattle.model.specs.Families.Indices.Reading.{locked_after, is_locked}
-use Rattle.model.specs.Families.Indices.Robust.Promises.{cell_of, DoesRight, AnswersRight, HoldsRight}
+use Rattle.model.specs.Families.Indices.Robust.Promises.{cell_of, SetDoes, AnswersRight, HoldsRight}
 use Rattle.model.specs.Families.Indices.Robust.Reading.{without, deeds, filled_after, filled_of, holder_after, holder_of, settled_after, settled_of, dead_after, is_dead, wrote_in}
 use Rattle.model.proofs.Moments.{others_begin_none}
 use Rattle.model.proofs.Readings.{Each-append, span_of-other}
 use Rattle.robust_laws.proofs.Effects.{at_same, at_other, proper_less}
 use Rattle.robust_laws.proofs.Invariant.{Scene, Good, Does}
-use Rattle.robust_laws.proofs.Rights.{Right, Settled, By, taken_by, right_after, right_of, AreOwned}
+use Rattle.robust_laws.proofs.Rights.{Right, Settled, By, NoneTakes, taken_by, right_after, right_of, AreOwned}
 
 -- ---- the right to one index
 
@@ -55,6 +55,14 @@ still_settled T p (Release index owner mode) i o old r e was = ⊎_elim here the
         let left : old ≡ Some o = sym (at_other index i (without owner old) old ne) ∙ e in
         (left, at_other index i (taken_by p owner r) r ne ∙ was left)
 still_settled T p start i o old r e was = (e, was e)
+
+-- what may be given back still may, unless a release of it for its owner begins
+not_taken_from : (T : Type 0) (p : ℕ) (start : RobustStart) (i o : ℕ) (old : Option ℕ) → old ≡ Some o → NoneTakes {T = T} i o (Begun p (Robust start) ∷ []) → settled_after {T = T} i old (Begun p (Robust start)) ≡ Some o
+not_taken_from T p (Release index owner mode) i o old e none = ⊎_elim here (λ ne. at_other index i (without owner old) old ne ∙ e) (cases_eq i index)
+  where
+    here : i ≡ index → (if index == i then without owner old else old) ≡ Some o
+    here same = at_same index i (without owner old) old same ∙ (ap (without owner) e ∙ ap (λ b. if b then None else Some o) (ne_eqb o owner (λ is. none.0 (sym same, sym is))))
+not_taken_from T p start i o old e none = e
 
 still_by : (T : Type 0) (p q : ℕ) (start : RobustStart) (i : ℕ) (r : Right) → r ≡ By q → right_after {T = T} i r (Begun p (Robust start)) ≡ By q
 still_by T p q (Release index owner mode) i r e = ⊎_elim here (λ ne. at_other index i (taken_by p owner r) r ne ∙ e) (cases_eq i index)
@@ -108,7 +116,7 @@ module _ {T : Type 0} (scene : Scene T) (g : Good scene.capacity scene.set.words
               lock = g.lock ∙ sym same_lock;
               low = λ t. let low = g.low (sym same_lock ∙ t) in omega arith;
               died = λ o. g.died o ∙ sym (same_dead o);
-              does = Each-append (DoesRight c) events es g.does (tt, tt);
+              does = Each-append (SetDoes c) events es g.does (tt, tt);
               answers = Each-append (AnswersRight c) events es g.answers (tt, tt);
               owned = λ proper.
                   let h = g.owned (proper_less events es proper) in
@@ -130,5 +138,7 @@ module _ {T : Type 0} (scene : Scene T) (g : Good scene.capacity scene.set.words
               deeds = ap (λ s. deeds (wrote_in s)) (span_of-other p q events es ne (refl, tt));
               owned = λ proper i owner alive h. record { right = fold-append (right_after i) _ events es ∙ still_by T p q start i (right_of i events) h.right; filled = same_filled i ∙ h.filled };
               unheld = λ proper i owner alive h none. same_holder i ∙ none;
+              held = λ proper i owner alive h here. same_holder i ∙ here;
+              settled = λ proper i owner alive h none. fold-append (settled_after i) None events es ∙ not_taken_from T p start i owner (settled_of i events) h none;
             };
       }

@@ -8,7 +8,7 @@ use Rattle.model.specs.declared.families.Flight.{Flight}
 use Rattle.model.specs.declared.families.Flight as flights
 use Rattle.model.specs.Families.Indices.Reading.{locked_after, is_locked}
 use Rattle.model.specs.Families.Indices.Robust.Dead.{has_died, dead_with}
-use Rattle.model.specs.Families.Indices.Robust.Promises.{cell_of, DoesRight, AnswersRight, HoldsRight}
+use Rattle.model.specs.Families.Indices.Robust.Promises.{cell_of, SetDoes, AnswersRight, HoldsRight}
 use Rattle.model.specs.Families.Indices.Robust.Reading.{deeds, filled_after, filled_of, holder_after, holder_of, settled_after, settled_of, dead_after, is_dead, wrote_in}
 use Rattle.model.proofs.Dead.{died_now, died_before}
 use Rattle.model.proofs.Readings.{Each-append, span_of-death}
@@ -71,7 +71,7 @@ module _ {T : Type 0} (c : ℕ) (words dead : List ℕ) (events : List (Event T)
         lock = g.lock ∙ sym same_lock;
         low = λ t. let low = g.low (sym same_lock ∙ t) in omega arith;
         died = λ q. died_with q o dead ∙ (ap (λ b. (o == q) || b) (g.died q) ∙ sym (dead_then q));
-        does = Each-append (DoesRight c) events es g.does (alive, tt);
+        does = Each-append (SetDoes c) events es g.does (alive, tt);
         answers = Each-append (AnswersRight c) events es g.answers (tt, tt);
         owned = λ proper.
             let h = g.owned (proper_less events es proper) in
@@ -100,6 +100,8 @@ module _ {T : Type 0} (c : ℕ) (words dead : List ℕ) (events : List (Event T)
         deeds = ap (λ s. deeds (wrote_in s)) (span_of-death q events o);
         owned = λ proper i owner lives h. record { right = same_right i ∙ h.right; filled = same_filled i ∙ h.filled };
         unheld = λ proper i owner lives h none. same_holder i ∙ none;
+        held = λ proper i owner lives h here. same_holder i ∙ here;
+        settled = λ proper i owner lives h none. same_settled i ∙ h;
       }
 
   pub death_known : (q since changes backs : ℕ) (flight : Flight T) → Knowing c flight (view words events q since changes backs) → Knowing c flight (view words (events ++ es) q since changes backs)

@@ -1,5 +1,5 @@
 -- What each kind of step does to a robust index set and to the other parties.
-use Rattle.std.proofs.Common.{◌≡◌, ◌≢◌, ℕ, ◌+◌, ◌-◌, ◌^◌, ◌<◌, ◌≤◌, ◌==◌, ⊎_elim, if◌then◌else◌, Bool, true, false, Option, Some, None, List, [], ◌∷◌, ◌++◌, length, set, fold, refl, sym, ap, subst, ◌∙◌, append_assoc, arith, eq-eqb, ne_eqb}
+use Rattle.std.proofs.Common.{◌≡◌, ◌≢◌, ℕ, ◌+◌, ◌-◌, ◌^◌, ◌<◌, ◌≤◌, ◌==◌, ⊎_elim, if◌then◌else◌, Bool, true, false, Option, Some, None, List, [], ◌∷◌, ◌++◌, length, get_or, set, get_or-set_other, fold, refl, sym, ap, subst, ◌∙◌, append_assoc, arith, eq-eqb, ne_eqb}
 use Rattle.std.proofs.lemmas.Bool.{cases_eq}
 use Rattle.std.proofs.lemmas.List.{length-set}
 use Rattle.std.proofs.lemmas.List.Sums.{fold-append}
@@ -10,7 +10,7 @@ use Rattle.model.specs.declared.event.Event.TheVariants.{Filled, Asked, Told, Fi
 use Rattle.model.specs.declared.event.Start.TheVariants.{Robust}
 use Rattle.model.specs.declared.families.indices.robust.RobustStart.{RobustStart}
 use Rattle.model.specs.Families.Indices.Reading.{locked_after, is_locked}
-use Rattle.model.specs.Families.Indices.Robust.Promises.{cell_of, DoesRight, AnswersRight, IsProper, HoldsRight, IsUnlocked}
+use Rattle.model.specs.Families.Indices.Robust.Promises.{cell_of, SetDoes, AnswersRight, IsProper, HoldsRight, IsUnlocked}
 use Rattle.model.specs.Families.Indices.Robust.Reading.{deeds, filled_after, filled_of, holder_after, holder_of, settled_after, settled_of, dead_after, is_dead, wrote_in}
 use Rattle.model.specs.Moments.{HeldOnce}
 use Rattle.model.proofs.Moments.{others_begin_none}
@@ -84,16 +84,21 @@ module _ {T : Type 0} (scene : Scene T) where
 
   -- ---- what becomes of the words where no cell changes
 
-  pub record Stays (words' : List ℕ) : Type 0 where
+  pub record Leaves (words' : List ℕ) : Type 0 where
     pub wide : length words' ≡ length ws
-    pub cells : (i : ℕ) → cell words' i ≡ cell ws i
+    pub cells : (i : ℕ) → i < c → cell words' i ≡ cell ws i
     pub lock : (counter_of words' == locked) ≡ (counter_of ws == locked)
     pub low : (counter_of ws == locked) ≡ false → counter_of words' ≤ turns
     pub grows : counter_of ws ≤ counter_of words'
 
+  -- nor any word but the counter
+  pub record Stays (words' : List ℕ) : Type 0 where
+    pub leaves : Leaves words'
+    pub others : (n : ℕ) → 1 ≤ n → get_or words' n 0 ≡ get_or ws n 0
+
   module _ (inv : Inv scene) where
     g : Good c ws dead events turns
-    g = inv.holds.good
+    g = inv.good
 
     -- an unlocked counter is before its end, also once it is raised
     pub before_end : counter_of ws ≢ locked → counter_of ws + 1 < 2 ^ 64 - 2
@@ -113,11 +118,15 @@ module _ {T : Type 0} (scene : Scene T) where
     pub stays_same : (words' : List ℕ) → words' ≡ ws → Stays words'
     stays_same words' same =
         record {
-          wide = ap length same;
-          cells = λ i. ap (λ w. cell w i) same;
-          lock = ap (λ w. counter_of w == locked) same;
-          low = λ t. let low = g.low (sym g.lock ∙ t) in let is : counter_of words' ≡ counter_of ws = ap counter_of same in omega arith;
-          grows = let is : counter_of words' ≡ counter_of ws = ap counter_of same in omega arith;
+          leaves =
+              record {
+                wide = ap length same;
+                cells = λ i below. ap (λ w. cell w i) same;
+                lock = ap (λ w. counter_of w == locked) same;
+                low = λ t. let low = g.low (sym g.lock ∙ t) in let is : counter_of words' ≡ counter_of ws = ap counter_of same in omega arith;
+                grows = let is : counter_of words' ≡ counter_of ws = ap counter_of same in omega arith;
+              };
+          others = λ n some. ap (λ w. get_or w n 0) same;
         }
 
     pub stays_raised : (words' : List ℕ) → counter_of ws ≢ locked → words' ≡ set ws 0 (counter_of ws + 1) → Stays words'
@@ -126,11 +135,15 @@ module _ {T : Type 0} (scene : Scene T) where
         let is : counter_of words' ≡ counter_of ws + 1 = ap counter_of new ∙ counter_set ws (counter_of ws + 1) (omega arith) in
         let end = before_end open_now in
         record {
-          wide = ap length new ∙ length-set ws 0 (counter_of ws + 1);
-          cells = λ i. ap (λ w. cell w i) new ∙ cells_stay ws (counter_of ws + 1) i;
-          lock = ne_eqb (counter_of words') locked (λ e. absurd (omega arith)) ∙ sym (ne_eqb (counter_of ws) locked open_now);
-          low = λ t. let low = g.low (sym g.lock ∙ t) in let begun = inv.begun in omega arith;
-          grows = omega arith;
+          leaves =
+              record {
+                wide = ap length new ∙ length-set ws 0 (counter_of ws + 1);
+                cells = λ i below. ap (λ w. cell w i) new ∙ cells_stay ws (counter_of ws + 1) i;
+                lock = ne_eqb (counter_of words') locked (λ e. absurd (omega arith)) ∙ sym (ne_eqb (counter_of ws) locked open_now);
+                low = λ t. let low = g.low (sym g.lock ∙ t) in let begun = inv.begun in omega arith;
+                grows = omega arith;
+              };
+          others = λ n some. ap (λ w. get_or w n 0) new ∙ get_or-set_other ws 0 n (counter_of ws + 1) 0 (λ e. absurd (omega arith));
         }
 
     -- a cell tells with whom its index is filled
@@ -159,7 +172,7 @@ module _ {T : Type 0} (scene : Scene T) where
 
     -- ---- a step that is quiet
 
-    module _ (words' : List ℕ) (es : List (Event T)) (stays : Stays words') (quiet : Quiet es) (own : AreOwn p es) (right : AreRight (DoesRight c) events es) (answers : AreRight (AnswersRight c) events es) where
+    module _ (words' : List ℕ) (es : List (Event T)) (stays : Leaves words') (quiet : Quiet es) (own : AreOwn p es) (right : AreRight (SetDoes c) events es) (answers : AreRight (AnswersRight c) events es) where
       filled_more : (i : ℕ) → filled_of i (events ++ es) ≡ filled_of i events
       filled_more i = fold-append (filled_after i) None events es ∙ quiet.filled i (filled_of i events)
 
@@ -194,13 +207,13 @@ module _ {T : Type 0} (scene : Scene T) where
                 record {
                   some = g.some;
                   few = g.few;
-                  wide = stays.wide ∙ g.wide;
-                  cells = λ i below. stays.cells i ∙ (g.cells i below ∙ sym (ap cell_of (filled_more i)));
+                  wide = let same = stays.wide in let wide = g.wide in omega arith;
+                  cells = λ i below. stays.cells i below ∙ (g.cells i below ∙ sym (ap cell_of (filled_more i)));
                   filled = λ i owner e. g.filled i owner (sym (filled_more i) ∙ e);
                   lock = stays.lock ∙ (g.lock ∙ sym locked_more);
                   low = λ t. let low = stays.low (g.lock ∙ (sym locked_more ∙ t)) in omega arith;
                   died = λ owner. g.died owner ∙ sym (dead_more owner);
-                  does = Each-append (DoesRight c) events es g.does right;
+                  does = Each-append (SetDoes c) events es g.does right;
                   answers = Each-append (AnswersRight c) events es g.answers answers;
                   owned = still_owned;
                   holds = λ proper. Each-append HoldsRight events es (g.holds (proper_less events es proper)) (quiet.holds events);
@@ -220,6 +233,8 @@ module _ {T : Type 0} (scene : Scene T) where
                   deeds = ap (λ s. deeds (wrote_in s)) (span_of-other p q events es ne own);
                   owned = λ proper i owner alive h. record { right = right_more i ∙ h.right; filled = filled_more i ∙ h.filled };
                   unheld = λ proper i owner alive h none. holder_more i ∙ none;
+                  held = λ proper i owner alive h here. holder_more i ∙ here;
+                  settled = λ proper i owner alive h none. settled_more i ∙ h;
                 };
           }
 
@@ -309,13 +324,13 @@ module _ {T : Type 0} (scene : Scene T) where
                 record {
                   some = g.some;
                   few = g.few;
-                  wide = ap length new ∙ (length-set ws (cell_word i) owner ∙ g.wide);
+                  wide = let same = ap length new ∙ length-set ws (cell_word i) owner in let wide = g.wide in omega arith;
                   cells = fill_cells;
                   filled = fill_filled;
                   lock = ap (λ w. counter_of w == locked) new ∙ (ap (λ n. n == locked) (counter_stays ws i owner) ∙ (g.lock ∙ sym fill_locked));
                   low = λ t. let low = g.low (sym fill_locked ∙ t) in let is : counter_of words' ≡ counter_of ws = ap counter_of new ∙ counter_stays ws i owner in omega arith;
                   died = λ o. g.died o ∙ sym (fill_dead o);
-                  does = Each-append (DoesRight c) events fill g.does ((below, none, alive, was_open), tt);
+                  does = Each-append (SetDoes c) events fill g.does ((below, none, alive, was_open), tt);
                   answers = Each-append (AnswersRight c) events fill g.answers (tt, tt);
                   owned = λ proper. let h = g.owned (proper_less events fill proper) in record { held = fill_held h; settled = fill_settles h };
                   holds = λ proper. Each-append HoldsRight events fill (g.holds (proper_less events fill proper)) (tt, tt);
@@ -335,5 +350,7 @@ module _ {T : Type 0} (scene : Scene T) where
                   deeds = ap (λ s. deeds (wrote_in s)) (span_of-other p q events fill ne (refl, tt));
                   owned = λ proper j o lives h. fill_by q j o h;
                   unheld = λ proper j o lives h unheld. fill_holder j ∙ unheld;
+                  held = λ proper j o lives h here. fill_holder j ∙ here;
+                  settled = λ proper j o lives h none. fill_settled j ∙ h;
                 };
           }

@@ -33,7 +33,7 @@ module _ {T : Type 0} (scene : Scene T) (inv : Inv scene) (owner : ℕ) (fits : 
   ws = scene.set.words
 
   g : Good c ws scene.set.dead events scene.turns
-  g = inv.holds.good
+  g = inv.good
 
   abbrev call_at : FindStage → calls.Find
   call_at stage = record { capacity = c; stage = stage }

@@ -7,7 +7,7 @@ use Rattle.steps.specs.Indices.Robust.Parts.{cell_word, empty, locked}
 use Rattle.model.specs.declared.event.Event.{Event}
 use Rattle.model.specs.declared.event.Event.TheVariants.{FreedOf}
 use Rattle.model.specs.Families.Indices.Reading.{locked_after, is_locked}
-use Rattle.model.specs.Families.Indices.Robust.Promises.{cell_of, DoesRight, AnswersRight, IsProper, HoldsRight, LivesToRelease}
+use Rattle.model.specs.Families.Indices.Robust.Promises.{cell_of, SetDoes, AnswersRight, IsProper, HoldsRight, LivesToRelease}
 use Rattle.model.specs.Families.Indices.Robust.Reading.{deeds, filled_after, filled_of, holder_after, holder_of, settled_after, settled_of, dead_after, is_dead, wrote_in}
 use Rattle.model.specs.Reading.{span_of}
 use Rattle.model.proofs.Readings.{Each-append, span_of-other}
@@ -26,13 +26,14 @@ module _ {T : Type 0} (scene : Scene T) (inv : Inv scene) where
   dead = scene.set.dead
 
   g : Good c ws dead events turns
-  g = inv.holds.good
+  g = inv.good
 
   abbrev pub free : ℕ → ℕ → List (Event T)
   free i owner = FreedOf p i owner ∷ []
 
   module _ (words' : List ℕ) (i owner : ℕ) (below : i < c) (filled : filled_of i events ≡ Some owner) (lives : LivesToRelease owner events (span_of p events))
-      (mine : IsProper (events ++ free i owner) → (q : ℕ) → q ≢ p → (o : ℕ) → is_dead o events ≡ false → IsBy q i o events → ⊥) (new : words' ≡ set ws (cell_word i) empty) where
+      (mine : IsProper (events ++ free i owner) → (q : ℕ) → q ≢ p → (o : ℕ) → is_dead o events ≡ false → IsBy q i o events → ⊥)
+      (unsettled : IsProper (events ++ free i owner) → (o : ℕ) → is_dead o events ≡ false → settled_of i events ≡ Some o → ⊥) (new : words' ≡ set ws (cell_word i) empty) where
     abbrev es : List (Event T)
     es = FreedOf p i owner ∷ []
 
@@ -118,13 +119,13 @@ module _ {T : Type 0} (scene : Scene T) (inv : Inv scene) where
               record {
                 some = g.some;
                 few = g.few;
-                wide = ap length new ∙ (length-set ws (cell_word i) empty ∙ g.wide);
+                wide = let same = ap length new ∙ length-set ws (cell_word i) empty in let wide = g.wide in omega arith;
                 cells = cells_then;
                 filled = λ j o e. g.filled j o (filled_was j o e);
                 lock = ap (λ n. n == locked) counter_same ∙ (g.lock ∙ sym same_lock);
                 low = λ t. let low = g.low (sym same_lock ∙ t) in let is = counter_same in omega arith;
                 died = λ o. g.died o ∙ sym (same_dead o);
-                does = Each-append (DoesRight c) events es g.does ((filled, lives), tt);
+                does = Each-append (SetDoes c) events es g.does ((filled, lives), tt);
                 answers = Each-append (AnswersRight c) events es g.answers (tt, tt);
                 owned = λ proper. let h = g.owned (proper_less events es proper) in record { held = still_held h; settled = still_settled h };
                 holds = λ proper. Each-append HoldsRight events es (g.holds (proper_less events es proper)) (tt, tt);
@@ -144,5 +145,11 @@ module _ {T : Type 0} (scene : Scene T) (inv : Inv scene) where
                 deeds = ap (λ s. deeds (wrote_in s)) (span_of-other p q events es ne (refl, tt));
                 owned = λ proper j o alive h. owned_then proper q ne j o alive h;
                 unheld = λ proper j o alive h none. unheld_then j none;
+                held = λ proper j o alive h here. ⊎_elim
+                    (λ same. absurd (mine proper q ne o alive (subst (λ k. IsBy q k o events) same h)))
+                    (λ other. holder_there j other ∙ here) (cases_eq j i);
+                settled = λ proper j o alive h none. ⊎_elim
+                    (λ same. absurd (unsettled proper o alive (subst (λ k. settled_of k events ≡ Some o) same h)))
+                    (λ other. settled_there j other ∙ h) (cases_eq j i);
               };
         }

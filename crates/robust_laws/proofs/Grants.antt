@@ -9,13 +9,13 @@ use Rattle.model.specs.declared.event.Event.TheVariants.{Granted, Finished}
 use Rattle.model.specs.declared.event.Start.TheVariants.{Robust}
 use Rattle.model.specs.declared.families.indices.robust.RobustStart.TheVariants.{Acquire}
 use Rattle.model.specs.Families.Indices.Reading.{locked_after, is_locked}
-use Rattle.model.specs.Families.Indices.Robust.Promises.{cell_of, DoesRight, AnswersRight, IsProper, HoldsRight}
+use Rattle.model.specs.Families.Indices.Robust.Promises.{cell_of, SetDoes, AnswersRight, IsProper, HoldsRight}
 use Rattle.model.specs.Families.Indices.Robust.Reading.{deeds, filled_after, filled_of, holder_after, holder_of, settled_after, settled_of, dead_after, is_dead, wrote_in}
 use Rattle.model.proofs.Readings.{Each-append, span_of-other}
 use Rattle.robust_laws.proofs.Core.{counter_of, counter_set}
-use Rattle.robust_laws.proofs.Effects.{Stays, at_same, at_other, one_owner, one_party, proper_less, stays_raised, unlocked}
+use Rattle.robust_laws.proofs.Effects.{Leaves, at_same, at_other, one_owner, one_party, proper_less, stays_raised, unlocked}
 use Rattle.robust_laws.proofs.Invariant.{Scene, Inv, Good, Does}
-use Rattle.robust_laws.proofs.Rights.{Settled, right_after, right_of, IsBy, AreOwned}
+use Rattle.robust_laws.proofs.Rights.{Settled, By, right_after, right_of, IsBy, AreOwned}
 
 module _ {T : Type 0} (scene : Scene T) (inv : Inv scene) where
   open scene use {capacity as c, party as p, turns as turns, events as events}
@@ -24,7 +24,7 @@ module _ {T : Type 0} (scene : Scene T) (inv : Inv scene) where
   ws = scene.set.words
 
   g : Good c ws scene.set.dead events turns
-  g = inv.holds.good
+  g = inv.good
 
   abbrev pub grant : ℕ → ℕ → List (Event T)
   grant i owner = Granted p i owner ∷ Finished p (Robust (Acquire owner)) (Index i) ∷ []
@@ -33,8 +33,8 @@ module _ {T : Type 0} (scene : Scene T) (inv : Inv scene) where
     abbrev es : List (Event T)
     es = Granted p i owner ∷ Finished p (Robust (Acquire owner)) (Index i) ∷ []
 
-    stays : Stays scene words'
-    stays = stays_raised scene inv words' open_now new
+    stays : Leaves scene words'
+    stays = (stays_raised scene inv words' open_now new).leaves
 
     raised : counter_of words' ≡ counter_of ws + 1
     raised = let wide = g.wide in ap counter_of new ∙ counter_set ws (counter_of ws + 1) (omega arith)
@@ -96,6 +96,14 @@ module _ {T : Type 0} (scene : Scene T) (inv : Inv scene) where
     other_index proper q ne j o h same =
         ne (one_party (right_of i events) p q (mine proper).0.right (subst (λ k. IsBy q k o events) same h).right)
 
+    -- nor is it settled
+    unsettled : IsProper events → (j o : ℕ) → settled_of j events ≡ Some o → j ≢ i
+    unsettled proper j o h same =
+        let theirs : right_of j events ≡ Settled o = ((g.owned proper).settled j o h).1 in
+        let ours : right_of j events ≡ By p = ap (λ k. right_of k events) same ∙ (mine proper).0.right in
+        let both : Settled o ≡ By p = sym theirs ∙ ours in
+        absurd (cc)
+
     owned_then : IsProper events → (q : ℕ) → q ≢ p → (j o : ℕ) → IsBy q j o events → IsBy q j o (events ++ es)
     owned_then proper q ne j o h =
         record { right = right_there j (other_index proper q ne j o h) ∙ h.right; filled = same_filled j ∙ h.filled }
@@ -108,13 +116,13 @@ module _ {T : Type 0} (scene : Scene T) (inv : Inv scene) where
               record {
                 some = g.some;
                 few = g.few;
-                wide = stays.wide ∙ g.wide;
-                cells = λ j low. stays.cells j ∙ (g.cells j low ∙ sym (ap cell_of (same_filled j)));
+                wide = let same = stays.wide in let wide = g.wide in omega arith;
+                cells = λ j low. stays.cells j low ∙ (g.cells j low ∙ sym (ap cell_of (same_filled j)));
                 filled = λ j o e. g.filled j o (sym (same_filled j) ∙ e);
                 lock = stays.lock ∙ (g.lock ∙ sym same_lock);
                 low = λ t. let low = stays.low (g.lock ∙ (sym same_lock ∙ t)) in omega arith;
                 died = λ o. g.died o ∙ sym (same_dead o);
-                does = Each-append (DoesRight c) events es g.does ((unlocked scene inv open_now, alive), (tt, tt));
+                does = Each-append (SetDoes c) events es g.does ((unlocked scene inv open_now, alive), (tt, tt));
                 answers = Each-append (AnswersRight c) events es g.answers (tt, (tt, tt));
                 owned = λ proper.
                     let less = proper_less events es proper in
@@ -137,5 +145,7 @@ module _ {T : Type 0} (scene : Scene T) (inv : Inv scene) where
                 deeds = ap (λ s. deeds (wrote_in s)) (span_of-other p q events es ne (refl, (refl, tt)));
                 owned = λ proper j o alive h. owned_then (proper_less events es proper) q ne j o h;
                 unheld = λ proper j o alive h none. holder_there j (other_index (proper_less events es proper) q ne j o h) ∙ none;
+                held = λ proper j o alive h here. holder_there j (other_index (proper_less events es proper) q ne j o h) ∙ here;
+                settled = λ proper j o alive h none. settled_there j (unsettled (proper_less events es proper) j o h) ∙ h;
               };
         }

@@ -14,14 +14,14 @@ use Rattle.model.specs.declared.turn.Kind as kinds
 use Rattle.model.specs.Coding.{Coding}
 use Rattle.model.specs.Families.Indices.Reading.{is_locked}
 use Rattle.model.specs.Families.Indices.Robust.Dead.{has_died}
-use Rattle.model.specs.Families.Indices.Robust.Promises.{cell_of, DoesRight, AnswersRight, IsProper, HoldsRight, promise}
+use Rattle.model.specs.Families.Indices.Robust.Promises.{cell_of, SetDoes, AsksRight, AnswersRight, IsProper, HoldsRight, promise}
 use Rattle.model.specs.Families.Indices.Robust.Reading.{Deed, deeds, filled_of, is_dead, wrote_in, deeds_of}
 use Rattle.model.specs.Parties.{party_of, put}
 use Rattle.model.specs.Promises.Spans.{Stands}
 use Rattle.model.specs.Reading.{Each, Span, own_after, span_of}
 use Rattle.model.proofs.Frame as frame
 use Rattle.model.proofs.Frame.{Family}
-use Rattle.model.proofs.Readings.{AreOwn, AllFollow, span_of-other}
+use Rattle.model.proofs.Readings.{AreOwn, AllFollow, AreRight, Each-append, span_of-other}
 use Rattle.robust_laws.proofs.Core.{counter_of, cell}
 use Rattle.robust_laws.proofs.Knows.{View, Knows, Goes, Spares, IsSeen, knows_later}
 use Rattle.robust_laws.proofs.Standing.{number_of, At}
@@ -56,13 +56,13 @@ module _ {T : Type 0} where
   pub record Good (c : ℕ) (words dead : List ℕ) (events : List (Event T)) (turns : ℕ) : Type 0 where
     pub some : 1 ≤ c
     pub few : c < 2 ^ 32
-    pub wide : length words ≡ c + 1
+    pub wide : c + 1 ≤ length words
     pub cells : (i : ℕ) → i < c → cell words i ≡ cell_of (filled_of i events)
     pub filled : (i owner : ℕ) → filled_of i events ≡ Some owner → (i < c) × (owner < empty)
     pub lock : (counter_of words == locked) ≡ is_locked events
     pub low : is_locked events ≡ false → counter_of words ≤ turns - 1
     pub died : (owner : ℕ) → has_died owner dead ≡ is_dead owner events
-    pub does : Each (DoesRight c) events
+    pub does : Each (SetDoes c) events
     pub answers : Each (AnswersRight c) events
     pub owned : IsProper events → AreOwned events
     pub holds : IsProper events → Each HoldsRight events
@@ -71,6 +71,7 @@ module _ {T : Type 0} where
     pub same : s.events ≡ events
     pub begun : (p : ℕ) (x : Party T) → party_of p latest ≡ Some x → 1 ≤ turns
     pub good : Good c s.words s.dead events turns
+    pub asks : Each AsksRight events
 
   -- ---- the family of the robust index set
 
@@ -111,8 +112,7 @@ module _ {T : Type 0} where
       }
 
   pub record Inv (scene : Scene T) : Type 0 where
-    pub holds : Holds scene.capacity scene.set scene.latest scene.events scene.turns
-    pub frame : frame.Inv (family scene.coding scene.capacity) scene.set scene.latest scene.events scene.changes
+    pub good : Good scene.capacity scene.set.words scene.set.dead scene.events scene.turns
     pub begun : 1 ≤ scene.turns
     pub small : scene.turns < 2 ^ 64 - 2
 
@@ -131,6 +131,7 @@ module _ {T : Type 0} where
   pub record Shows (scene : Scene T) (words' : List ℕ) (from : Span T) (y : Party T) (es : List (Event T)) (changes' : ℕ) : Type 0 where
     pub does : Does scene words' es
     pub stands : AllFollow (Stands promise scene.capacity) from es
+    pub asks : AreRight AsksRight scene.events es
     pub here : frame.Fits (family scene.coding scene.capacity) (set_then scene words' es) scene.party (Some y) (fold own_after from es)
     pub knows : frame.KnowsDoing (family scene.coding scene.capacity) (set_then scene words' es) scene.party (scene.events ++ es) changes' y.backs y.doing
     pub seen : IsSeen scene.set.words words' scene.changes changes'
@@ -164,4 +165,4 @@ module _ {T : Type 0} where
         })
 
     pub holds_more : Holds c (set_then scene words' es) (put p y latest) (events ++ es) (scene.turns + 1)
-    holds_more = record { same = refl; begun = λ q x found. omega arith; good = s.does.good }
+    holds_more = record { same = refl; begun = λ q x found. omega arith; good = s.does.good; asks = Each-append AsksRight events es h.asks s.asks }

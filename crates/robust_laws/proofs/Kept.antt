@@ -134,6 +134,7 @@ module _ {T : Type 0} where
       let g = s.holds.good in
       record {
         does = g.does;
+        asks = s.holds.asks;
         holds = g.holds;
         answers = g.answers;
         cells = λ index below. ap (λ ws. cell ws index) is.1 ∙ g.cells index below;

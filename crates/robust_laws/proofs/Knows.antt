@@ -26,7 +26,7 @@ use Rattle.model.proofs.Moments.{held_later}
 use Rattle.robust_laws.proofs.Core.{counter_of}
 use Rattle.robust_laws.proofs.Counting.{count_later}
 use Rattle.robust_laws.proofs.Past.{through_less, since_less}
-use Rattle.robust_laws.proofs.Rights.{IsBy}
+use Rattle.robust_laws.proofs.Rights.{IsBy, NoneTakes}
 use Rattle.robust_laws.proofs.Standing.{}
 
 -- ---- what they see of the machine
@@ -298,6 +298,8 @@ module _ {T : Type 0} where
     pub deeds : deeds_of q (events ++ es) ≡ deeds_of q events
     pub owned : IsProper (events ++ es) → (i owner : ℕ) → is_dead owner events ≡ false → IsBy q i owner events → IsBy q i owner (events ++ es)
     pub unheld : IsProper (events ++ es) → (i owner : ℕ) → is_dead owner events ≡ false → IsBy q i owner events → holder_of i events ≡ None → holder_of i (events ++ es) ≡ None
+    pub held : IsProper (events ++ es) → (i owner : ℕ) → is_dead owner events ≡ false → IsBy q i owner events → holder_of i events ≡ Some owner → holder_of i (events ++ es) ≡ Some owner
+    pub settled : IsProper (events ++ es) → (i owner : ℕ) → is_dead owner events ≡ false → settled_of i events ≡ Some owner → NoneTakes i owner es → settled_of i (events ++ es) ≡ Some owner
 
   module _ (words words' : List ℕ) (events es : List (Event T)) (q since changes changes' backs : ℕ) (goes : Goes words words' events es) (spares : Spares q events es) (seen : IsSeen words words' changes changes') where
     abbrev pub before : View T

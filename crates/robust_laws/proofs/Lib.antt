@@ -1,4 +1,5 @@
 pub mod Acquires
+pub mod Alone
 pub mod Begins
 pub mod Core
 pub mod Counting
@@ -8,6 +9,8 @@ pub mod Effects
 pub mod Finds
 pub mod Frees
 pub mod Grants
+pub mod Held
+pub mod HeldRelease
 pub mod Invariant
 pub mod Justified
 pub mod Kept

@@ -6,7 +6,7 @@ use Rattle.steps.specs.Indices.Robust.Parts.{locked}
 use Rattle.model.specs.declared.event.Event.{Event}
 use Rattle.model.specs.declared.event.Event.TheVariants.{Locked}
 use Rattle.model.specs.Families.Indices.Reading.{locked_after, is_locked}
-use Rattle.model.specs.Families.Indices.Robust.Promises.{cell_of, DoesRight, AnswersRight, IsProper, HoldsRight}
+use Rattle.model.specs.Families.Indices.Robust.Promises.{cell_of, SetDoes, AnswersRight, IsProper, HoldsRight}
 use Rattle.model.specs.Families.Indices.Robust.Reading.{deeds, filled_after, filled_of, holder_after, holder_of, settled_after, settled_of, dead_after, is_dead, wrote_in}
 use Rattle.model.proofs.Moments.{others_begin_none}
 use Rattle.model.proofs.Readings.{AreRight, AreOwn, Each-append, span_of-other}
@@ -22,10 +22,10 @@ module _ {T : Type 0} (scene : Scene T) (inv : Inv scene) where
   ws = scene.set.words
 
   g : Good c ws scene.set.dead events turns
-  g = inv.holds.good
+  g = inv.good
 
   -- the lock, and an end behind it, if any
-  module _ (words' : List ℕ) (more : List (Event T)) (quiet : Quiet more) (own : AreOwn p more) (right : AreRight (DoesRight c) (events ++ Locked p ∷ []) more)
+  module _ (words' : List ℕ) (more : List (Event T)) (quiet : Quiet more) (own : AreOwn p more) (right : AreRight (SetDoes c) (events ++ Locked p ∷ []) more)
       (answers : AreRight (AnswersRight c) (events ++ Locked p ∷ []) more) (none : IsProper events → (i : ℕ) → holder_of i events ≡ None) (open_now : counter_of ws ≢ locked) (new : words' ≡ set ws 0 locked) where
     abbrev es : List (Event T)
     es = Locked p ∷ more
@@ -67,13 +67,13 @@ module _ {T : Type 0} (scene : Scene T) (inv : Inv scene) where
               record {
                 some = g.some;
                 few = g.few;
-                wide = ap length new ∙ (length-set ws 0 locked ∙ g.wide);
+                wide = let same = ap length new ∙ length-set ws 0 locked in let wide = g.wide in omega arith;
                 cells = λ i below. ap (λ w. cell w i) new ∙ (cells_stay ws locked i ∙ (g.cells i below ∙ sym (ap cell_of (same_filled i))));
                 filled = λ i owner e. g.filled i owner (sym (same_filled i) ∙ e);
                 lock = eq-eqb (counter_of words') locked shut ∙ sym now_locked;
                 low = λ t. both_ways (is_locked (events ++ es)) t now_locked;
                 died = λ o. g.died o ∙ sym (same_dead o);
-                does = Each-append (DoesRight c) events es g.does (unlocked scene inv open_now, right);
+                does = Each-append (SetDoes c) events es g.does (unlocked scene inv open_now, right);
                 answers = Each-append (AnswersRight c) events es g.answers (tt, answers);
                 owned = still_owned;
                 holds = λ proper. let less = proper_less events es proper in Each-append HoldsRight events es (g.holds less) (none less, quiet.holds (events ++ Locked p ∷ []));
@@ -93,5 +93,7 @@ module _ {T : Type 0} (scene : Scene T) (inv : Inv scene) where
                 deeds = ap (λ s. deeds (wrote_in s)) (span_of-other p q events es ne (refl, own));
                 owned = λ proper i owner alive h. record { right = same_right i ∙ h.right; filled = same_filled i ∙ h.filled };
                 unheld = λ proper i owner alive h unheld. same_holder i ∙ unheld;
+                held = λ proper i owner alive h here. same_holder i ∙ here;
+                settled = λ proper i owner alive h none. same_settled i ∙ h;
               };
         }

@@ -73,5 +73,5 @@ module _ {T : Type 0} (scene : Scene T) (inv : Inv scene) where
 
   pub looks_step : IsHere scene IsLocked → all scene ≡ [] → Knows c looking (now scene) → steps ≤ 0 → StepOf scene IsLocked looking
   looks_step here done k s =
-      ends_quietly scene inv IsLocked (Truth (counter_of ws == locked)) (Some (loads 0)) false here (stays_same scene inv _ (loads_same ws 0)) (λ i o. refl) (λ i r. refl) inv.holds.good.lock done (omega arith)
+      ends_quietly scene inv IsLocked (Truth (counter_of ws == locked)) (Some (loads 0)) false here (stays_same scene inv _ (loads_same ws 0)) (λ i o. refl) (λ i r. refl) inv.good.lock done (omega arith)
       (let paid = k.paid in omega arith)

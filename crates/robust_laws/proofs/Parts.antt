@@ -66,7 +66,7 @@ module _ {T : Type 0} (scene : Scene T) (inv : Inv scene) where
   ws = scene.set.words
 
   g : Good c ws scene.set.dead events turns
-  g = inv.holds.good
+  g = inv.good
 
   -- nobody holds an index that is not filled
   pub none_holds : IsProper events → (i : ℕ) → filled_of i events ≡ None → holder_of i events ≡ None

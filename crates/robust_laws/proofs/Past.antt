@@ -31,30 +31,30 @@ module _ {T : Type 0} (p : ℕ) where
   begins_none_less (Begun q s ∷ es) more h = (h.0, begins_none_less es more h.1)
   begins_none_less (e ∷ es) more h = begins_none_less es more h
 
-  record BeganIn (events before : List (Event T)) (start : Start T) : Type 0 where
-    since : List (Event T)
-    is : events ≡ before ++ Begun p start ∷ since
-    within : BeginsNone p since
+  pub record BeganIn (events before : List (Event T)) (start : Start T) : Type 0 where
+    pub since : List (Event T)
+    pub is : events ≡ before ++ Begun p start ∷ since
+    pub within : BeginsNone p since
 
   one_behind : (x b : Event T) (xs bs : List (Event T)) (start : Start T) → x ≡ b → BeganIn xs bs start → BeganIn (x ∷ xs) (b ∷ bs) start
   one_behind x b xs bs start e h =
       record { since = h.since; is = ap (λ (a : Event T). a ∷ xs) e ∙ ap (λ (ys : List (Event T)). b ∷ ys) h.is; within = h.within }
 
-  began_in : (events es before : List (Event T)) (start : Start T) (since : List (Event T)) → events ++ es ≡ before ++ Begun p start ∷ since → BeginsNone p es → BeginsNone p since → BeganIn events before start
-  began_in [] es before start since e none within = absurd (begins_one before start since (subst (BeginsNone p) e none))
-  began_in (x ∷ xs) es [] start since e none within =
+  pub began_earlier : (events es before : List (Event T)) (start : Start T) (since : List (Event T)) → events ++ es ≡ before ++ Begun p start ∷ since → BeginsNone p es → BeginsNone p since → BeganIn events before start
+  began_earlier [] es before start since e none within = absurd (begins_one before start since (subst (BeginsNone p) e none))
+  began_earlier (x ∷ xs) es [] start since e none within =
       let h : x ≡ Begun p start = cc in
       let t : since ≡ xs ++ es = cc in
       record { since = xs; is = ap (λ (a : Event T). a ∷ xs) h; within = begins_none_less xs es (subst (BeginsNone p) t within) }
-  began_in (x ∷ xs) es (b ∷ bs) start since e none within =
+  began_earlier (x ∷ xs) es (b ∷ bs) start since e none within =
       let h : x ≡ b = cc in
       let t : xs ++ es ≡ bs ++ Begun p start ∷ since = cc in
-      one_behind x b xs bs start h (began_in xs es bs start since t none within)
+      one_behind x b xs bs start h (began_earlier xs es bs start since t none within)
 
   -- what stood before a call began, in a run that has gone on
   pub since_less : (P : List (Event T) → Type 0) (events es : List (Event T)) → BeginsNone p es → SinceBegin p (λ part since. P part) (events ++ es) → SinceBegin p (λ part since. P part) events
   since_less P events es none h =
-      let k = began_in events es h.before h.start h.since h.is none h.within in
+      let k = began_earlier events es h.before h.start h.since h.is none h.within in
       record { before = h.before; start = h.start; since = k.since; is = k.is; within = k.within; holds = h.holds }
 
   last_begin : (events before : List (Event T)) (start s : Start T) (since : List (Event T)) → events ++ Begun p start ∷ [] ≡ before ++ Begun p s ∷ since → BeginsNone p since → events ≡ before

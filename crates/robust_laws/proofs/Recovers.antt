@@ -31,7 +31,7 @@ use Rattle.model.specs.declared.event.Start.TheVariants.{Robust}
 use Rattle.model.specs.declared.families.indices.robust.RobustStart.TheVariants.{Recover}
 use Rattle.model.specs.declared.families.indices.robust.calls.RobustFlight as flights
 use Rattle.model.specs.Families.Indices.Robust.Bounds.{most_steps}
-use Rattle.model.specs.Families.Indices.Robust.Promises.{cell_of, promise, AnswersRight, IsUnlocked, HeldThrough, StillToFree, IsProper, HasRecovered, LivesToRelease}
+use Rattle.model.specs.Families.Indices.Robust.Promises.{cell_of, promise, AsksRight, AnswersRight, IsUnlocked, HeldThrough, StillToFree, IsProper, HasRecovered, LivesToRelease}
 use Rattle.model.specs.Families.Indices.Robust.Reading.{Deed, Frees, Asks, Yes, Locks, deeds, asked_in, filled_after, filled_of, holder_of, is_dead, deeds_of, IsOneOf}
 use Rattle.model.specs.Families.Indices.Robust.Spans.{HasJustFreed}
 use Rattle.model.specs.Families.Indices.Robust.Steps.{locked_by}
@@ -42,11 +42,11 @@ use Rattle.model.specs.Reading.{Open}
 use Rattle.model.specs.Step.{as_call}
 use Rattle.model.specs.Turns.{old_of, words_after, step_count}
 use Rattle.model.proofs.Moments.{held_now, held_later}
-use Rattle.model.proofs.Readings.{no_more, AllFollow}
+use Rattle.model.proofs.Readings.{no_more, AllFollow, AreRight}
 use Rattle.robust_laws.proofs.Core.{counter_of, cell}
 use Rattle.robust_laws.proofs.Counting.{times_below}
 use Rattle.robust_laws.proofs.Deeds.{still_one, last_one, by_latest, was_one, all_so, asks_more, FreedWereAsked, freed_more}
-use Rattle.robust_laws.proofs.Effects.{Stays, at_same, some_none, one_owner, both_ways, quiet_none, quiet_asked, quiet_told, quietly, unlocked, is_shut, stays_same, stays_raised, filled_by, filled_none, filled_some}
+use Rattle.robust_laws.proofs.Effects.{proper_less, Stays, at_same, some_none, one_owner, both_ways, quiet_none, quiet_asked, quiet_told, quietly, unlocked, is_shut, stays_same, stays_raised, filled_by, filled_none, filled_some}
 use Rattle.robust_laws.proofs.Frees.{frees}
 use Rattle.robust_laws.proofs.Invariant.{Scene, Inv, Good, Does, wrote_of}
 use Rattle.robust_laws.proofs.Knows.{Knows, IsPaid, WasOpen, AskedBelow, GoneBut, LockSays}
@@ -76,7 +76,7 @@ module _ {T : Type 0} (scene : Scene T) (inv : Inv scene) (mode : ReleaseMode) (
   done = deeds_of p events
 
   g : Good c ws scene.set.dead events scene.turns
-  g = inv.holds.good
+  g = inv.good
 
   abbrev call_at : RecoverStage → calls.Recover
   call_at stage = record { capacity = c; stage = stage }
@@ -123,7 +123,7 @@ module _ {T : Type 0} (scene : Scene T) (inv : Inv scene) (mode : ReleaseMode) (
 
     -- the same of a step that writes an event
     module _ (did : List (Event T)) (longer : Lengthens (did ++ [])) (does : Does scene (words_after ws ask) (did ++ []))
-        (stands : AllFollow (Stands promise c) (Open (Robust (Recover mode)) (wrote_of p events)) (did ++ [])) (paid : IsPaid (sees scene ask back))
+        (stands : AllFollow (Stands promise c) (Open (Robust (Recover mode)) (wrote_of p events)) (did ++ [])) (asks : AreRight AsksRight events (did ++ [])) (paid : IsPaid (sees scene ask back))
         (asked : AllByRecursion (λ i. i < index + 1) (asked_in (done ++ deeds (did ++ [])))) (freed : FreedWereAsked (done ++ deeds (did ++ []))) (open_once : WasOpen (then_sees scene ask back (did ++ [])))
         (says : AskedBelow (index + 1) (then_sees scene ask back (did ++ []))) (gone : GoneBut (λ i o. ⊥) (then_sees scene ask back (did ++ []))) where
       comes_loudly : Lead ask back did (recover_comes_to (call_at stage) (index + 1))
@@ -131,12 +131,12 @@ module _ {T : Type 0} (scene : Scene T) (inv : Inv scene) (mode : ReleaseMode) (
           by_test (λ s. Lead ask back did (GoOn (at_recover (call_at stage) s))) (nat_lt (index + 1) c) (recovers.TheVariants.LoadsCell (index + 1)) recovers.TheVariants.LoadsCounterAgain
           (λ t.
           let more : index + 1 < c = grind (arith, nat_tests) in
-          goes_on scene (Recover mode) (recover_at c mode (recovers.TheVariants.LoadsCell (index + 1))) ask back did here longer does stands few (refl, refl, record { within = more; asked = asked; freed = freed })
+          goes_on scene (Recover mode) (recover_at c mode (recovers.TheVariants.LoadsCell (index + 1))) ask back did here longer does stands asks few (refl, refl, record { within = more; asked = asked; freed = freed })
           (record { paid = omega arith; scanned = tt; owns = tt; says = (open_once, says); gone = gone }))
           (λ t.
           let last : c ≤ index + 1 = grind (arith, nat_tests) in
           let end : index + 1 ≡ c = omega arith in
-          goes_on scene (Recover mode) (recover_at c mode recovers.TheVariants.LoadsCounterAgain) ask back did here longer does stands (few_last last) (refl, refl, freed)
+          goes_on scene (Recover mode) (recover_at c mode recovers.TheVariants.LoadsCounterAgain) ask back did here longer does stands asks (few_last last) (refl, refl, freed)
           (record { paid = omega arith; scanned = tt; owns = tt; says = subst (λ n. AskedBelow n (then_sees scene ask back (did ++ []))) end says; gone = gone }))
 
   -- ---- what it knows once it has done one thing more
@@ -228,7 +228,7 @@ module _ {T : Type 0} (scene : Scene T) (inv : Inv scene) (mode : ReleaseMode) (
 
       asks_does : Does scene (words_after ws load) asking
       asks_does =
-          quietly scene inv (words_after ws load) asking (stays_same scene inv _ (loads_same ws (cell_word index))) (quiet_asked p index (cell ws index)) (refl, tt) ((is_filled.1, k.says.0), tt) (tt, tt)
+          quietly scene inv (words_after ws load) asking (stays_same scene inv _ (loads_same ws (cell_word index))).leaves (quiet_asked p index (cell ws index)) (refl, tt) (tt, tt) (tt, tt)
 
       asks_deeds : deeds_of p (events ++ asking) ≡ done ++ Asks index (cell ws index) ∷ []
       asks_deeds = deeds_more scene (Recover mode) here asking asks_does.own (λ start w. refl)
@@ -256,7 +256,7 @@ module _ {T : Type 0} (scene : Scene T) (inv : Inv scene) (mode : ReleaseMode) (
       asks_about : Lead load false asking (GoOn (at_recover (call_at (recovers.TheVariants.LoadsCell index)) (recovers.TheVariants.Asks index (cell ws index))))
       asks_about =
           let paid = k.paid in
-          goes_on scene (Recover mode) (recover_at c mode (recovers.TheVariants.Asks index (cell ws index))) load false asking here (λ start w. refl) asks_does (course.asked, tt) (omega arith)
+          goes_on scene (Recover mode) (recover_at c mode (recovers.TheVariants.Asks index (cell ws index))) load false asking here (λ start w. refl) asks_does (course.asked, tt) ((is_filled.1, k.says.0), tt) (omega arith)
           (refl, refl, (record { within = course.within; asked = asks_more (index + 1) (Asks index (cell ws index)) done asked_next (omega arith, tt); freed = asks_freed }, is_filled.0, record { before = done; is = refl }))
           (record {
             paid = omega arith;
@@ -289,7 +289,7 @@ module _ {T : Type 0} (scene : Scene T) (inv : Inv scene) (mode : ReleaseMode) (
       telling = Told p index owner ∷ []
 
       tells_does : Does scene ws telling
-      tells_does = quietly scene inv ws telling (stays_same scene inv ws refl) (quiet_told p index owner) (refl, tt) (dead, tt) (tt, tt)
+      tells_does = quietly scene inv ws telling (stays_same scene inv ws refl).leaves (quiet_told p index owner) (refl, tt) (tt, tt) (tt, tt)
 
       tells_deeds : deeds_of p (events ++ telling) ≡ done ++ Yes index owner ∷ []
       tells_deeds = deeds_more scene (Recover mode) here telling tells_does.own (λ start w. refl)
@@ -303,7 +303,7 @@ module _ {T : Type 0} (scene : Scene T) (inv : Inv scene) (mode : ReleaseMode) (
       says_yes : Lead None false telling (GoOn (at_recover (call_at (recovers.TheVariants.Asks index owner)) (recovers.TheVariants.EmptiesCell index owner)))
       says_yes =
           let paid = k.paid in
-          goes_on scene (Recover mode) (recover_at c mode (recovers.TheVariants.EmptiesCell index owner)) None false telling here (λ start w. refl) tells_does (at.2, tt) (omega arith) (
+          goes_on scene (Recover mode) (recover_at c mode (recovers.TheVariants.EmptiesCell index owner)) None false telling here (λ start w. refl) tells_does (at.2, tt) (dead, tt) (omega arith) (
             refl,
             refl,
             (
@@ -368,6 +368,10 @@ module _ {T : Type 0} (scene : Scene T) (inv : Inv scene) (mode : ReleaseMode) (
       frees_does =
           frees scene inv (words_after ws exchange) index owner at.0.within filled (subst (LivesToRelease owner events) (sym here) tt)
           (λ proper q ne o alive h. let same : owner ≡ o = one_owner (filled_of index events) owner o filled h.filled in both_ways (is_dead o events) alive (subst (λ n. is_dead n events ≡ true) same owner_dead))
+          (λ proper o alive h.
+          let theirs = ((g.owned (proper_less events freeing proper)).settled index o h).0 in
+          let same : owner ≡ o = one_owner (filled_of index events) owner o filled theirs in
+          both_ways (is_dead o events) alive (subst (λ n. is_dead n events ≡ true) same owner_dead))
           (exchange_sets ws (cell_word index) owner empty is)
 
       frees_deeds : deeds_of p (events ++ freeing) ≡ done ++ Frees index owner ∷ []
@@ -386,7 +390,7 @@ module _ {T : Type 0} (scene : Scene T) (inv : Inv scene) (mode : ReleaseMode) (
       empties : Lead exchange false freeing (GoOn (at_recover (call_at (recovers.TheVariants.EmptiesCell index owner)) (recovers.TheVariants.Raises index raises.TheVariants.LoadsCounter)))
       empties =
           let paid = k.paid in
-          goes_on scene (Recover mode) (recover_at c mode (recovers.TheVariants.Raises index raises.TheVariants.LoadsCounter)) exchange false freeing here (λ start w. refl) frees_does (at.2, tt) (omega arith) (
+          goes_on scene (Recover mode) (recover_at c mode (recovers.TheVariants.Raises index raises.TheVariants.LoadsCounter)) exchange false freeing here (λ start w. refl) frees_does (at.2, tt) (tt, tt) (omega arith) (
             refl,
             refl,
             (
@@ -509,7 +513,7 @@ module _ {T : Type 0} (scene : Scene T) (inv : Inv scene) (mode : ReleaseMode) (
 
       locks_set : Lead ask false locking (recover_comes_to (call_at (recovers.TheVariants.Locks index lock)) (index + 1))
       locks_set =
-          comes_loudly index course.within (recovers.TheVariants.Locks index lock) ask false few locking (λ start w. refl) locks_does stands_there paid
+          comes_loudly index course.within (recovers.TheVariants.Locks index lock) ask false few locking (λ start w. refl) locks_does stands_there (tt, tt) paid
           (asks_more (index + 1) Locks done course.asked tt) (freed_more Locks done course.freed (λ i o e. absurd (cc)))
           (open_then Locks locking (words_after ws ask) tt locks_deeds locks_does k.says.0)
           (asked_then Locks locking (words_after ws ask) tt locks_deeds locks_does (index + 1) k.says.1)

@@ -1,6 +1,6 @@
 -- Which party may give an index back, or will be granted it: the one whose acquire has filled it, until it has finished;
 -- then nobody before a release of it begins for its owner; then the party of that release.
-use Rattle.std.proofs.Common.{◌≡◌, ℕ, ◌==◌, if◌then◌else◌, Some, List, fold}
+use Rattle.std.proofs.Common.{◌≡◌, ℕ, ◌==◌, if◌then◌else◌, Some, List, [], ◌∷◌, fold}
 use Rattle.model.specs.declared.event.Answer.TheVariants.{Index}
 use Rattle.model.specs.declared.event.Event.{Event}
 use Rattle.model.specs.declared.event.Event.TheVariants.{Begun, Filled, FreedOf, Finished}
@@ -36,6 +36,15 @@ module _ {T : Type 0} where
   pub record IsBy (p i owner : ℕ) (events : List (Event T)) : Type 0 where
     pub right : right_of i events ≡ By p
     pub filled : filled_of i events ≡ Some owner
+
+  -- the event does not begin to give this index back for this owner
+  abbrev pub TakesNot : ℕ → ℕ → Event T → Type 0
+  TakesNot i o (Begun p (Robust (Release index owner mode))) = (index ≡ i) × (owner ≡ o) → ⊥
+  TakesNot i o e = Unit {0}
+
+  abbrev pub NoneTakes : ℕ → ℕ → List (Event T) → Type 0
+  NoneTakes i o [] = Unit {0}
+  NoneTakes i o (e ∷ es) = TakesNot i o e × NoneTakes i o es
 
   -- what is so of the indices in a proper run: one that is held, or may be given back, is filled with its owner
   pub record AreOwned (events : List (Event T)) : Type 0 where

@@ -44,7 +44,7 @@ use Rattle.model.specs.Families.Indices.Robust.Calls.{first, want}
 use Rattle.model.specs.Families.Indices.Robust.Dead.{has_died, dead_with, acts_for_dead, frees_living}
 use Rattle.model.specs.Families.Indices.Robust.Dead as rows
 use Rattle.model.specs.Families.Indices.Robust.Opening.{opening_words, is_owner, names_owner, call_rows, kept_rows}
-use Rattle.model.specs.Families.Indices.Robust.Promises.{IsFilledWith, IsProper}
+use Rattle.model.specs.Families.Indices.Robust.Promises.{IsFilledWith, IsProper, AsksRight}
 use Rattle.model.specs.Families.Indices.Robust.Reading.{Deed, Yes, deeds, filled_after, is_dead, settled_of, wrote_in, deeds_of, IsOneOf}
 use Rattle.model.specs.Parties.{party_of}
 use Rattle.model.specs.Reading.{Open, span_of}
@@ -53,7 +53,7 @@ use Rattle.model.specs.Step.{Step}
 use Rattle.model.specs.Turns.{old_of, words_after, change_of, number_of, party_at_begin, party_after, events_of_step, IsReached}
 use Rattle.model.specs.World.{Trace, opening, capacity_error}
 use Rattle.model.proofs.Frame as frame
-use Rattle.model.proofs.Readings.{no_more, Each-nil, span_of-own, span_of-death}
+use Rattle.model.proofs.Readings.{no_more, Each-nil, Each-append, span_of-own, span_of-death}
 use Rattle.model.proofs.Rows.{row_passed, MayBegin, MayDie}
 use Rattle.model.proofs.Scenes.{asked, StandsThere, stands_there, ComesFrom, comes_from}
 use Rattle.robust_laws.proofs.Acquires.{acquire_step}
@@ -114,7 +114,7 @@ module _ {T : Type 0} (scene : Scene T) (inv : Inv scene) where
   open scene use {capacity as c, party as p, events as events}
 
   lives : (owner : ℕ) → has_died owner scene.set.dead ≡ false → is_dead owner events ≡ false
-  lives owner alive = sym (inv.holds.good.died owner) ∙ alive
+  lives owner alive = sym (inv.good.died owner) ∙ alive
 
   abbrev Moves : RobustStart → RobustFlight → Type 0
   Moves start flight =
@@ -127,7 +127,7 @@ module _ {T : Type 0} (scene : Scene T) (inv : Inv scene) where
   step_moves (starts.TheVariants.Release index owner mode) (calls.TheVariants.Release run) here at =
       subst (Moves (starts.TheVariants.Release index owner mode)) (sym (ap (λ n. calls.TheVariants.Release (record { call = record { capacity = n; stage = run.call.stage }; given = run.given; room = tt })) at.0 ∙ ap
       (λ (o : GiveBack). calls.TheVariants.Release (record { call = record { capacity = c; stage = run.call.stage }; given = o; room = tt })) at.1))
-      (λ alive s k. release_step scene inv index owner mode at.2 at.3 (lives owner alive) here run.call.stage at.4 k s)
+      (λ alive s k. release_step scene inv index owner at.2 at.3 (lives owner alive) mode here run.call.stage at.4 k s)
   step_moves (starts.TheVariants.Find owner) (calls.TheVariants.Find run) here at =
       subst (Moves (starts.TheVariants.Find owner)) (sym (ap (λ n. find_at n run.given run.call.stage) at.0 ∙ ap (λ o. find_at c o run.call.stage) at.1))
       (λ alive s k. find_step scene inv owner at.2 here run.call.stage at.3 k s)
@@ -146,7 +146,7 @@ module _ {T : Type 0} (scene : Scene T) (inv : Inv scene) where
 
   -- a yes about an owner is of a dead one
   told_dead : (said : Bool) (mode : ReleaseMode) (index owner : ℕ) → frees_living scene.set.dead (recover_at c mode (recovers.TheVariants.Asks index owner)) (Some said) ≡ false → number_of said ≢ 0 → is_dead owner events ≡ true
-  told_dead true mode index owner e ne = sym (inv.holds.good.died owner) ∙ frame.is_true (has_died owner scene.set.dead) e
+  told_dead true mode index owner e ne = sym (inv.good.died owner) ∙ frame.is_true (has_died owner scene.set.dead) e
   told_dead false mode index owner e ne = absurd (ne refl)
 
   find_decides : (said : Bool) (owner : ℕ) → owner < empty → IsHere scene (starts.TheVariants.Find owner) → (stage : FindStage) → FindAt c (all scene) stage → Decides said (starts.TheVariants.Find owner) (find_at c owner stage)
@@ -283,7 +283,7 @@ module _ {T : Type 0} (code : Coding T) (c : ℕ) (t : Trace T) (s : frame.Sound
 
   module _ (p : ℕ) (x : Party T) (since : ℕ) (small : t.world.turns < 2 ^ 64 - 2) (found : party_of p t.world.latest ≡ Some x) where
     pub inv_of : Inv (scene_of p x since)
-    inv_of = record { holds = s.holds; frame = s.inv; begun = s.holds.begun p x found; small = small }
+    inv_of = record { good = s.holds.good; begun = s.holds.begun p x found; small = small }
 
     -- its call stands there by the events
     pub record IsThere (start : RobustStart) (flight : RobustFlight) : Type 0 where
@@ -379,6 +379,7 @@ module _ {T : Type 0} (code : Coding T) (c : ℕ) (t : Trace T) (s : frame.Sound
         let shows : Shows scene s.state.words (span_of p t.events) y (Begun p (Robust start) ∷ []) t.world.changes =
         record {
           does = does;
+          asks = (tt, tt);
           stands = (frame.shut (family code c) s.state p (party_of p t.world.latest) (span_of p t.events) may.free (s.inv.calls p), tt);
           here =
               record {
@@ -436,7 +437,7 @@ module _ {T : Type 0} (code : Coding T) (c : ℕ) (t : Trace T) (s : frame.Sound
       record {
         state = record { words = s.state.words; dead = dead_with o s.state.dead; events = t.events ++ Died o ∷ [] };
         fit = fit_death t.world.kept t.world.words s.state o (t.events ++ Died o ∷ []) s.fit;
-        holds = record { same = refl; begun = λ p x found. omega arith; good = death_good c s.state.words s.state.dead t.events t.world.turns o g alive };
+        holds = record { same = refl; begun = λ p x found. omega arith; good = death_good c s.state.words s.state.dead t.events t.world.turns o g alive; asks = Each-append AsksRight t.events (Died o ∷ []) s.holds.asks (tt, tt) };
         calls = λ q start flight at.
             let wrote : wrote_of q (t.events ++ Died o ∷ []) ≡ wrote_of q s.state.events = ap wrote_in (span_of-death q t.events o) ∙ sym (ap (wrote_of q) s.holds.same) in
             (at_written c (wrote_of q s.state.events) (wrote_of q (t.events ++ Died o ∷ [])) start flight wrote at, wrote);
@@ -461,7 +462,7 @@ module _ {T : Type 0} where
         capacity = refl;
         state = record { words = opening_words c; dead = []; events = [] };
         fit = (refl, refl);
-        holds = record { same = refl; begun = λ p x found. absurd (cc); good = opening_good c some few };
+        holds = record { same = refl; begun = λ p x found. absurd (cc); good = opening_good c some few; asks = Each-nil _ };
         inv = record { spans = Each-nil _; calls = λ p. refl; knows = λ p. tt };
       }
 

@@ -24,7 +24,7 @@ use Rattle.model.specs.declared.party.Party.{Party}
 use Rattle.model.specs.Families.{ask_of}
 use Rattle.model.specs.Families.Indices.Robust.Bounds.{most_steps}
 use Rattle.model.specs.Families.Indices.Robust.Calls.{want, after, goes_back}
-use Rattle.model.specs.Families.Indices.Robust.Promises.{AnswersRight, promise}
+use Rattle.model.specs.Families.Indices.Robust.Promises.{AsksRight, AnswersRight, promise}
 use Rattle.model.specs.Families.Indices.Robust.Reading.{Deed, deed, deeds, settled_after, wrote_in, deeds_of}
 use Rattle.model.specs.Families.Indices.Robust.Spans.{HasDone}
 use Rattle.model.specs.Families.Indices.Robust.Steps.{effects}
@@ -32,7 +32,7 @@ use Rattle.model.specs.Promises.Spans.{Stands}
 use Rattle.model.specs.Reading.{Open, own_after, span_of}
 use Rattle.model.specs.Step.{as_call, answer_in}
 use Rattle.model.specs.Turns.{one_if, old_of, words_after, change_of, step_count, number_of, party_after, ending_of}
-use Rattle.model.proofs.Readings.{AreOwn, AllFollow, span_of-own}
+use Rattle.model.proofs.Readings.{AreOwn, AllFollow, AreRight, span_of-own}
 use Rattle.model.proofs.Turns.{kept_words}
 use Rattle.robust_laws.proofs.Core.{counter_of}
 use Rattle.robust_laws.proofs.Effects.{Stays, quiet_none, quiet_end, quietly}
@@ -193,14 +193,16 @@ module _ {T : Type 0} (scene : Scene T) where
       (start : RobustStart) (flight : RobustFlight) (ask : Option Ask) (back : Bool) (did : List (Event T)) → IsHere start → Lengthens (did ++ [])
       → Does scene (words_after ws ask) (did ++ [])
       → AllFollow (Stands promise c) (Open (Robust start) (wrote_of p events)) (did ++ [])
+      → AreRight AsksRight events (did ++ [])
       → steps + step_count ask ≤ standing.number_of c flight (backs_then back)
       → At c (deeds_of p events ++ deeds (did ++ [])) start flight
       → Knows c flight (then_sees ask back (did ++ []))
       → Leads start ask back did (GoOn flight)
-  goes_on start flight ask back did here longer does stands few at known =
+  goes_on start flight ask back did here longer does stands asks few at known =
       record {
         does = does;
         stands = stands;
+        asks = asks;
         here =
             record {
               span = longer start (wrote_of p events) ∙ ap (λ es. Open (Robust start) es) (sym (wrote_more start here (did ++ []) does.own longer));
@@ -215,13 +217,15 @@ module _ {T : Type 0} (scene : Scene T) where
       (start : RobustStart) (answer : Answer T) (ask : Option Ask) (back : Bool) (did : List (Event T)) → IsHere start → Lengthens did
       → Does scene (words_after ws ask) (did ++ Finished p (Robust start) answer ∷ [])
       → AllFollow (Stands promise c) (Open (Robust start) (wrote_of p events)) (did ++ Finished p (Robust start) answer ∷ [])
+      → AreRight AsksRight events (did ++ Finished p (Robust start) answer ∷ [])
       → steps + step_count ask ≤ most_steps c start (backs_then back)
       → IsPaid (then_sees ask back (did ++ Finished p (Robust start) answer ∷ []))
       → Leads start ask back did (Done answer)
-  ends start answer ask back did here longer does stands few paid =
+  ends start answer ask back did here longer does stands asks few paid =
       record {
         does = does;
         stands = stands;
+        asks = asks;
         here =
             record {
               answer = answer;
@@ -243,7 +247,7 @@ module _ {T : Type 0} (scene : Scene T) where
         → Knows c flight (view (words_after ws ask) events p (since_then ask) (changes_then ask) (backs_then back))
         → Leads start ask back [] (GoOn flight)
     goes_quietly start flight ask back here stays few at known =
-        goes_on start flight ask back [] here none_lengthens (quietly scene inv (words_after ws ask) [] stays quiet_none tt tt tt) tt few
+        goes_on start flight ask back [] here none_lengthens (quietly scene inv (words_after ws ask) [] stays.leaves quiet_none tt tt tt) tt tt few
         (subst (λ d. At c d start flight) (sym (append-nil (deeds_of p events))) at)
         (subst (λ es. Knows c flight (view (words_after ws ask) es p (since_then ask) (changes_then ask) (backs_then back))) (sym (append-nil events)) known)
 
@@ -257,5 +261,5 @@ module _ {T : Type 0} (scene : Scene T) where
         → Leads start ask back [] (Done answer)
     ends_quietly start answer ask back here stays settles rights right done few paid =
         ends start answer ask back [] here none_lengthens
-        (quietly scene inv (words_after ws ask) (Finished p (Robust start) answer ∷ []) stays (quiet_end p start answer settles rights) (refl, tt) (tt, tt) (right, tt))
-        ((refl, done), tt) few paid
+        (quietly scene inv (words_after ws ask) (Finished p (Robust start) answer ∷ []) stays.leaves (quiet_end p start answer settles rights) (refl, tt) (tt, tt) (right, tt))
+        ((refl, done), tt) (tt, tt) few paid

@@ -1,5 +1,5 @@
 //! Bits and counts, step by step.
-use crate::drive::{Does, bare, ends, is_done, partly};
+use alone::drive::{Does, bare, ends, is_done, partly};
 use std::process::Abort;
 use std::test::Fail;
 use steps::ask::{Call, Want};
@@ -51,7 +51,7 @@ enum Row {
 }
 
 impl Flags {
-    fn does(&mut self, rt: &impl Abort, row: &Row) -> bool {
+    fn does(&mut self, row: &Row) -> bool {
         match row {
             Row::Sets(words) => {
                 self.words = *words;
@@ -63,17 +63,11 @@ impl Flags {
                 true
             }
             Row::Set(place, done) => {
-                is_done(
-                    rt,
-                    &mut self.set,
-                    on(Set::new(), *place),
-                    &mut self.words,
-                    done,
-                )
+                is_done(&mut self.set, on(Set::new(), *place), &mut self.words, done)
             }
             Row::Next(done) => {
                 let new = bare(ResetNext::new(self.capacity));
-                is_done(rt, &mut self.next, new, &mut self.words, done)
+                is_done(&mut self.next, new, &mut self.words, done)
             }
             Row::SetBack(word, turns) => match &self.set {
                 Some(call) => call.call.turns_back(*word) == *turns,
@@ -96,7 +90,7 @@ fn play(rt: &impl Abort, name: &str, capacity: u32, rows: &[Row]) {
         next: None,
     };
     for (at, row) in rows.iter().enumerate() {
-        assert!(rt; bits.does(rt, row), "{name}: row {at}");
+        assert!(rt; bits.does(row), "{name}: row {at}");
     }
 }
 
@@ -166,7 +160,7 @@ fn counts(rt: HostRuntime) {
     let mut words = [0, 0, u64::MAX];
     for (place, found) in &COUNTS {
         let call = on(counting_bit_set::Set, *place);
-        assert!(rt; ends(&rt, call, &mut words, *found, 1), "{place}");
+        assert!(rt; ends(call, &mut words, *found, 1), "{place}");
     }
     assert!(rt; words == [0, 2, 1]);
 }
@@ -187,7 +181,7 @@ fn emptied_words(rt: HostRuntime) {
         } else {
             ResetAll::counts(*capacity)
         };
-        assert!(rt; ends(&rt, emptying(call), &mut words, (), *steps));
+        assert!(rt; ends(emptying(call), &mut words, (), *steps));
         assert!(rt; words == *left);
     }
     assert!(rt; matches!(emptying(ResetAll::bits(0)).ask(), Want::Nothing));
@@ -196,9 +190,9 @@ fn emptied_words(rt: HostRuntime) {
 #[test]
 fn what_a_swap_found_lies_in_the_room(rt: HostRuntime) -> Result<(), Fail> {
     let mut words = [0, 2, 1];
-    let call = partly(&rt, emptying(ResetAll::counts(3)), 2, &mut words).ok_or("it ended")?;
+    let call = partly(emptying(ResetAll::counts(3)), 2, &mut words).ok_or("it ended")?;
     assert!(rt; call.room == OneWord(2));
-    assert!(rt; ends(&rt, call, &mut words, (), 1));
+    assert!(rt; ends(call, &mut words, (), 1));
     assert!(rt; words == [0, 0, 0]);
     Ok(())
 }

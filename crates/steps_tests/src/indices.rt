@@ -1,5 +1,5 @@
 //! The unique index set, step by step.
-use crate::drive::{Does, bare, is_done};
+use alone::drive::{Does, bare, is_done};
 use std::process::Abort;
 use steps::indices::enums::{ReleaseMode, ReleaseState, UniqueIndexSetAcquireFailure};
 use steps::indices::head::{HeadDetails, LOCK_ACQUIRE};
@@ -159,30 +159,29 @@ impl Set {
         }
     }
 
-    fn does(&mut self, rt: &impl Abort, row: &Row) -> bool {
+    fn does(&mut self, row: &Row) -> bool {
         match row {
             Row::Acquire(done) => {
                 let new = bare(Acquire::new(self.capacity));
-                is_done(rt, &mut self.acquire, new, &mut self.words, done)
+                is_done(&mut self.acquire, new, &mut self.words, done)
             }
             Row::Release(index, done) => {
                 let new = giving_back::<DefaultMode>(self.capacity, *index);
-                is_done(rt, &mut self.release, new, &mut self.words, done)
+                is_done(&mut self.release, new, &mut self.words, done)
             }
             Row::Lock(index, done) => {
                 let new = giving_back::<LockMode>(self.capacity, *index);
-                is_done(rt, &mut self.lock, new, &mut self.words, done)
+                is_done(&mut self.lock, new, &mut self.words, done)
             }
             Row::Borrowed(done) => {
                 is_done(
-                    rt,
                     &mut self.count,
                     bare(BorrowedIndices),
                     &mut self.words,
                     done,
                 )
             }
-            Row::Locked(done) => is_done(rt, &mut self.look, bare(IsLocked), &mut self.words, done),
+            Row::Locked(done) => is_done(&mut self.look, bare(IsLocked), &mut self.words, done),
             Row::Shared(shared) => self.shares(shared),
             Row::Back(back) => self.goes_back(back),
         }
@@ -201,7 +200,7 @@ fn play(rt: &impl Abort, name: &str, capacity: u32, rows: &[Row]) {
         look: None,
     };
     for (at, row) in rows.iter().enumerate() {
-        assert!(rt; set.does(rt, row), "{name}: row {at}");
+        assert!(rt; set.does(row), "{name}: row {at}");
     }
 }
 

@@ -1,17 +1,13 @@
-//! The tests of the crate `steps`: calls driven alone over a list of words, by value and in place, at values of one, two,
-//! three and 128 words.
+//! The tests of the crate `steps`: calls driven alone over a list of words, by value and in place, at values of one,
+//! two, three and 128 words.
 #![tactic(auto)]
 
 #[cfg(test)]
 mod bits;
 #[cfg(test)]
-mod container;
-#[cfg(test)]
-mod drive;
+mod calls;
 #[cfg(test)]
 mod indices;
-#[cfg(test)]
-mod long_values;
 #[cfg(test)]
 mod overflow;
 #[cfg(test)]

@@ -1,6 +1,7 @@
 //! The overflowing queue, step by step.
-use crate::drive::{bare, ends, overflow_pop, overflow_push, partly};
+use crate::calls::{overflow_pop, overflow_push};
 use crate::rows::{Over, play_over};
+use alone::drive::{bare, ends, partly};
 use std::process::Abort;
 use steps::ask::{Call, Want};
 use steps::copied::OneWord;
@@ -62,11 +63,11 @@ fn rows(rt: HostRuntime) {
 fn a_pop_moves_the_read_position_before_a_push(rt: &impl Abort) -> Option<()> {
     // Between a full push's load of it and its own move.
     let mut full = [1, 0, 1, 1, 7, 0];
-    let call = partly(rt, overflow_push(1, 9), 4, &mut full)?;
+    let call = partly(overflow_push(1, 9), 4, &mut full)?;
     // Until then one value more than the capacity waits.
-    assert!(rt; ends(rt, bare(Len::new(1)), &mut full, 2, 4));
-    assert!(rt; ends(rt, overflow_pop(1), &mut full, Some(7), 4));
-    assert!(rt; ends(rt, call, &mut full, None, 1));
+    assert!(rt; ends(bare(Len::new(1)), &mut full, 2, 4));
+    assert!(rt; ends(overflow_pop(1), &mut full, Some(7), 4));
+    assert!(rt; ends(call, &mut full, None, 1));
     Some(())
 }
 
@@ -81,24 +82,24 @@ fn without_capacity_nothing_is_asked(rt: HostRuntime) {
 
 fn a_pop_reads_again_where_a_push_moved_the_read_position(rt: &impl Abort) -> Option<()> {
     let mut words = [1, 0, 1, 1, 1, 0];
-    let call = partly(rt, overflow_pop(1), 3, &mut words)?;
-    assert!(rt; ends(rt, overflow_push(1, 2), &mut words, Some(1), 6));
+    let call = partly(overflow_pop(1), 3, &mut words)?;
+    assert!(rt; ends(overflow_push(1, 2), &mut words, Some(1), 6));
     assert!(rt; matches!(call.call.stage, PopStage::MovesRead { read: 0 }));
     assert!(rt; call.room == OneWord(1));
     assert!(rt; call.call.goes_back(1) && !call.call.goes_back(0));
-    assert!(rt; ends(rt, call, &mut words, Some(2), 3));
+    assert!(rt; ends(call, &mut words, Some(2), 3));
     Some(())
 }
 
 fn a_pop_reads_again_twice(rt: &impl Abort) -> Option<()> {
     let mut words = [1, 0, 1, 1, 1, 0];
-    let call = partly(rt, overflow_pop(1), 3, &mut words)?;
-    assert!(rt; ends(rt, overflow_push(1, 2), &mut words, Some(1), 6));
+    let call = partly(overflow_pop(1), 3, &mut words)?;
+    assert!(rt; ends(overflow_push(1, 2), &mut words, Some(1), 6));
     // The read position moves once more before the pop has read again.
-    let call = partly(rt, call, 2, &mut words)?;
-    assert!(rt; ends(rt, overflow_push(1, 3), &mut words, Some(2), 6));
+    let call = partly(call, 2, &mut words)?;
+    assert!(rt; ends(overflow_push(1, 3), &mut words, Some(2), 6));
     assert!(rt; call.room == OneWord(2));
-    assert!(rt; ends(rt, call, &mut words, Some(3), 3));
+    assert!(rt; ends(call, &mut words, Some(3), 3));
     assert!(rt; words == [3, 3, 1, 1, 3, 2]);
     Some(())
 }

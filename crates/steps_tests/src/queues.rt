@@ -1,7 +1,8 @@
 //! The bounded queues and their lengths, step by step.
-use crate::drive::{bare, ends, partly, pop, pop_one, with};
-use crate::long_values::{Three, Wide};
+use crate::calls::{pop, pop_one};
 use crate::rows::{Row, fills_and_empties, play};
+use alone::drive::{bare, ends, partly, with};
+use alone::long_values::{Three, Wide};
 use std::process::Abort;
 use steps::queues::lengths::{Len, LenStage, number_waiting};
 
@@ -49,11 +50,8 @@ fn a_pop_into_one_word_is_a_pop(rt: HostRuntime) {
     let mut words = [2, 0, 1, 1, 7, 8];
     for (value, steps) in [(Some(7), 4), (Some(8), 4), (None, 2)] {
         let mut same = words;
-        assert!(rt;
-            ends(&rt, pop::<u64>(2), &mut words, value, steps),
-            "{steps}"
-        );
-        assert!(rt; ends(&rt, pop_one(2), &mut same, value, steps), "{steps}");
+        assert!(rt; ends(pop::<u64>(2), &mut words, value, steps), "{steps}");
+        assert!(rt; ends(pop_one(2), &mut same, value, steps), "{steps}");
         assert!(rt; same == words, "{steps}");
     }
     assert!(rt; words == [2, 2, 1, 1, 7, 8]);
@@ -64,11 +62,11 @@ fn values_of_three_words_and_of_128(rt: HostRuntime) {
     // From position 5, so that the first value stands in the last of the three cells.
     let mut words = with([0; 13], &[(0, 5), (1, 5)]);
     let values = [Three(1, 2, 3), Three(4, 5, 6), Three(7, 8, 9)];
-    assert!(rt; fills_and_empties(&rt, 3, &values, &mut words));
+    assert!(rt; fills_and_empties(3, &values, &mut words));
     assert!(rt; words == [11, 11, 0, 0, 4, 5, 6, 7, 8, 9, 1, 2, 3]);
     let mut words = with([0; 388], &[(0, 5), (1, 5)]);
     let values = [Wide(1, 2), Wide(3, 4), Wide(5, 6)];
-    assert!(rt; fills_and_empties(&rt, 3, &values, &mut words));
+    assert!(rt; fills_and_empties(3, &values, &mut words));
     let wanted = with(
         [7; 388],
         &[
@@ -95,7 +93,7 @@ fn a_queue_of_capacity_1000(rt: HostRuntime) {
     for at in 0..1000 {
         values[at] = at as u64 + 1;
     }
-    assert!(rt; fills_and_empties(&rt, 1000, &values, &mut words));
+    assert!(rt; fills_and_empties(1000, &values, &mut words));
     let mut wanted = [0; 1004];
     for at in 4..1003 {
         wanted[at] = at as u64 - 2;
@@ -108,12 +106,12 @@ fn a_queue_of_capacity_1000(rt: HostRuntime) {
 
 fn a_length_is_read_twice(rt: &impl Abort) -> Option<()> {
     let mut words = [3, 1, 1, 1, 7, 8];
-    assert!(rt; ends(rt, bare(Len::new(2)), &mut words, 2, 4));
-    assert!(rt; ends(rt, bare(Len::new(0)), &mut words, 0, 4));
+    assert!(rt; ends(bare(Len::new(2)), &mut words, 2, 4));
+    assert!(rt; ends(bare(Len::new(0)), &mut words, 0, 4));
     // A pop between the second load and the fourth: the call begins again.
-    let call = partly(rt, bare(Len::new(2)), 3, &mut words)?;
+    let call = partly(bare(Len::new(2)), 3, &mut words)?;
     words[1] = 2;
-    let call = partly(rt, call, 4, &mut words)?;
+    let call = partly(call, 4, &mut words)?;
     assert!(rt;
         matches!(
             call.call.stage,
@@ -121,7 +119,7 @@ fn a_length_is_read_twice(rt: &impl Abort) -> Option<()> {
         )
     );
     assert!(rt; call.call.turns_back(1) && !call.call.turns_back(2));
-    assert!(rt; ends(rt, call, &mut words, 1, 1));
+    assert!(rt; ends(call, &mut words, 1, 1));
     assert!(rt; number_waiting(2, 1, u64::MAX) == 2);
     Some(())
 }
@@ -133,7 +131,7 @@ fn lengths(rt: HostRuntime) {
             let capacity = if number > 3 { 1000 } else { 3 };
             let mut words = [number.wrapping_add(read), read];
             assert!(rt;
-                ends(&rt, bare(Len::new(capacity)), &mut words, number, 4),
+                ends(bare(Len::new(capacity)), &mut words, number, 4),
                 "{number}"
             );
         }

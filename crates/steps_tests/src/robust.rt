@@ -1,7 +1,7 @@
 //! The robust set of indices, step by step. Its words are the counter and then the cells.
-use crate::drive::{Does, bare, is_done};
+use alone::drive::{Does, bare, is_done};
+use alone::questions::{Came, comes, goes_on, is_told};
 use std::process::Abort;
-use steps::ask::{Question, Want};
 use steps::enums::OwnerId;
 use steps::indices::enums::{
     ReleaseMode, ReleaseState, RobustUniqueIndexSetReleaseError, UniqueIndexSetAcquireFailure,
@@ -134,54 +134,6 @@ enum Asks {
     Frees(u64, Option<(u64, u32)>),
 }
 
-/// Where a call has come to: its end, a question about an index and maybe its owner, or neither.
-#[derive(Debug, Clone, Copy, PartialEq, Eq)]
-pub enum Came<A> {
-    Ended(A),
-    Asked(usize),
-    AskedOf(u64, usize),
-    Goes,
-}
-
-/// A call that asks this.
-fn came_to<A: Drop>(question: Question<()>) -> Came<A> {
-    match question {
-        Question::Index(index) => Came::Asked(index),
-        Question::Owned(owner, index) => Came::AskedOf(owner.value(), index),
-        Question::Value(index, ()) => Came::Asked(index),
-    }
-}
-
-/// Takes at most so many steps of the call, up to its end or a question.
-pub fn goes_on<C: Routine>(
-    call: &mut Running<C, C::Given, C::Room>,
-    most: u64,
-    words: &mut [u64],
-) -> Came<C::Answer>
-where
-    C::Answer: Drop,
-{
-    for _ in 0..most {
-        let answer = match call.want() {
-            Want::Ask(ask) => {
-                if ask.word < words.len() {
-                    let old = words[ask.word];
-                    words[ask.word] = ask.op.apply(old);
-                    old
-                } else {
-                    0
-                }
-            }
-            Want::Question(question) => return came_to(question),
-            Want::Nothing => 0,
-        };
-        if let Some(answer) = call.go_on(answer) {
-            return Came::Ended(answer);
-        }
-    }
-    Came::Goes
-}
-
 /// How many indices a find comes to that is always told to go on.
 fn finds(call: Running<Find, OwnerId, ()>, words: &mut [u64]) -> usize {
     let mut call = call;
@@ -200,51 +152,14 @@ fn finds(call: Running<Find, OwnerId, ()>, words: &mut [u64]) -> usize {
     99
 }
 
-/// Whether the call comes to this within so many steps.
-fn comes<C: Routine>(
-    call: &mut Option<Running<C, C::Given, C::Room>>,
-    most: u64,
-    words: &mut [u64],
-    to: Came<C::Answer>,
-) -> bool
-where
-    C::Answer: PartialEq + Copy + Drop,
-{
-    match call {
-        Some(call) => goes_on(call, most, words) == to,
-        None => false,
-    }
-}
-
-/// Whether the call makes this of an answer to its question.
-fn is_told<C: Routine>(
-    call: &mut Option<Running<C, C::Given, C::Room>>,
-    answer: u64,
-    end: Option<C::Answer>,
-) -> bool
-where
-    C::Answer: PartialEq + Copy + Drop,
-{
-    match call {
-        Some(call) => call.go_on(answer) == end,
-        None => false,
-    }
-}
-
 impl Set {
     fn looks(&mut self, rt: &impl Abort, look: &Look) -> bool {
         match look {
             Look::Count(done) => {
                 let new = bare(BorrowedIndices::new(self.capacity));
-                is_done(rt, &mut self.count, new, &mut self.words, done)
+                is_done(&mut self.count, new, &mut self.words, done)
             }
-            Look::Locked(done) => is_done(
-                rt,
-                &mut self.look,
-                bare(IsLocked),
-                &mut self.words,
-                done,
-            ),
+            Look::Locked(done) => is_done(&mut self.look, bare(IsLocked), &mut self.words, done),
             Look::Finds(of, number) => {
                 finds(find(self.capacity, owner(rt, *of)), &mut self.words) == *number
             }
@@ -310,11 +225,11 @@ impl Set {
             }
             Row::Acquire(of, done) => {
                 let new = acquire(self.capacity, owner(rt, *of));
-                is_done(rt, &mut self.acquire, new, &mut self.words, done)
+                is_done(&mut self.acquire, new, &mut self.words, done)
             }
             Row::Release(index, of, mode, done) => {
                 let new = release(self.capacity, *index, owner(rt, *of), *mode);
-                is_done(rt, &mut self.release, new, &mut self.words, done)
+                is_done(&mut self.release, new, &mut self.words, done)
             }
             Row::Look(look) => self.looks(rt, look),
             Row::Back(back) => self.goes_back(back),

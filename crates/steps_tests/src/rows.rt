@@ -1,5 +1,6 @@
 //! Rows of calls on one list of words, each with what it must answer and the steps that it must take.
-use crate::drive::{bare, ends, load, overflow_pop, overflow_push, pop, push, store};
+use crate::calls::{load, overflow_pop, overflow_push, pop, push, store};
+use alone::drive::{bare, ends};
 use std::process::Abort;
 use steps::queues::lengths::Len;
 use steps::words::Words;
@@ -15,17 +16,16 @@ pub enum Row<T> {
 }
 
 fn does<T: Words + PartialEq + Drop, const N: usize>(
-    rt: &impl Abort,
     capacity: u32,
     words: &mut [u64; N],
     row: &Row<T>,
 ) -> bool {
     match *row {
-        Row::Push(value, taken, steps) => ends(rt, push(capacity, value), words, taken, steps),
-        Row::Pop(value, steps) => ends(rt, pop::<T>(capacity), words, value, steps),
-        Row::Store(value, taken, steps) => ends(rt, store(value), words, taken, steps),
-        Row::Load(value, steps) => ends(rt, load::<T>(), words, value, steps),
-        Row::Len(number, steps) => ends(rt, bare(Len::new(capacity)), words, number, steps),
+        Row::Push(value, taken, steps) => ends(push(capacity, value), words, taken, steps),
+        Row::Pop(value, steps) => ends(pop::<T>(capacity), words, value, steps),
+        Row::Store(value, taken, steps) => ends(store(value), words, taken, steps),
+        Row::Load(value, steps) => ends(load::<T>(), words, value, steps),
+        Row::Len(number, steps) => ends(bare(Len::new(capacity)), words, number, steps),
     }
 }
 
@@ -40,7 +40,7 @@ pub fn play<T: Words + PartialEq + Drop, const N: usize>(
 ) {
     let mut words = words;
     for (at, row) in rows.iter().enumerate() {
-        assert!(rt; does(rt, capacity, &mut words, row), "{name}: row {at}");
+        assert!(rt; does(capacity, &mut words, row), "{name}: row {at}");
     }
     assert!(rt; words == after, "{name}: words");
 }
@@ -52,18 +52,13 @@ pub enum Over {
     Len(u64, u64),
 }
 
-fn does_over<const N: usize>(
-    rt: &impl Abort,
-    capacity: u32,
-    words: &mut [u64; N],
-    row: &Over,
-) -> bool {
+fn does_over<const N: usize>(capacity: u32, words: &mut [u64; N], row: &Over) -> bool {
     match *row {
         Over::Push(value, back, steps) => {
-            ends(rt, overflow_push(capacity, value), words, back, steps)
+            ends(overflow_push(capacity, value), words, back, steps)
         }
-        Over::Pop(value, steps) => ends(rt, overflow_pop(capacity), words, value, steps),
-        Over::Len(number, steps) => ends(rt, bare(Len::new(capacity)), words, number, steps),
+        Over::Pop(value, steps) => ends(overflow_pop(capacity), words, value, steps),
+        Over::Len(number, steps) => ends(bare(Len::new(capacity)), words, number, steps),
     }
 }
 
@@ -78,17 +73,13 @@ pub fn play_over<const N: usize>(
 ) {
     let mut words = words;
     for (at, row) in rows.iter().enumerate() {
-        assert!(rt;
-            does_over(rt, capacity, &mut words, row),
-            "{name}: row {at}"
-        );
+        assert!(rt; does_over(capacity, &mut words, row), "{name}: row {at}");
     }
     assert!(rt; words == after, "{name}: words");
 }
 
 /// Whether an empty queue can be filled with these values, as many as its capacity, and emptied, twice.
 pub fn fills_and_empties<T: Words + PartialEq + Drop, const N: usize>(
-    rt: &impl Abort,
     capacity: u32,
     values: &[T],
     words: &mut [u64; N],
@@ -97,16 +88,16 @@ pub fn fills_and_empties<T: Words + PartialEq + Drop, const N: usize>(
     let mut right = true;
     for _ in 0..2 {
         for value in values {
-            right &= does(rt, capacity, words, &Row::Push(*value, true, steps));
+            right &= does(capacity, words, &Row::Push(*value, true, steps));
         }
-        right &= does::<T, N>(rt, capacity, words, &Row::Len(capacity as u64, 4));
+        right &= does::<T, N>(capacity, words, &Row::Len(capacity as u64, 4));
         for value in values {
-            right &= does(rt, capacity, words, &Row::Push(*value, false, 2));
+            right &= does(capacity, words, &Row::Push(*value, false, 2));
         }
         for value in values {
-            right &= does(rt, capacity, words, &Row::Pop(Some(*value), steps));
+            right &= does(capacity, words, &Row::Pop(Some(*value), steps));
         }
-        right &= does::<T, N>(rt, capacity, words, &Row::Pop(None, 2));
+        right &= does::<T, N>(capacity, words, &Row::Pop(None, 2));
     }
     right
 }

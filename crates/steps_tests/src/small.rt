@@ -1,5 +1,5 @@
 //! Roles, operations and the small items.
-use crate::drive::{bare, ends};
+use alone::drive::{bare, ends};
 use std::test::Fail;
 use steps::ask::Op;
 use steps::enums::{OwnerId, OwnerIdNewError, UniqueIndexCreationError, capacity_refusal};
@@ -18,16 +18,16 @@ fn roles(rt: HostRuntime) {
     ];
     for (word, taken, after) in rows {
         assert!(rt;
-            ends(&rt, bare(AcquireRole { word }), &mut words, taken, 1),
+            ends(bare(AcquireRole { word }), &mut words, taken, 1),
             "{word}"
         );
         assert!(rt; words == after, "{word}");
     }
     let release = bare(ReleaseRole { word: PRODUCER });
-    assert!(rt; ends(&rt, release, &mut words, (), 1));
+    assert!(rt; ends(release, &mut words, (), 1));
     assert!(rt; words == [0, 0, 1, 0]);
     let acquire = bare(AcquireRole { word: PRODUCER });
-    assert!(rt; ends(&rt, acquire, &mut words, true, 1));
+    assert!(rt; ends(acquire, &mut words, true, 1));
 }
 
 #[test]

@@ -1,7 +1,8 @@
 //! The single value, step by step.
-use crate::drive::{ends, load, load_one, partly, store, with};
-use crate::long_values::{Three, Wide};
+use crate::calls::{load, load_one, store};
 use crate::rows::{Row, play};
+use alone::drive::{ends, partly, with};
+use alone::long_values::{Three, Wide};
 use std::process::Abort;
 use steps::atomic::LoadStage;
 
@@ -59,7 +60,7 @@ fn values_of_many_words(rt: HostRuntime) {
 #[test]
 fn a_value_of_one_word(rt: HostRuntime) {
     let mut words = [2, 1, 7, 8];
-    assert!(rt; ends(&rt, load_one(), &mut words, 8, 3));
+    assert!(rt; ends(load_one(), &mut words, 8, 3));
     play(&rt, "ONE_WORD", 0, words, &ONE_WORD, [3, 1, 9, 8]);
     let last = [u64::MAX, 1, 7, 8];
     play(&rt, "LAST_VERSION", 0, last, &LAST_VERSION, last);
@@ -69,28 +70,28 @@ fn a_value_of_one_word(rt: HostRuntime) {
 
 fn a_load_goes_back_where_stores_moved_the_version(rt: &impl Abort) -> Option<()> {
     let mut words = [1, 1, 0, 0, 0, 0];
-    let call = partly(rt, load::<u128>(), 2, &mut words)?;
+    let call = partly(load::<u128>(), 2, &mut words)?;
     for value in [FIRST, SECOND] {
-        assert!(rt; ends(rt, store(value), &mut words, true, 4));
+        assert!(rt; ends(store(value), &mut words, true, 4));
     }
-    let call = partly(rt, call, 1, &mut words)?;
+    let call = partly(call, 1, &mut words)?;
     // The copy is half the opening value and half the second store's.
     assert!(rt; matches!(call.call.stage, LoadStage::ChecksVersion { version: 1 }));
     assert!(rt; call.room.words[0] == 0 && call.room.words[1] == 4);
     assert!(rt; call.call.goes_back(3) && !call.call.goes_back(1));
     // With the three steps before, seven: it goes back once.
-    assert!(rt; ends(rt, call, &mut words, SECOND, 4));
+    assert!(rt; ends(call, &mut words, SECOND, 4));
     assert!(rt; words == [3, 1, 3, 4, 1, 2]);
     Some(())
 }
 
 fn a_load_of_128_words_goes_back(rt: &impl Abort) -> Option<()> {
     let mut words = with([0; 258], &[(0, 1)]);
-    let call = partly(rt, load::<Wide>(), 60, &mut words)?;
+    let call = partly(load::<Wide>(), 60, &mut words)?;
     for value in [Wide(1, 2), Wide(3, 4)] {
-        assert!(rt; ends(rt, store(value), &mut words, true, 130));
+        assert!(rt; ends(store(value), &mut words, true, 130));
     }
-    let call = partly(rt, call, 69, &mut words)?;
+    let call = partly(call, 69, &mut words)?;
     assert!(rt; matches!(call.call.stage, LoadStage::ChecksVersion { version: 1 }));
     // The first 59 words are the opening value's, the others the second store's.
     let mut mixed = [7; 128];
@@ -99,7 +100,7 @@ fn a_load_of_128_words_goes_back(rt: &impl Abort) -> Option<()> {
     }
     mixed[127] = 4;
     assert!(rt; call.room.words == mixed);
-    assert!(rt; ends(rt, call, &mut words, Wide(3, 4), 130));
+    assert!(rt; ends(call, &mut words, Wide(3, 4), 130));
     Some(())
 }
 

@@ -23,7 +23,7 @@ abbrev pub WasRefused : UniqueIndexSetAcquireFailure → View → View → Type 
 WasRefused failures.OutOfIndices v w = FoundOpen v w
 WasRefused failures.IsLocked v w = FoundLocked v w
 
--- a release: only one that locks answers Locked, and where the lock was seen it does
+-- a release: Locked in mode LockIfLastIndex alone, and there wherever the lock was seen
 abbrev pub HasReleased : ReleaseState → ReleaseMode → View → View → Type 0
 HasReleased Locked mode v w = FoundLocked v w × (mode ≡ LockIfLastIndex)
 HasReleased Unlocked mode v w = (w ≡ v) × (mode ≡ LockIfLastIndex → v.locked ≡ false)

@@ -47,7 +47,8 @@ abbrev pub HasReleased : ReleaseState → ℕ → View → View → Type 0
 HasReleased states.Locked i v w = FoundLocked (released i v) w
 HasReleased states.Unlocked i v w = w ≡ released i v
 
--- a number of borrowed indices: at least those that the pass holds, and 0 once it has seen the lock
+-- a number of borrowed indices: at least those that the pass holds, at most the capacity, 0 once it
+-- has seen the lock, and just its own where it has the whole share
 pub record WasCounted (v : View) (n : ℕ) : Type 0 where
   pub least : length v.held ≤ n
   pub most : n ≤ v.capacity

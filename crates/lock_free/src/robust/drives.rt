@@ -2,9 +2,10 @@
 
 use super::view::View;
 use lock_free_sp::driver::rule::Drives;
-use steps::indices::robust::acquire::Acquire;
+use steps::indices::robust::acquire::{Acquire, AcquireStage};
 use steps::indices::robust::find::Find;
 use steps::indices::robust::looks::{BorrowedIndices, IsLocked};
+use steps::indices::robust::parts::Count;
 use steps::indices::robust::recover::Recover;
 use steps::indices::robust::release::Release;
 
@@ -17,6 +18,11 @@ impl Drives<View, Acquire> for Acquires {
     ghost at = { λ given. At AcquireStands };
 
     ghost ends = { λ given. AcquireEnds };
+
+    #[inline(always)]
+    fn repeats(call: Acquire) -> bool {
+        matches!(call.stage, AcquireStage::FillsCell { .. })
+    }
 }
 
 /// Giving an index back.
@@ -61,6 +67,11 @@ impl Drives<View, BorrowedIndices> for Counts {
     ghost at = { λ given. At BorrowedStands };
 
     ghost ends = { λ given. BorrowedEnds };
+
+    #[inline(always)]
+    fn repeats(call: BorrowedIndices) -> bool {
+        matches!(call.count, Count::LoadsCell { .. })
+    }
 }
 
 /// Looking at the lock.

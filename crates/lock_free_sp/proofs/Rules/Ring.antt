@@ -5,6 +5,8 @@ pub mod Roles
 pub mod Pushes
 pub mod Pops
 pub mod Lengths
+pub mod Reads
+pub mod Closes
 pub mod Overflows
 pub mod Publishes
 pub mod Comings

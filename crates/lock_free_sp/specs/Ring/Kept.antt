@@ -30,6 +30,24 @@ pub record Book (T : Type 0) : Type 0 where
   pub producer : ℕ
   pub consumer : ℕ
 
+-- the seat has the producer's role
+abbrev pub HasRole : PushStage → Type 0
+HasRole pushing.Away = ⊥
+HasRole pushing.Ready = Unit {0}
+HasRole (pushing.SawWrite p) = Unit {0}
+HasRole (pushing.Storing p r ws) = Unit {0}
+HasRole (pushing.Full r) = Unit {0}
+HasRole (pushing.HandsBack r ws) = Unit {0}
+
+module _ {T : Type 0} where
+  abbrev pub IsPusher : View T → Type 0
+  IsPusher v = (0 < v.share.part) × HasRole v.push
+
+  -- some seat with a share has the producer's role
+  abbrev pub IsPushed : List (View T) → Type 0
+  IsPushed views =
+      (j : ℕ) × (v : View T) × (get_elem? views j ≡ some v) × IsPusher v
+
 abbrev pub face : ℕ → ℕ → List ℕ → Face
 face cells n words =
     record {
@@ -81,6 +99,10 @@ module _ {T : Type 0} (words_of : T → List ℕ) (spare capacity : ℕ) (f : Fa
   KnowsLen (lengths.SawWrite w) = w ≤ f.write
   KnowsLen (lengths.SawBoth w r) =
       (stood : ℕ) × (w ≤ stood) × (stood ≤ f.write) × (r ≤ stood) × (stood ≤ r + capacity + spare)
+  KnowsLen (lengths.Reading w n ws) =
+      (w ≤ f.write)
+      × ((p i : ℕ) → f.read ≤ p → p < w → i < n → place (capacity + spare) n p i < length ws
+      → slice_index ws (place (capacity + spare) n p i) ≡ slice_index (words_of (b.log p)) i)
 
   abbrev pub IsPublished : ℕ × T → Type 0
   IsPublished x = (x.0 < f.write) × (b.log x.0 ≡ x.1) × (b.publisher x.0 ≡ seat)
@@ -130,5 +152,7 @@ module _ {T : Type 0} (words_of : T → List ℕ) (n : ℕ) (spare capacity : �
         → Knows words_of spare capacity (face (capacity + spare) n s.words) book j v
     pub shares : Shares (λ v. v.share) s.views
     pub history : History (face (capacity + spare) n s.words) book s.views
+    -- one value more than the capacity waits only while a seat that did not give its share away pushes
+    pub over : slice_index s.words 1 + capacity < slice_index s.words 0 → IsPushed s.views
     pub bare : (j : ℕ) (v : View T) → get_elem? s.views j ≡ some v → v.share.part ≡ 0
         → v.capacity ≡ 2 ^ 32

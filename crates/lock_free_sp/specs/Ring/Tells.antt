@@ -1,11 +1,12 @@
 -- What each step tells its seat: of the view before, the number found (at a
 -- store, the number stored) and the view after.
-use Rattle.std.specs.Prelude.{◌≡◌, ◌≢◌, ℕ, ◌+◌, ◌-◌, ◌*◌, ◌%◌, ◌^◌, ◌<◌, ◌≤◌, Some, List, [], ◌∷◌, ◌++◌, All, slice_index}
+use Rattle.std.specs.Prelude.{◌≡◌, ◌≢◌, ℕ, ◌+◌, ◌-◌, ◌*◌, ◌%◌, ◌^◌, ◌<◌, ◌≤◌, Some, List, [], ◌∷◌, ◌++◌, length, All, slice_index}
 use Rattle.atomic_table.specs.Table.{Me, Step}
 use Rattle.lock_free_sp.specs.declared.ring.view.PushStage.{PushStage}
 use Rattle.lock_free_sp.specs.declared.ring.view.PushStage.TheVariants as pushing
 use Rattle.lock_free_sp.specs.declared.ring.view.PopStage.TheVariants as popping
 use Rattle.lock_free_sp.specs.declared.ring.view.View.{View}
+use Rattle.lock_free_sp.specs.declared.ring.view.LenStage.{LenStage}
 use Rattle.lock_free_sp.specs.declared.ring.view.LenStage.TheVariants as lengths
 use Rattle.lock_free_sp.specs.Ring.Views.{IsWhole, with_push, with_pop, with_len, with_producer, without_producer, with_consumer, without_consumer, pushed, popped, handed_back}
 use Rattle.lock_free_sp.specs.Ring.Between.{Below, Sound, InOrder, Complete, Emptied}
@@ -22,6 +23,13 @@ with_word x (pushing.SawWrite p) = pushing.SawWrite p
 with_word x (pushing.Storing p r ws) = pushing.Storing p r (ws ++ x ∷ [])
 with_word x (pushing.Full r) = pushing.Full r
 with_word x (pushing.HandsBack r ws) = pushing.HandsBack r ws
+
+-- one word more is read
+abbrev pub with_next : ℕ → LenStage → LenStage
+with_next x lengths.Idle = lengths.Idle
+with_next x (lengths.SawWrite w) = lengths.SawWrite w
+with_next x (lengths.SawBoth w r) = lengths.SawBoth w r
+with_next x (lengths.Reading w n ws) = lengths.Reading w n (ws ++ x ∷ [])
 
 module _ {T : Type 0} where
   -- no slot is out with the seat that was not
@@ -120,6 +128,33 @@ module _ {T : Type 0} where
   len_saw_again spare v n w =
       (p r : ℕ) → v.len ≡ lengths.SawBoth p r
       → (w ≡ with_len lengths.Idle v) × (n ≡ p → (r ≤ p) × (p ≤ r + v.capacity + spare))
+
+  -- the write position, with which the words begin
+  abbrev pub reading_write : ℕ → View T → ℕ → View T → Type 0
+  reading_write size v n w =
+      (w ≡ with_len (lengths.Reading n size (n ∷ 0 ∷ 1 ∷ 1 ∷ [])) v)
+      × (n < 2 ^ 64) × (v.capacity < 2 ^ 32)
+      × All (λ (x : ℕ × T). x.0 < n) v.published
+      × (IsWhole v → (c : Complete v) × (c.write ≡ n))
+
+  abbrev pub reading_word : View T → ℕ → View T → Type 0
+  reading_word v n w = w ≡ with_len (with_next n v.len) v
+
+  -- of the write position p, the words ws, and the read position n, which is the last that is read
+  pub record HasRead (words : T → List ℕ) (spare : ℕ) (v : View T) (n p size : ℕ) (ws : List ℕ) : Type 0 where
+    pub small : n < 2 ^ 64
+    pub taken : All (λ (x : ℕ × T). x.0 < n) v.taken
+    pub published : All (λ (x : ℕ × T). n ≤ x.0 → x.0 < p → (i : ℕ) → i < size
+        → place (v.capacity + spare) size x.0 i < length ws
+        → slice_index ws (place (v.capacity + spare) size x.0 i) ≡ slice_index (words x.1) i) v.published
+    pub whole : IsWhole v → (c : Complete v) × (c.read ≡ n)
+    pub resting : IsWhole v → v.push ≡ pushing.Away → p ≤ n + v.capacity
+
+  abbrev pub reading_read : (T → List ℕ) → ℕ → View T → ℕ → View T → Type 0
+  reading_read words spare v n w =
+      (w.capacity ≡ v.capacity)
+      × ((p size : ℕ) (ws : List ℕ) → v.len ≡ lengths.Reading p size ws
+      → HasRead words spare v n p size ws)
 
   abbrev pub learned : ℕ → View T → ℕ → View T → Type 0
   learned spare v n w =

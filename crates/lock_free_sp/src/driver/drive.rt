@@ -145,6 +145,10 @@ impl<V, K, Q: Rule<V, K>> Seated<V, K, Q> {
             After::GoOn(next) => next,
             After::Done(end) => return end,
         };
+        let call = match self.once::<Brand, C, D>(call, given, room) {
+            After::GoOn(next) => next,
+            After::Done(end) => return end,
+        };
         let mut call = call;
         loop {
             match self.once::<Brand, C, D>(call, given, room) {
@@ -184,11 +188,24 @@ impl<V, K, Q: Rule<V, K>> Seated<V, K, Q> {
             After::GoOn(next) => next,
             After::Done(end) => return end,
         };
+        let call = match self.once::<Brand, C, D>(call, given, room) {
+            After::GoOn(next) => next,
+            After::Done(end) => return end,
+        };
         let mut call = call;
-        for _ in rt.forever() {
+        'steps: for _ in rt.forever() {
             match self.once::<Brand, C, D>(call, given, room) {
                 After::GoOn(next) => call = next,
                 After::Done(end) => return end,
+            }
+            'alike: for _ in rt.forever() {
+                if !D::repeats(call) {
+                    break;
+                }
+                match self.once::<Brand, C, D>(call, given, room) {
+                    After::GoOn(next) => call = next,
+                    After::Done(end) => return end,
+                }
             }
         }
         unreachable!()

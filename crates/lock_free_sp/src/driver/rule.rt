@@ -22,6 +22,13 @@ pub trait Drives<V, C: Routine> {
     ghost at: { C.Given → V → V → C → C.Room → Type 0 };
 
     ghost ends: { C.Given → V → C.End → C.Room → V → Type 0 };
+
+    /// Whether the call is at a stage that comes many times in a row, as that of a scan. A driver has a loop of its own
+    /// for such steps, so that a compiler knows the stage there. Nothing else hangs on the answer.
+    #[inline(always)]
+    fn repeats(_call: C) -> bool {
+        false
+    }
 }
 
 /// What one step tells, picked where the step is taken.

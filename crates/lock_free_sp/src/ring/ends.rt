@@ -14,6 +14,7 @@ use std::sync::Arc;
 use steps::words::Words;
 
 mod acquire;
+mod close;
 mod fixed;
 mod lengths;
 mod make;
@@ -24,6 +25,7 @@ mod passes;
 pub struct Ring<E: Spare, T: Words, Q: TableRule<(), View<T>, Origin>> {
     table: Arc<Table<(), View<T>, Origin, Q, Global>, Global>,
     capacity: u32,
+    alloc: Global,
     of: PhantomData<E>,
     ghost sized: { (arc_value table).shared.table_id.words ≡ T.WORDS * (capacity + E.SPARE) + 4 },
 }

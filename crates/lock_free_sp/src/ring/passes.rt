@@ -1,5 +1,6 @@
 //! How tokens are made of one another.
 ghost use Rattle.std.specs.Prelude.{◌≡◌, IfSome, IfNone};
+ghost use Rattle.lock_free_sp.specs.declared.ring.view.PushStage.TheVariants as pushing;
 ghost use Rattle.lock_free_sp.specs.Ring.Views.{halved, half, joined, IsWhole};
 ghost use Rattle.lock_free_sp.specs.Ring.Between.{Sound, Ruled, InOrder, Complete};
 ghost use Rattle.lock_free_sp.specs.Ring.Calls.{seen, table_of, IsSame};
@@ -38,6 +39,7 @@ impl<E: Spare, T: Words> Held<E, T, RingRule<E, T>> {
     /// Takes in what the other token knows.
     pub fn join(&mut self, other: Token<E, T>)
         requires table { table_of other ≡ table_of self.old }
+        requires idle { (seen other).push ≡ pushing.Away }
         ensures same { IsSame self.old self.new }
         ensures both { seen self.new ≡ joined (seen self.old) (seen other) }
         ensures rule { Ruled (seen self.old) (seen other) }

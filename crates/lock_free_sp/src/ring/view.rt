@@ -34,7 +34,7 @@ pub enum PopStage<T> {
     Copied(u64, LinkedList<u64>),
 }
 
-/// Where a seat's look at the length stands.
+/// Where a seat's look at the length stands, or at all words.
 pub enum LenStage {
     /// None is under way.
     Idle,
@@ -42,6 +42,8 @@ pub enum LenStage {
     SawWrite(u64),
     /// It has loaded the write position and then the read position.
     SawBoth(u64, u64),
+    /// It reads all words, of values of so many words: it has loaded this write position first, and has these words.
+    Reading(u64, u64, LinkedList<u64>),
 }
 
 /// What a seat knows.

@@ -12,8 +12,8 @@ use Rattle.steps.specs.declared.indices.enums.UniqueIndexSetAcquireFailure.TheVa
 pub record Owners : Type 0 where
   -- of each index, whose it is, if anyone's
   pub owners : List (Option ℕ)
-  -- Goes up with each change, and with each count. From its end it goes up no more; the number behind
-  -- that says that the set is locked.
+  -- Goes up with each change, and with each count. From its end it goes up no more; the number after it
+  -- says that the set is locked.
   pub generation : ℕ
 
 -- an index with its owner

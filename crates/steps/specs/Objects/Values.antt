@@ -1,7 +1,7 @@
 -- The single value that a value with versions is.
 use Rattle.std.specs.Prelude.{ℕ, ◌+◌, ◌-◌, ◌^◌, ◌==◌, Bool, not, if◌then◌else◌}
 
--- A value, and how many values there have been. The greatest number of 64 bits is the last version.
+-- A value and its version, which is one more with each store. The greatest number of 64 bits is the last version.
 pub record Versioned (V : Type 0) : Type 0 where
   pub value : V
   pub version : ℕ

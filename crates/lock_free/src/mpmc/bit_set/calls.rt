@@ -41,6 +41,9 @@ fn visit_word<F: FnMut(usize)>(mut visit: F, found: u64, first: u64) -> F
         → Visited (λ p x q. F.step p x tt q) found first visit n now → F.pre now (first + n) }
     ensures { Visited (λ p x q. F.step p x tt q) found first visit 64 result }
 {
+    if found == 0 {
+        return visit;
+    }
     for bit in 0..64u64 {
         let place = first + bit;
         visit = call_where(visit, has_flag(found, place), place);

@@ -5,7 +5,7 @@ ghost use Rattle.model.specs.declared.turn.Kind.TheVariants as kinds;
 use atomic_table::Play;
 use history::view::View;
 use lock_free_sp::driver::rule::Drives;
-use steps::bits::bit_set::{ResetNext, Set};
+use steps::bits::bit_set::{ResetNext, ResetNextStage, Set};
 use steps::bits::reset_all::ResetAll;
 
 /// Setting a place.
@@ -30,6 +30,11 @@ impl Drives<View<u64>, ResetNext> for ResetsNext {
     ghost at = { λ given. At one_word kinds.Bits resets_next };
 
     ghost ends = { λ given. Ends one_word kinds.Bits resets_next };
+
+    #[inline(always)]
+    fn repeats(call: ResetNext) -> bool {
+        matches!(call.stage, ResetNextStage::LoadsElement { .. })
+    }
 }
 
 /// Emptying the flags.

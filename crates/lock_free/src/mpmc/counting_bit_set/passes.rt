@@ -1,5 +1,5 @@
 //! How passes are made of one another.
-ghost use Rattle.std.specs.Prelude.{◌≡◌, ◌⊎◌, ◌++◌, [], None, IfSome};
+ghost use Rattle.std.specs.Prelude.{◌≡◌, ◌⊎◌, ◌++◌, [], None, IfSome, IfNone};
 ghost use Rattle.history.specs.History.{IsBeginning};
 ghost use Rattle.lock_free_sp.specs.Shares.{half_of, both_of, IsAll};
 ghost use Rattle.lock_free.specs.Counts.Calls.{set_of, history, made, party, share, HasHistory, MissesNothing};
@@ -11,8 +11,8 @@ use lock_free_sp::driver::seated::Seated;
 use std::sync::Arc;
 
 impl Pass {
-    /// A new pass of the same set, which has seen the same and made nothing. None where no further pass can be counted
-    /// (no clause says when). This project's own.
+    /// A new pass of the same set, which has seen the same and made nothing. None, and nothing changes, where no further
+    /// pass can be counted (no clause says when). This project's own.
     pub fn split(&mut self) -> Option<Pass>
         ensures set { set_of self.new ≡ set_of self.old }
         ensures seen { history self.new ≡ history self.old }
@@ -23,6 +23,7 @@ impl Pass {
         ensures new_made { IfSome result (λ p. made p ≡ []) }
         ensures new_party { IfSome result (λ p. party p ≡ None) }
         ensures halves { IfSome result (λ p. (share self.new ≡ half_of (share self.old)) × (share p ≡ half_of (share self.old))) }
+        ensures none { IfNone result (share self.new ≡ share self.old) }
     {
         let seated = &mut self.seated;
         let Ok(table) = Arc::try_clone(&seated.table) else {

@@ -20,6 +20,7 @@ use steps::routine::Routine;
 
 impl Pass {
     /// Takes one step of the call: it loads a cell.
+    #[inline(always)]
     fn step_find(&mut self, call: Find, owner: OwnerId) -> After<Find, usize>
         requires { FindStands (view self.old) call }
         ensures set { set_of self.new ≡ set_of self.old }
@@ -30,6 +31,7 @@ impl Pass {
     }
 
     /// Takes one step of the call, or asks the closure about the index that it has come to. Hands the closure back.
+    #[inline(always)]
     fn find_next<F: FnMut(usize) -> CallbackProgression>(
         &mut self,
         call: Find,
@@ -80,6 +82,7 @@ impl Pass {
     }
 
     /// Takes one step of the call on the table.
+    #[inline(always)]
     fn step_recover(&mut self, call: Recover, mode: ReleaseMode) -> After<Recover, ReleaseState>
         requires { RecoverStands (view self.old) call }
         ensures set { set_of self.new ≡ set_of self.old }
@@ -91,6 +94,7 @@ impl Pass {
 
     /// Takes one step of the call, or asks the first closure about the owner and the index that it has come to. After the
     /// step that frees an index it tells the second closure. Hands both back.
+    #[inline(always)]
     fn recover_next<F: FnMut(OwnerId, usize) -> bool, S: FnMut(OwnerId, usize)>(
         &mut self,
         call: Recover,
@@ -162,6 +166,7 @@ impl Pass {
 }
 
 /// Whether a step has emptied the cell that it came to.
+#[inline(always)]
 fn has_freed(after: After<Recover, ReleaseState>) -> bool
     ensures { result ≡ has_freed after }
 {
@@ -178,6 +183,7 @@ fn has_freed(after: After<Recover, ReleaseState>) -> bool
 }
 
 /// Asks the closure about the owner and the index, and hands the closure back.
+#[inline(always)]
 fn ask<F: FnMut(OwnerId, usize) -> bool>(mut predicate: F, owner: OwnerId, index: u32) -> (bool, F)
     requires { F.pre predicate owner index }
     ensures { F.step predicate owner index result.0 result.1 }
@@ -187,6 +193,7 @@ fn ask<F: FnMut(OwnerId, usize) -> bool>(mut predicate: F, owner: OwnerId, index
 }
 
 /// Calls the closure with the owner and the index where it was freed, and hands the closure back.
+#[inline(always)]
 fn tell_where<S: FnMut(OwnerId, usize)>(
     mut recovered: S,
     freed: bool,

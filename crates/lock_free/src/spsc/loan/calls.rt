@@ -56,8 +56,8 @@ impl<'a> LoanSender<'a> {
     }
 
     /// Takes an index that was Free: it is Loaned. Refused as `acquire_raw_index` of the set: `OutOfIndices` or
-    /// `IsLocked`, and the table stays. Four atomic steps where nobody else steps in between; else it may try again for
-    /// as long as others step.
+    /// `IsLocked`, and the table stays. Four atomic steps where nobody else steps in between and no release has fallen
+    /// back to a subtraction; else it may try again for as long as others step.
     pub fn loan(&mut self, rt: &impl Wait) -> Result<u32, UniqueIndexSetAcquireFailure>
         ensures loaned { IfOk result (λ i. (place_at (places_of self.old) i ≡ Free)
             × (places_of self.new ≡ slice_set (places_of self.old) i Loaned)) }

@@ -3,15 +3,15 @@ use Rattle.std.proofs.Common.{◌≡◌, ◌≢◌, ℕ, ◌+◌, ◌*◌, ◌^�
 use Rattle.std.specs.List.{All, AllPairs}
 use Rattle.std.proofs.lemmas.List.Elements.{All-nil, All-append, All-weaker}
 use Rattle.atomic_table.specs.Table.{opening, Splits, Joins}
-use Rattle.atomic_table.proofs.Lists.{at_set, at_snoc}
+use Rattle.atomic_table.proofs.Lists.{at_set, at_snoc, at_longer}
 use Rattle.lock_free_sp.specs.declared.ring.view.View.{View}
 use Rattle.lock_free_sp.specs.Ring.Views.{blank, opened, halved, half, spent, joined}
 use Rattle.lock_free_sp.specs.Ring.Between.{Sound, Ruled, InOrder}
-use Rattle.lock_free_sp.specs.Ring.Kept.{Face, Book, Kept, KnowsPush, KnowsPop, KnowsLen, Knows, IsPublished, IsTaken, face}
-use Rattle.lock_free_sp.proofs.Shares.{given, given_over, given_not, positive, every, every_more, every_joined, alone, shares_alone, shares_split, shares_join, recorded_alone}
+use Rattle.lock_free_sp.specs.Ring.Kept.{Face, Book, Kept, KnowsPush, KnowsPop, KnowsLen, Knows, IsPublished, IsTaken, HasRole, IsPusher, IsPushed, face}
+use Rattle.lock_free_sp.proofs.Shares.{moved, given, given_over, given_not, positive, every, every_more, every_joined, alone, shares_alone, shares_split, shares_join, recorded_alone}
 use Rattle.lock_free_sp.proofs.Rules.Ring.Lists.{all_left, all_right, pairs_append, pairs_across}
 use Rattle.lock_free_sp.proofs.Rules.Ring.Histories.{history_split, history_join}
-use Rattle.lock_free_sp.proofs.Rules.Ring.Stays.{Onwards, Passes, stays, shared, St}
+use Rattle.lock_free_sp.proofs.Rules.Ring.Stays.{Onwards, Passes, stays, shared, still_pushed, St}
 use Rattle.lock_free_sp.proofs.Rules.Ring.Roles.{none_some}
 use mathlib.Core.Option.{some}
 use lib.ListN.{get_elem?}
@@ -78,6 +78,7 @@ module _ {T : Type 0} (words_of : T → List ℕ) (n : ℕ) (spare capacity : �
           published = recorded_alone (λ u. u.share) (λ u. u.published) position f.write (λ p. 0) first refl (omega arith);
           taken = recorded_alone (λ u. u.share) (λ u. u.taken) position f.read (λ p. 0) first refl (omega arith);
         };
+        over = λ more. absurd (omega arith);
         bare = alone (λ j v. v.share.part ≡ 0 → v.capacity ≡ 2 ^ 32) first (λ none. absurd (omega arith));
       }
 
@@ -111,12 +112,15 @@ module _ {T : Type 0} (words_of : T → List ℕ) (n : ℕ) (spare capacity : �
             (at_snoc (set s.views id (halved v)) (half v) u j e);
         shares = shares_split (λ u. u.share) s.views id v (halved v) (half v) at refl refl r.shares;
         history = history_split f r.book s.views id v at r.history;
+        over = λ more.
+            let h = still_pushed words_of n spare capacity s id v (halved v) at (λ p. p) (r.over more) in
+            (h.0, h.1, at_longer (set s.views id (halved v)) (half v ∷ []) h.0 h.1 h.2, h.3);
         bare = every_more (λ u. u.share.part ≡ 0 → u.capacity ≡ 2 ^ 32) (set s.views id (halved v)) (half v) (every (λ j u. u.share.part ≡ 0 → u.capacity ≡ 2 ^ 32) s.views id (halved v) (λ j u ne e. r.bare j u e) (λ none. r.bare id v at none)) (λ none. absurd (omega arith));
       }
 
   -- a seat takes in what another knows, which is spent
-  pub joins : (id other : ℕ) (v w : View T) → v.capacity ≡ capacity → Joins H id v other w (joined v w) spent
-  joins id other v w cap s r at apart at' =
+  pub joins : (id other : ℕ) (v w : View T) → v.capacity ≡ capacity → (HasRole w.push → ⊥) → Joins H id v other w (joined v w) spent
+  joins id other v w cap none s r at apart at' =
       let f = face (capacity + spare) n s.words in
       let b = r.book in
       let c : Book T = record b { publisher = given b.publisher other id; taker = given b.taker other id } in
@@ -163,6 +167,11 @@ module _ {T : Type 0} (words_of : T → List ℕ) (n : ℕ) (spare capacity : �
             (at_set (set s.views id (joined v w)) other j spent u e);
         shares = shares_join (λ u. u.share) s.views id other v w (joined v w) spent at apart was refl refl r.shares;
         history = history_join f b s.views id other v w at apart was any r.shares r.history;
+        over = λ more.
+            let both : IsPushed (set s.views id (joined v w)) = still_pushed words_of n spare capacity s id v (joined v w) at
+            (λ p. (let h = positive v.share.part w.share.parts p.0 (r.shares.fits other w was).0 in omega arith, p.1)) (r.over more) in
+            let t = moved IsPusher (set s.views id (joined v w)) other w spent at' (λ p. absurd (none p.1)) both.0 (both.1, both.2, both.3) in
+            (both.0, t.0, t.1, t.2);
         bare = every_joined (λ u. u.share.part ≡ 0 → u.capacity ≡ 2 ^ 32) s.views id other (joined v w) spent r.bare
             (λ none. absurd (no_part v.share.part w.share.part w.share.parts v.share.parts any (r.shares.fits other w was).0 none)) (λ _. refl);
       }

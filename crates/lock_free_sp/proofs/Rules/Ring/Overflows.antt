@@ -54,7 +54,7 @@ module _ {T : Type 0} (words_of : T → List ℕ) (n : ℕ) (spare capacity : �
         next,
         keeps,
         tt,
-        looks words_of n spare capacity s r 1 id m.1 v next at (refl, refl, refl, refl, refl) (knows_push words_of spare capacity f r.book id v k stage (mine.0, write, mine.2, le_refl found, room, λ i lt. absurd (omega arith))),
+        looks words_of n spare capacity s r 1 id m.1 v next at (refl, refl, refl, refl, refl) (λ _. tt) (knows_push words_of spare capacity f r.book id v k stage (mine.0, write, mine.2, le_refl found, room, λ i lt. absurd (omega arith))),
         ((λ q e. subst (SawFront v found next) (ap pushes.position (sym is ∙ e)) told), refl),
       )
 
@@ -66,7 +66,7 @@ module _ {T : Type 0} (words_of : T → List ℕ) (n : ℕ) (spare capacity : �
       let k = r.seats id v at in
       let mine = subst (KnowsPop words_of spare capacity f r.book id) ready k.pop in
       let stage : PopStage T = popping.SawRead found in
-      (with_pop stage v, keeps, tt, looks words_of n spare capacity s r 1 id m.1 v (with_pop stage v) at (refl, refl, refl, refl, refl) (knows_pop words_of spare capacity f r.book id v k stage (mine, le_refl found, (λ past. absurd (omega arith)), λ exact. absurd (omega arith))), (refl, refl))
+      (with_pop stage v, keeps, tt, looks words_of n spare capacity s r 1 id m.1 v (with_pop stage v) at (refl, refl, refl, refl, refl) (λ h. h) (knows_pop words_of spare capacity f r.book id v k stage (mine, le_refl found, (λ past. absurd (omega arith)), λ exact. absurd (omega arith))), (refl, refl))
 
   -- a pop's load of the write position
   pub sees_some : (p : ℕ) → v.pop ≡ popping.SawRead p → v.capacity ≡ capacity → Allows H slots id m 0 (λ x. x) (tells saw_some (step slots 0 0 0 none) m)
@@ -82,7 +82,7 @@ module _ {T : Type 0} (words_of : T → List ℕ) (n : ℕ) (spare capacity : �
         with_pop popping.Ready v,
         keeps,
         tt,
-        looks words_of n spare capacity s r 0 id m.1 v (with_pop popping.Ready v) at (refl, refl, refl, refl, refl) (knows_pop words_of spare capacity f r.book id v k popping.Ready mine.0),
+        looks words_of n spare capacity s r 0 id m.1 v (with_pop popping.Ready v) at (refl, refl, refl, refl, refl) (λ h. h) (knows_pop words_of spare capacity f r.book id v k popping.Ready mine.0),
         ((λ q e. let same : p ≡ q = ap pops.position (sym is ∙ e) in ((λ ne. absurd (ne (sym same ∙ empty))), λ _. (refl, λ is. let t = completes words_of n spare capacity s r id v at cap is in emptied v t.0 (t.1 ∙ (sym empty ∙ (front ∙ sym t.2)))))), refl),
       ))
       (λ ne.
@@ -91,7 +91,7 @@ module _ {T : Type 0} (words_of : T → List ℕ) (n : ℕ) (spare capacity : �
         with_pop stage v,
         keeps,
         tt,
-        looks words_of n spare capacity s r 0 id m.1 v (with_pop stage v) at (refl, refl, refl, refl, refl) (knows_pop words_of spare capacity f r.book id v k stage (mine.0, low, waits)),
+        looks words_of n spare capacity s r 0 id m.1 v (with_pop stage v) at (refl, refl, refl, refl, refl) (λ h. h) (knows_pop words_of spare capacity f r.book id v k stage (mine.0, low, waits)),
         ((λ q e. let same : p ≡ q = ap pops.position (sym is ∙ e) in ((λ _. (ap (λ z. with_pop (popping.SawSome z) v) same, (let end = r.fits.small in omega arith))), λ empty. absurd (ne (same ∙ empty)))), refl),
       ))
 
@@ -110,7 +110,7 @@ module _ {T : Type 0} (words_of : T → List ℕ) (n : ℕ) (spare capacity : �
         with_pop stage v,
         keeps,
         tt,
-        looks words_of n spare capacity s r word id m.1 v (with_pop stage v) at (refl, refl, refl, refl, refl) (knows_pop words_of spare capacity f r.book id v k stage (mine.0, mine.1, mine.2, value)),
+        looks words_of n spare capacity s r word id m.1 v (with_pop stage v) at (refl, refl, refl, refl, refl) (λ h. h) (knows_pop words_of spare capacity f r.book id v k stage (mine.0, mine.1, mine.2, value)),
         ((λ q e. ap (λ z. with_pop (popping.Copied z (found ∷ [])) v) (ap pops.position (sym is ∙ e))), refl),
       )
 
@@ -123,7 +123,7 @@ module _ {T : Type 0} (words_of : T → List ℕ) (n : ℕ) (spare capacity : �
         with_push pushing.Ready v,
         keeps,
         tt,
-        looks words_of n spare capacity s r word id m.1 v (with_push pushing.Ready v) at (refl, refl, refl, refl, refl) (knows_push words_of spare capacity f r.book id v k pushing.Ready (mine.0, mine.1)),
+        looks words_of n spare capacity s r word id m.1 v (with_push pushing.Ready v) at (refl, refl, refl, refl, refl) (λ _. tt) (knows_push words_of spare capacity f r.book id v k pushing.Ready (mine.0, mine.1)),
         (
           (refl, λ q xs e. ap (λ z. get_or s.words z 0) there ∙ (mine.2 0 one ∙ ap (λ zs. get_or zs 0 0) (ap pushes.words_so_far (sym is ∙ e)))),
           refl,
@@ -218,7 +218,7 @@ module _ {T : Type 0} (words_of : T → List ℕ) (n : ℕ) (spare capacity : �
             with_push pushing.Ready v,
             keeps,
             tt,
-            looks words_of n spare capacity s r 1 id m.1 v (with_push pushing.Ready v) at (refl, refl, refl, refl, refl) (knows_push words_of spare capacity f r.book id v (r.seats id v at) pushing.Ready (mine.0, few)),
+            looks words_of n spare capacity s r 1 id m.1 v (with_push pushing.Ready v) at (refl, refl, refl, refl, refl) (λ _. tt) (knows_push words_of spare capacity f r.book id v (r.seats id v at) pushing.Ready (mine.0, few)),
             ((λ q e. let same : r₀ ≡ q = ap pushes.read_before (sym is ∙ e) in record { size = refl; taken = λ hit. absurd (ne (hit ∙ sym same)); moved = λ _. refl }), refl),
           )
 
@@ -262,7 +262,8 @@ module _ {T : Type 0} (words_of : T → List ℕ) (n : ℕ) (spare capacity : �
             tt,
             steps words_of n spare capacity s r (set s.words 1 (r₀ + 1)) id next c' (length-set s.words 1 (r₀ + 1)) fits' knows
                 (λ j ne. record { onwards = on j; push = λ h. absurd (ne (h.1 ∙ sym mine.0.1)); pop = pop j })
-                v at refl refl (history_takes f' g' r.book c' s.views id v next at refl refl (shared words_of n spare capacity s r id v at cap) r₀ x refl refl here up same (put_same r.book.taker r₀ id) (put_other r.book.taker r₀ id) (λ q. refl) r.history),
+                v at refl refl (history_takes f' g' r.book c' s.views id v next at refl refl (shared words_of n spare capacity s r id v at cap) r₀ x refl refl here up same (put_same r.book.taker r₀ id) (put_other r.book.taker r₀ id) (λ q. refl) r.history)
+                (λ (more : g'.read + capacity < g'.write). absurd (omega arith)),
             ((λ q e. subst (TookBack words_of v (get_or s.words 1 0) next) (ap pushes.read_before (sym is ∙ e)) told), refl),
           )
 
@@ -285,7 +286,7 @@ module _ {T : Type 0} (words_of : T → List ℕ) (n : ℕ) (spare capacity : �
             with_pop stage v,
             keeps,
             tt,
-            looks words_of n spare capacity s r 1 id m.1 v (with_pop stage v) at (refl, refl, refl, refl, refl) (knows_pop words_of spare capacity f' r.book id v (r.seats id v at) stage (mine.0, le_refl found, mine.2)),
+            looks words_of n spare capacity s r 1 id m.1 v (with_pop stage v) at (refl, refl, refl, refl, refl) (λ h. h) (knows_pop words_of spare capacity f' r.book id v (r.seats id v at) stage (mine.0, le_refl found, mine.2)),
             ((λ q w e. let same : p ≡ q = ap pops.position (sym is ∙ e) in record { size = refl; taken = λ hit. absurd (ne (hit ∙ sym same)); moved = λ _. (refl, below) }), refl),
           )
 
@@ -327,6 +328,7 @@ module _ {T : Type 0} (words_of : T → List ℕ) (n : ℕ) (spare capacity : �
             tt,
             steps words_of n spare capacity s r (set s.words 1 (p + 1)) id next c' (length-set s.words 1 (p + 1)) fits' knows
                 (λ j ne. record { onwards = on j; push = leaves j; pop = λ h. absurd (ne (h.1 ∙ sym mine.0.1)) })
-                v at refl refl (history_takes f' g' r.book c' s.views id v next at refl refl (shared words_of n spare capacity s r id v at cap) p x refl refl here up (now₀ s r at p here waits next) (put_same r.book.taker p id) (put_other r.book.taker p id) (λ q. refl) r.history),
+                v at refl refl (history_takes f' g' r.book c' s.views id v next at refl refl (shared words_of n spare capacity s r id v at cap) p x refl refl here up (now₀ s r at p here waits next) (put_same r.book.taker p id) (put_other r.book.taker p id) (λ q. refl) r.history)
+                (λ (more : g'.read + capacity < g'.write). let most = r.fits.within in let still = now₀ s r at p here waits next in absurd (omega arith)),
             ((λ q w e. subst (λ (z : ℕ × ℕ). TookFront words_of v (get_or s.words 1 0) next z.0 z.1) (λ i. (ap pops.position (sym is ∙ e) i, ap (λ z. get_or (pops.words_copied z) 0 0) (sym is ∙ e) i)) told), refl),
           )

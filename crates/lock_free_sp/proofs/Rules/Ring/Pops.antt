@@ -57,7 +57,7 @@ module _ {T : Type 0} (words_of : T → List ℕ) (n : ℕ) (spare capacity : �
       let k = r.seats id v at in
       let mine = subst (KnowsPop words_of spare capacity f r.book id) ready k.pop in
       let stage : PopStage T = popping.SawRead found in
-      (with_pop stage v, keeps, tt, looks words_of n spare capacity s r 1 id m.1 v (with_pop stage v) at (refl, refl, refl, refl, refl) (knows_pop words_of spare capacity f r.book id v k stage (mine, le_refl found, (λ past. absurd (omega arith)), λ _. refl)), ((refl, λ q e. (k.last_pop q e).2 exact), refl))
+      (with_pop stage v, keeps, tt, looks words_of n spare capacity s r 1 id m.1 v (with_pop stage v) at (refl, refl, refl, refl, refl) (λ h. h) (knows_pop words_of spare capacity f r.book id v k stage (mine, le_refl found, (λ past. absurd (omega arith)), λ _. refl)), ((refl, λ q e. (k.last_pop q e).2 exact), refl))
 
   -- the load of the write position
   pub sees_value : spare ≡ 0 → (p : ℕ) → v.pop ≡ popping.SawRead p → v.capacity ≡ capacity → Allows H slots id m 0 (λ x. x) (tells saw_value (step slots 0 0 0 none) m)
@@ -76,13 +76,13 @@ module _ {T : Type 0} (words_of : T → List ℕ) (n : ℕ) (spare capacity : �
       (λ empty.
       let next : View T = with_pop popping.Ready v in
       let below : All (λ (x : ℕ × T). x.0 < p) v.published = All-weaker (IsPublished words_of spare capacity f r.book id) (λ x. x.0 < p) (λ x h. let l = h.0 in omega arith) v.published k.published in
-      (next, keeps, tt, looks words_of n spare capacity s r 0 id m.1 v next at (refl, refl, refl, refl, refl) (knows_pop words_of spare capacity f r.book id v k popping.Ready mine.0), (told next (record { behind = low; some = λ ne. absurd (ne empty); none = λ _. (refl, below, λ is. let t = completes words_of n spare capacity s r id v at cap is in emptied v t.0 (t.1 ∙ (sym empty ∙ (sym read ∙ sym t.2)))); within = high }), refl)))
+      (next, keeps, tt, looks words_of n spare capacity s r 0 id m.1 v next at (refl, refl, refl, refl, refl) (λ h. h) (knows_pop words_of spare capacity f r.book id v k popping.Ready mine.0), (told next (record { behind = low; some = λ ne. absurd (ne empty); none = λ _. (refl, below, λ is. let t = completes words_of n spare capacity s r id v at cap is in emptied v t.0 (t.1 ∙ (sym empty ∙ (sym read ∙ sym t.2)))); within = high }), refl)))
       (λ ne.
       let x : T = r.book.log p in
       let stage : PopStage T = popping.SawValue p x in
       let next : View T = with_pop stage v in
       let waits : p < found = omega arith in
-      (next, keeps, tt, looks words_of n spare capacity s r 0 id m.1 v next at (refl, refl, refl, refl, refl) (knows_pop words_of spare capacity f r.book id v k stage (mine.0, exact, read, waits, refl)), (told next (record { behind = low; some = λ _. (x, refl); none = λ e. absurd (ne e); within = high }), refl)))
+      (next, keeps, tt, looks words_of n spare capacity s r 0 id m.1 v next at (refl, refl, refl, refl, refl) (λ h. h) (knows_pop words_of spare capacity f r.book id v k stage (mine.0, exact, read, waits, refl)), (told next (record { behind = low; some = λ _. (x, refl); none = λ e. absurd (ne e); within = high }), refl)))
 
   -- the load of a word of the cell
   pub loads_word : (word p : ℕ) (x : T) → v.pop ≡ popping.SawValue p x → v.capacity ≡ capacity
@@ -96,7 +96,7 @@ module _ {T : Type 0} (words_of : T → List ℕ) (n : ℕ) (spare capacity : �
         v,
         keeps,
         tt,
-        looks words_of n spare capacity s r word id m.1 v v at (refl, refl, refl, refl, refl) k,
+        looks words_of n spare capacity s r word id m.1 v v at (refl, refl, refl, refl, refl) (λ h. h) k,
         (
           (
             refl,
@@ -178,7 +178,8 @@ module _ {T : Type 0} (words_of : T → List ℕ) (n : ℕ) (spare capacity : �
         tt,
         steps words_of n spare capacity s r ws' id next c (length-set s.words 1 (p + 1)) fits knows
             (λ j ne. record { onwards = onwards j; push = push j; pop = λ h. absurd (ne (h.1 ∙ sym mine.0.1)) })
-            v at refl refl (history_takes f g b c s.views id v next at refl refl (shared words_of n spare capacity s r id v at cap) p x refl refl read e₁ e₀ (put_same b.taker p id) (put_other b.taker p id) (λ q. refl) r.history),
+            v at refl refl (history_takes f g b c s.views id v next at refl refl (shared words_of n spare capacity s r id v at cap) p x refl refl read e₁ e₀ (put_same b.taker p id) (put_other b.taker p id) (λ q. refl) r.history)
+            (λ (more : g.read + capacity < g.write). let most = fits.within in absurd (omega arith)),
         (
           (λ q y e. subst (λ (z : ℕ × T). Taken v next z.0 z.1) (λ i. (ap position (sym is ∙ e) i, ap (value_or x) (sym is ∙ e) i)) told),
           refl,

@@ -3,15 +3,16 @@ use Rattle.std.proofs.Common.{◌≡◌, ◌≢◌, ℕ, ◌+◌, ◌<◌, ◌�
 use Rattle.std.specs.List.{All}
 use Rattle.std.proofs.lemmas.List.Elements.{All-push, All-weaker}
 use Rattle.std.proofs.lemmas.List.Quantifiers.{all_pairs_push}
+use Rattle.atomic_table.proofs.Lists.{set_here}
 use Rattle.atomic_table.specs.Table.{State, Me, Act, Valid, Allows, step, stepped, keeps, carried_after}
 use Rattle.lock_free_sp.specs.declared.ring.view.PushStage.{PushStage}
 use Rattle.lock_free_sp.specs.declared.ring.view.PushStage.TheVariants as pushing
 use Rattle.lock_free_sp.specs.declared.ring.view.View.{View}
 use Rattle.lock_free_sp.specs.Ring.Views.{with_push, pushed}
-use Rattle.lock_free_sp.specs.Ring.Kept.{Book, Kept, Fits, KnowsPush, Knows, IsPublished, IsTaken, Produces, face}
+use Rattle.lock_free_sp.specs.Ring.Kept.{Book, Kept, Fits, KnowsPush, Knows, IsPublished, IsTaken, Produces, HasRole, face}
 use Rattle.lock_free_sp.specs.Ring.Tells.{tells, PublishedOver, published_over}
 use Rattle.lock_free_sp.proofs.Rules.Ring.Pushes as pushes
-use Rattle.lock_free_sp.proofs.Shares.{put, put_same, put_other}
+use Rattle.lock_free_sp.proofs.Shares.{put, put_same, put_other, at_below}
 use Rattle.lock_free_sp.proofs.Rules.Ring.Histories.{history_publishes}
 use Rattle.lock_free_sp.proofs.Rules.Ring.Stays.{shared, same_some, Onwards, LeavesPop, pop_stays, len_stays, last_pop_stays, published_stays, taken_stays, sound, St, steps, cells_stay}
 use mathlib.Core.Logic.{dite}
@@ -35,8 +36,8 @@ module _ {T : Type 0} (words_of : T → List ℕ) (n : ℕ) (spare capacity : �
       → Allows H slots id m 0 (λ _. p + 1) (λ _. tells (published_over words_of) (step slots 0 (p + 1) 0 none) m (p + 1))
   publishes_over value_of given_back sized cap p r₀ x is s r wide at small =
       dite (ℕ_discrete p (r₀ + capacity))
-      (λ over. shown (pushing.Full r₀) (λ ne. absurd (ne (over ∙ ap (λ z. r₀ + z) (sym cap)))) (λ _. refl) ((e₂ ∙ mine.0.0, mine.0.1), e₀ ∙ ap (λ z. z + 1) over, low₀'))
-      (λ ne. shown pushing.Ready (λ _. refl) (λ over. absurd (ne (over ∙ ap (λ z. r₀ + z) cap))) ((e₂ ∙ mine.0.0, mine.0.1), few ne))
+      (λ over. shown (pushing.Full r₀) (λ ne. absurd (ne (over ∙ ap (λ z. r₀ + z) (sym cap)))) (λ _. refl) ((e₂ ∙ mine.0.0, mine.0.1), e₀ ∙ ap (λ z. z + 1) over, low₀') tt)
+      (λ ne. shown pushing.Ready (λ _. refl) (λ over. absurd (ne (over ∙ ap (λ z. r₀ + z) cap))) ((e₂ ∙ mine.0.0, mine.0.1), few ne) tt)
     where
       mine : KnowsPush words_of spare capacity (face (capacity + spare) n s.words) r.book id (pushing.Storing p r₀ (words_of x))
       mine = subst (KnowsPush words_of spare capacity (face (capacity + spare) n s.words) r.book id) is (r.seats id v at).push
@@ -58,8 +59,9 @@ module _ {T : Type 0} (words_of : T → List ℕ) (n : ℕ) (spare capacity : �
 
       shown : (stage : PushStage) → (p ≢ r₀ + v.capacity → with_push stage (pushed p x v) ≡ pushed p x v) → (p ≡ r₀ + v.capacity → with_push stage (pushed p x v) ≡ with_push (pushing.Full r₀) (pushed p x v))
           → KnowsPush words_of spare capacity (face (capacity + spare) n (set s.words 0 (p + 1))) (record r.book { log = put r.book.log p x; publisher = put r.book.publisher p id }) id stage
+          → HasRole stage
           → Shows s 0 (tells (published_over words_of) (step slots 0 (p + 1) 0 none) m (p + 1)) (p + 1)
-      shown stage under over know =
+      shown stage under over know role =
           let ws' : List ℕ = set s.words 0 (p + 1) in
           let f = face (capacity + spare) n s.words in
           let g = face (capacity + spare) n ws' in
@@ -128,7 +130,8 @@ module _ {T : Type 0} (words_of : T → List ℕ) (n : ℕ) (spare capacity : �
             tt,
             steps words_of n spare capacity s r ws' id next c (length-set s.words 0 (p + 1)) fits knows
                 (λ j ne. record { onwards = onwards j; push = λ h. absurd (ne (h.1 ∙ sym mine.0.1)); pop = pop j })
-                v at refl refl (history_publishes f g b c s.views id v next at refl refl (shared words_of n spare capacity s r id v at cap) p x refl refl (omega arith) write now₀ now₁ (put_same b.publisher p id) (put_other b.publisher p id) (λ q. refl) r.history),
+                v at refl refl (history_publishes f g b c s.views id v next at refl refl (shared words_of n spare capacity s r id v at cap) p x refl refl (omega arith) write now₀ now₁ (put_same b.publisher p id) (put_other b.publisher p id) (λ q. refl) r.history)
+                (λ more. (id, next, set_here s.views id next (at_below s.views id v at), (shared words_of n spare capacity s r id v at cap, role))),
             (
               (λ q r₁ y e.
                   let same : words_of x ≡ words_of y = ap pushes.words_so_far (sym is ∙ e) in

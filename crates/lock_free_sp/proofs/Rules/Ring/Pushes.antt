@@ -9,12 +9,12 @@ use Rattle.lock_free_sp.specs.declared.ring.view.PushStage.{PushStage}
 use Rattle.lock_free_sp.specs.declared.ring.view.PushStage.TheVariants as pushing
 use Rattle.lock_free_sp.specs.declared.ring.view.View.{View}
 use Rattle.lock_free_sp.specs.Ring.Views.{with_push, pushed}
-use Rattle.lock_free_sp.specs.Ring.Kept.{Book, Kept, Fits, KnowsPush, Knows, IsPublished, IsTaken, Produces, face}
+use Rattle.lock_free_sp.specs.Ring.Kept.{Book, Kept, Fits, KnowsPush, Knows, IsPublished, IsTaken, Produces, HasRole, face}
 use Rattle.lock_free_sp.specs.Ring.Tells.{tells, place, with_word, saw_write, SawRoom, saw_room, stored, Published, published_at}
 use Rattle.lock_free_sp.proofs.Rules.Ring.Lists.{other_place, place_within}
 use Rattle.lock_free_sp.proofs.Shares.{put, put_same, put_other}
 use Rattle.lock_free_sp.proofs.Rules.Ring.Histories.{history_same, history_publishes}
-use Rattle.lock_free_sp.proofs.Rules.Ring.Stays.{shared, same_some, Onwards, LeavesPop, pop_stays, last_pop_stays, len_stays, published_stays, taken_stays, knows_push, sound, in_order, St, steps, looks, cells_stay}
+use Rattle.lock_free_sp.proofs.Rules.Ring.Stays.{shared, same_some, Onwards, LeavesPop, pop_stays, last_pop_stays, len_stays, published_stays, taken_stays, knows_push, sound, in_order, St, steps, still_pushed, looks, cells_stay}
 use mathlib.Core.Logic.{dite}
 use mathlib.Core.Option.{none}
 use native.Mathlib.Decide.{ℕ_discrete}
@@ -58,10 +58,10 @@ module _ {T : Type 0} (words_of : T → List ℕ) (n : ℕ) (spare capacity : �
       let k = r.seats id v at in
       let mine = subst (KnowsPush words_of spare capacity f r.book id) ready k.push in
       dite (ℕ_discrete w (2 ^ 64 - 1))
-      (λ end. (v, keeps, tt, looks words_of n spare capacity s r 0 id m.1 v v at (refl, refl, refl, refl, refl) k, (((λ _. refl), (λ ne. absurd (ne end)), λ q e. (k.last_push q e).1), refl)))
+      (λ end. (v, keeps, tt, looks words_of n spare capacity s r 0 id m.1 v v at (refl, refl, refl, refl, refl) (λ h. h) k, (((λ _. refl), (λ ne. absurd (ne end)), λ q e. (k.last_push q e).1), refl)))
       (λ ne.
       let stage : PushStage = pushing.SawWrite w in
-      (with_push stage v, keeps, tt, looks words_of n spare capacity s r 0 id m.1 v (with_push stage v) at (refl, refl, refl, refl, refl) (knows_push words_of spare capacity f r.book id v k stage (mine.0, refl, ne, mine.1)), (((λ end. absurd (ne end)), (λ _. refl), λ q e. (k.last_push q e).1), refl)))
+      (with_push stage v, keeps, tt, looks words_of n spare capacity s r 0 id m.1 v (with_push stage v) at (refl, refl, refl, refl, refl) (λ _. tt) (knows_push words_of spare capacity f r.book id v k stage (mine.0, refl, ne, mine.1)), (((λ end. absurd (ne end)), (λ _. refl), λ q e. (k.last_push q e).1), refl)))
 
   -- the load of the read position
   pub sees_room : spare ≡ 0 → (p : ℕ) → v.push ≡ pushing.SawWrite p → v.capacity ≡ capacity → Allows H slots id m 1 (λ x. x) (tells saw_room (step slots 1 0 0 none) m)
@@ -80,12 +80,12 @@ module _ {T : Type 0} (words_of : T → List ℕ) (n : ℕ) (spare capacity : �
       (λ full.
       let next : View T = with_push pushing.Ready v in
       let below : All (λ (x : ℕ × T). x.0 + v.capacity < p) v.taken = All-weaker (IsTaken words_of spare capacity f r.book id) (λ x. x.0 + v.capacity < p) (λ x h. let l = h.0 in omega arith) v.taken k.taken in
-      (next, keeps, tt, looks words_of n spare capacity s r 1 id m.1 v next at (refl, refl, refl, refl, refl) (knows_push words_of spare capacity f r.book id v k pushing.Ready (mine.0, omega arith)), (told next (record { behind = low; within = high; room = λ ne. absurd (ne full); full = λ _. (refl, below) }), refl)))
+      (next, keeps, tt, looks words_of n spare capacity s r 1 id m.1 v next at (refl, refl, refl, refl, refl) (λ _. tt) (knows_push words_of spare capacity f r.book id v k pushing.Ready (mine.0, omega arith)), (told next (record { behind = low; within = high; room = λ ne. absurd (ne full); full = λ _. (refl, below) }), refl)))
       (λ ne.
       let stage : PushStage = pushing.Storing p found [] in
       let next : View T = with_push stage v in
       let room : p < found + capacity + spare = omega arith in
-      (next, keeps, tt, looks words_of n spare capacity s r 1 id m.1 v next at (refl, refl, refl, refl, refl) (knows_push words_of spare capacity f r.book id v k stage (mine.0, write, mine.2, le_refl found, room, λ i lt. absurd (omega arith))), (told next (record { behind = low; within = high; room = λ _. refl; full = λ full. absurd (ne full) }), refl)))
+      (next, keeps, tt, looks words_of n spare capacity s r 1 id m.1 v next at (refl, refl, refl, refl, refl) (λ _. tt) (knows_push words_of spare capacity f r.book id v k stage (mine.0, write, mine.2, le_refl found, room, λ i lt. absurd (omega arith))), (told next (record { behind = low; within = high; room = λ _. refl; full = λ full. absurd (ne full) }), refl)))
 
   -- the store of a word into the cell
   pub stores_word : (p r₀ x word : ℕ) (ws : List ℕ) → v.push ≡ pushing.Storing p r₀ ws → length ws < n → word ≡ place (capacity + spare) n p (length ws)
@@ -149,7 +149,8 @@ module _ {T : Type 0} (words_of : T → List ℕ) (n : ℕ) (spare capacity : �
               taken_once = k.taken_once;
             })
             (λ j ne. record { onwards = onwards j; push = λ h. absurd (ne (h.1 ∙ sym mine.0.1)); pop = pop j })
-            v at refl refl (history_same f g b b s.views id v next at refl refl refl refl e₀ e₁ (λ q. refl) (λ q. refl) r.history),
+            v at refl refl (history_same f g b b s.views id v next at refl refl refl refl e₀ e₁ (λ q. refl) (λ q. refl) r.history)
+            (λ (more : g.read + capacity < g.write). still_pushed words_of n spare capacity s id v next at (λ q. (q.0, subst HasRole (sym same) tt)) (r.over (omega arith))),
         (refl, refl),
       )
 
@@ -226,7 +227,8 @@ module _ {T : Type 0} (words_of : T → List ℕ) (n : ℕ) (spare capacity : �
         tt,
         steps words_of n spare capacity s r ws' id next c (length-set s.words 0 (p + 1)) fits knows
             (λ j ne. record { onwards = onwards j; push = λ h. absurd (ne (h.1 ∙ sym mine.0.1)); pop = pop j })
-            v at refl refl (history_publishes f g b c s.views id v next at refl refl (shared words_of n spare capacity s r id v at cap) p x refl refl (omega arith) write e₀ e₁ (put_same b.publisher p id) (put_other b.publisher p id) (λ q. refl) r.history),
+            v at refl refl (history_publishes f g b c s.views id v next at refl refl (shared words_of n spare capacity s r id v at cap) p x refl refl (omega arith) write e₀ e₁ (put_same b.publisher p id) (put_other b.publisher p id) (λ q. refl) r.history)
+            (λ (more : g.read + capacity < g.write). let most = fits.within in absurd (omega arith)),
         (
           (λ q r₁ y e.
               let same : words_of x ≡ words_of y = ap words_so_far (sym is ∙ e) in

@@ -10,7 +10,7 @@ use Rattle.lock_free_sp.specs.Ring.Views.{with_producer, without_producer, with_
 use Rattle.lock_free_sp.specs.Ring.Kept.{Book, Kept, Fits, KnowsPush, KnowsPop, Knows, face}
 use Rattle.lock_free_sp.specs.Ring.Tells.{tells, took_producer, left_producer, took_consumer, left_consumer}
 use Rattle.lock_free_sp.proofs.Rules.Ring.Histories.{history_same}
-use Rattle.lock_free_sp.proofs.Rules.Ring.Stays.{Onwards, LeavesPush, LeavesPop, push_stays, pop_stays, last_push_stays, last_pop_stays, len_stays, published_stays, taken_stays, St, steps, looks, cells_stay}
+use Rattle.lock_free_sp.proofs.Rules.Ring.Stays.{Onwards, LeavesPush, LeavesPop, push_stays, pop_stays, last_push_stays, last_pop_stays, len_stays, published_stays, taken_stays, St, steps, still_pushed, looks, cells_stay}
 use mathlib.Core.Option.{none}
 use prog.Atomic.{either}
 
@@ -49,7 +49,7 @@ module _ {T : Type 0} (words_of : T → List ℕ) (n : ℕ) (spare capacity : �
   takes_producer s r wide at small = exchanged (get_or s.words 2 0) 1 0 (Shows s 2 (tells took_producer (step slots 2 1 0 none) m (get_or s.words 2 0))) taken refused
     where
       refused : (get_or s.words 2 0) ≢ 1 → Shows s 2 (tells took_producer (step slots 2 1 0 none) m (get_or s.words 2 0)) (get_or s.words 2 0)
-      refused ne = (v, keeps, tt, looks words_of n spare capacity s r 2 id m.1 v v at (refl, refl, refl, refl, refl) (r.seats id v at), (((λ e. absurd (ne e)), λ _. refl), refl))
+      refused ne = (v, keeps, tt, looks words_of n spare capacity s r 2 id m.1 v v at (refl, refl, refl, refl, refl) (λ h. h) (r.seats id v at), (((λ e. absurd (ne e)), λ _. refl), refl))
 
       taken : (get_or s.words 2 0) ≡ 1 → Shows s 2 (tells took_producer (step slots 2 1 0 none) m (get_or s.words 2 0)) 0
       taken free =
@@ -81,7 +81,7 @@ module _ {T : Type 0} (words_of : T → List ℕ) (n : ℕ) (spare capacity : �
             published_once = k.published_once;
             taken_once = k.taken_once;
           } in
-          (next, keeps, tt, steps words_of n spare capacity s r ws' id next c (length-set s.words 2 0) fits knows (λ j ne. record { onwards = onwards j; push = λ h. let none = h.0 in let one : f.producer ≡ 1 = free in absurd (omega arith); pop = other j }) v at refl refl (history_same f g b c s.views id v next at refl refl refl refl e₀ e₁ (λ q. refl) (λ q. refl) r.history), (((λ _. refl), λ ne. absurd (ne free)), refl))
+          (next, keeps, tt, steps words_of n spare capacity s r ws' id next c (length-set s.words 2 0) fits knows (λ j ne. record { onwards = onwards j; push = λ h. let none = h.0 in let one : f.producer ≡ 1 = free in absurd (omega arith); pop = other j }) v at refl refl (history_same f g b c s.views id v next at refl refl refl refl e₀ e₁ (λ q. refl) (λ q. refl) r.history) (λ (more : g.read + capacity < g.write). absurd (omega arith)), (((λ _. refl), λ ne. absurd (ne free)), refl))
 
   -- a store of the producer's role
   pub leaves_producer : v.push ≡ pushing.Ready → Allows H slots id m 2 (λ _. 1) (λ _. tells left_producer (step slots 2 1 0 none) m 1)
@@ -114,14 +114,14 @@ module _ {T : Type 0} (words_of : T → List ℕ) (n : ℕ) (spare capacity : �
         published_once = k.published_once;
         taken_once = k.taken_once;
       } in
-      (next, keeps, tt, steps words_of n spare capacity s r ws' id next b (length-set s.words 2 1) fits knows (λ j ne. record { onwards = onwards j; push = λ h. absurd (ne (h.1 ∙ sym mine.0.1)); pop = other j }) v at refl refl (history_same f g b b s.views id v next at refl refl refl refl e₀ e₁ (λ q. refl) (λ q. refl) r.history), (refl, refl))
+      (next, keeps, tt, steps words_of n spare capacity s r ws' id next b (length-set s.words 2 1) fits knows (λ j ne. record { onwards = onwards j; push = λ h. absurd (ne (h.1 ∙ sym mine.0.1)); pop = other j }) v at refl refl (history_same f g b b s.views id v next at refl refl refl refl e₀ e₁ (λ q. refl) (λ q. refl) r.history) (λ (more : g.read + capacity < g.write). absurd (omega arith)), (refl, refl))
 
   -- an exchange of the consumer's role
   pub takes_consumer : Allows H slots id m 3 (λ x. either (x == 1) 0 x) (tells took_consumer (step slots 3 1 0 none) m)
   takes_consumer s r wide at small = exchanged (get_or s.words 3 0) 1 0 (Shows s 3 (tells took_consumer (step slots 3 1 0 none) m (get_or s.words 3 0))) taken refused
     where
       refused : (get_or s.words 3 0) ≢ 1 → Shows s 3 (tells took_consumer (step slots 3 1 0 none) m (get_or s.words 3 0)) (get_or s.words 3 0)
-      refused ne = (v, keeps, tt, looks words_of n spare capacity s r 3 id m.1 v v at (refl, refl, refl, refl, refl) (r.seats id v at), (((λ e. absurd (ne e)), λ _. refl), refl))
+      refused ne = (v, keeps, tt, looks words_of n spare capacity s r 3 id m.1 v v at (refl, refl, refl, refl, refl) (λ h. h) (r.seats id v at), (((λ e. absurd (ne e)), λ _. refl), refl))
 
       taken : (get_or s.words 3 0) ≡ 1 → Shows s 3 (tells took_consumer (step slots 3 1 0 none) m (get_or s.words 3 0)) 0
       taken free =
@@ -152,7 +152,7 @@ module _ {T : Type 0} (words_of : T → List ℕ) (n : ℕ) (spare capacity : �
             published_once = k.published_once;
             taken_once = k.taken_once;
           } in
-          (next, keeps, tt, steps words_of n spare capacity s r ws' id next c (length-set s.words 3 0) fits knows (λ j ne. record { onwards = onwards j; push = other j; pop = λ h. let none = h.0 in let one : f.consumer ≡ 1 = free in absurd (omega arith) }) v at refl refl (history_same f g b c s.views id v next at refl refl refl refl e₀ e₁ (λ q. refl) (λ q. refl) r.history), (((λ _. refl), λ ne. absurd (ne free)), refl))
+          (next, keeps, tt, steps words_of n spare capacity s r ws' id next c (length-set s.words 3 0) fits knows (λ j ne. record { onwards = onwards j; push = other j; pop = λ h. let none = h.0 in let one : f.consumer ≡ 1 = free in absurd (omega arith) }) v at refl refl (history_same f g b c s.views id v next at refl refl refl refl e₀ e₁ (λ q. refl) (λ q. refl) r.history) (λ (more : g.read + capacity < g.write). still_pushed words_of n spare capacity s id v next at (λ h. h) (r.over (omega arith))), (((λ _. refl), λ ne. absurd (ne free)), refl))
 
   -- a store of the consumer's role
   pub leaves_consumer : v.pop ≡ popping.Ready → Allows H slots id m 3 (λ _. 1) (λ _. tells left_consumer (step slots 3 1 0 none) m 1)
@@ -184,4 +184,4 @@ module _ {T : Type 0} (words_of : T → List ℕ) (n : ℕ) (spare capacity : �
         published_once = k.published_once;
         taken_once = k.taken_once;
       } in
-      (next, keeps, tt, steps words_of n spare capacity s r ws' id next b (length-set s.words 3 1) fits knows (λ j ne. record { onwards = onwards j; push = other j; pop = λ h. absurd (ne (h.1 ∙ sym mine.1)) }) v at refl refl (history_same f g b b s.views id v next at refl refl refl refl e₀ e₁ (λ q. refl) (λ q. refl) r.history), (refl, refl))
+      (next, keeps, tt, steps words_of n spare capacity s r ws' id next b (length-set s.words 3 1) fits knows (λ j ne. record { onwards = onwards j; push = other j; pop = λ h. absurd (ne (h.1 ∙ sym mine.1)) }) v at refl refl (history_same f g b b s.views id v next at refl refl refl refl e₀ e₁ (λ q. refl) (λ q. refl) r.history) (λ (more : g.read + capacity < g.write). still_pushed words_of n spare capacity s id v next at (λ h. h) (r.over (omega arith))), (refl, refl))

@@ -4,7 +4,7 @@ use Rattle.std.specs.Prelude.{Option, Some, None}
 use Rattle.std.specs.List.{All}
 use Rattle.std.proofs.lemmas.List.Elements.{All-weaker}
 use mathlib.Core.Logic.{dite}
-use mathlib.Core.Option.{some}
+use mathlib.Core.Option.{some, some-injective}
 use native.Mathlib.Decide.{dec_lt, ℕ_discrete}
 use lib.ListN.{get_elem?}
 use lib.Seq.{set-get_or}
@@ -20,8 +20,8 @@ use Rattle.lock_free_sp.specs.declared.ring.view.LenStage.TheVariants as lengths
 use Rattle.lock_free_sp.specs.declared.ring.view.View.{View}
 use Rattle.lock_free_sp.specs.Ring.Views.{with_push, with_pop, with_len, IsWhole}
 use Rattle.lock_free_sp.specs.Ring.Between.{Sound, InOrder, Complete}
-use Rattle.lock_free_sp.specs.Ring.Kept.{Face, Book, face, Produces, Consumes, KnowsPush, KnowsPop, KnowsLen, IsPublished, IsTaken, Knows, Fits, History, Kept}
-use Rattle.lock_free_sp.proofs.Shares.{every, shares_stay}
+use Rattle.lock_free_sp.specs.Ring.Kept.{Face, Book, face, Produces, Consumes, KnowsPush, KnowsPop, KnowsLen, IsPublished, IsTaken, Knows, Fits, History, Kept, HasRole, IsPusher, IsPushed}
+use Rattle.lock_free_sp.proofs.Shares.{every, shares_stay, moved, others_none}
 use Rattle.lock_free_sp.proofs.Rules.Ring.Histories.{IsLike, history_same, complete_at}
 use Rattle.lock_free_sp.specs.Ring.Tells.{place}
 
@@ -104,6 +104,13 @@ module _ {T : Type 0} (words_of : T → List ℕ) (spare capacity : ℕ) (f g : 
   len_stays t lengths.Idle k = tt
   len_stays t (lengths.SawWrite w) k = let up = t.write in omega arith
   len_stays t (lengths.SawBoth w r) k = let up = t.write in let now = k.2 in (k.0, k.1, omega arith, k.3, k.4)
+  len_stays t (lengths.Reading w n ws) k =
+      let first = k.0 in
+      let up = t.write in
+      let on = t.read in (
+        omega arith,
+        λ p i low lt near there. k.1 p i (omega arith) lt near there ∙ ap (λ z. get_or (words_of z) i 0) (sym (t.log p (omega arith))),
+      )
 
   pub last_push_stays : LeavesPush → (o : Option ℕ) → ((p : ℕ) → o ≡ Some p → Produces words_of spare capacity f b j × (f.write ≡ p + 1)) → (p : ℕ) → o ≡ Some p → Produces words_of spare capacity g c j × (g.write ≡ p + 1)
   last_push_stays l o k p e = let h = k p e in let now = l h.0 in (now.0, now.1 ∙ h.1)
@@ -212,8 +219,9 @@ module _ {T : Type 0} (words_of : T → List ℕ) (n : ℕ) (spare capacity : �
       → Fits words_of n spare capacity (face (capacity + spare) n ws) c.log → Knows words_of spare capacity (face (capacity + spare) n ws) c id w
       → ((j : ℕ) → j ≢ id → Passes words_of spare capacity (face (capacity + spare) n s.words) (face (capacity + spare) n ws) r.book c j)
       → (v : View T) → get_elem? s.views id ≡ some v → w.share ≡ v.share → w.capacity ≡ v.capacity → History (face (capacity + spare) n ws) c (set s.views id w)
+      → (get_or ws 1 0 + capacity < get_or ws 0 0 → IsPushed (set s.views id w))
       → Kept words_of n spare capacity record { words = ws; homes = s.homes; views = set s.views id w }
-  steps s r ws id w c long fits mine others v at share size history =
+  steps s r ws id w c long fits mine others v at share size history over =
       record {
         book = c;
         modest = r.modest;
@@ -225,8 +233,29 @@ module _ {T : Type 0} (words_of : T → List ℕ) (n : ℕ) (spare capacity : �
             (at_set s.views id j w v e);
         shares = shares_stay (λ u. u.share) s.views id v w at share r.shares;
         history = history;
+        over = over;
         bare = every (λ j u. u.share.part ≡ 0 → u.capacity ≡ 2 ^ 32) s.views id w (λ j u ne e. r.bare j u e) (λ none. size ∙ r.bare id v at (sym (ap (λ (z : Share). z.part) share) ∙ none));
       }
+
+  -- a seat that goes on to have its share and the producer's role
+  pub still_pushed : (s : St) (id : ℕ) (v w : View T) → get_elem? s.views id ≡ some v → (IsPusher v → IsPusher w) → IsPushed s.views → IsPushed (set s.views id w)
+  still_pushed s id v w at still h =
+      let t = moved IsPusher s.views id v w at still h.0 (h.1, h.2, h.3) in (h.0, t.0, t.1, t.2)
+
+  keeps_role : (v w : View T) → w.share ≡ v.share → (HasRole v.push → HasRole w.push) → IsPusher v → IsPusher w
+  keeps_role v w share role p = (subst (λ (z : Share). 0 < z.part) (sym share) p.0, role p.1)
+
+  -- who has the whole right and no role knows that no value waits beyond the capacity
+  pub rests : (s : St) (r : Kept words_of n spare capacity s) (id : ℕ) (v : View T) → get_elem? s.views id ≡ some v → IsWhole v → v.push ≡ pushing.Away → get_or s.words 0 0 ≤ get_or s.words 1 0 + capacity
+  rests s r id v at is away =
+      dite (dec_lt (get_or s.words 1 0 + capacity) (get_or s.words 0 0))
+      (λ more.
+      let h = r.over more in
+      let some' = h.3.0 in
+      dite (ℕ_discrete h.0 id)
+      (λ same. absurd (subst HasRole (ap (λ (z : View T). z.push) (some-injective h.1 v (sym h.2 ∙ (ap (get_elem? s.views) same ∙ at))) ∙ away) h.3.1))
+      (λ ne. let none = others_none (λ u. u.share) s.views id v at r.shares is h.0 h.1 ne h.2 in absurd (omega arith)))
+      (λ not. omega arith)
 
   -- nothing that a seat sees changes
   pub onwards_same : (f : Face) (b : Book T) (j : ℕ) → f.read ≤ f.write → Onwards words_of spare capacity f f b b j
@@ -241,12 +270,13 @@ module _ {T : Type 0} (words_of : T → List ℕ) (n : ℕ) (spare capacity : �
       }
 
   -- a step that changes no word
-  pub looks : (s : St) (r : Kept words_of n spare capacity s) (word id : ℕ) (held : List (ℕ × Unit {0})) (v w : View T) → get_elem? s.views id ≡ some v → IsLike w v → Knows words_of spare capacity (face (capacity + spare) n s.words) r.book id w
+  pub looks : (s : St) (r : Kept words_of n spare capacity s) (word id : ℕ) (held : List (ℕ × Unit {0})) (v w : View T) → get_elem? s.views id ≡ some v → IsLike w v → (HasRole v.push → HasRole w.push) → Knows words_of spare capacity (face (capacity + spare) n s.words) r.book id w
       → Kept words_of n spare capacity (stepped s word (get_or s.words word 0) id held w keeps)
-  looks s r word id held v w at like mine =
+  looks s r word id held v w at like role mine =
       subst (λ (ws : List ℕ). Kept words_of n spare capacity record { words = ws; homes = s.homes; views = set s.views id w }) (sym (set-get_or s.words word 0))
       (steps s r s.words id w r.book refl r.fits mine (λ j other. record { onwards = onwards_same (face (capacity + spare) n s.words) r.book j r.fits.behind; push = λ k. (k, refl, λ p i. refl); pop = λ k. (k, (λ moved. absurd (omega arith)), λ _. refl) }) v at like.0 like.1
-      (history_same (face (capacity + spare) n s.words) (face (capacity + spare) n s.words) r.book r.book s.views id v w at like.0 like.2 like.3 like.4 refl refl (λ p. refl) (λ p. refl) r.history))
+      (history_same (face (capacity + spare) n s.words) (face (capacity + spare) n s.words) r.book r.book s.views id v w at like.0 like.2 like.3 like.4 refl refl (λ p. refl) (λ p. refl) r.history)
+      (λ more. still_pushed s id v w at (keeps_role v w like.0 role) (r.over more)))
 
   -- a step that changes one of the first four words leaves the cells
   pub cells_stay : (ws : List ℕ) (word x : ℕ) → word < 4 → (p i : ℕ) → (face (capacity + spare) n (set ws word x)).cell p i ≡ (face (capacity + spare) n ws).cell p i

@@ -35,6 +35,7 @@ impl<E: Spare, T: Words> Ring<E, T, RingRule<E, T>> {
                 let ring = Ring {
                     table,
                     capacity,
+                    alloc,
                     of: PhantomData,
                 };
                 Ok((ring, Pass { token }))

@@ -1,5 +1,5 @@
 -- The lists that the calls of a queue answer as.
-use Rattle.std.specs.Prelude.{ℕ, Option, Some, None, List, [], ◌∷◌, ◌++◌, length, drop, nat_lt, slice_get, if◌then◌else◌}
+use Rattle.std.specs.Prelude.{ℕ, Option, Some, None, List, [], ◌∷◌, ◌++◌, length, drop, nat_lt, slice_get}
 use Rattle.model.specs.declared.event.Item.{Item}
 use Rattle.model.specs.declared.event.Item.TheVariants.{Index, Value}
 use Rattle.model.specs.declared.event.Start.{Start}
@@ -10,6 +10,8 @@ use Rattle.model.specs.declared.families.queues.QueueStart.TheVariants.{PushInde
 use Rattle.model.specs.declared.families.queues.QueueKind.{QueueKind}
 use Rattle.model.specs.declared.families.queues.QueueKind.TheVariants.{IndexQueue, Overflow, Queue}
 use Rattle.model.specs.Objects.{Object}
+-- a value stands behind all others where there is room; the front leaves where there are too many
+pub use Rattle.steps.specs.Objects.Lists.{appended, cut, cut_off}
 
 module _ {T : Type 0} where
   -- the answer of a pop, and of a push that hands back
@@ -19,10 +21,6 @@ module _ {T : Type 0} where
   answer_of_item (Some (Value value)) = answers.TheVariants.Popped value
 
   -- ---- the bounded list
-
-  abbrev pub appended : ℕ → List (Item T) → Item T → List (Item T)
-  appended capacity items item =
-      if nat_lt (length items) capacity then items ++ item ∷ [] else items
 
   abbrev pub list_after : ℕ → List (Item T) → Start T → List (Item T)
   list_after capacity items (Queues (PushIndex index)) = appended capacity items (Index index)
@@ -45,14 +43,6 @@ module _ {T : Type 0} where
       record { opening = []; after = list_after capacity; answer = list_answer capacity }
 
   -- ---- the overflowing list
-
-  -- the front leaves where the list is too long
-  abbrev pub cut : ℕ → List (Item T) → List (Item T)
-  cut capacity items = if nat_lt capacity (length items) then drop 1 items else items
-
-  -- it is answered
-  abbrev pub cut_off : ℕ → List (Item T) → Option (Item T)
-  cut_off capacity items = if nat_lt capacity (length items) then slice_get items 0 else None
 
   abbrev pub overflow_after : ℕ → List (Item T) → Start T → List (Item T)
   overflow_after capacity items (Queues (PushIndex index)) =

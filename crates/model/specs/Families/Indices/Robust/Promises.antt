@@ -73,24 +73,27 @@ module _ {T : Type 0} where
   LivesToRelease owner before span = Unit {0}
 
   -- An index of the set is filled where it is not, and granted, for an owner who lives. It is freed
-  -- where it is filled with that owner, by a release while he lives. A recovery asks about an index
-  -- that is filled with the owner named, and is told to free one of a dead owner. The lock comes
-  -- once, and after it nothing is granted; a call that began after it fills nothing and asks
-  -- nothing. An owner dies once.
-  abbrev pub DoesRight : ℕ → List (Event T) → Event T → Type 0
-  DoesRight capacity before (Filled p index owner) =
+  -- where it is filled with that owner, by a release while he lives. The lock comes once, and after
+  -- it nothing is granted; a call that began after it fills nothing. An owner dies once.
+  abbrev pub SetDoes : ℕ → List (Event T) → Event T → Type 0
+  SetDoes capacity before (Filled p index owner) =
       (index < capacity) × (filled_of index before ≡ None) × (is_dead owner before ≡ false)
       × HeldOnce p IsUnlocked before
-  DoesRight capacity before (Granted p index owner) =
+  SetDoes capacity before (Granted p index owner) =
       IsUnlocked before × (is_dead owner before ≡ false)
-  DoesRight capacity before (FreedOf p index owner) =
+  SetDoes capacity before (FreedOf p index owner) =
       (filled_of index before ≡ Some owner) × LivesToRelease owner before (span_of p before)
-  DoesRight capacity before (Asked p index owner) =
+  SetDoes capacity before (Locked p) = IsUnlocked before
+  SetDoes capacity before (Died owner) = is_dead owner before ≡ false
+  SetDoes capacity before e = Unit {0}
+
+  -- A recovery asks about an index that is filled with the owner named, and nothing if it began
+  -- after the lock. It is told to free one of a dead owner.
+  abbrev pub AsksRight : List (Event T) → Event T → Type 0
+  AsksRight before (Asked p index owner) =
       (filled_of index before ≡ Some owner) × HeldOnce p IsUnlocked before
-  DoesRight capacity before (Told p index owner) = is_dead owner before ≡ true
-  DoesRight capacity before (Locked p) = IsUnlocked before
-  DoesRight capacity before (Died owner) = is_dead owner before ≡ false
-  DoesRight capacity before e = Unit {0}
+  AsksRight before (Told p index owner) = is_dead owner before ≡ true
+  AsksRight before e = Unit {0}
 
   -- ---- holders, in a proper run
 
@@ -188,7 +191,8 @@ module _ {T : Type 0} where
   KeepsDead kept events = ⊥
 
   pub record IsRobustSet (t : Trace T) : Type 0 where
-    pub does : Each (DoesRight t.world.capacity) t.events
+    pub does : Each (SetDoes t.world.capacity) t.events
+    pub asks : Each AsksRight t.events
     pub holds : IsProper t.events → Each HoldsRight t.events
     pub answers : Each (AnswersRight t.world.capacity) t.events
     pub cells : (index : ℕ) → index < t.world.capacity

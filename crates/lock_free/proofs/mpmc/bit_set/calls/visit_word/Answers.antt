@@ -1,6 +1,6 @@
 use Rattle.std.proofs.Common.{◌≡◌, rules, sym, subst, ◌∙◌}
 use Rattle.lock_free.specs.Bits.Callable.{Visited}
-use Rattle.lock_free.proofs.Bits.Cleared.{visited_more}
+use Rattle.lock_free.proofs.Bits.Cleared.{visited_more, visited_none}
 use Rattle.lock_free.proofs.mpmc.bit_set.calls.visit_word.Goals as goal
 use Rattle.lock_free.proofs.mpmc.bit_set.calls.visit_word.Given as given
 
@@ -15,3 +15,6 @@ pub returns : goal.returns
 returns g c =
     let end : c.loop-bit.bit ≡ 64 = search rules in
     subst (λ n. Visited (λ p x q. given.F-step g p x tt q) c.args.found c.args.first c.args.visit n c.loop-bit.visit) end c.loop-bit.invariant
+
+pub returns-then-found-eq0 : goal.returns-then-found-eq0
+returns-then-found-eq0 g c = subst (λ n. Visited (λ p x q. given.F-step g p x tt q) n c.args.first c.args.visit 64 c.args.visit) (sym c.if-found-eq0.true) (visited_none (λ p x q. given.F-step g p x tt q) c.args.first 64 c.args.visit)

@@ -1,12 +1,13 @@
 use Rattle.std.proofs.Common.{rules, ap, subst}
 use Rattle.lock_free_sp.specs.Ring.Calls.{seen}
+use Rattle.lock_free_sp.specs.Ring.Kept.{HasRole}
 use Rattle.lock_free_sp.specs.Ring.Between.{Sound, InOrder}
 use Rattle.lock_free_sp.proofs.Rules.Ring.Lengths.{learns}
 use Rattle.lock_free_sp.proofs.Rules.Ring.Comings.{joins, ruled, ordered}
 use Rattle.lock_free_sp.proofs.ring.passes.Held+E+T+RingRule+E+T.join.Goals as goal
 
 pub join_seat-requires : goal.join_seat-requires
-join_seat-requires g c = (search rules, search rules, search rules, search rules, joins _ _ _ _ _ _ _ _ (search rules))
+join_seat-requires g c = (search rules, search rules, search rules, search rules, joins _ _ _ _ _ _ _ _ (search rules) (λ role. subst HasRole c.requires.idle role))
 
 pub load-requires : goal.load-requires
 load-requires g c = (search rules, search rules, learns _ _ _ _ _ _ _ _ (search rules))

@@ -1,0 +1,26 @@
+//! Two threads ring bells, a third hears them, and what was heard is, bell by bell, what was rung.
+#![tactic(auto)]
+
+mod counts;
+mod error;
+mod flags;
+
+use counts::count_bells;
+use flags::ring_bells;
+use std::io;
+
+fn main(rt: HostRuntime) -> io::Result<()> {
+    let (first, second) = ([1, 4, 64, 4, 7], [4, 70, 1, 4]);
+    match ring_bells(&rt, rt.alloc(), 100, first.as_slice(), second.as_slice(), 5) {
+        Ok(rung) => {
+            let number = rung.first.len() + rung.second.len();
+            let heard = rung.heard.len() + rung.left.len();
+            println!(rt; "as many were heard as began to ring: {}", number == heard)?;
+        }
+        Err(error) => println!(rt; "{error}")?,
+    }
+    match count_bells(&rt, rt.alloc(), 8, &[1, 4, 4, 7], &[4, 1, 4], 3) {
+        Ok(counted) => println!(rt; "bells counted: {}", counted.left.len()),
+        Err(error) => println!(rt; "{error}"),
+    }
+}

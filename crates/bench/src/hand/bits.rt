@@ -1,0 +1,233 @@
+//! The bit set and the counts by hand.
+ghost use Rattle.std.specs.Prelude.{◌≡◌, ◌+◌, ◌*◌, ◌<◌, ◌≤◌};
+
+use super::Words;
+use crate::timing::Timed;
+use std::alloc::{AllocError, Global};
+use std::sync::Wait;
+
+/// A bit set: the reset position, and 64 flags to a word.
+#[derive(Drop)]
+pub struct Bits {
+    words: Words,
+    capacity: u32,
+    elements: u32,
+    next: u32,
+    ghost some: { 0 < capacity },
+    ghost all: { capacity ≤ 64 * elements },
+    ghost sized: { words.size ≡ 1 + elements },
+}
+
+impl Bits {
+    /// One of which no place stands.
+    pub fn new(alloc: Global, capacity: u32) -> Result<Bits, AllocError> {
+        if capacity == 0 {
+            return Err(AllocError);
+        }
+        let elements = ((capacity as u64 + 63) / 64) as u32;
+        let numbers = Vec::from_elem(alloc, 0u64, 1 + elements as usize)?;
+        let words = Words::new(alloc, numbers.as_slice())?;
+        Ok(Bits {
+            words,
+            capacity,
+            elements,
+            next: 0,
+        })
+    }
+
+    #[inline(never)]
+    pub fn set<R: Wait>(&mut self, rt: &R, place: u32) -> bool {
+        if place >= self.capacity {
+            return false;
+        }
+        let flag = 1u64 << (place % 64);
+        let word = 1 + (place / 64) as usize;
+        let mut found = self.words.load(word);
+        for _ in rt.forever() {
+            if found & flag != 0 {
+                return false;
+            }
+            let now = self.words.exchange(word, found, found | flag);
+            if now == found {
+                return true;
+            }
+            found = now;
+        }
+        unreachable!()
+    }
+
+    /// Resets this place, if it stands.
+    #[inline(always)]
+    fn reset<R: Wait>(&mut self, rt: &R, place: u32) -> bool {
+        if place >= self.capacity {
+            return false;
+        }
+        let flag = 1u64 << (place % 64);
+        let word = 1 + (place / 64) as usize;
+        let mut found = self.words.load(word);
+        for _ in rt.forever() {
+            if found & flag == 0 {
+                return false;
+            }
+            let now = self.words.exchange(word, found, found & !flag);
+            if now == found {
+                self.words.store(0, place as u64 + 1);
+                return true;
+            }
+            found = now;
+        }
+        unreachable!()
+    }
+
+    #[inline(never)]
+    fn reset_next<R: Wait>(&mut self, rt: &R) -> Option<u32> {
+        let found = self.words.load(0);
+        let start = if found > self.capacity as u64 {
+            self.capacity
+        } else {
+            found as u32
+        };
+        for place in start..self.capacity {
+            if self.reset(rt, place) {
+                return Some(place);
+            }
+        }
+        for place in 0..start {
+            if self.reset(rt, place) {
+                return Some(place);
+            }
+        }
+        None
+    }
+
+    /// How many places stood, and their sum.
+    #[inline(never)]
+    fn reset_all(&mut self) -> u64 {
+        let mut sum = 0u64;
+        for element in 0..self.elements {
+            let mut flags = self.words.swap(1 + element as usize, 0);
+            if flags != 0 {
+                for bit in 0..64u64 {
+                    if flags & 1 != 0 {
+                        sum = sum.wrapping_add(element as u64 * 64 + bit + 1);
+                    }
+                    flags = flags / 2;
+                    if flags == 0 {
+                        break;
+                    }
+                }
+            }
+        }
+        sum
+    }
+}
+
+/// Sets a place, and resets the next one that stands, which it is.
+#[derive(Drop)]
+pub struct SetsAndResets {
+    pub set: Bits,
+}
+
+impl Timed for SetsAndResets {
+    fn call<R: Wait>(&mut self, rt: &R) -> u64 {
+        let next = self.set.next;
+        self.set.next = if (next as u64) + 1 < self.set.capacity as u64 {
+            next + 1
+        } else {
+            0
+        };
+        let set = self.set.set(rt, next);
+        match self.set.reset_next(rt) {
+            Some(place) if set => place as u64,
+            _ => 0,
+        }
+    }
+}
+
+/// Looks in vain for a place that stands.
+#[derive(Drop)]
+pub struct ResetsNone {
+    pub set: Bits,
+}
+
+impl Timed for ResetsNone {
+    fn call<R: Wait>(&mut self, rt: &R) -> u64 {
+        self.set.reset_next(rt).is_some() as u64
+    }
+}
+
+/// Sets a place, and resets all.
+#[derive(Drop)]
+pub struct ResetsAll {
+    pub set: Bits,
+}
+
+impl Timed for ResetsAll {
+    fn call<R: Wait>(&mut self, rt: &R) -> u64 {
+        self.set.set(rt, 5);
+        self.set.reset_all()
+    }
+}
+
+/// Counts, each of one place.
+#[derive(Drop)]
+pub struct Counts {
+    words: Words,
+    capacity: u32,
+    ghost sized: { words.size ≡ capacity },
+}
+
+impl Counts {
+    /// One in which no place counts.
+    pub fn new(alloc: Global, capacity: u32) -> Result<Counts, AllocError> {
+        let numbers = Vec::from_elem(alloc, 0u64, capacity as usize)?;
+        let words = Words::new(alloc, numbers.as_slice())?;
+        Ok(Counts { words, capacity })
+    }
+
+    #[inline(never)]
+    fn set(&mut self, place: u32) -> u64 {
+        if place < self.capacity {
+            self.words.add(place as usize, 1)
+        } else {
+            0
+        }
+    }
+
+    #[inline(never)]
+    fn reset_all(&mut self) -> u64 {
+        let mut sum = 0u64;
+        for place in 0..self.capacity {
+            let count = self.words.swap(place as usize, 0);
+            if count > 0 {
+                sum = sum.wrapping_add((place as u64).wrapping_add(count));
+            }
+        }
+        sum
+    }
+}
+
+/// Counts a place.
+#[derive(Drop)]
+pub struct CountsOne {
+    pub set: Counts,
+}
+
+impl Timed for CountsOne {
+    fn call<R: Wait>(&mut self, _rt: &R) -> u64 {
+        self.set.set(5)
+    }
+}
+
+/// Counts a place, and takes all counts out.
+#[derive(Drop)]
+pub struct TakesAll {
+    pub set: Counts,
+}
+
+impl Timed for TakesAll {
+    fn call<R: Wait>(&mut self, _rt: &R) -> u64 {
+        self.set.set(5);
+        self.set.reset_all()
+    }
+}

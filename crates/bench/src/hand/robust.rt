@@ -1,0 +1,182 @@
+//! The robust index set by hand, of which no index is out or each one is.
+ghost use Rattle.std.specs.Prelude.{◌≡◌, ◌+◌};
+
+use super::Words;
+use crate::timing::Timed;
+use std::alloc::{AllocError, Global};
+use std::sync::Wait;
+
+const EMPTY: u64 = u64::MAX;
+
+const LOCKED: u64 = u64::MAX;
+
+const GREATEST: u64 = u64::MAX - 1;
+
+/// A set of indices: the counter, and the owner of each.
+#[derive(Drop)]
+pub struct Robust {
+    words: Words,
+    capacity: u32,
+    ghost sized: { words.size ≡ 1 + capacity },
+}
+
+impl Robust {
+    /// One in which each index has this owner, or `EMPTY`.
+    pub fn new(alloc: Global, capacity: u32, owner: u64) -> Result<Robust, AllocError> {
+        let mut numbers = Vec::from_elem(alloc, owner, 1 + capacity as usize)?;
+        numbers[0] = 0;
+        let words = Words::new(alloc, numbers.as_slice())?;
+        Ok(Robust { words, capacity })
+    }
+
+    /// Raises the counter: false where the set is locked.
+    #[inline(always)]
+    fn raise<R: Wait>(&mut self, rt: &R) -> bool
+        ensures { self.new.capacity ≡ self.old.capacity }
+    {
+        let mut counter = self.words.load(0);
+        for _ in rt.forever() {
+            if counter == LOCKED {
+                return false;
+            }
+            if counter == GREATEST {
+                return true;
+            }
+            let found = self.words.exchange(0, counter, counter.wrapping_add(1));
+            if found == counter {
+                return true;
+            }
+            counter = found;
+        }
+        unreachable!()
+    }
+
+    #[inline(never)]
+    fn acquire<R: Wait>(&mut self, rt: &R, owner: u64) -> Option<u32> {
+        let mut counter = self.words.load(0);
+        for _ in rt.forever() {
+            if counter == LOCKED || counter == GREATEST {
+                return None;
+            }
+            for index in 0..self.capacity {
+                if self.words.exchange(1 + index as usize, EMPTY, owner) == EMPTY {
+                    return if self.raise(rt) { Some(index) } else { None };
+                }
+            }
+            let found = self.words.exchange(0, counter, counter);
+            if found == counter {
+                return None;
+            }
+            counter = found;
+        }
+        unreachable!()
+    }
+
+    #[inline(never)]
+    fn release<R: Wait>(&mut self, rt: &R, index: u32, owner: u64) -> bool {
+        if index >= self.capacity {
+            return false;
+        }
+        if self.words.exchange(1 + index as usize, owner, EMPTY) != owner {
+            return false;
+        }
+        self.raise(rt);
+        true
+    }
+
+    #[inline(never)]
+    fn borrowed_indices<R: Wait>(&mut self, rt: &R) -> u64 {
+        for _ in rt.forever() {
+            let counter = self.words.load(0);
+            if counter == LOCKED {
+                return 0;
+            }
+            let mut filled = 0u64;
+            for index in 0..self.capacity {
+                if self.words.load(1 + index as usize) != EMPTY {
+                    filled = filled.wrapping_add(1);
+                }
+            }
+            if counter == GREATEST
+                || self.words.exchange(0, counter, counter.wrapping_add(1)) == counter
+            {
+                return filled;
+            }
+        }
+        unreachable!()
+    }
+
+    #[inline(never)]
+    fn find(&mut self, owner: u64) -> u64 {
+        let mut found = 0u64;
+        for index in 0..self.capacity {
+            if self.words.load(1 + index as usize) == owner {
+                found = found.wrapping_add(1 + index as u64);
+            }
+        }
+        found
+    }
+
+    /// Asks of each owner whether it is this dead one.
+    #[inline(never)]
+    fn recover<R: Wait>(&mut self, rt: &R, dead: u64) -> bool {
+        if self.words.load(0) == LOCKED {
+            return false;
+        }
+        for index in 0..self.capacity {
+            if self.words.load(1 + index as usize) == dead
+                && self.words.exchange(1 + index as usize, dead, EMPTY) == dead
+                && !self.raise(rt)
+            {
+                return false;
+            }
+        }
+        self.words.load(0) != LOCKED
+    }
+}
+
+/// Takes an index, and gives it back.
+impl Timed for Robust {
+    fn call<R: Wait>(&mut self, rt: &R) -> u64 {
+        match self.acquire(rt, 7) {
+            Some(index) => self.release(rt, index, 7) as u64,
+            None => 2,
+        }
+    }
+}
+
+/// Asks how many are out.
+#[derive(Drop)]
+pub struct Borrowed {
+    pub set: Robust,
+}
+
+impl Timed for Borrowed {
+    fn call<R: Wait>(&mut self, rt: &R) -> u64 {
+        self.set.borrowed_indices(rt)
+    }
+}
+
+/// Finds what an owner has.
+#[derive(Drop)]
+pub struct Finds {
+    pub set: Robust,
+}
+
+impl Timed for Finds {
+    fn call<R: Wait>(&mut self, _rt: &R) -> u64 {
+        self.set.find(7)
+    }
+}
+
+/// Frees what a dead owner has.
+#[derive(Drop)]
+pub struct Recovers {
+    pub set: Robust,
+}
+
+impl Timed for Recovers {
+    fn call<R: Wait>(&mut self, rt: &R) -> u64 {
+        self.set.recover(rt, 9) as u64
+    }
+}

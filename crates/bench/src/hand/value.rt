@@ -1,0 +1,97 @@
+//! The single value by hand.
+ghost use Rattle.std.specs.Prelude.{◌≡◌, ◌+◌, ◌<◌, ◌≤◌};
+
+use super::Words;
+use crate::timing::Timed;
+use std::alloc::{AllocError, Global};
+use std::sync::Wait;
+
+/// A value of so many words.
+#[derive(Drop)]
+pub struct Value<const N: usize> {
+    words: Words,
+    ghost some: { (0 < N) × (N < 1000) },
+    ghost sized: { words.size ≡ 2 + (N + N) },
+}
+
+impl<const N: usize> Value<N> {
+    /// One of zeros, at version 1.
+    pub fn new(alloc: Global) -> Result<Value<N>, AllocError> {
+        if N == 0 || N >= 1000 {
+            return Err(AllocError);
+        }
+        let mut numbers = Vec::from_elem(alloc, 0u64, 2 + (N + N))?;
+        numbers[0] = 1;
+        let words = Words::new(alloc, numbers.as_slice())?;
+        Ok(Value { words })
+    }
+
+    /// The first word of the cell in which the value of this version stands.
+    #[inline(always)]
+    fn cell(version: u64) -> usize
+        requires { N < 1000 }
+        ensures { result + N ≤ 2 + (N + N) }
+    {
+        if version % 2 == 1 { 2 } else { 2 + N }
+    }
+
+    #[inline(never)]
+    fn store(&mut self, value: &[u64; N]) -> bool {
+        let version = self.words.load(0);
+        if version == u64::MAX {
+            return false;
+        }
+        let cell = Value::<N>::cell(version.wrapping_add(1));
+        for at in 0..N {
+            self.words.store(cell + at, value[at]);
+        }
+        self.words.add(0, 1);
+        true
+    }
+
+    #[inline(never)]
+    fn load<R: Wait>(&mut self, rt: &R) -> [u64; N] {
+        let mut value = [0u64; N];
+        let mut version = self.words.load(0);
+        for _ in rt.forever() {
+            let cell = Value::<N>::cell(version);
+            for at in 0..N {
+                value[at] = self.words.load(cell + at);
+            }
+            let found = self.words.exchange(0, version, version);
+            if found == version {
+                return value;
+            }
+            version = found;
+        }
+        unreachable!()
+    }
+}
+
+/// Stores a value.
+#[derive(Drop)]
+pub struct Stores<const N: usize> {
+    pub value: Value<N>,
+    pub next: u64,
+}
+
+impl<const N: usize> Timed for Stores<N> {
+    fn call<R: Wait>(&mut self, _rt: &R) -> u64 {
+        self.next = self.next.wrapping_add(1);
+        let words = [self.next; N];
+        self.value.store(&words) as u64
+    }
+}
+
+/// Loads the value.
+#[derive(Drop)]
+pub struct Loads<const N: usize> {
+    pub value: Value<N>,
+}
+
+impl<const N: usize> Timed for Loads<N> {
+    fn call<R: Wait>(&mut self, rt: &R) -> u64 {
+        let value = self.value.load(rt);
+        if N > 0 { value[0] } else { 0 }
+    }
+}

@@ -1,0 +1,41 @@
+//! Times each threaded call against the same steps written by hand, and prints a table. The first argument is what the
+//! name of a row begins with, or `all`; without one it times nothing. `bin/bench` builds it and runs it.
+#![tactic(auto)]
+
+mod alone;
+mod bits;
+mod error;
+mod hand;
+mod indices;
+mod queues;
+mod timing;
+mod value;
+
+use error::BenchError;
+use std::alloc::Global;
+use std::sync::Wait;
+use std::time::CpuClock;
+use std::{env, io};
+
+/// Prints the rows whose names begin so.
+fn rows<R: Wait + CpuClock + Print>(rt: &R, alloc: Global, wanted: &str) -> Result<(), BenchError> {
+    alone::rows(rt, alloc, wanted)?;
+    queues::rows(rt, alloc, wanted)?;
+    value::rows(rt, alloc, wanted)?;
+    bits::rows(rt, alloc, wanted)?;
+    indices::rows(rt, alloc, wanted)
+}
+
+fn main(rt: HostRuntime) -> io::Result<()> {
+    let mut args = env::args(&rt)?;
+    let _program = args.next();
+    let Some(wanted) = args.next() else {
+        return println!(rt; "bench: what does the name of a row begin with? `all` is every row");
+    };
+    println!(rt; "| call | capacity | steps | driven, ns | by hand, ns | ratio |")?;
+    println!(rt; "|---|---|---|---|---|---|")?;
+    match rows(&rt, rt.alloc(), wanted.as_str()) {
+        Ok(()) => Ok(()),
+        Err(error) => println!(rt; "{error}"),
+    }
+}

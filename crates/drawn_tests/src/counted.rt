@@ -1,0 +1,130 @@
+//! Counting bit sets: drawn calls.
+ghost use Rattle.std.specs.Prelude.{◌≡◌};
+ghost use Rattle.lock_free.specs.Counts.Calls.{IsPassOf};
+
+use crate::drawn::{Answer, Answers, CALLS, Call, Draws, Heard, SEED, compare};
+use lock_free::mpmc::counting_bit_set::{CountingBitSet, FixedSizeCountingBitSet, Pass};
+use std::process::Abort;
+use std::sync::Wait;
+use std::test::Fail;
+
+/// A call on a counting bit set.
+#[derive(Clone, Copy)]
+pub enum CountCall {
+    Set(usize),
+    All,
+}
+
+impl Call for CountCall {
+    fn draw(draws: &mut Draws, capacity: usize, _fills: bool) -> CountCall {
+        if draws.below(512) == 0 {
+            CountCall::All
+        } else if draws.in_eight(2) {
+            // one place far more often than the others
+            CountCall::Set(capacity / 2)
+        } else {
+            CountCall::Set(draws.below(capacity))
+        }
+    }
+
+    fn last(at: usize, _capacity: usize) -> Option<CountCall> {
+        if at < 2 { Some(CountCall::All) } else { None }
+    }
+}
+
+/// What an emptying hands out.
+#[tactic(auto, using(plain::proofs::Visits::takes_any))]
+fn empties(set: &mut plain::CountingBitSet) -> Heard {
+    let mut heard = Heard::new();
+    set.reset_all(|state| {
+        heard.hear(state.bit() as u64);
+        heard.hear(state.count());
+    });
+    heard
+}
+
+impl Answers<CountCall> for plain::CountingBitSet {
+    fn answer(&mut self, _rt: &impl Wait, call: CountCall) -> Answer {
+        match call {
+            CountCall::Set(place) => {
+                if place < self.capacity() {
+                    Answer::Number(self.set(place))
+                } else {
+                    Answer::Nothing
+                }
+            }
+            CountCall::All => Answer::Heard(empties(self)),
+        }
+    }
+}
+
+/// Who uses a counting bit set of threads.
+#[derive(Drop)]
+struct User<'a> {
+    set: &'a CountingBitSet,
+    pass: Pass,
+    ghost of: { IsPassOf set.now pass },
+}
+
+impl<'a> Answers<CountCall> for User<'a> {
+    fn answer(&mut self, _rt: &impl Wait, call: CountCall) -> Answer {
+        match call {
+            CountCall::Set(place) => {
+                if place < self.set.capacity() {
+                    Answer::Number(self.set.set(place, &mut self.pass))
+                } else {
+                    Answer::Nothing
+                }
+            }
+            CountCall::All => {
+                let mut heard = Heard::new();
+                self.set.reset_all(
+                    |state| {
+                        heard.hear(state.bit() as u64);
+                        heard.hear(state.count());
+                    },
+                    &mut self.pass,
+                );
+                Answer::Heard(heard)
+            }
+        }
+    }
+}
+
+/// Makes drawn calls on a set of one caller and on one of threads.
+fn plays<R: Abort + Wait>(
+    rt: &R,
+    name: &str,
+    alone: plain::CountingBitSet,
+    set: &CountingBitSet,
+    pass: Pass,
+)
+    requires { IsPassOf set.now pass }
+{
+    let mut alone = alone;
+    let mut user = User { set, pass };
+    let mut draws = Draws::new(SEED);
+    let capacity = set.capacity();
+    compare::<CountCall, _, _, R>(
+        rt,
+        name,
+        capacity,
+        &mut draws,
+        0..CALLS,
+        &mut alone,
+        &mut user,
+    );
+}
+
+#[test]
+fn drawn_counts(rt: HostRuntime) -> Result<(), Fail> {
+    for capacity in [0, 1, 2, 3, 5, 63, 64, 65, 130, 1000, 5000] {
+        let alone = plain::CountingBitSet::new(rt.alloc(), capacity)?;
+        let (set, pass) = CountingBitSet::new(rt.alloc(), capacity)?;
+        plays(&rt, "counts", alone, &set, pass);
+    }
+    let alone = plain::CountingBitSet::new(rt.alloc(), 5)?;
+    let (set, pass) = FixedSizeCountingBitSet::<5>::new(rt.alloc())?;
+    plays(&rt, "counts of a fixed size", alone, &set, pass);
+    Ok(())
+}

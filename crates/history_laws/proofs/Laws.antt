@@ -1,0 +1,43 @@
+-- The laws of a reached machine's history, and of one that a pass has seen.
+use Rattle.std.proofs.Common.{◌≡◌, ℕ, List, refl, sym, subst}
+use Rattle.model.specs.declared.event.Event.{Event}
+use Rattle.model.specs.declared.turn.Kind.{Kind}
+use Rattle.model.specs.declared.turn.Kind as kinds
+use Rattle.model.specs.Coding.{Coding}
+use Rattle.model.specs.Turns.{IsReachedOn}
+use Rattle.model.specs.World.{Trace}
+use Rattle.bit_laws.proofs.Laws.{sound_on}
+use Rattle.bit_laws.proofs.Bits.Invariant.{bit_set}
+use Rattle.bit_laws.proofs.Bits.Justified.{laws as bits_laws, bits_go_on}
+use Rattle.bit_laws.proofs.Counts.Invariant.{counting_set}
+use Rattle.bit_laws.proofs.Counts.Justified.{laws as counts_laws, counts_go_on}
+use Rattle.history.specs.History.{IsHistory}
+use Rattle.history_laws.specs.Acts.{ActsByPlace, IsSet}
+use Rattle.history_laws.proofs.BitActs.{bits_act}
+use Rattle.history_laws.proofs.CountActs.{counts_act}
+use Rattle.history_laws.proofs.Finds.{bits_find, counts_find}
+
+module _ {T : Type 0} (t : Trace T) (r : IsReachedOn t) where
+  bits_so : t.world.kind ≡ kinds.TheVariants.Bits → ActsByPlace kinds.TheVariants.Bits t.world.capacity t.events
+  bits_so is =
+      let kept = bits_go_on t is r in
+      bits_act t.world.capacity t.events (sound_on bit_set bits_laws t is r).inv.spans (bits_find t is r) kept.answers kept.within
+
+  counts_so : t.world.kind ≡ kinds.TheVariants.Counts → ActsByPlace kinds.TheVariants.Counts t.world.capacity t.events
+  counts_so is =
+      let kept = counts_go_on t is r in
+      counts_act t.world.capacity t.events (sound_on counting_set counts_laws t is r).inv.spans (counts_find t is r) kept.answers
+
+  of_kind : (kind : Kind) → t.world.kind ≡ kind → IsSet kind → ActsByPlace kind t.world.capacity t.events
+  of_kind kinds.TheVariants.Bits is set = bits_so is
+  of_kind kinds.TheVariants.Counts is set = counts_so is
+  of_kind kind is set = absurd set
+
+  pub runs_act : IsSet t.world.kind → ActsByPlace t.world.kind t.world.capacity t.events
+  runs_act set = of_kind t.world.kind refl set
+
+pub histories_act : {T : Type 0} (code : Coding T) (kind : Kind) (capacity : ℕ) (events : List (Event T)) → IsSet kind → IsHistory code kind capacity events → ActsByPlace kind capacity events
+histories_act code kind capacity events set h =
+    subst (λ es. ActsByPlace kind capacity es) (sym h.is)
+    (subst (λ c. ActsByPlace kind c h.trace.events) h.run.sized
+    (subst (λ k. ActsByPlace k h.trace.world.capacity h.trace.events) h.run.of_kind (runs_act h.trace h.run.reached (subst IsSet (sym h.run.of_kind) set))))

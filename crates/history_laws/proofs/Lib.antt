@@ -1,0 +1,10 @@
+pub mod BitActs
+pub mod BitWays
+pub mod CountActs
+pub mod Filling
+pub mod Finds
+pub mod Laws
+pub mod Marks
+pub mod Order
+pub mod Ways
+pub mod Worked

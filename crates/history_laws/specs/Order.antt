@@ -1,0 +1,29 @@
+-- The calls that passes made, in one history of invocations and responses.
+use Rattle.std.specs.Prelude.{◌≡◌, ◌≢◌, ◌≤◌, ◌<◌, ℕ, Some, List, [], ◌∷◌, length}
+use Rattle.std.specs.List.{Contains}
+use Rattle.model.specs.declared.event.Answer.{Answer}
+use Rattle.model.specs.declared.event.Event.{Event}
+use Rattle.model.specs.declared.event.Event.TheVariants.{Finished}
+use Rattle.model.specs.declared.event.Start.{Start}
+use Rattle.model.specs.Linearizable.{Call, calls_of}
+use Rattle.history.specs.declared.view.View.{View}
+
+module _ {T : Type 0} where
+  -- a call of this party stands in the history with this answer: behind all that its pass had seen, and its end is
+  -- in what its pass has seen now
+  pub record StandsIn (p : ℕ) (start : Start T) (answer : Answer T) (old new : View T)
+      (history : List (Event T)) : Type 0 where
+    pub call : Call T
+    pub there : Contains (calls_of history) call
+    pub party : call.party ≡ p
+    pub named : call.start ≡ start
+    pub ends : ℕ
+    pub answered : call.response ≡ Some (record { place = ends; answer = answer })
+    pub after : length old.seen ≤ call.place
+    pub before : ends < length new.seen
+
+  -- none of these is an end of a call of this party
+  abbrev pub EndsNone : ℕ → List (Event T) → Type 0
+  EndsNone p [] = Unit {0}
+  EndsNone p (Finished q start answer ∷ es) = (q ≢ p) × EndsNone p es
+  EndsNone p (e ∷ es) = EndsNone p es

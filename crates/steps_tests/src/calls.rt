@@ -1,0 +1,73 @@
+//! The calls of queues and of the single value, each with what it is given.
+use steps::atomic::{Load, Store};
+use steps::copied::{Copied, OneWord};
+use steps::queues::overflow;
+use steps::queues::ring::{Pop, Push};
+use steps::routine::Running;
+use steps::words::Words;
+
+pub fn push<T: Words + Drop>(capacity: u32, value: T) -> Running<Push<T>, T, ()> {
+    Running {
+        call: Push::new(capacity),
+        given: value,
+        room: (),
+    }
+}
+
+pub fn pop<T: Words>(capacity: u32) -> Running<Pop<T, Copied>, (), Copied> {
+    Running {
+        call: Pop::new(capacity),
+        given: (),
+        room: Copied::new(),
+    }
+}
+
+/// A pop of a value of one word, into a room of one word.
+pub fn pop_one(capacity: u32) -> Running<Pop<u64, OneWord>, (), OneWord> {
+    Running {
+        call: Pop::new(capacity),
+        given: (),
+        room: OneWord(0),
+    }
+}
+
+pub fn overflow_push(capacity: u32, value: u64) -> Running<overflow::Push, u64, OneWord> {
+    Running {
+        call: overflow::Push::new(capacity),
+        given: value,
+        room: OneWord(0),
+    }
+}
+
+pub fn overflow_pop(capacity: u32) -> Running<overflow::Pop, (), OneWord> {
+    Running {
+        call: overflow::Pop::new(capacity),
+        given: (),
+        room: OneWord(0),
+    }
+}
+
+pub fn store<T: Words + Drop>(value: T) -> Running<Store<T>, T, ()> {
+    Running {
+        call: Store::new(),
+        given: value,
+        room: (),
+    }
+}
+
+pub fn load<T: Words>() -> Running<Load<T, Copied>, (), Copied> {
+    Running {
+        call: Load::new(),
+        given: (),
+        room: Copied::new(),
+    }
+}
+
+/// A load of a value of one word, into a room of one word.
+pub fn load_one() -> Running<Load<u64, OneWord>, (), OneWord> {
+    Running {
+        call: Load::new(),
+        given: (),
+        room: OneWord(0),
+    }
+}
