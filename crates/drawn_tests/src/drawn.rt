@@ -144,7 +144,7 @@ pub fn compare<C: Call, P: Answers<C>, S: Answers<C>, R: Abort + Wait>(
             other,
             "{name} of {capacity}, seed {seed}, call {at}"
         );
-        next = at + 1;
+        next = at.wrapping_add(1);
         if answer.tells_lock() || after_lock > 0 {
             after_lock = after_lock.wrapping_add(1);
         }

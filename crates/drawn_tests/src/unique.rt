@@ -1,5 +1,5 @@
 //! Unique index sets: drawn calls.
-ghost use Rattle.std.specs.Prelude.{◌≡◌, Contains};
+ghost use Rattle.std.specs.Prelude.{◌≡◌, [], ◌∷◌};
 ghost use Rattle.lock_free.specs.UniqueIndexSet.{view, set_id, IsPassOf, index_set};
 
 use crate::drawn::{Answer, Answers, CALLS, Call, Draws, SEED, compare};
@@ -87,14 +87,14 @@ impl Answers<IndexCall> for plain::UniqueIndexSet {
     }
 }
 
-/// A raw index, with the pass that it was acquired with.
+/// A raw index, with the pass that holds it and nothing else.
 #[derive(Drop)]
 struct Raw<'a> {
     set: &'a UniqueIndexSet,
     pass: Pass,
     index: u32,
     ghost of: { IsPassOf set.now pass },
-    ghost held: { Contains (view pass).held index },
+    ghost held: { (view pass).held ≡ index ∷ [] },
 }
 
 /// A held index, with its set.
