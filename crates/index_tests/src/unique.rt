@@ -1,6 +1,5 @@
-//! The unique index set: real calls, alone and between threads.
-ghost use Rattle.lock_free.specs.UniqueIndexSet.{set_of, IsPassOf};
-ghost use Rattle.std.specs.Prelude.{◌≡◌};
+//! The unique index set: real calls, by one thread.
+ghost use Rattle.lock_free.specs.UniqueIndexSet.{IsPassOf};
 
 use lock_free::mpmc::unique_index_set::{
     FixedSizeUniqueIndexSet, Pass, UniqueIndex, UniqueIndexSet,
@@ -9,10 +8,7 @@ use lock_free::mpmc::unique_index_set_enums::{
     ReleaseState, UniqueIndexCreationError, UniqueIndexSetAcquireFailure,
 };
 use std::sync::Wait;
-use std::sync::atomic::{AtomicU64, Ordering};
 use std::test::Fail;
-use std::thread;
-use std::thread::Threads;
 
 /// Whether a set of three hands its indices out and takes them back as a stack, by held indices.
 fn holds_three(rt: &impl Wait, set: &UniqueIndexSet, pass: Pass) -> Option<bool>
@@ -151,54 +147,12 @@ fn refused_capacities(rt: HostRuntime) {
     assert!(rt; reduced == [Some(zero), Some(above), Some(above), None]);
 }
 
-/// One who takes indices of a set and gives them back.
+/// One who takes indices of a set.
 #[derive(Drop)]
 struct User<'a> {
     set: &'a UniqueIndexSet,
     pass: Pass,
     ghost of: { IsPassOf set.now pass },
-}
-
-/// Which indices somebody has: 1 where it is so.
-#[derive(Drop)]
-struct Holders {
-    flags: [AtomicU64; 3],
-}
-
-impl Holders {
-    /// Whether nobody had this index, which somebody has now.
-    fn enter(&self, index: u32) -> bool {
-        match self.flags.get(index as usize) {
-            Some(flag) => flag.swap(1, Ordering::SeqCst) == 0,
-            None => false,
-        }
-    }
-
-    /// Whether somebody had this index, which nobody has now.
-    fn leave(&self, index: u32) -> bool {
-        match self.flags.get(index as usize) {
-            Some(flag) => flag.swap(0, Ordering::SeqCst) == 1,
-            None => false,
-        }
-    }
-}
-
-/// Takes an index and gives it back: whether nobody else had it. None where there was none.
-fn raw_turn(
-    rt: &impl Wait,
-    set: &UniqueIndexSet,
-    pass: &mut Pass,
-    holders: &Holders,
-) -> Option<bool>
-    requires { IsPassOf set.now pass.old }
-    ensures { set_of pass.new ≡ set_of pass.old }
-{
-    let Ok(index) = set.acquire_raw_index(rt, pass) else {
-        return None;
-    };
-    let alone = holders.enter(index) & holders.leave(index);
-    set.release_raw_index(index, pass);
-    Some(alone)
 }
 
 impl<'a> User<'a> {
@@ -212,36 +166,6 @@ impl<'a> User<'a> {
         let out = UniqueIndexSetAcquireFailure::OutOfIndices;
         self.set.acquire_raw_index(rt, &mut self.pass) == Err(out)
             && self.set.borrowed_indices(&mut self.pass) == borrowed
-    }
-
-    /// Takes an index and gives it back, each thousandth time by a pass that is split off and a held index that is
-    /// dropped: whether nobody else had it. None where there was none.
-    fn turn(&mut self, rt: &impl Wait, at: u64, holders: &Holders) -> Option<bool> {
-        if at % 1000 != 0 {
-            return raw_turn(rt, self.set, &mut self.pass, holders);
-        }
-        let pass = self.pass.split()?;
-        let Ok(held) = self.set.acquire(rt, pass) else {
-            return None;
-        };
-        let alone = holders.enter(held.value()) & holders.leave(held.value());
-        drop(held);
-        Some(alone)
-    }
-
-    /// Whether nobody else had any of 10,000 indices that it took and gave back.
-    fn turns(&mut self, rt: &impl Wait, holders: &Holders) -> bool {
-        let mut alone = true;
-        for at in 0..10_000 {
-            for _ in rt.forever() {
-                if let Some(one) = self.turn(rt, at, holders) {
-                    alone &= one;
-                    break;
-                }
-                thread::yield_now();
-            }
-        }
-        alone
     }
 }
 
@@ -266,63 +190,6 @@ fn a_set_of_a_million(rt: HostRuntime) -> Result<(), Fail> {
         assert!(rt; user.takes(&rt, index));
     }
     assert!(rt; user.finds_none(&rt, 1_000_000));
-    Ok(())
-}
-
-/// Whether two users, each in a thread, are alone with what they have.
-fn two_turn<R: Wait + Threads + Sync>(
-    rt: &R,
-    one: User<'_>,
-    other: User<'_>,
-    holders: &Holders,
-) -> bool {
-    let (mut one, mut other) = (one, other);
-    let (left, right) = thread::join(
-        rt,
-        move || one.turns(rt, holders),
-        move || other.turns(rt, holders),
-    );
-    left & right
-}
-
-/// Whether four users of a set, each in a thread, are alone with what they have, and leave nothing out. None where
-/// there are no further passes.
-fn four_turn<R: Wait + Threads + Sync>(rt: &R, set: &UniqueIndexSet, pass: Pass) -> Option<bool>
-    requires { IsPassOf set.now pass }
-{
-    let mut pass = pass;
-    let first = User {
-        set,
-        pass: pass.split()?,
-    };
-    let second = User {
-        set,
-        pass: pass.split()?,
-    };
-    let third = User {
-        set,
-        pass: pass.split()?,
-    };
-    let fourth = User {
-        set,
-        pass: pass.split()?,
-    };
-    let holders = Holders {
-        flags: [AtomicU64::new(0), AtomicU64::new(0), AtomicU64::new(0)],
-    };
-    let table = &holders;
-    let (left, right) = thread::join(
-        rt,
-        move || two_turn(rt, first, second, table),
-        move || two_turn(rt, third, fourth, table),
-    );
-    Some(left & right && set.borrowed_indices(&mut pass) == 0)
-}
-
-#[test]
-fn four_threads_on_three_indices(rt: HostRuntime) -> Result<(), Fail> {
-    let (set, pass) = UniqueIndexSet::new(rt.alloc(), 3)?;
-    assert_eq!(rt; four_turn(&rt, &set, pass), Some(true));
     Ok(())
 }
 

@@ -1,4 +1,4 @@
-//! Bit sets and counting bit sets: alone, and between threads.
+//! Bit sets and counting bit sets: by one thread.
 ghost use Rattle.lock_free.specs.Bits.Calls.{IsPassOf};
 ghost use Rattle.lock_free.specs.Counts.Calls.{IsPassOf as IsCountsPassOf};
 
@@ -8,8 +8,6 @@ use lock_free::mpmc::unique_index_set_enums::UniqueIndexCreationError;
 use lock_free::mpmc::{bit_set, counting_bit_set};
 use std::sync::Wait;
 use std::test::Fail;
-use std::thread;
-use std::thread::Threads;
 
 /// One who uses a bit set.
 #[derive(Drop)]
@@ -232,110 +230,6 @@ fn sets_of_no_place(rt: HostRuntime) -> Result<(), Fail> {
     let mut user = CountUser::new(&set, pass);
     let mut other = user.another().ok_or("no further pass")?;
     assert_eq!(rt; other.empties(), (0, 0));
-    Ok(())
-}
-
-/// Sets each of 130 places 300 times: how often it was this call that set it.
-fn set_many(rt: &impl Wait, mut user: BitUser<'_>) -> u64 {
-    let mut number = 0u64;
-    for _ in 0..300 {
-        for place in 0..130 {
-            if user.sets(rt, place) {
-                number = number.wrapping_add(1);
-            }
-        }
-        thread::yield_now();
-    }
-    number
-}
-
-/// Resets places in both ways: how many were handed out.
-fn reset_many(rt: &impl Wait, mut user: BitUser<'_>) -> u64 {
-    let mut number = 0u64;
-    for _ in 0..300 {
-        number = number.wrapping_add(user.empties().0);
-        for _ in 0..40 {
-            if user.next(rt).is_some() {
-                number = number.wrapping_add(1);
-            }
-        }
-        thread::yield_now();
-    }
-    number
-}
-
-/// What two threads do: how often the first set a place, and how many the second handed out.
-fn set_and_reset<R: Threads + Wait + Sync>(
-    rt: &R,
-    first: BitUser<'_>,
-    second: BitUser<'_>,
-) -> (u64, u64) {
-    thread::join(
-        rt,
-        move || set_many(rt, first),
-        move || reset_many(rt, second),
-    )
-}
-
-/// Whether as many places as two threads set are handed out by a third, or stand at the end.
-fn bits_between<R: Threads + Wait + Sync>(rt: &R, mut user: BitUser<'_>) -> Option<bool> {
-    let first = user.another()?;
-    let second = user.another()?;
-    let third = user.another()?;
-    let (one, (two, reset)) = thread::join(
-        rt,
-        move || set_many(rt, first),
-        move || set_and_reset(rt, second, third),
-    );
-    let left = user.empties().0;
-    Some(one.wrapping_add(two) == reset.wrapping_add(left))
-}
-
-/// Counts each of 7 places 300 times.
-fn count_many(mut user: CountUser<'_>) {
-    for _ in 0..300 {
-        for place in 0..7 {
-            user.counts(place);
-        }
-        thread::yield_now();
-    }
-}
-
-/// Takes the counts out 300 times: their sum.
-fn take_many(mut user: CountUser<'_>) -> u64 {
-    let mut sum = 0u64;
-    for _ in 0..300 {
-        sum = sum.wrapping_add(user.empties().0);
-        thread::yield_now();
-    }
-    sum
-}
-
-/// What two threads do: the sum of the counts that the second takes out.
-fn count_and_take<R: Threads + Sync>(rt: &R, first: CountUser<'_>, second: CountUser<'_>) -> u64 {
-    let (_, taken) = thread::join(rt, move || count_many(first), move || take_many(second));
-    taken
-}
-
-/// What was taken out while two threads counted 4,200 times, and what stood at the end.
-fn counts_between<R: Threads + Sync>(rt: &R, mut user: CountUser<'_>) -> Option<u64> {
-    let first = user.another()?;
-    let second = user.another()?;
-    let third = user.another()?;
-    let (_, taken) = thread::join(
-        rt,
-        move || count_many(first),
-        move || count_and_take(rt, second, third),
-    );
-    Some(taken.wrapping_add(user.empties().0))
-}
-
-#[test]
-fn sets_between_threads(rt: HostRuntime) -> Result<(), Fail> {
-    let (set, pass) = BitSet::new(rt.alloc(), 130)?;
-    assert_eq!(rt; bits_between(&rt, BitUser::new(&set, pass)), Some(true));
-    let (set, pass) = CountingBitSet::new(rt.alloc(), 7)?;
-    assert_eq!(rt; counts_between(&rt, CountUser::new(&set, pass)), Some(4200));
     Ok(())
 }
 

@@ -36,29 +36,6 @@ fn two_turn<R: Wait + Threads + Abort + Sync>(rt: &R, one: Turner<'_>, other: Tu
     left & right
 }
 
-/// Whether four owners, each in a thread, get their indices back. None where there are no further passes.
-fn four_turn<R: Wait + Threads + Abort + Sync>(rt: &R, user: &mut User<'_>) -> Option<bool> {
-    let first = joins(user, 1)?;
-    let second = joins(user, 2)?;
-    let third = joins(user, 3)?;
-    let fourth = joins(user, 4)?;
-    let (left, right) = thread::join(
-        rt,
-        move || two_turn(rt, first, second),
-        move || two_turn(rt, third, fourth),
-    );
-    Some(left & right)
-}
-
-#[test]
-fn four_owners_on_three_indices(rt: HostRuntime) -> Result<(), Fail> {
-    let (set, pass) = RobustUniqueIndexSet::new(rt.alloc(), 3)?;
-    let mut user = User { set: &set, pass };
-    assert!(rt; four_turn(&rt, &mut user) == Some(true));
-    assert!(rt; user.borrowed(&rt) == 0 && !user.is_locked());
-    Ok(())
-}
-
 /// Recovers the indices of a dead owner.
 fn recovers<R: Wait + Abort>(rt: &R, mut user: User<'_>, dead: u64) -> (Calls, bool, ReleaseState) {
     let dead = owner(rt, dead);
