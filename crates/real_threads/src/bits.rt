@@ -91,17 +91,32 @@ impl<'a> BitUser<'a> {
         })
     }
 
-    /// Sets each place, round for round: where it was this one who did.
+    /// Sets a place: where it was this one who did.
+    fn set_one(&mut self, rt: &impl Wait, place: usize, sums: &mut Sums) {
+        if place < self.set.capacity() {
+            if self.set.set(rt, place, &mut self.pass) {
+                sums.add(place, 1);
+            }
+        }
+    }
+
+    /// Sets each place, round for round.
     fn sets(mut self, rt: &impl Wait, mut sums: Sums) -> Sums {
+        let places = self.set.capacity();
         for _ in 0..ROUNDS {
-            for place in 0..self.set.capacity() {
-                if self.set.set(rt, place, &mut self.pass) {
-                    sums.add(place, 1);
-                }
+            for place in 0..places {
+                self.set_one(rt, place, &mut sums);
             }
             thread::yield_now();
         }
         sums
+    }
+
+    /// The next place that stands, if any.
+    fn reset(&mut self, rt: &impl Wait, sums: &mut Sums) {
+        if let Some(place) = self.set.reset_next(rt, &mut self.pass) {
+            sums.add(place, 1);
+        }
     }
 
     /// All that stand.
@@ -115,9 +130,7 @@ impl<'a> BitUser<'a> {
         for _ in 0..ROUNDS {
             self.empties(&mut sums);
             for _ in 0..40 {
-                if let Some(place) = self.set.reset_next(rt, &mut self.pass) {
-                    sums.add(place, 1);
-                }
+                self.reset(rt, &mut sums);
             }
             thread::yield_now();
         }
