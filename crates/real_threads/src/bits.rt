@@ -60,10 +60,11 @@ impl Three {
         })
     }
 
-    /// The first place, if any, that was set otherwise than taken out.
+    /// The first place, if any, that nobody set, or that was set otherwise than taken out.
     fn differs(&self) -> Option<usize> {
         for place in 0..self.out.of.len() {
-            if self.one.at(place).wrapping_add(self.two.at(place)) != self.out.at(place) {
+            let set = self.one.at(place).wrapping_add(self.two.at(place));
+            if set == 0 || set != self.out.at(place) {
                 return Some(place);
             }
         }
@@ -90,17 +91,32 @@ impl<'a> BitUser<'a> {
         })
     }
 
-    /// Sets each place, round for round: where it was this one who did.
+    /// Sets a place: where it was this one who did.
+    fn set_one(&mut self, rt: &impl Wait, place: usize, sums: &mut Sums) {
+        if place < self.set.capacity() {
+            if self.set.set(rt, place, &mut self.pass) {
+                sums.add(place, 1);
+            }
+        }
+    }
+
+    /// Sets each place, round for round.
     fn sets(mut self, rt: &impl Wait, mut sums: Sums) -> Sums {
+        let places = self.set.capacity();
         for _ in 0..ROUNDS {
-            for place in 0..self.set.capacity() {
-                if self.set.set(rt, place, &mut self.pass) {
-                    sums.add(place, 1);
-                }
+            for place in 0..places {
+                self.set_one(rt, place, &mut sums);
             }
             thread::yield_now();
         }
         sums
+    }
+
+    /// The next place that stands, if any.
+    fn reset(&mut self, rt: &impl Wait, sums: &mut Sums) {
+        if let Some(place) = self.set.reset_next(rt, &mut self.pass) {
+            sums.add(place, 1);
+        }
     }
 
     /// All that stand.
@@ -114,9 +130,7 @@ impl<'a> BitUser<'a> {
         for _ in 0..ROUNDS {
             self.empties(&mut sums);
             for _ in 0..40 {
-                if let Some(place) = self.set.reset_next(rt, &mut self.pass) {
-                    sums.add(place, 1);
-                }
+                self.reset(rt, &mut sums);
             }
             thread::yield_now();
         }
@@ -177,12 +191,20 @@ impl<'a> CountUser<'a> {
         })
     }
 
+    /// Counts a place.
+    fn count(&mut self, place: usize, sums: &mut Sums) {
+        if place < self.set.capacity() {
+            self.set.set(place, &mut self.pass);
+            sums.add(place, 1);
+        }
+    }
+
     /// Counts each place, round for round: where and how often.
     fn counts(mut self, mut sums: Sums) -> Sums {
+        let places = self.set.capacity();
         for _ in 0..ROUNDS {
-            for place in 0..self.set.capacity() {
-                self.set.set(place, &mut self.pass);
-                sums.add(place, 1);
+            for place in 0..places {
+                self.count(place, &mut sums);
             }
             thread::yield_now();
         }

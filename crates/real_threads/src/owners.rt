@@ -58,6 +58,10 @@ impl<'a> User<'a> {
         None
     }
 
+    fn is_locked(&mut self) -> bool {
+        self.set.is_locked(&mut self.pass)
+    }
+
     /// Another owner, of this number.
     fn another(&mut self, number: u64) -> Option<User<'a>> {
         let owner = OwnerId::new(number).ok()?;
@@ -114,6 +118,6 @@ fn four_owners_on_three_indices(rt: HostRuntime) -> Result<(), Fail> {
         pass,
     };
     assert_eq!(rt; user.four_turn(&rt), Some((true, 0)));
-    assert!(rt; !set.is_locked(&mut user.pass));
+    assert!(rt; !user.is_locked());
     Ok(())
 }

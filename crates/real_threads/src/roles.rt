@@ -102,14 +102,23 @@ struct Heir<'a> {
 }
 
 impl<'a> Heir<'a> {
+    /// The role, where it is free.
+    fn asks(&mut self) -> Option<Producer<'a>> {
+        let pass = self.pass.split()?;
+        match self.queue.acquire_producer(pass) {
+            Ok(producer) => Some(producer),
+            Err(pass) => {
+                self.pass.join(pass);
+                None
+            }
+        }
+    }
+
     /// Whether this one waits until the role is free, and then pushes 500 to 999.
-    fn takes_up(self) -> bool {
-        let mut heir = self;
+    fn takes_up(mut self) -> bool {
         for turn in 0..LIMIT {
-            let Heir { queue, pass } = heir;
-            match queue.acquire_producer(pass) {
-                Ok(producer) => return pushes(producer, 500, 1000, LIMIT - turn),
-                Err(pass) => heir = Heir { queue, pass },
+            if let Some(producer) = self.asks() {
+                return pushes(producer, 500, 1000, LIMIT - turn);
             }
             pause(turn);
         }
