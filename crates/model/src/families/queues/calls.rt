@@ -235,41 +235,59 @@ impl<T: Words> QueueFlight<T> {
     {
         match self {
             QueueFlight::Role(RoleCall::Acquire(run)) => {
-                let taken = run.go_on(answer)?;
-                Some(Answer::Truth(taken))
+                match run.go_on(answer) {
+                    Some(taken) => Some(Answer::Truth(taken)),
+                    None => None
+                }
             }
             QueueFlight::Role(RoleCall::Release(run)) => {
-                let () = run.go_on(answer)?;
-                Some(Answer::Done)
+                match run.go_on(answer) {
+                    Some(()) => Some(Answer::Done),
+                    None => None
+                }
             }
             QueueFlight::Indices(RingCall::Push(run)) => {
-                let pushed = run.go_on(answer)?;
-                Some(Answer::Truth(pushed))
+                match run.go_on(answer) {
+                    Some(pushed) => Some(Answer::Truth(pushed)),
+                    None => None
+                }
             }
             QueueFlight::Indices(RingCall::Pop(run)) => {
-                let value = run.go_on(answer)?;
-                Some(popped(value))
+                match run.go_on(answer) {
+                    Some(value) => Some(popped(value)),
+                    None => None
+                }
             }
             QueueFlight::Values(RingCall::Push(run)) => {
-                let pushed = run.go_on(answer)?;
-                Some(Answer::Truth(pushed))
+                match run.go_on(answer) {
+                    Some(pushed) => Some(Answer::Truth(pushed)),
+                    None => None
+                }
             }
             QueueFlight::Values(RingCall::Pop(run)) => {
-                let value = run.go_on(answer)?;
-                Some(popped_value(value))
+                match run.go_on(answer) {
+                    Some(value) => Some(popped_value(value)),
+                    None => None
+                }
             }
             QueueFlight::Overflow(OverflowCall::Push(run)) => {
-                let oldest = run.go_on(answer)?;
-                Some(popped(oldest))
+                match run.go_on(answer) {
+                    Some(oldest) => Some(popped(oldest)),
+                    None => None
+                }
             }
             QueueFlight::Overflow(OverflowCall::Pop(run)) => {
-                let value = run.go_on(answer)?;
-                Some(popped(value))
+                match run.go_on(answer) {
+                    Some(value) => Some(popped(value)),
+                    None => None
+                }
             }
             QueueFlight::Length(which, run) => {
                 let capacity = run.call.capacity;
-                let number = run.go_on(answer)?;
-                Some(length_answer(*which, capacity, number))
+                match run.go_on(answer) {
+                    Some(number) => Some(length_answer(*which, capacity, number)),
+                    None => None
+                }
             }
         }
     }
