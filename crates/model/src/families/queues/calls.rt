@@ -234,59 +234,51 @@ impl<T: Words> QueueFlight<T> {
         ensures { CameTo result self.new (after ⟦<T as Coded>⟧.coding self.old answer) }
     {
         match self {
-            QueueFlight::Role(RoleCall::Acquire(run)) => {
-                match run.go_on(answer) {
+            QueueFlight::Role(call) => match call {
+                RoleCall::Acquire(run) => match run.go_on(answer) {
                     Some(taken) => Some(Answer::Truth(taken)),
-                    None => None
-                }
-            }
-            QueueFlight::Role(RoleCall::Release(run)) => {
-                match run.go_on(answer) {
+                    None => None,
+                },
+                RoleCall::Release(run) => match run.go_on(answer) {
                     Some(()) => Some(Answer::Done),
-                    None => None
-                }
-            }
-            QueueFlight::Indices(RingCall::Push(run)) => {
-                match run.go_on(answer) {
+                    None => None,
+                },
+            },
+            QueueFlight::Indices(call) => match call {
+                RingCall::Push(run) => match run.go_on(answer) {
                     Some(pushed) => Some(Answer::Truth(pushed)),
-                    None => None
-                }
-            }
-            QueueFlight::Indices(RingCall::Pop(run)) => {
-                match run.go_on(answer) {
+                    None => None,
+                },
+                RingCall::Pop(run) => match run.go_on(answer) {
                     Some(value) => Some(popped(value)),
-                    None => None
-                }
-            }
-            QueueFlight::Values(RingCall::Push(run)) => {
-                match run.go_on(answer) {
+                    None => None,
+                },
+            },
+            QueueFlight::Values(call) => match call {
+                RingCall::Push(run) => match run.go_on(answer) {
                     Some(pushed) => Some(Answer::Truth(pushed)),
-                    None => None
-                }
-            }
-            QueueFlight::Values(RingCall::Pop(run)) => {
-                match run.go_on(answer) {
+                    None => None,
+                },
+                RingCall::Pop(run) => match run.go_on(answer) {
                     Some(value) => Some(popped_value(value)),
-                    None => None
-                }
-            }
-            QueueFlight::Overflow(OverflowCall::Push(run)) => {
-                match run.go_on(answer) {
+                    None => None,
+                },
+            },
+            QueueFlight::Overflow(call) => match call {
+                OverflowCall::Push(run) => match run.go_on(answer) {
                     Some(oldest) => Some(popped(oldest)),
-                    None => None
-                }
-            }
-            QueueFlight::Overflow(OverflowCall::Pop(run)) => {
-                match run.go_on(answer) {
+                    None => None,
+                },
+                OverflowCall::Pop(run) => match run.go_on(answer) {
                     Some(value) => Some(popped(value)),
-                    None => None
-                }
-            }
+                    None => None,
+                },
+            },
             QueueFlight::Length(which, run) => {
                 let capacity = run.call.capacity;
                 match run.go_on(answer) {
                     Some(number) => Some(length_answer(*which, capacity, number)),
-                    None => None
+                    None => None,
                 }
             }
         }
