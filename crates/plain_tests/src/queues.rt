@@ -136,25 +136,46 @@ fn overflowing_queues(rt: HostRuntime) -> Result<(), Fail> {
     Ok(())
 }
 
+/// Whether the queue takes the value, and the number that waits then, and whether it is empty and full, are these.
+fn takes(queue: &mut Queue<u128>, value: u128, says: (usize, bool, bool)) -> bool {
+    queue.push(value) && (queue.len(), queue.is_empty(), queue.is_full()) == says
+}
+
+/// The same of a push of the overflowing queue that hands this back.
+fn overflows(
+    queue: &mut SafelyOverflowingIndexQueue,
+    value: u64,
+    back: Option<u64>,
+    says: (usize, bool, bool),
+) -> bool {
+    queue.push(value) == back && (queue.len(), queue.is_empty(), queue.is_full()) == says
+}
+
 #[test]
-fn looks_and_refusals(rt: HostRuntime) -> Result<(), Fail> {
-    let mut queue = Queue::<u128>::new(rt.alloc(), 2)?;
-    assert!(rt; queue.is_empty() && queue.push(1 << 90));
-    assert!(rt; queue.len() == 1 && !queue.is_empty() && !queue.is_full());
-    assert!(rt; queue.push(2) && queue.is_full() && queue.capacity() == 2);
+fn looks(rt: HostRuntime) -> Result<(), Fail> {
+    let mut queue = Queue::new(rt.alloc(), 2)?;
+    assert!(rt; queue.is_empty() && queue.capacity() == 2);
+    assert!(rt; takes(&mut queue, 1 << 90, (1, false, false)));
+    assert!(rt; takes(&mut queue, 2, (2, false, true)));
     assert_eq!(rt; queue.pop(), Some(1 << 90));
-    let mut over = SafelyOverflowingIndexQueue::new(rt.alloc(), 1)?;
-    assert!(rt; over.is_empty() && over.push(5).is_none());
-    assert!(rt; over.is_full() && over.push(6) == Some(5) && over.len() == 1);
-    assert_eq!(rt; over.capacity(), 1);
-    let past = 1 << 32;
-    assert_eq!(rt;
-        IndexQueue::new(rt.alloc(), past).err(),
-        Some(UniqueIndexCreationError::ProvidedCapacityGreaterThanMaxCapacity)
-    );
-    assert_eq!(rt;
-        SafelyOverflowingIndexQueue::new(rt.alloc(), past).err(),
-        Some(UniqueIndexCreationError::ProvidedCapacityGreaterThanMaxCapacity)
-    );
     Ok(())
+}
+
+#[test]
+fn looks_of_an_overflowing_queue(rt: HostRuntime) -> Result<(), Fail> {
+    let mut queue = SafelyOverflowingIndexQueue::new(rt.alloc(), 1)?;
+    assert!(rt; queue.is_empty() && queue.capacity() == 1);
+    assert!(rt; overflows(&mut queue, 5, None, (1, false, true)));
+    assert!(rt; overflows(&mut queue, 6, Some(5), (1, false, true)));
+    Ok(())
+}
+
+#[test]
+fn refused_queues(rt: HostRuntime) {
+    let above = Some(UniqueIndexCreationError::ProvidedCapacityGreaterThanMaxCapacity);
+    assert_eq!(rt; IndexQueue::new(rt.alloc(), 1 << 32).err(), above);
+    assert_eq!(rt;
+        SafelyOverflowingIndexQueue::new(rt.alloc(), 1 << 32).err(),
+        above
+    );
 }

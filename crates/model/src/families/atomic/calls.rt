@@ -86,20 +86,28 @@ impl<T: Words> AtomicFlight<T> {
     {
         match self {
             AtomicFlight::Acquire(run) => {
-                let taken = run.go_on(answer)?;
-                Some(Answer::Truth(taken))
+                match run.go_on(answer) {
+                    Some(taken) => Some(Answer::Truth(taken)),
+                    None => None
+                }
             }
             AtomicFlight::Release(run) => {
-                let () = run.go_on(answer)?;
-                Some(Answer::Done)
+                match run.go_on(answer) {
+                    Some(()) => Some(Answer::Done),
+                    None => None
+                }
             }
             AtomicFlight::Store(run) => {
-                let stored = run.go_on(answer)?;
-                Some(Answer::Truth(stored))
+                match run.go_on(answer) {
+                    Some(stored) => Some(Answer::Truth(stored)),
+                    None => None
+                }
             }
             AtomicFlight::Load(run) => {
-                let value = run.go_on(answer)?;
-                Some(Answer::Loaded(value))
+                match run.go_on(answer) {
+                    Some(value) => Some(Answer::Loaded(value)),
+                    None => None
+                }
             }
         }
     }

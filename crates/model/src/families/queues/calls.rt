@@ -234,42 +234,52 @@ impl<T: Words> QueueFlight<T> {
         ensures { CameTo result self.new (after ⟦<T as Coded>⟧.coding self.old answer) }
     {
         match self {
-            QueueFlight::Role(RoleCall::Acquire(run)) => {
-                let taken = run.go_on(answer)?;
-                Some(Answer::Truth(taken))
-            }
-            QueueFlight::Role(RoleCall::Release(run)) => {
-                let () = run.go_on(answer)?;
-                Some(Answer::Done)
-            }
-            QueueFlight::Indices(RingCall::Push(run)) => {
-                let pushed = run.go_on(answer)?;
-                Some(Answer::Truth(pushed))
-            }
-            QueueFlight::Indices(RingCall::Pop(run)) => {
-                let value = run.go_on(answer)?;
-                Some(popped(value))
-            }
-            QueueFlight::Values(RingCall::Push(run)) => {
-                let pushed = run.go_on(answer)?;
-                Some(Answer::Truth(pushed))
-            }
-            QueueFlight::Values(RingCall::Pop(run)) => {
-                let value = run.go_on(answer)?;
-                Some(popped_value(value))
-            }
-            QueueFlight::Overflow(OverflowCall::Push(run)) => {
-                let oldest = run.go_on(answer)?;
-                Some(popped(oldest))
-            }
-            QueueFlight::Overflow(OverflowCall::Pop(run)) => {
-                let value = run.go_on(answer)?;
-                Some(popped(value))
-            }
+            QueueFlight::Role(call) => match call {
+                RoleCall::Acquire(run) => match run.go_on(answer) {
+                    Some(taken) => Some(Answer::Truth(taken)),
+                    None => None,
+                },
+                RoleCall::Release(run) => match run.go_on(answer) {
+                    Some(()) => Some(Answer::Done),
+                    None => None,
+                },
+            },
+            QueueFlight::Indices(call) => match call {
+                RingCall::Push(run) => match run.go_on(answer) {
+                    Some(pushed) => Some(Answer::Truth(pushed)),
+                    None => None,
+                },
+                RingCall::Pop(run) => match run.go_on(answer) {
+                    Some(value) => Some(popped(value)),
+                    None => None,
+                },
+            },
+            QueueFlight::Values(call) => match call {
+                RingCall::Push(run) => match run.go_on(answer) {
+                    Some(pushed) => Some(Answer::Truth(pushed)),
+                    None => None,
+                },
+                RingCall::Pop(run) => match run.go_on(answer) {
+                    Some(value) => Some(popped_value(value)),
+                    None => None,
+                },
+            },
+            QueueFlight::Overflow(call) => match call {
+                OverflowCall::Push(run) => match run.go_on(answer) {
+                    Some(oldest) => Some(popped(oldest)),
+                    None => None,
+                },
+                OverflowCall::Pop(run) => match run.go_on(answer) {
+                    Some(value) => Some(popped(value)),
+                    None => None,
+                },
+            },
             QueueFlight::Length(which, run) => {
                 let capacity = run.call.capacity;
-                let number = run.go_on(answer)?;
-                Some(length_answer(*which, capacity, number))
+                match run.go_on(answer) {
+                    Some(number) => Some(length_answer(*which, capacity, number)),
+                    None => None,
+                }
             }
         }
     }
