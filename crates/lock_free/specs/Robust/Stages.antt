@@ -133,6 +133,11 @@ BorrowedStands v call = (call.capacity ≡ v.capacity) × CountStands v call.cou
 abbrev pub BorrowedEnds : View → ℕ → Unit {0} → View → Type 0
 BorrowedEnds base n room w = (w ≡ base) × WasCounted base n
 
+-- how a step of it ends
+abbrev pub BorrowedGoes : View → After BorrowedIndices ℕ → Type 0
+BorrowedGoes v (GoOn d) = BorrowedStands v d
+BorrowedGoes v (Done n) = WasCounted v n
+
 abbrev pub LookStands : View → IsLocked → Type 0
 LookStands v call = Unit {0}
 
