@@ -1,5 +1,5 @@
 -- Resetting all places: the closure is called with just those that the call clears.
-use Rattle.std.proofs.Common.{◌≡◌, inl, ⊎_elim, true≢false, ◌==◌, ℕ, zero, suc, ◌+◌, ◌-◌, ◌*◌, ◌/◌, ◌<◌, ◌≤◌, Bool, true, false, cond, Some, None, List, [], ◌∷◌, ◌++◌, map, refl, sym, ap, subst, ◌∙◌, arith, append_assoc, append-nil, add-one}
+use Rattle.std.proofs.Common.{◌≡◌, inl, ⊎_elim, true≢false, ◌==◌, ℕ, zero, suc, ◌+◌, ◌-◌, ◌*◌, ◌/◌, ◌<◌, ◌≤◌, Bool, true, false, cond, Some, None, List, [], ◌∷◌, ◌++◌, map, refl, sym, ap, subst, ◌∙◌, arith, append_assoc, append-nil}
 use Rattle.std.proofs.lemmas.List.{map-append}
 use Rattle.std.specs.List.{FoldsTo, All, AllPairs, filter, range_with_len, count_by}
 use Rattle.std.proofs.lemmas.Bool.{cases_lt}
@@ -11,7 +11,6 @@ use Rattle.steps.specs.Bits.Places.{first_place, places_in}
 use Rattle.steps.specs.Bits.ResetAll.{all_bits, reset_all_after, reset_all_kept}
 use Rattle.steps.specs.Bits.Words.{element_of, elements, has_flag}
 use Rattle.steps.proofs.Flags.Places.{place_named}
-use Rattle.steps.proofs.Flags.Words.{none_stands}
 use Rattle.steps.specs.declared.ask.After.{After}
 use Rattle.steps.specs.declared.ask.After.TheVariants.{GoOn, Done}
 use Rattle.steps.specs.declared.bits.reset_all.ResetAll.{ResetAll as Emptying}
@@ -103,10 +102,14 @@ visited_more {F} R found first n v p q t is hit miss h =
     go true e hits misses = rw e (FoldsTo-push R v (filter has (range_with_len first n)) p (first + n) q h (hits refl))
     go false e hits misses = rw e (subst (λ xs. FoldsTo R v xs q) (sym (append-nil (filter has (range_with_len first n)))) (subst (λ z. FoldsTo R v (filter has (range_with_len first n)) z) (sym (misses refl)) h))
 
--- the word 0 has no flag
-pub visited_none : {F : Type 0} (R : F → ℕ → F → Type 0) (first n : ℕ) (v : F) → Visited R 0 first v n v
-visited_none R first zero v = refl
-visited_none R first (suc n) v = subst (λ m. Visited R 0 first v m v) (add-one n) (visited_more R 0 first n v v v false (none_stands (first + n)) (λ e. absurd (true≢false (sym e))) (λ e. refl) (visited_none R first n v))
+-- no flag stands from here on
+pub visited_rest : {F : Type 0} (R : F → ℕ → F → Type 0) (found first n m : ℕ) (v p : F) → ((i : ℕ) → n ≤ i → i < n + m → has_flag found (first + i) ≡ false) → Visited R found first v n p → Visited R found first v (n + m) p
+visited_rest R found first n zero v p none h =
+    let same : n ≡ n + 0 = omega arith in subst (λ k. Visited R found first v k p) same h
+visited_rest R found first n (suc m) v p none h =
+    let up : (n + m) + 1 ≡ n + suc m = omega arith in
+    subst (λ k. Visited R found first v k p) up
+    (visited_more R found first (n + m) v p p false (none (n + m) (omega arith) (omega arith)) (λ e. absurd (true≢false (sym e))) (λ e. refl) (visited_rest R found first n m v p (λ i low high. none i low (omega arith)) h))
 
 -- ---- no place past the capacity is found
 

@@ -133,6 +133,11 @@ BorrowedStands v call = (call.capacity ≡ v.capacity) × CountStands v call.cou
 abbrev pub BorrowedEnds : View → ℕ → Unit {0} → View → Type 0
 BorrowedEnds base n room w = (w ≡ base) × WasCounted base n
 
+-- how a step of it ends
+abbrev pub BorrowedGoes : View → After BorrowedIndices ℕ → Type 0
+BorrowedGoes v (GoOn d) = BorrowedStands v d
+BorrowedGoes v (Done n) = WasCounted v n
+
 abbrev pub LookStands : View → IsLocked → Type 0
 LookStands v call = Unit {0}
 
@@ -164,6 +169,20 @@ module _ {F : Type 0} where
 abbrev pub RecoverGoes : View → After Recover ReleaseState → View → Type 0
 RecoverGoes v (GoOn d) w = (w ≡ v) × RecoverStands w d
 RecoverGoes v (Done state) w = HasRecovered state v w
+
+-- where loads of cells lead from this one on: to a cell or an owner there or further on, or to the end
+abbrev pub HasPassedTo : ℕ → recovers.RecoverStage → Type 0
+HasPassedTo first recovers.TheVariants.LoadsCounter = ⊥
+HasPassedTo first (recovers.TheVariants.LoadsCell index) = first ≤ index
+HasPassedTo first (recovers.TheVariants.Asks index owner) = first ≤ index
+HasPassedTo first (recovers.TheVariants.EmptiesCell index owner) = ⊥
+HasPassedTo first (recovers.TheVariants.Raises index raise) = ⊥
+HasPassedTo first (recovers.TheVariants.Locks index lock) = ⊥
+HasPassedTo first recovers.TheVariants.LoadsCounterAgain = Unit {0}
+
+abbrev pub HasPassed : ℕ → After Recover ReleaseState → Type 0
+HasPassed first (GoOn d) = HasPassedTo first d.stage
+HasPassed first (Done state) = ⊥
 
 -- an exchange that emptied its cell
 abbrev pub stage_frees : recovers.RecoverStage → Bool
@@ -204,7 +223,7 @@ module _ {F S : Type 0} where
   RecoverMoves step tell call mode recovers.TheVariants.LoadsCounter p s after q t =
       GoesQuietly call mode p s after q t
   RecoverMoves step tell call mode (recovers.TheVariants.LoadsCell index) p s after q t =
-      GoesQuietly call mode p s after q t
+      (q ≡ p) × (t ≡ s) × HasPassed index after
   RecoverMoves step tell call mode (recovers.TheVariants.Asks index owner) p s after q t =
       (t ≡ s) × ((yes : Bool) × step p owner index yes q
       × (after ≡ recover_after call mode (if yes then 1 else 0)))

@@ -21,6 +21,7 @@ use std::alloc::Global;
 use std::sync::Arc;
 
 mod calls;
+mod counts;
 mod fixed;
 mod make;
 mod passes;

@@ -5,7 +5,6 @@ use lock_free_sp::driver::rule::Drives;
 use steps::indices::robust::acquire::{Acquire, AcquireStage};
 use steps::indices::robust::find::Find;
 use steps::indices::robust::looks::{BorrowedIndices, IsLocked};
-use steps::indices::robust::parts::Count;
 use steps::indices::robust::recover::Recover;
 use steps::indices::robust::release::Release;
 
@@ -67,11 +66,6 @@ impl Drives<View, BorrowedIndices> for Counts {
     ghost at = { λ given. At BorrowedStands };
 
     ghost ends = { λ given. BorrowedEnds };
-
-    #[inline(always)]
-    fn repeats(call: BorrowedIndices) -> bool {
-        matches!(call.count, Count::LoadsCell { .. })
-    }
 }
 
 /// Looking at the lock.

@@ -1,13 +1,16 @@
 -- The looks at a robust unique index set keep its rule at each of their steps.
-use Rattle.std.proofs.Common.{true, false, true≢false, sym, refl, ◌∙◌, arith}
-use Rattle.steps.specs.declared.ask.After.TheVariants.{Done}
+use Rattle.std.proofs.Common.{◌≡◌, ℕ, true, false, true≢false, sym, refl, subst, ◌∙◌, arith}
+use Rattle.steps.specs.declared.ask.After.{After}
+use Rattle.steps.specs.declared.ask.After.TheVariants.{GoOn, Done}
+use Rattle.steps.specs.declared.indices.robust.looks.BorrowedIndices.{BorrowedIndices}
 use Rattle.steps.specs.Picks.{by_equal}
 use Rattle.steps.specs.Queues.Ring.{load}
 use Rattle.steps.specs.Indices.Robust.Parts.{locked}
 use Rattle.steps.specs.Indices.Robust.Looks.{borrowed_want, borrowed_counted, borrowed_after, locked_after}
-use Rattle.lock_free_sp.specs.Driver.{KeepsRule}
+use Rattle.lock_free_sp.specs.Driver.{Next, KeepsRule}
+use Rattle.lock_free.specs.declared.robust.view.View.{View}
 use Rattle.lock_free.specs.Robust.Kept.{size, Kept}
-use Rattle.lock_free.specs.Robust.Stages.{At, BorrowedStands, BorrowedEnds, LookStands, LookEnds}
+use Rattle.lock_free.specs.Robust.Stages.{At, BorrowedStands, BorrowedEnds, BorrowedGoes, LookStands, LookEnds}
 use Rattle.lock_free.proofs.Rules.Robust.Steps.{capacity_seen, unseen, Shows, stays, sees, counter_step}
 use Rattle.lock_free.proofs.Rules.Robust.Parts.{count_owes}
 
@@ -26,3 +29,12 @@ borrowed_rule base v c room key words slots id sized known at =
     (λ next stands. (refl, (at.1.0, stands)))
     (λ f k e. stays BorrowedStands BorrowedEnds borrowed_after v c room f k (Done 0) (refl, (omega arith, λ t. refl)))
     (λ filled counter free few. (refl, (few, λ t. absurd (true≢false (sym t ∙ free)))))
+
+-- what a step of a count leaves
+pub borrowed_leaves : (v w : View) (a : After BorrowedIndices ℕ) (room : Unit {0}) → Next capacity_seen (At BorrowedStands) BorrowedEnds v a room w → w ≡ v
+borrowed_leaves v w (GoOn d) room h = h.0
+borrowed_leaves v w (Done n) room h = h.0
+
+pub borrowed_goes : (v w : View) (a : After BorrowedIndices ℕ) (room : Unit {0}) → Next capacity_seen (At BorrowedStands) BorrowedEnds v a room w → BorrowedGoes v a
+borrowed_goes v w (GoOn d) room h = subst (λ z. BorrowedStands z d) h.0 h.1
+borrowed_goes v w (Done n) room h = h.1

@@ -19,7 +19,7 @@ use Rattle.steps.specs.Indices.Robust.Parts.{empty, locked, raise_after, lock_af
 use Rattle.steps.specs.Indices.Robust.Recover.{at_recover, recover_comes_to, recover_raised, recover_locked, recover_takes}
 use Rattle.lock_free.specs.declared.robust.view.View.{View}
 use Rattle.lock_free.specs.Robust.Callable.{Owned, Asked, IsOwned, TheyAscend, QuestionsAscend, WasAgreed, asks, tells, TakesQuestions, TakesFreed, HasVisited}
-use Rattle.lock_free.specs.Robust.Stages.{RecoverStage, RecoverStands, RecoverAsks, RecoverMoves, GoesQuietly, has_freed}
+use Rattle.lock_free.specs.Robust.Stages.{RecoverStage, RecoverStands, RecoverAsks, RecoverMoves, GoesQuietly, HasPassedTo, HasPassed, has_freed}
 
 abbrev owned : ℕ → ℕ → Owned
 owned owner index = record { owner = owner; index = index }
@@ -32,6 +32,15 @@ AskedBelow low xs = All (λ (a : Asked). a.of.index < low) xs
 
 abbrev ToldBelow : ℕ → List Owned → Type 0
 ToldBelow low xs = All (λ (o : Owned). o.index < low) xs
+
+-- a load of a cell leads there
+pub passes : (c : Recover) (first index k : ℕ) (mode : ReleaseMode) → first ≤ index → HasPassed first (recover_takes c (recovers.TheVariants.LoadsCell index) mode k)
+passes c first index k mode le =
+    by_eq (HasPassed first) k empty (recover_comes_to c (index + 1)) (GoOn (at_recover c (recovers.TheVariants.Asks index k)))
+    (λ e. by_test (λ stage. HasPassed first (GoOn (at_recover c stage))) (nat_lt (index + 1) c.capacity) (recovers.TheVariants.LoadsCell (index + 1)) recovers.TheVariants.LoadsCounterAgain
+    (λ t. omega arith)
+    (λ t. tt))
+    (λ ne. le)
 
 module _ {F S : Type 0} (step : F → ℕ → ℕ → Bool → F → Type 0) (tell : S → ℕ → ℕ → S → Type 0) (v : View) (f : F) (s : S) where
   -- the calls that led to p and q, at indices below these
@@ -153,6 +162,20 @@ module _ {F S : Type 0} (step : F → ℕ → ℕ → Bool → F → Type 0) (te
       (λ t. h)
       (λ t. (index, h))
 
+  -- past cells without an owner
+  passed_to : (index : ℕ) (p : F) (q : S) (stage : recovers.RecoverStage) → Visits index index p q → HasPassedTo index stage → SoFar stage p q
+  passed_to index p q recovers.TheVariants.LoadsCounter h to = absurd to
+  passed_to index p q (recovers.TheVariants.LoadsCell next) h to = widen index index next next p q to to h
+  passed_to index p q (recovers.TheVariants.Asks next owner) h to = widen index index next next p q to to h
+  passed_to index p q (recovers.TheVariants.EmptiesCell next owner) h to = absurd to
+  passed_to index p q (recovers.TheVariants.Raises next raise) h to = absurd to
+  passed_to index p q (recovers.TheVariants.Locks next lock) h to = absurd to
+  passed_to index p q recovers.TheVariants.LoadsCounterAgain h to = (index, h)
+
+  passed : (index : ℕ) (p : F) (q : S) (a : After Recover ReleaseState) → Visits index index p q → HasPassed index a → Onward a p q
+  passed index p q (GoOn d) h to = passed_to index p q d.stage h to
+  passed index p q (Done state) h to = absurd to
+
   -- ---- what each stage leaves
 
   raised : (c : Recover) (index : ℕ) (mode : ReleaseMode) (p : F) (q : S) (a : After raises.Raise ReleaseState) → v.locked ≡ false → Visits (index + 1) (index + 1) p q → Onward (recover_raised c index mode a) p q
@@ -195,9 +218,7 @@ module _ {F S : Type 0} (step : F → ℕ → ℕ → Bool → F → Type 0) (te
         quietly recovers.TheVariants.LoadsCounter is p p' q q' a
         (λ k. by_eq (λ z. Onward z p q) k locked (Done Locked) (recover_comes_to c 0) (λ e. visited_none p q so) (λ ne. comes c 0 p q (subst (λ (z : F × S). Visits 0 0 z.0 z.1) (λ i. (sym so.0 i, sym so.1 i)) none))) m
     by_stage (recovers.TheVariants.LoadsCell index) is at p p' q q' a so m =
-        quietly (recovers.TheVariants.LoadsCell index) is p p' q q' a
-        (λ k. by_eq (λ z. Onward z p q) k empty (recover_comes_to c (index + 1)) (GoOn (at_recover c (recovers.TheVariants.Asks index k)))
-        (λ e. comes c (index + 1) p q (widen index index (index + 1) (index + 1) p q (omega arith) (omega arith) so)) (λ ne. so)) m
+        subst (λ (z : F × S). Onward a z.0 z.1) (λ i. (sym m.0 i, sym m.1 i)) (passed index p q a so m.2)
     by_stage (recovers.TheVariants.Asks index owner) is at p p' q q' a so m =
         subst (Onward a p') (sym m.0)
         (subst (λ z. Onward z p' q) (ap (λ z. recover_takes c z mode (if m.1.0 then 1 else 0)) (sym is) ∙ sym m.1.2) (answered index owner m.1.0 p p' q at.2 at.1 m.1.1 so))

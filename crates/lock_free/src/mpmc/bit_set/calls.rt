@@ -17,12 +17,13 @@ use lock_free_sp::driver::seated::Seated;
 use std::sync::Wait;
 use steps::ask::After;
 use steps::bits::bit_set::{ResetNext, Set};
-use steps::bits::flags::has_flag;
+use steps::bits::flags::{has_flag, without_flag};
 use steps::bits::reset_all::ResetAll;
 use steps::copied::OneWord;
 use steps::routine::Routine;
 
 /// Calls the closure with the place where it stood, and hands the closure back.
+#[inline(always)]
 fn call_where<F: FnMut(usize)>(mut visit: F, stood: bool, place: u64) -> F
     requires { IsTrue stood → F.pre visit place }
     ensures called { IsTrue stood → F.step visit place tt result }
@@ -35,18 +36,22 @@ fn call_where<F: FnMut(usize)>(mut visit: F, stood: bool, place: u64) -> F
 }
 
 /// Calls the closure with each of 64 places from `first` on whose flag was found, ascending, and hands it back.
+#[inline(always)]
 fn visit_word<F: FnMut(usize)>(mut visit: F, found: u64, first: u64) -> F
     requires small { first + 64 < 2 ^ 64 }
     requires visits { (n : ℕ) (now : F) → n < 64 → IsTrue (flag_of found (first + n))
         → Visited (λ p x q. F.step p x tt q) found first visit n now → F.pre now (first + n) }
     ensures { Visited (λ p x q. F.step p x tt q) found first visit 64 result }
 {
-    if found == 0 {
-        return visit;
-    }
+    let mut left = found;
     for bit in 0..64u64 {
+        // It ends at the last flag.
+        if left == 0 {
+            return visit;
+        }
         let place = first + bit;
         visit = call_where(visit, has_flag(found, place), place);
+        left = without_flag(left, place);
     }
     visit
 }

@@ -1,14 +1,14 @@
 //! The calls on a set by a pass that ask nothing of their caller.
-ghost use Rattle.std.specs.Prelude.{◌≡◌, ◌<◌, ◌≤◌, true, IsTrue, IsFalse, IfOk, IfErr, OnOk, OnErr};
+ghost use Rattle.std.specs.Prelude.{◌≡◌, ◌<◌, IsTrue, IsFalse, IfOk, IfErr, OnOk, OnErr};
 ghost use Rattle.lock_free.specs.Robust.Calls.{FoundOpen, FoundLocked, WasRefused, HasReleased};
 ghost use Rattle.lock_free.specs.RobustUniqueIndexSet.{view, set_of, capacity_of, IsPassOf};
 
 use super::{OwnerId, Pass, RobustUniqueIndexSet, RobustUniqueIndexSetReleaseError};
-use crate::robust::drives::{Acquires, Counts, Looks, Releases};
+use crate::robust::drives::{Acquires, Looks, Releases};
 use std::sync::Wait;
 use steps::indices::enums::{ReleaseMode, ReleaseState, UniqueIndexSetAcquireFailure};
 use steps::indices::robust::acquire::Acquire;
-use steps::indices::robust::looks::{BorrowedIndices, IsLocked};
+use steps::indices::robust::looks::IsLocked;
 use steps::indices::robust::release::{GiveBack, Release};
 
 impl RobustUniqueIndexSet {
@@ -72,25 +72,6 @@ impl RobustUniqueIndexSet {
         };
         pass.seated
             .drive_on::<Release, Releases>(rt, call, &given, &mut ())
-    }
-
-    /// How many indices have an owner: as many as had one when the call came to them, where the generation counter did
-    /// not move meanwhile (no clause says so). At most the capacity, and 0 where the set is locked: so where the pass has
-    /// seen the lock.
-    ///
-    /// At most 2 atomic steps more than the capacity where nobody else steps in between; else it may try again for as
-    /// long as others step. Where the generation counter is at its end the number is that of one pass over the indices,
-    /// whatever has changed meanwhile. After `borrowed_indices` of the Rust crate.
-    pub fn borrowed_indices(&self, rt: &impl Wait, pass: &mut Pass) -> usize
-        requires { IsPassOf self.now pass.old }
-        ensures set { set_of pass.new ≡ set_of pass.old }
-        ensures view { view pass.new ≡ view pass.old }
-        ensures most { result ≤ capacity_of self.now }
-        ensures lock { (view pass.old).locked ≡ true → result ≡ 0 }
-    {
-        let call = BorrowedIndices::new(pass.capacity);
-        pass.seated
-            .drive_on::<BorrowedIndices, Counts>(rt, call, &(), &mut ())
     }
 
     /// Whether the set is locked. True leaves the lock seen, and is the answer to each pass that has seen it. One atomic

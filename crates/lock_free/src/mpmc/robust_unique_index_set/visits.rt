@@ -6,7 +6,8 @@ ghost use Rattle.steps.specs.Indices.Robust.Recover.{recover_after};
 ghost use Rattle.lock_free.specs.Bits.Callable.{TakesPlaces};
 ghost use Rattle.lock_free.specs.Robust.Callable.{HasFound, TakesQuestions, TakesFreed, HasVisited};
 ghost use Rattle.lock_free.specs.Robust.Calls.{HasRecovered};
-ghost use Rattle.lock_free.specs.Robust.Stages.{FindStands, FindAsks, FindMoves, RecoverStands, RecoverGoes, RecoverAsks, RecoverMoves, has_freed};
+ghost use Rattle.lock_free.specs.Robust.Stages.{FindStands, FindAsks, FindMoves, RecoverStage as StandsAt, RecoverStands, RecoverGoes, HasPassed, RecoverAsks, RecoverMoves, has_freed};
+ghost use Rattle.steps.specs.declared.indices.robust.recover.RecoverStage.TheVariants as stages;
 ghost use Rattle.lock_free.specs.RobustUniqueIndexSet.{view, set_of, capacity_of, IsPassOf};
 
 use super::{CallbackProgression, OwnerId, Pass, RobustUniqueIndexSet};
@@ -92,7 +93,36 @@ impl Pass {
         self.seated.step::<Recover, Recovers>(call, &mode, &mut ())
     }
 
-    /// Takes one step of the call, or asks the first closure about the owner and the index that it has come to. After the
+    /// Takes the steps of the call that load cells, from this one on, past those without an owner. They have a loop of
+    /// their own, which keeps the index alone.
+    #[inline(always)]
+    fn pass_over(&mut self, first: u32, mode: ReleaseMode) -> After<Recover, ReleaseState>
+        requires { StandsAt (view self.old) (stages.LoadsCell first) }
+        ensures set { set_of self.new ≡ set_of self.old }
+        ensures goes { RecoverGoes (view self.old) result (view self.new) }
+        ensures passed { HasPassed first result }
+    {
+        let capacity = self.capacity;
+        let mut cell = first;
+        'cells: loop {
+            let here = Recover {
+                capacity,
+                stage: RecoverStage::LoadsCell { index: cell },
+            };
+            match self.step_recover(here, mode) {
+                After::GoOn(next) => {
+                    let stage = next.stage;
+                    match stage {
+                        RecoverStage::LoadsCell { index } => cell = index,
+                        _ => return After::GoOn(next),
+                    }
+                }
+                After::Done(state) => return After::Done(state),
+            }
+        }
+    }
+
+    /// Takes steps of the call, or asks the first closure about the owner and the index that it has come to. After the
     /// step that frees an index it tells the second closure. Hands both back.
     #[inline(always)]
     fn recover_next<F: FnMut(OwnerId, usize) -> bool, S: FnMut(OwnerId, usize)>(
@@ -122,7 +152,9 @@ impl Pass {
                 (after, predicate, recovered)
             }
             RecoverStage::LoadsCounter => (self.step_recover(call, mode), predicate, recovered),
-            RecoverStage::LoadsCell { .. } => (self.step_recover(call, mode), predicate, recovered),
+            RecoverStage::LoadsCell { index } => {
+                (self.pass_over(index, mode), predicate, recovered)
+            }
             RecoverStage::Raises { .. } => (self.step_recover(call, mode), predicate, recovered),
             RecoverStage::Locks { .. } => (self.step_recover(call, mode), predicate, recovered),
             RecoverStage::LoadsCounterAgain => {

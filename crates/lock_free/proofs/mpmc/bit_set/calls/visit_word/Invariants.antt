@@ -1,5 +1,9 @@
+use Rattle.std.proofs.Common.{◌≡◌, ℕ, ◌+◌, ◌<◌, ◌≤◌}
+use Rattle.steps.specs.Bits.Words.{has_flag}
 use Rattle.lock_free.specs.Bits.Callable.{Visited}
 use Rattle.lock_free.proofs.mpmc.bit_set.calls.visit_word.Given as goal
 
 abbrev pub invariant-loop-bit : goal.invariant-loop-bit
-invariant-loop-bit g l = Visited (λ p x q. goal.F-step g p x tt q) l.found l.first l.fn.visit l.bit l.visit
+invariant-loop-bit g l =
+    Visited (λ p x q. goal.F-step g p x tt q) l.found l.first l.fn.visit l.bit l.visit
+    × ((n : ℕ) → l.bit ≤ n → n < 64 → has_flag l.left (l.first + n) ≡ has_flag l.found (l.first + n))

@@ -1,5 +1,0 @@
-use Rattle.lock_free.proofs.Rules.Robust.LookRuns.{borrowed_rule}
-use Rattle.lock_free.proofs.mpmc.robust_unique_index_set.RobustUniqueIndexSet.borrowed_indices.Goals as goal
-
-pub drive_on-requires-clause-rule : goal.drive_on-requires-clause-rule
-drive_on-requires-clause-rule g c = borrowed_rule
