@@ -31,8 +31,8 @@ use Rattle.lock_free.specs.declared.robust.view.View.{View}
 use Rattle.lock_free.specs.Robust.Calls.{FoundOpen, FoundLocked, WasRefused, HasReleased, HasRecovered, WasCounted}
 
 -- until its end a call leaves what is known
-module _ {C : Type 0} where
-  abbrev pub At : (View → C → Type 0) → View → View → C → Unit {0} → Type 0
+module _ {C M : Type 0} where
+  abbrev pub At : (View → C → Type 0) → View → View → C → M → Type 0
   At stands base v call room = (v ≡ base) × stands v call
 
 -- ---- the parts

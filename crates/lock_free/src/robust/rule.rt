@@ -12,10 +12,10 @@ use std::alloc::Global;
 pub struct RobustRule;
 
 impl TableRule<(), View, u64> for RobustRule {
-    ghost use Rattle.lock_free.specs.Robust.Kept.{Kept};
+    ghost use Rattle.lock_free.specs.Robust.Kept.{size, Kept};
     ghost use Rattle.lock_free.specs.Robust.Views.{blank};
 
-    ghost holds = { Kept };
+    ghost holds = { λ capacity. Kept (size capacity) };
 
     ghost first = { blank };
 }

@@ -45,14 +45,14 @@ module _ (owner : ℕ) (v : View) (room : Unit {0}) (cap words slots id : ℕ) (
   here c (Done n) at = refl
 
   stage_owes : (c : Find) (stage : finds.FindStage) → ((k : ℕ) → Here c (find_after c owner k)) → FindStage v stage
-      → Owes (Kept cap) words slots id (Tells FindStands FindEnds (λ d k. find_after d owner k) v c room) (find_asks stage) (v, [])
+      → Owes (Kept (size cap)) words slots id (Tells FindStands FindEnds (λ d k. find_after d owner k) v c room) (find_asks stage) (v, [])
   stage_owes c (finds.TheVariants.LoadsCell index found) goes at = (
     (let l = at.0 in omega arith),
-    cell_step FindStands FindEnds (λ d k. find_after d owner k) v c room cap slots id (cell_word index) (λ x. x) (omega arith) (λ k small. goes k),
+    cell_step (find_after c owner) v (Goes FindStands FindEnds (λ d k. find_after d owner k) v c room) (Tells FindStands FindEnds (λ d k. find_after d owner k) v c room) (tells FindStands FindEnds (λ d k. find_after d owner k) v c room) (size cap) slots id (omega arith) (cell_word index) (λ x. x) (omega arith) (λ k small. goes k),
   )
   stage_owes c (finds.TheVariants.Asks index found) goes at = tells FindStands FindEnds (λ d k. find_after d owner k) v c room 0 false (goes 0)
 
-pub find_rule : (owner : ℕ) → KeepsRule capacity_seen (At FindStands) FindEnds size (λ key. key) Kept find_want (λ c k. find_after c owner k) (λ c m k. m)
+pub find_rule : (owner : ℕ) → KeepsRule capacity_seen (At FindStands) FindEnds size (λ key. key) (λ key. Kept (size key)) find_want (λ c k. find_after c owner k) (λ c m k. m)
 find_rule owner base v c room key words slots id sized known at =
     stage_owes owner v room key words slots id sized known c c.stage (λ k. here owner v room key words slots id sized known c (find_after c owner k) (still_stands v c owner k at.1)) at.1.1
 

@@ -17,7 +17,7 @@ use Rattle.lock_free_sp.specs.Driver.{Owes}
 use Rattle.lock_free.specs.declared.robust.view.View.{View}
 use Rattle.lock_free.specs.Robust.Kept.{size, Kept}
 use Rattle.lock_free.specs.Robust.Stages.{RaiseStands, CountStands, LockStands}
-use Rattle.lock_free.proofs.Rules.Robust.Steps.{unseen, Goes, Tells, Shows, stays, counter_step, cell_step}
+use Rattle.lock_free.proofs.Rules.Robust.Steps.{unseen, seen_after, Shows, stays, counter_step, cell_step}
 
 -- ---- the exchanges of the counter leave a locked set locked
 
@@ -41,47 +41,41 @@ raise_sees_cases P k small more shut free =
     by_eq P k locked (Done Locked) _ shut
     (λ ne. by_eq P k greatest (Done Unlocked) (GoOn (raises.TheVariants.ExchangesCounter k)) (λ e. free) (λ none. more k (let l = ne in let g = none in omega arith)))
 
-module _ {C E : Type 0} (stands : View → C → Type 0) (ends : View → E → Unit {0} → View → Type 0) (after : C → ℕ → After C E) (v : View) (c : C) (room : Unit {0}) (cap words slots id : ℕ) (sized : words ≡ size cap)
-    (known : v.capacity ≡ cap) where
-  abbrev Here : Bool → After C E → Type 0
-  Here = Goes stands ends after v c room
-
-  abbrev Shown : (ℕ → ℕ) → ℕ → After C E → Type 0
-  Shown = Shows stands ends after v c room
-
-  abbrev Told : View → ℕ → View → Type 0
-  Told = Tells stands ends after v c room
+module _ {A : Type 0} (after : ℕ → A) (v : View) (Here : Bool → A → Type 0) (Says : View → ℕ → View → Type 0) (says : (k : ℕ) (mark : Bool) → Here mark (after k) → Says v k (seen_after mark v)) (total cap words slots id : ℕ) (sized : words ≡ total)
+    (wide : size cap ≤ total) (known : v.capacity ≡ cap) where
+  abbrev Shown : (ℕ → ℕ) → ℕ → A → Type 0
+  Shown = Shows Here
 
   -- a raise, which may meet the lock
-  pub raise_owes : (raise : raises.Raise) (wrap : After raises.Raise ReleaseState → After C E) → ((k : ℕ) → wrap (raise_after raise k) ≡ after c k) → RaiseStands raise
+  pub raise_owes : (raise : raises.Raise) (wrap : After raises.Raise ReleaseState → A) → ((k : ℕ) → wrap (raise_after raise k) ≡ after k) → RaiseStands raise
       → ((next : raises.Raise) → RaiseStands next → Here false (wrap (GoOn next)))
       → ((f : ℕ → ℕ) (k : ℕ) → f k ≡ locked → Shown f k (wrap (Done Locked)))
       → Here false (wrap (Done Unlocked))
-      → Owes (Kept cap) words slots id Told (raise_want raise) (v, [])
+      → Owes (Kept total) words slots id Says (raise_want raise) (v, [])
   raise_owes raises.TheVariants.LoadsCounter wrap is at more shut free = (
     omega arith,
-    counter_step stands ends after v c room cap slots id (λ x. x) refl
+    counter_step after v Here Says says total slots id (omega arith) (λ x. x) refl
         (λ k small lock. subst (Shown (λ x. x) k) (is k)
         (raise_sees_cases (λ a. Shown (λ x. x) k (wrap a)) k small
-        (λ counter less. stays stands ends after v c room (λ x. x) k (wrap (GoOn (raises.TheVariants.ExchangesCounter counter))) (more (raises.TheVariants.ExchangesCounter counter) less))
+        (λ counter less. stays Here (λ x. x) k (wrap (GoOn (raises.TheVariants.ExchangesCounter counter))) (more (raises.TheVariants.ExchangesCounter counter) less))
         (λ e. shut (λ x. x) k e)
-        (stays stands ends after v c room (λ x. x) k (wrap (Done Unlocked)) free))),
+        (stays Here (λ x. x) k (wrap (Done Unlocked)) free))),
   )
   raise_owes (raises.TheVariants.ExchangesCounter counter) wrap is at more shut free =
       let f : ℕ → ℕ = written (Exchange counter (one_more counter)) in (
         omega arith,
-        counter_step stands ends after v c room cap slots id f (kept_locked counter (one_more counter) (omega arith))
+        counter_step after v Here Says says total slots id (omega arith) f (kept_locked counter (one_more counter) (omega arith))
             (λ k small lock. subst (Shown f k) (is k)
             (by_eq (λ a. Shown f k (wrap a)) k counter (Done Unlocked) (raise_sees k)
-            (λ e. stays stands ends after v c room f k (wrap (Done Unlocked)) free)
+            (λ e. stays Here f k (wrap (Done Unlocked)) free)
             (λ ne. raise_sees_cases (λ a. Shown f k (wrap a)) k small
-            (λ next less. stays stands ends after v c room f k (wrap (GoOn (raises.TheVariants.ExchangesCounter next))) (more (raises.TheVariants.ExchangesCounter next) less))
+            (λ next less. stays Here f k (wrap (GoOn (raises.TheVariants.ExchangesCounter next))) (more (raises.TheVariants.ExchangesCounter next) less))
             (λ e. shut f k (not_exchanged counter (one_more counter) k ne ∙ e))
-            (stays stands ends after v c room f k (wrap (Done Unlocked)) free)))),
+            (stays Here f k (wrap (Done Unlocked)) free)))),
       )
 
   -- the next cell of a count, or its end
-  count_comes : (wrap : After counts.Count results.Counted → After C E) (counter index filled : ℕ) → v.locked ≡ false → counter < locked → index ≤ v.capacity → filled ≤ index
+  count_comes : (wrap : After counts.Count results.Counted → A) (counter index filled : ℕ) → v.locked ≡ false → counter < locked → index ≤ v.capacity → filled ≤ index
       → ((next : counts.Count) → CountStands v next → Here false (wrap (GoOn next)))
       → ((filled counter : ℕ) → filled ≤ v.capacity → Here false (wrap (Done (results.TheVariants.Filled filled counter))))
       → Here false (wrap (count_comes_to v.capacity counter index filled))
@@ -93,25 +87,25 @@ module _ {C E : Type 0} (stands : View → C → Type 0) (ends : View → E → 
       (λ ne. more (counts.TheVariants.ExchangesCounter counter filled) (free, (let n = ne in omega arith), omega arith)))
 
   -- a count, which may meet the lock
-  pub count_owes : (capacity : ℕ) → capacity ≡ v.capacity → (count : counts.Count) (wrap : After counts.Count results.Counted → After C E) → ((k : ℕ) → wrap (count_after capacity count k) ≡ after c k) → CountStands v count
+  pub count_owes : (capacity : ℕ) → capacity ≡ v.capacity → (count : counts.Count) (wrap : After counts.Count results.Counted → A) → ((k : ℕ) → wrap (count_after capacity count k) ≡ after k) → CountStands v count
       → ((next : counts.Count) → CountStands v next → Here false (wrap (GoOn next)))
       → ((f : ℕ → ℕ) (k : ℕ) → f k ≡ locked → Shown f k (wrap (Done results.TheVariants.Locked)))
       → ((filled counter : ℕ) → v.locked ≡ false → filled ≤ v.capacity → Here false (wrap (Done (results.TheVariants.Filled filled counter))))
-      → Owes (Kept cap) words slots id Told (count_want count) (v, [])
+      → Owes (Kept total) words slots id Says (count_want count) (v, [])
   count_owes capacity same counts.TheVariants.LoadsCounter wrap is at more shut full = (
     omega arith,
-    counter_step stands ends after v c room cap slots id (λ x. x) refl
+    counter_step after v Here Says says total slots id (omega arith) (λ x. x) refl
         (λ k small lock. subst (Shown (λ x. x) k) (is k)
         (by_eq (λ a. Shown (λ x. x) k (wrap a)) k locked (Done results.TheVariants.Locked) (count_comes_to capacity k 0 0)
         (λ e. shut (λ x. x) k e)
         (λ ne.
         let free : v.locked ≡ false = unseen v (λ t. ne (lock t)) in
-        stays stands ends after v c room (λ x. x) k (wrap (count_comes_to capacity k 0 0))
+        stays Here (λ x. x) k (wrap (count_comes_to capacity k 0 0))
         (subst (λ z. Here false (wrap (count_comes_to z k 0 0))) (sym same) (count_comes wrap k 0 0 free (let n = ne in omega arith) (omega arith) (omega arith) more (λ n m few. full n m free few)))))),
   )
   count_owes capacity same (counts.TheVariants.LoadsCell counter index filled) wrap is at more shut full = (
     (let l = at.2 in omega arith),
-    cell_step stands ends after v c room cap slots id (cell_word index) (λ x. x) (omega arith)
+    cell_step after v Here Says says total slots id (omega arith) (cell_word index) (λ x. x) (omega arith)
         (λ k small. subst (Here false) (is k)
         (subst (λ z. Here false (wrap (count_comes_to z counter (index + 1) (if k == empty then filled else one_more filled)))) (sym same)
         (count_comes wrap counter (index + 1) (if k == empty then filled else one_more filled) at.0 at.1 (let l = at.2 in omega arith)
@@ -121,19 +115,19 @@ module _ {C E : Type 0} (stands : View → C → Type 0) (ends : View → E → 
   count_owes capacity same (counts.TheVariants.ExchangesCounter counter filled) wrap is at more shut full =
       let f : ℕ → ℕ = written (Exchange counter (one_more counter)) in (
         omega arith,
-        counter_step stands ends after v c room cap slots id f (kept_locked counter (one_more counter) (let l = at.1 in omega arith))
+        counter_step after v Here Says says total slots id (omega arith) f (kept_locked counter (one_more counter) (let l = at.1 in omega arith))
             (λ k small lock. subst (Shown f k) (is k)
             (by_eq (λ a. Shown f k (wrap a)) k counter (Done (results.TheVariants.Filled filled (one_more counter))) (GoOn counts.TheVariants.LoadsCounter)
-            (λ e. stays stands ends after v c room f k (wrap (Done (results.TheVariants.Filled filled (one_more counter)))) (full filled (one_more counter) at.0 at.2))
-            (λ ne. stays stands ends after v c room f k (wrap (GoOn counts.TheVariants.LoadsCounter)) (more counts.TheVariants.LoadsCounter tt)))),
+            (λ e. stays Here f k (wrap (Done (results.TheVariants.Filled filled (one_more counter)))) (full filled (one_more counter) at.0 at.2))
+            (λ ne. stays Here f k (wrap (GoOn counts.TheVariants.LoadsCounter)) (more counts.TheVariants.LoadsCounter tt)))),
       )
 
   -- a lock, which may meet the lock or make it
-  pub lock_owes : (capacity : ℕ) → capacity ≡ v.capacity → (lock : locks.Lock) (wrap : After locks.Lock ReleaseState → After C E) → ((k : ℕ) → wrap (lock_after capacity lock k) ≡ after c k) → LockStands v lock
+  pub lock_owes : (capacity : ℕ) → capacity ≡ v.capacity → (lock : locks.Lock) (wrap : After locks.Lock ReleaseState → A) → ((k : ℕ) → wrap (lock_after capacity lock k) ≡ after k) → LockStands v lock
       → ((next : locks.Lock) → LockStands v next → Here false (wrap (GoOn next)))
       → ((f : ℕ → ℕ) (k : ℕ) → f k ≡ locked → Shown f k (wrap (Done Locked)))
       → (v.locked ≡ false → Here false (wrap (Done Unlocked)))
-      → Owes (Kept cap) words slots id Told (lock_want lock) (v, [])
+      → Owes (Kept total) words slots id Says (lock_want lock) (v, [])
   lock_owes capacity same (locks.TheVariants.Counts count) wrap is at more shut free =
       count_owes capacity same count (λ a. wrap (lock_counted a)) is at (λ next stands. more (locks.TheVariants.Counts next) stands) shut
       (λ filled counter unlocked few. by_test (λ a. Here false (wrap a)) ((filled == 0) && not (counter == greatest)) (GoOn (locks.TheVariants.ExchangesCounter counter)) (Done Unlocked)
@@ -142,9 +136,9 @@ module _ {C E : Type 0} (stands : View → C → Type 0) (ends : View → E → 
   lock_owes capacity same (locks.TheVariants.ExchangesCounter counter) wrap is at more shut free =
       let f : ℕ → ℕ = written (Exchange counter locked) in (
         omega arith,
-        counter_step stands ends after v c room cap slots id f (made_locked counter)
+        counter_step after v Here Says says total slots id (omega arith) f (made_locked counter)
             (λ k small lock. subst (Shown f k) (is k)
             (by_eq (λ a. Shown f k (wrap a)) k counter (Done Locked) (GoOn first_lock)
             (λ e. shut f k (exchanged counter locked k e))
-            (λ ne. stays stands ends after v c room f k (wrap (GoOn first_lock)) (more first_lock tt)))),
+            (λ ne. stays Here f k (wrap (GoOn first_lock)) (more first_lock tt)))),
       )

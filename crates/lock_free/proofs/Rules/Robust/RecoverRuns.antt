@@ -48,18 +48,18 @@ module _ (mode : ReleaseMode) (v : View) (c : Recover) (same : c.capacity ≡ v.
 
   module _ (cap words slots id : ℕ) (sized : words ≡ size cap) (known : v.capacity ≡ cap) where
     stage_owes : (stage : recovers.RecoverStage) → ((k : ℕ) → recover_takes c stage mode k ≡ recover_after c mode k) → RecoverStage v stage
-        → Owes (Kept cap) words slots id (Tells RecoverStands RecoverEnds after_in v c room) (recover_asks stage) (v, [])
+        → Owes (Kept (size cap)) words slots id (Tells RecoverStands RecoverEnds after_in v c room) (recover_asks stage) (v, [])
     stage_owes recovers.TheVariants.LoadsCounter is at = (
       omega arith,
-      counter_step RecoverStands RecoverEnds after_in v c room cap slots id (λ x. x) refl
-          (λ k small lock. subst (Shows RecoverStands RecoverEnds after_in v c room (λ x. x) k) (is k)
-          (by_eq (Shows RecoverStands RecoverEnds after_in v c room (λ x. x) k) k locked (Done Locked) (recover_comes_to c 0)
-          (λ e. sees RecoverStands RecoverEnds after_in v c room (λ x. x) k (Done Locked) e refl)
-          (λ ne. stays RecoverStands RecoverEnds after_in v c room (λ x. x) k (recover_comes_to c 0) (comes 0 (unseen v (λ t. ne (lock t))))))),
+      counter_step (after_in c) v (Goes RecoverStands RecoverEnds after_in v c room) (Tells RecoverStands RecoverEnds after_in v c room) (tells RecoverStands RecoverEnds after_in v c room) (size cap) slots id (omega arith) (λ x. x) refl
+          (λ k small lock. subst (Shows (Goes RecoverStands RecoverEnds after_in v c room) (λ x. x) k) (is k)
+          (by_eq (Shows (Goes RecoverStands RecoverEnds after_in v c room) (λ x. x) k) k locked (Done Locked) (recover_comes_to c 0)
+          (λ e. sees (Goes RecoverStands RecoverEnds after_in v c room) (λ x. x) k (Done Locked) e refl)
+          (λ ne. stays (Goes RecoverStands RecoverEnds after_in v c room) (λ x. x) k (recover_comes_to c 0) (comes 0 (unseen v (λ t. ne (lock t))))))),
     )
     stage_owes (recovers.TheVariants.LoadsCell index) is at = (
       (let l = at.1 in omega arith),
-      cell_step RecoverStands RecoverEnds after_in v c room cap slots id (cell_word index) (λ x. x) (omega arith)
+      cell_step (after_in c) v (Goes RecoverStands RecoverEnds after_in v c room) (Tells RecoverStands RecoverEnds after_in v c room) (tells RecoverStands RecoverEnds after_in v c room) (size cap) slots id (omega arith) (cell_word index) (λ x. x) (omega arith)
           (λ k small. subst Here (is k)
           (by_eq Here k empty (recover_comes_to c (index + 1)) (GoOn (at_recover c (recovers.TheVariants.Asks index k))) (λ e. comes (index + 1) at.0)
           (λ ne. (refl, (same, (at.0, at.1, (let n = ne in omega arith))))))),
@@ -67,31 +67,31 @@ module _ (mode : ReleaseMode) (v : View) (c : Recover) (same : c.capacity ≡ v.
     stage_owes (recovers.TheVariants.Asks index owner) is at = tells RecoverStands RecoverEnds after_in v c room 0 false (subst Here (is 0) (answered index owner 0 at))
     stage_owes (recovers.TheVariants.EmptiesCell index owner) is at = (
       (let l = at.1 in omega arith),
-      cell_step RecoverStands RecoverEnds after_in v c room cap slots id (cell_word index) (written (Exchange owner empty)) (omega arith)
+      cell_step (after_in c) v (Goes RecoverStands RecoverEnds after_in v c room) (Tells RecoverStands RecoverEnds after_in v c room) (tells RecoverStands RecoverEnds after_in v c room) (size cap) slots id (omega arith) (cell_word index) (written (Exchange owner empty)) (omega arith)
           (λ k small. subst Here (is k)
           (by_eq Here k owner (GoOn (at_recover c (recovers.TheVariants.Raises index raises.TheVariants.LoadsCounter))) (recover_comes_to c (index + 1)) (λ e. (refl, (same, (at.0, at.1, tt))))
           (λ ne. comes (index + 1) at.0))),
     )
     stage_owes (recovers.TheVariants.Raises index raise) is at =
-        raise_owes RecoverStands RecoverEnds after_in v c room cap words slots id sized known raise (recover_raised c index mode) is at.2
+        raise_owes (after_in c) v (Goes RecoverStands RecoverEnds after_in v c room) (Tells RecoverStands RecoverEnds after_in v c room) (tells RecoverStands RecoverEnds after_in v c room) (size cap) cap words slots id sized (omega arith) known raise (recover_raised c index mode) is at.2
         (λ next stands. (refl, (same, (at.0, at.1, stands))))
-        (λ f k shut. sees RecoverStands RecoverEnds after_in v c room f k (Done Locked) shut refl)
+        (λ f k shut. sees (Goes RecoverStands RecoverEnds after_in v c room) f k (Done Locked) shut refl)
         (raised index mode at.0 at.1)
     stage_owes (recovers.TheVariants.Locks index lock) is at =
-        lock_owes RecoverStands RecoverEnds after_in v c room cap words slots id sized known c.capacity same lock (recover_locked c index) is at.2
+        lock_owes (after_in c) v (Goes RecoverStands RecoverEnds after_in v c room) (Tells RecoverStands RecoverEnds after_in v c room) (tells RecoverStands RecoverEnds after_in v c room) (size cap) cap words slots id sized (omega arith) known c.capacity same lock (recover_locked c index) is at.2
         (λ next stands. (refl, (same, (at.0, at.1, stands))))
-        (λ f k shut. stays RecoverStands RecoverEnds after_in v c room f k (recover_comes_to c (index + 1)) (comes (index + 1) at.0))
+        (λ f k shut. stays (Goes RecoverStands RecoverEnds after_in v c room) f k (recover_comes_to c (index + 1)) (comes (index + 1) at.0))
         (λ free. comes (index + 1) free)
     stage_owes recovers.TheVariants.LoadsCounterAgain is at = (
       omega arith,
-      counter_step RecoverStands RecoverEnds after_in v c room cap slots id (λ x. x) refl
-          (λ k small lock. subst (Shows RecoverStands RecoverEnds after_in v c room (λ x. x) k) (is k)
-          (by_eq (λ state. Shows RecoverStands RecoverEnds after_in v c room (λ x. x) k (Done state)) k locked Locked Unlocked
-          (λ e. sees RecoverStands RecoverEnds after_in v c room (λ x. x) k (Done Locked) e refl)
-          (λ ne. stays RecoverStands RecoverEnds after_in v c room (λ x. x) k (Done Unlocked) (refl, unseen v (λ t. ne (lock t)))))),
+      counter_step (after_in c) v (Goes RecoverStands RecoverEnds after_in v c room) (Tells RecoverStands RecoverEnds after_in v c room) (tells RecoverStands RecoverEnds after_in v c room) (size cap) slots id (omega arith) (λ x. x) refl
+          (λ k small lock. subst (Shows (Goes RecoverStands RecoverEnds after_in v c room) (λ x. x) k) (is k)
+          (by_eq (λ state. Shows (Goes RecoverStands RecoverEnds after_in v c room) (λ x. x) k (Done state)) k locked Locked Unlocked
+          (λ e. sees (Goes RecoverStands RecoverEnds after_in v c room) (λ x. x) k (Done Locked) e refl)
+          (λ ne. stays (Goes RecoverStands RecoverEnds after_in v c room) (λ x. x) k (Done Unlocked) (refl, unseen v (λ t. ne (lock t)))))),
     )
 
-pub recover_rule : (mode : ReleaseMode) → KeepsRule capacity_seen (At RecoverStands) RecoverEnds size (λ key. key) Kept recover_want (λ c k. recover_after c mode k) (λ c m k. m)
+pub recover_rule : (mode : ReleaseMode) → KeepsRule capacity_seen (At RecoverStands) RecoverEnds size (λ key. key) (λ key. Kept (size key)) recover_want (λ c k. recover_after c mode k) (λ c m k. m)
 recover_rule mode base v c room key words slots id sized known at = stage_owes mode v c at.1.0 room key words slots id sized known c.stage (λ k. refl) at.1.1
 
 -- what a step leaves

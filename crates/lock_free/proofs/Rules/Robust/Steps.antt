@@ -8,7 +8,7 @@ use Rattle.atomic_table.proofs.Lists.{at_set, at_snoc}
 use Rattle.lock_free_sp.specs.Driver.{Next, Told, moves}
 use Rattle.lock_free.specs.declared.robust.view.View.{View}
 use Rattle.lock_free.specs.Robust.Views.{blank, saw_lock, joined}
-use Rattle.lock_free.specs.Robust.Kept.{size, counter, Kept}
+use Rattle.lock_free.specs.Robust.Kept.{counter, Kept}
 use Rattle.lock_free.specs.Robust.Stages.{At}
 use mathlib.Core.Option.{some, some-injective, some-ne-none}
 use lib.ListN.{get_elem?}
@@ -48,25 +48,28 @@ module _ {C E : Type 0} (stands : View → C → Type 0) (ends : View → E → 
       same true = refl
       same false = refl
 
+-- what a call makes of a step that leaves the view as it is, or has seen the lock
+module _ {A : Type 0} (Here : Bool → A → Type 0) where
   -- what a step that finds k in the counter, and leaves f k there, has to show: the lock is seen only where it stands then
-  abbrev pub Shows : (ℕ → ℕ) → ℕ → After C E → Type 0
-  Shows f k a = (mark : Bool) × (mark ≡ true → f k ≡ locked) × Goes mark a
+  abbrev pub Shows : (ℕ → ℕ) → ℕ → A → Type 0
+  Shows f k a = (mark : Bool) × (mark ≡ true → f k ≡ locked) × Here mark a
 
   -- it goes on, or ends, with the view as it was
-  pub stays : (f : ℕ → ℕ) (k : ℕ) (a : After C E) → Goes false a → Shows f k a
+  pub stays : (f : ℕ → ℕ) (k : ℕ) (a : A) → Here false a → Shows f k a
   stays f k a goes = (false, (λ t. absurd (true≢false (sym t))), goes)
 
-  pub sees : (f : ℕ → ℕ) (k : ℕ) (a : After C E) → f k ≡ locked → Goes true a → Shows f k a
+  pub sees : (f : ℕ → ℕ) (k : ℕ) (a : A) → f k ≡ locked → Here true a → Shows f k a
   sees f k a shut goes = (true, (λ t. shut), goes)
 
-  module _ (cap slots id : ℕ) where
+module _ {A : Type 0} (after : ℕ → A) (v : View) (Here : Bool → A → Type 0) (Says : View → ℕ → View → Type 0) (says : (k : ℕ) (mark : Bool) → Here mark (after k) → Says v k (seen_after mark v)) where
+  module _ (total slots id : ℕ) (least : 0 < total) where
     -- a load or an exchange of the counter
-    pub counter_step : (f : ℕ → ℕ) → (f locked ≡ locked) → ((k : ℕ) → k < 18446744073709551616 → (v.locked ≡ true → k ≡ locked) → Shows f k (after c k))
-        → Allows (Kept cap) slots id (v, []) 0 f (λ found new. moves Tells (v, []) found new)
+    pub counter_step : (f : ℕ → ℕ) → (f locked ≡ locked) → ((k : ℕ) → k < 18446744073709551616 → (v.locked ≡ true → k ≡ locked) → Shows Here f k (after k))
+        → Allows (Kept total) slots id (v, []) 0 f (λ found new. moves Says (v, []) found new)
     counter_step f lock shows s r wide at small =
         let k : ℕ = get_or s.words 0 0 in
         let shown = shows k small (r.lock id v at) in
-        let near : 0 < length s.words = let h = r.wide in omega arith in
+        let near : 0 < length s.words = let h = r.wide in let n = least in omega arith in
         let here : counter (set s.words 0 (f k)) ≡ f k = get_or-set_same s.words 0 (f k) 0 near in
         let shut : (u : View) → u.locked ≡ true → counter s.words ≡ locked → counter (set s.words 0 (f k)) ≡ locked = λ u t e. here ∙ (ap f e ∙ lock) in (
           seen_after shown.0 v,
@@ -79,17 +82,17 @@ module _ {C E : Type 0} (stands : View → C → Type 0) (ends : View → E → 
                 (λ (is : (j ≢ id) × (get_elem? s.views j ≡ some u)). shut u t (r.lock j u is.1 t))
                 (at_set s.views id j (seen_after shown.0 v) u e);
           },
-          (tells k shown.0 shown.2, refl),
+          (says k shown.0 shown.2, refl),
         )
       where
-        mine : (s : St) (r : Kept cap s) → get_elem? s.views id ≡ some v → (mark : Bool) (x : ℕ) → (mark ≡ true → counter (set s.words 0 x) ≡ locked)
+        mine : (s : St) (r : Kept total s) → get_elem? s.views id ≡ some v → (mark : Bool) (x : ℕ) → (mark ≡ true → counter (set s.words 0 x) ≡ locked)
             → (v.locked ≡ true → counter s.words ≡ locked → counter (set s.words 0 x) ≡ locked) → (seen_after mark v).locked ≡ true → counter (set s.words 0 x) ≡ locked
         mine s r at true x marked shut t = marked refl
         mine s r at false x marked shut t = shut t (r.lock id v at t)
 
     -- a load or an exchange of a cell
-    pub cell_step : (word : ℕ) (f : ℕ → ℕ) → 1 ≤ word → ((k : ℕ) → k < 18446744073709551616 → Goes false (after c k))
-        → Allows (Kept cap) slots id (v, []) word f (λ found new. moves Tells (v, []) found new)
+    pub cell_step : (word : ℕ) (f : ℕ → ℕ) → 1 ≤ word → ((k : ℕ) → k < 18446744073709551616 → Here false (after k))
+        → Allows (Kept total) slots id (v, []) word f (λ found new. moves Says (v, []) found new)
     cell_step word f high goes s r wide at small =
         let k : ℕ = get_or s.words word 0 in
         let same : counter (set s.words word (f k)) ≡ counter s.words = get_or-set_other s.words word 0 (f k) 0 (λ e. absurd (omega arith)) in (
@@ -103,22 +106,22 @@ module _ {C E : Type 0} (stands : View → C → Type 0) (ends : View → E → 
                 (λ (is : (j ≢ id) × (get_elem? s.views j ≡ some u)). same ∙ r.lock j u is.1 t)
                 (at_set s.views id j v u e);
           },
-          (tells k false (goes k small), refl),
+          (says k false (goes k small), refl),
         )
 
 -- ---- how a table opens, and how seats come and go
 
-module _ (cap : ℕ) where
+module _ (total : ℕ) where
   -- the first seat has not seen the lock
-  pub opens : (ws : List ℕ) → length ws ≡ size cap → Kept cap (opening ws [] (blank cap))
-  opens ws wide = record { wide = wide; lock = lock }
+  pub opens : (cap : ℕ) (ws : List ℕ) → length ws ≡ total → Kept total (opening ws [] (blank cap))
+  opens cap ws wide = record { wide = wide; lock = lock }
     where
       lock : (j : ℕ) (v : View) → get_elem? (blank cap ∷ []) j ≡ some v → v.locked ≡ true → counter ws ≡ locked
       lock zero v e t = absurd (true≢false (sym t ∙ sym (ap (λ (z : View). z.locked) (some-injective (blank cap) v e))))
       lock (suc j) v e t = absurd (some-ne-none v (sym e))
 
   -- nor has a new one
-  pub splits : (id n : ℕ) (v : View) → Splits (Kept cap) id v v (blank n)
+  pub splits : (id n : ℕ) (v : View) → Splits (Kept total) id v v (blank n)
   splits id n v s r at =
       record {
         wide = r.wide;
@@ -129,7 +132,7 @@ module _ (cap : ℕ) where
       }
 
   -- a seat takes in what another has seen, which is spent
-  pub joins : (id other n : ℕ) (v w : View) → Joins (Kept cap) id v other w (joined v w) (blank n)
+  pub joins : (id other n : ℕ) (v w : View) → Joins (Kept total) id v other w (joined v w) (blank n)
   joins id other n v w s r at apart at' =
       let was : get_elem? s.views other ≡ some w = ⊎_elim (λ t. absurd (apart t.0)) (λ t. t.1) (at_set s.views id other (joined v w) w at') in
       record {

@@ -7,4 +7,4 @@ pub of_words-requires : goal.of_words-requires
 of_words-requires c =
     let items = c.in_ok-words.words.items in
     let wide : length items ≡ size c.args.capacity = search rules in
-    opens c.args.capacity c.as_slice.result.now (ap length c.as_slice.ensures.value ∙ (length-set items 0 0 ∙ wide))
+    opens (size c.args.capacity) c.args.capacity c.as_slice.result.now (ap length c.as_slice.ensures.value ∙ (length-set items 0 0 ∙ wide))
