@@ -109,15 +109,24 @@ fn one_value(rt: HostRuntime) -> Result<(), Fail> {
     let handle = user.adds(&rt, 1234567, owner).map_err(|_| "no place")?;
     assert_eq!(rt; (handle.index(), handle.owner.value()), (0, 8192));
     let mut state = user.state(&rt).ok_or("no memory")?;
-    assert_eq!(rt; (shown(&state), state.get(0)), ((1, 1234567), Some(&1234567)));
+    assert_eq!(rt;
+        (shown(&state), state.get(0)),
+        ((1, 1234567), Some(&1234567))
+    );
     assert_eq!(rt; user.updates(&rt, &mut state), Some(false));
     assert_eq!(rt; user.replaces(handle, 6), Ok(()));
     assert_eq!(rt; user.updates(&rt, &mut state), Some(true));
     assert_eq!(rt; shown(&state), (1, 6));
-    assert_eq!(rt; user.removes(&rt, handle, ReleaseMode::Default), Ok(ReleaseState::Unlocked));
+    assert_eq!(rt;
+        user.removes(&rt, handle, ReleaseMode::Default),
+        Ok(ReleaseState::Unlocked)
+    );
     assert_eq!(rt; user.updates(&rt, &mut state), Some(true));
     assert_eq!(rt; shown(&state), (0, 0));
-    assert_eq!(rt; user.removes(&rt, handle, ReleaseMode::Default), Err(FOREIGN));
+    assert_eq!(rt;
+        user.removes(&rt, handle, ReleaseMode::Default),
+        Err(FOREIGN)
+    );
     assert_eq!(rt; user.replaces(handle, 7), Err(FOREIGN));
     assert_eq!(rt; user.updates(&rt, &mut state), Some(false));
     assert_eq!(rt; user.says(&rt), (0, true, false));
@@ -149,11 +158,17 @@ fn foreign_and_locked(rt: HostRuntime) -> Result<(), Fail> {
         container: 6,
     };
     for wrong in [far, foreign] {
-        assert_eq!(rt; small.removes(&rt, wrong, ReleaseMode::LockIfLastIndex), Err(FOREIGN));
+        assert_eq!(rt;
+            small.removes(&rt, wrong, ReleaseMode::LockIfLastIndex),
+            Err(FOREIGN)
+        );
         assert_eq!(rt; small.replaces(wrong, 1), Err(FOREIGN));
     }
     let mut state = large.state(&rt).ok_or("no memory")?;
-    assert_eq!(rt; (small.updates(&rt, &mut state), shown(&state)), (None, (3, 18)));
+    assert_eq!(rt;
+        (small.updates(&rt, &mut state), shown(&state)),
+        (None, (3, 18))
+    );
     assert_eq!(rt; small.says(&rt), (1, false, false));
     let locked = small.removes(&rt, handle, ReleaseMode::LockIfLastIndex);
     assert_eq!(rt; locked, Ok(ReleaseState::Locked));
@@ -162,7 +177,10 @@ fn foreign_and_locked(rt: HostRuntime) -> Result<(), Fail> {
     let zero = UniqueIndexCreationError::ProvidedCapacityIsZero;
     assert_eq!(rt; Container::<u32>::new(rt.alloc(), 0, 1).err(), Some(zero));
     let above = UniqueIndexCreationError::ProvidedCapacityGreaterThanMaxCapacity;
-    assert_eq!(rt; Container::<u32>::new(rt.alloc(), 4294967296, 1).err(), Some(above));
+    assert_eq!(rt;
+        Container::<u32>::new(rt.alloc(), 4294967296, 1).err(),
+        Some(above)
+    );
     Ok(())
 }
 
@@ -193,7 +211,10 @@ fn is_whole(state: &ContainerState<(u64, u64)>) -> bool {
 }
 
 /// Keeps a state up to date: the state, and whether each pair that it showed was whole.
-fn look_many(rt: &impl Wait, mut user: User<'_, (u64, u64)>) -> Option<(ContainerState<(u64, u64)>, bool)> {
+fn look_many(
+    rt: &impl Wait,
+    mut user: User<'_, (u64, u64)>,
+) -> Option<(ContainerState<(u64, u64)>, bool)> {
     let mut state = user.state(rt)?;
     let mut whole = true;
     for _ in 0..600 {
