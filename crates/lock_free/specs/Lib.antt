@@ -7,6 +7,7 @@ pub use Rattle.lock_free_sp.specs.Shares
 pub use Rattle.lock_free_sp.specs.Parts
 pub use Rattle.lock_free_sp.specs.Orders
 pub use Rattle.steps.specs.Enums
+pub use Rattle.steps.specs.Container.State as ContainerState
 pub use Rattle.history.specs.History
 pub use Rattle.model.specs.Families.Bits.Reading as Sums
 -- The types that they speak of.
@@ -26,6 +27,7 @@ pub use Rattle.steps.specs.declared.indices.enums.ReleaseState
 pub use Rattle.steps.specs.declared.indices.enums.UniqueIndexSetAcquireFailure
 pub use Rattle.steps.specs.declared.bits.counting_bit_set.BitState
 pub use Rattle.steps.specs.declared.words.Words
+pub mod Container
 pub mod Robust
 pub mod RobustUniqueIndexSet
 pub mod Unique

@@ -1,0 +1,50 @@
+//! Values at indices that have owners, shared between threads. A state of a container shows what stood there when it was
+//! brought up to date. What an owner that is dead has left is recovered, and a container can be locked.
+//!
+//! Each call but `capacity` and `is_state_of` is made with a pass of its container, which is the caller's concern. A pass
+//! tells whether the lock was seen: from then on the calls that are made with it find the container locked.
+//!
+//! Three things are the caller's concern besides, which no contract asks for: a handle is given back at most once, by its
+//! holder; no remove and no replace of a handle is begun while a replace of it is under way; and nobody acts for an owner
+//! once its recovery has begun. Where a caller breaks them each call still answers as its contract says, but a value can
+//! be torn, stay hidden, or be that of another.
+use crate::container::rule::Board;
+use crate::container::token::Token;
+use std::alloc::Global;
+use std::sync::Arc;
+use steps::words::Words;
+
+mod calls;
+mod fixed;
+mod looks;
+mod make;
+mod passes;
+
+pub use steps::container::enums::{ContainerAddFailure, ContainerRemoveError, ContainerStateError};
+pub use steps::container::handle::ContainerHandle;
+pub use steps::container::state::ContainerState;
+pub use steps::enums::{CallbackProgression, OwnerId, OwnerIdNewError};
+
+/// A container of values, at indices below its capacity, which threads share by reference. After `Container` of the Rust
+/// crate.
+#[derive(Drop)]
+pub struct Container<T: Words> {
+    table: Arc<Board<T>, Global>,
+    capacity: u32,
+    id: u64,
+    alloc: Global,
+}
+
+/// The same with its capacity in the type, which is from 1 to 2^32 - 1. It is used as the container that it has. After
+/// `FixedSizeContainer` of the Rust crate.
+#[derive(Drop)]
+pub struct FixedSizeContainer<T: Words, const CAPACITY: usize> {
+    container: Container<T>,
+}
+
+/// What a caller knows of a container: whether it has seen the lock. Each call is made with a pass of its container,
+/// which is the caller's concern, and only the caller's own calls change it. This project's own.
+#[derive(Drop)]
+pub struct Pass<T: Words> {
+    token: Token<T>,
+}
