@@ -24,7 +24,10 @@ fn cell(alloc: Global, story: &Story, lane: usize, turn: usize) -> Result<String
             under_way = true;
             ends = call.end == Some(turn);
             if call.begin == turn {
-                let name = call.text.split_once(" ->").map_or(call.text.as_str(), |it| it.0);
+                let name = call
+                    .text
+                    .split_once(" ->")
+                    .map_or(call.text.as_str(), |it| it.0);
                 write!(text, "+ {name}")?;
             } else if ends {
                 let answer = call.text.split_once("-> ").map_or("", |it| it.1);
@@ -122,11 +125,8 @@ pub fn draw(alloc: Global, story: &Story) -> Result<String, AllocError> {
     let order = story.order;
     write!(text, "\n{order}:\n")?;
     for act in story.acts.iter() {
-        let number = act.number;
-        let said = &act.text;
-        let lane = story.lanes.get(act.lane).map_or("", |name| name.as_str());
-        let turn = act.turn.saturating_add(1);
-        write!(text, "*{number} {lane}: {said}, in turn {turn}\n")?;
+        let told = story.told(alloc, act)?;
+        write!(text, "{told}\n")?;
     }
     Ok(text)
 }

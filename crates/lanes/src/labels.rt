@@ -16,14 +16,31 @@ pub fn lines_high(count: usize) -> usize {
 }
 
 /// Writes a text that begins here.
-pub fn text_at(out: &mut String, class: &str, x: usize, y: usize, text: &str) -> Result<(), AllocError> {
-    write!(out, "<text class=\"{class}\" x=\"{x}\" y=\"{y}\">{text}</text>\n")
+pub fn text_at(
+    out: &mut String,
+    class: &str,
+    x: usize,
+    y: usize,
+    text: &str,
+) -> Result<(), AllocError> {
+    write!(
+        out,
+        "<text class=\"{class}\" x=\"{x}\" y=\"{y}\">{text}</text>\n"
+    )
 }
 
 /// Draws a line from one place to another.
-pub fn line_at(out: &mut String, class: &str, from: (usize, usize), to: (usize, usize)) -> Result<(), AllocError> {
+pub fn line_at(
+    out: &mut String,
+    class: &str,
+    from: (usize, usize),
+    to: (usize, usize),
+) -> Result<(), AllocError> {
     let ((a, b), (c, d)) = (from, to);
-    write!(out, "<line class=\"{class}\" x1=\"{a}\" y1=\"{b}\" x2=\"{c}\" y2=\"{d}\"/>\n")
+    write!(
+        out,
+        "<line class=\"{class}\" x1=\"{a}\" y1=\"{b}\" x2=\"{c}\" y2=\"{d}\"/>\n"
+    )
 }
 
 #[derive(Drop)]
@@ -70,7 +87,13 @@ impl Labels {
     }
 
     /// One more, which begins here.
-    pub fn add(&mut self, x: usize, text: &str, class: &'static str, alloc: Global) -> Result<(), AllocError> {
+    pub fn add(
+        &mut self,
+        x: usize,
+        text: &str,
+        class: &'static str,
+        alloc: Global,
+    ) -> Result<(), AllocError> {
         let width = text.len().saturating_mul(LETTER).saturating_add(LETTER * 2);
         let level = self.place(x, x.saturating_add(width))?;
         self.labels.push(Label {
@@ -97,7 +120,9 @@ impl Labels {
     /// Draws them below this height, each with a line up to it.
     pub fn draw_below(&self, out: &mut String, y: usize) -> Result<(), AllocError> {
         for label in self.labels.iter() {
-            let at = y.saturating_add(lines_high(label.level)).saturating_add(LINE - 2);
+            let at = y
+                .saturating_add(lines_high(label.level))
+                .saturating_add(LINE - 2);
             line_at(out, "l", (label.x, y), (label.x, at))?;
             text_at(out, label.class, label.x.saturating_add(3), at, &label.text)?;
         }

@@ -172,7 +172,13 @@ impl Story {
         })
     }
 
-    fn begin(&mut self, alloc: Global, lane: usize, turn: usize, line: &Line) -> Result<(), AllocError> {
+    fn begin(
+        &mut self,
+        alloc: Global,
+        lane: usize,
+        turn: usize,
+        line: &Line,
+    ) -> Result<(), AllocError> {
         self.calls.push(Call {
             lane,
             begin: turn,
@@ -182,7 +188,13 @@ impl Story {
         Ok(())
     }
 
-    fn finish(&mut self, alloc: Global, lane: usize, turn: usize, line: &Line) -> Result<(), AllocError> {
+    fn finish(
+        &mut self,
+        alloc: Global,
+        lane: usize,
+        turn: usize,
+        line: &Line,
+    ) -> Result<(), AllocError> {
         let text = String::from_str(alloc, said_of_call(line))?;
         for call in self.calls.iter_mut() {
             if call.lane == lane && call.end.is_none() {
@@ -203,6 +215,25 @@ impl Story {
             text,
         })?;
         Ok(())
+    }
+
+    /// An act with whose it is, and in whose turn it comes where that is another's.
+    pub fn told(&self, alloc: Global, act: &Act) -> Result<String, AllocError> {
+        let number = act.number;
+        let name = self.lane_name(act.lane);
+        let said = &act.text;
+        let mut text = format!(in alloc; "{number}. {name}: {said}")?;
+        if let Some(turned) = self.turns.get(act.turn) {
+            if turned.lane != act.lane {
+                let other = self.lane_name(turned.lane);
+                write!(text, ", in a turn of {other}")?;
+            }
+        }
+        Ok(text)
+    }
+
+    fn lane_name(&self, lane: usize) -> &str {
+        self.lanes.get(lane).map_or("", |name| name.as_str())
     }
 
     // What happens of one lane in one turn is one mark.

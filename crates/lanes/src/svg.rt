@@ -16,9 +16,11 @@ const PITCH: usize = 24;
 /// The width of the names of the lanes.
 const LEFT: usize = 84;
 
-const STYLE: &str = "<style>text{font:11px monospace;fill:#222}.h{font-weight:bold}.m{fill:#777}.n{font-size:9px;fill:#777;text-anchor:middle}.e{font-size:9px;font-weight:bold;fill:#fff;text-anchor:middle}.r{fill:#b00020}.z{stroke:#b00020;stroke-width:2}.b{fill:#dfe9f7}.o{fill:none;stroke:#4a6fa5}.k{stroke:#4a6fa5;stroke-width:2}.s{stroke:#4a6fa5;stroke-dasharray:2 2}.w{fill:none;stroke:#d07c00;stroke-width:2}.d{fill:#a8431f}.a{stroke:#a8431f;stroke-dasharray:3 2}.g{stroke:#ececec}.l{stroke:#bbb}</style>\n";
+const STYLE: &str =
+    "<style>text{font:11px monospace;fill:#222}.h{font-weight:bold}.m{fill:#777}.n{font-size:9px;fill:#777;text-anchor:middle}.e{font-size:9px;font-weight:bold;fill:#fff;text-anchor:middle}.r{fill:#b00020}.z{stroke:#b00020;stroke-width:2}.b{fill:#dfe9f7}.o{fill:none;stroke:#4a6fa5}.k{stroke:#4a6fa5;stroke-width:2}.s{stroke:#4a6fa5;stroke-dasharray:2 2}.w{fill:none;stroke:#d07c00;stroke-width:2}.d{fill:#a8431f}.g{stroke:#ddd}.l{stroke:#bbb}</style>\n";
 
-const LEGEND: &str = "bar: a call; tick: a step on one word; hook: a step that goes back; numbered dot: its call acts or changes something; x: refused; open at the right: the call never ends";
+const LEGEND: &str =
+    "bar: a call; tick: a step on one word; hook: a step that goes back; numbered dot: its call acts or changes something; x: refused; open at the right: the call never ends";
 
 /// The part of a run that stands on one page.
 #[derive(Clone, Copy)]
@@ -61,9 +63,17 @@ impl Page<'_> {
         let begins = self.has(call.begin);
         let ends = self.has(end);
         Some(Bar {
-            left: if begins { self.x(call.begin).saturating_sub(8) } else { LEFT },
+            left: if begins {
+                self.x(call.begin).saturating_sub(8)
+            } else {
+                LEFT
+            },
             begins,
-            right: if ends { self.x(end).saturating_add(8) } else { self.right },
+            right: if ends {
+                self.x(end).saturating_add(8)
+            } else {
+                self.right
+            },
             ends,
         })
     }
@@ -96,8 +106,14 @@ impl Page<'_> {
     // The contents, as they are when the page begins and after each change.
     fn contents(&self) -> Result<Labels, AllocError> {
         let mut labels = Labels::new(self.alloc);
-        let before = self.story.contents.iter().filter(|after| after.turn < self.first);
-        let opening = before.last().map_or(&self.story.opening, |after| &after.text);
+        let before = self
+            .story
+            .contents
+            .iter()
+            .filter(|after| after.turn < self.first);
+        let opening = before
+            .last()
+            .map_or(&self.story.opening, |after| &after.text);
         labels.add(LEFT, opening, "m", self.alloc)?;
         for after in self.story.contents.iter() {
             if self.has(after.turn) {
@@ -114,7 +130,10 @@ impl Page<'_> {
                 if let Some(bar) = self.bar(call) {
                     let Bar { left, right, .. } = bar;
                     let wide = right.saturating_sub(left);
-                    write!(out, "<rect class=\"b\" x=\"{left}\" y=\"{top}\" width=\"{wide}\" height=\"{BAR}\"/>\n")?;
+                    write!(
+                        out,
+                        "<rect class=\"b\" x=\"{left}\" y=\"{top}\" width=\"{wide}\" height=\"{BAR}\"/>\n"
+                    )?;
                     line_at(out, "o", (left, top), (right, top))?;
                     line_at(out, "o", (left, low), (right, low))?;
                     if bar.begins {
@@ -146,7 +165,10 @@ impl Page<'_> {
                 match turned.did {
                     Did::Step => line_at(out, "k", (x, top), (x, low))?,
                     Did::Back => {
-                        write!(out, "<path class=\"w\" d=\"M{right} {over}L{left} {middle}L{right} {under}\"/>\n")?;
+                        write!(
+                            out,
+                            "<path class=\"w\" d=\"M{right} {over}L{left} {middle}L{right} {under}\"/>\n"
+                        )?;
                     }
                     Did::NoStep | Did::Said(_) => line_at(out, "s", (x, top), (x, low))?,
                     Did::Begin | Did::Died => {}
@@ -165,19 +187,33 @@ impl Page<'_> {
                 last = act.turn;
                 let x = self.x(act.turn);
                 let number = act.number;
-                write!(out, "<circle class=\"d\" cx=\"{x}\" cy=\"{y}\" r=\"8\"/><text class=\"e\" x=\"{x}\" y=\"{low}\">{number}</text>\n")?;
+                write!(
+                    out,
+                    "<circle class=\"d\" cx=\"{x}\" cy=\"{y}\" r=\"8\"/><text class=\"e\" x=\"{x}\" y=\"{low}\">{number}</text>\n"
+                )?;
             }
         }
         Ok(())
     }
 
     // A lane from here on. Where it ends.
-    fn draw_lane(&self, out: &mut String, lane: usize, name: &str, y: usize) -> Result<usize, AllocError> {
+    fn draw_lane(
+        &self,
+        out: &mut String,
+        lane: usize,
+        name: &str,
+        y: usize,
+    ) -> Result<usize, AllocError> {
         let (names, marks) = (self.names(lane)?, self.marks(lane)?);
         let top = y.saturating_add(names.height()).saturating_add(4);
         let low = top.saturating_add(BAR);
         text_at(out, "h", 8, top.saturating_add(13), name)?;
-        line_at(out, "g", (LEFT, top.saturating_add(BAR / 2)), (self.right, top.saturating_add(BAR / 2)))?;
+        line_at(
+            out,
+            "g",
+            (LEFT, top.saturating_add(BAR / 2)),
+            (self.right, top.saturating_add(BAR / 2)),
+        )?;
         names.draw_above(out, top)?;
         marks.draw_below(out, low)?;
         self.draw_bars(out, lane, top)?;
@@ -194,10 +230,8 @@ impl Page<'_> {
         for act in self.story.acts.iter() {
             if self.has(act.turn) {
                 at = at.saturating_add(LINE + 2);
-                let number = act.number;
-                let name = self.story.lanes.get(act.lane).map_or("", |name| name.as_str());
-                let text = &act.text;
-                write!(out, "<text x=\"{x}\" y=\"{at}\">{number}. {name}: {text}</text>\n")?;
+                let text = self.story.told(self.alloc, act)?;
+                text_at(out, "", x, at, &text)?;
             }
         }
         Ok(at)
@@ -207,7 +241,7 @@ impl Page<'_> {
     fn draw_guides(&self, out: &mut String, y: usize, low: usize) -> Result<(), AllocError> {
         for after in self.story.contents.iter() {
             if self.has(after.turn) {
-                line_at(out, "l", (self.x(after.turn), y), (self.x(after.turn), low))?;
+                line_at(out, "g", (self.x(after.turn), y), (self.x(after.turn), low))?;
             }
         }
         Ok(())
@@ -220,7 +254,10 @@ impl Page<'_> {
         for turn in self.first..self.end {
             let x = self.x(turn);
             let number = turn.saturating_add(1);
-            write!(out, "<text class=\"n\" x=\"{x}\" y=\"{head}\">{number}</text>\n")?;
+            write!(
+                out,
+                "<text class=\"n\" x=\"{x}\" y=\"{head}\">{number}</text>\n"
+            )?;
         }
         let mut inside = String::new(self.alloc);
         let mut low = head.saturating_add(8);
@@ -233,23 +270,30 @@ impl Page<'_> {
         text_at(out, "h", 8, low.saturating_add(LINE - 2), "contents")?;
         contents.draw_below(out, low)?;
         let list = self.draw_list(out, head)?;
-        Ok(low.saturating_add(contents.height()).max(list).saturating_add(24))
+        Ok(
+            low.saturating_add(contents.height())
+                .max(list)
+                .saturating_add(24),
+        )
     }
 }
 
 // The width of the list at the right.
-fn list_width(story: &Story) -> usize {
+fn list_width(alloc: Global, story: &Story) -> Result<usize, AllocError> {
     let mut most = story.order.len();
     for act in story.acts.iter() {
-        most = most.max(act.text.len().saturating_add(18));
+        most = most.max(story.told(alloc, act)?.len());
     }
-    most.saturating_mul(LETTER).saturating_add(32)
+    Ok(most.saturating_mul(LETTER).saturating_add(32))
 }
 
 /// The run as a picture.
 pub fn draw(alloc: Global, story: &Story) -> Result<String, AllocError> {
     let turns = story.turns.len();
-    let right = turns.clamp(LEAST, PAGE).saturating_mul(PITCH).saturating_add(LEFT + 8);
+    let right = turns
+        .clamp(LEAST, PAGE)
+        .saturating_mul(PITCH)
+        .saturating_add(LEFT + 8);
     let mut body = String::new(alloc);
     text_at(&mut body, "h", 8, 18, &story.title)?;
     let mut y = 30usize;
@@ -272,6 +316,10 @@ pub fn draw(alloc: Global, story: &Story) -> Result<String, AllocError> {
     }
     text_at(&mut body, "m", 8, y, LEGEND)?;
     let high = y.saturating_add(10);
-    let wide = right.saturating_add(list_width(story)).max(LEGEND.len().saturating_mul(LETTER).saturating_add(16));
-    format!(in alloc; "<svg xmlns=\"http://www.w3.org/2000/svg\" width=\"{wide}\" height=\"{high}\" viewBox=\"0 0 {wide} {high}\">\n{STYLE}<rect width=\"100%\" height=\"100%\" fill=\"#fff\"/>\n{body}</svg>\n")
+    let wide = right
+        .saturating_add(list_width(alloc, story)?)
+        .max(LEGEND.len().saturating_mul(LETTER).saturating_add(16));
+    format!(in alloc;
+        "<svg xmlns=\"http://www.w3.org/2000/svg\" width=\"{wide}\" height=\"{high}\" viewBox=\"0 0 {wide} {high}\">\n{STYLE}<rect width=\"100%\" height=\"100%\" fill=\"#fff\"/>\n{body}</svg>\n"
+    )
 }
