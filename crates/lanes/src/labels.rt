@@ -46,6 +46,8 @@ pub fn line_at(
 #[derive(Drop)]
 struct Label {
     x: usize,
+    // Where its text begins: there, but for one that would not end on the page.
+    from: usize,
     level: usize,
     class: &'static str,
     text: String,
@@ -57,11 +59,14 @@ pub struct Labels {
     labels: Vec<Label>,
     /// Where the last label of each level ends.
     ends: Vec<usize>,
+    /// Where the page ends.
+    right: usize,
 }
 
 impl Labels {
-    pub fn new(alloc: Global) -> Labels {
+    pub fn new(alloc: Global, right: usize) -> Labels {
         Labels {
+            right,
             labels: Vec::new(alloc),
             ends: Vec::new(alloc),
         }
@@ -94,10 +99,12 @@ impl Labels {
         class: &'static str,
         alloc: Global,
     ) -> Result<(), AllocError> {
-        let width = text.len().saturating_mul(LETTER).saturating_add(LETTER * 2);
-        let level = self.place(x, x.saturating_add(width))?;
+        let width = text.len().saturating_mul(LETTER).saturating_add(LETTER);
+        let from = x.min(self.right.saturating_sub(width));
+        let level = self.place(from, from.saturating_add(width))?;
         self.labels.push(Label {
             x,
+            from,
             level,
             class,
             text: String::from_str(alloc, text)?,
@@ -112,7 +119,13 @@ impl Labels {
             if label.level > 0 {
                 line_at(out, "l", (label.x, at.saturating_sub(8)), (label.x, y))?;
             }
-            text_at(out, label.class, label.x.saturating_add(3), at, &label.text)?;
+            text_at(
+                out,
+                label.class,
+                label.from.saturating_add(3),
+                at,
+                &label.text,
+            )?;
         }
         Ok(())
     }
@@ -124,7 +137,13 @@ impl Labels {
                 .saturating_add(lines_high(label.level))
                 .saturating_add(LINE - 2);
             line_at(out, "l", (label.x, y), (label.x, at))?;
-            text_at(out, label.class, label.x.saturating_add(3), at, &label.text)?;
+            text_at(
+                out,
+                label.class,
+                label.from.saturating_add(3),
+                at,
+                &label.text,
+            )?;
         }
         Ok(())
     }

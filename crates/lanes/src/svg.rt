@@ -19,8 +19,10 @@ const LEFT: usize = 84;
 const STYLE: &str =
     "<style>text{font:11px monospace;fill:#222}.h{font-weight:bold}.m{fill:#777}.n{font-size:9px;fill:#777;text-anchor:middle}.e{font-size:9px;font-weight:bold;fill:#fff;text-anchor:middle}.r{fill:#b00020}.z{stroke:#b00020;stroke-width:2}.b{fill:#dfe9f7}.o{fill:none;stroke:#4a6fa5}.k{stroke:#4a6fa5;stroke-width:2}.s{stroke:#4a6fa5;stroke-dasharray:2 2}.w{fill:none;stroke:#d07c00;stroke-width:2}.d{fill:#a8431f}.g{stroke:#ddd}.l{stroke:#bbb}</style>\n";
 
-const LEGEND: &str =
-    "bar: a call; tick: a step on one word; hook: a step that goes back; numbered dot: its call acts or changes something; x: refused; open at the right: the call never ends";
+const LEGEND: [&str; 2] = [
+    "bar: a call, open at the right where it has not ended; tick: a step on one word;",
+    "hook: a step that goes back; numbered dot: its call acts or changes something; x: refused",
+];
 
 /// The part of a run that stands on one page.
 #[derive(Clone, Copy)]
@@ -80,7 +82,7 @@ impl Page<'_> {
 
     // The calls of a lane by name.
     fn names(&self, lane: usize) -> Result<Labels, AllocError> {
-        let mut labels = Labels::new(self.alloc);
+        let mut labels = Labels::new(self.alloc, self.right);
         for call in self.story.calls.iter() {
             if call.lane == lane {
                 if let Some(bar) = self.bar(call) {
@@ -93,7 +95,7 @@ impl Page<'_> {
 
     // The marks of a lane by name.
     fn marks(&self, lane: usize) -> Result<Labels, AllocError> {
-        let mut labels = Labels::new(self.alloc);
+        let mut labels = Labels::new(self.alloc, self.right);
         for mark in self.story.marks.iter() {
             if mark.lane == lane && self.has(mark.turn) {
                 let class = if mark.refused { "r" } else { "" };
@@ -105,7 +107,7 @@ impl Page<'_> {
 
     // The contents, as they are when the page begins and after each change.
     fn contents(&self) -> Result<Labels, AllocError> {
-        let mut labels = Labels::new(self.alloc);
+        let mut labels = Labels::new(self.alloc, self.right);
         let before = self
             .story
             .contents
@@ -314,12 +316,13 @@ pub fn draw(alloc: Global, story: &Story) -> Result<String, AllocError> {
         text_at(&mut body, "r", 8, y, "further turns are left out")?;
         y = y.saturating_add(LINE);
     }
-    text_at(&mut body, "m", 8, y, LEGEND)?;
-    let high = y.saturating_add(10);
-    let wide = right
-        .saturating_add(list_width(alloc, story)?)
-        .max(LEGEND.len().saturating_mul(LETTER).saturating_add(16));
+    let mut wide = right.saturating_add(list_width(alloc, story)?);
+    for said in LEGEND.iter() {
+        text_at(&mut body, "m", 8, y, said)?;
+        y = y.saturating_add(LINE);
+        wide = wide.max(said.len().saturating_mul(LETTER).saturating_add(16));
+    }
     format!(in alloc;
-        "<svg xmlns=\"http://www.w3.org/2000/svg\" width=\"{wide}\" height=\"{high}\" viewBox=\"0 0 {wide} {high}\">\n{STYLE}<rect width=\"100%\" height=\"100%\" fill=\"#fff\"/>\n{body}</svg>\n"
+        "<svg xmlns=\"http://www.w3.org/2000/svg\" width=\"{wide}\" height=\"{y}\" viewBox=\"0 0 {wide} {y}\">\n{STYLE}<rect width=\"100%\" height=\"100%\" fill=\"#fff\"/>\n{body}</svg>\n"
     )
 }
