@@ -7,12 +7,12 @@ pub mod error;
 mod families;
 pub mod grammar;
 mod indices;
-mod input;
+pub mod input;
 pub mod line;
-mod output;
+pub mod output;
 mod queues;
 pub mod runs;
-mod text;
+pub mod text;
 mod told;
 
 pub use runs::run;

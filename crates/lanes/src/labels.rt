@@ -1,0 +1,150 @@
+//! Labels that stand beside one another where there is room, and else a line further out; and the pieces of a picture.
+use std::alloc::{AllocError, Global};
+
+/// The height of a line of text, in the units of the picture, and so those below.
+pub const LINE: usize = 14;
+
+/// The height of a bar.
+pub const BAR: usize = 18;
+
+/// The width of a letter of a label.
+pub const LETTER: usize = 7;
+
+/// The height of so many lines.
+pub fn lines_high(count: usize) -> usize {
+    count.saturating_mul(LINE)
+}
+
+/// Writes a text that begins here.
+pub fn text_at(
+    out: &mut String,
+    class: &str,
+    x: usize,
+    y: usize,
+    text: &str,
+) -> Result<(), AllocError> {
+    write!(
+        out,
+        "<text class=\"{class}\" x=\"{x}\" y=\"{y}\">{text}</text>\n"
+    )
+}
+
+/// Draws a line from one place to another.
+pub fn line_at(
+    out: &mut String,
+    class: &str,
+    from: (usize, usize),
+    to: (usize, usize),
+) -> Result<(), AllocError> {
+    let ((a, b), (c, d)) = (from, to);
+    write!(
+        out,
+        "<line class=\"{class}\" x1=\"{a}\" y1=\"{b}\" x2=\"{c}\" y2=\"{d}\"/>\n"
+    )
+}
+
+#[derive(Drop)]
+struct Label {
+    x: usize,
+    // Where its text begins: there, but for one that would not end on the page.
+    from: usize,
+    level: usize,
+    class: &'static str,
+    text: String,
+}
+
+/// The labels of a lane, in the order in which they begin.
+#[derive(Drop)]
+pub struct Labels {
+    labels: Vec<Label>,
+    /// Where the last label of each level ends.
+    ends: Vec<usize>,
+    /// Where the page ends.
+    right: usize,
+}
+
+impl Labels {
+    pub fn new(alloc: Global, right: usize) -> Labels {
+        Labels {
+            right,
+            labels: Vec::new(alloc),
+            ends: Vec::new(alloc),
+        }
+    }
+
+    /// The height of all levels.
+    pub fn height(&self) -> usize {
+        lines_high(self.ends.len())
+    }
+
+    // The first level on which nothing stands from here on; from now on something does, up to this end.
+    fn place(&mut self, from: usize, to: usize) -> Result<usize, AllocError> {
+        let mut level = 0usize;
+        for end in self.ends.iter_mut() {
+            if *end <= from {
+                *end = to;
+                return Ok(level);
+            }
+            level = level.saturating_add(1);
+        }
+        self.ends.push(to)?;
+        Ok(level)
+    }
+
+    /// One more, which begins here.
+    pub fn add(
+        &mut self,
+        x: usize,
+        text: &str,
+        class: &'static str,
+        alloc: Global,
+    ) -> Result<(), AllocError> {
+        let width = text.len().saturating_mul(LETTER).saturating_add(LETTER);
+        let from = x.min(self.right.saturating_sub(width));
+        let level = self.place(from, from.saturating_add(width))?;
+        self.labels.push(Label {
+            x,
+            from,
+            level,
+            class,
+            text: String::from_str(alloc, text)?,
+        })?;
+        Ok(())
+    }
+
+    /// Draws them above this height, each with a line down to it.
+    pub fn draw_above(&self, out: &mut String, y: usize) -> Result<(), AllocError> {
+        for label in self.labels.iter() {
+            let at = y.saturating_sub(lines_high(label.level)).saturating_sub(4);
+            if label.level > 0 {
+                line_at(out, "l", (label.x, at.saturating_sub(8)), (label.x, y))?;
+            }
+            text_at(
+                out,
+                label.class,
+                label.from.saturating_add(3),
+                at,
+                &label.text,
+            )?;
+        }
+        Ok(())
+    }
+
+    /// Draws them below this height, each with a line up to it.
+    pub fn draw_below(&self, out: &mut String, y: usize) -> Result<(), AllocError> {
+        for label in self.labels.iter() {
+            let at = y
+                .saturating_add(lines_high(label.level))
+                .saturating_add(LINE - 2);
+            line_at(out, "l", (label.x, y), (label.x, at))?;
+            text_at(
+                out,
+                label.class,
+                label.from.saturating_add(3),
+                at,
+                &label.text,
+            )?;
+        }
+        Ok(())
+    }
+}

@@ -1,0 +1,110 @@
+//! Draws the run of a schedule: a lane a party, a bar a call, and what its steps did. The text is on standard input, and
+//! the picture, an SVG, or columns of text after the argument `--text`, on standard output.
+#![tactic(auto)]
+
+mod columns;
+mod contents;
+mod labels;
+mod recorded;
+mod story;
+mod svg;
+
+use recorded::{Recorded, record};
+use schedule::error::ScheduleError;
+use schedule::input::whole_input;
+use schedule::output::{flush, put};
+use schedule::status;
+use std::alloc::{AllocError, Global};
+use std::env;
+use std::io::{self, BufWriter, Read, Write};
+use std::process::ExitCode;
+use story::Story;
+
+/// What a run is drawn as.
+#[derive(Clone, Copy)]
+enum Form {
+    Svg,
+    Columns,
+}
+
+fn picture_of(alloc: Global, form: Form, run: &Recorded) -> Result<String, AllocError> {
+    let story = Story::of(alloc, run)?;
+    match form {
+        Form::Svg => svg::draw(alloc, &story),
+        Form::Columns => columns::draw(alloc, &story),
+    }
+}
+
+fn draw_to<W: Write>(
+    alloc: Global,
+    form: Form,
+    run: &Recorded,
+    writer: &mut W,
+) -> Result<(), ScheduleError> {
+    match picture_of(alloc, form, run) {
+        Ok(picture) => {
+            put(writer, picture.as_bytes())?;
+            flush(writer)
+        }
+        Err(_) => Err(ScheduleError::NoMemory),
+    }
+}
+
+// Draws what the lines before a malformed one did, and then tells of that one.
+fn draw<R: Read, W: Write>(
+    alloc: Global,
+    form: Form,
+    reader: &mut R,
+    writer: &mut W,
+) -> Result<(), ScheduleError> {
+    let input = whole_input(alloc, reader)?;
+    let run = record(alloc, &input)?;
+    draw_to(alloc, form, &run, writer)?;
+    match run.malformed {
+        Some((line, cause)) => Err(ScheduleError::Malformed(line, cause)),
+        None => Ok(()),
+    }
+}
+
+/// Draws the schedule that is read to its end, tells how that ended, and answers the exit status.
+fn draw_and_tell<R: Read, W: Write, E: Write>(
+    alloc: Global,
+    form: Form,
+    reader: &mut R,
+    output: &mut W,
+    errors: &mut E,
+) -> u8 {
+    let drawn = match BufWriter::new(alloc, output) {
+        Ok(mut writer) => draw(alloc, form, reader, &mut writer),
+        Err(_) => Err(ScheduleError::NoMemory),
+    };
+    status(&drawn, errors)
+}
+
+// None where an argument is not known.
+fn form_of(rt: &HostRuntime) -> io::Result<Option<Form>> {
+    let mut form = Form::Svg;
+    for argument in env::args(rt)?.skip(1) {
+        if argument.as_str() == "--text" {
+            form = Form::Columns;
+        } else {
+            return Ok(None);
+        }
+    }
+    Ok(Some(form))
+}
+
+fn main(rt: HostRuntime) -> io::Result<ExitCode> {
+    let Some(form) = form_of(&rt)? else {
+        eprintln!(rt; "usage: lanes [--text] <SCHEDULE")?;
+        return Ok(ExitCode::from(2));
+    };
+    let exit = draw_and_tell(
+        rt.alloc(),
+        form,
+        &mut rt.stdin(),
+        &mut rt.stdout(),
+        &mut rt.stderr(),
+    );
+    Ok(ExitCode::from(exit))
+}

@@ -1,0 +1,168 @@
+//! The turns of a schedule, with what each of them came to.
+use machine::Machine;
+use machine::party::Progress;
+use machine::turn::{Refusal, Turn, capacity_error};
+use schedule::error::{Cause, ScheduleError};
+use schedule::grammar::{Command, Setup, command_of, setup_of};
+use schedule::text::{Rest, lines};
+use std::alloc::Global;
+use steps::enums::UniqueIndexCreationError;
+
+/// The most turns that are drawn: a hundred pages.
+const MOST: usize = 6000;
+
+/// What a turn is.
+#[derive(Clone, Copy, PartialEq, Eq)]
+pub enum Did {
+    Begin,
+    /// A step on one word.
+    Step,
+    /// A step by which the call began a loop again.
+    Back,
+    /// A turn of the call that asked for no word.
+    NoStep,
+    /// A decision.
+    Said(bool),
+    /// The death of an owner, a turn of no party.
+    Died,
+}
+
+/// A turn, as it was taken or refused.
+#[derive(Clone, Copy)]
+pub struct Taken {
+    /// None of a death, and of a turn of a number that is no party's.
+    pub party: Option<u32>,
+    pub did: Did,
+    pub refusal: Option<Refusal>,
+    /// How many events stand after it.
+    pub events: usize,
+}
+
+/// A run, up to its end or to the line that is malformed.
+#[derive(Drop)]
+pub struct Recorded {
+    pub setup: Setup,
+    pub machine: Machine<u128>,
+    pub turns: Vec<Taken>,
+    pub malformed: Option<(u64, Cause)>,
+    /// Whether turns were left out, since there were too many to draw.
+    pub cut: bool,
+}
+
+// What a step was, by how far its call had come before and after it.
+fn step_of(before: Option<Progress>, after: Option<Progress>) -> Did {
+    let (Some(before), Some(after)) = (before, after) else {
+        return Did::NoStep;
+    };
+    if after.backs > before.backs {
+        Did::Back
+    } else if after.steps > before.steps {
+        Did::Step
+    } else {
+        Did::NoStep
+    }
+}
+
+impl Recorded {
+    // One turn. Whether the party's call goes on.
+    fn take(&mut self, turn: Turn<u128>) -> Result<bool, ScheduleError> {
+        if self.turns.len() >= MOST {
+            self.cut = true;
+            return Ok(false);
+        }
+        let party = match turn {
+            Turn::Begin(party, _) | Turn::Next(party) | Turn::Decide(party, _) => Some(party),
+            Turn::Die(_) => None,
+        };
+        let number = party.unwrap_or(0);
+        let before = self.machine.under_way(number);
+        let refusal = self.machine.step(turn).err();
+        let did = match turn {
+            Turn::Begin(_, _) => Did::Begin,
+            Turn::Next(_) => step_of(before, self.machine.under_way(number)),
+            Turn::Decide(_, said) => Did::Said(said),
+            Turn::Die(_) => Did::Died,
+        };
+        let taken = Taken {
+            party: party.filter(|number| *number < self.setup.parties),
+            did,
+            refusal,
+            events: self.machine.events().len(),
+        };
+        match self.turns.push(taken) {
+            Ok(()) => Ok(refusal.is_none() && self.machine.is_going(number)),
+            Err(_) => Err(ScheduleError::NoMemory),
+        }
+    }
+
+    // What a line asks for.
+    fn command(&mut self, command: Command) -> Result<(), ScheduleError> {
+        let (turn, most) = match command {
+            Command::Once(turn) => (turn, 1),
+            Command::Times(party, most) => (Turn::Next(party), most),
+        };
+        for _ in 0..most {
+            if !self.take(turn)? {
+                return Ok(());
+            }
+        }
+        Ok(())
+    }
+
+    // The lines after the first, of which at most so many bytes are left.
+    fn lines(&mut self, bytes: usize, lines: Rest<'_>) -> Result<(), ScheduleError> {
+        let mut left = lines;
+        for at in 0..bytes {
+            let Some((line, rest)) = left.first() else {
+                return Ok(());
+            };
+            if !line.is_empty() {
+                match command_of(self.setup.kind, line) {
+                    Ok(command) => self.command(command)?,
+                    Err(cause) => {
+                        self.malformed = Some(((at as u64).saturating_add(2), cause));
+                        return Ok(());
+                    }
+                }
+            }
+            left = rest;
+        }
+        Ok(())
+    }
+}
+
+fn first_line(line: &[u8]) -> Result<Setup, Cause> {
+    let setup = setup_of(line)?;
+    match capacity_error(setup.kind, setup.capacity as usize) {
+        Some(UniqueIndexCreationError::ProvidedCapacityGreaterThanMaxCapacity) => {
+            Err(Cause::ProvidedCapacityGreaterThanMaxCapacity)
+        }
+        Some(UniqueIndexCreationError::ProvidedCapacityIsZero) => {
+            Err(Cause::ProvidedCapacityIsZero)
+        }
+        Some(UniqueIndexCreationError::NoMemory) | None => Ok(setup),
+    }
+}
+
+/// Runs a schedule. A malformed line ends the run, with its number and cause; where it is the first, that is the error.
+pub fn record(alloc: Global, input: &[u8]) -> Result<Recorded, ScheduleError> {
+    let Some((first, rest)) = lines(input).first() else {
+        return Err(ScheduleError::Malformed(1, Cause::MissingValue));
+    };
+    let setup = match first_line(first) {
+        Ok(setup) => setup,
+        Err(cause) => return Err(ScheduleError::Malformed(1, cause)),
+    };
+    let Ok(machine) = Machine::new(alloc, setup.kind, setup.capacity as usize, setup.parties) else {
+        return Err(ScheduleError::NoMemory);
+    };
+    let mut run = Recorded {
+        setup,
+        machine,
+        turns: Vec::new(alloc),
+        malformed: None,
+        cut: false,
+    };
+    run.lines(input.len(), rest)?;
+    Ok(run)
+}
