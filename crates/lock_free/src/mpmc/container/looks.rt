@@ -30,7 +30,7 @@ impl<T: Words> Container<T> {
         Ok(state)
     }
 
-    /// Brings a state of this container up to date. False where no add, replace, remove or recovery has ended since the
+    /// Brings a state of this container up to date. False where no add, replace or remove has ended since the
     /// state was brought up to date last (no clause says so); the state then stays as it is.
     ///
     /// At most 1 atomic step and for each index 2 + `T::WORDS` where nobody else steps in between, 1 where the answer is

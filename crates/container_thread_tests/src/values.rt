@@ -1,0 +1,268 @@
+//! Containers, alone and between threads.
+ghost use Rattle.lock_free.specs.Container.Names.{IsPassOf};
+
+use lock_free::mpmc::container::{
+    CallbackProgression, Container, ContainerAddFailure, ContainerHandle, ContainerRemoveError,
+    ContainerState, FixedSizeContainer, OwnerId, Pass,
+};
+use lock_free::mpmc::unique_index_set_enums::{
+    ReleaseMode, ReleaseState, UniqueIndexCreationError,
+};
+use lock_free::words::Words;
+use std::process::Abort;
+use std::sync::Wait;
+use std::test::Fail;
+use std::thread;
+use std::thread::Threads;
+
+const FOREIGN: ContainerRemoveError = ContainerRemoveError::ContainerHandleNotOwnedByContainer;
+
+/// One who uses a container.
+#[derive(Drop)]
+struct User<'a, T: Words> {
+    container: &'a Container<T>,
+    pass: Pass<T>,
+    ghost of: { IsPassOf container.now pass },
+}
+
+impl<'a, T: Words> User<'a, T> {
+    fn new(container: &'a Container<T>, pass: Pass<T>) -> User<'a, T>
+        requires { IsPassOf container.now pass }
+    {
+        User { container, pass }
+    }
+
+    /// One with a pass that was made of two.
+    fn another(&mut self) -> Option<User<'a, T>> {
+        let mut pass = self.pass.split()?;
+        let other = self.pass.split()?;
+        pass.join(other);
+        Some(User {
+            container: self.container,
+            pass,
+        })
+    }
+
+    fn adds(
+        &mut self,
+        rt: &impl Wait,
+        value: T,
+        owner: OwnerId,
+    ) -> Result<ContainerHandle, ContainerAddFailure> {
+        self.container.add(rt, value, owner, &mut self.pass)
+    }
+
+    fn removes(
+        &mut self,
+        rt: &impl Wait,
+        handle: &ContainerHandle,
+        mode: ReleaseMode,
+    ) -> Result<ReleaseState, ContainerRemoveError> {
+        self.container.remove(rt, *handle, mode, &mut self.pass)
+    }
+
+    fn replaces(&mut self, handle: &ContainerHandle, value: T) -> Result<(), ContainerRemoveError> {
+        self.container.replace(*handle, value, &mut self.pass)
+    }
+
+    /// A state of the container.
+    fn state(&mut self, rt: &impl Wait) -> Option<ContainerState<T>> {
+        self.container.get_state(rt, &mut self.pass).ok()
+    }
+
+    /// Whether the state has changed. None where it is of another container.
+    fn updates(&mut self, rt: &impl Wait, state: &mut ContainerState<T>) -> Option<bool> {
+        if self.container.is_state_of(state) {
+            Some(self.container.update_state(rt, state, &mut self.pass))
+        } else {
+            None
+        }
+    }
+
+    /// How many indices have an owner, whether none has, and whether the container is locked.
+    fn says(&mut self, rt: &impl Wait) -> (usize, bool, bool) {
+        (
+            self.container.len(rt, &mut self.pass),
+            self.container.is_empty(rt, &mut self.pass),
+            self.container.is_locked(&mut self.pass),
+        )
+    }
+}
+
+/// How many values a state shows, and their sum.
+fn shown(state: &ContainerState<u32>) -> (usize, u64) {
+    let mut sum = 0u64;
+    state.for_each(|_, value| {
+        sum = sum.wrapping_add(*value as u64);
+        CallbackProgression::Continue
+    });
+    (state.number(), sum)
+}
+
+/// A value at a time, and states of it.
+#[test]
+fn one_value(rt: HostRuntime) -> Result<(), Fail> {
+    let (fixed, pass) = FixedSizeContainer::<u32, 139>::new(rt.alloc(), 5)?;
+    assert_eq!(rt; fixed.capacity(), 139);
+    let mut user = User::new(&fixed, pass);
+    let owner = OwnerId::new(8192).map_err(|_| "no owner")?;
+    let handle = user.adds(&rt, 1234567, owner).map_err(|_| "no place")?;
+    assert_eq!(rt; (handle.index(), handle.owner.value()), (0, 8192));
+    let mut state = user.state(&rt).ok_or("no memory")?;
+    assert_eq!(rt;
+        (shown(&state), state.get(0)),
+        ((1, 1234567), Some(&1234567))
+    );
+    assert_eq!(rt; user.updates(&rt, &mut state), Some(false));
+    assert_eq!(rt; user.replaces(&handle, 6), Ok(()));
+    assert_eq!(rt; user.updates(&rt, &mut state), Some(true));
+    assert_eq!(rt; shown(&state), (1, 6));
+    assert_eq!(rt;
+        user.removes(&rt, &handle, ReleaseMode::Default),
+        Ok(ReleaseState::Unlocked)
+    );
+    assert_eq!(rt; user.updates(&rt, &mut state), Some(true));
+    assert_eq!(rt; shown(&state), (0, 0));
+    assert_eq!(rt;
+        user.removes(&rt, &handle, ReleaseMode::Default),
+        Err(FOREIGN)
+    );
+    assert_eq!(rt; user.replaces(&handle, 7), Err(FOREIGN));
+    assert_eq!(rt; user.updates(&rt, &mut state), Some(false));
+    assert_eq!(rt; user.says(&rt), (0, true, false));
+    Ok(())
+}
+
+/// Whether neither a remove nor a replace takes the handle.
+fn refuses(rt: &impl Wait, user: &mut User<'_, u32>, wrong: &ContainerHandle) -> bool {
+    let removed = user.removes(rt, wrong, ReleaseMode::LockIfLastIndex);
+    let replaced = user.replaces(wrong, 1);
+    removed == Err(FOREIGN) && replaced == Err(FOREIGN)
+}
+
+/// Handles and states of others are told apart, and a locked container stays so.
+#[test]
+fn foreign_and_locked(rt: HostRuntime) -> Result<(), Fail> {
+    let owner = OwnerId::new(1).map_err(|_| "no owner")?;
+    let (large, pass) = Container::new(rt.alloc(), 3, 5)?;
+    let mut large = User::new(&large, pass);
+    for value in [5u32, 6, 7] {
+        large.adds(&rt, value, owner).map_err(|_| "no place")?;
+    }
+    assert!(rt; large.adds(&rt, 8, owner) == Err(ContainerAddFailure::OutOfSpace));
+    let (small, pass) = Container::new(rt.alloc(), 1, 5)?;
+    let mut small = User::new(&small, pass);
+    let mut other = small.another().ok_or("no further pass")?;
+    let handle = small.adds(&rt, 9, owner).map_err(|_| "no place")?;
+    let far = ContainerHandle {
+        index: 2,
+        owner,
+        container: 5,
+    };
+    let foreign = ContainerHandle {
+        index: 0,
+        owner,
+        container: 6,
+    };
+    assert!(rt; refuses(&rt, &mut small, &far));
+    assert!(rt; refuses(&rt, &mut small, &foreign));
+    let mut state = large.state(&rt).ok_or("no memory")?;
+    assert_eq!(rt;
+        (small.updates(&rt, &mut state), shown(&state)),
+        (None, (3, 18))
+    );
+    assert_eq!(rt; small.says(&rt), (1, false, false));
+    let locked = small.removes(&rt, &handle, ReleaseMode::LockIfLastIndex);
+    assert_eq!(rt; locked, Ok(ReleaseState::Locked));
+    assert!(rt; other.adds(&rt, 1, owner) == Err(ContainerAddFailure::IsLocked));
+    assert_eq!(rt; other.says(&rt), (0, true, true));
+    let zero = UniqueIndexCreationError::ProvidedCapacityIsZero;
+    assert_eq!(rt; Container::<u32>::new(rt.alloc(), 0, 1).err(), Some(zero));
+    let above = UniqueIndexCreationError::ProvidedCapacityGreaterThanMaxCapacity;
+    assert_eq!(rt;
+        Container::<u32>::new(rt.alloc(), 4294967296, 1).err(),
+        Some(above)
+    );
+    Ok(())
+}
+
+/// Adds a pair of equal numbers, replaces it by another such, and removes it, many times: whether each went well.
+fn change_many(rt: &impl Wait, mut user: User<'_, (u64, u64)>, owner: OwnerId) -> bool {
+    let mut well = true;
+    for n in 0..300u64 {
+        match user.adds(rt, (n, n), owner) {
+            Ok(handle) => {
+                let replaced = user.replaces(&handle, (n ^ 1000, n ^ 1000)).is_ok();
+                let removed = user.removes(rt, &handle, ReleaseMode::Default).is_ok();
+                well = well && replaced && removed;
+            }
+            Err(_) => well = false,
+        }
+        thread::yield_now();
+    }
+    well
+}
+
+/// Whether each pair that a state shows has equal halves.
+fn is_whole(state: &ContainerState<(u64, u64)>) -> bool {
+    let mut whole = true;
+    state.for_each(|_, pair| {
+        whole = whole && pair.0 == pair.1;
+        CallbackProgression::Continue
+    });
+    whole
+}
+
+/// Keeps a state up to date: the state, and whether each pair that it showed was whole.
+fn look_many(
+    rt: &impl Wait,
+    mut user: User<'_, (u64, u64)>,
+) -> Option<(ContainerState<(u64, u64)>, bool)> {
+    let mut state = user.state(rt)?;
+    let mut whole = true;
+    for _ in 0..600 {
+        let own = user.updates(rt, &mut state).is_some();
+        let shown = is_whole(&state);
+        whole = whole && own && shown;
+        thread::yield_now();
+    }
+    Some((state, whole))
+}
+
+/// Two who add, replace and remove beside one who looks: whether all that was seen was whole, and how much stands at the
+/// end in the state that was brought up to date once more.
+fn between<R: Threads + Wait + Sync>(
+    rt: &R,
+    mut user: User<'_, (u64, u64)>,
+    owners: (OwnerId, OwnerId),
+) -> Option<(bool, usize)> {
+    let first = user.another()?;
+    let second = user.another()?;
+    let third = user.another()?;
+    let (one, (two, seen)) = thread::join(
+        rt,
+        move || change_many(rt, first, owners.0),
+        move || {
+            thread::join(
+                rt,
+                move || change_many(rt, second, owners.1),
+                move || look_many(rt, third),
+            )
+        },
+    );
+    let (mut state, whole) = seen?;
+    user.updates(rt, &mut state)?;
+    Some((one && two && whole, state.number()))
+}
+
+#[test]
+fn whole_pairs(rt: HostRuntime) -> Result<(), Fail> {
+    let (container, pass) = Container::new(rt.alloc(), 3, 1)?;
+    let owners = (
+        OwnerId::new(1).map_err(|_| "no owner")?,
+        OwnerId::new(2).map_err(|_| "no owner")?,
+    );
+    let user = User::new(&container, pass);
+    assert!(rt; between(&rt, user, owners) == Some((true, 0)));
+    Ok(())
+}
