@@ -61,20 +61,20 @@ module _ {V : Type 0} (value_of : List ℕ → V) (size capacity container : ℕ
       let changes = zeros (change_word capacity) (omega arith) in
       λ i. record { container = container; owners = set_opens i; values = none i; changes = changes i }
 
-grown : {A B : Type 0} (r : Result A B) (old new : List ℕ) (n : ℕ)
-    → new ≡ (if is_ok r then take n old ++ replicate (n - length old) 0 else old) → is_err r ≡ false
-    → length old ≤ n → new ≡ old ++ replicate (n - length old) 0
-grown (Ok x) old new n is fine long = is ∙ ap (λ ws. ws ++ replicate (n - length old) 0) (take_all n old long)
-grown (Err e) old new n is fine long = absurd (true≢false fine)
+grown : {A B : Type 0} (r : Result A B) (old new : List ℕ) (n m : ℕ)
+    → new ≡ (if is_ok r then take n old ++ replicate (n - m) 0 else old) → is_err r ≡ false
+    → length old ≤ n → new ≡ old ++ replicate (n - m) 0
+grown (Ok x) old new n m is fine long = is ∙ ap (λ ws. ws ++ replicate (n - m) 0) (take_all n old long)
+grown (Err e) old new n m is fine long = absurd (true≢false fine)
 
 -- as a vector that has grown
 pub opens_grown : {V A B : Type 0} (value_of : List ℕ → V) (size capacity container : ℕ)
-    → (r : Result A B) (set more : List ℕ) (n : ℕ) → set ≡ replicate (1 + capacity) empty
-    → more ≡ (if is_ok r then take n (slice_set set 0 0) ++ replicate (n - length (slice_set set 0 0)) 0 else slice_set set 0 0)
+    → (r : Result A B) (set more : List ℕ) (n m : ℕ) → set ≡ replicate (1 + capacity) empty
+    → more ≡ (if is_ok r then take n (slice_set set 0 0) ++ replicate (n - m) 0 else slice_set set 0 0)
     → is_err r ≡ false → 1 + capacity ≤ n
     → contents_in value_of size capacity container more ≡ opened capacity container
-opens_grown value_of size capacity container r set more n set_is more_is fine long =
+opens_grown value_of size capacity container r set more n m set_is more_is fine long =
     let l : length (slice_set set 0 0) ≡ 1 + capacity =
     length-set set 0 0 ∙ (ap length set_is ∙ length-replicate (1 + capacity) empty) in
-    opens_so value_of size capacity container set more (n - length (slice_set set 0 0)) set_is
-    (grown r (slice_set set 0 0) more n more_is fine (omega arith))
+    opens_so value_of size capacity container set more (n - m) set_is
+    (grown r (slice_set set 0 0) more n m more_is fine (omega arith))
