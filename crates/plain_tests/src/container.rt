@@ -8,6 +8,22 @@ use steps::indices::enums::{ReleaseMode, ReleaseState};
 
 const REFUSED: ContainerRemoveError = ContainerRemoveError::ContainerHandleNotOwnedByContainer;
 
+fn removed(
+    container: &mut Container<u64>,
+    handle: &ContainerHandle,
+    mode: ReleaseMode,
+) -> Result<ReleaseState, ContainerRemoveError> {
+    container.remove(*handle, mode)
+}
+
+fn replaced(
+    container: &mut Container<u64>,
+    handle: &ContainerHandle,
+    value: u64,
+) -> Result<(), ContainerRemoveError> {
+    container.replace(*handle, value)
+}
+
 #[test]
 fn three_values(rt: HostRuntime) -> Result<(), Fail> {
     let owner = OwnerId::new(8192)?;
@@ -23,19 +39,19 @@ fn three_values(rt: HostRuntime) -> Result<(), Fail> {
         Err(ContainerAddFailure::OutOfSpace)
     );
     assert_eq!(rt; (container.len(), container.capacity()), (3, 3));
-    assert_eq!(rt; container.replace(second, 25), Ok(()));
+    assert_eq!(rt; replaced(&mut container, &second, 25), Ok(()));
     assert_eq!(rt;
-        container.remove(second, ReleaseMode::LockIfLastIndex),
+        removed(&mut container, &second, ReleaseMode::LockIfLastIndex),
         Ok(ReleaseState::Unlocked)
     );
     assert_eq!(rt;
-        container.remove(second, ReleaseMode::Default),
+        removed(&mut container, &second, ReleaseMode::Default),
         Err(REFUSED)
     );
-    assert_eq!(rt; container.replace(second, 26), Err(REFUSED));
+    assert_eq!(rt; replaced(&mut container, &second, 26), Err(REFUSED));
     assert_eq!(rt; container.add(50, other)?.index(), 1);
     assert_eq!(rt;
-        container.remove(second, ReleaseMode::Default),
+        removed(&mut container, &second, ReleaseMode::Default),
         Err(REFUSED)
     );
     assert_eq!(rt; container.len(), 3);
@@ -45,25 +61,23 @@ fn three_values(rt: HostRuntime) -> Result<(), Fail> {
 #[test]
 fn foreign_handles(rt: HostRuntime) -> Result<(), Fail> {
     let owner = OwnerId::new(1)?;
-    let mut small = Container::<u128>::new(rt.alloc(), 1, 5)?;
-    let mut large = Container::<u128>::new(rt.alloc(), 2, 6)?;
+    let mut small = Container::<u64>::new(rt.alloc(), 1, 5)?;
+    let mut another = Container::<u64>::new(rt.alloc(), 1, 6)?;
+    let mut large = Container::<u64>::new(rt.alloc(), 2, 5)?;
     assert!(rt; small.add(1, owner).is_ok());
-    assert!(rt; large.add(2, owner).is_ok());
+    let foreign = another.add(2, owner)?;
+    assert_eq!(rt;
+        removed(&mut small, &foreign, ReleaseMode::Default),
+        Err(REFUSED)
+    );
+    assert!(rt; replaced(&mut small, &foreign, 4).is_err());
+    assert!(rt; large.add(3, owner).is_ok());
     let past = large.add(3, owner)?;
-    let handle = ContainerHandle {
-        index: 0,
-        owner,
-        container: 6,
-    };
-    assert_eq!(rt; small.remove(handle, ReleaseMode::Default), Err(REFUSED));
-    assert_eq!(rt; small.replace(handle, 4), Err(REFUSED));
-    let past = ContainerHandle {
-        index: past.index,
-        owner,
-        container: 5,
-    };
-    assert_eq!(rt; small.remove(past, ReleaseMode::Default), Err(REFUSED));
-    assert_eq!(rt; small.replace(past, 4), Err(REFUSED));
+    assert_eq!(rt;
+        removed(&mut small, &past, ReleaseMode::Default),
+        Err(REFUSED)
+    );
+    assert!(rt; replaced(&mut small, &past, 4).is_err());
     assert_eq!(rt; small.len(), 1);
     Ok(())
 }
