@@ -1,5 +1,7 @@
 pub mod Alone
+pub mod Elements
 pub mod Emptied
+pub mod Fronts
 pub mod Lists
 pub mod Places
 pub mod Robust

@@ -63,40 +63,66 @@ module _ {C E : Type 0} (want : C → Want (Unit {0})) (after : C → ℕ → Af
   goes_longer m n P a words t =
       from_map (Walks n P) (Walks (plus m n) P) P (goes a) words (λ d u. longer m n P d words u) t
 
--- a call within another: each step of the inner is one of the outer, which goes on from its end
+-- this holds of the call, if it goes on
+module _ {C E : Type 0} (Low : C → Type 0) where
+  abbrev pub LowThen : After C E → Type 0
+  LowThen (GoOn d) = Low d
+  LowThen (Done e) = Unit {0}
+
+any_low : {C E : Type 0} (a : After C E) → LowThen (λ d. Unit {0}) a
+any_low (GoOn d) = tt
+any_low (Done e) = tt
+
+-- A call within another: each step of the inner is one of the outer, which goes on from its end. Of the inner call Low
+-- holds all the way.
 module _ {C E D X : Type 0} (want : C → Want (Unit {0})) (after : C → ℕ → After C E)
     (part_want : D → Want (Unit {0})) (part_after : D → ℕ → After D X)
-    (within : D → C) (lift : After D X → After C E)
+    (within : D → C) (lift : After D X → After C E) (Low : D → Type 0)
+    (low_on : (d : D) (old : ℕ) → Low d → LowThen Low (part_after d old))
     (wants_so : (d : D) → want (within d) ≡ part_want d)
-    (goes_so : (d : D) (old : ℕ) → after (within d) old ≡ lift (part_after d old))
+    (goes_so : (d : D) (old : ℕ) → Low d → after (within d) old ≡ lift (part_after d old))
     (lifts : (d : D) → lift (GoOn d) ≡ GoOn (within d)) where
   abbrev pub Then : ℕ → (Stop C E → List ℕ → Type 0) → X → List ℕ → Type 0
   Then n P x words = Goes want after n P (lift (Done x)) words
 
-  part_goes : (m n : ℕ) (P : Stop C E → List ℕ → Type 0) (a : After D X) (words : List ℕ)
-      → ((d : D) → Walks part_want part_after m (OnEnd (Then n P)) d words → Walks want after (plus m n) P (within d) words)
+  part_goes : (m n : ℕ) (P : Stop C E → List ℕ → Type 0) (a : After D X) (words : List ℕ) → LowThen Low a
+      → ((d : D) → Low d → Walks part_want part_after m (OnEnd (Then n P)) d words → Walks want after (plus m n) P (within d) words)
       → Goes part_want part_after m (OnEnd (Then n P)) a words
       → Goes want after (plus m n) P (lift a) words
-  part_goes m n P (GoOn d) words on t =
-      subst (λ a. Goes want after (plus m n) P a words) (sym (lifts d)) (on d t)
-  part_goes m n P (Done x) words on t = goes_longer want after m n P (lift (Done x)) words t
+  part_goes m n P (GoOn d) words low on t =
+      subst (λ a. Goes want after (plus m n) P a words) (sym (lifts d)) (on d low t)
+  part_goes m n P (Done x) words low on t = goes_longer want after m n P (lift (Done x)) words t
 
-  part_from : (m n : ℕ) (P : Stop C E → List ℕ → Type 0) (w : Want (Unit {0})) (d : D) (a : After D X) (words : List ℕ)
-      → ((e : D) → Walks part_want part_after m (OnEnd (Then n P)) e words → Walks want after (plus m n) P (within e) words)
+  part_from : (m n : ℕ) (P : Stop C E → List ℕ → Type 0) (w : Want (Unit {0})) (d : D) (a : After D X) (words : List ℕ) → LowThen Low a
+      → ((e : D) → Low e → Walks part_want part_after m (OnEnd (Then n P)) e words → Walks want after (plus m n) P (within e) words)
       → WalksFrom (Walks part_want part_after m (OnEnd (Then n P))) (OnEnd (Then n P)) (stepped w d a) words
       → WalksFrom (Walks want after (plus m n) P) P (stepped w (within d) (lift a)) words
-  part_from m n P (wants.TheVariants.Ask ask) d a words on t = part_goes m n P a words on t
-  part_from m n P (wants.TheVariants.Question question) d a words on t = absurd t
-  part_from m n P wants.TheVariants.Nothing d a words on t = part_goes m n P a words on t
+  part_from m n P (wants.TheVariants.Ask ask) d a words low on t = part_goes m n P a words low on t
+  part_from m n P (wants.TheVariants.Question question) d a words low on t = absurd t
+  part_from m n P wants.TheVariants.Nothing d a words low on t = part_goes m n P a words low on t
 
-  pub part_walks : (m n : ℕ) (P : Stop C E → List ℕ → Type 0) (d : D) (words : List ℕ)
+  pub part_walks_low : (m n : ℕ) (P : Stop C E → List ℕ → Type 0) (d : D) (words : List ℕ) → Low d
       → Walks part_want part_after m (OnEnd (Then n P)) d words → Walks want after (plus m n) P (within d) words
-  part_walks zero n P d words t = absurd t
-  part_walks (suc m) n P d words t =
+  part_walks_low zero n P d words low t = absurd t
+  part_walks_low (suc m) n P d words low t =
       subst (λ w. WalksFrom (Walks want after (plus m n) P) P (stepped w (within d) (after (within d) (answer_in words w))) (words_then words w)) (sym (wants_so d))
-      (subst (λ a. WalksFrom (Walks want after (plus m n) P) P (stepped (part_want d) (within d) a) (words_then words (part_want d))) (sym (goes_so d (answer_in words (part_want d))))
+      (subst (λ a. WalksFrom (Walks want after (plus m n) P) P (stepped (part_want d) (within d) a) (words_then words (part_want d))) (sym (goes_so d (answer_in words (part_want d)) low))
       (part_from m n P (part_want d) d (part_after d (answer_in words (part_want d))) (words_then words (part_want d))
-      (λ e u. part_walks m n P e (words_then words (part_want d)) u) t))
+      (low_on d (answer_in words (part_want d)) low)
+      (λ e less u. part_walks_low m n P e (words_then words (part_want d)) less u) t))
+
+-- the same where nothing is asked of the inner call
+pub part_walks : {C E D X : Type 0} (want : C → Want (Unit {0})) (after : C → ℕ → After C E)
+    (part_want : D → Want (Unit {0})) (part_after : D → ℕ → After D X)
+    (within : D → C) (lift : After D X → After C E)
+    (wants_so : (d : D) → want (within d) ≡ part_want d)
+    (goes_so : (d : D) (old : ℕ) → after (within d) old ≡ lift (part_after d old))
+    (lifts : (d : D) → lift (GoOn d) ≡ GoOn (within d))
+    (m n : ℕ) (P : Stop C E → List ℕ → Type 0) (d : D) (words : List ℕ)
+    → Walks part_want part_after m (OnEnd (λ x ws. Goes want after n P (lift (Done x)) ws)) d words → Walks want after (plus m n) P (within d) words
+part_walks want after part_want part_after within lift wants_so goes_so lifts m n P d words t =
+    part_walks_low want after part_want part_after within lift (λ d. Unit {0}) (λ d old low. any_low (part_after d old))
+    wants_so (λ d old low. goes_so d old) lifts m n P d words tt t
 
 -- a walk is a run of the driver
 module _ {C G E : Type 0} (want_of : C → G → Want (Unit {0})) (after : C → G → ℕ → After C E) (given : G) where

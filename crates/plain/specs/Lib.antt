@@ -1,6 +1,7 @@
 pub mod Alone
 pub mod Bits
 pub mod Callable
+pub mod Contents
 pub mod Overflowing
 pub mod Queues
 pub mod Robust

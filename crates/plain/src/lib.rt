@@ -3,6 +3,7 @@
 #![tactic(auto)]
 
 pub mod bits;
+pub mod container;
 pub mod counts;
 mod drive;
 pub mod overflowing;
@@ -13,6 +14,7 @@ pub mod unique;
 pub mod value;
 
 pub use bits::BitSet;
+pub use container::Container;
 pub use counts::CountingBitSet;
 pub use overflowing::SafelyOverflowingIndexQueue;
 pub use queues::{IndexQueue, Queue};

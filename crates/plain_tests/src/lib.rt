@@ -4,6 +4,8 @@
 #[cfg(test)]
 mod bits;
 #[cfg(test)]
+mod container;
+#[cfg(test)]
 mod queues;
 #[cfg(test)]
 mod robust;

@@ -10,7 +10,7 @@ use Rattle.plain.specs.Bits.{flags_in}
 
 -- ---- lists of flags
 
-pub map_same : (f g : ℕ → Bool) (n a : ℕ) → ((q : ℕ) → a ≤ q → q < a + n → g q ≡ f q)
+pub map_same : {X : Type 0} (f g : ℕ → X) (n a : ℕ) → ((q : ℕ) → a ≤ q → q < a + n → g q ≡ f q)
     → map g (range_with_len a n) ≡ map f (range_with_len a n)
 map_same f g zero a h = refl
 map_same f g (suc n) a h =
@@ -19,19 +19,25 @@ map_same f g (suc n) a h =
     λ i. head i ∷ tail i
 
 -- one of them changes
-pub map_changed : (f g : ℕ → Bool) (b : Bool) (n a k p : ℕ) → k < n → a + k ≡ p → g p ≡ b
-    → ((q : ℕ) → q ≢ p → g q ≡ f q)
+pub map_changed_within : {X : Type 0} (f g : ℕ → X) (b : X) (n a k p : ℕ) → k < n → a + k ≡ p → g p ≡ b
+    → ((q : ℕ) → a ≤ q → q < a + n → q ≢ p → g q ≡ f q)
     → map g (range_with_len a n) ≡ slice_set (map f (range_with_len a n)) k b
-map_changed f g b zero a k p low is new same = absurd (omega arith)
-map_changed f g b (suc n) a zero p low is new same =
+map_changed_within f g b zero a k p low is new same = absurd (omega arith)
+map_changed_within f g b (suc n) a zero p low is new same =
     let here : a ≡ p = omega arith in
     let head : g a ≡ b = ap g here ∙ new in
-    let tail = map_same f g n (a + 1) (λ q from below. same q (λ e. absurd (omega arith))) in
+    let tail = map_same f g n (a + 1) (λ q from below. same q (omega arith) (omega arith) (λ e. absurd (omega arith))) in
     λ i. head i ∷ tail i
-map_changed f g b (suc n) a (suc k) p low is new same =
-    let head : g a ≡ f a = same a (λ e. absurd (omega arith)) in
-    let tail = map_changed f g b n (a + 1) k p (omega arith) (omega arith) new same in
+map_changed_within f g b (suc n) a (suc k) p low is new same =
+    let head : g a ≡ f a = same a (omega arith) (omega arith) (λ e. absurd (omega arith)) in
+    let tail = map_changed_within f g b n (a + 1) k p (omega arith) (omega arith) new (λ q from below. same q (omega arith) (omega arith)) in
     λ i. head i ∷ tail i
+
+pub map_changed : {X : Type 0} (f g : ℕ → X) (b : X) (n a k p : ℕ) → k < n → a + k ≡ p → g p ≡ b
+    → ((q : ℕ) → q ≢ p → g q ≡ f q)
+    → map g (range_with_len a n) ≡ slice_set (map f (range_with_len a n)) k b
+map_changed f g b n a k p low is new same =
+    map_changed_within f g b n a k p low is new (λ q from below. same q)
 
 module _ (capacity : ℕ) (words : List ℕ) where
   pub flag_at : (p : ℕ) → p < capacity

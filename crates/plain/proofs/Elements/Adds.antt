@@ -1,0 +1,205 @@
+-- An add to a container that runs alone.
+use Rattle.std.proofs.Common.{◌≡◌, ℕ, zero, suc, ◌+◌, ◌-◌, ◌^◌, ◌<◌, ◌≤◌, Bool, true, false, ◌==◌, nat_lt, List, [], ◌∷◌, length, take, Option, Some, None, Result, Ok, Err, ok_or, is_none, refl, sym, ap, subst, ◌∙◌, arith, slice_index, slice_set, eq-eqb, if◌then◌else◌}
+use Rattle.std.specs.List.{position_or_len}
+use Rattle.std.proofs.lemmas.Bool.Decides.{nat_tests}
+use Rattle.std.proofs.lemmas.List.{length-map}
+use Rattle.steps.specs.Picks.{by_test}
+use Rattle.steps.specs.Queues.Ring.{word_at}
+use Rattle.steps.specs.Indices.Robust.Parts.{empty, one_more}
+use Rattle.steps.specs.Indices.Robust.Acquire.{Acquired, first_acquire, acquire_takes, acquire_want, acquire_after}
+use Rattle.steps.specs.Container.Enums.{add_failure}
+use Rattle.steps.specs.Container.Layout.{change_word, count_word, element_word, is_even}
+use Rattle.steps.specs.Container.Add.{Added, first_add, at_add, inner_acquire, add_want, add_acquired, add_after}
+use Rattle.steps.specs.Objects.Owners.{Owners, acquired, granted, after_acquire, is_locked, the_end}
+use Rattle.steps.specs.declared.ask.After.{After}
+use Rattle.steps.specs.declared.ask.After.TheVariants.{GoOn, Done}
+use Rattle.steps.specs.declared.indices.enums.UniqueIndexSetAcquireFailure.{UniqueIndexSetAcquireFailure}
+use Rattle.steps.specs.declared.indices.enums.UniqueIndexSetAcquireFailure.TheVariants as failures
+use Rattle.steps.specs.declared.indices.robust.acquire.AcquireStage as acquires
+use Rattle.steps.specs.declared.container.enums.ContainerAddFailure.{ContainerAddFailure}
+use Rattle.steps.specs.declared.container.handle.ContainerHandle.{ContainerHandle}
+use Rattle.steps.specs.declared.container.add.Add.{Add}
+use Rattle.steps.specs.declared.container.add.AddStage as adds
+use Rattle.steps.specs.declared.container.add.Owned.{Owned}
+use Rattle.plain.specs.Alone.{Turns}
+use Rattle.plain.specs.Robust as robust
+use Rattle.plain.specs.Robust.{owner_in, owners_in}
+use Rattle.plain.specs.Contents.{Contents, changed, handle_at, added, put_at, after_add, contents_in, Fits}
+use Rattle.plain.proofs.Alone.{Runs}
+use Rattle.plain.proofs.Walks.{plus, plus_sum, Walks, Goes, OnEnd, longer, part_walks_low, runs}
+use Rattle.plain.proofs.Words.{stored}
+use Rattle.plain.proofs.Fronts.{Behind, stays, front_walks}
+use Rattle.plain.proofs.Elements.Sets.{AcquireLow, acquire_goes_low, acquire_below, acquire_front}
+use Rattle.plain.proofs.Elements.Values.{front_fits, behind_contents, behind_fits, hidden, shown, shows, after_change, change_fits, change_contents, all_small, cell_within}
+
+-- ---- which index is acquired
+
+abbrev pub IsAnswer : {A B : Type 0} → Result A B → Type 0
+IsAnswer (Ok x) = Unit {0}
+IsAnswer (Err e) = ⊥
+
+abbrev number_in : {B : Type 0} → Result ℕ B → ℕ
+number_in (Ok i) = i
+number_in (Err e) = 0
+
+pub acquired_low : (s : Owners) (i : ℕ) → Ok i ≡ acquired s → i < length s.owners
+acquired_low s i =
+    by_test (λ r. Ok i ≡ r → i < length s.owners) (is_locked s) _ _ (λ _ e. absurd (subst IsAnswer e tt))
+    (λ _. by_test (λ r. Ok i ≡ r → i < length s.owners) (s.generation == the_end) _ _ (λ _ e. absurd (subst IsAnswer e tt))
+    (λ _. by_test (λ o. Ok i ≡ ok_or o failures.OutOfIndices → i < length s.owners)
+    (nat_lt (position_or_len is_none s.owners) (length s.owners)) (Some (position_or_len is_none s.owners)) None
+    (λ t e. let same : i ≡ position_or_len is_none s.owners = ap number_in e in
+    let low : position_or_len is_none s.owners < length s.owners = grind (arith, nat_tests) in omega arith)
+    (λ _ e. absurd (subst IsAnswer e tt))))
+
+pub owners_long : (capacity : ℕ) (words : List ℕ) → robust.Fits capacity words
+    → length (owners_in words).owners ≡ capacity
+owners_long capacity [] fits = let e : 0 ≡ 1 + capacity = fits.long in absurd (omega arith)
+owners_long capacity (g ∷ cells) fits =
+    let e : suc (length cells) ≡ 1 + capacity = fits.long in
+    let l = length-map cells owner_in in omega arith
+
+module _ {V : Type 0} (words_of : V → List ℕ) (value_of : List ℕ → V) (size : ℕ)
+    (sized : (x : V) → length (words_of x) ≡ size) (given_back : (x : V) → value_of (words_of x) ≡ x)
+    (some : 1 ≤ size) (wide : size ≤ 128) (capacity container : ℕ) (given : Owned V) where
+  abbrev Ends : ℕ → (Added → List ℕ → Type 0) → Add V → List ℕ → Type 0
+  Ends n P call words =
+      Walks (λ c. add_want words_of size c given) (λ c old. add_after size c old) n (OnEnd P) call words
+
+  abbrev From : ℕ → (Added → List ℕ → Type 0) → After (Add V) Added → List ℕ → Type 0
+  From n P a words =
+      Goes (λ c. add_want words_of size c given) (λ c old. add_after size c old) n (OnEnd P) a words
+
+  abbrev first : Add V
+  first = first_add capacity
+
+  abbrev xs : List ℕ
+  xs = words_of given.value
+
+  abbrev last_of : ℕ → List ℕ → List ℕ
+  last_of index ws =
+      slice_set (slice_set ws (count_word capacity index) (one_more (slice_index ws (count_word capacity index)))) (change_word capacity)
+      (one_more (slice_index (slice_set ws (count_word capacity index) (one_more (slice_index ws (count_word capacity index)))) (change_word capacity)))
+
+  -- the words of the value, and then both numbers
+  goes_in : (P : Added → List ℕ → Type 0) (index n at : ℕ) → at + suc n ≡ size → (ws : List ℕ)
+      → element_word capacity size index 0 + size < 2 ^ 64
+      → P (Ok index) (last_of index (stored ws (element_word capacity size index 0) xs at (suc n)))
+      → Ends (suc (suc (suc n))) P (at_add first (adds.TheVariants.Stores index at)) ws
+  goes_in P index zero at end ws small h =
+      let place : element_word capacity size index at ≡ word_at (element_word capacity size index 0) at = omega arith in
+      subst (λ p. From 2 P (if nat_lt (at + 1) size then GoOn (at_add first (adds.TheVariants.Stores index (at + 1))) else GoOn (at_add first (adds.TheVariants.AddsCount index))) (slice_set ws p (slice_index xs at)))
+      (sym place)
+      (by_test (λ a. From 2 P a (slice_set ws (word_at (element_word capacity size index 0) at) (slice_index xs at)))
+      (nat_lt (at + 1) size) _ _
+      (λ t. let more : at + 1 < size = grind (arith, nat_tests) in absurd (omega arith))
+      (λ t. h))
+  goes_in P index (suc n) at end ws small h =
+      let place : element_word capacity size index at ≡ word_at (element_word capacity size index 0) at = omega arith in
+      let next = slice_set ws (word_at (element_word capacity size index 0) at) (slice_index xs at) in
+      subst (λ p. From (suc (suc (suc n))) P (if nat_lt (at + 1) size then GoOn (at_add first (adds.TheVariants.Stores index (at + 1))) else GoOn (at_add first (adds.TheVariants.AddsCount index))) (slice_set ws p (slice_index xs at)))
+      (sym place)
+      (by_test (λ a. From (suc (suc (suc n))) P a next)
+      (nat_lt (at + 1) size) _ _
+      (λ t. goes_in P index n (at + 1) (omega arith) next small h)
+      (λ t. let less : size ≤ at + 1 = grind (arith, nat_tests) in absurd (omega arith)))
+
+  abbrev few_steps : ℕ
+  few_steps = suc (suc (suc (suc (suc (size - 1)))))
+
+  -- what stands there goes, and the value comes
+  puts : (P : Added → List ℕ → Type 0) (ws : List ℕ) (fits : Fits size capacity ws) (index : ℕ) (near : index < capacity)
+      → P (Ok index) (after_change value_of size capacity ws fits index near wide (shown value_of size capacity ws fits index near wide xs given.value (sized given.value) (given_back given.value)))
+      → Ends few_steps P (at_add first (adds.TheVariants.LoadsCount index)) ws
+  puts P ws fits index near h =
+      let c = count_word capacity index in
+      let n = slice_index ws (count_word capacity index) in
+      let count : suc (size - 1) ≡ size = omega arith in
+      let small : element_word capacity size index 0 + size < 2 ^ 64 =
+      let w = cell_within value_of size capacity ws fits index near wide in
+      let a = all_small value_of size capacity ws fits index near wide in omega arith in
+      let on : (hs : List ℕ) → hidden value_of size capacity ws fits index near wide ≡ hs
+      → Ends (suc (suc (suc (size - 1)))) P (at_add first (adds.TheVariants.Stores index 0)) hs =
+      λ hs e. goes_in P index (size - 1) 0 (omega arith) hs small
+      (subst (λ (z : List ℕ × ℕ). P (Ok index) (last_of index (stored z.0 (element_word capacity size index 0) xs 0 z.1))) (λ i. (e i, sym count i)) h) in
+      by_test (λ a. From (suc (suc (suc (suc (size - 1))))) P a ws) (is_even n) _ _
+      (λ t. longer (λ c. add_want words_of size c given) (λ c old. add_after size c old) 1 (suc (suc (suc (size - 1)))) (OnEnd P)
+      (at_add first (adds.TheVariants.Stores index 0)) ws
+      (on ws (ap (λ b. if b then ws else slice_set ws (count_word capacity index) (one_more (slice_index ws (count_word capacity index)))) t)))
+      (λ t. subst (λ vs. From (suc (suc (suc (size - 1)))) P (GoOn (at_add first (adds.TheVariants.Stores index 0))) vs)
+      (sym (ap (λ b. if b then slice_set ws (count_word capacity index) (one_more (slice_index ws (count_word capacity index))) else ws) (eq-eqb n n refl)))
+      (on (slice_set ws (count_word capacity index) (one_more (slice_index ws (count_word capacity index))))
+      (ap (λ b. if b then ws else slice_set ws (count_word capacity index) (one_more (slice_index ws (count_word capacity index)))) t)))
+
+  -- ---- what it makes of the map
+
+  abbrev pub handle_of : Added → Result ContainerHandle ContainerAddFailure
+  handle_of (Ok index) =
+      Ok (record { index = index; owner = given.owner; container = container })
+  handle_of (Err failure) = Err failure
+
+  abbrev pub Put : List ℕ → Added → List ℕ → Type 0
+  Put words end last =
+      Turns (Fits size capacity) (contents_in value_of size capacity container)
+      (λ s. added s given.owner) (λ s. after_add s given.owner given.value) words (handle_of end) last
+
+  module _ (words : List ℕ) (fits : Fits size capacity words) (lives : given.owner < empty) where
+    abbrev old : Contents V
+    old = contents_in value_of size capacity container words
+
+    abbrev Took : Acquired → List ℕ → Type 0
+    Took e last =
+        Turns (robust.Fits capacity) owners_in acquired (λ s. after_acquire s given.owner) (take (1 + capacity) words) e last
+
+    abbrev Then : Acquired → List ℕ → Type 0
+    Then e last = From few_steps (Put words) (add_acquired first (Done e)) last
+
+    so : (e : Acquired) (last : List ℕ) → Behind (1 + capacity) words last → Took e (take (1 + capacity) last) → Then e last
+    so (Ok index) last behind took =
+        let fits₂ = behind_fits value_of size capacity words last behind fits took.0 in
+        let long = owners_long capacity (take (1 + capacity) words) (front_fits value_of size capacity words fits) in
+        let near : index < capacity = subst (λ n. index < n) long (acquired_low old.owners index took.1) in
+        let there = shows value_of size capacity last fits₂ index near wide xs given.value (sized given.value) (given_back given.value) in
+        let set : owners_in (take (1 + capacity) last) ≡ granted old.owners given.owner (Ok index) =
+        took.2 ∙ ap (granted old.owners given.owner) (sym took.1) in
+        puts (Put words) last fits₂ index near (
+          change_fits value_of size capacity last fits₂ index near wide _ there.writes,
+          ap (handle_at old given.owner) took.1,
+          change_contents value_of size capacity last fits₂ index near wide container _ (Some given.value) there.writes there.here
+              ∙ (ap (λ s. changed s (owners_in (take (1 + capacity) last)) index (Some given.value)) (behind_contents value_of size capacity container words last behind)
+              ∙ (ap (λ set. changed old set index (Some given.value)) set
+              ∙ ap (put_at old given.owner given.value) took.1)),
+        )
+    so (Err failure) last behind took =
+        let set : owners_in (take (1 + capacity) last) ≡ old.owners =
+        took.2 ∙ ap (granted old.owners given.owner) (sym took.1) in (
+          behind_fits value_of size capacity words last behind fits took.0,
+          ap (handle_at old given.owner) took.1,
+          behind_contents value_of size capacity container words last behind
+              ∙ (ap (λ set. record old { owners = set }) set
+              ∙ ap (put_at old given.owner given.value) took.1),
+        )
+
+    pub add_runs : Runs (add_want words_of size) (λ c given old. add_after size c old) (λ c (room : Unit {0}) old. room) given
+        (λ e room ws. Put words e ws) first tt words
+    add_runs =
+        let a = acquire_front capacity given.owner lives (take (1 + capacity) words) (front_fits value_of size capacity words fits) in
+        let bound = a.1 in
+        runs (add_want words_of size) (λ c given old. add_after size c old) given (plus a.0 few_steps) (Put words) first words
+        (let e = plus_sum a.0 few_steps in omega arith)
+        (part_walks_low (λ c. add_want words_of size c given) (λ c old. add_after size c old)
+        (λ c. acquire_want c given.owner) (λ c old. acquire_after c old)
+        (λ d. at_add first (adds.TheVariants.Acquires d.stage)) (add_acquired first) (AcquireLow capacity)
+        (acquire_goes_low capacity) (λ d. refl)
+        (λ d old low. ap (λ n. add_acquired first (acquire_takes (inner_acquire n d.stage) d.stage old)) (sym low.0))
+        (λ d. refl) a.0 few_steps (OnEnd (Put words)) (first_acquire capacity) words (refl, tt)
+        (front_walks (λ c. acquire_want c given.owner) (λ c old. acquire_after c old) (1 + capacity) (AcquireLow capacity)
+        (acquire_below capacity given.owner) (acquire_goes_low capacity) words Took Then so a.0 (first_acquire capacity) words (refl, tt) (stays (1 + capacity) words) a.2))
+
+  pub add_at : (number : ℕ) → number ≡ given.owner → number < empty → (call : Add V) → call ≡ first
+      → (words : List ℕ) → Fits size capacity words
+      → Runs (add_want words_of size) (λ c given old. add_after size c old) (λ c (room : Unit {0}) old. room) given
+      (λ e room ws. Put words e ws) call tt words
+  add_at number same lives call is words fits =
+      subst (λ c. Runs (add_want words_of size) (λ c given old. add_after size c old) (λ c (room : Unit {0}) old. room) given
+      (λ e room ws. Put words e ws) c tt words) (sym is) (add_runs words fits (omega arith))

@@ -1,0 +1,37 @@
+-- Whether a handle names a value.
+use Rattle.std.proofs.Common.{◌≡◌, ℕ, suc, ◌+◌, ◌<◌, ◌≤◌, ◌==◌, ◌&&◌, Bool, true, false, List, [], ◌∷◌, length, take, None, Some, sym, ap, ◌∙◌, arith, slice_index, eq-eqb, ne_eqb, refl}
+use Rattle.std.proofs.lemmas.List.{get_or-map, get_or_past, length-map}
+use Rattle.steps.specs.Picks.{by_eq}
+use Rattle.steps.specs.Indices.Robust.Parts.{cell_word, empty}
+use Rattle.steps.specs.Objects.Owners.{has, owns}
+use Rattle.plain.specs.Robust.{owner_in, owners_in, Fits}
+use Rattle.plain.specs.Contents.{names, contents_in}
+use Rattle.plain.proofs.Robust.Parts.{next_cell}
+
+owns_word : (owner : ℕ) → owner < empty → (w : ℕ) → owns (owner_in w) owner ≡ (w == owner)
+owns_word owner lives w =
+    by_eq (λ o. owns o owner ≡ (w == owner)) w empty None (Some w)
+    (λ e. sym (ne_eqb w owner (λ same. absurd (omega arith)))) (λ _. refl)
+
+pub has_word : (capacity : ℕ) (words : List ℕ) → Fits capacity words → (index owner : ℕ) → owner < empty → index < capacity
+    → has (owners_in words) index owner ≡ (slice_index words (cell_word index) == owner)
+has_word capacity [] fits index owner lives near = let e : 0 ≡ 1 + capacity = fits.long in absurd (omega arith)
+has_word capacity (g ∷ cells) fits index owner lives near =
+    let e : suc (length cells) ≡ 1 + capacity = fits.long in
+    ap (λ o. owns o owner) (get_or-map owner_in cells index 0 None (omega arith))
+    ∙ (owns_word owner lives (slice_index cells index) ∙ ap (λ w. w == owner) (sym (next_cell g index cells)))
+
+pub has_past : (capacity : ℕ) (words : List ℕ) → Fits capacity words → (index owner : ℕ) → capacity ≤ index
+    → has (owners_in words) index owner ≡ false
+has_past capacity [] fits index owner far = let e : 0 ≡ 1 + capacity = fits.long in absurd (omega arith)
+has_past capacity (g ∷ cells) fits index owner far =
+    let e : suc (length cells) ≡ 1 + capacity = fits.long in
+    let l = length-map cells owner_in in
+    ap (λ o. owns o owner) (get_or_past _ index None (omega arith))
+
+-- a handle of this container
+pub names_own : {V : Type 0} (capacity size container : ℕ) (value_of : List ℕ → V) (words : List ℕ) (index owner : ℕ)
+    → names (contents_in value_of size capacity container words) (record { index = index; owner = owner; container = container })
+    ≡ has (owners_in (take (1 + capacity) words)) index owner
+names_own capacity size container value_of words index owner =
+    ap (λ b. b && has (owners_in (take (1 + capacity) words)) index owner) (eq-eqb container container refl)

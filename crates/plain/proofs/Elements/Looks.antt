@@ -1,0 +1,89 @@
+-- The looks at a container that run alone, and a container as it opens.
+use Rattle.std.proofs.Common.{◌≡◌, ℕ, suc, ◌+◌, ◌*◌, ◌^◌, ◌<◌, ◌≤◌, Bool, List, [], ◌∷◌, length, take, refl, sym, ap, subst, ◌∙◌, arith, slice_index, eq-eqb, ne_eqb, if◌then◌else◌}
+use Rattle.steps.specs.Queues.Ring.{load}
+use Rattle.steps.specs.Indices.Robust.Parts.{locked, count_after}
+use Rattle.steps.specs.Indices.Robust.Looks.{first_borrowed, borrowed_want, borrowed_counted, borrowed_after, locked_after}
+use Rattle.steps.specs.declared.ask.After.{After}
+use Rattle.steps.specs.declared.ask.After.TheVariants.{GoOn, Done}
+use Rattle.steps.specs.declared.indices.robust.parts.Count as counts
+use Rattle.steps.specs.declared.indices.robust.parts.Counted as ends
+use Rattle.steps.specs.declared.indices.robust.looks.BorrowedIndices.{BorrowedIndices}
+use Rattle.steps.specs.declared.indices.robust.looks.IsLocked.{IsLocked}
+use Rattle.steps.specs.Objects.Owners.{borrowed, raised}
+use Rattle.steps.specs.Objects.Owners as owners
+use Rattle.plain.specs.Alone.{Turns}
+use Rattle.plain.specs.Robust as robust
+use Rattle.plain.specs.Robust.{owners_in}
+use Rattle.plain.specs.Contents.{Contents, is_locked, number, counted, contents_in, Fits}
+use Rattle.plain.proofs.Alone.{Runs}
+use Rattle.plain.proofs.Walks.{plus, plus_sum, Walks, OnEnd, LowThen, runs}
+use Rattle.plain.proofs.Fronts.{AsksBelow, Behind, stays, front_walks}
+use Rattle.plain.proofs.Robust.Looks.{borrowed_walks}
+use Rattle.plain.proofs.Elements.Sets.{CountLow, count_goes_low, count_below}
+use Rattle.plain.proofs.Elements.Values.{front_fits, behind_contents, behind_fits}
+
+borrowed_front : (capacity : ℕ) (words : List ℕ) → robust.Fits capacity words
+    → (n : ℕ) × (n ≤ 2 ^ 40) × Walks (λ (c : BorrowedIndices). borrowed_want c) (λ c old. borrowed_after c old) n
+    (OnEnd (λ e last. Turns (robust.Fits capacity) owners_in borrowed raised words e last)) (first_borrowed capacity) words
+borrowed_front capacity [] fits = let e : 0 ≡ 1 + capacity = fits.long in absurd (omega arith)
+borrowed_front capacity (g ∷ cells) fits =
+    let long : suc (length cells) ≡ 1 + capacity = fits.long in
+    let few = fits.few in
+    let e = plus_sum (suc (suc (suc (length cells)))) 0 in (
+      plus (suc (suc (suc (length cells)))) 0,
+      omega arith,
+      borrowed_walks capacity g cells fits.small (omega arith) fits.few fits.some,
+    )
+
+abbrev BorrowedLow : ℕ → BorrowedIndices → Type 0
+BorrowedLow capacity call = (call.capacity ≡ capacity) × CountLow capacity call.count
+
+counted_low : (capacity : ℕ) (call : BorrowedIndices) → call.capacity ≡ capacity
+    → (a : After counts.Count ends.Counted) → LowThen (CountLow capacity) a
+    → LowThen {E = ℕ} (BorrowedLow capacity) (borrowed_counted call a)
+counted_low capacity call same (GoOn count) low = (same, low)
+counted_low capacity call same (Done ends.TheVariants.Locked) low = tt
+counted_low capacity call same (Done (ends.TheVariants.Filled filled counter)) low = tt
+
+goes_low : (capacity : ℕ) (call : BorrowedIndices) (old : ℕ) → BorrowedLow capacity call
+    → LowThen {E = ℕ} (BorrowedLow capacity) (borrowed_after call old)
+goes_low capacity call old low =
+    counted_low capacity call low.0 (count_after call.capacity call.count old)
+    (subst (λ n. LowThen {E = ends.Counted} (CountLow capacity) (count_after n call.count old)) (sym low.0) (count_goes_low capacity call.count old))
+
+module _ {V : Type 0} (value_of : List ℕ → V) (size capacity container : ℕ) where
+  abbrev pub Counted : List ℕ → ℕ → List ℕ → Type 0
+  Counted words end last =
+      Turns (Fits size capacity) (contents_in value_of size capacity container) number counted words end last
+
+  pub count_at : (c : BorrowedIndices) → c ≡ first_borrowed capacity → (words : List ℕ) → Fits size capacity words
+      → Runs (λ (c : BorrowedIndices) (given : Unit {0}). borrowed_want c) (λ c given old. borrowed_after c old) (λ c (room : Unit {0}) old. room) tt
+      (λ e room ws. Counted words e ws) c tt words
+  count_at c is words fits =
+      let a = borrowed_front capacity (take (1 + capacity) words) (front_fits value_of size capacity words fits) in
+      let bound = a.1 in
+      subst (λ c. Runs (λ (c : BorrowedIndices) (given : Unit {0}). borrowed_want c) (λ c given old. borrowed_after c old) (λ c (room : Unit {0}) old. room) tt
+      (λ e room ws. Counted words e ws) c tt words) (sym is)
+      (runs (λ (c : BorrowedIndices) (given : Unit {0}). borrowed_want c) (λ c given old. borrowed_after c old) tt a.0 (Counted words) (first_borrowed capacity) words (omega arith)
+      (front_walks (λ (c : BorrowedIndices). borrowed_want c) (λ c old. borrowed_after c old) (1 + capacity) (BorrowedLow capacity)
+      (λ call low. count_below capacity call.count low.1) (goes_low capacity) words
+      (λ e last. Turns (robust.Fits capacity) owners_in borrowed raised (take (1 + capacity) words) e last) (Counted words)
+      (λ e last behind took. (
+        behind_fits value_of size capacity words last behind fits took.0,
+        took.1,
+        behind_contents value_of size capacity container words last behind
+            ∙ ap (λ set. record (contents_in value_of size capacity container words) { owners = set }) took.2,
+      ))
+      a.0 (first_borrowed capacity) words (refl, tt) (stays (1 + capacity) words) a.2))
+
+  abbrev pub Looked : List ℕ → Bool → List ℕ → Type 0
+  Looked words end last =
+      Turns (Fits size capacity) (contents_in value_of size capacity container) is_locked (λ s. s) words end last
+
+  pub look_at : (c : IsLocked) (words : List ℕ) → Fits size capacity words
+      → Runs (λ (c : IsLocked) (given : Unit {0}). load 0) (λ c given old. locked_after c old) (λ c (room : Unit {0}) old. room) tt
+      (λ e room ws. Looked words e ws) c tt words
+  look_at c [] fits = let e : 0 ≡ 2 + (capacity + capacity) + size * capacity = fits.long in absurd (omega arith)
+  look_at c (g ∷ words) fits =
+      runs (λ (c : IsLocked) (given : Unit {0}). load 0) (λ c given old. locked_after c old) tt 1 (Looked (g ∷ words)) c (g ∷ words) (omega arith)
+      (fits, ap (λ k. owners.is_locked (owners_in (take k (g ∷ words)))) (let e : suc capacity ≡ 1 + capacity = omega arith in e), refl)

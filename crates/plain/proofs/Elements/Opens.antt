@@ -1,0 +1,80 @@
+-- A container as it opens.
+use Rattle.std.proofs.Common.{◌≡◌, ℕ, zero, suc, ◌+◌, ◌-◌, ◌*◌, ◌^◌, ◌<◌, ◌≤◌, List, [], ◌∷◌, ◌++◌, length, take, map, replicate, Option, None, Some, refl, sym, ap, ◌∙◌, arith, slice_index, slice_set, get_or-set_same, get_or-set_other, get_or-take, length-set, length-append, take_all, Result, Ok, Err, is_ok, is_err, false, true≢false, if◌then◌else◌}
+use Rattle.std.specs.List.{range_with_len}
+use Rattle.std.proofs.lemmas.List.{length-replicate, get_or-replicate, get_or_append_left, get_or-append_right}
+use Rattle.steps.specs.Indices.Robust.Parts.{empty}
+use Rattle.steps.specs.Container.Layout.{change_word, count_word, element_word, total_words, is_even}
+use Rattle.steps.specs.Objects.Owners.{opened_at}
+use Rattle.plain.specs.Queues.{words_from}
+use Rattle.plain.specs.Robust.{owners_in}
+use Rattle.plain.specs.Contents.{opened, value_at, values_in, contents_in, Fits}
+use Rattle.plain.proofs.Robust.Looks.{opens}
+
+take_front : (xs ys : List ℕ) (n : ℕ) → length xs ≡ n → take n (xs ++ ys) ≡ xs
+take_front [] ys zero e = refl
+take_front [] ys (suc n) e = absurd (omega arith)
+take_front (x ∷ xs) ys zero e = absurd (omega arith)
+take_front (x ∷ xs) ys (suc n) e = ap (λ zs. x ∷ zs) (take_front xs ys n (omega arith))
+
+zero_in : (n i : ℕ) → slice_index (replicate n 0) i ≡ 0
+zero_in zero i = refl
+zero_in (suc n) zero = refl
+zero_in (suc n) (suc i) = zero_in n i
+
+behind_zero : (xs : List ℕ) (n i : ℕ) → length xs ≤ i → slice_index (xs ++ replicate n 0) i ≡ 0
+behind_zero [] n i far = zero_in n i
+behind_zero (x ∷ xs) n zero far = absurd (omega arith)
+behind_zero (x ∷ xs) n (suc i) far = behind_zero xs n i (omega arith)
+
+front_word : (xs ys : List ℕ) (i : ℕ) → i < length xs → slice_index (xs ++ ys) i ≡ slice_index xs i
+front_word [] ys i low = absurd (omega arith)
+front_word (x ∷ xs) ys zero low = refl
+front_word (x ∷ xs) ys (suc i) low = front_word xs ys i (omega arith)
+
+none_there : {V : Type 0} (f : ℕ → Option V) (n a : ℕ) → ((i : ℕ) → f i ≡ None)
+    → map f (range_with_len a n) ≡ replicate n None
+none_there f zero a h = refl
+none_there f (suc n) a h =
+    let head = h a in let tail = none_there f n (a + 1) h in λ i. head i ∷ tail i
+
+module _ {V : Type 0} (value_of : List ℕ → V) (size capacity container : ℕ)
+    (set more : List ℕ) (number : ℕ)
+    (set_is : set ≡ replicate (1 + capacity) empty) (more_is : more ≡ slice_set set 0 0 ++ replicate number 0) where
+  abbrev front : List ℕ
+  front = slice_set set 0 0
+
+  front_long : length front ≡ 1 + capacity
+  front_long = length-set set 0 0 ∙ (ap length set_is ∙ length-replicate (1 + capacity) empty)
+
+  zeros : (i : ℕ) → 1 + capacity ≤ i → slice_index more i ≡ 0
+  zeros i far =
+      let l = front_long in
+      ap (λ ws. slice_index ws i) more_is ∙ behind_zero front number i (omega arith)
+
+  pub opens_so : contents_in value_of size capacity container more ≡ opened capacity container
+  opens_so =
+      let set_opens : owners_in (take (1 + capacity) more) ≡ opened_at capacity 0 =
+      ap (λ ws. owners_in (take (1 + capacity) ws)) more_is
+      ∙ (ap owners_in (take_front front (replicate number 0) (1 + capacity) front_long) ∙ opens set capacity 0 set_is) in
+      let none = none_there (value_at value_of size capacity more) capacity 0
+      (λ i. ap (λ n. if is_even n then None else Some (value_of (words_from more (element_word capacity size i 0) size))) (zeros (count_word capacity i) (omega arith))) in
+      let changes = zeros (change_word capacity) (omega arith) in
+      λ i. record { container = container; owners = set_opens i; values = none i; changes = changes i }
+
+grown : {A B : Type 0} (r : Result A B) (old new : List ℕ) (n m : ℕ)
+    → new ≡ (if is_ok r then take n old ++ replicate (n - m) 0 else old) → is_err r ≡ false
+    → length old ≤ n → new ≡ old ++ replicate (n - m) 0
+grown (Ok x) old new n m is fine long = is ∙ ap (λ ws. ws ++ replicate (n - m) 0) (take_all n old long)
+grown (Err e) old new n m is fine long = absurd (true≢false fine)
+
+-- as a vector that has grown
+pub opens_grown : {V A B : Type 0} (value_of : List ℕ → V) (size capacity container : ℕ)
+    → (r : Result A B) (set more : List ℕ) (n m : ℕ) → set ≡ replicate (1 + capacity) empty
+    → more ≡ (if is_ok r then take n (slice_set set 0 0) ++ replicate (n - m) 0 else slice_set set 0 0)
+    → is_err r ≡ false → 1 + capacity ≤ n
+    → contents_in value_of size capacity container more ≡ opened capacity container
+opens_grown value_of size capacity container r set more n m set_is more_is fine long =
+    let l : length (slice_set set 0 0) ≡ 1 + capacity =
+    length-set set 0 0 ∙ (ap length set_is ∙ length-replicate (1 + capacity) empty) in
+    opens_so value_of size capacity container set more (n - m) set_is
+    (grown r (slice_set set 0 0) more n m more_is fine (omega arith))

@@ -1,0 +1,148 @@
+-- A replace in a container that runs alone.
+use Rattle.std.proofs.Common.{◌≡◌, ℕ, zero, suc, ◌+◌, ◌-◌, ◌^◌, ◌<◌, ◌≤◌, Bool, true, false, ◌==◌, ◌&&◌, nat_lt, List, length, take, Option, Some, None, Result, Ok, Err, refl, sym, ap, subst, ◌∙◌, arith, slice_index, slice_set, get_or-take, eq-eqb, ne_eqb, if◌then◌else◌}
+use Rattle.std.proofs.lemmas.Bool.Decides.{nat_tests}
+use Rattle.steps.specs.Picks.{by_test, by_eq}
+use Rattle.steps.specs.Queues.Ring.{word_at}
+use Rattle.steps.specs.Indices.Robust.Parts.{cell_word, empty, one_more}
+use Rattle.steps.specs.Container.Layout.{change_word, count_word, element_word, is_even}
+use Rattle.steps.specs.Container.Replace.{Replaced, first_replace, replace_want, replace_after}
+use Rattle.steps.specs.Objects.Owners.{Owners, has}
+use Rattle.steps.specs.declared.ask.After.{After}
+use Rattle.steps.specs.declared.ask.After.TheVariants.{GoOn, Done}
+use Rattle.steps.specs.declared.container.enums.ContainerRemoveError.TheVariants.{ContainerHandleNotOwnedByContainer}
+use Rattle.steps.specs.declared.container.handle.ContainerHandle.{ContainerHandle}
+use Rattle.steps.specs.declared.container.replace.Replace.{Replace}
+use Rattle.steps.specs.declared.container.replace.ReplaceStage as replaces
+use Rattle.steps.specs.declared.container.replace.Replacement.{Replacement}
+use Rattle.plain.specs.Alone.{Turns}
+use Rattle.plain.specs.Contents.{Contents, changed, names, replaced, after_replace, contents_in, Fits}
+use Rattle.plain.proofs.Alone.{Runs}
+use Rattle.plain.proofs.Walks.{Walks, Goes, OnEnd, longer, runs}
+use Rattle.plain.proofs.Words.{stored}
+use Rattle.plain.proofs.Elements.Handles.{has_word, has_past, names_own}
+use Rattle.plain.proofs.Elements.Values.{front_fits, hidden, shown, shows, after_change, change_fits, change_contents, all_small, cell_within}
+
+module _ {V : Type 0} (words_of : V → List ℕ) (value_of : List ℕ → V) (size : ℕ)
+    (sized : (x : V) → length (words_of x) ≡ size) (given_back : (x : V) → value_of (words_of x) ≡ x)
+    (some : 1 ≤ size) (wide : size ≤ 128) (capacity container : ℕ) (given : Replacement V) where
+  abbrev Ends : ℕ → (Replaced → List ℕ → Type 0) → Replace V → List ℕ → Type 0
+  Ends n P call words =
+      Walks (λ c. replace_want words_of size c given) (λ c old. replace_after size c given old) n (OnEnd P) call words
+
+  abbrev From : ℕ → (Replaced → List ℕ → Type 0) → After (Replace V) Replaced → List ℕ → Type 0
+  From n P a words =
+      Goes (λ c. replace_want words_of size c given) (λ c old. replace_after size c given old) n (OnEnd P) a words
+
+  abbrev call : replaces.ReplaceStage → Replace V
+  call stage = record { capacity = capacity; stage = stage; of = record {} }
+
+  abbrev xs : List ℕ
+  xs = words_of given.value
+
+  abbrev last_of : ℕ → List ℕ → List ℕ
+  last_of index ws =
+      slice_set (slice_set ws (count_word capacity index) (one_more (slice_index ws (count_word capacity index)))) (change_word capacity)
+      (one_more (slice_index (slice_set ws (count_word capacity index) (one_more (slice_index ws (count_word capacity index)))) (change_word capacity)))
+
+  -- the words of the value, and then both numbers
+  goes_in : (P : Replaced → List ℕ → Type 0) (n at : ℕ) → at + suc n ≡ size → (ws : List ℕ)
+      → element_word capacity size given.index 0 + size < 2 ^ 64
+      → P (Ok tt) (last_of given.index (stored ws (element_word capacity size given.index 0) xs at (suc n)))
+      → Ends (suc (suc (suc n))) P (call (replaces.TheVariants.Stores at)) ws
+  goes_in P zero at end ws small h =
+      let place : element_word capacity size given.index at ≡ word_at (element_word capacity size given.index 0) at = omega arith in
+      subst (λ p. From 2 P (if nat_lt (at + 1) size then GoOn (call (replaces.TheVariants.Stores (at + 1))) else GoOn (call (replaces.TheVariants.AddsCount))) (slice_set ws p (slice_index xs at)))
+      (sym place)
+      (by_test (λ a. From 2 P a (slice_set ws (word_at (element_word capacity size given.index 0) at) (slice_index xs at)))
+      (nat_lt (at + 1) size) _ _
+      (λ t. let more : at + 1 < size = grind (arith, nat_tests) in absurd (omega arith))
+      (λ t. h))
+  goes_in P (suc n) at end ws small h =
+      let place : element_word capacity size given.index at ≡ word_at (element_word capacity size given.index 0) at = omega arith in
+      let next = slice_set ws (word_at (element_word capacity size given.index 0) at) (slice_index xs at) in
+      subst (λ p. From (suc (suc (suc n))) P (if nat_lt (at + 1) size then GoOn (call (replaces.TheVariants.Stores (at + 1))) else GoOn (call (replaces.TheVariants.AddsCount))) (slice_set ws p (slice_index xs at)))
+      (sym place)
+      (by_test (λ a. From (suc (suc (suc n))) P a next)
+      (nat_lt (at + 1) size) _ _
+      (λ t. goes_in P n (at + 1) (omega arith) next small h)
+      (λ t. let less : size ≤ at + 1 = grind (arith, nat_tests) in absurd (omega arith)))
+
+  abbrev few_steps : ℕ
+  few_steps = suc (suc (suc (suc (suc (size - 1)))))
+
+  -- what stands there goes, and the value comes
+  puts : (P : Replaced → List ℕ → Type 0) (ws : List ℕ) (fits : Fits size capacity ws) (near : given.index < capacity)
+      → P (Ok tt) (after_change value_of size capacity ws fits given.index near wide (shown value_of size capacity ws fits given.index near wide xs given.value (sized given.value) (given_back given.value)))
+      → Ends few_steps P (call (replaces.TheVariants.LoadsCount)) ws
+  puts P ws fits near h =
+      let c = count_word capacity given.index in
+      let n = slice_index ws (count_word capacity given.index) in
+      let count : suc (size - 1) ≡ size = omega arith in
+      let small : element_word capacity size given.index 0 + size < 2 ^ 64 =
+      let w = cell_within value_of size capacity ws fits given.index near wide in
+      let a = all_small value_of size capacity ws fits given.index near wide in omega arith in
+      let on : (hs : List ℕ) → hidden value_of size capacity ws fits given.index near wide ≡ hs
+      → Ends (suc (suc (suc (size - 1)))) P (call (replaces.TheVariants.Stores 0)) hs =
+      λ hs e. goes_in P (size - 1) 0 (omega arith) hs small
+      (subst (λ (z : List ℕ × ℕ). P (Ok tt) (last_of given.index (stored z.0 (element_word capacity size given.index 0) xs 0 z.1))) (λ i. (e i, sym count i)) h) in
+      by_test (λ a. From (suc (suc (suc (suc (size - 1))))) P a ws) (is_even n) _ _
+      (λ t. longer (λ c. replace_want words_of size c given) (λ c old. replace_after size c given old) 1 (suc (suc (suc (size - 1)))) (OnEnd P)
+      (call (replaces.TheVariants.Stores 0)) ws
+      (on ws (ap (λ b. if b then ws else slice_set ws (count_word capacity given.index) (one_more (slice_index ws (count_word capacity given.index)))) t)))
+      (λ t. subst (λ vs. From (suc (suc (suc (size - 1)))) P (GoOn (call (replaces.TheVariants.Stores 0))) vs)
+      (sym (ap (λ b. if b then slice_set ws (count_word capacity given.index) (one_more (slice_index ws (count_word capacity given.index))) else ws) (eq-eqb n n refl)))
+      (on (slice_set ws (count_word capacity given.index) (one_more (slice_index ws (count_word capacity given.index))))
+      (ap (λ b. if b then ws else slice_set ws (count_word capacity given.index) (one_more (slice_index ws (count_word capacity given.index)))) t)))
+
+  -- ---- what it makes of the map
+
+  abbrev handle : ContainerHandle
+  handle = record { index = given.index; owner = given.owner; container = container }
+
+  abbrev pub Put : List ℕ → Replaced → List ℕ → Type 0
+  Put words end last =
+      Turns (Fits size capacity) (contents_in value_of size capacity container)
+      (λ s. replaced s handle) (λ s. after_replace s handle given.value) words end last
+
+  module _ (words : List ℕ) (fits : Fits size capacity words) (lives : given.owner < empty) where
+    abbrev old : Contents V
+    old = contents_in value_of size capacity container words
+
+    refused : names old handle ≡ false → Put words (Err ContainerHandleNotOwnedByContainer) words
+    refused miss = (
+      fits,
+      sym (ap (λ b. if b then Ok tt else Err ContainerHandleNotOwnedByContainer) miss),
+      sym (ap (λ b. if b then changed old old.owners given.index (Some given.value) else old) miss),
+    )
+
+    put_in : (near : given.index < capacity) → names old handle ≡ true
+        → Put words (Ok tt) (after_change value_of size capacity words fits given.index near wide (shown value_of size capacity words fits given.index near wide xs given.value (sized given.value) (given_back given.value)))
+    put_in near hit =
+        let there = shows value_of size capacity words fits given.index near wide xs given.value (sized given.value) (given_back given.value) in (
+          change_fits value_of size capacity words fits given.index near wide _ there.writes,
+          sym (ap (λ b. if b then Ok tt else Err ContainerHandleNotOwnedByContainer) hit),
+          change_contents value_of size capacity words fits given.index near wide container _ (Some given.value) there.writes there.here
+              ∙ sym (ap (λ b. if b then changed old old.owners given.index (Some given.value) else old) hit),
+        )
+
+    walks : Ends (suc few_steps) (Put words) (first_replace capacity given.index) words
+    walks =
+        by_test (λ stage. Ends (suc few_steps) (Put words) (call stage) words) (nat_lt given.index capacity) _ _
+        (λ t. let near : given.index < capacity = grind (arith, nat_tests) in
+        let is = names_own capacity size container value_of words given.index given.owner ∙ has_word capacity (take (1 + capacity) words) (front_fits value_of size capacity words fits) given.index given.owner lives near in
+        let word : slice_index (take (1 + capacity) words) (cell_word given.index) ≡ slice_index words (cell_word given.index) = get_or-take (1 + capacity) words (cell_word given.index) 0 (omega arith) in
+        by_eq (λ a. From few_steps (Put words) a words) (slice_index words (cell_word given.index)) given.owner _ _
+        (λ e. puts (Put words) words fits near (put_in near (is ∙ eq-eqb _ _ (word ∙ e))))
+        (λ other. refused (is ∙ ne_eqb _ _ (λ e. other (sym word ∙ e)))))
+        (λ t. let far : capacity ≤ given.index = grind (arith, nat_tests) in
+        refused (names_own capacity size container value_of words given.index given.owner ∙ has_past capacity (take (1 + capacity) words) (front_fits value_of size capacity words fits) given.index given.owner far))
+
+  pub replace_at : (number : ℕ) → number ≡ given.owner → number < empty → (c : Replace V) → c ≡ first_replace capacity given.index
+      → (words : List ℕ) → Fits size capacity words
+      → Runs (replace_want words_of size) (replace_after size) (λ c (room : Unit {0}) old. room) given
+      (λ e room ws. Put words e ws) c tt words
+  replace_at number same lives c is words fits =
+      subst (λ c. Runs (replace_want words_of size) (replace_after size) (λ c (room : Unit {0}) old. room) given
+      (λ e room ws. Put words e ws) c tt words) (sym is)
+      (runs (replace_want words_of size) (replace_after size) given (suc few_steps) (Put words) (first_replace capacity given.index) words
+      (omega arith) (walks words fits (omega arith)))

@@ -1,0 +1,259 @@
+-- The values in the words of a container.
+use Rattle.std.proofs.Common.{◌≡◌, ◌≢◌, ℕ, zero, suc, ◌+◌, ◌*◌, ◌%◌, ◌^◌, ◌<◌, ◌≤◌, ◌⊎◌, inl, inr, ⊎_elim, Bool, true, false, ◌==◌, List, length, take, Option, Some, None, refl, sym, ap, subst, ◌∙◌, arith, slice_index, slice_set, get_or-set_same, get_or-set_other, get_or-take, length-set, length-take-le, eq-eqb, ne_eqb, if◌then◌else◌, true≢false}
+use Rattle.std.proofs.Math.Nat.{mul-le-mul_left}
+use Rattle.std.proofs.lemmas.Bool.{cases_lt}
+use Rattle.std.proofs.lemmas.List.{take-set-le}
+use Rattle.steps.specs.Picks.{by_test}
+use Rattle.steps.specs.Indices.Robust.Parts.{one_more}
+use Rattle.steps.specs.Container.Layout.{change_word, count_word, element_word, total_words, is_even}
+use Rattle.steps.specs.Objects.Owners.{Owners}
+use Rattle.steps.specs.Queues.Ring.{word_at}
+use Rattle.plain.specs.Queues.{words_from}
+use Rattle.plain.specs.Robust as robust
+use Rattle.plain.specs.Robust.{owners_in}
+use Rattle.plain.specs.Contents.{Contents, changed, value_at, values_in, contents_in, Fits}
+use Rattle.plain.proofs.Fronts.{Behind}
+use Rattle.plain.proofs.Places.Flags.{map_same, map_changed_within}
+use Rattle.plain.proofs.Words.{words_same, words_all, stored, stored_length, stored_other, stored_words}
+
+-- the values of two indices lie apart
+pub apart : (size i j : ℕ) → i < j → size * i + size ≤ size * j
+apart size i j less =
+    let step : size * (i + 1) ≤ size * j = mul-le-mul_left size (omega arith) in omega arith
+
+two : (n : ℕ) → (n % 2 ≡ 0) ⊎ (n % 2 ≡ 1)
+two n =
+    ⊎_elim (λ (h : n % 2 < 1). inl (omega arith)) (λ (h : 1 ≤ n % 2). inr (omega arith))
+    (cases_lt (n % 2) 1)
+
+odd_next : (n : ℕ) → is_even n ≡ false → is_even (one_more n) ≡ true
+odd_next n t =
+    ⊎_elim (λ (e : n % 2 ≡ 0). absurd (true≢false (sym (eq-eqb _ _ e) ∙ t)))
+    (λ (e : n % 2 ≡ 1). eq-eqb _ _ (let next : one_more n % 2 ≡ 0 = omega arith in next)) (two n)
+
+even_next : (n : ℕ) → is_even n ≡ true → is_even (one_more n) ≡ false
+even_next n t =
+    ⊎_elim (λ (e : n % 2 ≡ 0). ne_eqb _ _ (λ (z : one_more n % 2 ≡ 0). absurd (omega arith)))
+    (λ (e : n % 2 ≡ 1). absurd (true≢false (sym t ∙ ne_eqb _ _ (λ (z : n % 2 ≡ 0). absurd (omega arith))))) (two n)
+
+stored_front : (ws : List ℕ) (k : ℕ) (xs : List ℕ) (at n m : ℕ) → k + at + n < 2 ^ 64 → m ≤ k + at
+    → take m (stored ws k xs at n) ≡ take m ws
+stored_front ws k xs at zero m small low = refl
+stored_front ws k xs at (suc n) m small low =
+    stored_front (slice_set ws (word_at k at) (slice_index xs at)) k xs (at + 1) n m (omega arith) (omega arith)
+    ∙ take-set-le m ws (word_at k at) (slice_index xs at) (omega arith)
+
+module _ {V : Type 0} (value_of : List ℕ → V) (size capacity : ℕ) where
+  -- the words of the set alone
+  pub front_fits : (words : List ℕ) → Fits size capacity words → robust.Fits capacity (take (1 + capacity) words)
+  front_fits words fits =
+      let long = fits.long in
+      record {
+        long = length-take-le (1 + capacity) words (omega arith);
+        some = fits.some;
+        few = fits.few;
+        small = subst (λ w. w < 2 ^ 64) (sym (get_or-take (1 + capacity) words 0 0 (omega arith))) fits.small;
+      }
+
+  value_same : (ws vs : List ℕ) (i : ℕ) → slice_index vs (count_word capacity i) ≡ slice_index ws (count_word capacity i)
+      → ((j : ℕ) → element_word capacity size i 0 ≤ j → j < element_word capacity size i 0 + size → slice_index vs j ≡ slice_index ws j)
+      → value_at value_of size capacity vs i ≡ value_at value_of size capacity ws i
+  value_same ws vs i count same =
+      let words = words_same vs ws (element_word capacity size i 0) size same in
+      λ k. if is_even (count k) then None else Some (value_of (words k))
+
+  -- ---- only the set has changed
+
+  pub behind_values : (ws vs : List ℕ) → Behind (1 + capacity) ws vs
+      → values_in value_of size capacity vs ≡ values_in value_of size capacity ws
+  behind_values ws vs h =
+      map_same (value_at value_of size capacity ws) (value_at value_of size capacity vs) capacity 0
+      (λ i low high. value_same ws vs i (h.same (count_word capacity i) (omega arith)) (λ j from below. h.same j (omega arith)))
+
+  pub behind_contents : (container : ℕ) (ws vs : List ℕ) → Behind (1 + capacity) ws vs
+      → contents_in value_of size capacity container vs
+      ≡ record (contents_in value_of size capacity container ws) { owners = owners_in (take (1 + capacity) vs) }
+  behind_contents container ws vs h =
+      let values = behind_values ws vs h in
+      let changes = h.same (change_word capacity) (omega arith) in
+      λ i. record { container = container; owners = owners_in (take (1 + capacity) vs); values = values i; changes = changes i }
+
+  pub behind_fits : (ws vs : List ℕ) → Behind (1 + capacity) ws vs → Fits size capacity ws
+      → robust.Fits capacity (take (1 + capacity) vs) → Fits size capacity vs
+  behind_fits ws vs h fits front =
+      record {
+        long = h.long ∙ fits.long;
+        some = fits.some;
+        few = fits.few;
+        small = subst (λ w. w < 2 ^ 64) (get_or-take (1 + capacity) vs 0 0 (omega arith)) front.small;
+      }
+
+  -- ---- the value of one index changes
+
+  module _ (words : List ℕ) (fits : Fits size capacity words) (index : ℕ) (near : index < capacity)
+      (wide : size ≤ 128) where
+    abbrev count_at : ℕ
+    count_at = count_word capacity index
+
+    abbrev cell : ℕ
+    cell = element_word capacity size index 0
+
+    pub cell_within : cell + size ≤ length words
+    cell_within = let a = apart size index capacity near in let long = fits.long in omega arith
+
+    within : count_at < length words
+    within = let long = fits.long in omega arith
+
+    pub all_small : length words < 2 ^ 64
+    all_small =
+        let few = fits.few in let long = fits.long in
+        let a : size * capacity ≤ size * 2 ^ 32 = mul-le-mul_left size (omega arith) in omega arith
+
+    -- nothing else has changed but the number and the words of this value
+    pub record Writes (later : List ℕ) : Type 0 where
+      pub long : length later ≡ length words
+      pub front : take (1 + capacity) later ≡ take (1 + capacity) words
+      pub changes : slice_index later (change_word capacity) ≡ slice_index words (change_word capacity)
+      pub others : (j : ℕ) → j < capacity → j ≢ index
+          → value_at value_of size capacity later j ≡ value_at value_of size capacity words j
+
+    -- ---- it goes
+
+    abbrev pub hidden : List ℕ
+    hidden =
+        if is_even (slice_index words count_at)
+        then words
+        else slice_set words count_at (one_more (slice_index words count_at))
+
+    pub record Hides (later : List ℕ) : Type 0 where
+      pub writes : Writes later
+      pub even : is_even (slice_index later count_at) ≡ true
+
+    pub hides : Hides hidden
+    hides =
+        by_test Hides (is_even (slice_index words count_at)) _ _
+        (λ t. record { writes = record { long = refl; front = refl; changes = refl; others = λ j low ne. refl }; even = t })
+        (λ t.
+        let n = slice_index words count_at in
+        let is : slice_index (slice_set words count_at (one_more n)) count_at ≡ one_more n = get_or-set_same words count_at (one_more n) 0 within in
+        record {
+          writes = record {
+            long = length-set words count_at (one_more n);
+            front = take-set-le (1 + capacity) words count_at (one_more n) (omega arith);
+            changes = get_or-set_other words count_at (change_word capacity) (one_more n) 0 (λ e. absurd (omega arith));
+            others = λ j low ne. value_same words (slice_set words count_at (one_more n)) j
+                (get_or-set_other words count_at (count_word capacity j) (one_more n) 0 (λ e. ne (omega arith)))
+                (λ k from below. get_or-set_other words count_at k (one_more n) 0 (λ e. absurd (omega arith)));
+          };
+          even = ap is_even is ∙ odd_next n t;
+        })
+
+    -- ---- another comes
+
+    module _ (xs : List ℕ) (value : V) (sized : length xs ≡ size) (is : value_of xs ≡ value) where
+      abbrev pub filled : List ℕ
+      filled = stored hidden cell xs 0 size
+
+      abbrev pub shown : List ℕ
+      shown = slice_set filled count_at (one_more (slice_index filled count_at))
+
+      filled_long : length filled ≡ length words
+      filled_long = stored_length hidden cell xs 0 size ∙ hides.writes.long
+
+      small : cell + 0 + size < 2 ^ 64
+      small = let w = cell_within in let a = all_small in omega arith
+
+      -- words before and behind the cell stay as they are
+      fills_not : (j : ℕ) → (j < cell) ⊎ (cell + size ≤ j) → slice_index filled j ≡ slice_index hidden j
+      fills_not j out =
+          stored_other hidden cell xs 0 size j small
+          (⊎_elim (λ (h : j < cell). inl (omega arith)) (λ (h : cell + size ≤ j). inr (omega arith)) out)
+
+      count_is : slice_index shown count_at ≡ one_more (slice_index hidden count_at)
+      count_is =
+          let long = filled_long in let w = within in
+          get_or-set_same filled count_at (one_more (slice_index filled count_at)) 0 (omega arith)
+          ∙ ap one_more (fills_not count_at (inl (omega arith)))
+
+      words_are : words_from shown cell size ≡ xs
+      words_are =
+          let h = hides.writes.long in let w = cell_within in
+          let at : words_from filled cell size ≡ xs =
+          subst (λ k. words_from filled k size ≡ xs) (let e : cell + 0 ≡ cell = omega arith in e)
+          (stored_words hidden cell xs 0 size small (omega arith)
+          ∙ subst (λ n. words_from xs 0 n ≡ xs) sized (words_all xs)) in
+          words_same shown filled cell size (λ i low high. get_or-set_other filled count_at i (one_more (slice_index filled count_at)) 0 (λ e. absurd (omega arith))) ∙ at
+
+      -- another's words
+      beside : (j k : ℕ) → j ≢ index → element_word capacity size j 0 ≤ k → k < element_word capacity size j 0 + size
+          → (k < cell) ⊎ (cell + size ≤ k)
+      beside j k ne from below =
+          ⊎_elim (λ (less : j < index). let a = apart size j index less in inl (omega arith))
+          (λ (more : index ≤ j). let a = apart size index j (omega (arith, ne)) in inr (omega arith))
+          (cases_lt j index)
+
+      pub record Shows (later : List ℕ) : Type 0 where
+        pub writes : Writes later
+        pub here : value_at value_of size capacity later index ≡ Some value
+
+      pub shows : Shows shown
+      shows =
+          let h = hides in
+          let n = one_more (slice_index filled count_at) in
+          let odd : is_even (slice_index shown count_at) ≡ false = ap is_even count_is ∙ even_next _ h.even in
+          record {
+            writes = record {
+              long = length-set filled count_at n ∙ filled_long;
+              front = take-set-le (1 + capacity) filled count_at n (omega arith) ∙ stored_front hidden cell xs 0 size (1 + capacity) small (omega arith) ∙ h.writes.front;
+              changes = get_or-set_other filled count_at (change_word capacity) n 0 (λ e. absurd (omega arith))
+                  ∙ fills_not (change_word capacity) (inl (omega arith)) ∙ h.writes.changes;
+              others = λ j low ne. value_same hidden shown j
+                  (get_or-set_other filled count_at (count_word capacity j) n 0 (λ e. ne (omega arith))
+                  ∙ fills_not (count_word capacity j) (inl (omega arith)))
+                  (λ k from below. get_or-set_other filled count_at k n 0 (λ e. absurd (omega arith))
+                  ∙ fills_not k (beside j k ne from below))
+                  ∙ h.writes.others j low ne;
+            };
+            here = ap (λ b. if b then None else Some (value_of (words_from shown cell size))) odd
+                ∙ ap Some (ap value_of words_are ∙ is);
+          }
+
+    -- ---- and the number of changes goes up
+
+    abbrev pub after_change : List ℕ → List ℕ
+    after_change later =
+        slice_set later (change_word capacity) (one_more (slice_index later (change_word capacity)))
+
+    pub change_fits : (later : List ℕ) → Writes later → Fits size capacity (after_change later)
+    change_fits later w =
+        let head : slice_index later 0 ≡ slice_index words 0 =
+        sym (get_or-take (1 + capacity) later 0 0 (omega arith)) ∙ ap (λ ws. slice_index ws 0) w.front
+        ∙ get_or-take (1 + capacity) words 0 0 (omega arith) in
+        record {
+          long = length-set later (change_word capacity) _ ∙ w.long ∙ fits.long;
+          some = fits.some;
+          few = fits.few;
+          small = subst (λ n. n < 2 ^ 64) (sym (get_or-set_other later (change_word capacity) 0 _ 0 (λ e. absurd (omega arith)) ∙ head)) fits.small;
+        }
+
+    pub change_contents : (container : ℕ) (later : List ℕ) (o : Option V) → Writes later → value_at value_of size capacity later index ≡ o
+        → contents_in value_of size capacity container (after_change later)
+        ≡ changed (contents_in value_of size capacity container words) (owners_in (take (1 + capacity) words)) index o
+    change_contents container later o w here =
+        let c = one_more (slice_index later (change_word capacity)) in
+        let long = fits.long in let l = w.long in
+        let front : take (1 + capacity) (after_change later) ≡ take (1 + capacity) words =
+        take-set-le (1 + capacity) later (change_word capacity) c (omega arith) ∙ w.front in
+        let changes : slice_index (after_change later) (change_word capacity) ≡ one_more (slice_index words (change_word capacity)) =
+        get_or-set_same later (change_word capacity) c 0 (omega arith) ∙ ap one_more w.changes in
+        let stays : (j : ℕ) → j < capacity → value_at value_of size capacity (after_change later) j ≡ value_at value_of size capacity later j =
+        λ j low. value_same later (after_change later) j
+        (get_or-set_other later (change_word capacity) (count_word capacity j) c 0 (λ e. absurd (omega arith)))
+        (λ k from below. get_or-set_other later (change_word capacity) k c 0 (λ e. absurd (omega arith))) in
+        let values = map_changed_within (value_at value_of size capacity words) (value_at value_of size capacity (after_change later)) o capacity 0 index index near (omega arith)
+        (stays index near ∙ here) (λ j from below ne. stays j (omega arith) ∙ w.others j (omega arith) ne) in
+        λ i. record { container = container; owners = owners_in (front i); values = values i; changes = changes i }
+
+    -- where it has gone
+    pub gone : (later : List ℕ) → Hides later → value_at value_of size capacity later index ≡ None
+    gone later h = ap (λ b. if b then None else Some (value_of (words_from later cell size))) h.even

@@ -1,0 +1,140 @@
+-- A call that keeps to the first words of a list: it runs alike where further words stand behind them.
+use Rattle.std.proofs.Common.{◌≡◌, ℕ, zero, suc, ◌+◌, ◌<◌, ◌≤◌, List, [], ◌∷◌, length, take, refl, sym, ap, subst, ◌∙◌, arith, slice_index, slice_set, get_or-set_other, get_or-take, length-set, ◌==◌}
+use Rattle.std.proofs.lemmas.List.{take-set-le}
+use Rattle.std.specs.Prelude.{if◌then◌else◌, true, false}
+use Rattle.steps.specs.Ask.{written}
+use Rattle.steps.specs.Picks.{by_test}
+use Rattle.steps.specs.declared.ask.Ask.{Ask}
+use Rattle.steps.specs.declared.ask.Op.{Op}
+use Rattle.steps.specs.declared.ask.Op.TheVariants.{Load, Store, Swap, Add, Sub, And, Or, Exchange}
+use Rattle.steps.specs.declared.ask.Want.{Want}
+use Rattle.steps.specs.declared.ask.Want as wants
+use Rattle.steps.specs.declared.ask.After.{After}
+use Rattle.steps.specs.declared.ask.After.TheVariants.{GoOn, Done}
+use Rattle.std.specs.Prelude.{bit_and, bit_or}
+use Rattle.plain.specs.declared.drive.Stop.{Stop}
+use Rattle.plain.specs.declared.drive.Stop.TheVariants.{Asked, Ended}
+use Rattle.plain.specs.Alone.{written_by, written_at, answer_in, words_then, stepped, goes}
+use Rattle.plain.proofs.Walks.{WalksFrom, OnEnd, Walks, LowThen}
+
+-- the later list is as long, and from here on it is the same
+pub record Behind (k : ℕ) (before later : List ℕ) : Type 0 where
+  pub long : length later ≡ length before
+  pub same : (j : ℕ) → k ≤ j → slice_index later j ≡ slice_index before j
+
+pub stays : (k : ℕ) (words : List ℕ) → Behind k words words
+stays k words = record { long = refl; same = λ j far. refl }
+
+-- it asks for a word below this one, if for any
+abbrev pub AsksBelow : ℕ → Want (Unit {0}) → Type 0
+AsksBelow k (wants.TheVariants.Ask ask) = ask.word < k
+AsksBelow k (wants.TheVariants.Question question) = Unit {0}
+AsksBelow k wants.TheVariants.Nothing = Unit {0}
+
+-- ---- one word of the front
+
+pub take_set : (k at x : ℕ) (words : List ℕ) → at < k
+    → slice_set (take k words) at x ≡ take k (slice_set words at x)
+take_set zero at x words low = absurd (omega arith)
+take_set (suc k) at x [] low = refl
+take_set (suc k) zero x (w ∷ words) low = refl
+take_set (suc k) (suc at) x (w ∷ words) low =
+    ap (λ ws. w ∷ ws) (take_set k at x words (omega arith))
+
+module _ (k at : ℕ) (low : at < k) (words : List ℕ) where
+  front_word : slice_index (take k words) at ≡ slice_index words at
+  front_word = get_or-take k words at 0 low
+
+  front_set : (x y : ℕ) → x ≡ y → slice_set (take k words) at x ≡ take k (slice_set words at y)
+  front_set x y e = ap (slice_set (take k words) at) e ∙ take_set k at y words low
+
+  front_written : (op : Op) → written_by (take k words) at op ≡ take k (written_by words at op)
+  front_written Load = refl
+  front_written (Store new) = front_set new new refl
+  front_written (Swap new) = front_set new new refl
+  front_written (Add by) = front_set _ _ (ap (written (Add by)) front_word)
+  front_written (Sub by) = front_set _ _ (ap (written (Sub by)) front_word)
+  front_written (And bits) = front_set _ _ (ap (λ w. bit_and w bits) front_word)
+  front_written (Or bits) = front_set _ _ (ap (λ w. bit_or w bits) front_word)
+  front_written (Exchange from to) =
+      ap (λ w. if w == from then slice_set (take k words) at to else take k words) front_word
+      ∙ by_test (λ ws. (if slice_index words at == from then slice_set (take k words) at to else take k words) ≡ take k ws)
+      (slice_index words at == from) _ _
+      (λ t. ap (λ b. if b then slice_set (take k words) at to else take k words) t ∙ front_set to to refl)
+      (λ t. ap (λ b. if b then slice_set (take k words) at to else take k words) t)
+
+  set_behind : (x : ℕ) → Behind k words (slice_set words at x)
+  set_behind x =
+      record {
+        long = length-set words at x;
+        same = λ j far. get_or-set_other words at j x 0 (λ e. absurd (omega arith));
+      }
+
+  written_behind : (op : Op) → Behind k words (written_by words at op)
+  written_behind Load = stays k words
+  written_behind (Store new) = set_behind new
+  written_behind (Swap new) = set_behind new
+  written_behind (Add by) = set_behind _
+  written_behind (Sub by) = set_behind _
+  written_behind (And bits) = set_behind _
+  written_behind (Or bits) = set_behind _
+  written_behind (Exchange from to) =
+      by_test (λ ws. Behind k words ws) (slice_index words at == from) _ _
+      (λ t. set_behind to) (λ t. stays k words)
+
+-- ---- one step
+
+front_answer : (k : ℕ) (words : List ℕ) (want : Want (Unit {0})) → AsksBelow k want
+    → answer_in (take k words) want ≡ answer_in words want
+front_answer k words (wants.TheVariants.Ask ask) low = front_word k ask.word low words
+front_answer k words (wants.TheVariants.Question question) low = refl
+front_answer k words wants.TheVariants.Nothing low = refl
+
+front_then : (k : ℕ) (words : List ℕ) (want : Want (Unit {0})) → AsksBelow k want
+    → words_then (take k words) want ≡ take k (words_then words want)
+front_then k words (wants.TheVariants.Ask ask) low = front_written k ask.word low words ask.op
+front_then k words (wants.TheVariants.Question question) low = refl
+front_then k words wants.TheVariants.Nothing low = refl
+
+then_behind : (k : ℕ) (words : List ℕ) (want : Want (Unit {0})) → AsksBelow k want
+    → Behind k words (words_then words want)
+then_behind k words (wants.TheVariants.Ask ask) low = written_behind k ask.word low words ask.op
+then_behind k words (wants.TheVariants.Question question) low = stays k words
+then_behind k words wants.TheVariants.Nothing low = stays k words
+
+behind_more : (k : ℕ) (a b c : List ℕ) → Behind k a b → Behind k b c → Behind k a c
+behind_more k a b c h g =
+    record { long = g.long ∙ h.long; same = λ j far. g.same j far ∙ h.same j far }
+
+-- ---- all steps
+
+module _ {C E : Type 0} (want : C → Want (Unit {0})) (after : C → ℕ → After C E) (k : ℕ)
+    (Low : C → Type 0) (asks_low : (c : C) → Low c → AsksBelow k (want c))
+    (goes_low : (c : C) (old : ℕ) → Low c → LowThen Low (after c old))
+    (before : List ℕ) (P Q : E → List ℕ → Type 0)
+    (so : (e : E) (last : List ℕ) → Behind k before last → P e (take k last) → Q e last) where
+  from_front : (n : ℕ) (w : Want (Unit {0})) (call : C) (a : After C E) (words : List ℕ)
+      → LowThen Low a → Behind k before words
+      → ((d : C) → Low d → Walks want after n (OnEnd P) d (take k words) → Walks want after n (OnEnd Q) d words)
+      → WalksFrom (Walks want after n (OnEnd P)) (OnEnd P) (stepped w call a) (take k words)
+      → WalksFrom (Walks want after n (OnEnd Q)) (OnEnd Q) (stepped w call a) words
+  from_front n (wants.TheVariants.Ask ask) call (GoOn d) words low behind on t = on d low t
+  from_front n (wants.TheVariants.Ask ask) call (Done e) words low behind on t =
+      so e words behind t
+  from_front n (wants.TheVariants.Question question) call a words low behind on t = absurd t
+  from_front n wants.TheVariants.Nothing call (GoOn d) words low behind on t = on d low t
+  from_front n wants.TheVariants.Nothing call (Done e) words low behind on t = so e words behind t
+
+  pub front_walks : (n : ℕ) (call : C) (words : List ℕ) → Low call → Behind k before words
+      → Walks want after n (OnEnd P) call (take k words) → Walks want after n (OnEnd Q) call words
+  front_walks zero call words low behind t = absurd t
+  front_walks (suc n) call words low behind t =
+      let below = asks_low call low in
+      let later = behind_more k before words (words_then words (want call)) behind (then_behind k words (want call) below) in
+      from_front n (want call) call (after call (answer_in words (want call))) (words_then words (want call))
+      (goes_low call (answer_in words (want call)) low) later
+      (λ d low u. front_walks n d (words_then words (want call)) low later u)
+      (subst (λ ws. WalksFrom (Walks want after n (OnEnd P)) (OnEnd P) (stepped (want call) call (after call (answer_in words (want call)))) ws)
+      (front_then k words (want call) below)
+      (subst (λ old. WalksFrom (Walks want after n (OnEnd P)) (OnEnd P) (stepped (want call) call (after call old)) (words_then (take k words) (want call)))
+      (front_answer k words (want call) below) t))

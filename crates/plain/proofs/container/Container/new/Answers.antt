@@ -1,0 +1,9 @@
+use Rattle.std.proofs.Common.{◌≤◌, ◌+◌, ◌∙◌, sym, arith}
+use Rattle.plain.proofs.Elements.Opens.{opens_grown}
+use Rattle.plain.proofs.container.Container.new.Goals as goal
+
+pub returns-clause-map : goal.returns-clause-map
+returns-clause-map g c =
+    let total = c.total_words.ensures in
+    opens_grown g.T.Words.value_of g.T.Words.WORDS c.args.capacity c.args.id c.resize.result c.in-Ok.words.items _ c.total_words.result c.in-Ok.words.len
+    (c.in-Ok.ensures.items_if_clones_equal (λ y e. e)) c.resize.ensures.items (sym c.is_err.ensures.value ∙ c.if-is_err.false) (omega arith)

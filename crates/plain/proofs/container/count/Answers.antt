@@ -1,0 +1,14 @@
+use Rattle.plain.proofs.Alone.{can_end, ends_so}
+use Rattle.plain.proofs.Elements.Looks.{count_at}
+use Rattle.plain.proofs.container.count.Goals as goal
+
+pub drive-requires : goal.drive-requires
+drive-requires g c = record {
+  ends = can_end _ _ _ _ _ _ _ _
+      (count_at g.T.Words.value_of g.T.Words.WORDS c.args.capacity c.args.id c.new.result c.new.ensures c.args.words.now.items c.requires);
+}
+
+pub returns : goal.returns
+returns g c = ends_so _ _ _ _ _ _ _ _
+    (count_at g.T.Words.value_of g.T.Words.WORDS c.args.capacity c.args.id c.new.result c.new.ensures c.args.words.now.items c.requires)
+    _ _ _ c.drive.ensures.alone

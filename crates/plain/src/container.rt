@@ -1,0 +1,253 @@
+//! The container of values of one caller.
+ghost use Rattle.std.specs.Prelude.{◌≡◌, ◌⊎◌, None, IfOk, IfErr, OnOk, ◌-◌, ◌==◌, ◌^◌, Some};
+ghost use Rattle.steps.specs.Enums.{capacity_refusal};
+ghost use Rattle.steps.specs.declared.enums.UniqueIndexCreationError.TheVariants.{NoMemory};
+ghost use Rattle.plain.specs.Alone.{Turns};
+ghost use Rattle.plain.specs.Contents.{Contents, opened, capacity, is_locked, number, counted, added, after_add, removed, after_remove, replaced, after_replace, contents_in, Fits};
+
+use crate::drive::drive;
+use std::alloc::Global;
+use std::marker::{Model, PhantomData};
+use steps::container::add::{Add, Owned};
+use steps::container::enums::{ContainerAddFailure, ContainerRemoveError};
+use steps::container::handle::ContainerHandle;
+use steps::container::layout::total_words;
+use steps::container::remove::Remove;
+use steps::container::replace::{Replace, Replacement};
+use steps::enums::{OwnerId, UniqueIndexCreationError, capacity_refusal};
+use steps::indices::enums::{ReleaseMode, ReleaseState};
+use steps::indices::robust::looks::{BorrowedIndices, IsLocked};
+use steps::indices::robust::parts::{COUNTER, EMPTY, FIRST_CELL};
+use steps::indices::robust::release::GiveBack;
+use steps::words::Words;
+
+/// Values, each at an index that has an owner, and a lock. After `Container` of the Rust crate, for one caller.
+///
+/// Its generation and its lock are those of a `RobustUniqueIndexSet`. It counts its changes, modulo 2^64.
+#[derive(Drop)]
+pub struct Container<T: Words> {
+    words: Vec<u64>,
+    capacity: u32,
+    id: u64,
+    of: PhantomData<T>,
+}
+
+impl<T: Words> Model for Container<T> {
+    ghost Value = { Contents T };
+
+    ghost view = { λ s. contents_in T.value_of T.WORDS s.capacity s.id s.words.items };
+
+    ghost invariant = { λ s. Fits T.WORDS s.capacity s.words.items };
+}
+
+/// An add, over the words of a container.
+fn add<T: Words>(
+    words: &mut Vec<u64>,
+    capacity: u32,
+    id: u64,
+    given: &Owned<T>,
+) -> Result<ContainerHandle, ContainerAddFailure>
+    requires { Fits T.WORDS capacity words.old.items }
+    ensures { Turns (Fits T.WORDS capacity) (contents_in T.value_of T.WORDS capacity id)
+        (λ s. added s given.now.owner) (λ s. after_add s given.now.owner given.now.value)
+        words.old.items result words.new.items }
+{
+    let _ = given.owner.value();
+    let mut room = ();
+    match drive(words, Add::<T>::new(capacity), given, &mut room) {
+        Ok(index) => Ok(ContainerHandle {
+            index,
+            owner: given.owner,
+            container: id,
+        }),
+        Err(failure) => Err(failure),
+    }
+}
+
+/// A remove by a handle of this container, over its words.
+fn remove<T: Words>(
+    words: &mut Vec<u64>,
+    capacity: u32,
+    handle: ContainerHandle,
+    mode: ReleaseMode,
+) -> Result<ReleaseState, ContainerRemoveError>
+    requires { Fits T.WORDS capacity words.old.items }
+    ensures { Turns (Fits T.WORDS capacity)
+        (contents_in T.value_of T.WORDS capacity handle.container)
+        (λ s. removed s handle mode) (λ s. after_remove s handle mode)
+        words.old.items result words.new.items }
+{
+    let _ = handle.owner.value();
+    let mut room = ();
+    let given = GiveBack {
+        index: handle.index,
+        owner: handle.owner,
+        mode,
+    };
+    drive(
+        words,
+        Remove::new(capacity, handle.index),
+        &given,
+        &mut room,
+    )
+}
+
+/// A replace by a handle of this container, over its words.
+fn replace<T: Words>(
+    words: &mut Vec<u64>,
+    capacity: u32,
+    handle: ContainerHandle,
+    value: T,
+) -> Result<(), ContainerRemoveError>
+    requires { Fits T.WORDS capacity words.old.items }
+    ensures { Turns (Fits T.WORDS capacity)
+        (contents_in T.value_of T.WORDS capacity handle.container)
+        (λ s. replaced s handle) (λ s. after_replace s handle value)
+        words.old.items result words.new.items }
+{
+    let _ = handle.owner.value();
+    let mut room = ();
+    let given = Replacement {
+        index: handle.index,
+        owner: handle.owner,
+        value,
+    };
+    drive(
+        words,
+        Replace::<T>::new(capacity, handle.index),
+        &given,
+        &mut room,
+    )
+}
+
+/// A count of the indices that have an owner, over the words of a container.
+fn count<T: Words>(words: &mut Vec<u64>, capacity: u32, id: u64) -> usize
+    requires { Fits T.WORDS capacity words.old.items }
+    ensures { Turns (Fits T.WORDS capacity) (contents_in T.value_of T.WORDS capacity id) number
+        counted words.old.items result words.new.items }
+{
+    let _ = id;
+    let mut room = ();
+    drive(words, BorrowedIndices::new(capacity), &(), &mut room)
+}
+
+/// A look at the lock, over the words of a container.
+fn look<T: Words>(words: &mut Vec<u64>, capacity: u32, id: u64) -> bool
+    requires { Fits T.WORDS capacity words.old.items }
+    ensures { Turns (Fits T.WORDS capacity) (contents_in T.value_of T.WORDS capacity id) is_locked
+        (λ s. s) words.old.items result words.new.items }
+{
+    let _ = (id, capacity);
+    let mut room = ();
+    drive(words, IsLocked, &(), &mut room)
+}
+
+impl<T: Words> Container<T> {
+    /// Adds `value` for `owner` at the lowest index without an owner, and answers its handle. `IsLocked` where the
+    /// container is locked, `OutOfSpace` where each index has an owner or the generation is at its end; then nothing
+    /// changes.
+    pub fn add(&mut self, value: T, owner: OwnerId) -> Result<ContainerHandle, ContainerAddFailure>
+        ensures answer { result ≡ added self.old owner }
+        ensures map { self.new ≡ after_add self.old owner value }
+    {
+        let given = Owned { value, owner };
+        add::<T>(&mut self.words, self.capacity, self.id, &given)
+    }
+
+    /// Removes the value of `handle`, where its index is that of its owner, and gives the index back. Else, and where
+    /// it is the handle of another container or its index is not below the capacity,
+    /// `ContainerHandleNotOwnedByContainer`, and nothing changes. In mode `LockIfLastIndex` it locks the container where
+    /// no index has an owner then, unless its generation comes to its end: `Locked` where it is locked, else `Unlocked`.
+    pub fn remove(
+        &mut self,
+        handle: ContainerHandle,
+        mode: ReleaseMode,
+    ) -> Result<ReleaseState, ContainerRemoveError>
+        ensures answer { result ≡ removed self.old handle mode }
+        ensures map { self.new ≡ after_remove self.old handle mode }
+    {
+        if handle.container != self.id {
+            return Err(ContainerRemoveError::ContainerHandleNotOwnedByContainer);
+        }
+        remove::<T>(&mut self.words, self.capacity, handle, mode)
+    }
+
+    /// Puts `value` in the place of that of `handle`. It is refused as a remove is; then nothing changes.
+    pub fn replace(&mut self, handle: ContainerHandle, value: T) -> Result<(), ContainerRemoveError>
+        ensures answer { result ≡ replaced self.old handle }
+        ensures map { self.new ≡ after_replace self.old handle value }
+    {
+        if handle.container != self.id {
+            return Err(ContainerRemoveError::ContainerHandleNotOwnedByContainer);
+        }
+        replace::<T>(&mut self.words, self.capacity, handle, value)
+    }
+
+    /// How many indices have an owner, 0 where the container is locked. It raises the generation.
+    pub fn len(&mut self) -> usize
+        ensures answer { result ≡ number self.old }
+        ensures map { self.new ≡ counted self.old }
+    {
+        count::<T>(&mut self.words, self.capacity, self.id)
+    }
+
+    /// Whether no index has an owner, as `len` says. It raises the generation.
+    pub fn is_empty(&mut self) -> bool
+        ensures answer { result ≡ (number self.old == 0) }
+        ensures map { self.new ≡ counted self.old }
+    {
+        self.len() == 0
+    }
+
+    /// Whether the container is locked.
+    pub fn is_locked(&mut self) -> bool
+        ensures answer { result ≡ is_locked self.old }
+        ensures map { self.new ≡ self.old }
+    {
+        look::<T>(&mut self.words, self.capacity, self.id)
+    }
+
+    /// The capacity that it was made with.
+    pub fn capacity(&self) -> usize
+        ensures { result ≡ capacity self.now }
+    {
+        self.capacity as usize
+    }
+
+    /// A container of this capacity and number, with no value, and of generation 0. Its handles carry the number, by
+    /// which it tells them from those of others.
+    ///
+    /// Refused are, in this order, a capacity above 2^32 - 1 (`ProvidedCapacityGreaterThanMaxCapacity`), 0
+    /// (`ProvidedCapacityIsZero`) and memory (`NoMemory`).
+    pub fn new(
+        alloc: Global,
+        capacity: usize,
+        id: u64,
+    ) -> Result<Container<T>, UniqueIndexCreationError>
+        ensures map { IfOk result (λ s. s ≡ opened capacity id) }
+        ensures admitted { OnOk result (capacity_refusal 1 (2 ^ 32 - 1) capacity ≡ None) }
+        ensures refused { IfErr result (λ e. (capacity_refusal 1 (2 ^ 32 - 1) capacity ≡ Some e)
+            ⊎ (capacity_refusal 1 (2 ^ 32 - 1) capacity ≡ None) × (e ≡ NoMemory)) }
+    {
+        if let Some(error) = capacity_refusal(capacity as u64, 1, u32::MAX as u64) {
+            return Err(error);
+        }
+        let mut words = match Vec::from_elem(alloc, EMPTY, FIRST_CELL + capacity) {
+            Ok(words) => words,
+            Err(_) => return Err(UniqueIndexCreationError::NoMemory),
+        };
+        words[COUNTER] = 0;
+        if words
+            .resize(total_words(capacity as u32, T::WORDS as u8), 0)
+            .is_err()
+        {
+            return Err(UniqueIndexCreationError::NoMemory);
+        }
+        Ok(Container {
+            words,
+            capacity: capacity as u32,
+            id,
+            of: PhantomData,
+        })
+    }
+}
