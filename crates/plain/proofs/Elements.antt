@@ -1,4 +1,5 @@
 pub mod Adds
+pub mod Filled
 pub mod Handles
 pub mod Looks
 pub mod Opens

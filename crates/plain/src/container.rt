@@ -3,7 +3,7 @@ ghost use Rattle.std.specs.Prelude.{◌≡◌, ◌⊎◌, None, IfOk, IfErr, OnO
 ghost use Rattle.steps.specs.Enums.{capacity_refusal};
 ghost use Rattle.steps.specs.declared.enums.UniqueIndexCreationError.TheVariants.{NoMemory};
 ghost use Rattle.plain.specs.Alone.{Turns};
-ghost use Rattle.plain.specs.Contents.{Contents, opened, capacity, is_locked, number, counted, added, after_add, removed, after_remove, replaced, after_replace, contents_in, Fits};
+ghost use Rattle.plain.specs.Contents.{Contents, opened, capacity, is_locked, number, counted, added, after_add, removed, after_remove, replaced, after_replace, contents_in, Holds};
 
 use crate::drive::drive;
 use std::alloc::Global;
@@ -37,7 +37,7 @@ impl<T: Words> Model for Container<T> {
 
     ghost view = { λ s. contents_in T.value_of T.WORDS s.capacity s.id s.words.items };
 
-    ghost invariant = { λ s. Fits T.WORDS s.capacity s.words.items };
+    ghost invariant = { λ s. Holds T.value_of T.WORDS s.capacity s.id s.words.items };
 }
 
 /// An add, over the words of a container.
@@ -47,8 +47,8 @@ fn add<T: Words>(
     id: u64,
     given: &Owned<T>,
 ) -> Result<ContainerHandle, ContainerAddFailure>
-    requires { Fits T.WORDS capacity words.old.items }
-    ensures { Turns (Fits T.WORDS capacity) (contents_in T.value_of T.WORDS capacity id)
+    requires { Holds T.value_of T.WORDS capacity id words.old.items }
+    ensures { Turns (Holds T.value_of T.WORDS capacity id) (contents_in T.value_of T.WORDS capacity id)
         (λ s. added s given.now.owner) (λ s. after_add s given.now.owner given.now.value)
         words.old.items result words.new.items }
 {
@@ -71,8 +71,8 @@ fn remove<T: Words>(
     handle: ContainerHandle,
     mode: ReleaseMode,
 ) -> Result<ReleaseState, ContainerRemoveError>
-    requires { Fits T.WORDS capacity words.old.items }
-    ensures { Turns (Fits T.WORDS capacity)
+    requires { Holds T.value_of T.WORDS capacity handle.container words.old.items }
+    ensures { Turns (Holds T.value_of T.WORDS capacity handle.container)
         (contents_in T.value_of T.WORDS capacity handle.container)
         (λ s. removed s handle mode) (λ s. after_remove s handle mode)
         words.old.items result words.new.items }
@@ -99,8 +99,8 @@ fn replace<T: Words>(
     handle: ContainerHandle,
     value: T,
 ) -> Result<(), ContainerRemoveError>
-    requires { Fits T.WORDS capacity words.old.items }
-    ensures { Turns (Fits T.WORDS capacity)
+    requires { Holds T.value_of T.WORDS capacity handle.container words.old.items }
+    ensures { Turns (Holds T.value_of T.WORDS capacity handle.container)
         (contents_in T.value_of T.WORDS capacity handle.container)
         (λ s. replaced s handle) (λ s. after_replace s handle value)
         words.old.items result words.new.items }
@@ -122,8 +122,8 @@ fn replace<T: Words>(
 
 /// A count of the indices that have an owner, over the words of a container.
 fn count<T: Words>(words: &mut Vec<u64>, capacity: u32, id: u64) -> usize
-    requires { Fits T.WORDS capacity words.old.items }
-    ensures { Turns (Fits T.WORDS capacity) (contents_in T.value_of T.WORDS capacity id) number
+    requires { Holds T.value_of T.WORDS capacity id words.old.items }
+    ensures { Turns (Holds T.value_of T.WORDS capacity id) (contents_in T.value_of T.WORDS capacity id) number
         counted words.old.items result words.new.items }
 {
     let _ = id;
@@ -133,8 +133,8 @@ fn count<T: Words>(words: &mut Vec<u64>, capacity: u32, id: u64) -> usize
 
 /// A look at the lock, over the words of a container.
 fn look<T: Words>(words: &mut Vec<u64>, capacity: u32, id: u64) -> bool
-    requires { Fits T.WORDS capacity words.old.items }
-    ensures { Turns (Fits T.WORDS capacity) (contents_in T.value_of T.WORDS capacity id) is_locked
+    requires { Holds T.value_of T.WORDS capacity id words.old.items }
+    ensures { Turns (Holds T.value_of T.WORDS capacity id) (contents_in T.value_of T.WORDS capacity id) is_locked
         (λ s. s) words.old.items result words.new.items }
 {
     let _ = (id, capacity);
