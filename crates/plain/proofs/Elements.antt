@@ -6,4 +6,6 @@ pub mod Opens
 pub mod Removes
 pub mod Replaces
 pub mod Sets
+pub mod Snapshots
+pub mod Updates
 pub mod Values

@@ -1,5 +1,5 @@
 -- What a state of a container has seen of it, and shows.
-use Rattle.std.specs.Prelude.{◌≡◌, ◌==◌, ℕ, Option, None, List, length, map, replicate, slice_index, slice_index_or, if◌then◌else◌}
+use Rattle.std.specs.Prelude.{◌≡◌, ◌==◌, ℕ, Bool, true, false, not, Option, None, List, length, map, replicate, slice_index, slice_index_or, if◌then◌else◌}
 use Rattle.std.specs.List.{range_with_len}
 use Rattle.steps.specs.Container.State.{Numbers, value_shown}
 use Rattle.steps.specs.declared.container.state.ContainerState.{ContainerState}
@@ -55,7 +55,15 @@ module _ {V : Type 0} where
       if s.changes == seen.changes
       then seen
       else record {
-          changes = s.changes;
-          counts = s.counts;
-          values = map (value_then s seen) (range_with_len 0 (capacity s));
-        }
+        changes = s.changes;
+        counts = s.counts;
+        values = map (value_then s seen) (range_with_len 0 (capacity s));
+      }
+
+  -- a call brought the state up to date, and answered so
+  pub record Brought (s : Contents V) (old : ContainerState V) (answer : Bool) (new : ContainerState V) : Type 0 where
+    pub answers : answer ≡ not (s.changes == old.seen.change)
+    pub of : (new.container ≡ old.container) × (new.capacity ≡ old.capacity)
+    pub left : answer ≡ false → snapshot_of new ≡ snapshot_of old
+    pub shows : IsSettled old → old.capacity ≡ capacity s
+        → IsSettled new × (snapshot_of new ≡ updated s (snapshot_of old))

@@ -1,19 +1,22 @@
 //! The container of values of one caller.
-ghost use Rattle.std.specs.Prelude.{◌≡◌, ◌⊎◌, None, IfOk, IfErr, OnOk, ◌-◌, ◌==◌, ◌^◌, Some};
+ghost use Rattle.std.specs.Prelude.{◌≡◌, ◌⊎◌, ◌↔◌, IsTrue, IsFalse, not, None, IfOk, IfErr, OnOk, ◌-◌, ◌==◌, ◌^◌, Some};
 ghost use Rattle.steps.specs.Enums.{capacity_refusal};
 ghost use Rattle.steps.specs.declared.enums.UniqueIndexCreationError.TheVariants.{NoMemory};
 ghost use Rattle.plain.specs.Alone.{Turns};
 ghost use Rattle.plain.specs.Contents.{Contents, opened, capacity, is_locked, number, counted, added, after_add, removed, after_remove, replaced, after_replace, contents_in, Holds};
+ghost use Rattle.plain.specs.States.{snapshot_of, blank, IsStateOf, IsSettled, updated, Brought};
 
 use crate::drive::drive;
 use std::alloc::Global;
 use std::marker::{Model, PhantomData};
 use steps::container::add::{Add, Owned};
-use steps::container::enums::{ContainerAddFailure, ContainerRemoveError};
+use steps::container::enums::{ContainerAddFailure, ContainerRemoveError, ContainerStateError};
 use steps::container::handle::ContainerHandle;
 use steps::container::layout::total_words;
+use steps::container::look::Look;
 use steps::container::remove::Remove;
 use steps::container::replace::{Replace, Replacement};
+use steps::container::state::ContainerState;
 use steps::enums::{OwnerId, UniqueIndexCreationError, capacity_refusal};
 use steps::indices::enums::{ReleaseMode, ReleaseState};
 use steps::indices::robust::looks::{BorrowedIndices, IsLocked};
@@ -29,6 +32,7 @@ pub struct Container<T: Words> {
     words: Vec<u64>,
     capacity: u32,
     id: u64,
+    alloc: Global,
     of: PhantomData<T>,
 }
 
@@ -142,6 +146,31 @@ fn look<T: Words>(words: &mut Vec<u64>, capacity: u32, id: u64) -> bool
     drive(words, IsLocked, &(), &mut room)
 }
 
+/// A look of a state, over the words of its container.
+fn bring_up<T: Words>(
+    words: &mut Vec<u64>,
+    capacity: u32,
+    id: u64,
+    state: &mut ContainerState<T>,
+) -> bool
+    requires { Holds T.value_of T.WORDS capacity id words.old.items }
+    ensures words { words.new.items ≡ words.old.items }
+    ensures brought { Brought (contents_in T.value_of T.WORDS capacity id words.old.items)
+        state.old result state.new }
+{
+    let _ = id;
+    if drive(
+        words,
+        Look::<T>::new(capacity),
+        &state.seen,
+        &mut state.shown,
+    ) {
+        state.settle();
+        return true;
+    }
+    false
+}
+
 impl<T: Words> Container<T> {
     /// Adds `value` for `owner` at the lowest index without an owner, and answers its handle. `IsLocked` where the
     /// container is locked, `OutOfSpace` where each index has an owner or the generation is at its end; then nothing
@@ -207,6 +236,41 @@ impl<T: Words> Container<T> {
         look::<T>(&mut self.words, self.capacity, self.id)
     }
 
+    /// A state of the container: it shows the value at each index where one stands, or nothing where the number of changes
+    /// is 0. `NoMemory` where a state has no memory; then nothing was asked of the container.
+    pub fn get_state(&mut self) -> Result<ContainerState<T>, ContainerStateError>
+        ensures of { IfOk result (λ s. IsStateOf self.old s × IsSettled s) }
+        ensures shows { IfOk result
+            (λ s. snapshot_of s ≡ updated self.old (blank (capacity self.old))) }
+        ensures map { self.new ≡ self.old }
+    {
+        let mut state = ContainerState::new(self.alloc, self.id, self.capacity)?;
+        bring_up::<T>(&mut self.words, self.capacity, self.id, &mut state);
+        Ok(state)
+    }
+
+    /// Brings a state of this container up to date. False where no change was counted since it was brought up to date last;
+    /// it then shows what it showed. Else each index of which the number has changed since shows the value that stands there,
+    /// or none.
+    pub fn update_state(&mut self, state: &mut ContainerState<T>) -> bool
+        requires { IsStateOf self.old state.old }
+        ensures answer { result ≡ not (self.old.changes == state.old.seen.change) }
+        ensures of { IsStateOf self.new state.new }
+        ensures left { IsFalse result → snapshot_of state.new ≡ snapshot_of state.old }
+        ensures shows { IsSettled state.old → IsSettled state.new
+            × (snapshot_of state.new ≡ updated self.old (snapshot_of state.old)) }
+        ensures map { self.new ≡ self.old }
+    {
+        bring_up::<T>(&mut self.words, self.capacity, self.id, state)
+    }
+
+    /// Whether it is a state of this container: of its number and its capacity.
+    pub fn is_state_of(&self, state: &ContainerState<T>) -> bool
+        ensures { IsTrue result ↔ IsStateOf self.now state.now }
+    {
+        state.is_of(self.id, self.capacity)
+    }
+
     /// The capacity that it was made with.
     pub fn capacity(&self) -> usize
         ensures { result ≡ capacity self.now }
@@ -247,6 +311,7 @@ impl<T: Words> Container<T> {
             words,
             capacity: capacity as u32,
             id,
+            alloc,
             of: PhantomData,
         })
     }

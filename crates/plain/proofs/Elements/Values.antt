@@ -144,7 +144,8 @@ module _ {V : Type 0} (value_of : List ℕ → V) (size capacity : ℕ) where
     pub hides : Hides hidden
     hides =
         by_test Hides (is_even (slice_index words count_at)) _ _
-        (λ t. record { writes = record { long = refl; front = refl; changes = refl; others = λ j low ne. refl; counts = λ j low ne. refl };
+        (λ t. record {
+          writes = record { long = refl; front = refl; changes = refl; others = λ j low ne. refl; counts = λ j low ne. refl };
           even = t;
           count = sym (ap (λ b. if b then slice_index words count_at else one_more (slice_index words count_at)) t);
         })
