@@ -1,8 +1,11 @@
 pub mod Adds
+pub mod Filled
 pub mod Handles
 pub mod Looks
 pub mod Opens
 pub mod Removes
 pub mod Replaces
 pub mod Sets
+pub mod Snapshots
+pub mod Updates
 pub mod Values

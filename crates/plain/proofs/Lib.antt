@@ -5,6 +5,7 @@ pub mod Fronts
 pub mod Lists
 pub mod Places
 pub mod Robust
+pub mod Rooms
 pub mod Stacks
 pub mod Values
 pub mod Visits

@@ -1,5 +1,5 @@
 -- A container of one caller: a map from index to owner, and at each index a value or none.
-use Rattle.std.specs.Prelude.{◌≡◌, ◌≤◌, ◌<◌, ◌&&◌, ◌==◌, ℕ, ◌+◌, ◌^◌, Bool, Option, Some, None, Result, Ok, Err, List, length, map, take, replicate, slice_index, slice_set, if◌then◌else◌}
+use Rattle.std.specs.Prelude.{◌≡◌, ◌≤◌, ◌<◌, ◌&&◌, ◌==◌, ℕ, ◌+◌, ◌^◌, Bool, Option, Some, None, Result, Ok, Err, List, length, map, take, replicate, slice_index, slice_index_or, slice_set, if◌then◌else◌}
 use Rattle.std.specs.List.{range_with_len}
 use Rattle.steps.specs.Indices.Robust.Parts.{one_more}
 use Rattle.steps.specs.Container.Enums.{add_failure}
@@ -23,8 +23,14 @@ pub record Contents (V : Type 0) : Type 0 where
   pub owners : Owners
   -- the value at each index, if there is one
   pub values : List (Option V)
-  -- how often a value was added, replaced or removed, modulo 2^64
+  -- a number for each index, odd while a value stands there; a value that comes or goes adds 1, modulo 2^64
+  pub counts : List ℕ
+  -- how often a value was added, replaced or removed, or an owner recovered, modulo 2^64
   pub changes : ℕ
+
+-- the number of an index once what stood there has gone
+abbrev pub count_without : ℕ → ℕ
+count_without count = if is_even count then count else one_more count
 
 module _ {V : Type 0} where
   -- no owner and no value at any index
@@ -34,6 +40,7 @@ module _ {V : Type 0} where
         container = container;
         owners = owners.opened_at capacity 0;
         values = replicate capacity None;
+        counts = replicate capacity 0;
         changes = 0;
       }
 
@@ -47,8 +54,19 @@ module _ {V : Type 0} where
   abbrev pub number : Contents V → ℕ
   number s = owners.borrowed s.owners
 
+  -- each index that has an owner has a value
+  abbrev pub IsFilled : Contents V → Type 0
+  IsFilled s =
+      (index : ℕ) → slice_index_or s.values index None ≡ None
+      → slice_index_or s.owners.owners index None ≡ None
+
   abbrev pub counted : Contents V → Contents V
   counted s = record s { owners = owners.raised s.owners }
+
+  -- the number of an index once this value has come, or what stood there has gone
+  abbrev pub count_with : Option V → ℕ → ℕ
+  count_with None count = count_without count
+  count_with (Some value) count = one_more (count_without count)
 
   -- with these owners, and this value or none at the index
   abbrev pub changed : Contents V → Owners → ℕ → Option V → Contents V
@@ -57,6 +75,7 @@ module _ {V : Type 0} where
         container = s.container;
         owners = set;
         values = slice_set s.values index value;
+        counts = slice_set s.counts index (count_with value (slice_index s.counts index));
         changes = one_more s.changes;
       }
 
@@ -121,6 +140,9 @@ module _ {V : Type 0} (value_of : List ℕ → V) (size capacity : ℕ) where
   abbrev pub values_in : List ℕ → List (Option V)
   values_in words = map (value_at words) (range_with_len 0 capacity)
 
+  abbrev pub counts_in : List ℕ → List ℕ
+  counts_in words = map (λ i. slice_index words (count_word capacity i)) (range_with_len 0 capacity)
+
   -- the words of a robust set, then the changes, the numbers and the values
   abbrev pub contents_in : ℕ → List ℕ → Contents V
   contents_in container words =
@@ -128,6 +150,7 @@ module _ {V : Type 0} (value_of : List ℕ → V) (size capacity : ℕ) where
         container = container;
         owners = owners_in (take (1 + capacity) words);
         values = values_in words;
+        counts = counts_in words;
         changes = slice_index words (change_word capacity);
       }
 
@@ -136,3 +159,8 @@ pub record Fits (size capacity : ℕ) (words : List ℕ) : Type 0 where
   pub some : 1 ≤ capacity
   pub few : capacity < 2 ^ 32
   pub small : slice_index words 0 < 2 ^ 64
+
+-- the words of a container, where each index that has an owner has a value
+abbrev pub Holds : {V : Type 0} → (List ℕ → V) → ℕ → ℕ → ℕ → List ℕ → Type 0
+Holds value_of size capacity container words =
+    Fits size capacity words × IsFilled (contents_in value_of size capacity container words)

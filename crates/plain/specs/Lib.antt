@@ -5,6 +5,7 @@ pub mod Contents
 pub mod Overflowing
 pub mod Queues
 pub mod Robust
+pub mod States
 pub mod Unique
 pub mod Value
 pub mod Visits

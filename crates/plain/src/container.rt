@@ -1,19 +1,22 @@
 //! The container of values of one caller.
-ghost use Rattle.std.specs.Prelude.{◌≡◌, ◌⊎◌, None, IfOk, IfErr, OnOk, ◌-◌, ◌==◌, ◌^◌, Some};
+ghost use Rattle.std.specs.Prelude.{◌≡◌, ◌⊎◌, ◌↔◌, IsTrue, IsFalse, not, None, IfOk, IfErr, OnOk, ◌-◌, ◌==◌, ◌^◌, Some};
 ghost use Rattle.steps.specs.Enums.{capacity_refusal};
 ghost use Rattle.steps.specs.declared.enums.UniqueIndexCreationError.TheVariants.{NoMemory};
 ghost use Rattle.plain.specs.Alone.{Turns};
-ghost use Rattle.plain.specs.Contents.{Contents, opened, capacity, is_locked, number, counted, added, after_add, removed, after_remove, replaced, after_replace, contents_in, Fits};
+ghost use Rattle.plain.specs.Contents.{Contents, opened, capacity, is_locked, number, counted, added, after_add, removed, after_remove, replaced, after_replace, contents_in, Holds};
+ghost use Rattle.plain.specs.States.{snapshot_of, blank, IsStateOf, IsSettled, updated, Brought};
 
 use crate::drive::drive;
 use std::alloc::Global;
 use std::marker::{Model, PhantomData};
 use steps::container::add::{Add, Owned};
-use steps::container::enums::{ContainerAddFailure, ContainerRemoveError};
+use steps::container::enums::{ContainerAddFailure, ContainerRemoveError, ContainerStateError};
 use steps::container::handle::ContainerHandle;
 use steps::container::layout::total_words;
+use steps::container::look::Look;
 use steps::container::remove::Remove;
 use steps::container::replace::{Replace, Replacement};
+use steps::container::state::ContainerState;
 use steps::enums::{OwnerId, UniqueIndexCreationError, capacity_refusal};
 use steps::indices::enums::{ReleaseMode, ReleaseState};
 use steps::indices::robust::looks::{BorrowedIndices, IsLocked};
@@ -29,6 +32,7 @@ pub struct Container<T: Words> {
     words: Vec<u64>,
     capacity: u32,
     id: u64,
+    alloc: Global,
     of: PhantomData<T>,
 }
 
@@ -37,7 +41,7 @@ impl<T: Words> Model for Container<T> {
 
     ghost view = { λ s. contents_in T.value_of T.WORDS s.capacity s.id s.words.items };
 
-    ghost invariant = { λ s. Fits T.WORDS s.capacity s.words.items };
+    ghost invariant = { λ s. Holds T.value_of T.WORDS s.capacity s.id s.words.items };
 }
 
 /// An add, over the words of a container.
@@ -47,8 +51,8 @@ fn add<T: Words>(
     id: u64,
     given: &Owned<T>,
 ) -> Result<ContainerHandle, ContainerAddFailure>
-    requires { Fits T.WORDS capacity words.old.items }
-    ensures { Turns (Fits T.WORDS capacity) (contents_in T.value_of T.WORDS capacity id)
+    requires { Holds T.value_of T.WORDS capacity id words.old.items }
+    ensures { Turns (Holds T.value_of T.WORDS capacity id) (contents_in T.value_of T.WORDS capacity id)
         (λ s. added s given.now.owner) (λ s. after_add s given.now.owner given.now.value)
         words.old.items result words.new.items }
 {
@@ -71,8 +75,8 @@ fn remove<T: Words>(
     handle: ContainerHandle,
     mode: ReleaseMode,
 ) -> Result<ReleaseState, ContainerRemoveError>
-    requires { Fits T.WORDS capacity words.old.items }
-    ensures { Turns (Fits T.WORDS capacity)
+    requires { Holds T.value_of T.WORDS capacity handle.container words.old.items }
+    ensures { Turns (Holds T.value_of T.WORDS capacity handle.container)
         (contents_in T.value_of T.WORDS capacity handle.container)
         (λ s. removed s handle mode) (λ s. after_remove s handle mode)
         words.old.items result words.new.items }
@@ -99,8 +103,8 @@ fn replace<T: Words>(
     handle: ContainerHandle,
     value: T,
 ) -> Result<(), ContainerRemoveError>
-    requires { Fits T.WORDS capacity words.old.items }
-    ensures { Turns (Fits T.WORDS capacity)
+    requires { Holds T.value_of T.WORDS capacity handle.container words.old.items }
+    ensures { Turns (Holds T.value_of T.WORDS capacity handle.container)
         (contents_in T.value_of T.WORDS capacity handle.container)
         (λ s. replaced s handle) (λ s. after_replace s handle value)
         words.old.items result words.new.items }
@@ -122,8 +126,8 @@ fn replace<T: Words>(
 
 /// A count of the indices that have an owner, over the words of a container.
 fn count<T: Words>(words: &mut Vec<u64>, capacity: u32, id: u64) -> usize
-    requires { Fits T.WORDS capacity words.old.items }
-    ensures { Turns (Fits T.WORDS capacity) (contents_in T.value_of T.WORDS capacity id) number
+    requires { Holds T.value_of T.WORDS capacity id words.old.items }
+    ensures { Turns (Holds T.value_of T.WORDS capacity id) (contents_in T.value_of T.WORDS capacity id) number
         counted words.old.items result words.new.items }
 {
     let _ = id;
@@ -133,13 +137,38 @@ fn count<T: Words>(words: &mut Vec<u64>, capacity: u32, id: u64) -> usize
 
 /// A look at the lock, over the words of a container.
 fn look<T: Words>(words: &mut Vec<u64>, capacity: u32, id: u64) -> bool
-    requires { Fits T.WORDS capacity words.old.items }
-    ensures { Turns (Fits T.WORDS capacity) (contents_in T.value_of T.WORDS capacity id) is_locked
+    requires { Holds T.value_of T.WORDS capacity id words.old.items }
+    ensures { Turns (Holds T.value_of T.WORDS capacity id) (contents_in T.value_of T.WORDS capacity id) is_locked
         (λ s. s) words.old.items result words.new.items }
 {
     let _ = (id, capacity);
     let mut room = ();
     drive(words, IsLocked, &(), &mut room)
+}
+
+/// A look of a state, over the words of its container.
+fn bring_up<T: Words>(
+    words: &mut Vec<u64>,
+    capacity: u32,
+    id: u64,
+    state: &mut ContainerState<T>,
+) -> bool
+    requires { Holds T.value_of T.WORDS capacity id words.old.items }
+    ensures words { words.new.items ≡ words.old.items }
+    ensures brought { Brought (contents_in T.value_of T.WORDS capacity id words.old.items)
+        state.old result state.new }
+{
+    let _ = id;
+    if drive(
+        words,
+        Look::<T>::new(capacity),
+        &state.seen,
+        &mut state.shown,
+    ) {
+        state.settle();
+        return true;
+    }
+    false
 }
 
 impl<T: Words> Container<T> {
@@ -207,6 +236,41 @@ impl<T: Words> Container<T> {
         look::<T>(&mut self.words, self.capacity, self.id)
     }
 
+    /// A state of the container: it shows the value at each index where one stands, or nothing where the number of changes
+    /// is 0. `NoMemory` where a state has no memory; then nothing was asked of the container.
+    pub fn get_state(&mut self) -> Result<ContainerState<T>, ContainerStateError>
+        ensures of { IfOk result (λ s. IsStateOf self.old s × IsSettled s) }
+        ensures shows { IfOk result
+            (λ s. snapshot_of s ≡ updated self.old (blank (capacity self.old))) }
+        ensures map { self.new ≡ self.old }
+    {
+        let mut state = ContainerState::new(self.alloc, self.id, self.capacity)?;
+        bring_up::<T>(&mut self.words, self.capacity, self.id, &mut state);
+        Ok(state)
+    }
+
+    /// Brings a state of this container up to date. False where no change was counted since it was brought up to date last;
+    /// it then shows what it showed. Else each index of which the number has changed since shows the value that stands there,
+    /// or none.
+    pub fn update_state(&mut self, state: &mut ContainerState<T>) -> bool
+        requires { IsStateOf self.old state.old }
+        ensures answer { result ≡ not (self.old.changes == state.old.seen.change) }
+        ensures of { IsStateOf self.new state.new }
+        ensures left { IsFalse result → snapshot_of state.new ≡ snapshot_of state.old }
+        ensures shows { IsSettled state.old → IsSettled state.new
+            × (snapshot_of state.new ≡ updated self.old (snapshot_of state.old)) }
+        ensures map { self.new ≡ self.old }
+    {
+        bring_up::<T>(&mut self.words, self.capacity, self.id, state)
+    }
+
+    /// Whether it is a state of this container: of its number and its capacity.
+    pub fn is_state_of(&self, state: &ContainerState<T>) -> bool
+        ensures { IsTrue result ↔ IsStateOf self.now state.now }
+    {
+        state.is_of(self.id, self.capacity)
+    }
+
     /// The capacity that it was made with.
     pub fn capacity(&self) -> usize
         ensures { result ≡ capacity self.now }
@@ -247,6 +311,7 @@ impl<T: Words> Container<T> {
             words,
             capacity: capacity as u32,
             id,
+            alloc,
             of: PhantomData,
         })
     }

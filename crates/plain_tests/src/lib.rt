@@ -12,4 +12,6 @@ mod robust;
 #[cfg(test)]
 mod sets;
 #[cfg(test)]
+mod states;
+#[cfg(test)]
 mod values;

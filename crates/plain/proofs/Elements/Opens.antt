@@ -31,11 +31,11 @@ front_word [] ys i low = absurd (omega arith)
 front_word (x ∷ xs) ys zero low = refl
 front_word (x ∷ xs) ys (suc i) low = front_word xs ys i (omega arith)
 
-none_there : {V : Type 0} (f : ℕ → Option V) (n a : ℕ) → ((i : ℕ) → f i ≡ None)
-    → map f (range_with_len a n) ≡ replicate n None
-none_there f zero a h = refl
-none_there f (suc n) a h =
-    let head = h a in let tail = none_there f n (a + 1) h in λ i. head i ∷ tail i
+same_there : {X : Type 0} (x : X) (f : ℕ → X) (n a : ℕ) → ((i : ℕ) → f i ≡ x)
+    → map f (range_with_len a n) ≡ replicate n x
+same_there x f zero a h = refl
+same_there x f (suc n) a h =
+    let head = h a in let tail = same_there x f n (a + 1) h in λ i. head i ∷ tail i
 
 module _ {V : Type 0} (value_of : List ℕ → V) (size capacity container : ℕ)
     (set more : List ℕ) (number : ℕ)
@@ -56,10 +56,11 @@ module _ {V : Type 0} (value_of : List ℕ → V) (size capacity container : ℕ
       let set_opens : owners_in (take (1 + capacity) more) ≡ opened_at capacity 0 =
       ap (λ ws. owners_in (take (1 + capacity) ws)) more_is
       ∙ (ap owners_in (take_front front (replicate number 0) (1 + capacity) front_long) ∙ opens set capacity 0 set_is) in
-      let none = none_there (value_at value_of size capacity more) capacity 0
+      let none = same_there None (value_at value_of size capacity more) capacity 0
       (λ i. ap (λ n. if is_even n then None else Some (value_of (words_from more (element_word capacity size i 0) size))) (zeros (count_word capacity i) (omega arith))) in
+      let counts = same_there 0 (λ i. slice_index more (count_word capacity i)) capacity 0 (λ i. zeros (count_word capacity i) (omega arith)) in
       let changes = zeros (change_word capacity) (omega arith) in
-      λ i. record { container = container; owners = set_opens i; values = none i; changes = changes i }
+      λ i. record { container = container; owners = set_opens i; values = none i; counts = counts i; changes = changes i }
 
 grown : {A B : Type 0} (r : Result A B) (old new : List ℕ) (n m : ℕ)
     → new ≡ (if is_ok r then take n old ++ replicate (n - m) 0 else old) → is_err r ≡ false

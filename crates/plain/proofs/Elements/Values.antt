@@ -3,6 +3,7 @@ use Rattle.std.proofs.Common.{◌≡◌, ◌≢◌, ℕ, zero, suc, ◌+◌, ◌
 use Rattle.std.proofs.Math.Nat.{mul-le-mul_left}
 use Rattle.std.proofs.lemmas.Bool.{cases_lt}
 use Rattle.std.proofs.lemmas.List.{take-set-le}
+use Rattle.std.proofs.lemmas.List.FromFn.{get_or-map-range_with_len}
 use Rattle.steps.specs.Picks.{by_test}
 use Rattle.steps.specs.Indices.Robust.Parts.{one_more}
 use Rattle.steps.specs.Container.Layout.{change_word, count_word, element_word, total_words, is_even}
@@ -11,7 +12,7 @@ use Rattle.steps.specs.Queues.Ring.{word_at}
 use Rattle.plain.specs.Queues.{words_from}
 use Rattle.plain.specs.Robust as robust
 use Rattle.plain.specs.Robust.{owners_in}
-use Rattle.plain.specs.Contents.{Contents, changed, value_at, values_in, contents_in, Fits}
+use Rattle.plain.specs.Contents.{Contents, count_without, count_with, changed, value_at, values_in, counts_in, contents_in, Fits}
 use Rattle.plain.proofs.Fronts.{Behind}
 use Rattle.plain.proofs.Places.Flags.{map_same, map_changed_within}
 use Rattle.plain.proofs.Words.{words_same, words_all, stored, stored_length, stored_other, stored_words}
@@ -75,8 +76,10 @@ module _ {V : Type 0} (value_of : List ℕ → V) (size capacity : ℕ) where
       ≡ record (contents_in value_of size capacity container ws) { owners = owners_in (take (1 + capacity) vs) }
   behind_contents container ws vs h =
       let values = behind_values ws vs h in
+      let counts = map_same (λ j. slice_index ws (count_word capacity j)) (λ j. slice_index vs (count_word capacity j)) capacity 0
+      (λ j low high. h.same (count_word capacity j) (omega arith)) in
       let changes = h.same (change_word capacity) (omega arith) in
-      λ i. record { container = container; owners = owners_in (take (1 + capacity) vs); values = values i; changes = changes i }
+      λ i. record { container = container; owners = owners_in (take (1 + capacity) vs); values = values i; counts = counts i; changes = changes i }
 
   pub behind_fits : (ws vs : List ℕ) → Behind (1 + capacity) ws vs → Fits size capacity ws
       → robust.Fits capacity (take (1 + capacity) vs) → Fits size capacity vs
@@ -116,6 +119,14 @@ module _ {V : Type 0} (value_of : List ℕ → V) (size capacity : ℕ) where
       pub changes : slice_index later (change_word capacity) ≡ slice_index words (change_word capacity)
       pub others : (j : ℕ) → j < capacity → j ≢ index
           → value_at value_of size capacity later j ≡ value_at value_of size capacity words j
+      pub counts : (j : ℕ) → j < capacity → j ≢ index
+          → slice_index later (count_word capacity j) ≡ slice_index words (count_word capacity j)
+
+    -- this value or none stands there now, under its number
+    abbrev pub Stands : List ℕ → Option V → Type 0
+    Stands later o =
+        (value_at value_of size capacity later index ≡ o)
+        × (slice_index later count_at ≡ count_with o (slice_index words count_at))
 
     -- ---- it goes
 
@@ -128,11 +139,16 @@ module _ {V : Type 0} (value_of : List ℕ → V) (size capacity : ℕ) where
     pub record Hides (later : List ℕ) : Type 0 where
       pub writes : Writes later
       pub even : is_even (slice_index later count_at) ≡ true
+      pub count : slice_index later count_at ≡ count_without (slice_index words count_at)
 
     pub hides : Hides hidden
     hides =
         by_test Hides (is_even (slice_index words count_at)) _ _
-        (λ t. record { writes = record { long = refl; front = refl; changes = refl; others = λ j low ne. refl }; even = t })
+        (λ t. record {
+          writes = record { long = refl; front = refl; changes = refl; others = λ j low ne. refl; counts = λ j low ne. refl };
+          even = t;
+          count = sym (ap (λ b. if b then slice_index words count_at else one_more (slice_index words count_at)) t);
+        })
         (λ t.
         let n = slice_index words count_at in
         let is : slice_index (slice_set words count_at (one_more n)) count_at ≡ one_more n = get_or-set_same words count_at (one_more n) 0 within in
@@ -144,8 +160,10 @@ module _ {V : Type 0} (value_of : List ℕ → V) (size capacity : ℕ) where
             others = λ j low ne. value_same words (slice_set words count_at (one_more n)) j
                 (get_or-set_other words count_at (count_word capacity j) (one_more n) 0 (λ e. ne (omega arith)))
                 (λ k from below. get_or-set_other words count_at k (one_more n) 0 (λ e. absurd (omega arith)));
+            counts = λ j low ne. get_or-set_other words count_at (count_word capacity j) (one_more n) 0 (λ e. ne (omega arith));
           };
           even = ap is_even is ∙ odd_next n t;
+          count = is ∙ sym (ap (λ b. if b then n else one_more n) t);
         })
 
     -- ---- another comes
@@ -194,7 +212,7 @@ module _ {V : Type 0} (value_of : List ℕ → V) (size capacity : ℕ) where
 
       pub record Shows (later : List ℕ) : Type 0 where
         pub writes : Writes later
-        pub here : value_at value_of size capacity later index ≡ Some value
+        pub here : Stands later (Some value)
 
       pub shows : Shows shown
       shows =
@@ -213,9 +231,14 @@ module _ {V : Type 0} (value_of : List ℕ → V) (size capacity : ℕ) where
                   (λ k from below. get_or-set_other filled count_at k n 0 (λ e. absurd (omega arith))
                   ∙ fills_not k (beside j k ne from below))
                   ∙ h.writes.others j low ne;
+              counts = λ j low ne. get_or-set_other filled count_at (count_word capacity j) n 0 (λ e. ne (omega arith))
+                  ∙ fills_not (count_word capacity j) (inl (omega arith)) ∙ h.writes.counts j low ne;
             };
-            here = ap (λ b. if b then None else Some (value_of (words_from shown cell size))) odd
-                ∙ ap Some (ap value_of words_are ∙ is);
+            here = (
+              ap (λ b. if b then None else Some (value_of (words_from shown cell size))) odd
+                  ∙ ap Some (ap value_of words_are ∙ is),
+              count_is ∙ ap one_more h.count,
+            );
           }
 
     -- ---- and the number of changes goes up
@@ -236,7 +259,7 @@ module _ {V : Type 0} (value_of : List ℕ → V) (size capacity : ℕ) where
           small = subst (λ n. n < 2 ^ 64) (sym (get_or-set_other later (change_word capacity) 0 _ 0 (λ e. absurd (omega arith)) ∙ head)) fits.small;
         }
 
-    pub change_contents : (container : ℕ) (later : List ℕ) (o : Option V) → Writes later → value_at value_of size capacity later index ≡ o
+    pub change_contents : (container : ℕ) (later : List ℕ) (o : Option V) → Writes later → Stands later o
         → contents_in value_of size capacity container (after_change later)
         ≡ changed (contents_in value_of size capacity container words) (owners_in (take (1 + capacity) words)) index o
     change_contents container later o w here =
@@ -251,9 +274,16 @@ module _ {V : Type 0} (value_of : List ℕ → V) (size capacity : ℕ) where
         (get_or-set_other later (change_word capacity) (count_word capacity j) c 0 (λ e. absurd (omega arith)))
         (λ k from below. get_or-set_other later (change_word capacity) k c 0 (λ e. absurd (omega arith))) in
         let values = map_changed_within (value_at value_of size capacity words) (value_at value_of size capacity (after_change later)) o capacity 0 index index near (omega arith)
-        (stays index near ∙ here) (λ j from below ne. stays j (omega arith) ∙ w.others j (omega arith) ne) in
-        λ i. record { container = container; owners = owners_in (front i); values = values i; changes = changes i }
+        (stays index near ∙ here.0) (λ j from below ne. stays j (omega arith) ∙ w.others j (omega arith) ne) in
+        let kept : (j : ℕ) → j < capacity → slice_index (after_change later) (count_word capacity j) ≡ slice_index later (count_word capacity j) =
+        λ j low. get_or-set_other later (change_word capacity) (count_word capacity j) c 0 (λ e. absurd (omega arith)) in
+        let before : slice_index (counts_in value_of size capacity words) index ≡ slice_index words (count_word capacity index) =
+        get_or-map-range_with_len (λ j. slice_index words (count_word capacity j)) 0 capacity index index 0 near (omega arith) in
+        let counts = map_changed_within (λ j. slice_index words (count_word capacity j)) (λ j. slice_index (after_change later) (count_word capacity j))
+        (count_with o (slice_index (counts_in value_of size capacity words) index)) capacity 0 index index near (omega arith)
+        (kept index near ∙ here.1 ∙ ap (count_with o) (sym before)) (λ j from below ne. kept j (omega arith) ∙ w.counts j (omega arith) ne) in
+        λ i. record { container = container; owners = owners_in (front i); values = values i; counts = counts i; changes = changes i }
 
     -- where it has gone
-    pub gone : (later : List ℕ) → Hides later → value_at value_of size capacity later index ≡ None
-    gone later h = ap (λ b. if b then None else Some (value_of (words_from later cell size))) h.even
+    pub gone : (later : List ℕ) → Hides later → Stands later None
+    gone later h = (ap (λ b. if b then None else Some (value_of (words_from later cell size))) h.even, h.count)

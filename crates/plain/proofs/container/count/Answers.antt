@@ -1,14 +1,18 @@
 use Rattle.plain.proofs.Alone.{can_end, ends_so}
 use Rattle.plain.proofs.Elements.Looks.{count_at}
+use Rattle.plain.proofs.Elements.Filled.{still, filled_counted}
+use Rattle.plain.specs.Contents.{number, counted, contents_in}
 use Rattle.plain.proofs.container.count.Goals as goal
 
 pub drive-requires : goal.drive-requires
 drive-requires g c = record {
   ends = can_end _ _ _ _ _ _ _ _
-      (count_at g.T.Words.value_of g.T.Words.WORDS c.args.capacity c.args.id c.new.result c.new.ensures c.args.words.now.items c.requires);
+      (count_at g.T.Words.value_of g.T.Words.WORDS c.args.capacity c.args.id c.new.result c.new.ensures c.args.words.now.items c.requires.0);
 }
 
 pub returns : goal.returns
-returns g c = ends_so _ _ _ _ _ _ _ _
-    (count_at g.T.Words.value_of g.T.Words.WORDS c.args.capacity c.args.id c.new.result c.new.ensures c.args.words.now.items c.requires)
-    _ _ _ c.drive.ensures.alone
+returns g c =
+    still g.T.Words.value_of g.T.Words.WORDS c.args.capacity c.args.id (number) (counted) c.args.words.now.items (filled_counted (contents_in g.T.Words.value_of g.T.Words.WORDS c.args.capacity c.args.id c.args.words.now.items) c.requires.1) _ _
+    (ends_so _ _ _ _ _ _ _ _
+    (count_at g.T.Words.value_of g.T.Words.WORDS c.args.capacity c.args.id c.new.result c.new.ensures c.args.words.now.items c.requires.0)
+    _ _ _ c.drive.ensures.alone)

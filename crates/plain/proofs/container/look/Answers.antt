@@ -1,14 +1,18 @@
 use Rattle.plain.proofs.Alone.{can_end, ends_so}
 use Rattle.plain.proofs.Elements.Looks.{look_at}
+use Rattle.plain.proofs.Elements.Filled.{still}
+use Rattle.plain.specs.Contents.{is_locked}
 use Rattle.plain.proofs.container.look.Goals as goal
 
 pub drive-requires : goal.drive-requires
 drive-requires g c = record {
   ends = can_end _ _ _ _ _ _ _ _
-      (look_at g.T.Words.value_of g.T.Words.WORDS c.args.capacity c.args.id _ c.args.words.now.items c.requires);
+      (look_at g.T.Words.value_of g.T.Words.WORDS c.args.capacity c.args.id _ c.args.words.now.items c.requires.0);
 }
 
 pub returns : goal.returns
-returns g c = ends_so _ _ _ _ _ _ _ _
-    (look_at g.T.Words.value_of g.T.Words.WORDS c.args.capacity c.args.id _ c.args.words.now.items c.requires)
-    _ _ _ c.drive.ensures.alone
+returns g c =
+    still g.T.Words.value_of g.T.Words.WORDS c.args.capacity c.args.id (is_locked) (λ s. s) c.args.words.now.items (c.requires.1) _ _
+    (ends_so _ _ _ _ _ _ _ _
+    (look_at g.T.Words.value_of g.T.Words.WORDS c.args.capacity c.args.id _ c.args.words.now.items c.requires.0)
+    _ _ _ c.drive.ensures.alone)

@@ -1,0 +1,114 @@
+-- Each index that has an owner keeps a value.
+use Rattle.std.proofs.Common.{◌≡◌, ◌≢◌, ℕ, zero, suc, ◌<◌, ⊎_elim, Bool, true, false, ◌==◌, List, [], ◌∷◌, length, take, Option, Some, None, Result, Ok, Err, refl, sym, ap, subst, ◌∙◌, arith, slice_set, get_or-set_same, get_or-set_other}
+use Rattle.std.specs.Prelude.{slice_index_or, replicate, ◌+◌, ◌&&◌, not, if◌then◌else◌}
+use Rattle.std.proofs.lemmas.Bool.Decides.{eqb_tells}
+use Rattle.std.proofs.lemmas.List.FromFn.{length-map-range_with_len}
+use Rattle.steps.specs.Picks.{by_test}
+use Rattle.steps.specs.declared.container.handle.ContainerHandle.{ContainerHandle}
+use Rattle.steps.specs.declared.indices.enums.ReleaseMode.{ReleaseMode}
+use Rattle.steps.specs.declared.indices.enums.ReleaseMode.TheVariants.{LockIfLastIndex, Default}
+use Rattle.steps.specs.declared.indices.enums.UniqueIndexSetAcquireFailure.{UniqueIndexSetAcquireFailure}
+use Rattle.steps.specs.Objects.Owners.{Owners, acquired, granted, without, raised, the_end, the_lock, taken, given_back}
+use Rattle.plain.specs.Alone.{Turns}
+use Rattle.plain.specs.Contents.{Contents, opened, changed, names, put_at, after_add, after_remove, after_replace, counted, value_at, contents_in, IsFilled, Fits, Holds}
+use Rattle.plain.proofs.Elements.Adds.{acquired_low, owners_long}
+use Rattle.plain.proofs.Elements.Values.{front_fits}
+
+abbrev IsSome : {X : Type 0} → Option X → Type 0
+IsSome (Some x) = Unit {0}
+IsSome None = ⊥
+
+abbrev nothing : {X : Type 0} → Option X
+nothing = None
+
+none_in : {X : Type 0} (n i : ℕ) → slice_index_or (replicate n (nothing {X = X})) i None ≡ None
+none_in zero i = refl
+none_in (suc n) zero = refl
+none_in (suc n) (suc i) = none_in n i
+
+-- what has come is there
+was_none : {X : Type 0} (l : List (Option X)) (i j : ℕ) (x : X)
+    → slice_index_or (slice_set l i (Some x)) j None ≡ None → slice_index_or l j None ≡ None
+was_none [] i j x h = refl
+was_none (y ∷ l) zero zero x h = absurd (subst IsSome h tt)
+was_none (y ∷ l) zero (suc j) x h = h
+was_none (y ∷ l) (suc i) zero x h = h
+was_none (y ∷ l) (suc i) (suc j) x h = was_none l i j x h
+
+gone_there : {X : Type 0} (l : List (Option X)) (i : ℕ) → slice_index_or (slice_set l i None) i None ≡ None
+gone_there [] i = refl
+gone_there (y ∷ l) zero = refl
+gone_there (y ∷ l) (suc i) = gone_there l i
+
+pub given_owners : (mode : ReleaseMode) (s : Owners) (i : ℕ) → (given_back mode s i).owners ≡ slice_set s.owners i None
+given_owners Default s i = refl
+given_owners LockIfLastIndex s i =
+    by_test (λ (o : Owners). o.owners ≡ slice_set s.owners i None)
+    ((length (taken (without s i)) == 0) && not ((raised (without s i)).generation == the_end)) _ _ (λ _. refl) (λ _. refl)
+
+module _ {V : Type 0} where
+  pub filled_opened : (capacity container : ℕ) → IsFilled (opened {V = V} capacity container)
+  filled_opened capacity container i h = none_in capacity i
+
+  pub filled_counted : (s : Contents V) → IsFilled s → IsFilled (counted s)
+  filled_counted s h = h
+
+  -- an index goes, and its value
+  pub filled_gone : (s new : Contents V) (i : ℕ) → new.values ≡ slice_set s.values i None
+      → new.owners.owners ≡ slice_set s.owners.owners i None → IsFilled s → IsFilled new
+  filled_gone s new i values owners h j none =
+      ap (λ l. slice_index_or l j None) owners
+      ∙ ⊎_elim
+      (λ (t : ((j == i) ≡ true) × (j ≡ i)).
+      ap (λ k. slice_index_or (slice_set s.owners.owners i None) k None) t.1 ∙ gone_there s.owners.owners i)
+      (λ (t : ((j == i) ≡ false) × (j ≢ i)).
+      get_or-set_other s.owners.owners i j None None t.1
+      ∙ h j (sym (get_or-set_other s.values i j None None t.1) ∙ (sym (ap (λ l. slice_index_or l j None) values) ∙ none)))
+      (eqb_tells j i)
+
+  put : (s : Contents V) (owner : ℕ) (value : V) (i : ℕ) → i < length s.values → IsFilled s → IsFilled (put_at s owner value (Ok i))
+  put s owner value i low h j none =
+      ⊎_elim
+      (λ (t : ((j == i) ≡ true) × (j ≡ i)).
+      absurd (subst IsSome (sym (ap (λ k. slice_index_or (slice_set s.values i (Some value)) k None) t.1 ∙ get_or-set_same s.values i (Some value) None low) ∙ none) tt))
+      (λ (t : ((j == i) ≡ false) × (j ≢ i)).
+      get_or-set_other s.owners.owners i j (Some owner) None t.1
+      ∙ h j (sym (get_or-set_other s.values i j (Some value) None t.1) ∙ none))
+      (eqb_tells j i)
+
+  added : (s : Contents V) (owner : ℕ) (value : V) → length s.values ≡ length s.owners.owners → IsFilled s
+      → (r : Result ℕ UniqueIndexSetAcquireFailure) → r ≡ acquired s.owners → IsFilled (put_at s owner value r)
+  added s owner value long h (Ok i) is = let low = acquired_low s.owners i is in put s owner value i (omega arith) h
+  added s owner value long h (Err e) is = h
+
+  pub filled_add : (owner : ℕ) (value : V) (s : Contents V) → length s.values ≡ length s.owners.owners → IsFilled s
+      → IsFilled (after_add s owner value)
+  filled_add owner value s long h = added s owner value long h (acquired s.owners) refl
+
+  pub filled_remove : (handle : ContainerHandle) (mode : ReleaseMode) (s : Contents V) → IsFilled s
+      → IsFilled (after_remove s handle mode)
+  filled_remove handle mode s h =
+      by_test IsFilled (names s handle) _ _
+      (λ _. filled_gone s (changed s (given_back mode s.owners handle.index) handle.index None) handle.index refl (given_owners mode s.owners handle.index) h)
+      (λ _. h)
+
+  pub filled_replace : (handle : ContainerHandle) (value : V) (s : Contents V) → IsFilled s
+      → IsFilled (after_replace s handle value)
+  filled_replace handle value s h =
+      by_test IsFilled (names s handle) _ _
+      (λ _ j none. h j (was_none s.values handle.index j value none))
+      (λ _. h)
+
+-- a turn of the words keeps them so
+pub still : {V A : Type 0} (value_of : List ℕ → V) (size capacity container : ℕ) (answer : Contents V → A) (next : Contents V → Contents V)
+    (words : List ℕ) → IsFilled (next (contents_in value_of size capacity container words)) → (a : A) (last : List ℕ)
+    → Turns (Fits size capacity) (contents_in value_of size capacity container) answer next words a last
+    → Turns (Holds value_of size capacity container) (contents_in value_of size capacity container) answer next words a last
+still value_of size capacity container answer next words filled a last t =
+    ((t.0, subst IsFilled (sym t.2) filled), t.1, t.2)
+
+pub values_long : {V : Type 0} (value_of : List ℕ → V) (size capacity container : ℕ) (words : List ℕ) → Fits size capacity words
+    → length (contents_in value_of size capacity container words).values ≡ length (contents_in value_of size capacity container words).owners.owners
+values_long value_of size capacity container words fits =
+    length-map-range_with_len (value_at value_of size capacity words) 0 capacity
+    ∙ sym (owners_long capacity (take (1 + capacity) words) (front_fits value_of size capacity words fits))

@@ -1,0 +1,168 @@
+-- What a state shows after a look.
+use Rattle.std.proofs.Common.{◌≡◌, ◌≢◌, ⊎_elim, ℕ, zero, suc, ◌+◌, ◌<◌, ◌≤◌, Bool, true, false, not, ◌==◌, List, [], ◌∷◌, length, take, map, Option, Some, None, refl, sym, ap, subst, ◌∙◌, arith, slice_index, if◌then◌else◌, true≢false}
+use Rattle.std.specs.Prelude.{slice_get, slice_index_or, replicate}
+use Rattle.std.specs.List.{range_with_len}
+use Rattle.std.proofs.lemmas.Bool.Decides.{eqb_tells}
+use Rattle.std.proofs.lemmas.List.{ext_get_or, length-map, length-replicate}
+use Rattle.std.proofs.lemmas.List.FromFn.{get_or-map-range_with_len, length-map-range_with_len}
+use Rattle.steps.specs.Container.Layout.{change_word, count_word}
+use Rattle.steps.specs.Container.State.{Numbers, Showing, value_shown, with_change, numbers_over, seen_of, no_numbers, no_element, shows_nothing}
+use Rattle.steps.specs.declared.container.state.Element.{Element}
+use Rattle.steps.specs.declared.container.state.ContainerState.{ContainerState}
+use Rattle.plain.specs.Contents as contents
+use Rattle.plain.specs.Contents.{Contents, value_at, values_in, counts_in, contents_in, Fits}
+use Rattle.plain.specs.States.{Snapshot, blank, snapshot_of, IsStateOf, IsSettled, value_then, updated, Brought}
+use Rattle.plain.proofs.Elements.Adds.{owners_long}
+use Rattle.plain.proofs.Elements.Values.{front_fits}
+use Rattle.plain.proofs.Elements.Updates.{get_mapped, target, Part, P}
+
+equal : (a b : ℕ) → (a == b) ≡ true → a ≡ b
+equal a b e =
+    ⊎_elim (λ (t : ((a == b) ≡ true) × (a ≡ b)). t.1)
+    (λ (t : ((a == b) ≡ false) × (a ≢ b)). absurd (true≢false (sym e ∙ t.0))) (eqb_tells a b)
+
+over_all : {V : Type 0} (counts : List ℕ) (elements : List (Element V)) → length counts ≡ length elements
+    → numbers_over counts elements ≡ map (λ (e : Element V). e.count) elements
+over_all [] [] e = refl
+over_all (n ∷ counts) [] e = absurd (omega arith)
+over_all [] (x ∷ elements) e = absurd (omega arith)
+over_all (n ∷ counts) (x ∷ elements) e = ap (λ l. x.count ∷ l) (over_all counts elements (omega arith))
+
+module _ {V : Type 0} (value_of : List ℕ → V) (size : ℕ) (some : 1 ≤ size) (wide : size ≤ 128) (capacity container : ℕ)
+    (words : List ℕ) (fits : Fits size capacity words) (old : ContainerState V) where
+  abbrev s : Contents V
+  s = contents_in value_of size capacity container words
+
+  abbrev number : Element V → ℕ
+  number e = e.count
+
+  capacity_is : contents.capacity s ≡ capacity
+  capacity_is = owners_long capacity (take (1 + capacity) words) (front_fits value_of size capacity words fits)
+
+  module _ (room : Showing V) (t : Part value_of size some wide capacity words fits old.seen old.shown room capacity) where
+    counts_are : map number room.elements ≡ counts_in value_of size capacity words
+    counts_are =
+        let l = length-map room.elements number in let k = t.long in
+        let m = length-map-range_with_len (λ i. slice_index words (count_word capacity i)) 0 capacity in
+        ext_get_or 0 (map number room.elements) (counts_in value_of size capacity words) (l ∙ k ∙ sym m)
+        (λ i low. let near : i < capacity = omega arith in
+        let r = t.done i near in
+        get_mapped number room.elements i r.e 0 r.there ∙ r.count_is
+        ∙ sym (get_or-map-range_with_len (λ i. slice_index words (count_word capacity i)) 0 capacity i i 0 near (omega arith)))
+
+    target_is : (i : ℕ) → i < capacity → target value_of size some wide capacity words fits old.seen old.shown i ≡ value_then s (snapshot_of old) i
+    target_is i near =
+        let c = get_or-map-range_with_len (λ i. slice_index words (count_word capacity i)) 0 capacity i i 0 near (omega arith) in
+        let v = get_or-map-range_with_len (value_at value_of size capacity words) 0 capacity i i None near (omega arith) in
+        λ k. if sym c k == slice_index old.seen.counts i then slice_index_or (map value_shown old.shown.elements) i None else sym v k
+
+    values_are : map value_shown room.elements ≡ map (value_then s (snapshot_of old)) (range_with_len 0 capacity)
+    values_are =
+        let l = length-map room.elements value_shown in let k = t.long in
+        let m = length-map-range_with_len (value_then s (snapshot_of old)) 0 capacity in
+        ext_get_or None (map value_shown room.elements) (map (value_then s (snapshot_of old)) (range_with_len 0 capacity)) (l ∙ k ∙ sym m)
+        (λ i low. let near : i < capacity = omega arith in
+        let r = t.done i near in
+        get_mapped value_shown room.elements i r.e None r.there ∙ r.shown ∙ target_is i near
+        ∙ sym (get_or-map-range_with_len (value_then s (snapshot_of old)) 0 capacity i i None near (omega arith)))
+
+  abbrev Ended : Bool → Showing V → List ℕ → Type 0
+  Ended end room last = P value_of size some wide capacity words fits old.seen old.shown (end, room) last
+
+  brought_without : (room : Showing V) (last : List ℕ) → Ended false room last
+      → Brought s old false (record old { shown = room })
+  brought_without room last t =
+      let same : map value_shown room.elements ≡ map value_shown old.shown.elements = ap (λ (r : Showing V). map value_shown r.elements) t.2 in
+      let snap : snapshot_of (record old { shown = room }) ≡ snapshot_of old =
+      λ i. record { changes = old.seen.change; counts = old.seen.counts; values = same i } in
+      record {
+        answers = sym (ap not t.1);
+        of = (refl, refl);
+        left = λ e. snap;
+        shows = λ h long. (
+          record {
+            change = ap (λ (r : Showing V). r.change) t.2 ∙ equal _ _ t.1;
+            counts = ap (λ (r : Showing V). map number r.elements) t.2 ∙ h.counts;
+            long = ap (λ (r : Showing V). length r.elements) t.2 ∙ h.long;
+            room = ap (λ (r : Showing V). length r.copy) t.2 ∙ h.room;
+          },
+          snap ∙ sym (ap (λ b. if b then snapshot_of old else record { changes = s.changes; counts = s.counts; values = map (value_then s (snapshot_of old)) (range_with_len 0 (contents.capacity s)) }) t.1),
+        );
+      }
+
+  brought_so : (room : Showing V) (last : List ℕ) → Ended true room last
+      → Brought s old true (record old { seen = seen_of old.seen room; shown = room })
+  brought_so room last t =
+      record {
+        answers = sym (ap not t.1);
+        of = (refl, refl);
+        left = λ e. absurd (true≢false e);
+        shows = λ h long.
+            let p = t.2 (h.long ∙ long ∙ capacity_is, h.counts, h.room) in
+            let many : length old.seen.counts ≡ length room.elements =
+            ap length (sym h.counts) ∙ length-map old.shown.elements number ∙ (h.long ∙ long ∙ capacity_is) ∙ sym p.long in
+            let over = over_all old.seen.counts room.elements many in
+            let counts = counts_are room p in
+            let values = values_are room p in (
+              record { change = refl; counts = sym over; long = p.long ∙ sym (long ∙ capacity_is); room = p.room },
+              (λ i. record { changes = p.change i; counts = (over ∙ counts) i; values = (values ∙ ap (λ n. map (value_then s (snapshot_of old)) (range_with_len 0 n)) (sym capacity_is)) i })
+                  ∙ sym (ap (λ b. if b then snapshot_of old else record { changes = s.changes; counts = s.counts; values = map (value_then s (snapshot_of old)) (range_with_len 0 (contents.capacity s)) }) t.1),
+            );
+      }
+
+  pub words_kept : (end : Bool) (room : Showing V) (last : List ℕ) → Ended end room last → last ≡ words
+  words_kept true room last t = t.0
+  words_kept false room last t = t.0
+
+  pub brought_if : (end : Bool) (room : Showing V) (last : List ℕ) → Ended end room last → end ≡ true
+      → (new : ContainerState V) → new ≡ record old { seen = seen_of old.seen room; shown = room } → Brought s old true new
+  brought_if end room last t is new n =
+      subst (Brought s old true) (sym n) (brought_so room last (subst (λ b. Ended b room last) is t))
+
+  pub brought_not : (end : Bool) (room : Showing V) (last : List ℕ) → Ended end room last → end ≡ false
+      → Brought s old false (record old { shown = room })
+  brought_not end room last t is = brought_without room last (subst (λ b. Ended b room last) is t)
+
+-- ---- a new state
+
+mapped_all : {X Y : Type 0} (f : X → Y) (x : X) (n : ℕ) → map f (replicate n x) ≡ replicate n (f x)
+mapped_all f x zero = refl
+mapped_all f x (suc n) = ap (λ l. f x ∷ l) (mapped_all f x n)
+
+module _ {V : Type 0} (value_of : List ℕ → V) (size capacity : ℕ) (s : Contents V) (long : contents.capacity s ≡ capacity)
+    (fresh : ContainerState V) (is : fresh.capacity ≡ capacity)
+    (seen : fresh.seen ≡ no_numbers capacity) (shown : fresh.shown ≡ shows_nothing value_of size capacity) where
+  settled : IsSettled fresh
+  settled =
+      record {
+        change = ap (λ (r : Showing V). r.change) shown ∙ sym (ap (λ (n : Numbers). n.change) seen);
+        counts = ap (λ (r : Showing V). map (λ (e : Element V). e.count) r.elements) shown
+            ∙ mapped_all (λ (e : Element V). e.count) (no_element value_of size) capacity ∙ sym (ap (λ (n : Numbers). n.counts) seen);
+        long = ap (λ (r : Showing V). length r.elements) shown ∙ length-replicate capacity (no_element value_of size) ∙ sym is;
+        room = ap (λ (r : Showing V). length r.copy) shown ∙ length-replicate {A = ℕ} 128 0;
+      }
+
+  is_blank : snapshot_of fresh ≡ blank (contents.capacity s)
+  is_blank =
+      let change = ap (λ (n : Numbers). n.change) seen in
+      let counts = ap (λ (n : Numbers). n.counts) seen in
+      let values = ap (λ (r : Showing V). map value_shown r.elements) shown ∙ mapped_all value_shown (no_element value_of size) capacity in
+      (λ i. record { changes = change i; counts = counts i; values = values i }) ∙ ap blank (sym long)
+
+  pub got_settled : (answer : Bool) (new : ContainerState V) → Brought s fresh answer new
+      → IsSettled new × (snapshot_of new ≡ updated s (blank (contents.capacity s)))
+  got_settled answer new b =
+      let t = b.shows settled (is ∙ sym long) in (t.0, t.1 ∙ ap (updated s) is_blank)
+
+pub got : {V : Type 0} (value_of : List ℕ → V) (size capacity container : ℕ) (words : List ℕ) → Fits size capacity words
+    → (self : Contents V) → contents_in value_of size capacity container words ≡ self
+    → (fresh : ContainerState V) → fresh.container ≡ container → fresh.capacity ≡ capacity → fresh.seen ≡ no_numbers capacity
+    → fresh.shown ≡ shows_nothing value_of size capacity → (answer : Bool) (new : ContainerState V)
+    → Brought (contents_in value_of size capacity container words) fresh answer new
+    → (IsStateOf self new × IsSettled new) × (snapshot_of new ≡ updated self (blank (contents.capacity self)))
+got value_of size capacity container words fits self is fresh of long seen shown answer new b =
+    let capacity_is : contents.capacity (contents_in value_of size capacity container words) ≡ capacity =
+    owners_long capacity (take (1 + capacity) words) (front_fits value_of size capacity words fits) in
+    let t = got_settled value_of size capacity (contents_in value_of size capacity container words) capacity_is fresh long seen shown answer new b in
+    subst (λ z. (IsStateOf z new × IsSettled new) × (snapshot_of new ≡ updated z (blank (contents.capacity z)))) is
+    (((b.of.0 ∙ of, b.of.1 ∙ long ∙ sym capacity_is), t.0), t.1)

@@ -1,0 +1,76 @@
+-- A call with a room runs alone: both together are walked as one call.
+use Rattle.std.proofs.Common.{◌≡◌, ℕ, zero, suc, ◌^◌, ◌-◌, ◌≤◌, List, refl}
+use Rattle.steps.specs.declared.ask.Want.{Want}
+use Rattle.steps.specs.declared.ask.Want as wants
+use Rattle.steps.specs.declared.ask.After.{After}
+use Rattle.steps.specs.declared.ask.After.TheVariants.{GoOn, Done}
+use Rattle.plain.specs.declared.drive.Stop.{Stop}
+use Rattle.plain.specs.declared.drive.Stop.TheVariants.{Asked, Ended}
+use Rattle.plain.specs.Alone.{answer_in, words_then, room_then, stepped, StopsFrom, StopsIn}
+use Rattle.plain.proofs.Alone.{Runs, Halts}
+use Rattle.plain.proofs.Walks.{WalksFrom, Walks, OnEnd}
+
+module _ {C M E : Type 0} where
+  abbrev pub with_room : M → After C E → After (C × M) (E × M)
+  with_room room (GoOn d) = GoOn (d, room)
+  with_room room (Done e) = Done (e, room)
+
+  -- what is said of the call and its room, together where it stops
+  abbrev pub Apart : (Stop (C × M) (E × M) → List ℕ → Type 0) → Stop C E → M → List ℕ → Type 0
+  Apart P (Ended e) room words = P (Ended (e, room)) words
+  Apart P (Asked question call) room words = P (Asked question (call, room)) words
+
+module _ {C G M E : Type 0} (want_of : C → G → Want (Unit {0})) (after : C → G → ℕ → After C E)
+    (kept : C → M → ℕ → M) (given : G) where
+  abbrev pub want_both : C × M → Want (Unit {0})
+  want_both z = want_of z.0 given
+
+  abbrev pub after_both : C × M → ℕ → After (C × M) (E × M)
+  after_both z old = with_room (kept z.0 z.1 old) (after z.0 given old)
+
+  abbrev Found : ℕ → (Stop (C × M) (E × M) → List ℕ → Type 0) → C → M → List ℕ → Type 0
+  Found n P call room words =
+      (s : Stop C E) × (r : M) × (ws : List ℕ) × StopsIn want_of after kept given n s r ws call room words × Apart P s r ws
+
+  abbrev FoundFrom : ℕ → (Stop (C × M) (E × M) → List ℕ → Type 0) → After C (Stop C E) → M → List ℕ → Type 0
+  FoundFrom n P a room words =
+      (s : Stop C E) × (r : M) × (ws : List ℕ) × StopsFrom want_of after kept given
+      (StopsIn want_of after kept given n s r ws) a room words s r ws × Apart P s r ws
+
+  found_goes : (n : ℕ) (P : Stop (C × M) (E × M) → List ℕ → Type 0) (w : Want (Unit {0})) (call : C) (a : After C E) (room next : M) (words : List ℕ)
+      → ((d : C) → Walks want_both after_both n P (d, next) words → Found n P d next words)
+      → WalksFrom (Walks want_both after_both n P) P (stepped w (call, room) (with_room next a)) words
+      → FoundFrom n P (stepped w call a) (room_then w room next) words
+  found_goes n P (wants.TheVariants.Ask ask) call (GoOn d) room next words on t = on d t
+  found_goes n P (wants.TheVariants.Ask ask) call (Done e) room next words on t = (Ended e, next, words, (refl, refl, refl), t)
+  found_goes n P (wants.TheVariants.Question question) call a room next words on t = (Asked question call, room, words, (refl, refl, refl), t)
+  found_goes n P wants.TheVariants.Nothing call (GoOn d) room next words on t = on d t
+  found_goes n P wants.TheVariants.Nothing call (Done e) room next words on t = (Ended e, next, words, (refl, refl, refl), t)
+
+  found : (n : ℕ) (P : Stop (C × M) (E × M) → List ℕ → Type 0) (call : C) (room : M) (words : List ℕ)
+      → Walks want_both after_both n P (call, room) words → Found n P call room words
+  found zero P call room words t = absurd t
+  found (suc n) P call room words t =
+      found_goes n P (want_of call given) call (after call given (answer_in words (want_of call given))) room
+      (kept call room (answer_in words (want_of call given))) (words_then words (want_of call given))
+      (λ d u. found n P d (kept call room (answer_in words (want_of call given))) (words_then words (want_of call given)) u) t
+
+  pub halts_both : (n : ℕ) (P : Stop (C × M) (E × M) → List ℕ → Type 0) (call : C) (room : M) (words : List ℕ) → n ≤ 2 ^ 64 - 1
+      → Walks want_both after_both n P (call, room) words
+      → Halts want_of after kept given (Apart P) call room words
+  halts_both n P call room words few t =
+      let f = found n P call room words t in
+      record { steps = n; few = few; stop = f.0; last_room = f.1; last_words = f.2; stops = f.3; holds = f.4 }
+
+  ended : (n : ℕ) (P : E × M → List ℕ → Type 0) (call : C) (room : M) (words : List ℕ) (s : Stop C E) (r : M) (ws : List ℕ)
+      → n ≤ 2 ^ 64 - 1 → StopsIn want_of after kept given n s r ws call room words → Apart (OnEnd P) s r ws
+      → Runs want_of after kept given (λ e room ws. P (e, room) ws) call room words
+  ended n P call room words (Ended e) r ws few t h =
+      record { steps = n; few = few; end = e; last_room = r; last_words = ws; ends = t; holds = h }
+  ended n P call room words (Asked question next) r ws few t h = absurd h
+
+  pub runs_both : (n : ℕ) (P : E × M → List ℕ → Type 0) (call : C) (room : M) (words : List ℕ) → n ≤ 2 ^ 64 - 1
+      → Walks want_both after_both n (OnEnd P) (call, room) words
+      → Runs want_of after kept given (λ e room ws. P (e, room) ws) call room words
+  runs_both n P call room words few t =
+      let f = found n (OnEnd P) call room words t in ended n P call room words f.0 f.1 f.2 few f.3 f.4

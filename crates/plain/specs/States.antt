@@ -1,0 +1,69 @@
+-- What a state of a container has seen of it, and shows.
+use Rattle.std.specs.Prelude.{◌≡◌, ◌==◌, ℕ, Bool, true, false, not, Option, None, List, length, map, replicate, slice_index, slice_index_or, if◌then◌else◌}
+use Rattle.std.specs.List.{range_with_len}
+use Rattle.steps.specs.Container.State.{Numbers, value_shown}
+use Rattle.steps.specs.declared.container.state.ContainerState.{ContainerState}
+use Rattle.steps.specs.declared.container.state.Element.{Element}
+use Rattle.plain.specs.Contents.{Contents, capacity}
+
+pub record Snapshot (V : Type 0) : Type 0 where
+  -- the number of changes of the container then
+  pub changes : ℕ
+  -- the number of each index then
+  pub counts : List ℕ
+  -- the value that is shown at each index, if there is one
+  pub values : List (Option V)
+
+module _ {V : Type 0} where
+  -- a new state has seen nothing and shows nothing
+  abbrev pub blank : ℕ → Snapshot V
+  blank capacity =
+      record { changes = 0; counts = replicate capacity 0; values = replicate capacity None }
+
+  abbrev pub snapshot_of : ContainerState V → Snapshot V
+  snapshot_of state =
+      record {
+        changes = state.seen.change;
+        counts = state.seen.counts;
+        values = map value_shown state.shown.elements;
+      }
+
+  -- the state has this container's number and capacity
+  abbrev pub IsStateOf : Contents V → ContainerState V → Type 0
+  IsStateOf s state = (state.container ≡ s.container) × (state.capacity ≡ capacity s)
+
+  -- Its parts agree: what it shows is what it has seen. So it comes from the container, and so each
+  -- call leaves it.
+  pub record IsSettled (state : ContainerState V) : Type 0 where
+    pub change : state.shown.change ≡ state.seen.change
+    pub counts : map (λ (e : Element V). e.count) state.shown.elements ≡ state.seen.counts
+    pub long : length state.shown.elements ≡ state.capacity
+    pub room : length state.shown.copy ≡ 128
+
+  -- ---- brought up to date
+
+  -- an index whose number it has seen shows what it showed, each other one what stands there
+  abbrev pub value_then : Contents V → Snapshot V → ℕ → Option V
+  value_then s seen index =
+      if slice_index s.counts index == slice_index seen.counts index
+      then slice_index_or seen.values index None
+      else slice_index_or s.values index None
+
+  -- where no change was counted since, it stays as it is
+  abbrev pub updated : Contents V → Snapshot V → Snapshot V
+  updated s seen =
+      if s.changes == seen.changes
+      then seen
+      else record {
+        changes = s.changes;
+        counts = s.counts;
+        values = map (value_then s seen) (range_with_len 0 (capacity s));
+      }
+
+  -- a call brought the state up to date, and answered so
+  pub record Brought (s : Contents V) (old : ContainerState V) (answer : Bool) (new : ContainerState V) : Type 0 where
+    pub answers : answer ≡ not (s.changes == old.seen.change)
+    pub of : (new.container ≡ old.container) × (new.capacity ≡ old.capacity)
+    pub left : answer ≡ false → snapshot_of new ≡ snapshot_of old
+    pub shows : IsSettled old → old.capacity ≡ capacity s
+        → IsSettled new × (snapshot_of new ≡ updated s (snapshot_of old))
