@@ -1,9 +1,8 @@
 -- For clients: shares as parts of one whole, also of any number of passes.
-use Rattle.std.proofs.Common.{◌≡◌, ℕ, zero, suc, ◌+◌, ◌*◌, ◌<◌, List, [], ◌∷◌, refl, sym, ap, subst, ◌∙◌, arith}
+use Rattle.std.proofs.Common.{◌≡◌, ℕ, zero, suc, ◌+◌, ◌*◌, ◌<◌, List, [], ◌∷◌, ap, subst, ◌∙◌, arith}
 use Rattle.std.specs.List.{fold, sum}
-use Rattle.std.proofs.Math.Nat.{mul-le-mul_left}
 use Rattle.lock_free_sp.specs.declared.share.Share.{Share}
-use Rattle.lock_free_sp.specs.Shares.{all_shares, half_of, both_of, IsAll, rest, pieces, added}
+use Rattle.lock_free_sp.specs.Shares.{half_of, both_of, IsAll, rest, pieces, added}
 use Rattle.lock_free_sp.specs.Parts.{IsPart, AreParts}
 use Rattle.lock_free_sp.proofs.Shares.{positive, same_factor}
 

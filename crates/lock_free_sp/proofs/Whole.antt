@@ -1,11 +1,10 @@
 -- For clients: who has the whole right to know of a queue knows that what was taken is a beginning
 -- of what was published, in the order of the positions, and all of it where nothing waits.
-use Rattle.std.proofs.Common.{◌≡◌, ℕ, ◌+◌, ◌<◌, ◌≤◌, List, length, map, take, sym, refl, ap, subst, ◌∙◌, arith}
+use Rattle.std.proofs.Common.{◌≡◌, ℕ, ◌+◌, ◌<◌, ◌≤◌, length, take, ap, ◌∙◌, arith}
 use Rattle.std.specs.List.{All}
 use Rattle.std.proofs.lemmas.List.{length-map, take_all}
 use Rattle.std.proofs.lemmas.List.Elements.{All-weaker}
 use Rattle.lock_free_sp.specs.declared.ring.view.View.{View}
-use Rattle.lock_free_sp.specs.Shares.{At}
 use Rattle.lock_free_sp.specs.Orders.{by_position, values_in_order}
 use Rattle.lock_free_sp.specs.Ring.Between.{Sound, Complete, Emptied}
 use Rattle.lock_free_sp.proofs.Shares.{at_all}

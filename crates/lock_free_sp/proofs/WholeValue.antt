@@ -1,6 +1,6 @@
 -- For clients: who has the whole right to know of a value knows that each version that was loaded
 -- was stored, or is the opening one, with that value.
-use Rattle.std.proofs.Common.{◌≡◌, ℕ, zero, suc, ◌+◌, ◌<◌, ◌≤◌, ◌⊎◌, inl, inr, ⊎_elim, List, [], ◌∷◌, length, get_or, sym, refl, ap, subst, ◌∙◌, arith}
+use Rattle.std.proofs.Common.{◌≡◌, ℕ, suc, ◌<◌, ◌≤◌, ◌⊎◌, inl, inr, ⊎_elim, List, [], ◌∷◌, length, get_or, arith}
 use Rattle.std.specs.List.{All, Contains}
 use Rattle.lock_free_sp.specs.declared.value.view.View.{View}
 use Rattle.lock_free_sp.specs.Shares.{At}

@@ -2,6 +2,7 @@
 pub(crate) mod board;
 mod calls;
 mod drives;
+mod loads;
 mod passes;
 mod plays;
 pub mod rule;

@@ -1,5 +1,5 @@
 -- What a seat knows of a value, and how that changes.
-use Rattle.std.specs.Prelude.{◌≡◌, ℕ, ◌*◌, Some, None, [], ◌∷◌, ◌++◌}
+use Rattle.std.specs.Prelude.{ℕ, ◌*◌, Some, None, [], ◌∷◌, ◌++◌}
 use Rattle.lock_free_sp.specs.declared.value.view.StoreStage.{StoreStage}
 use Rattle.lock_free_sp.specs.declared.value.view.StoreStage.TheVariants as storing
 use Rattle.lock_free_sp.specs.declared.value.view.LoadStage.{LoadStage}

@@ -1,16 +1,16 @@
 //! The calls on a value's table: the calls of `steps`, driven.
-ghost use Rattle.std.specs.Prelude.{◌≡◌, ◌≤◌, true, false, IsTrue, IsFalse, length};
+ghost use Rattle.std.specs.Prelude.{◌≡◌, true, false, IsTrue, IsFalse};
 ghost use Rattle.lock_free_sp.specs.declared.value.view.StoreStage.TheVariants as storing;
 ghost use Rattle.lock_free_sp.specs.declared.value.view.LoadStage.TheVariants as loading;
 ghost use Rattle.lock_free_sp.specs.Value.Views.{with_producer, without_producer};
 ghost use Rattle.lock_free_sp.specs.Value.Calls.{seen, IsSame, HasStored, WasAtEnd, HasLoaded};
 
-use super::drives::{LeavesProducer, Loads, Stores, TakesProducer};
+use super::drives::{LeavesProducer, Stores, TakesProducer};
 use super::rule::ValueRule;
 use super::token::Held;
 use std::sync::Wait;
-use steps::atomic::{Load, PRODUCER, Store};
-use steps::copied::{Kept, Room};
+use steps::atomic::{PRODUCER, Store};
+use steps::copied::Kept;
 use steps::queues::roles::{AcquireRole, ReleaseRole};
 use steps::routine::Routine;
 use steps::words::Words;
@@ -51,20 +51,6 @@ impl<T: Words> Held<T, ValueRule<T>> {
             .seated
             .drive::<Store<T>, Stores<T>>(Store::new(), value, &mut ());
         Store::<T>::answer(stored, value, &())
-    }
-
-    /// The value at a version that is not below any that the seat knows, by way of this room.
-    #[inline(always)]
-    pub fn load_by<R: Room<T> + Drop>(&mut self, rt: &impl Wait, room: R) -> T
-        requires idle { (seen self.old).load ≡ loading.Idle }
-        requires room { T.WORDS ≤ length (R.words_in room) }
-        ensures same { IsSame self.old self.new }
-        ensures loaded { HasLoaded result (seen self.old) (seen self.new) }
-    {
-        let mut room = room;
-        self.seated
-            .drive_on::<Load<T, R>, Loads<T, R>>(rt, Load::new(), &(), &mut room);
-        Load::<T, R>::answer((), &(), &room)
     }
 
     /// The value at a version that is not below any that the seat knows.

@@ -3,7 +3,7 @@
 use super::view::View;
 use crate::driver::rule::Drives;
 use std::marker::PhantomData;
-use steps::atomic::{Load, LoadStage, Store};
+use steps::atomic::{Load, Store};
 use steps::copied::Room;
 use steps::queues::roles::{AcquireRole, ReleaseRole};
 use steps::words::Words;
@@ -54,9 +54,4 @@ impl<T: Words, R: Room<T> + Drop> Drives<View<T>, Load<T, R>> for Loads<T, R> {
     ghost at = { λ given. LoadAt T.WORDS R.words_in };
 
     ghost ends = { λ given. LoadEnds T.value_of T.WORDS R.words_in };
-
-    #[inline(always)]
-    fn repeats(call: Load<T, R>) -> bool {
-        matches!(call.stage, LoadStage::LoadsCell { .. })
-    }
 }

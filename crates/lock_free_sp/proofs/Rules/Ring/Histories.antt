@@ -1,9 +1,9 @@
 -- What all seats at a ring know together, and what a seat with the whole right knows by itself.
-use Rattle.std.proofs.Common.{◌≡◌, ◌≢◌, ℕ, ◌+◌, ◌<◌, ◌≤◌, List, [], ◌∷◌, ◌++◌, set, sym, refl, ap, subst, ◌∙◌, arith}
+use Rattle.std.proofs.Common.{◌≡◌, ◌≢◌, ℕ, ◌+◌, ◌<◌, ◌≤◌, List, [], ◌∷◌, ◌++◌, set, refl, ap, subst, ◌∙◌, arith}
 use Rattle.std.specs.List.{All}
 use Rattle.lock_free_sp.specs.declared.share.Share.{Share}
 use Rattle.lock_free_sp.specs.declared.ring.view.View.{View}
-use Rattle.lock_free_sp.specs.Shares.{At, Shares}
+use Rattle.lock_free_sp.specs.Shares.{Shares}
 use Rattle.lock_free_sp.specs.Ring.Views.{halved, half, joined, spent, IsWhole}
 use Rattle.lock_free_sp.specs.Ring.Between.{Complete, Emptied}
 use Rattle.lock_free_sp.specs.Ring.Kept.{Face, Book, History}

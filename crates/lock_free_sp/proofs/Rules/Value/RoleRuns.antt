@@ -1,5 +1,5 @@
 -- The calls on the role of a value keep the rule at their one step.
-use Rattle.std.proofs.Common.{◌≡◌, ℕ, ◌+◌, ◌*◌, List, [], sym, refl, ap, subst, ◌∙◌, arith}
+use Rattle.std.proofs.Common.{◌≡◌, ℕ, ◌+◌, ◌*◌, List, [], sym, ap, subst, ◌∙◌, arith}
 use Rattle.steps.specs.declared.ask.Op.TheVariants.{Store, Exchange}
 use Rattle.steps.specs.Queues.Roles.{acquire_want, acquire_after, release_want, release_after}
 use Rattle.lock_free_sp.specs.declared.value.rule.Opening.{Opening}

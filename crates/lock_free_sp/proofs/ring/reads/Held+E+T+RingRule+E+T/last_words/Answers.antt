@@ -1,5 +1,4 @@
 use Rattle.std.proofs.Common.{◌≡◌, ◌+◌, ◌-◌, ◌*◌, max, length, sym, ap, subst, ◌∙◌, arith}
-use Rattle.lock_free_sp.specs.declared.ring.view.LenStage.TheVariants as lengths
 use Rattle.lock_free_sp.specs.Ring.Calls.{seen}
 use Rattle.lock_free_sp.specs.Ring.Tells.{HasRead}
 use Rattle.lock_free_sp.proofs.Rules.Ring.Reads.{len_is}

@@ -1,4 +1,4 @@
-use Rattle.std.proofs.Common.{◌+◌, sym, subst, arith}
+use Rattle.std.proofs.Common.{sym, subst, arith}
 use Rattle.lock_free_sp.specs.Ends.{view}
 use Rattle.lock_free_sp.specs.Ring.Closes.{Closes}
 use Rattle.lock_free_sp.proofs.Rules.Ring.Closes.{closes, exact_fits}
