@@ -1,6 +1,7 @@
 //! Worked rows of the states of a container, for one caller.
 use plain::Container;
 use std::test::Fail;
+use steps::container::handle::ContainerHandle;
 use steps::container::state::ContainerState;
 use steps::enums::OwnerId;
 use steps::indices::enums::ReleaseMode;
@@ -13,6 +14,14 @@ fn updates<T: Words>(container: &mut Container<T>, state: &mut ContainerState<T>
     } else {
         None
     }
+}
+
+fn replaced(container: &mut Container<u64>, handle: &ContainerHandle, value: u64) -> bool {
+    container.replace(*handle, value).is_ok()
+}
+
+fn removed(container: &mut Container<u64>, handle: &ContainerHandle) -> bool {
+    container.remove(*handle, ReleaseMode::Default).is_ok()
 }
 
 /// The number that is shown at the index, 0 for none.
@@ -35,12 +44,12 @@ fn a_state_follows(rt: HostRuntime) -> Result<(), Fail> {
     assert_eq!(rt; updates(&mut container, &mut state), Some(true));
     assert_eq!(rt; (state.number(), shown(&state, 0)), (1, 1234567));
     assert_eq!(rt; updates(&mut container, &mut state), Some(false));
-    assert!(rt; container.replace(first, 6).is_ok());
+    assert!(rt; replaced(&mut container, &first, 6));
     assert_eq!(rt; shown(&state, 0), 1234567);
     assert_eq!(rt; updates(&mut container, &mut state), Some(true));
     assert_eq!(rt; (state.number(), shown(&state, 0)), (1, 6));
-    assert!(rt; container.remove(first, ReleaseMode::Default).is_ok());
-    assert!(rt; container.replace(first, 7).is_err());
+    assert!(rt; removed(&mut container, &first));
+    assert!(rt; !replaced(&mut container, &first, 7));
     assert_eq!(rt; updates(&mut container, &mut state), Some(true));
     assert_eq!(rt; (state.number(), shown(&state, 138)), (0, 0));
     Ok(())
