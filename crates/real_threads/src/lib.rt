@@ -10,6 +10,8 @@ mod overflowing;
 #[cfg(test)]
 mod owners;
 #[cfg(test)]
+mod pairs;
+#[cfg(test)]
 mod roles;
 #[cfg(test)]
 mod unique;
