@@ -96,10 +96,15 @@ impl<'a> User<'a> {
         }
     }
 
+    /// A state of the container.
+    fn state(&mut self, rt: &impl Wait) -> Option<ContainerState<Pair>> {
+        self.container.get_state(rt, &mut self.pass).ok()
+    }
+
     /// Keeps a state up to date until two have ended: whether each pair that it showed was whole, and how many it shows
     /// after one more update. None at the limit.
-    fn looks(mut self, rt: &impl Wait, ended: &AtomicU64) -> Option<(bool, usize)> {
-        let mut state = self.container.get_state(rt, &mut self.pass).ok()?;
+    fn looks(&mut self, rt: &impl Wait, ended: &AtomicU64) -> Option<(bool, usize)> {
+        let mut state = self.state(rt)?;
         let mut whole = true;
         for turn in 0..LIMIT {
             let over = ended.load(Ordering::SeqCst) == 2;
@@ -112,6 +117,11 @@ impl<'a> User<'a> {
             pause(turn);
         }
         None
+    }
+
+    /// The same, of one that is given up.
+    fn looks_on(mut self, rt: &impl Wait, ended: &AtomicU64) -> Option<(bool, usize)> {
+        self.looks(rt, ended)
     }
 }
 
@@ -143,7 +153,7 @@ fn between<R: Wait + Threads + Sync>(
     Some(thread::join(
         rt,
         move || two_turn(rt, first, second, count),
-        move || third.looks(rt, count),
+        move || third.looks_on(rt, count),
     ))
 }
 
