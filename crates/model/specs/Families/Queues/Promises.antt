@@ -62,11 +62,10 @@ module _ {T : Type 0} where
     pub roles : Each GrantsRight t.events
     pub holders : KeepsHolders t.world.kept t.events
 
-  -- In a turn that asks for this operation and is its party's own, a push that was taken acts as it
-  -- adds 1 to the write position, and one that answers false where capacity values wait as it loads
-  -- read. An overflowing one acts as it adds 1 to the write position, or, where that left one value
-  -- too many, as the read position goes on: by its own step, with the value that leaves, or by
-  -- another party's.
+  -- A push that is taken acts in its own turn, as it adds 1 to the write position, and one that
+  -- answers false in its own, as it loads read, where capacity values wait. An overflowing push acts
+  -- as it adds 1 to the write position, or, where that left one value too many, as the read position
+  -- goes on: by its own step, with the value that leaves, or by another party's, with None.
   abbrev pub PushActs : Trace T → Option Ask → Type 0 → Answer T → Type 0
   PushActs old ask Own (Truth true) = Own × AddsOne write_word old.world.words ask
   PushActs old ask Own (Truth false) =
