@@ -1,9 +1,9 @@
 -- Acts, and turns that decide, which the definitions refuse: each of another step than the one in which it belongs.
-use Rattle.std.proofs.Common.{◌≡◌, ℕ, ◌+◌, true, false, Option, Some, List, ◌∷◌, ◌++◌, [], length, refl, ap, arith}
+use Rattle.std.proofs.Common.{◌≡◌, ℕ, ◌+◌, true, false, Option, Some, ◌∷◌, ◌++◌, length, refl, ap, arith}
 use Rattle.steps.specs.declared.ask.Ask.{Ask}
 use Rattle.steps.specs.declared.ask.Op as ops
 use Rattle.steps.specs.declared.indices.enums.ReleaseMode.TheVariants.{Default}
-use Rattle.model.specs.declared.event.Answer.TheVariants.{Done, Truth, PoppedIndex, PoppedNone}
+use Rattle.model.specs.declared.event.Answer.TheVariants.{Done, Truth, PoppedIndex}
 use Rattle.model.specs.declared.event.Event.TheVariants.{Acted, Told}
 use Rattle.model.specs.declared.event.Start.TheVariants.{Queues, Atomic, Robust}
 use Rattle.model.specs.declared.families.atomic.AtomicStart as atomic_starts

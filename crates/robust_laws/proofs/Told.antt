@@ -1,8 +1,7 @@
 -- What a decision comes to: a no ends a find at the index that it asked about, and a yes tells a recovery to free the index
 -- that it asked about. No other turn tells it.
-use Rattle.std.proofs.Common.{◌≡◌, ◌≢◌, ℕ, ◌+◌, ◌-◌, ◌^◌, ◌<◌, Bool, true, false, Option, Some, None, is_none, List, [], ◌∷◌, ◌++◌, refl, sym, ap, subst, ◌∙◌}
+use Rattle.std.proofs.Common.{◌≡◌, ◌≢◌, ℕ, ◌-◌, ◌^◌, ◌<◌, Bool, true, false, Option, Some, None, is_none, List, [], ◌∷◌, ◌++◌, refl, sym, ap, subst, ◌∙◌}
 use Rattle.std.specs.List.{AllByRecursion}
-use Rattle.steps.specs.declared.ask.Question as questions
 use Rattle.steps.specs.declared.ask.Want.{Want}
 use Rattle.steps.specs.declared.ask.Want as wants
 use Rattle.steps.specs.declared.indices.enums.ReleaseMode.{ReleaseMode}
@@ -19,7 +18,6 @@ use Rattle.steps.specs.declared.indices.robust.recover.RecoverStage as recovers
 use Rattle.steps.specs.Indices.Robust.Parts.{raise_want, count_want, lock_want}
 use Rattle.model.specs.declared.event.Answer.{Answer}
 use Rattle.model.specs.declared.event.Event.{Event}
-use Rattle.model.specs.declared.event.Event.TheVariants.{Finished}
 use Rattle.model.specs.declared.event.Start.{Start}
 use Rattle.model.specs.declared.event.Start.TheVariants.{Robust}
 use Rattle.model.specs.declared.families.Flight.{Flight}
@@ -46,7 +44,7 @@ use Rattle.model.specs.Refusals.{refusal_of, is_due, call_refusal}
 use Rattle.model.specs.Shape.{IsOpenFor}
 use Rattle.model.specs.Step.{answer_in}
 use Rattle.model.specs.Turns.{old_of, number_of, ask_of_doing, events_of_step, events_of_answer, events_of_next, events_of_decision, events_of, ending_of, after_turn}
-use Rattle.model.specs.World.{World, Trace, flight_in}
+use Rattle.model.specs.World.{Trace, flight_in}
 use Rattle.model.proofs.Frame as frame
 use Rattle.model.proofs.Rows.{row_passed, passes, must_be_due}
 use Rattle.model.proofs.Scenes.{StandsThere, stands_there}
@@ -54,7 +52,7 @@ use Rattle.robust_laws.proofs.Invariant.{family}
 use Rattle.robust_laws.proofs.Knows.{Knows}
 use Rattle.robust_laws.proofs.Sound.{kept_is, scene_of, is_there}
 use Rattle.robust_laws.proofs.Stages.{all, now, any_call}
-use Rattle.robust_laws.proofs.Standing.{find_at, recover_at, At, FindAt}
+use Rattle.robust_laws.proofs.Standing.{find_at, recover_at, At}
 use Rattle.robust_laws.proofs.Written.{effects_hold}
 
 -- only a question asks about an index of an owner
