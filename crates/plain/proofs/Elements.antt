@@ -1,5 +1,7 @@
 pub mod Adds
 pub mod Filled
+pub mod Finding
+pub mod Finds
 pub mod Handles
 pub mod Looks
 pub mod Opens
