@@ -24,6 +24,9 @@ use steps::indices::robust::parts::{COUNTER, EMPTY, FIRST_CELL};
 use steps::indices::robust::release::GiveBack;
 use steps::words::Words;
 
+mod recovery;
+mod visits;
+
 /// Values, each at an index that has an owner, and a lock. After `Container` of the Rust crate, for one caller.
 ///
 /// Its generation and its lock are those of a `RobustUniqueIndexSet`. It counts its changes, modulo 2^64.

@@ -1,12 +1,13 @@
 //! The set of indices with owners of one caller.
-ghost use Rattle.std.specs.Prelude.{◌≡◌, ◌<◌, ◌^◌, ◌-◌, ◌⊎◌, if◌then◌else◌, IsTrue, IsFalse, None, Some, IfOk, IfErr, OnOk};
+ghost use Rattle.std.specs.Prelude.{◌≡◌, ◌<◌, ◌^◌, ◌-◌, ◌⊎◌, IsTrue, IsFalse, None, Some, IfOk, IfErr, OnOk};
 ghost use Rattle.steps.specs.Enums.{capacity_refusal};
 ghost use Rattle.steps.specs.declared.enums.UniqueIndexCreationError.TheVariants.{NoMemory};
 ghost use Rattle.steps.specs.Objects.Owners.{Owners, opened_at, capacity, is_locked, state_of, raised, indices_of, to_recover, borrowed, acquired, after_acquire, released, after_release};
 ghost use Rattle.plain.specs.Alone.{Turns};
-ghost use Rattle.plain.specs.Callable.{TakesIndices, HasFound, TakesQuestions, TakesFreed, HasRecovered, index_in, as_answer};
+ghost use Rattle.plain.specs.Callable.{TakesIndices, HasFound, TakesQuestions, TakesFreed, HasRecovered};
 ghost use Rattle.plain.specs.Robust.{owners_in, Fits};
 
+use crate::answers::{as_answer, as_yes, index_in};
 use crate::drive::{Stop, drive, drive_to_stop};
 use std::alloc::Global;
 use std::marker::Model;
@@ -96,27 +97,6 @@ fn is_locked(words: &mut Vec<u64>, capacity: u32) -> bool
     drive(words, IsLocked, &(), &mut room)
 }
 
-/// The index that a question is about.
-fn index_in(question: Question<()>) -> usize
-    ensures { result ≡ index_in question }
-{
-    match question {
-        Question::Index(index) => index,
-        Question::Owned(_, index) => index,
-        Question::Value(index, ()) => index,
-    }
-}
-
-/// What a closure says, as the answer to a call.
-fn as_answer(progression: CallbackProgression) -> u64
-    ensures { result ≡ as_answer progression }
-{
-    match progression {
-        CallbackProgression::Continue => 1,
-        CallbackProgression::Stop => 0,
-    }
-}
-
 /// Calls the closure with the index, and hands it back.
 fn visit_at<F: FnMut(usize) -> CallbackProgression>(
     mut visit: F,
@@ -190,13 +170,6 @@ fn tell_where<S: FnMut(OwnerId, usize)>(
         recovered(owner, index);
     }
     recovered
-}
-
-/// Yes or no, as the answer to a call.
-fn as_yes(yes: bool) -> u64
-    ensures { result ≡ if yes then 1 else 0 }
-{
-    if yes { 1 } else { 0 }
 }
 
 /// A recovery, over the words of a set. Hands the closures back.
