@@ -216,8 +216,8 @@ fn recover<F: FnMut(OwnerId, usize) -> bool, S: FnMut(OwnerId, usize)>(
 }
 
 impl RobustUniqueIndexSet {
-    /// Takes the lowest index without an owner for `owner`. `IsLocked` where the set is locked, `OutOfIndices` where each
-    /// index has an owner or the generation is at its end; then nothing changes.
+    /// Takes the lowest index without an owner for `owner`. `IsLocked` where the set is locked, `OutOfIndices` where
+    /// each index has an owner or the generation is at its end; then nothing changes.
     pub fn acquire(&mut self, owner: OwnerId) -> Result<usize, UniqueIndexSetAcquireFailure>
         ensures answer { result ≡ acquired self.old }
         ensures map { self.new ≡ after_acquire self.old owner }
@@ -228,8 +228,9 @@ impl RobustUniqueIndexSet {
         }
     }
 
-    /// Gives `index` back, where it is that of `owner`. Else `IndexIsNotOwnedByProvidedOwner`, and nothing changes. In
-    /// mode `LockIfLastIndex` it locks the set where no index has an owner then, unless its generation comes to its end.
+    /// Gives `index` back, where it is that of `owner`. Else `IndexIsNotOwnedByProvidedOwner`, and nothing changes.
+    /// In mode `LockIfLastIndex` it locks the set where no index has an owner then, unless its generation comes to
+    /// its end.
     pub fn release(
         &mut self,
         index: usize,
@@ -243,8 +244,8 @@ impl RobustUniqueIndexSet {
         release(&mut self.words, self.capacity, index as u32, owner, mode)
     }
 
-    /// Comes to the indices of `owner`, ascending, and calls `visit` with each, until it says `Stop`: how many it came to,
-    /// the one on which it was told to stop among them.
+    /// Comes to the indices of `owner`, ascending, and calls `visit` with each, until it says `Stop`: how many it
+    /// came to, the one on which it was told to stop among them.
     pub fn find<F: FnMut(usize) -> CallbackProgression>(
         &mut self,
         owner: OwnerId,
@@ -261,9 +262,10 @@ impl RobustUniqueIndexSet {
         found
     }
 
-    /// Asks `predicate` about each index that has an owner, ascending, tells `recover_success` of those about which it said
-    /// true, and gives these back. In mode `LockIfLastIndex` it locks the set where no index has an owner after one was
-    /// given back, unless its generation comes to its end. `Locked` where the set is locked then, else `Unlocked`. A locked set asks nothing.
+    /// Asks `predicate` about each index that has an owner, ascending, tells `recover_success` of those about which
+    /// it said true, and gives these back. In mode `LockIfLastIndex` it locks the set where no index has an owner
+    /// after one was given back, unless its generation comes to its end. `Locked` where the set is locked then, else
+    /// `Unlocked`. Of a locked set it asks nothing.
     pub fn recover<F: FnMut(OwnerId, usize) -> bool, S: FnMut(OwnerId, usize)>(
         &mut self,
         mode: ReleaseMode,

@@ -70,10 +70,12 @@ fn recover<T: Words, F: FnMut(T) -> bool>(
 }
 
 impl<T: Words> Container<T> {
-    /// Asks `predicate` about the value at each index of `owner`, ascending, and frees the indices of those about which it
-    /// said true: they have no owner and no value then. In mode `LockIfLastIndex` it locks the container where no index
-    /// has an owner after one was freed, unless its generation comes to its end. `Locked` where the container is locked
-    /// then, else `Unlocked`. A locked container asks nothing. Whatever it frees, it counts as one change.
+    /// Asks `predicate` about a copy of the value at each index of `owner`, ascending, and frees the indices of those
+    /// about which it said true: they have no owner and no value then. In mode `LockIfLastIndex` it locks the
+    /// container where no index has an owner after one was freed, unless its generation comes to its end. `Locked`
+    /// where the container is locked then, else `Unlocked`. Of a locked container it asks nothing. Whatever it frees,
+    /// it is one change. That `owner` is dead is the caller's concern. After `recover` of the Rust crate's
+    /// `Container`.
     pub fn recover<F: FnMut(T) -> bool>(
         &mut self,
         owner: OwnerId,
