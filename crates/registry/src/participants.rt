@@ -50,6 +50,26 @@ fn join(
     Ok(Joined { pass, handle })
 }
 
+/// Participants 1 and 2 join, each in a thread: what the first one has then. The second one dies.
+fn join_both<R: Threads + Wait + Sync>(
+    rt: &R,
+    registry: &Container<Record>,
+    first: Pass<Record>,
+    second: Pass<Record>,
+) -> Result<Joined, RegistryError>
+    requires first { IsPassOf registry.now first }
+    requires second { IsPassOf registry.now second }
+    ensures { IfOk result (λ j. container_of j.pass ≡ container_of first) }
+{
+    let (one, two) = thread::join(
+        rt,
+        move || join(rt, registry, first, 1, &[7001]),
+        move || join(rt, registry, second, 2, &[7002, 7003]),
+    );
+    two?;
+    one
+}
+
 /// What a state shows of participants 1 and 2, by their numbers.
 fn shown(alloc: Global, state: &ContainerState<Record>) -> Result<Vec<Record>, RegistryError> {
     let mut records = Vec::new(alloc);
@@ -129,24 +149,17 @@ pub fn run<R: Threads + Wait + Sync>(rt: &R, alloc: Global) -> Result<Seen, Regi
     let reader = mine.split().ok_or(RegistryError::NoPass)?;
     let (ends, state) = thread::join(
         rt,
-        move || {
-            thread::join(
-                rt,
-                move || join(rt, registry, first, 1, &[7001]),
-                move || join(rt, registry, second, 2, &[7002, 7003]),
-            )
-        },
+        move || join_both(rt, registry, first, second),
         move || watch(rt, registry, reader, 3),
     );
-    let Joined { pass, handle } = ends.0?;
-    ends.1?;
+    let Joined { pass, handle } = ends?;
     mine.join(pass);
     let mut state = state?;
     let joined = shown(alloc, &state)?;
     let Ok(dead) = OwnerId::new(2) else {
         return Err(RegistryError::NoParticipant);
     };
-    //registry.recover(rt, dead, |_| true, ReleaseMode::Default, &mut mine);
+    registry.recover(rt, dead, |_| true, ReleaseMode::Default, &mut mine);
     registry.update_state(rt, &mut state, &mut mine);
     let recovered = shown(alloc, &state)?;
     let handle = handle.ok_or(RegistryError::NoParticipant)?;
