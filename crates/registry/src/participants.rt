@@ -149,7 +149,9 @@ pub fn run<R: Threads + Wait + Sync>(rt: &R, alloc: Global) -> Result<Seen, Regi
     let reader = mine.split().ok_or(RegistryError::NoPass)?;
     let (ends, state) = thread::join(
         rt,
-        move || join_both(rt, registry, first, second),
+        move ||
+            requires { IsPassOf registry.now first × IsPassOf registry.now second }
+        { join_both(rt, registry, first, second) },
         move || watch(rt, registry, reader, 3),
     );
     let Joined { pass, handle } = ends?;
