@@ -2,6 +2,8 @@
 #![tactic(auto)]
 
 #[cfg(test)]
+mod contained;
+#[cfg(test)]
 mod counted;
 #[cfg(test)]
 mod drawn;

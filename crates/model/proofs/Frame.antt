@@ -21,7 +21,7 @@ use Rattle.model.specs.Promises.Bounds.{Progresses}
 use Rattle.model.specs.Promise.{Promise}
 use Rattle.model.specs.Promises.Spans.{Stands, StandsRight}
 use Rattle.model.specs.Reading.{Each, Span, Never, Open, Ended, own_after, span_of}
-use Rattle.model.specs.Refusals.{refusal_of, call_refusal, is_due}
+use Rattle.model.specs.Refusals.{call_refusal, is_due}
 use Rattle.model.specs.Rows.{first_row}
 use Rattle.model.specs.Shape.{IsShut}
 use Rattle.model.specs.Turns.{old_of, words_after, change_of, step_count, number_of, ask_of_doing, party_at_begin, after_begin, party_after, after_step, step_in, after_answer, after_next, after_decision, after_turn, events_of_step, events_of_answer, events_of_next, events_of_decision, IsReached, IsReachedOn}
@@ -29,7 +29,7 @@ use Rattle.model.specs.World.{Trace, opening, flight_in}
 use Rattle.model.proofs.Parties.{party_put_same, party_put_other}
 use Rattle.model.proofs.Reached.{kept_by_runs, kept_by_runs_on}
 use Rattle.model.proofs.Readings.{AreRight, Each-append, AreOwn, AllFollow, span_of-own, span_of-other, span_of-death, spans_right}
-use Rattle.model.proofs.Rows.{may_begin, may_next, may_decide, may_die, must_be_due, next_passes, decision_passes, passes, MayBegin, MayGoOn, MayDie}
+use Rattle.model.proofs.Rows.{may_begin, may_die, must_be_due, next_passes, decision_passes, passes, MayBegin, MayDie}
 
 pub is_true : (b : Bool) → not b ≡ false → b ≡ true
 is_true true e = refl

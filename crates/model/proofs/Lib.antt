@@ -18,6 +18,7 @@ pub mod Small
 pub mod Turns
 pub mod Values
 pub mod Worked
+pub mod WorkedActs
 pub mod WorkedBits
 pub mod WorkedIndices
 pub mod WorkedLinearizable

@@ -1,5 +1,5 @@
 -- How calls progress, in the field's words, by the bounds that are promised. Steps are operations on words, as everywhere.
-use Rattle.std.specs.Prelude.{◌≡◌, ◌≤◌, ℕ, ◌+◌, ◌*◌, max, Option, Some, None, List}
+use Rattle.std.specs.Prelude.{◌≡◌, ◌≤◌, ℕ, ◌+◌, ◌*◌, max, Option, Some, List}
 use Rattle.steps.specs.Bits.Words.{elements}
 use Rattle.steps.specs.declared.indices.enums.ReleaseMode.TheVariants.{LockIfLastIndex, Default}
 use Rattle.model.specs.declared.event.Start.{Start}
@@ -27,7 +27,7 @@ use Rattle.model.specs.Coding.{Coding}
 use Rattle.model.specs.Families.{ask_of, want_of}
 use Rattle.model.specs.Promise.{Promise}
 use Rattle.model.specs.Promises.Families.{promise_of}
-use Rattle.model.specs.Reading.{Span, Never, Open, Ended, span_of}
+use Rattle.model.specs.Reading.{Span, Open, Ended, span_of}
 use Rattle.model.specs.Turns.{words_after}
 use Rattle.model.specs.World.{Trace, progress_in}
 

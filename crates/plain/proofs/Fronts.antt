@@ -102,7 +102,7 @@ then_behind k words (wants.TheVariants.Ask ask) low = written_behind k ask.word 
 then_behind k words (wants.TheVariants.Question question) low = stays k words
 then_behind k words wants.TheVariants.Nothing low = stays k words
 
-behind_more : (k : ℕ) (a b c : List ℕ) → Behind k a b → Behind k b c → Behind k a c
+pub behind_more : (k : ℕ) (a b c : List ℕ) → Behind k a b → Behind k b c → Behind k a c
 behind_more k a b c h g =
     record { long = g.long ∙ h.long; same = λ j far. g.same j far ∙ h.same j far }
 

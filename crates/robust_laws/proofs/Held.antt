@@ -20,7 +20,6 @@ use Rattle.steps.specs.Indices.Robust.Parts.{cell_word, empty, locked, greatest,
 use Rattle.steps.specs.Picks.{by_test, by_eq}
 use Rattle.model.specs.declared.event.Event.{Event}
 use Rattle.model.specs.declared.event.Event.TheVariants.{Filled, Granted}
-use Rattle.model.specs.declared.families.indices.robust.RobustStart.TheVariants.{Acquire}
 use Rattle.model.specs.Families.Indices.Robust.Promises.{IsFilled, IsUnlocked, IsProper}
 use Rattle.model.specs.Families.Indices.Robust.Reading.{Fills, filled_after, filled_of, holder_after, holder_of, is_dead}
 use Rattle.model.specs.Families.{ask_of}
@@ -32,7 +31,6 @@ use Rattle.model.specs.Turns.{old_of, words_after, step_count}
 use Rattle.model.proofs.Moments.{held_now}
 use Rattle.robust_laws.proofs.Core.{counter_of, cell}
 use Rattle.robust_laws.proofs.Effects.{at_same, proper_less, before_end, unlocked, is_shut, filled_none, filled_some, fills}
-use Rattle.robust_laws.proofs.Grants.{grants}
 use Rattle.robust_laws.proofs.Invariant.{Scene, Inv, Good, Does}
 use Rattle.robust_laws.proofs.Knows.{Knows, IsPaid, AllOnce}
 use Rattle.robust_laws.proofs.Standing.{acquire_at, acquire_number, raise_number, AcquireAt}

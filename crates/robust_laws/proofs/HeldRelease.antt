@@ -26,7 +26,7 @@ use Rattle.model.specs.declared.families.indices.robust.RobustStart.TheVariants.
 use Rattle.model.specs.Families.Indices.Reading.{is_locked}
 use Rattle.model.specs.Families.Indices.Robust.Bounds.{most_steps}
 use Rattle.model.specs.Families.Indices.Robust.Promises.{cell_of, IsFilled, IsProper, FilledSinceFreed, LivesToRelease}
-use Rattle.model.specs.Families.Indices.Robust.Reading.{holder_of, Frees, Locks, filled_of, settled_of, is_dead, deeds_of, IsOneOf}
+use Rattle.model.specs.Families.Indices.Robust.Reading.{holder_of, Frees, filled_of, settled_of, is_dead, deeds_of, IsOneOf}
 use Rattle.model.specs.Families.Indices.Robust.Steps.{locked_by, release_effects}
 use Rattle.model.specs.Families.{ask_of}
 use Rattle.model.specs.Moments.{SinceBegin}
@@ -39,7 +39,6 @@ use Rattle.robust_laws.proofs.Frees.{frees}
 use Rattle.robust_laws.proofs.Invariant.{Scene, Inv, Good, Does}
 use Rattle.robust_laws.proofs.Knows.{Knows, IsPaid, FoundOne}
 use Rattle.robust_laws.proofs.Standing.{at_least_one, release_at, release_number, raise_number, lock_number, for_back, ReleaseAt, LockAt}
-use Rattle.robust_laws.proofs.Locks.{locks}
 use Rattle.robust_laws.proofs.Parts.{raise_ask, lock_ask, raise_step, lock_step, IsSaid}
 use Rattle.robust_laws.proofs.Rights.{Settled, By, right_of, IsBy}
 use Rattle.robust_laws.proofs.Stages.{all, now, sees, then_sees, backs_then, exchanges, fails_same, exchange_sets}

@@ -29,7 +29,8 @@ use Rattle.model.proofs.Scenes.{stands_there}
 use Rattle.robust_laws.proofs.Invariant.{RobustSet, Fit, family}
 use Rattle.robust_laws.proofs.Kept.{kept}
 use Rattle.robust_laws.proofs.Sound.{kept_is, reached_sound}
-use Rattle.robust_laws.proofs.Tells.{finds_all, finds_up_to}
+use Rattle.robust_laws.proofs.Tells.{finds_all}
+use Rattle.robust_laws.proofs.Told.{finds_up_to, tells_once, yes_tells}
 use Rattle.robust_laws.proofs.Written.{all_effects}
 
 -- ---- every turn
@@ -76,7 +77,7 @@ module _ {T : Type 0} where
         decision = λ t p x flight since said s small found doing asks. writes_in_order code c t p s x since (Decide p said) refl (number_of said) flight found doing;
         after = λ t p x flight since answer s found doing.
             told code t.world.coding c t.world.words (beside_of t.world.words t.world.kept t.world.latest p) s.state p x.start flight answer t.world.kept s.fit (stands_there (family code c) t s p x since flight found doing).at;
-        tells = λ t turn e s. (finds_all code c t turn e s, finds_up_to code c t turn e s);
+        tells = λ t turn e s. ((finds_all code c t turn e s, finds_up_to code c t s turn e), tells_once code c t s turn e, yes_tells code c t s turn e);
       }
 
   -- what is proved of every run of the robust index set

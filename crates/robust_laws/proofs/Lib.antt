@@ -27,4 +27,5 @@ pub mod Sound
 pub mod Stages
 pub mod Standing
 pub mod Tells
+pub mod Told
 pub mod Written

@@ -1,5 +1,5 @@
 -- A find that ends in another turn than a no has come to the indices of the whole set.
-use Rattle.std.proofs.Common.{◌+◌, ◌≡◌, ◌≢◌, ℕ, ◌^◌, ◌-◌, ◌<◌, nat_le, Bool, true, false, Option, Some, None, is_none, List, [], ◌∷◌, ◌++◌, refl, sym, ap, subst, ◌∙◌, arith}
+use Rattle.std.proofs.Common.{◌≡◌, ◌≢◌, ℕ, ◌^◌, ◌-◌, ◌<◌, Bool, true, false, Option, Some, None, is_none, List, [], ◌∷◌, ◌++◌, refl, sym, ap, subst, ◌∙◌, arith}
 use Rattle.std.proofs.lemmas.List.{append_cancel_left}
 use Rattle.std.specs.List.{AllByRecursion}
 use Rattle.steps.specs.declared.ask.After.{After}
@@ -29,16 +29,16 @@ use Rattle.model.specs.declared.party.Doing.TheVariants.{Going, Over}
 use Rattle.model.specs.declared.party.Party.{Party}
 use Rattle.model.specs.declared.turn.Turn.{Turn}
 use Rattle.model.specs.declared.turn.Turn.TheVariants.{Begin, Next, Decide, Die}
-use Rattle.model.specs.declared.turn.Refusal.TheVariants.{AtEnd, NoParty, Idle, Undecided}
+use Rattle.model.specs.declared.turn.Refusal.TheVariants.{Idle, Undecided}
 use Rattle.model.specs.Coding.{Coding}
 use Rattle.model.specs.Families.{want_of, ask_of, is_question, beside_of, step_of}
 use Rattle.model.specs.Families.Indices.Robust.Calls.{want, after}
-use Rattle.model.specs.Families.Indices.Robust.Promises.{IsCount, IsFilledWith, asked_by, asked_of, FindsAll, FindsUpTo}
+use Rattle.model.specs.Families.Indices.Robust.Promises.{IsCount, IsFilledWith, FindsAll}
 use Rattle.model.specs.Families.Indices.Robust.Steps.{effects}
 use Rattle.model.specs.Families.Queues.Calls.{as_it_is}
 use Rattle.model.specs.Parties.{party_of, doing_of, flight_of}
 use Rattle.model.specs.Promises.Turns.{IsParty, IsEffectOf}
-use Rattle.model.specs.Refusals.{refusal_of, is_at_end, is_due, call_refusal}
+use Rattle.model.specs.Refusals.{refusal_of, is_due, call_refusal}
 use Rattle.model.specs.Step.{as_call, answer_in}
 use Rattle.model.specs.Turns.{old_of, number_of, events_of_step, events_of_answer, events_of_next, events_of_decision, events_of, ask_of_doing, ending_of, after_turn}
 use Rattle.model.specs.World.{World, Trace, flight_in}
@@ -101,25 +101,6 @@ module _ {T : Type 0} where
         (stage_tells at.2 number due run.call.stage at.3)
     find_tells number due flight at = absurd at
 
-    -- a find that a no ends, at the index that it asked about
-    abbrev Stops : ℕ → ℕ → RobustFlight → Type 0
-    Stops number index flight =
-        Knows c flight (now scene) → asked_by (want flight) ≡ Some index → answer_in (any_call (after {T = T} flight 0)) ≡ Some (Number number) → IsCount p (IsFilledWith owner) (index + 1) number events
-
-    stage_stops : (number index : ℕ) (stage : FindStage) → FindAt c (all scene) stage → Stops number index (find_at c owner stage)
-    stage_stops number index (finds.TheVariants.LoadsCell k found) at h asks e = absurd (cc)
-    stage_stops number index (finds.TheVariants.Asks k found) at h asks e =
-        let same : k ≡ index = cc in
-        let done : ◌≡◌ {A = After find_calls.Find ℕ} (Done found) (Done number) = done_is owner number _ e in
-        let is : found ≡ number = cc in
-        subst (λ n. IsCount p (IsFilledWith owner) (index + 1) n events) is (subst (λ i. IsCount p (IsFilledWith owner) (i + 1) found events) same h.says)
-
-    find_stops : (number index : ℕ) (flight : RobustFlight) → At c (all scene) (starts.TheVariants.Find owner) flight → Stops number index flight
-    find_stops number index (calls.TheVariants.Find run) at =
-        subst (Stops number index) (sym (ap (λ n. find_at n run.given run.call.stage) at.0 ∙ ap (λ o. find_at c o run.call.stage) at.1))
-        (stage_stops number index run.call.stage at.3)
-    find_stops number index flight at = absurd at
-
   robust_name : (start : RobustStart) (owner : ℕ) → ◌≡◌ {A = Start T} (Robust start) (Robust (starts.TheVariants.Find owner)) → start ≡ starts.TheVariants.Find owner
   robust_name start owner e = cc
 
@@ -150,17 +131,6 @@ module _ {T : Type 0} where
         (find_tells (scene_of code c t s q x since) (inv_of code c t s q x since small found) owner number due flight at there.knows asks answer loads told end.done)
     counted due told start flight h asks loads e = absurd h.at
 
-    stopped : answer ≡ 0 → (index : ℕ) (start : Start T) (flight : Flight T) → StandsThere (family code c) t s q x since start flight → asked_by (want_of t.world.coding flight) ≡ Some index
-        → Wrote (kepts.TheVariants.Owners s.state.dead) start flight → IsCount p (IsFilledWith owner) (index + 1) number t.events
-    stopped zero index (Robust start) (flights.TheVariants.Robust flight) h asks e =
-        let there = is_there code c t s q x since small found start flight h in
-        let end = wrote_end start flight e in
-        let at = subst (λ a. At c (all (scene_of code c t s q x since)) a flight) (robust_name start owner end.name) there.at in
-        subst (λ n. IsCount n (IsFilledWith owner) (index + 1) number t.events) end.party
-        (find_stops (scene_of code c t s q x since) (inv_of code c t s q x since small found) owner number index flight at there.knows asks
-        (subst (λ a. answer_in (any_call (after {T = T} flight a)) ≡ Some (Number number)) zero end.done))
-    stopped zero index start flight h asks e = absurd h.at
-
     -- by the words and what is kept beside them
     module _ (flight : Flight T) (doing : x.doing ≡ Going flight since) (e : Wrote t.world.kept x.start flight) where
       there : StandsThere (family code c) t s q x since x.start flight
@@ -176,9 +146,6 @@ module _ {T : Type 0} where
           → IsCount p (IsFilledWith owner) c number t.events
       all_counted due told asks loads =
           counted due told x.start flight there asks (λ no. loads no ∙ ap (λ ws. old_of ws (ask_of (want_of t.world.coding flight))) (kept_is t.world.kept t.world.words s.state s.fit).1) by_owners
-
-      pub stopped_there : answer ≡ 0 → (index : ℕ) → asked_by (want_of t.world.coding flight) ≡ Some index → IsCount p (IsFilledWith owner) (index + 1) number t.events
-      stopped_there zero index asks = stopped zero index x.start flight there asks by_owners
 
   -- ---- any turn
 
@@ -215,17 +182,6 @@ module _ {T : Type 0} where
                 let party = own_party code c t s q x since small found (Decide q said) refl (number_of said) p owner number flight d e in
                 absurd (ne (ap (λ n. Decide n said) party ∙ ap (λ b. Decide p b) is))
 
-    decision_stops : (index : ℕ) → t.world.turns < 2 ^ 64 - 2 → asked_of t.world.coding (flight_in t.world p) ≡ Some index → (o : Option (Party T)) → party_of p t.world.latest ≡ o → Ended (events_of_decision t.world p false o)
-        → IsCount p (IsFilledWith owner) (index + 1) number t.events
-    decision_stops index small asks None found e = absurd (cc)
-    decision_stops index small asks (Some x) found e = go x.doing refl e
-      where
-        go : (doing : Doing T) → x.doing ≡ doing → Ended (events_of_answer t.world p x (number_of false) doing) → IsCount p (IsFilledWith owner) (index + 1) number t.events
-        go (Over others) d e = absurd (cc)
-        go (Going flight since) d e =
-            let here : flight_in t.world p ≡ Some flight = ap (λ o. flight_of (doing_of o)) found ∙ ap (λ d. flight_of (Some d)) d in
-            stopped_there code c t s p x since small found (Decide p false) refl (number_of false) p owner number flight d e refl index (rw here at asks)
-
   -- no decision is due in a step
   not_due : (w : World T) (q : ℕ) → call_refusal w (Next q) ≡ None → is_due w.coding (flight_in w q) ≡ false
   not_due w q e =
@@ -246,11 +202,3 @@ module _ {T : Type 0} where
       λ p owner number is ne.
       subst (λ n. IsCount p (IsFilledWith owner) n number t.events) (sym s.capacity)
       (tells code c t turn r s p owner number (append_cancel_left t.events (events_of t.world turn) _ is) ne)
-
-  pub finds_up_to : (code : Coding T) (c : ℕ) (t : Trace T) (turn : Turn T) → refusal_of t.world turn ≡ None → frame.Sound (family code c) t → FindsUpTo t turn (after_turn t turn)
-  finds_up_to code c t turn r s =
-      λ p owner number index is no asks.
-      let allowed : refusal_of t.world (Decide p false) ≡ None = subst (λ u. refusal_of t.world u ≡ None) no r in
-      let wrote : events_of t.world turn ≡ Finished p (Robust (starts.TheVariants.Find owner)) (Number number) ∷ [] = append_cancel_left t.events (events_of t.world turn) _ is in
-      decision_stops code c t s p owner number index (passes t.world (Decide p false) allowed).turns asks (party_of p t.world.latest) refl
-      (subst (λ u. events_of t.world u ≡ Finished p (Robust (starts.TheVariants.Find owner)) (Number number) ∷ []) no wrote)

@@ -4,3 +4,7 @@ pub mod AddRuns
 pub mod RemoveRuns
 pub mod ReplaceRuns
 pub mod LookRuns
+pub mod FindRuns
+pub mod Finding
+pub mod RecoverRuns
+pub mod Recovering

@@ -3,9 +3,12 @@
 use crate::robust::view::View;
 use lock_free_sp::driver::rule::Drives;
 use steps::container::add::{Add, AddStage};
+use steps::container::find::Find;
 use steps::container::look::Look;
+use steps::container::recover::Recover;
 use steps::container::remove::Remove;
 use steps::container::replace::Replace;
+use steps::copied::Room;
 use steps::indices::robust::acquire::AcquireStage;
 use steps::words::Words;
 
@@ -64,4 +67,27 @@ impl<T: Words> Drives<View, Look<T>> for Looks {
     ghost at = { λ given. At (LookStands T.WORDS) };
 
     ghost ends = { λ given. LookEnds };
+}
+
+/// Coming to the values of an owner.
+pub struct Finds;
+
+impl<T: Words, R: Room<T> + Drop> Drives<View, Find<T, R>> for Finds {
+    ghost use Rattle.lock_free.specs.Robust.Stages.{At};
+    ghost use Rattle.lock_free.specs.Container.Visits.{FindStands, FindEnds};
+
+    ghost at = { λ given. At (FindStands T.WORDS) };
+
+    ghost ends = { λ given. FindEnds };
+}
+
+/// Freeing the indices of a dead owner.
+pub struct Recovers;
+
+impl<T: Words, R: Room<T> + Drop> Drives<View, Recover<T, R>> for Recovers {
+    ghost use Rattle.lock_free.specs.Container.Recovery.{RecoverAt, RecoverEnds};
+
+    ghost at = { λ given. RecoverAt T.WORDS };
+
+    ghost ends = { λ given. RecoverEnds };
 }

@@ -1,5 +1,5 @@
 -- Where every event stands right in its party's span, each call acts once, while it is under way, and ends with that answer.
-use Rattle.std.proofs.Common.{◌≡◌, ◌≢◌, ⊎_elim, ℕ, Bool, true, false, Option, Some, None, IfSome, List, [], ◌∷◌, ◌++◌, refl, sym, ap, subst, ◌∙◌, append_assoc, append-nil}
+use Rattle.std.proofs.Common.{◌≡◌, ◌≢◌, ⊎_elim, ℕ, Bool, true, false, Option, Some, None, List, [], ◌∷◌, ◌++◌, refl, sym, ap, subst, ◌∙◌, append_assoc, append-nil}
 use Rattle.std.proofs.lemmas.Bool.{cases_eq}
 use Rattle.std.proofs.lemmas.List.Concat.{flat_map-append}
 use Rattle.std.proofs.lemmas.List.Sums.{fold-append}
@@ -8,7 +8,7 @@ use Rattle.model.specs.declared.event.Event.{Event}
 use Rattle.model.specs.declared.event.Event.TheVariants.{Begun, Acted, Finished}
 use Rattle.model.specs.declared.event.Start.{Start}
 use Rattle.model.specs.Promise.{Promise}
-use Rattle.model.specs.Promises.Spans.{Stands, StandsRight}
+use Rattle.model.specs.Promises.Spans.{StandsRight}
 use Rattle.model.specs.Reading.{Each, acts, moments, whose, is_party, Span, Never, Open, Ended, longer, ended, own_after, span_after, span_of}
 use Rattle.model.specs.Shape.{IsOpenFor, IsShut}
 use Rattle.model.proofs.Linearizable.Acting.{Standing, Ends, ActsOnce}

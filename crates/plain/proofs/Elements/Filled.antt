@@ -14,7 +14,7 @@ use Rattle.plain.specs.Contents.{Contents, opened, changed, names, put_at, after
 use Rattle.plain.proofs.Elements.Adds.{acquired_low, owners_long}
 use Rattle.plain.proofs.Elements.Values.{front_fits}
 
-abbrev IsSome : {X : Type 0} → Option X → Type 0
+abbrev pub IsSome : {X : Type 0} → Option X → Type 0
 IsSome (Some x) = Unit {0}
 IsSome None = ⊥
 

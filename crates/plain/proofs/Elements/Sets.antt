@@ -29,7 +29,7 @@ use Rattle.plain.proofs.Robust.Acquires.{take_walks}
 use Rattle.plain.proofs.Robust.Releases.{give_walks}
 
 module _ (capacity : ℕ) where
-  raise_below : (r : raises.Raise) → AsksBelow (1 + capacity) (raise_want r)
+  pub raise_below : (r : raises.Raise) → AsksBelow (1 + capacity) (raise_want r)
   raise_below raises.TheVariants.LoadsCounter = omega arith
   raise_below (raises.TheVariants.ExchangesCounter counter) = omega arith
 
@@ -120,7 +120,7 @@ module _ (capacity : ℕ) where
   count_below (counts.TheVariants.LoadsCell counter index filled) low = omega arith
   count_below (counts.TheVariants.ExchangesCounter counter filled) low = omega arith
 
-  abbrev LockLow : locks.Lock → Type 0
+  abbrev pub LockLow : locks.Lock → Type 0
   LockLow (locks.TheVariants.Counts count) = CountLow count
   LockLow (locks.TheVariants.ExchangesCounter counter) = Unit {0}
 
@@ -132,13 +132,13 @@ module _ (capacity : ℕ) where
       by_test (λ a. LowThen {E = ReleaseState} LockLow a) ((filled == 0) && not (counter == greatest)) _ _
       (λ _. tt) (λ _. tt)
 
-  lock_goes_low : (lock : locks.Lock) (old : ℕ) → LowThen {E = ReleaseState} LockLow (lock_after capacity lock old)
+  pub lock_goes_low : (lock : locks.Lock) (old : ℕ) → LowThen {E = ReleaseState} LockLow (lock_after capacity lock old)
   lock_goes_low (locks.TheVariants.Counts count) old =
       counted_low (count_after capacity count old) (count_goes_low count old)
   lock_goes_low (locks.TheVariants.ExchangesCounter counter) old =
       by_eq (λ a. LowThen {E = ReleaseState} LockLow a) old counter _ _ (λ _. tt) (λ _. tt)
 
-  lock_below : (lock : locks.Lock) → LockLow lock → AsksBelow (1 + capacity) (lock_want lock)
+  pub lock_below : (lock : locks.Lock) → LockLow lock → AsksBelow (1 + capacity) (lock_want lock)
   lock_below (locks.TheVariants.Counts count) low = count_below count low
   lock_below (locks.TheVariants.ExchangesCounter counter) low = omega arith
 

@@ -56,7 +56,7 @@ module _ {V : Type 0} (value_of : List ℕ → V) (size capacity : ℕ) where
         small = subst (λ w. w < 2 ^ 64) (sym (get_or-take (1 + capacity) words 0 0 (omega arith))) fits.small;
       }
 
-  value_same : (ws vs : List ℕ) (i : ℕ) → slice_index vs (count_word capacity i) ≡ slice_index ws (count_word capacity i)
+  pub value_same : (ws vs : List ℕ) (i : ℕ) → slice_index vs (count_word capacity i) ≡ slice_index ws (count_word capacity i)
       → ((j : ℕ) → element_word capacity size i 0 ≤ j → j < element_word capacity size i 0 + size → slice_index vs j ≡ slice_index ws j)
       → value_at value_of size capacity vs i ≡ value_at value_of size capacity ws i
   value_same ws vs i count same =

@@ -30,7 +30,7 @@ use Rattle.model.specs.declared.party.Party.{Party}
 use Rattle.model.specs.declared.families.queues.QueueKind as kinds
 use Rattle.model.specs.Coding.{Coding}
 use Rattle.model.specs.Families.Queues.Objects.{answer_of_item}
-use Rattle.model.specs.Families.Queues.Calls.{read_word, after, goes_back, words_of_index}
+use Rattle.model.specs.Families.Queues.Calls.{read_word, after, words_of_index}
 use Rattle.model.specs.Families.Queues.Objects.{cut_off}
 use Rattle.model.specs.Families.Queues.Promises.{promise}
 use Rattle.model.specs.Families.Queues.Steps.{pending_at, pending, beside, takes_effect}

@@ -1,9 +1,11 @@
 -- What a turn writes down: what its step did to the queue, then the acts, then the end. A push that answers false, and a
 -- pop that answers None, did so in its own turn, as it loaded the other position; without capacity, an overflowing queue's
--- pop loads none.
-use Rattle.std.proofs.Common.{◌≡◌, ℕ, zero, suc, ◌-◌, ◌^◌, ◌<◌, ◌==◌, ◌||◌, Bool, true, false, cond, Option, Some, None, List, [], ◌∷◌, ◌++◌, get_or, refl, sym, ap, subst, ◌∙◌, arith}
+-- pop loads none. A push that is taken, and a pop that answers a value, acts as its position goes on.
+use Rattle.std.proofs.Common.{◌≡◌, ℕ, zero, suc, ◌+◌, ◌-◌, ◌^◌, ◌<◌, ◌≤◌, ◌==◌, ◌||◌, ◌&&◌, not, if◌then◌else◌, Bool, true, false, cond, inl, inr, Option, Some, None, List, [], ◌∷◌, ◌++◌, get_or, refl, sym, ap, subst, ◌∙◌, arith}
+use Rattle.std.proofs.lemmas.Bool.Decides.{nat_tests}
 use Rattle.std.specs.List.{AllByRecursion}
 use Rattle.steps.specs.declared.ask.Ask.{Ask}
+use Rattle.steps.specs.declared.ask.Op.TheVariants.{Store, Exchange}
 use Rattle.steps.specs.declared.ask.After.{After}
 use Rattle.steps.specs.declared.ask.After.TheVariants.{GoOn, Done}
 use Rattle.steps.specs.declared.copied.OneWord.{OneWord}
@@ -11,12 +13,13 @@ use Rattle.steps.specs.declared.queues.ring.PushStage as pushes
 use Rattle.steps.specs.declared.queues.ring.PopStage as pops
 use Rattle.steps.specs.declared.queues.overflow.Push as overflow_push
 use Rattle.steps.specs.declared.queues.overflow.Pop as overflow_pop
+use Rattle.steps.specs.declared.queues.overflow.PushStage as overflow_pushes
 use Rattle.steps.specs.declared.queues.overflow.PopStage as overflow_pops
 use Rattle.steps.specs.declared.queues.overflow.PushEnd.{PushEnd}
-use Rattle.steps.specs.declared.queues.overflow.PushEnd.TheVariants.{Added, Own, Oldest}
+use Rattle.steps.specs.declared.queues.overflow.PushEnd.TheVariants.{Added}
 use Rattle.steps.specs.declared.copied.Kept as cells
-use Rattle.steps.specs.Queues.Ring.{distance}
-use Rattle.steps.specs.Queues.Overflow.{cell_word, push_after, push_kept, push_answer, pop_answer}
+use Rattle.steps.specs.Queues.Ring.{after_position, distance}
+use Rattle.steps.specs.Queues.Overflow.{cell_word, push_answer, pop_answer}
 use Rattle.steps.specs.Routine.{went_on}
 use Rattle.model.specs.declared.event.Answer.{Answer}
 use Rattle.model.specs.declared.event.Answer as answers
@@ -48,10 +51,11 @@ use Rattle.model.specs.declared.turn.Turn.TheVariants.{Next}
 use Rattle.model.specs.Coding.{Coding, IsCoding}
 use Rattle.model.specs.Families.{after_of, ask_of, beside_of, step_of}
 use Rattle.model.specs.Families.Queues.Book.{AnswersRight}
-use Rattle.model.specs.Families.Queues.Calls.{want, after, popped}
-use Rattle.model.specs.Families.Queues.Promises.{load_of_write, load_of_read, finding_none, promise}
-use Rattle.model.specs.Families.Queues.Steps.{beside, takes_effect, effect_of, acts_if_done, effects_of}
-use Rattle.model.specs.Parties.{party_of}
+use Rattle.model.specs.Families.Queues.Calls.{write_word, read_word, want, after, popped}
+use Rattle.model.specs.Families.Queues.Opening.{holds}
+use Rattle.model.specs.Families.Queues.Promises.{load_of_write, load_of_read, finding_none, AddsOne, HandsBack, promise}
+use Rattle.model.specs.Families.Queues.Steps.{pending_at, pending, beside, takes_effect, effect_of, acts_if_done, effects_of}
+use Rattle.model.specs.Parties.{party_of, doing_of, flight_of}
 use Rattle.model.specs.Promises.{IsTurnBy}
 use Rattle.model.specs.Promises.Turns.{ask_in, IsParty, IsEffectOf, IsAct, ActsRight}
 use Rattle.model.specs.Step.{as_call, answer_in}
@@ -61,7 +65,8 @@ use Rattle.model.proofs.Frame as frame
 use Rattle.model.proofs.Orders.{Orders, Keeps, ends_end, turn_is}
 use Rattle.model.proofs.Readings.{AreRight}
 use Rattle.model.proofs.Scenes.{StandsThere, stands_there, InOrder, in_order_from}
-use Rattle.queue_laws.proofs.Overflow.Knows.{overflow_pop_at, KnowsOverflowPop, OverflowAt}
+use Rattle.queue_laws.proofs.Overflow.Knows.{overflow_push_at, overflow_pop_at, KnowsOverflowPush, KnowsOverflowPop, OverflowAt}
+use Rattle.queue_laws.proofs.Overflow.Waiting.{pending_is}
 use Rattle.queue_laws.proofs.Queues.Core.{Core}
 use Rattle.queue_laws.proofs.Queues.Invariant.{Queue, Fit, machine_kind, family}
 use Rattle.queue_laws.proofs.Queues.Knows.{layout, IndexAt, ValueAt, At}
@@ -70,7 +75,7 @@ use Rattle.queue_laws.proofs.Queues.Kept.{kept, promised_by}
 use Rattle.queue_laws.proofs.Queues.Stages.{told_after, any_call}
 use Rattle.queue_laws.proofs.Queues.Values.{Val, encoded, item}
 use Rattle.queue_laws.proofs.Ring.Kinds.{Ring, of_indices, of_values, kind_of, Room, words_in, push, got, read_in, ring_want, ring_after, ring_effect}
-use Rattle.queue_laws.proofs.Ring.Knows.{push_at, pop_at, PushAt, PopAt}
+use Rattle.queue_laws.proofs.Ring.Knows.{push_at, pop_at, KnowsPush, KnowsPop, PushAt, PopAt}
 
 -- where a pop finds nothing
 ring_finds : (r : Ring) (c : ℕ) → finding_none (kind_of r) c ≡ Some load_of_write
@@ -142,7 +147,7 @@ module _ {T : Type 0} where
 
 -- ---- what an act tells
 
-module _ {T : Type 0} (own : QueueKind) (t : Trace T) (turn : Turn T) (p : ℕ) (mine : IsParty turn p) where
+module _ {T : Type 0} (own : QueueKind) (t : Trace T) (turn : Turn T) (p : ℕ) (mine : IsParty turn p) (alone : (q : ℕ) → IsParty turn q → q ≡ p) where
   abbrev en : Coding T
   en = t.world.coding
 
@@ -158,46 +163,62 @@ module _ {T : Type 0} (own : QueueKind) (t : Trace T) (turn : Turn T) (p : ℕ) 
   abbrev Justified : List (Event T) → Type 0
   Justified es = AllByRecursion (ActsRight (promise own) t turn) es
 
+  -- the turn adds 1 to this word
+  abbrev Adds : ℕ → Type 0
+  Adds word = AddsOne word t.world.words asked
+
   push_acted : (r : Ring) (v : Val T (kind_of r)) → asked ≡ Some load_of_read → AnswersRight c t.events (Acted p (Queues (push r v)) (answers.TheVariants.Truth false)) → ActsRight (promise own) t turn (Acted p (Queues (push r v)) (answers.TheVariants.Truth false))
   push_acted of_indices v asks h = (mine, asks, h)
   push_acted of_values v asks h = (mine, asks, h)
 
-  taken_acted : (r : Ring) (v : Val T (kind_of r)) → ActsRight (promise own) t turn (Acted p (Queues (push r v)) (answers.TheVariants.Truth true))
-  taken_acted of_indices v = tt
-  taken_acted of_values v = tt
+  taken_acted : (r : Ring) (v : Val T (kind_of r)) → Adds write_word → ActsRight (promise own) t turn (Acted p (Queues (push r v)) (answers.TheVariants.Truth true))
+  taken_acted of_indices v adds = (mine, adds)
+  taken_acted of_values v adds = (mine, adds)
 
-  got_acted : (r : Ring) (v : Val T (kind_of r)) → ActsRight (promise own) t turn (Acted p (Queues Pop) (got r v))
-  got_acted of_indices v = tt
-  got_acted of_values v = tt
+  got_acted : (r : Ring) (v : Val T (kind_of r)) → Adds read_word → ActsRight (promise own) t turn (Acted p (Queues Pop) (got r v))
+  got_acted of_indices v adds = (mine, adds)
+  got_acted of_values v adds = (mine, adds)
 
-  pop_acted : (answer : Answer T) → asked ≡ finding_none own c → AnswersRight c t.events (Acted p (Queues Pop) answer) → ActsRight (promise own) t turn (Acted p (Queues Pop) answer)
-  pop_acted answers.TheVariants.PoppedNone asks h = (mine, asks, h)
-  pop_acted answer asks h = tt
+  -- it goes on, or it is done with None
+  abbrev FindsNone : After (QueueFlight T) (Answer T) → Type 0
+  FindsNone (GoOn flight) = Unit {0}
+  FindsNone (Done answer) = answer ≡ answers.TheVariants.PoppedNone
 
-  pop_acts : (after : After (QueueFlight T) (Answer T)) → asked ≡ finding_none own c → Right (told_after p Pop Acts after) → Justified (acts_if_done p Pop (answer_in after))
-  pop_acts (GoOn flight) asks h = tt
-  pop_acts (Done answer) asks h = (pop_acted answer asks h.0, tt)
+  pop_acts : (after : After (QueueFlight T) (Answer T)) → FindsNone after → asked ≡ finding_none own c → Right (told_after p Pop Acts after) → Justified (acts_if_done p Pop (answer_in after))
+  pop_acts (GoOn flight) none asks h = tt
+  pop_acts (Done answer) none asks h =
+      (subst (λ a. AnswersRight c t.events (Acted p (Queues Pop) a) → ActsRight (promise own) t turn (Acted p (Queues Pop) a)) (sym none) (λ right. (mine, asks, right)) h.0, tt)
 
-  -- a push of an overflowing queue answers nothing that is asked about
-  module _ (index given : ℕ) (room : OneWord) where
-    abbrev answered : After overflow_push.Push PushEnd → Option (Answer T)
-    answered after = answer_in {C = QueueFlight T} (as_call (λ r. Overflow (overflows.TheVariants.Push r)) popped (went_on (λ end given room. push_answer given room.0 end) given room after))
+  -- ---- the positions
 
-    overflow_act : (after : After overflow_push.Push PushEnd) → Justified (acts_if_done p (PushIndex index) (answered after))
-    overflow_act (GoOn call) = tt
-    overflow_act (Done Added) = (tt, tt)
-    overflow_act (Done Own) = (tt, tt)
-    overflow_act (Done Oldest) = (tt, tt)
+  -- as the words hold them
+  record Positions (write read : ℕ) : Type 0 where
+    pub rest : List ℕ
+    pub words : t.world.words ≡ write ∷ read ∷ rest
+    pub few : write < 2 ^ 64 - 1
+    pub low : read ≤ write
 
-    overflow_acts : (effect : Effect T) (after : After overflow_push.Push PushEnd) → Justified (acts_of p (PushIndex index) effect (answered after))
-    overflow_acts Quiet after = tt
-    overflow_acts Acts after = overflow_act after
-    overflow_acts (Publishes out) after = overflow_act after
-    overflow_acts (PublishesAndActs out) after = (tt, tt)
-    overflow_acts (HandsOut out) after = overflow_act after
-    overflow_acts (TakesOut out) after = (tt, tt)
-    overflow_acts (MakesRoom out q pushed) after =
-        joined (ActsRight (promise own) t turn) (acts_if_done p (PushIndex index) (answered after)) (Acted q (Queues (PushIndex pushed)) answers.TheVariants.PoppedNone ∷ []) (overflow_act after) (tt, tt)
+  module _ (write read : ℕ) (at : Positions write read) where
+    by_words : (word : ℕ) (ask : Option Ask) → AddsOne word (write ∷ read ∷ at.rest) ask → asked ≡ ask → Adds word
+    by_words word ask h asks = subst (λ ws. AddsOne word ws asked) (sym at.words) (subst (λ a. AddsOne word (write ∷ read ∷ at.rest) a) (sym asks) h)
+
+    stores_write : asked ≡ Some (record { word = write_word; op = Store (after_position write) }) → Adds write_word
+    stores_write asks =
+        let few = at.few in
+        let next : after_position write ≡ write + 1 = omega arith in
+        by_words write_word (Some (record { word = write_word; op = Store (after_position write) })) next asks
+
+    next_read : after_position read ≡ read + 1
+    next_read = let few = at.few in let low = at.low in omega arith
+
+    stores_read : asked ≡ Some (record { word = read_word; op = Store (after_position read) }) → Adds read_word
+    stores_read asks = by_words read_word (Some (record { word = read_word; op = Store (after_position read) })) next_read asks
+
+    moves_read : asked ≡ Some (record { word = read_word; op = Exchange read (after_position read) }) → Adds read_word
+    moves_read asks =
+        let same : (read == read) ≡ true = grind (arith, nat_tests) in
+        let next : (if read == read then after_position read else read) ≡ read + 1 = rw same next_read in
+        by_words read_word (Some (record { word = read_word; op = Exchange read (after_position read) })) next asks
 
   module _ (words : List ℕ) (waits : Option (ℕ × ℕ)) where
     abbrev Tells : QueueStart T → QueueFlight T → ℕ → Type 0
@@ -214,9 +235,13 @@ module _ {T : Type 0} (own : QueueKind) (t : Trace T) (turn : Turn T) (p : ℕ) 
       abbrev RingActing : QueueStart T → rings.RingCall (Val T (kind_of r)) (Room r) → ℕ → Type 0
       RingActing start call old = Justified (acts_of p start (ring_effect en r call) (answer_in (ring_after en r call old)))
 
-      push_right : (v : Val T (kind_of r)) (capacity : ℕ) (stage : pushes.PushStage) (old : ℕ) → asked ≡ ask_of (ring_want en r (push_at capacity v stage)) → RingTells (push r v) (push_at capacity v stage) old → RingActing (push r v) (push_at capacity v stage) old
-      push_right v capacity pushes.TheVariants.LoadsWrite old asks h = tt
-      push_right v capacity (pushes.TheVariants.LoadsRead write) old asks h = go (capacity == 0 || distance write old == capacity) refl h
+      abbrev coded : Coding (Val T (kind_of r))
+      coded = encoded en (kind_of r)
+
+      push_right : (k : Core (Val T (kind_of r))) → Positions k.write k.read → (v : Val T (kind_of r)) (capacity : ℕ) (stage : pushes.PushStage) (old : ℕ) → KnowsPush coded c k v stage → asked ≡ ask_of (ring_want en r (push_at capacity v stage)) → RingTells (push r v) (push_at capacity v stage) old
+          → RingActing (push r v) (push_at capacity v stage) old
+      push_right k at v capacity pushes.TheVariants.LoadsWrite old knows asks h = tt
+      push_right k at v capacity (pushes.TheVariants.LoadsRead write) old knows asks h = go (capacity == 0 || distance write old == capacity) refl h
         where
           call : rings.RingCall (Val T (kind_of r)) (Room r)
           call = push_at capacity v (pushes.TheVariants.LoadsRead write)
@@ -227,93 +252,177 @@ module _ {T : Type 0} (own : QueueKind) (t : Trace T) (turn : Turn T) (p : ℕ) 
               let told = subst (λ a. Right (told_after p (push r v) Acts a)) goes h in
               subst (λ a. Justified (acts_of p (push r v) Acts (answer_in a))) (sym goes) (push_acted r v asks told.0, tt)
           go false e h = rw e tt
-      push_right v capacity (pushes.TheVariants.StoresCell write cell at) old asks h = tt
-      push_right v capacity (pushes.TheVariants.StoresWrite write) old asks h = (taken_acted r v, tt)
+      push_right k at v capacity (pushes.TheVariants.StoresCell write cell place) old knows asks h = tt
+      push_right k at v capacity (pushes.TheVariants.StoresWrite write) old knows asks h =
+          (taken_acted r v (stores_write k.write k.read at (asks ∙ ap (λ n. Some (record { word = write_word; op = Store (after_position n) })) knows.0)), tt)
 
-      pop_right : (capacity : ℕ) (room : Room r) (stage : pops.PopStage) (old : ℕ) → asked ≡ ask_of (ring_want en r (pop_at capacity room stage)) → finding_none own c ≡ Some load_of_write → RingTells Pop (pop_at capacity room stage) old
-          → RingActing Pop (pop_at capacity room stage) old
-      pop_right capacity room pops.TheVariants.LoadsRead old asks finds h = tt
-      pop_right capacity room (pops.TheVariants.LoadsWrite read) old asks finds h = pop_acts (ring_after en r (pop_at capacity room (pops.TheVariants.LoadsWrite read)) old) (asks ∙ sym finds) h
-      pop_right capacity room (pops.TheVariants.LoadsCell read cell at) old asks finds h = tt
-      pop_right capacity room (pops.TheVariants.StoresRead read) old asks finds h = (got_acted r (read_in en r room), tt)
+      pop_right : (k : Core (Val T (kind_of r))) → Positions k.write k.read → (capacity : ℕ) (room : Room r) (stage : pops.PopStage) (old : ℕ) → KnowsPop coded c k (words_in r room) stage → asked ≡ ask_of (ring_want en r (pop_at capacity room stage)) → finding_none own c ≡ Some load_of_write
+          → RingTells Pop (pop_at capacity room stage) old → RingActing Pop (pop_at capacity room stage) old
+      pop_right k at capacity room pops.TheVariants.LoadsRead old knows asks finds h = tt
+      pop_right k at capacity room (pops.TheVariants.LoadsWrite read) old knows asks finds h = pop_acts (ring_after en r call old) (none (capacity == 0 || old == read) refl) (asks ∙ sym finds) h
+        where
+          call : rings.RingCall (Val T (kind_of r)) (Room r)
+          call = pop_at capacity room (pops.TheVariants.LoadsWrite read)
 
-      push_call_right : (ro : Roles) (k : Core (Val T (kind_of r))) (v : Val T (kind_of r)) (call : rings.RingCall (Val T (kind_of r)) (Room r)) (old : ℕ) → PushAt (encoded en (kind_of r)) (words_in r) c ro k p v call
+          none : (b : Bool) → (capacity == 0 || old == read) ≡ b → FindsNone (ring_after en r call old)
+          none true e = rw e refl
+          none false e = rw e tt
+      pop_right k at capacity room (pops.TheVariants.LoadsCell read cell place) old knows asks finds h = tt
+      pop_right k at capacity room (pops.TheVariants.StoresRead read) old knows asks finds h =
+          (got_acted r (read_in en r room) (stores_read k.write k.read at (asks ∙ ap (λ n. Some (record { word = read_word; op = Store (after_position n) })) knows.1)), tt)
+
+      push_call_right : (ro : Roles) (k : Core (Val T (kind_of r))) → Positions k.write k.read → (v : Val T (kind_of r)) (call : rings.RingCall (Val T (kind_of r)) (Room r)) (old : ℕ) → PushAt (encoded en (kind_of r)) (words_in r) c ro k p v call
           → asked ≡ ask_of (ring_want en r call) → RingTells (push r v) call old → RingActing (push r v) call old
-      push_call_right ro k v (rings.TheVariants.Push run) old at asks h =
+      push_call_right ro k place v (rings.TheVariants.Push run) old at asks h =
           subst (λ x. RingTells (push r v) (push_at run.call.capacity x run.call.stage) old → asked ≡ ask_of (ring_want en r (push_at run.call.capacity x run.call.stage)) → RingActing (push r v) (push_at run.call.capacity x run.call.stage) old) (sym at.2)
-          (λ right asks. push_right v run.call.capacity run.call.stage old asks right)
+          (λ right asks. push_right k place v run.call.capacity run.call.stage old at.3 asks right)
           h
           asks
-      push_call_right ro k v (rings.TheVariants.Pop run) old at asks h = absurd at
+      push_call_right ro k place v (rings.TheVariants.Pop run) old at asks h = absurd at
 
-      pop_call_right : (ro : Roles) (k : Core (Val T (kind_of r))) (call : rings.RingCall (Val T (kind_of r)) (Room r)) (old : ℕ) → PopAt (encoded en (kind_of r)) (words_in r) c ro k p call → finding_none own c ≡ Some load_of_write
+      pop_call_right : (ro : Roles) (k : Core (Val T (kind_of r))) → Positions k.write k.read → (call : rings.RingCall (Val T (kind_of r)) (Room r)) (old : ℕ) → PopAt (encoded en (kind_of r)) (words_in r) c ro k p call → finding_none own c ≡ Some load_of_write
           → asked ≡ ask_of (ring_want en r call) → RingTells Pop call old → RingActing Pop call old
-      pop_call_right ro k (rings.TheVariants.Push run) old at finds asks h = absurd at
-      pop_call_right ro k (rings.TheVariants.Pop run) old at finds asks h = pop_right run.call.capacity run.room run.call.stage old asks finds h
+      pop_call_right ro k place (rings.TheVariants.Push run) old at finds asks h = absurd at
+      pop_call_right ro k place (rings.TheVariants.Pop run) old at finds asks h = pop_right k place run.call.capacity run.room run.call.stage old at.2 asks finds h
 
-    -- a pop that moves the read position answers a value
-    taking : (item : Item T) (push : Option (ℕ × ℕ)) (room : OneWord) (on : overflow_pop.Pop) (b : Bool)
+    -- a push of an overflowing queue
+    module _ (k : Core ℕ) (place : Positions k.write k.read) (v : ℕ) (room : OneWord) where
+      abbrev answered : After overflow_push.Push PushEnd → Option (Answer T)
+      answered after = answer_in {C = QueueFlight T} (as_call (λ r. Overflow (overflows.TheVariants.Push r)) popped (went_on (λ end given room. push_answer given room.0 end) v room after))
+
+      -- it acts as it stores the next write position, unless the queue was full until then
+      publishing : (on : overflow_push.Push) (full moved : Bool) → Adds write_word
+          → Justified (acts_of p (PushIndex v) (if full && moved then PublishesAndActs (Index v) else Publishes (Index v)) (answered (if full then GoOn on else Done Added)))
+      publishing on true true adds = (inl (mine, adds), tt)
+      publishing on true false adds = tt
+      publishing on false moved adds = (inl (mine, adds), tt)
+
+      hands_back : (capacity : ℕ) → 0 < capacity → Adds read_word → HandsBack capacity t.world.words asked
+      hands_back zero some adds = absurd (omega arith)
+      hands_back (suc less) some adds = adds
+
+      overflow_push_right : (stage : overflow_pushes.PushStage) (old : ℕ) → KnowsOverflowPush c k v stage → asked ≡ ask_of (want en (Overflow (overflow_push_at c v room stage))) → old ≡ old_of (k.write ∷ k.read ∷ place.rest) asked → Acting (PushIndex v) (Overflow (overflow_push_at c v room stage)) old
+      overflow_push_right overflow_pushes.TheVariants.HandsBack old knows asks handed =
+          ((mine, subst (λ n. HandsBack n t.world.words asked) (sym knows) asks), tt)
+      overflow_push_right overflow_pushes.TheVariants.LoadsWrite old knows asks handed = tt
+      overflow_push_right (overflow_pushes.TheVariants.LoadsRead write) old knows asks handed = tt
+      overflow_push_right (overflow_pushes.TheVariants.StoresCell write read) old knows asks handed = tt
+      overflow_push_right (overflow_pushes.TheVariants.StoresWrite write read) old knows asks handed =
+          publishing (record { capacity = c; stage = overflow_pushes.TheVariants.MovesRead read }) (distance write read == c) (not (get_or words 1 0 == read))
+          (stores_write k.write k.read place (asks ∙ ap (λ n. Some (record { word = write_word; op = Store (after_position n) })) knows.1))
+      overflow_push_right (overflow_pushes.TheVariants.MovesRead read) old knows asks handed = go (old == read) refl
+        where
+          flight : QueueFlight T
+          flight = Overflow (overflow_push_at c v room (overflow_pushes.TheVariants.MovesRead read))
+
+          go : (b : Bool) → (old == read) ≡ b → Acting (PushIndex v) flight old
+          go true e =
+              let found : old ≡ read = grind (arith, nat_tests) in
+              let now : old ≡ k.read = handed ∙ ap (old_of (k.write ∷ k.read ∷ place.rest)) asks in
+              let same : read ≡ k.read = sym found ∙ now in
+              let adds = moves_read k.write k.read place (asks ∙ ap (λ n. Some (record { word = read_word; op = Exchange n (after_position n) })) same) in
+              rw e ((mine, hands_back c knows.0 adds), tt)
+          go false e = rw e tt
+      overflow_push_right (overflow_pushes.TheVariants.LoadsCell read) old knows asks handed = tt
+
+    -- a pop that moves the read position answers a value, and then the push acts that waits for it
+    taking : (item : Item T) (push : Option (ℕ × ℕ)) → ((q w : ℕ) → push ≡ Some (q, w) → q ≡ p → ⊥) → (room : OneWord) (on : overflow_pop.Pop) (b : Bool) → (b ≡ true → Adds read_word)
         → Justified (acts_of p Pop (cond b (takes_effect item push) Quiet) (answer_in {C = QueueFlight T} (as_call (λ r. Overflow (overflows.TheVariants.Pop r)) popped (went_on (λ end given room. pop_answer room.0 end) tt room (cond b (Done true) (GoOn on))))))
-    taking item None room on true = (tt, tt)
-    taking item (Some push) room on true = (tt, (tt, tt))
-    taking item push room on false = tt
+    taking item None other room on true adds = ((mine, adds refl), tt)
+    taking item (Some push) other room on true adds = ((mine, adds refl), (inr ((λ his. other push.0 push.1 refl (alone push.0 his)), adds refl), tt))
+    taking item push other room on false adds = tt
+
+    -- the push that waits is not this call
+    abbrev Waits : QueueFlight T → Type 0
+    Waits flight = (q w : ℕ) → waits ≡ Some (q, w) → q ≡ p → pending_at (get_or words 1 0) (Some (flights.TheVariants.Queues flight)) ≡ Some w
 
     overflow_pop_right :
-        (k : Core ℕ) (room : OneWord) (stage : overflow_pops.PopStage) (old : ℕ) → KnowsOverflowPop c k room stage → asked ≡ ask_of (want en (Overflow (overflow_pop_at c room stage)))
-        → (0 < c → finding_none own c ≡ Some load_of_write) → (c ≡ 0 → finding_none own c ≡ None) → Tells Pop (Overflow (overflow_pop_at c room stage)) old → Acting Pop (Overflow (overflow_pop_at c room stage)) old
-    overflow_pop_right k room overflow_pops.TheVariants.FindsNone old knows asks some none h =
-        pop_acts (after en (Overflow (overflow_pop_at c room overflow_pops.TheVariants.FindsNone)) old) (asks ∙ sym (none knows)) h
-    overflow_pop_right k room overflow_pops.TheVariants.LoadsRead old knows asks some none h = tt
-    overflow_pop_right k room (overflow_pops.TheVariants.LoadsWrite read) old knows asks some none h =
-        pop_acts (after en (Overflow (overflow_pop_at c room (overflow_pops.TheVariants.LoadsWrite read))) old) (asks ∙ sym (some knows.0)) h
-    overflow_pop_right k room (overflow_pops.TheVariants.LoadsCell read) old knows asks some none h = tt
-    overflow_pop_right k room (overflow_pops.TheVariants.MovesRead read) old knows asks some none h =
-        taking (Index (get_or words (cell_word c read) 0)) waits room (record { capacity = c; stage = overflow_pops.TheVariants.LoadsCell old }) (old == read)
+        (k : Core ℕ) (place : Positions k.write k.read) (room : OneWord) (stage : overflow_pops.PopStage) (old : ℕ) → KnowsOverflowPop c k room stage → asked ≡ ask_of (want en (Overflow (overflow_pop_at c room stage))) → old ≡ old_of (k.write ∷ k.read ∷ place.rest) asked
+        → Waits (Overflow (overflow_pop_at c room stage)) → (0 < c → finding_none own c ≡ Some load_of_write) → (c ≡ 0 → finding_none own c ≡ None) → Tells Pop (Overflow (overflow_pop_at c room stage)) old → Acting Pop (Overflow (overflow_pop_at c room stage)) old
+    overflow_pop_right k place room overflow_pops.TheVariants.FindsNone old knows asks handed waiter some none h =
+        pop_acts (after en (Overflow (overflow_pop_at c room overflow_pops.TheVariants.FindsNone)) old) refl (asks ∙ sym (none knows)) h
+    overflow_pop_right k place room overflow_pops.TheVariants.LoadsRead old knows asks handed waiter some none h = tt
+    overflow_pop_right k place room (overflow_pops.TheVariants.LoadsWrite read) old knows asks handed waiter some none h =
+        pop_acts (after en flight old) (finds (old == read) refl) (asks ∙ sym (some knows.0)) h
+      where
+        flight : QueueFlight T
+        flight = Overflow (overflow_pop_at c room (overflow_pops.TheVariants.LoadsWrite read))
 
-    index_right : (ro : Roles) (k : Core ℕ) (start : QueueStart T) (call : rings.RingCall ℕ OneWord) (old : ℕ) → IndexAt kinds.TheVariants.IndexQueue c ro k p start call → finding_none own c ≡ Some load_of_write
+        finds : (b : Bool) → (old == read) ≡ b → FindsNone (after en flight old)
+        finds true e = rw e refl
+        finds false e = rw e tt
+    overflow_pop_right k place room (overflow_pops.TheVariants.LoadsCell read) old knows asks handed waiter some none h = tt
+    overflow_pop_right k place room (overflow_pops.TheVariants.MovesRead read) old knows asks handed waiter some none h =
+        taking (Index (get_or words (cell_word c read) 0)) waits (λ q w is same. let here = waiter q w is same in absurd (cc)) room (record { capacity = c; stage = overflow_pops.TheVariants.LoadsCell old }) (old == read)
+        (λ e.
+        let found : old ≡ read = grind (arith, nat_tests) in
+        let now : old ≡ k.read = handed ∙ ap (old_of (k.write ∷ k.read ∷ place.rest)) asks in
+        let same : read ≡ k.read = sym found ∙ now in
+        moves_read k.write k.read place (asks ∙ ap (λ n. Some (record { word = read_word; op = Exchange n (after_position n) })) same))
+
+    index_right : (ro : Roles) (k : Core ℕ) → Positions k.write k.read → (start : QueueStart T) (call : rings.RingCall ℕ OneWord) (old : ℕ) → IndexAt kinds.TheVariants.IndexQueue c ro k p start call → finding_none own c ≡ Some load_of_write
         → asked ≡ ask_of (want en (Indices call)) → Tells start (Indices call) old → Acting start (Indices call) old
-    index_right ro k (PushIndex v) (rings.TheVariants.Push run) old at finds asks h = push_call_right of_indices ro k v (rings.TheVariants.Push run) old at asks h
-    index_right ro k Pop (rings.TheVariants.Pop run) old at finds asks h = pop_call_right of_indices ro k (rings.TheVariants.Pop run) old at finds asks h
-    index_right ro k start call old at finds asks h = absurd at
+    index_right ro k place (PushIndex v) (rings.TheVariants.Push run) old at finds asks h = push_call_right of_indices ro k place v (rings.TheVariants.Push run) old at asks h
+    index_right ro k place Pop (rings.TheVariants.Pop run) old at finds asks h = pop_call_right of_indices ro k place (rings.TheVariants.Pop run) old at finds asks h
+    index_right ro k place start call old at finds asks h = absurd at
 
-    value_right : (ro : Roles) (k : Core T) (start : QueueStart T) (call : rings.RingCall T (cells.Kept 128)) (old : ℕ) → ValueAt en kinds.TheVariants.Queue c ro k p start call → finding_none own c ≡ Some load_of_write
+    value_right : (ro : Roles) (k : Core T) → Positions k.write k.read → (start : QueueStart T) (call : rings.RingCall T (cells.Kept 128)) (old : ℕ) → ValueAt en kinds.TheVariants.Queue c ro k p start call → finding_none own c ≡ Some load_of_write
         → asked ≡ ask_of (want en (Values call)) → Tells start (Values call) old → Acting start (Values call) old
-    value_right ro k (Push v) (rings.TheVariants.Push run) old at finds asks h = push_call_right of_values ro k v (rings.TheVariants.Push run) old at asks h
-    value_right ro k Pop (rings.TheVariants.Pop run) old at finds asks h = pop_call_right of_values ro k (rings.TheVariants.Pop run) old at finds asks h
-    value_right ro k start call old at finds asks h = absurd at
+    value_right ro k place (Push v) (rings.TheVariants.Push run) old at finds asks h = push_call_right of_values ro k place v (rings.TheVariants.Push run) old at asks h
+    value_right ro k place Pop (rings.TheVariants.Pop run) old at finds asks h = pop_call_right of_values ro k place (rings.TheVariants.Pop run) old at finds asks h
+    value_right ro k place start call old at finds asks h = absurd at
 
     overflow_right :
-        (ro : Roles) (k : Core ℕ) (start : QueueStart T) (call : overflows.OverflowCall) (old : ℕ) → OverflowAt c ro k p start call → (0 < c → finding_none own c ≡ Some load_of_write) → (c ≡ 0 → finding_none own c ≡ None)
-        → asked ≡ ask_of (want en (Overflow call)) → Tells start (Overflow call) old → Acting start (Overflow call) old
-    overflow_right ro k (PushIndex v) (overflows.TheVariants.Push run) old at some none asks h =
-        overflow_acts v run.given (push_kept run.call run.room old) (effect_of en words waits (Overflow (overflows.TheVariants.Push run)) old) (push_after run.call old)
-    overflow_right ro k Pop (overflows.TheVariants.Pop run) old at some none asks h =
-        subst (λ x. Tells Pop (Overflow (overflow_pop_at x run.room run.call.stage)) old → asked ≡ ask_of (want en (Overflow (overflow_pop_at x run.room run.call.stage))) → Acting Pop (Overflow (overflow_pop_at x run.room run.call.stage)) old) (sym at.1)
-        (λ right asks. overflow_pop_right k run.room run.call.stage old at.2 asks some none right)
+        (ro : Roles) (k : Core ℕ) (place : Positions k.write k.read) (start : QueueStart T) (call : overflows.OverflowCall) (old : ℕ) → OverflowAt c ro k p start call → (0 < c → finding_none own c ≡ Some load_of_write) → (c ≡ 0 → finding_none own c ≡ None)
+        → asked ≡ ask_of (want en (Overflow call)) → old ≡ old_of (k.write ∷ k.read ∷ place.rest) asked → Waits (Overflow call) → Tells start (Overflow call) old → Acting start (Overflow call) old
+    overflow_right ro k place (PushIndex v) (overflows.TheVariants.Push run) old at some none asks handed waiter h =
+        subst (λ n. asked ≡ ask_of (want en (Overflow (overflow_push_at n run.given run.room run.call.stage))) → Acting (PushIndex v) (Overflow (overflow_push_at n run.given run.room run.call.stage)) old) (sym at.1)
+        (subst (λ x. asked ≡ ask_of (want en (Overflow (overflow_push_at c x run.room run.call.stage))) → Acting (PushIndex v) (Overflow (overflow_push_at c x run.room run.call.stage)) old) (sym at.2)
+        (λ asks. overflow_push_right k place v run.room run.call.stage old at.3 asks handed))
+        asks
+    overflow_right ro k place Pop (overflows.TheVariants.Pop run) old at some none asks handed waiter h =
+        subst (λ x. Tells Pop (Overflow (overflow_pop_at x run.room run.call.stage)) old → asked ≡ ask_of (want en (Overflow (overflow_pop_at x run.room run.call.stage))) → Waits (Overflow (overflow_pop_at x run.room run.call.stage)) → Acting Pop (Overflow (overflow_pop_at x run.room run.call.stage)) old) (sym at.1)
+        (λ right asks waiter. overflow_pop_right k place run.room run.call.stage old at.2 asks handed waiter some none right)
         h
         asks
-    overflow_right ro k start call old at some none asks h = absurd at
+        waiter
+    overflow_right ro k place start call old at some none asks handed waiter h = absurd at
 
-    step_right : (kd : QueueKind) → own ≡ kd → (ro : Roles) (k : Core (Val T kd)) (start : QueueStart T) (flight : QueueFlight T) (old : ℕ) → At en kd c ro k p start flight → asked ≡ ask_of (want en flight) → Tells start flight old → Acting start flight old
-    step_right kd same ro k start (Role call) old at asks h = tt
-    step_right kinds.TheVariants.IndexQueue same ro k start (Indices call) old at asks h = index_right ro k start call old at (ap (λ n. finding_none n c) same ∙ ring_finds of_indices c) asks h
-    step_right kinds.TheVariants.Overflow same ro k start (Indices call) old at asks h = absurd at
-    step_right kinds.TheVariants.Queue same ro k start (Indices call) old at asks h = absurd at
-    step_right kinds.TheVariants.IndexQueue same ro k start (Values call) old at asks h = absurd at
-    step_right kinds.TheVariants.Overflow same ro k start (Values call) old at asks h = absurd at
-    step_right kinds.TheVariants.Queue same ro k start (Values call) old at asks h = value_right ro k start call old at (ap (λ n. finding_none n c) same ∙ ring_finds of_values c) asks h
-    step_right kinds.TheVariants.IndexQueue same ro k start (Overflow call) old at asks h = absurd at
-    step_right kinds.TheVariants.Overflow same ro k start (Overflow call) old at asks h =
+    step_right : (kd : QueueKind) → own ≡ kd → (ro : Roles) (k : Core (Val T kd)) (place : Positions k.write k.read) (start : QueueStart T) (flight : QueueFlight T) (old : ℕ) → At en kd c ro k p start flight → asked ≡ ask_of (want en flight) → old ≡ old_of (k.write ∷ k.read ∷ place.rest) asked → Waits flight
+        → Tells start flight old → Acting start flight old
+    step_right kd same ro k place start (Role call) old at asks handed waiter h = tt
+    step_right kinds.TheVariants.IndexQueue same ro k place start (Indices call) old at asks handed waiter h = index_right ro k place start call old at (ap (λ n. finding_none n c) same ∙ ring_finds of_indices c) asks h
+    step_right kinds.TheVariants.Overflow same ro k place start (Indices call) old at asks handed waiter h = absurd at
+    step_right kinds.TheVariants.Queue same ro k place start (Indices call) old at asks handed waiter h = absurd at
+    step_right kinds.TheVariants.IndexQueue same ro k place start (Values call) old at asks handed waiter h = absurd at
+    step_right kinds.TheVariants.Overflow same ro k place start (Values call) old at asks handed waiter h = absurd at
+    step_right kinds.TheVariants.Queue same ro k place start (Values call) old at asks handed waiter h = value_right ro k place start call old at (ap (λ n. finding_none n c) same ∙ ring_finds of_values c) asks h
+    step_right kinds.TheVariants.IndexQueue same ro k place start (Overflow call) old at asks handed waiter h = absurd at
+    step_right kinds.TheVariants.Overflow same ro k place start (Overflow call) old at asks handed waiter h =
         let finds = overflow_finds c in
-        overflow_right ro k start call old at (λ some. ap (λ n. finding_none n c) same ∙ finds.0 some) (λ none. ap (λ n. finding_none n c) same ∙ finds.1 none) asks h
-    step_right kinds.TheVariants.Queue same ro k start (Overflow call) old at asks h = absurd at
-    step_right kd same ro k start (Length which call) old at asks h = tt
+        overflow_right ro k place start call old at (λ some. ap (λ n. finding_none n c) same ∙ finds.0 some) (λ none. ap (λ n. finding_none n c) same ∙ finds.1 none) asks handed waiter h
+    step_right kinds.TheVariants.Queue same ro k place start (Overflow call) old at asks handed waiter h = absurd at
+    step_right kd same ro k place start (Length which call) old at asks handed waiter h = tt
 
 -- ---- every turn
 
+-- the party whose push waits is the one whose call it is
+waiter_is : {T : Type 0} (roles : Roles) (words : List ℕ) (latest : List (ℕ × Party T)) (p : ℕ) (flight : QueueFlight T) → flight_of (doing_of (party_of p latest)) ≡ Some (flights.TheVariants.Queues flight) → (q w : ℕ) → beside roles words latest p ≡ Some (q, w) → q ≡ p
+    → pending_at (get_or words 1 0) (Some (flights.TheVariants.Queues flight)) ≡ Some w
+waiter_is {T} roles words latest p flight found q w e same = go (holds roles.consumer p) e
+  where
+    position : ℕ
+    position = get_or words 1 0
+
+    go : (b : Bool) → cond b (pending position roles.producer latest) None ≡ Some (q, w) → pending_at position (Some (flights.TheVariants.Queues flight)) ≡ Some w
+    go true e =
+        let both = pending_is position latest q w roles.producer e in
+        subst (λ o. pending_at position o ≡ Some w) found (subst (λ n. pending_at position (flight_of (doing_of (party_of n latest))) ≡ Some w) same both.4.waits)
+    go false e = absurd (cc)
+
 module _ {T : Type 0} (en : Coding T) (law : IsCoding en) (kd : QueueKind) (c : ℕ) (t : Trace T) (p : ℕ) (s : frame.Sound (family en kd c) t) (small : t.world.turns < 2 ^ 64 - 2) (x : Party T) (since : ℕ) where
-  in_order : (start : Start T) (flight : Flight T) → t.world.coding ≡ en → t.world.capacity ≡ c → StandsThere (family en kd c) t s p x since start flight → InOrder t p (promise kd) t.world.coding (layout s.state.roles s.state.core) (kepts.TheVariants.Queues s.state.roles) start flight
-  in_order (Queues start) (flights.TheVariants.Queues flight) same_coding same_capacity here =
+  in_order : (start : Start T) (flight : Flight T) → t.world.coding ≡ en → t.world.capacity ≡ c → t.world.words ≡ layout s.state.roles s.state.core → StandsThere (family en kd c) t s p x since start flight → InOrder t p (promise kd) t.world.coding (layout s.state.roles s.state.core) (kepts.TheVariants.Queues s.state.roles) start flight
+  in_order (Queues start) (flights.TheVariants.Queues flight) same_coding same_capacity is here =
       let scene = scene_of en law kd c t s small p x since in
       let words = layout s.state.roles s.state.core in
       let moves = step_moves en law kd scene small (inv_of en law kd c t s small p x since) start flight here.at here.steps here.knows (here.found, here.span) in
@@ -324,6 +433,9 @@ module _ {T : Type 0} (en : Coding T) (law : IsCoding en) (kd : QueueKind) (c : 
       let outcome : Option (Answer T) = answer_in (after z flight old) in
       let ends : List (Event T) = ending_of p (Queues start) (answer_in (any_call (after z flight old))) in
       let asks : ask_in t.world (Next p) ≡ ask_of (want z flight) = rw here.found refl in
+      let reached = s.holds.reached in
+      let good = s.holds.good.write in
+      let place : Positions kd t (Next p) p refl (λ q his. his) s.state.core.write s.state.core.read = record { rest = _; words = is; few = omega arith; low = omega arith } in
       record {
         effects = did p effect;
         acts = acts_of p start effect outcome;
@@ -332,18 +444,20 @@ module _ {T : Type 0} (en : Coding T) (law : IsCoding en) (kd : QueueKind) (c : 
         are_effects = did_effects (Next p) p effect refl;
         are_acts = all_act p start effect outcome;
         are_ends = ends_end (Next p) p (Queues start) (answer_in (any_call (after z flight old))) refl;
-        right = step_right kd t (Next p) p refl words waits kd refl s.state.roles s.state.core start flight old
+        right = step_right kd t (Next p) p refl (λ q his. his) words waits kd refl s.state.roles s.state.core place start flight old
             (subst (λ y. At y kd t.world.capacity s.state.roles s.state.core p start flight) (sym same_coding) (subst (λ n. At en kd n s.state.roles s.state.core p start flight) (sym same_capacity) here.at))
             asks
+            (ap (old_of words) (sym asks))
+            (waiter_is s.state.roles words t.world.latest p flight here.found)
             (subst (λ n. AreRight (AnswersRight n) t.events (told_after p start effect (after z flight old))) (sym same_capacity)
             (subst (λ (y : Coding T). AreRight (AnswersRight c) t.events (told_after p start (effect_of y words waits flight (old_of words (ask_of (want y flight)))) (after y flight (old_of words (ask_of (want y flight)))))) (sym same_coding) moves.2.right));
       }
-  in_order start flight same_coding same_capacity here = absurd here.at
+  in_order start flight same_coding same_capacity is here = absurd here.at
 
   step_in_order : (flight : Flight T) → party_of p t.world.latest ≡ Some x → x.doing ≡ Going flight since → InOrder t p (promise kd) t.world.coding t.world.words t.world.kept x.start flight
   step_in_order flight found doing =
       let is = kept_is t.world.kept t.world.words s.state s.fit in
-      in_order_from t p (promise kd) t.world.coding (layout s.state.roles s.state.core) (kepts.TheVariants.Queues s.state.roles) x.start flight is.1 is.0 (in_order x.start flight s.coding s.capacity (stands_there (family en kd c) t s p x since flight found doing))
+      in_order_from t p (promise kd) t.world.coding (layout s.state.roles s.state.core) (kepts.TheVariants.Queues s.state.roles) x.start flight is.1 is.0 (in_order x.start flight s.coding s.capacity is.1 (stands_there (family en kd c) t s p x since flight found doing))
 
 -- a call of a queue goes on as its table says
 told : {T : Type 0} (en z : Coding T) (kd : QueueKind) (c : ℕ) (words : List ℕ) (waits : Option (ℕ × ℕ)) (s : Queue (Val T kd)) (p : ℕ) (start : Start T) (flight : Flight T) (answer : ℕ) (kept : Kept) → Fit kept words s → (family en kd c).At s p start flight

@@ -19,10 +19,10 @@ use Rattle.model.specs.declared.families.queues.QueueKind.{QueueKind}
 use Rattle.model.specs.declared.families.queues.QueueKind as kinds
 use Rattle.model.specs.Coding.{Coding, one_word}
 use Rattle.queue_laws.proofs.Queues.Core.{Core}
-use Rattle.queue_laws.proofs.Queues.Values.{Val, encoded}
+use Rattle.queue_laws.proofs.Queues.Values.{Val}
 use Rattle.queue_laws.proofs.Ring.Knows.{KnowsPush, KnowsPop, PushAt, PopAt}
 use Rattle.queue_laws.proofs.Overflow.Knows.{KnowsOverflowPush, KnowsOverflowPop, overflow_wrote, OverflowAt}
-use Rattle.queue_laws.proofs.Queues.Knows.{in_one, in_cell, has_written, RoleAt, IndexAt, ValueAt, OverAt, At}
+use Rattle.queue_laws.proofs.Queues.Knows.{in_one, in_cell, has_written, RoleAt, IndexAt, ValueAt, At}
 
 -- a role has one holder
 pub clash : (o : Option ℕ) (p q : ℕ) → q ≢ p → o ≡ Some p → o ≡ Some q → ⊥

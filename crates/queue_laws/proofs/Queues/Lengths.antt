@@ -43,7 +43,7 @@ use Rattle.queue_laws.proofs.Queues.Knows.{layout, len_at, Hangs, Waited, KnowsL
 use Rattle.queue_laws.proofs.Queues.Invariant.{waiting_is}
 use Rattle.queue_laws.proofs.Queues.Stages.{IsCalm, party_then, Stays, StepOf, still_hangs, quiet, ends}
 use Rattle.queue_laws.proofs.Queues.Pending.{nothing_waits}
-use Rattle.queue_laws.proofs.Queues.Values.{Val, encoded, item}
+use Rattle.queue_laws.proofs.Queues.Values.{encoded, item}
 
 abbrev pub call_at : {T : Type 0} → LengthOf → ℕ → LenStage → QueueFlight T
 call_at which c stage = Length which (len_at c stage)

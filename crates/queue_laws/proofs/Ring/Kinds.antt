@@ -1,5 +1,5 @@
 -- The two kinds of bounded queue, that of indices and that of values: what both have, and what is so of both.
-use Rattle.std.proofs.Common.{◌≡◌, ℕ, ◌+◌, ◌≤◌, nat_lt, Bool, true, false, Option, Some, None, List, [], ◌∷◌, length, set, fold, map, drop, slice_get, refl, arith}
+use Rattle.std.proofs.Common.{◌≡◌, ℕ, ◌+◌, nat_lt, Bool, true, false, Option, Some, None, List, [], ◌∷◌, length, set, fold, map, drop, slice_get, refl, arith}
 use Rattle.steps.specs.declared.ask.After.{After}
 use Rattle.steps.specs.declared.ask.Want.{Want}
 use Rattle.steps.specs.declared.copied.Kept.{Kept}
@@ -22,7 +22,7 @@ use Rattle.model.specs.declared.families.queues.calls.RingCall as rings
 use Rattle.model.specs.declared.families.queues.effects.Effect.{Effect}
 use Rattle.model.specs.declared.families.queues.QueueKind.{QueueKind}
 use Rattle.model.specs.declared.families.queues.QueueKind.TheVariants.{IndexQueue, Queue}
-use Rattle.model.specs.Coding.{Coding, IsCoding, one_word}
+use Rattle.model.specs.Coding.{Coding, IsCoding}
 use Rattle.model.specs.Families.Queues.Book.{AnswersRight}
 use Rattle.model.specs.Families.Queues.Bounds.{most_steps}
 use Rattle.model.specs.Families.Queues.Calls.{kept_at, as_it_is}
@@ -35,7 +35,7 @@ use Rattle.model.specs.Families.Queues.Spans.{HandsOut, Wrote, push_of}
 use Rattle.model.specs.Families.Queues.Steps.{push_effect, pop_effect, roles_after, pending_at}
 use Rattle.model.specs.Objects.{answers_from}
 use Rattle.model.specs.Step.{as_call}
-use Rattle.queue_laws.proofs.Queues.Core.{Core, Good}
+use Rattle.queue_laws.proofs.Queues.Core.{Core}
 use Rattle.queue_laws.proofs.Queues.Keeping.{RingKeeps, Keeps}
 use Rattle.queue_laws.proofs.Queues.Knows.{in_one, in_cell, has_written, Hangs, listed, KnowsFlight, number_of, At}
 use Rattle.queue_laws.proofs.Queues.Values.{Val, encoded, item}

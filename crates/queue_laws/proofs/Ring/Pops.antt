@@ -1,5 +1,5 @@
 -- The steps of a pop of a bounded queue.
-use Rattle.std.proofs.Common.{◌≡◌, ◌≢◌, ℕ, zero, suc, ◌+◌, ◌-◌, ◌*◌, ◌%◌, ◌^◌, ◌<◌, ◌≤◌, ◌==◌, nat_lt, Bool, true, false, ◌||◌, ⊎_elim, Option, Some, None, List, [], ◌∷◌, ◌++◌, length, get_or, set, take, map, replicate, drop, slice_get, refl, sym, ap, subst, ◌∙◌, append-nil, arith, length-set, get_or-set_same, get_or-set_other}
+use Rattle.std.proofs.Common.{◌≡◌, ◌≢◌, ℕ, suc, ◌+◌, ◌-◌, ◌*◌, ◌%◌, ◌^◌, ◌<◌, ◌≤◌, ◌==◌, nat_lt, Bool, true, false, ◌||◌, ⊎_elim, Option, Some, List, [], ◌∷◌, ◌++◌, length, get_or, set, take, map, drop, slice_get, refl, sym, ap, subst, ◌∙◌, append-nil, arith, length-set, get_or-set_same, get_or-set_other}
 use Rattle.std.proofs.lemmas.Bool.{cases_lt}
 use Rattle.std.proofs.lemmas.Bool.Decides.{nat_tests}
 use Rattle.std.proofs.lemmas.List.{nil_from_length, set-get_or}
@@ -16,13 +16,11 @@ use Rattle.model.specs.declared.families.queues.calls.RingCall.{RingCall}
 use Rattle.model.specs.declared.families.queues.effects.Effect.{Effect}
 use Rattle.model.specs.declared.families.queues.effects.Effect.TheVariants.{Quiet, Acts}
 use Rattle.model.specs.declared.event.Item.{Item}
-use Rattle.model.specs.declared.families.queues.QueueStart.{QueueStart}
 use Rattle.model.specs.declared.families.queues.QueueStart.TheVariants.{Pop}
 use Rattle.model.specs.declared.event.Answer.{Answer}
 use Rattle.model.specs.declared.event.Answer as answers
 use Rattle.model.specs.declared.event.Start.TheVariants.{Queues}
 use Rattle.model.specs.declared.event.Event.TheVariants.{HandedOut, Acted}
-use Rattle.model.specs.declared.families.queues.QueueKind.{QueueKind}
 use Rattle.model.specs.Coding.{Coding, IsCoding}
 use Rattle.model.specs.Families.{ask_of}
 use Rattle.model.specs.Families.Queues.Calls.{read_word}
@@ -33,11 +31,11 @@ use Rattle.model.specs.Reading.{Open}
 use Rattle.model.specs.Turns.{old_of, words_after, change_of, step_count}
 use Rattle.queue_laws.proofs.Queues.Core.{Core, Good, taken, takes, front, word_at}
 use Rattle.queue_laws.proofs.Queues.Invariant.{Scene, Inv, waiting_is}
-use Rattle.queue_laws.proofs.Queues.Keeping.{RingKeeps, clash, kept}
+use Rattle.queue_laws.proofs.Queues.Keeping.{clash, kept}
 use Rattle.queue_laws.proofs.Queues.Knows.{free, layout}
 use Rattle.queue_laws.proofs.Queues.Stages.{IsCalm, or_true, or_false, first_of_some, cell_asked, asked_place, DoesStep, quiet}
 use Rattle.queue_laws.proofs.Queues.Values.{Val, encoded, item}
-use Rattle.queue_laws.proofs.Ring.Kinds.{Ring, kind_of, Room, words_in, with_word, put_in, flight, got, enc, read_in, ring_want, ring_after, ring_effect, are_words, calm, wrote_none, knows, number, pop_here, ring_keeps, none_hangs, cells_are, list_after_pop, list_answers_pop, listed_is, answer_is, got_is_right, hands_out, wrote_got, most_pop}
+use Rattle.queue_laws.proofs.Ring.Kinds.{Ring, kind_of, Room, words_in, with_word, put_in, flight, got, read_in, ring_want, ring_after, ring_effect, are_words, calm, wrote_none, knows, number, pop_here, ring_keeps, none_hangs, cells_are, list_after_pop, list_answers_pop, listed_is, answer_is, got_is_right, hands_out, wrote_got, most_pop}
 use Rattle.queue_laws.proofs.Ring.Knows.{pop_at, KnowsPush, KnowsPop, pop_number}
 
 -- ---- the words of a value, read one after another

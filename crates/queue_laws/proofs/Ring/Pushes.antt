@@ -32,12 +32,12 @@ use Rattle.model.specs.Turns.{old_of, words_after, change_of, step_count}
 use Rattle.queue_laws.proofs.Queues.Core as core
 use Rattle.queue_laws.proofs.Queues.Core.{Core, Holds, Good, filled, fills, one_filled, publishes, set_at}
 use Rattle.queue_laws.proofs.Queues.Invariant.{Scene, Inv, waiting_is}
-use Rattle.queue_laws.proofs.Queues.Keeping.{RingKeeps, clash, kept}
+use Rattle.queue_laws.proofs.Queues.Keeping.{clash, kept}
 use Rattle.queue_laws.proofs.Queues.Knows.{free, layout, has_written, At}
 use Rattle.queue_laws.proofs.Queues.Stages.{IsCalm, or_true, or_false, cell_asked, asked_place, Leaves, DoesStep, quiet}
 use Rattle.queue_laws.proofs.Queues.Values.{Val, encoded, item}
-use Rattle.queue_laws.proofs.Ring.Kinds.{Ring, kind_of, Room, words_in, flight, push, ring_want, ring_after, ring_effect, are_words, calm, wrote_none, knows, number, push_here, ring_keeps, none_hangs, cells_are, list_after_push, list_answers_push, listed_is, push_roles, push_grants, push_tells, push_producer, push_consumer, false_is_right, true_is_right, named, wrote_false, wrote_true, most_push}
-use Rattle.queue_laws.proofs.Ring.Knows.{push_at, KnowsPush, KnowsPop, push_number, ring_number, PushAt}
+use Rattle.queue_laws.proofs.Ring.Kinds.{Ring, kind_of, Room, flight, push, ring_want, ring_after, ring_effect, are_words, calm, wrote_none, knows, number, push_here, ring_keeps, none_hangs, cells_are, list_after_push, list_answers_push, listed_is, push_roles, push_grants, push_tells, push_producer, push_consumer, false_is_right, true_is_right, named, wrote_false, wrote_true, most_push}
+use Rattle.queue_laws.proofs.Ring.Knows.{push_at, KnowsPush, KnowsPop, push_number}
 
 module _ {V : Type 0} (en : Coding V) (c : ℕ) (k : Core V) where
   -- a store into a cell keeps what a pop knows

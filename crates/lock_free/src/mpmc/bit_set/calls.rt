@@ -121,10 +121,13 @@ impl BitSet {
     }
 
     /// Resets the next place that stands, and answers it: a place below the capacity. None only where each place was
-    /// clear at a moment of the call. It looks from the place after the last one that a
-    /// `reset_next` reset, and after the greatest place goes on at 0. At most 3 + capacity steps, and 1
-    /// more for each time that another call changed the word of a place between its load and its reset.
-    /// After `reset_next` of the Rust crate.
+    /// clear at a moment of the call.
+    ///
+    /// It looks from the reset position to the greatest place, and then from 0 on. The position is 0 at first, and a
+    /// call that resets a place stores the one after it, as its last step: where two calls overlap, the later store
+    /// stands, whichever place it is of. A call that answers None leaves the position. At most 3 + capacity steps, and
+    /// 1 more for each time that another call changed the word of a place between its load and its reset; one step in a
+    /// set of no place. After `reset_next` of the Rust crate.
     pub fn reset_next(&self, rt: &impl Wait, pass: &mut Pass) -> Option<usize>
         requires { IsPassOf self.now pass.old }
         ensures set { set_of pass.new ≡ set_of pass.old }
@@ -151,7 +154,8 @@ impl BitSet {
     ///
     /// It takes one step for each 64 places, which resets them together; `visit` is called after that step and before
     /// the next. What `visit` itself sets is handed out by this call where it lies at a place of a later step, and
-    /// stands afterwards else. After `reset_all` of the Rust crate, where each word has 8 places.
+    /// stands afterwards else. It leaves the position from which `reset_next` looks. In a set of no place it takes
+    /// one step, a look at a word. After `reset_all` of the Rust crate, where each word has 8 places.
     pub fn reset_all<F: FnMut(usize)>(&self, visit: F, pass: &mut Pass)
         requires pass { IsPassOf self.now pass.old }
         requires places { TakesPlaces F.pre (λ p x q. F.step p x tt q)

@@ -57,7 +57,8 @@ module _ {T : Type 0} where
     pub holder : KeepsHolder t.world.kept t.events
 
   -- A store acts in the turn that adds 1 to the version, and a load in the one that finds the
-  -- version unchanged, with the value that stands. Each does so in a turn of its own party.
+  -- version unchanged, with the value that stands. Each does so in a turn of its own party, and no
+  -- other call acts.
   abbrev pub ActsRight : Trace T → Option Ask → (ℕ → Type 0) → Event T → Type 0
   ActsRight old ask IsTurnOf (Acted p (Atomic (Store value)) answer) =
       IsTurnOf p × (ask ≡ Some add_to_version)
@@ -65,7 +66,7 @@ module _ {T : Type 0} where
       IsTurnOf p
       × (ask ≡ Some (check_of_version (slice_index old.world.words version_word)))
       × (answer ≡ Loaded (value_in old.world.coding old.events))
-  ActsRight old ask IsTurnOf e = Unit {0}
+  ActsRight old ask IsTurnOf e = ⊥
 
   -- ---- the promise
 

@@ -1,10 +1,10 @@
 -- What holds of the machine of a queue, after any turns.
-use Rattle.std.specs.Prelude.{◌≡◌, ℕ, zero, suc, false, Option, Some, None, List, [], length, take}
+use Rattle.std.specs.Prelude.{◌≡◌, ◌⊎◌, ℕ, zero, suc, ◌+◌, true, false, Option, Some, None, List, [], length, take, slice_index}
 use Rattle.steps.specs.declared.ask.Ask.{Ask}
 use Rattle.steps.specs.declared.ask.Op.TheVariants.{Load}
 use Rattle.model.specs.declared.event.Start.{Start}
 use Rattle.model.specs.declared.event.Start.TheVariants.{Queues}
-use Rattle.model.specs.declared.event.Answer.TheVariants.{Truth, PoppedNone}
+use Rattle.model.specs.declared.event.Answer.TheVariants.{Truth, PoppedNone, PoppedIndex, Popped}
 use Rattle.model.specs.declared.event.Event.{Event}
 use Rattle.model.specs.declared.event.Answer.{Answer}
 use Rattle.model.specs.declared.event.Event.TheVariants.{Published, HandedOut, Acted}
@@ -22,6 +22,7 @@ use Rattle.model.specs.Families.Queues.Spans.{Wrote, MayPublish, MayHandOut}
 use Rattle.model.specs.Objects.{IsLegal, standing}
 use Rattle.model.specs.Promise.{Promise}
 use Rattle.model.specs.Reading.{Each, moments, Span}
+use Rattle.model.specs.Turns.{words_after}
 use Rattle.model.specs.World.{Trace}
 
 abbrev pub load_of_write : Ask
@@ -38,6 +39,16 @@ finding_none Overflow zero = None
 finding_none Overflow (suc less) = Some load_of_write
 finding_none Queue capacity = Some load_of_write
 
+-- the operation that a turn asks for adds 1 to this word
+abbrev pub AddsOne : ℕ → List ℕ → Option Ask → Type 0
+AddsOne word words ask = slice_index (words_after words ask) word ≡ slice_index words word + 1
+
+-- where an overflowing push hands a value back: as it adds 1 to the read position, but without
+-- capacity it needs no word
+abbrev pub HandsBack : ℕ → List ℕ → Option Ask → Type 0
+HandsBack zero words ask = ask ≡ None
+HandsBack (suc less) words ask = AddsOne read_word words ask
+
 module _ {T : Type 0} where
   -- The list of the moments is those that wait, without the newest
   -- while there is one more than the capacity.
@@ -51,18 +62,39 @@ module _ {T : Type 0} where
     pub roles : Each GrantsRight t.events
     pub holders : KeepsHolders t.world.kept t.events
 
-  -- In a turn that asks for this operation, a push answers false only where capacity
-  -- values wait as it loads read, and a pop None only where nothing waits as it loads
-  -- write, or where it loads none, without capacity. Each does so in a turn of its own party.
+  -- A push that is taken acts in its own turn, as it adds 1 to the write position, and one that
+  -- answers false in its own, as it loads read, where capacity values wait. An overflowing push acts
+  -- as it adds 1 to the write position, or, where that left one value too many, as the read position
+  -- goes on: by its own step, with the value that leaves, or by another party's, with None.
+  abbrev pub PushActs : Trace T → Option Ask → Type 0 → Answer T → Type 0
+  PushActs old ask Own (Truth true) = Own × AddsOne write_word old.world.words ask
+  PushActs old ask Own (Truth false) =
+      Own × (ask ≡ Some load_of_read) × (length (waiting old.events) ≡ old.world.capacity)
+  PushActs old ask Own PoppedNone =
+      (Own × AddsOne write_word old.world.words ask)
+      ⊎ ((¬ Own) × AddsOne read_word old.world.words ask)
+  PushActs old ask Own (PoppedIndex index) =
+      Own × HandsBack old.world.capacity old.world.words ask
+  PushActs old ask Own answer = ⊥
+
+  -- A pop acts in its own turn: with a value as it adds 1 to the read position, with None only where
+  -- nothing waits as it loads write, or where it loads none, without capacity.
+  abbrev pub PopActs : QueueKind → Trace T → Option Ask → Type 0 → Answer T → Type 0
+  PopActs kind old ask Own PoppedNone =
+      Own × (ask ≡ finding_none kind old.world.capacity) × (waiting old.events ≡ [])
+  PopActs kind old ask Own (PoppedIndex index) = Own × AddsOne read_word old.world.words ask
+  PopActs kind old ask Own (Popped value) = Own × AddsOne read_word old.world.words ask
+  PopActs kind old ask Own answer = ⊥
+
+  -- pushes and pops act, and no other call
   abbrev pub ActsRight : QueueKind → Trace T → Option Ask → (ℕ → Type 0) → Event T → Type 0
-  ActsRight kind old ask IsTurnOf (Acted p (Queues (PushIndex index)) (Truth false)) =
-      IsTurnOf p × (ask ≡ Some load_of_read) × (length (waiting old.events) ≡ old.world.capacity)
-  ActsRight kind old ask IsTurnOf (Acted p (Queues (Push value)) (Truth false)) =
-      IsTurnOf p × (ask ≡ Some load_of_read) × (length (waiting old.events) ≡ old.world.capacity)
-  ActsRight kind old ask IsTurnOf (Acted p (Queues Pop) PoppedNone) =
-      IsTurnOf p × (ask ≡ finding_none kind old.world.capacity)
-      × (waiting old.events ≡ [])
-  ActsRight kind old ask IsTurnOf e = Unit {0}
+  ActsRight kind old ask IsTurnOf (Acted p (Queues (PushIndex index)) answer) =
+      PushActs old ask (IsTurnOf p) answer
+  ActsRight kind old ask IsTurnOf (Acted p (Queues (Push value)) answer) =
+      PushActs old ask (IsTurnOf p) answer
+  ActsRight kind old ask IsTurnOf (Acted p (Queues Pop) answer) =
+      PopActs kind old ask (IsTurnOf p) answer
+  ActsRight kind old ask IsTurnOf e = ⊥
 
   -- ---- the promise
 

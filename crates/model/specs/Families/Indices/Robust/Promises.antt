@@ -1,9 +1,11 @@
 -- What holds of the machine of the robust index set, after any turns.
 use Rattle.std.specs.Prelude.{◌≡◌, ◌≢◌, ◌⊎◌, ℕ, zero, suc, ◌+◌, ◌<◌, ◌≤◌, ◌==◌, Bool, true, false, Option, Some, None, is_some, List, [], ◌∷◌, ◌++◌, if◌then◌else◌, slice_index}
+use Rattle.std.specs.List.{AllByRecursion}
 use Rattle.steps.specs.declared.ask.Ask.{Ask}
 use Rattle.steps.specs.declared.ask.Question as questions
 use Rattle.steps.specs.declared.ask.Want.{Want}
 use Rattle.steps.specs.declared.ask.Want as wants
+use Rattle.steps.specs.declared.indices.enums.ReleaseMode.{ReleaseMode}
 use Rattle.steps.specs.declared.indices.enums.ReleaseMode.TheVariants.{LockIfLastIndex}
 use Rattle.steps.specs.declared.indices.enums.ReleaseState.TheVariants as states
 use Rattle.steps.specs.declared.indices.enums.UniqueIndexSetAcquireFailure.TheVariants as failures
@@ -30,6 +32,7 @@ use Rattle.model.specs.Families.Indices.Robust.Spans.{may_stand, HasDone}
 use Rattle.model.specs.Moments.{BeginsNone, HeldOnce, SinceBegin}
 use Rattle.model.specs.Promise.{Promise}
 use Rattle.model.specs.Reading.{Each, Span, Open, span_of}
+use Rattle.model.specs.Shape.{IsOpenFor}
 use Rattle.model.specs.World.{Trace, flight_in}
 
 -- so many numbers below the bound are chosen
@@ -41,6 +44,12 @@ count_below chosen (suc n) = (if chosen n then 1 else 0) + count_below chosen n
 abbrev pub asked_by : Want (Unit {0}) → Option ℕ
 asked_by (wants.TheVariants.Question (questions.TheVariants.Index index)) = Some index
 asked_by want = None
+
+-- the same, with its owner
+abbrev pub owned_by : Want (Unit {0}) → Option (ℕ × ℕ)
+owned_by (wants.TheVariants.Question (questions.TheVariants.Owned owner index)) =
+    Some (index, owner)
+owned_by want = None
 
 -- a cell holds the owner that its index is filled with
 abbrev pub cell_of : Option ℕ → ℕ
@@ -227,17 +236,63 @@ module _ {T : Type 0} where
   asked_of code None = None
   asked_of code (Some flight) = asked_by (want_of code flight)
 
-  -- and one that a no ends, to those up to the index that it asked about
+  -- a find that a no has ended: it has come to the indices up to the one that it asked about
+  pub record IsStopped (p owner : ℕ) (old new : Trace T) : Type 0 where
+    pub index : ℕ
+    pub number : ℕ
+    pub asked : asked_of old.world.coding (flight_in old.world p) ≡ Some index
+    pub ends : new.events
+        ≡ old.events ++ Finished p (Robust (Find owner)) (Number number) ∷ []
+    pub count : IsCount p (IsFilledWith owner) (index + 1) number old.events
+
+  -- the party's call is this one
+  abbrev pub IsIn : ℕ → Start T → Trace T → Type 0
+  IsIn p start t = IsOpenFor start (λ wrote. Unit {0}) (span_of p t.events)
+
+  -- a no ends a find so
   abbrev pub FindsUpTo : Trace T → Turn T → Trace T → Type 0
   FindsUpTo old turn new =
-      (p owner number index : ℕ)
-      → new.events ≡ old.events ++ Finished p (Robust (Find owner)) (Number number) ∷ []
-      → turn ≡ Decide p false
-      → asked_of old.world.coding (flight_in old.world p) ≡ Some index
-      → IsCount p (IsFilledWith owner) (index + 1) number old.events
+      (p owner : ℕ) → turn ≡ Decide p false → IsIn p (Robust (Find owner)) old
+      → IsStopped p owner old new
 
   abbrev pub FindsRight : Trace T → Turn T → Trace T → Type 0
   FindsRight old turn new = FindsAll old turn new × FindsUpTo old turn new
+
+  -- ---- what a recovery is told
+
+  -- the index, of an owner, that a party's call asks about
+  abbrev pub owned_of : Coding T → Option (Flight T) → Option (ℕ × ℕ)
+  owned_of code None = None
+  owned_of code (Some flight) = owned_by (want_of code flight)
+
+  -- a turn that writes Told says yes to the question about just that index of that owner
+  abbrev pub ToldRight : Trace T → Turn T → Event T → Type 0
+  ToldRight old turn (Told p index owner) =
+      (turn ≡ Decide p true)
+      × (owned_of old.world.coding (flight_in old.world p) ≡ Some (index, owner))
+  ToldRight old turn e = Unit {0}
+
+  -- so it is with all that a turn has written
+  pub record TellsOnce (old : Trace T) (turn : Turn T) (new : Trace T) : Type 0 where
+    pub wrote : List (Event T)
+    pub is : new.events ≡ old.events ++ wrote
+    pub told : AllByRecursion (ToldRight old turn) wrote
+
+  -- and each yes tells a recovery of an index, and writes nothing else
+  pub record IsTold (p : ℕ) (old new : Trace T) : Type 0 where
+    pub index : ℕ
+    pub owner : ℕ
+    pub is : new.events ≡ old.events ++ Told p index owner ∷ []
+
+  abbrev pub YesTells : Trace T → Turn T → Trace T → Type 0
+  YesTells old turn new =
+      (p : ℕ) (mode : ReleaseMode) → turn ≡ Decide p true → IsIn p (Robust (Recover mode)) old
+      → IsTold p old new
+
+  -- what a turn tells of finds and of recoveries
+  abbrev pub TellsRight : Trace T → Turn T → Trace T → Type 0
+  TellsRight old turn new =
+      FindsRight old turn new × TellsOnce old turn new × YesTells old turn new
 
   abbrev pub promise : Promise T
   promise =
@@ -246,6 +301,6 @@ module _ {T : Type 0} where
         wrote = wrote;
         most_steps = most;
         acts_right = ActsRight;
-        tells = FindsRight;
+        tells = TellsRight;
         holds = IsRobustSet;
       }

@@ -1,0 +1,75 @@
+-- Acts, and turns that decide, which the definitions refuse: each of another step than the one in which it belongs.
+use Rattle.std.proofs.Common.{◌≡◌, ℕ, ◌+◌, true, false, Option, Some, ◌∷◌, ◌++◌, length, refl, ap, arith}
+use Rattle.steps.specs.declared.ask.Ask.{Ask}
+use Rattle.steps.specs.declared.ask.Op as ops
+use Rattle.steps.specs.declared.indices.enums.ReleaseMode.TheVariants.{Default}
+use Rattle.model.specs.declared.event.Answer.TheVariants.{Done, Truth, PoppedIndex}
+use Rattle.model.specs.declared.event.Event.TheVariants.{Acted, Told}
+use Rattle.model.specs.declared.event.Start.TheVariants.{Queues, Atomic, Robust}
+use Rattle.model.specs.declared.families.atomic.AtomicStart as atomic_starts
+use Rattle.model.specs.declared.families.indices.robust.RobustStart.TheVariants.{Acquire, Find, Recover}
+use Rattle.model.specs.declared.families.queues.QueueKind.{QueueKind}
+use Rattle.model.specs.declared.families.queues.QueueKind.TheVariants.{IndexQueue, Overflow}
+use Rattle.model.specs.declared.families.queues.QueueStart.TheVariants.{PushIndex, Pop, Len}
+use Rattle.model.specs.declared.turn.Kind as kinds
+use Rattle.model.specs.declared.turn.Turn.TheVariants.{Next, Decide, Die}
+use Rattle.model.specs.Coding.{one_word}
+use Rattle.model.specs.Families.Atomic.Promises as values
+use Rattle.model.specs.Families.Indices.Robust.Promises.{FindsUpTo, ToldRight, YesTells}
+use Rattle.model.specs.Families.Queues.Promises as queues
+use Rattle.model.specs.World.{Trace, opening}
+use Rattle.model.proofs.Runs.{begins, ran}
+
+same_is_more : (n : ℕ) → n ≡ n + 1 → ⊥
+same_is_more n e = absurd (omega arith)
+
+-- ---- queues: both positions are 0
+
+abbrev fresh : Trace ℕ
+fresh = opening one_word kinds.TheVariants.IndexQueue 1 2
+
+abbrev ask_of : ℕ → ops.Op → Option Ask
+ask_of word op = Some (record { word = word; op = op })
+
+-- a push that acts as it stores its cell
+pub no_early_push : queues.ActsRight IndexQueue fresh (ask_of 4 (ops.TheVariants.Store 5)) (λ q. q ≡ 0) (Acted 0 (Queues (PushIndex 5)) (Truth true)) → ⊥
+no_early_push h = same_is_more 0 h.1
+
+-- a pop that acts as it loads its cell
+pub no_early_pop : queues.ActsRight IndexQueue fresh (ask_of 4 ops.TheVariants.Load) (λ q. q ≡ 1) (Acted 1 (Queues Pop) (PoppedIndex 5)) → ⊥
+no_early_pop h = same_is_more 0 h.1
+
+-- a push that acts as another party publishes
+pub no_push_by_another : queues.ActsRight IndexQueue fresh (ask_of 0 (ops.TheVariants.Store 1)) (λ q. q ≡ 1) (Acted 0 (Queues (PushIndex 5)) (Truth true)) → ⊥
+no_push_by_another h = let his = h.0 in absurd (cc)
+
+-- an overflowing push that acts with the value that leaves where its exchange fails
+pub no_failed_exchange : queues.ActsRight Overflow fresh (ask_of 1 (ops.TheVariants.Exchange 7 8)) (λ q. q ≡ 0) (Acted 0 (Queues (PushIndex 5)) (PoppedIndex 3)) → ⊥
+no_failed_exchange h = same_is_more 0 h.1
+
+-- another call
+pub no_act_of_len : (kind : QueueKind) (t : Trace ℕ) (ask : Option Ask) → queues.ActsRight kind t ask (λ q. q ≡ 0) (Acted 0 (Queues Len) Done) → ⊥
+no_act_of_len kind t ask h = h
+
+pub no_act_of_role : (t : Trace ℕ) (ask : Option Ask) → values.ActsRight t ask (λ q. q ≡ 0) (Acted 0 (Atomic atomic_starts.TheVariants.AcquireProducer) (Truth true)) → ⊥
+no_act_of_role t ask h = h
+
+-- ---- decisions: an owner holds an index
+
+abbrev held : Trace ℕ
+held = ran one_word kinds.TheVariants.Robust 2 2 (begins 0 (Robust (Acquire 7)) 4 ++ begins 0 (Robust (Find 7)) 1)
+
+-- a find that a no does not end
+pub no_deaf_find : FindsUpTo held (Decide 0 false) held → ⊥
+no_deaf_find h = same_is_more 5 (ap length (h 0 7 refl (refl, tt)).ends)
+
+abbrev asked : Trace ℕ
+asked = ran one_word kinds.TheVariants.Robust 2 2 (begins 0 (Robust (Acquire 7)) 4 ++ Die 7 ∷ begins 1 (Robust (Recover Default)) 2)
+
+-- a recovery that is told nothing by a yes
+pub no_deaf_recovery : YesTells asked (Decide 1 true) asked → ⊥
+no_deaf_recovery h = same_is_more 7 (ap length (h 1 Default refl (refl, tt)).is)
+
+-- and one that is told by its next step
+pub no_late_told : ToldRight asked (Next 1) (Told 1 0 7) → ⊥
+no_late_told h = let turn = h.0 in absurd (cc)
