@@ -1,7 +1,8 @@
 -- The definitions of the bit sets at worked runs, and at histories that they refuse.
-use Rattle.std.proofs.Common.{◌≡◌, ℕ, ◌+◌, ◌^◌, true, false, Some, List, [], ◌∷◌, ◌++◌, length, refl, sym, ap, subst, ◌∙◌, arith}
-use Rattle.std.proofs.lemmas.List.Sums.{sum_by-append}
+use Rattle.std.proofs.Common.{◌≡◌, ℕ, zero, suc, ◌+◌, ◌<◌, ◌^◌, fold, true, false, Some, List, [], ◌∷◌, ◌++◌, length, refl, sym, ap, subst, ◌∙◌, arith}
+use Rattle.std.proofs.lemmas.List.Sums.{sum_by-append, sum_by-cons}
 use Rattle.std.specs.Prelude.{cond}
+use Rattle.steps.specs.Bits.BitSet.{place_after, at_most}
 use Rattle.model.specs.declared.event.Start.TheVariants.{Bits}
 use Rattle.model.specs.declared.event.Answer.TheVariants.{Done, Truth, Number, ResetNone, Reset}
 use Rattle.model.specs.declared.event.Event.{Event}
@@ -15,9 +16,9 @@ use Rattle.model.specs.declared.turn.Refusal.TheVariants.{WrongCall, BadIndex}
 use Rattle.model.specs.declared.turn.Turn.{Turn}
 use Rattle.model.specs.declared.turn.Turn.TheVariants.{Begin, Next}
 use Rattle.model.specs.Coding.{one_word}
-use Rattle.model.specs.Families.Bits.Promises.{IsBitSet, IsCountingSet, AnswersCount, HasCleared, HasTaken, BitsWrote, bits_stand, counts_stand}
-use Rattle.model.specs.Families.Bits.Reading.{is_set_of, sets, standing, count_at}
-use Rattle.model.specs.Moments.{HeldOnce}
+use Rattle.model.specs.Families.Bits.Promises.{IsBitSet, IsCountingSet, AnswersCount, HasCleared, HasTaken, CameTo, BitsWrote, bits_stand, counts_stand}
+use Rattle.model.specs.Families.Bits.Reading.{is_set_of, is_clear_of, sets, clears, standing, position_after, count_at}
+use Rattle.model.specs.Moments.{BeginsNone, HeldOnce}
 use Rattle.model.specs.Reading.{Open}
 use Rattle.model.specs.Refusals.{refusal_of}
 use Rattle.model.specs.Turns.{run}
@@ -214,6 +215,54 @@ other_bit w = let e = w.1 in cc
 -- a reset of the next bit that answers another one than it has cleared
 other_answer : BitsWrote {T = ℕ} 2 (Bits ResetNext) (Reset 1) (Cleared 0 0 ∷ []) → ⊥
 other_answer w = let e = w.1 in cc
+
+-- a reset of the next bit that answers the second of two that stand, though the position is the first
+abbrev skipping : List (Event ℕ)
+skipping =
+    told.TheVariants.Set 1 0 ∷ told.TheVariants.Set 1 1 ∷ Begun 0 (Bits ResetNext) ∷ Cleared 0 1 ∷ []
+
+-- none of these moves the position
+abbrev Leave : List (Event ℕ) → Type 0
+Leave [] = Unit {0}
+Leave (e ∷ es) = ((n : ℕ) → position_after n e ≡ n) × Leave es
+
+leave_part : (xs ys : List (Event ℕ)) → Leave (xs ++ ys) → Leave xs
+leave_part [] ys h = tt
+leave_part (x ∷ xs) ys h = (h.0, leave_part xs ys h.1)
+
+left_there : (n : ℕ) (xs : List (Event ℕ)) → Leave xs → fold position_after n xs ≡ n
+left_there n [] h = refl
+left_there n (x ∷ xs) h = left_there (position_after n x) xs h.1 ∙ h.0 n
+
+first_stood : (part rest : List (Event ℕ)) → skipping ≡ part ++ rest → BeginsNone 0 rest → standing 0 part ≡ 0 → ⊥
+first_stood [] rest is within clear = let none = subst (BeginsNone 0) (sym is) within in absurd (none.0 refl)
+first_stood (a ∷ part) rest is within clear =
+    let first : told.TheVariants.Set 1 0 ≡ a = cc in
+    let here : standing 0 (told.TheVariants.Set 1 0 ∷ part) ≡ 0 = subst (λ (x : Event ℕ). standing 0 (x ∷ part) ≡ 0) (sym first) clear in
+    let one : sets 0 (told.TheVariants.Set 1 0 ∷ part) ≡ 1 + sets 0 part = sum_by-cons (λ (e : Event ℕ). cond (is_set_of 0 e) 1 0) (told.TheVariants.Set 1 0) part in
+    let all : clears 0 skipping ≡ clears 0 (a ∷ part) + clears 0 rest = ap (clears 0) is ∙ sum_by-append (λ (e : Event ℕ). cond (is_clear_of 0 e) 1 0) (a ∷ part) rest in
+    let none : 0 ≡ clears 0 (told.TheVariants.Set 1 0 ∷ part) + clears 0 rest = subst (λ (x : Event ℕ). 0 ≡ clears 0 (x ∷ part) + clears 0 rest) (sym first) all in
+    absurd (omega arith)
+
+not_next : (n : ℕ) → n ≡ n + 1 → ⊥
+not_next n e = absurd (omega arith)
+
+skips : CameTo 0 2 1 skipping → ⊥
+skips came = go came.passed refl
+  where
+    from : came.start ≡ 0
+    from =
+        sym came.begun.held
+        ∙ ap (at_most 2) (left_there 0 came.begun.part (leave_part came.begun.part came.begun.rest (subst Leave came.begun.is ((λ n. refl), ((λ n. refl), ((λ n. refl), ((λ n. refl), tt)))))))
+
+    is : place_after 2 0 came.passed ≡ 1
+    is = subst (λ n. place_after 2 n came.passed ≡ 1) from came.is
+
+    go : (n : ℕ) → came.passed ≡ n → ⊥
+    go zero e = not_next 0 (subst (λ n. place_after 2 0 n ≡ 1) e is)
+    go (suc n) e =
+        let held = subst (λ n. HeldOnce 0 (λ part. standing (place_after 2 n 0) part ≡ 0) skipping) from (came.clear 0 (subst (λ m. 0 < m) (sym e) (omega arith))) in
+        first_stood held.part held.rest held.is held.within held.held
 
 -- a reset of all that goes down, or clears a bit twice
 descends : bits_stand {T = ℕ} (Cleared 0 1) (Open (Bits ResetAll) (Cleared 0 3 ∷ [])) → ⊥

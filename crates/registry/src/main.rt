@@ -10,7 +10,7 @@ use participants::{Record, run};
 use std::io;
 
 fn print(rt: &HostRuntime, when: &str, records: &[Record]) -> io::Result<()> {
-    println!(rt; "{when}: {} records", records.len())?;
+    println!(rt; "{when}; records: {}", records.len())?;
     for record in records.iter() {
         println!(rt; "  participant {} at port {}", record.0, record.1)?;
     }

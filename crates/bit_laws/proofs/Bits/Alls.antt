@@ -1,5 +1,5 @@
 -- The steps of a reset of all bits: it swaps the next element with 0.
-use Rattle.std.proofs.Common.{◌≡◌, ◌≢◌, ℕ, ◌+◌, ◌-◌, ◌<◌, ◌≤◌, nat_lt, Bool, true, false, cond, ⊎_elim, Option, Some, None, List, [], ◌∷◌, ◌++◌, fold, length, get_or, set, refl, sym, ap, subst, ◌∙◌, append-nil, arith, length-set}
+use Rattle.std.proofs.Common.{◌≡◌, ◌≢◌, ℕ, ◌+◌, ◌-◌, ◌<◌, ◌≤◌, nat_lt, Bool, true, false, cond, ⊎_elim, Option, Some, None, List, [], ◌∷◌, ◌++◌, fold, length, get_or, set, refl, sym, ap, subst, ◌∙◌, append-nil, arith, length-set, get_or-set_other}
 use Rattle.std.proofs.lemmas.Bool.{cases_eq, cases_lt}
 use Rattle.std.proofs.lemmas.Bool.Decides.{nat_tests}
 use Rattle.std.proofs.lemmas.List.Sums.{fold-append}
@@ -22,7 +22,7 @@ use Rattle.model.specs.declared.families.bits.calls.BitsFlight.{BitsFlight}
 use Rattle.model.specs.declared.families.bits.calls.BitsFlight as calls
 use Rattle.model.specs.Coding.{Coding}
 use Rattle.model.specs.Families.Bits.Promises.{BitsAnswerRight, HasCleared, bits_promise}
-use Rattle.model.specs.Families.Bits.Reading.{sets, clears}
+use Rattle.model.specs.Families.Bits.Reading.{sets, clears, position_after}
 use Rattle.model.specs.Moments.{SinceBegin}
 use Rattle.model.specs.Promises.Spans.{Stands}
 use Rattle.model.specs.Reading.{Open, own_after, span_of}
@@ -31,7 +31,7 @@ use Rattle.model.proofs.Moments.{since_more}
 use Rattle.model.proofs.Readings.{AllFollow, span_of-own}
 use Rattle.bit_laws.proofs.Bits.Core.{ClearedBelow, cleared_still, cleared_by, sets_more, clears_more}
 use Rattle.bit_laws.proofs.Bits.Invariant.{Holds, bit_set}
-use Rattle.bit_laws.proofs.Bits.Lists.{own_more, right_more, follow_more, places_rise, all_cleared, all_own, begin_none, all_right, sets_none, clears_named, all_stand, all_written, no_places}
+use Rattle.bit_laws.proofs.Bits.Lists.{own_more, right_more, follow_more, places_rise, all_cleared, all_own, begin_none, all_right, sets_none, position_same, clears_named, all_stand, all_written, no_places}
 use Rattle.bit_laws.proofs.Bits.Steps.{no_change, pays_by}
 use Rattle.bit_laws.proofs.Family.{SetState, Shows, party_then, StepShows, ShowsStep}
 use Rattle.bit_laws.proofs.Spans.{wrote_in}
@@ -167,6 +167,10 @@ module _ {T : Type 0} (code : Coding T) (c : ℕ) (s : SetState T) (events : Lis
     abbrev finish : List (Event T)
     finish = Finished p (Bits ResetAll) answers.TheVariants.Done ∷ []
 
+    -- the reset position is no element
+    start_stays : get_or then 0 0 ≡ get_or s.words 0 0
+    start_stays = get_or-set_other s.words word 0 0 0 (λ e. absurd (omega arith))
+
     swaps_on : word < length s.words → word + 1 < end → Does swaps next fx
     swaps_on near more =
         subst (λ es. Shows bit_set code c s events turns p changes then (Open (Bits ResetAll) wrote) (party_then bit_set code c s events turns p changes since steps backs ResetAll swaps false next) es (changes + change_of s.words swaps)) (sym (append-nil fx))
@@ -175,6 +179,7 @@ module _ {T : Type 0} (code : Coding T) (c : ℕ) (s : SetState T) (events : Lis
             sized = length-set s.words word 0;
             moved = λ b. subst (λ es. sets b es + one_if (stands s.words b) ≡ clears b es + one_if (stands then b)) (append-nil fx) (moved near [] (λ b. refl) (λ b. refl) b);
             within = λ b past. sets_none T p b places;
+            position = start_stays ∙ sym (position_same T p (get_or s.words 0 0) places);
             pays = pays_by s.words swaps changes;
             right = all_right T p c events places;
           };
@@ -196,6 +201,7 @@ module _ {T : Type 0} (code : Coding T) (c : ℕ) (s : SetState T) (events : Lis
             sized = length-set s.words word 0;
             moved = moved near finish (λ b. refl) (λ b. refl);
             within = λ b past. (let more = sets_more b fx finish in let none = sets_none T p b places in omega arith);
+            position = start_stays ∙ (sym (position_same T p (get_or s.words 0 0) places) ∙ sym (fold-append position_after (get_or s.words 0 0) fx finish));
             pays = pays_by s.words swaps changes;
             right = right_more (BitsAnswerRight c) events fx finish (all_right T p c events places) (all_behind (events ++ fx) (word + 1) (omega arith) (cleared_more near), tt);
           };
@@ -215,7 +221,7 @@ module _ {T : Type 0} (code : Coding T) (c : ℕ) (s : SetState T) (events : Lis
     asks_nothing : word ≡ end → Does None done []
     asks_nothing at =
         record {
-          conserves = no_change code c s events turns p changes since steps backs None finish (λ b. refl) (λ b. refl) (λ b. refl) (all_behind events word (omega arith) cleared, tt);
+          conserves = no_change code c s events turns p changes since steps backs None finish (λ b. refl) (λ b. refl) (λ b. refl) refl (all_behind events word (omega arith) cleared, tt);
           own = (refl, tt);
           stands = ((refl, tt), tt);
           here = record { answer = answers.TheVariants.Done; wrote = wrote; span = refl; steps = omega arith };

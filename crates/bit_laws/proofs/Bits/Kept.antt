@@ -38,7 +38,7 @@ module _ {T : Type 0} where
   next_paid c p events words since changes backs resetting.TheVariants.LoadsPosition h = omega arith
   next_paid c p events words since changes backs (resetting.TheVariants.LoadsElement start passed) h = let paid = h.0 in omega arith
   next_paid c p events words since changes backs (resetting.TheVariants.ExchangesElement start passed found) h = let paid = h.0.0 in omega arith
-  next_paid c p events words since changes backs (resetting.TheVariants.StoresPosition place) h = omega arith
+  next_paid c p events words since changes backs (resetting.TheVariants.StoresPosition place) h = let paid = h.0 in omega arith
 
   pub steps_most : (c : ℕ) (wrote : List (Event T)) (backs : ℕ) (start : BitsStart) (flight : BitsFlight) → CallAt c wrote start flight → number_of flight backs ≤ most_bits_steps c start backs
   steps_most c wrote backs (starts.TheVariants.Set bit) (calls.TheVariants.Set run) at = set_most run.call.stage backs

@@ -4,7 +4,7 @@ use Rattle.steps.specs.declared.bits.bit_set.SetStage.{SetStage}
 use Rattle.steps.specs.declared.bits.bit_set.SetStage as setting
 use Rattle.steps.specs.declared.bits.bit_set.ResetNextStage.{ResetNextStage}
 use Rattle.steps.specs.declared.bits.bit_set.ResetNextStage as resetting
-use Rattle.steps.specs.Bits.BitSet.{place_after}
+use Rattle.steps.specs.Bits.BitSet.{place_after, at_most}
 use Rattle.steps.specs.Bits.Words.{element_of, elements, has_flag}
 use Rattle.model.specs.declared.event.Event.{Event}
 use Rattle.model.specs.declared.event.Event.TheVariants.{Cleared}
@@ -12,7 +12,8 @@ use Rattle.model.specs.declared.families.bits.BitsStart.{BitsStart}
 use Rattle.model.specs.declared.families.bits.BitsStart as starts
 use Rattle.model.specs.declared.families.bits.calls.BitsFlight.{BitsFlight}
 use Rattle.model.specs.declared.families.bits.calls.BitsFlight.TheVariants.{Set, ResetNext, ResetAll}
-use Rattle.model.specs.Families.Bits.Reading.{clears, standing}
+use Rattle.model.specs.Families.Bits.Promises.{CameTo}
+use Rattle.model.specs.Families.Bits.Reading.{clears, standing, position_of}
 use Rattle.model.specs.Moments.{HeldOnce, SinceBegin}
 use Rattle.model.specs.Reading.{Span}
 use Rattle.bit_laws.proofs.Bits.Core.{ClearedBelow}
@@ -105,17 +106,21 @@ module _ {T : Type 0} where
   Passed c p start passed events =
       (k : ℕ) → k < passed → HeldOnce p (λ part. standing (place_after c start k) part ≡ 0) events
 
+  -- the reset position was this at a moment of it
+  abbrev pub Began : ℕ → ℕ → ℕ → List (Event T) → Type 0
+  Began c p start events = HeldOnce p (λ part. at_most c (position_of part) ≡ start) events
+
   abbrev pub KnowsNext : ℕ → ℕ → List (Event T) → List ℕ → ℕ → ℕ → ℕ → ResetNextStage → Type 0
   KnowsNext c p events words since changes backs resetting.TheVariants.LoadsPosition =
       backs + since ≤ changes
   KnowsNext c p events words since changes backs (resetting.TheVariants.LoadsElement start passed) =
-      (backs + since ≤ changes) × Passed c p start passed events
+      (backs + since ≤ changes) × Passed c p start passed events × Began c p start events
   KnowsNext c p events words since changes backs
       (resetting.TheVariants.ExchangesElement start passed found) =
       Paid words since changes backs (element_of (place_after c start passed)) found
-      × Passed c p start passed events
+      × Passed c p start passed events × Began c p start events
   KnowsNext c p events words since changes backs (resetting.TheVariants.StoresPosition place) =
-      backs + since ≤ changes
+      (backs + since ≤ changes) × CameTo p c place events
 
   abbrev pub KnowsCall : ℕ → List (Event T) → List ℕ → ℕ → ℕ → ℕ → BitsFlight → Type 0
   KnowsCall p events words since changes backs (Set run) =

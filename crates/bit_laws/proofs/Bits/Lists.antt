@@ -11,7 +11,7 @@ use Rattle.model.specs.declared.event.Event.TheVariants.{Cleared}
 use Rattle.model.specs.declared.event.Start.TheVariants.{Bits}
 use Rattle.model.specs.declared.families.bits.BitsStart.TheVariants.{ResetAll}
 use Rattle.model.specs.Families.Bits.Promises.{BitsAnswerRight, bits_promise}
-use Rattle.model.specs.Families.Bits.Reading.{is_clear_of, is_set_of, sets, clears}
+use Rattle.model.specs.Families.Bits.Reading.{is_clear_of, is_set_of, sets, clears, position_after}
 use Rattle.model.specs.Moments.{BeginsNone}
 use Rattle.model.specs.Promises.Spans.{Stands}
 use Rattle.model.specs.Reading.{Span, Open, own_after}
@@ -83,6 +83,11 @@ module _ (T : Type 0) (p : ℕ) where
       let more = sum_by-cons (λ (e : Event T). cond (is_set_of b e) 1 0) (Cleared p x) (cleared_all bs) in
       let rest = sets_none b bs in
       omega arith
+
+  -- none moves the reset position
+  pub position_same : (n : ℕ) (bs : List ℕ) → fold position_after n (cleared_all bs) ≡ n
+  position_same n [] = refl
+  position_same n (b ∷ bs) = position_same n bs
 
   -- each is cleared as often as it is named
   pub clears_named : (b : ℕ) (bs : List ℕ) → clears b (cleared_all bs) ≡ count_by (λ q. q == b) bs

@@ -1,5 +1,5 @@
 -- The steps of a reset of the next bit.
-use Rattle.std.proofs.Common.{◌≡◌, ◌≢◌, ℕ, ◌+◌, ◌-◌, ◌<◌, ◌≤◌, ◌==◌, nat_lt, Bool, true, false, ⊎_elim, Option, Some, List, [], ◌∷◌, ◌++◌, length, get_or, set, refl, sym, ap, subst, ◌∙◌, arith}
+use Rattle.std.proofs.Common.{◌≡◌, ◌≢◌, ℕ, ◌+◌, ◌-◌, ◌<◌, ◌≤◌, ◌==◌, nat_lt, Bool, true, false, ⊎_elim, Option, Some, List, [], ◌∷◌, ◌++◌, length, get_or, set, refl, sym, ap, subst, ◌∙◌, arith, get_or-set_same, get_or-set_other}
 use Rattle.std.proofs.lemmas.Bool.{cases_lt}
 use Rattle.std.proofs.lemmas.Bool.Decides.{nat_tests}
 use Rattle.steps.specs.declared.ask.Ask.{Ask}
@@ -21,13 +21,14 @@ use Rattle.model.specs.declared.families.bits.BitsStart as starts
 use Rattle.model.specs.declared.families.bits.calls.BitsFlight.{BitsFlight}
 use Rattle.model.specs.Coding.{Coding}
 use Rattle.model.specs.Families.Bits.Calls.{after, goes_back}
-use Rattle.model.specs.Families.Bits.Reading.{clears, standing}
+use Rattle.model.specs.Families.Bits.Promises.{CameTo}
+use Rattle.model.specs.Families.Bits.Reading.{clears, standing, position_of}
 use Rattle.model.specs.Families.Bits.Steps.{effects_of}
 use Rattle.model.specs.Moments.{HeldOnce}
 use Rattle.model.specs.Turns.{one_if, words_after}
 use Rattle.model.proofs.Moments.{held_now, held_later}
 use Rattle.bit_laws.proofs.Bits.Invariant.{Holds, bit_set}
-use Rattle.bit_laws.proofs.Bits.Knows.{NextStands, KnowsNext, Passed, next_at, next_number, next_wrote}
+use Rattle.bit_laws.proofs.Bits.Knows.{NextStands, KnowsNext, Passed, Began, next_at, next_number, next_wrote}
 use Rattle.bit_laws.proofs.Bits.Sets.{element_near}
 use Rattle.bit_laws.proofs.Bits.Steps.{same_bits, goes_on, ends, pays_by, as_long, by_parts}
 use Rattle.bit_laws.proofs.Family.{SetState, StepShows, ShowsStep}
@@ -76,21 +77,24 @@ module _ {T : Type 0} (code : Coding T) (c : ℕ) (s : SetState T) (events : Lis
   DoesOf before stage = ShowsStep bit_set code c s events turns p changes since steps backs before next (next_at c stage)
 
   -- with nothing written
+  began_more : (start : ℕ) → Began c p start events → Began c p start (events ++ [])
+  began_more start h = held_later p (λ part. at_most c (position_of part) ≡ start) events [] tt h
+
   passed_more : (start passed : ℕ) → Passed c p start passed events → Passed c p start passed (events ++ [])
   passed_more start passed h k below =
       held_later p (λ part. standing (place_after c start k) part ≡ 0) events [] tt (h k below)
 
   -- ---- a call comes to its next place, by a step that leaves the words
 
-  module _ (a : Ask) (back : Bool) (same : words_after s.words (Some a) ≡ s.words) (paid : backs + one_if back + since ≤ changes) (start : ℕ) (low : start ≤ c) where
+  module _ (a : Ask) (back : Bool) (same : words_after s.words (Some a) ≡ s.words) (paid : backs + one_if back + since ≤ changes) (start : ℕ) (low : start ≤ c) (began : Began c p start events) where
     comes_on : (passed : ℕ) → Passed c p start passed events → steps + 1 ≤ 1 + passed + (backs + one_if back) → passed < c → Does [] (Some a) back (GoOn (next_at c (resetting.TheVariants.LoadsElement start passed))) []
     comes_on passed held few below =
-        goes_on code c s events turns p changes since steps backs next (Some a) back (next_at c (resetting.TheVariants.LoadsElement start passed)) (same_bits code c s events turns p changes since steps backs (Some a) same) few refl (refl, (low, below))
-        (omega arith, passed_more start passed held)
+        goes_on code c s events turns p changes since steps backs next (Some a) back (next_at c (resetting.TheVariants.LoadsElement start passed)) (same_bits code c s events turns p changes since steps backs (Some a) same) (ap (λ ws. get_or ws 0 0) same) few refl (refl, (low, below))
+        (omega arith, passed_more start passed held, began_more start began)
 
     comes_none : Passed c p start c events → steps + 1 ≤ 3 + c + (backs + one_if back) → Does [] (Some a) back (Done answers.TheVariants.ResetNone) []
     comes_none held few =
-        ends code c s events turns p changes since steps backs [] next (Some a) back answers.TheVariants.ResetNone (same_bits code c s events turns p changes since steps backs (Some a) same) all refl few paid
+        ends code c s events turns p changes since steps backs [] next (Some a) back answers.TheVariants.ResetNone (same_bits code c s events turns p changes since steps backs (Some a) same) (ap (λ ws. get_or ws 0 0) same) all refl few paid
       where
         all : (b : ℕ) → b < c → HeldOnce p (λ part. standing b part ≡ 0) events
         all b below =
@@ -101,8 +105,8 @@ module _ {T : Type 0} (code : Coding T) (c : ℕ) (s : SetState T) (events : Lis
     exchanges : (passed found : ℕ) → Passed c p start passed events → steps + 1 ≤ 2 + passed + (backs + one_if back) → passed < c → get_or s.words (element_of (place_after c start passed)) 0 ≡ found → has_flag found (place_after c start passed) ≡ true
         → Does [] (Some a) back (GoOn (next_at c (resetting.TheVariants.ExchangesElement start passed found))) []
     exchanges passed found held few below is t =
-        goes_on code c s events turns p changes since steps backs next (Some a) back (next_at c (resetting.TheVariants.ExchangesElement start passed found)) (same_bits code c s events turns p changes since steps backs (Some a) same) few refl (refl, (low, below, t))
-        ((omega arith, λ ne. absurd (ne (ap (λ ws. get_or ws (element_of (place_after c start passed)) 0) same ∙ is))), passed_more start passed held)
+        goes_on code c s events turns p changes since steps backs next (Some a) back (next_at c (resetting.TheVariants.ExchangesElement start passed found)) (same_bits code c s events turns p changes since steps backs (Some a) same) (ap (λ ws. get_or ws 0 0) same) few refl (refl, (low, below, t))
+        ((omega arith, λ ne. absurd (ne (ap (λ ws. get_or ws (element_of (place_after c start passed)) 0) same ∙ is))), passed_more start passed held, began_more start began)
 
   -- ---- the reset position
 
@@ -118,18 +122,21 @@ module _ {T : Type 0} (code : Coding T) (c : ℕ) (s : SetState T) (events : Lis
       low : start ≤ c
       low = start_near c (get_or s.words 0 0)
 
+      began : Began c p start events
+      began = held_now p (λ part. at_most c (position_of part) ≡ start) events (ap (at_most c) (sym holds.position))
+
       go : (t : Bool) → nat_lt 0 c ≡ t → DoesOf [] resetting.TheVariants.LoadsPosition
       go true t =
           by_parts code c s events turns p changes since steps backs [] next (next_at c resetting.TheVariants.LoadsPosition) false (GoOn (next_at c (resetting.TheVariants.LoadsElement start 0))) [] refl (rw t refl) refl
-          (comes_on loading false (load_leaves s.words 0) (omega arith) start low 0 (λ k below. absurd (omega arith)) (omega arith) (grind (arith, nat_tests)))
+          (comes_on loading false (load_leaves s.words 0) (omega arith) start low began 0 (λ k below. absurd (omega arith)) (omega arith) (grind (arith, nat_tests)))
       go false t =
           let none : c ≡ 0 = grind (arith, nat_tests) in
           by_parts code c s events turns p changes since steps backs [] next (next_at c resetting.TheVariants.LoadsPosition) false (Done answers.TheVariants.ResetNone) [] refl (rw t refl) refl
-          (comes_none loading false (load_leaves s.words 0) (omega arith) start low (λ k below. absurd (omega arith)) (omega arith))
+          (comes_none loading false (load_leaves s.words 0) (omega arith) start low began (λ k below. absurd (omega arith)) (omega arith))
 
   -- ---- an element
 
-  module _ (start passed : ℕ) (low : start ≤ c) (below : passed < c) (held : Passed c p start passed events) where
+  module _ (start passed : ℕ) (low : start ≤ c) (below : passed < c) (held : Passed c p start passed events) (began : Began c p start events) where
     abbrev place : ℕ
     place = place_after c start passed
 
@@ -156,13 +163,13 @@ module _ {T : Type 0} (code : Coding T) (c : ℕ) (s : SetState T) (events : Lis
     -- what the test comes to
     module _ (back : Bool) (a : Ask) (same : words_after s.words (Some a) ≡ s.words) (paid : backs + one_if back + since ≤ changes) (few : steps + 1 ≤ 2 + passed + (backs + one_if back)) where
       stood : has_flag word place ≡ true → Does [] (Some a) back (GoOn (next_at c (resetting.TheVariants.ExchangesElement start passed word))) []
-      stood t = exchanges a back same paid start low passed word held few below refl t
+      stood t = exchanges a back same paid start low began passed word held few below refl t
 
       goes_further : has_flag word place ≡ false → passed + 1 < c → Does [] (Some a) back (GoOn (next_at c (resetting.TheVariants.LoadsElement start (passed + 1)))) []
-      goes_further t more = comes_on a back same paid start low (passed + 1) (one_passed t) (omega arith) more
+      goes_further t more = comes_on a back same paid start low began (passed + 1) (one_passed t) (omega arith) more
 
       finds_none : has_flag word place ≡ false → passed + 1 ≡ c → Does [] (Some a) back (Done answers.TheVariants.ResetNone) []
-      finds_none t last = comes_none a back same paid start low (subst (λ n. Passed c p start n events) last (one_passed t)) (omega arith)
+      finds_none t last = comes_none a back same paid start low began (subst (λ n. Passed c p start n events) last (one_passed t)) (omega arith)
 
     abbrev loads_it : Ask
     loads_it = record { word = element; op = Load }
@@ -199,15 +206,27 @@ module _ {T : Type 0} (code : Coding T) (c : ℕ) (s : SetState T) (events : Lis
             sized = as_long s.words (Some (exchanging found));
             moved = λ b. moved b (place == b) refl;
             within = λ b past. refl;
+            position = ap (λ ws. get_or ws 0 0) new ∙ get_or-set_other s.words element 0 (without_flag word place) 0 (λ e. elements_after place (sym e));
             pays = pays_by s.words (Some (exchanging found)) changes;
             right = (tt, tt);
           };
           own = (refl, tt);
           stands = (refl, tt);
           here = record { span = refl; steps = omega arith; at = (refl, place_near c start passed low below) };
-          knows = omega arith;
+          knows = (omega arith, came);
         }
       where
+        came : CameTo p c place (events ++ Cleared p place ∷ [])
+        came =
+            record {
+              start = start;
+              passed = passed;
+              within = below;
+              is = refl;
+              begun = held_later p (λ part. at_most c (position_of part) ≡ start) events (Cleared p place ∷ []) tt began;
+              clear = λ k less. held_later p (λ part. standing (place_after c start k) part ≡ 0) events (Cleared p place ∷ []) tt (held k less);
+            }
+
         same : found ≡ word
         same = grind (arith, nat_tests)
 
@@ -261,17 +280,20 @@ module _ {T : Type 0} (code : Coding T) (c : ℕ) (s : SetState T) (events : Lis
 
   -- ---- the position after the place
 
-  stores : (place : ℕ) → backs + since ≤ changes → steps ≤ 2 + c + backs → DoesOf (Cleared p place ∷ []) (resetting.TheVariants.StoresPosition place)
-  stores place paid few =
+  stores : (place : ℕ) → backs + since ≤ changes → CameTo p c place events → steps ≤ 2 + c + backs → DoesOf (Cleared p place ∷ []) (resetting.TheVariants.StoresPosition place)
+  stores place paid came few =
       ends code c s events turns p changes since steps backs (Cleared p place ∷ []) next (Some (record { word = 0; op = Store (after_position place) })) false (answers.TheVariants.Reset place)
-      (λ b. stands_elsewhere s.words 0 (after_position place) b (λ e. elements_after b (sym e))) tt (refl, one) (omega arith) (omega arith)
+      (λ b. stands_elsewhere s.words 0 (after_position place) b (λ e. elements_after b (sym e))) stored came (refl, one) (omega arith) (omega arith)
     where
+      stored : get_or (set s.words 0 (after_position place)) 0 0 ≡ after_position place
+      stored = let sized = holds.sized in get_or-set_same s.words 0 (after_position place) 0 (omega arith)
+
       one : clears {T = T} place (Cleared p place ∷ []) ≡ 1
       one = let t : (place == place) ≡ true = grind (arith, nat_tests) in rw t refl
 
   pub next_step : (stage : ResetNextStage) → NextStands c stage → KnowsNext c p events s.words since changes backs stage → steps ≤ next_number c stage backs → DoesOf (next_wrote p stage) stage
   next_step resetting.TheVariants.LoadsPosition at knows few = loads_position knows few
-  next_step (resetting.TheVariants.LoadsElement start passed) at knows few = loads start passed at.0 at.1 knows.1 knows.0 few
+  next_step (resetting.TheVariants.LoadsElement start passed) at knows few = loads start passed at.0 at.1 knows.1 knows.2 knows.0 few
   next_step (resetting.TheVariants.ExchangesElement start passed found) at knows few =
-      exchanges_it start passed at.0 at.1 knows.1 found at.2 knows.0.0 knows.0.1 few
-  next_step (resetting.TheVariants.StoresPosition place) at knows few = stores place knows few
+      exchanges_it start passed at.0 at.1 knows.1 knows.2 found at.2 knows.0.0 knows.0.1 few
+  next_step (resetting.TheVariants.StoresPosition place) at knows few = stores place knows.0 knows.1 few

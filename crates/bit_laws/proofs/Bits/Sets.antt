@@ -1,5 +1,5 @@
 -- The steps of a set.
-use Rattle.std.proofs.Common.{◌≡◌, ◌≢◌, ℕ, ◌+◌, ◌<◌, ◌≤◌, ◌==◌, Bool, true, false, Option, Some, List, [], ◌∷◌, length, get_or, set, refl, sym, ap, ◌∙◌, arith}
+use Rattle.std.proofs.Common.{◌≡◌, ◌≢◌, ℕ, ◌+◌, ◌<◌, ◌≤◌, ◌==◌, Bool, true, false, Option, Some, List, [], ◌∷◌, length, get_or, set, refl, sym, ap, ◌∙◌, arith, get_or-set_other}
 use Rattle.std.proofs.lemmas.Bool.Decides.{nat_tests}
 use Rattle.steps.specs.declared.ask.Ask.{Ask}
 use Rattle.steps.specs.declared.ask.Op.TheVariants.{Load, Exchange}
@@ -8,7 +8,7 @@ use Rattle.steps.specs.declared.ask.After.TheVariants.{GoOn, Done}
 use Rattle.steps.specs.declared.bits.bit_set.SetStage.{SetStage}
 use Rattle.steps.specs.declared.bits.bit_set.SetStage as setting
 use Rattle.steps.specs.Bits.Words.{element_of, elements, has_flag, with_flag, stands}
-use Rattle.steps.proofs.Flags.Words.{set_stands, set_leaves}
+use Rattle.steps.proofs.Flags.Words.{set_stands, set_leaves, elements_after}
 use Rattle.model.specs.declared.event.Answer.{Answer}
 use Rattle.model.specs.declared.event.Answer as answers
 use Rattle.model.specs.declared.event.Event.{Event}
@@ -59,11 +59,12 @@ module _ {T : Type 0} (code : Coding T) (c : ℕ) (s : SetState T) (events : Lis
     stood : steps + 1 ≤ 2 + (backs + one_if back) → has_flag word bit ≡ true → Does (Some a) back (Done (answers.TheVariants.Truth false)) []
     stood few t =
         ends code c s events turns p changes since steps backs [] (starts.TheVariants.Set bit) (Some a) back (answers.TheVariants.Truth false) (same_bits code c s events turns p changes since steps backs (Some a) same)
+        (ap (λ ws. get_or ws 0 0) same)
         (held_now p (λ part. standing bit part ≡ 1) events (stood_now t)) refl few paid
 
     clear : steps + 1 ≤ 1 + (backs + one_if back) → has_flag word bit ≡ false → Does (Some a) back (GoOn (set_at bit (setting.TheVariants.ExchangesElement word))) []
     clear few t =
-        goes_on code c s events turns p changes since steps backs (starts.TheVariants.Set bit) (Some a) back (set_at bit (setting.TheVariants.ExchangesElement word)) (same_bits code c s events turns p changes since steps backs (Some a) same) few refl (refl, below, t)
+        goes_on code c s events turns p changes since steps backs (starts.TheVariants.Set bit) (Some a) back (set_at bit (setting.TheVariants.ExchangesElement word)) (same_bits code c s events turns p changes since steps backs (Some a) same) (ap (λ ws. get_or ws 0 0) same) few refl (refl, below, t)
         (omega arith, λ ne. absurd (ne (ap (λ ws. get_or ws element 0) same)))
 
   -- ---- the steps
@@ -92,6 +93,7 @@ module _ {T : Type 0} (code : Coding T) (c : ℕ) (s : SetState T) (events : Lis
           sized = as_long s.words (Some (exchanging found));
           moved = λ b. moved b (bit == b) refl;
           within = λ b past. (let t : (bit == b) ≡ false = grind (arith, nat_tests) in rw t refl);
+          position = ap (λ ws. get_or ws 0 0) new ∙ get_or-set_other s.words element 0 (with_flag word bit) 0 (λ e. elements_after bit (sym e));
           pays = pays_by s.words (Some (exchanging found)) changes;
           right = (tt, (tt, tt));
         };

@@ -74,6 +74,7 @@ module _ {T : Type 0} where
         sized = length-replicate (1 + elements c) 0;
         conserved = λ b. (let none : one_if (stands (replicate (1 + elements c) 0) b) ≡ 0 = ap one_if (opens_clear c b) in omega arith);
         within = λ b past. refl;
+        position = zeros (1 + elements c) 0 0;
         answers = Each-nil _;
       }
 
@@ -133,4 +134,4 @@ module _ {T : Type 0} where
   -- to begin changes no bit
   pub begins_none : (c p : ℕ) (start : BitsStart) (words : List ℕ) (events : List (Event T)) (changes : ℕ) → Conserves c words events changes words (Begun p (Bits start) ∷ []) changes
   begins_none c p start words events changes =
-      rest_conserves c words events changes words (Begun p (Bits start) ∷ []) changes refl (λ b. refl) (λ b. refl) (λ b. refl) (record { up = omega arith; changed = λ i ne. absurd (ne refl) }) (tt, tt)
+      rest_conserves c words events changes words (Begun p (Bits start) ∷ []) changes refl (λ b. refl) (λ b. refl) (λ b. refl) refl (record { up = omega arith; changed = λ i ne. absurd (ne refl) }) (tt, tt)

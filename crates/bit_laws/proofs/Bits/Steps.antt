@@ -1,5 +1,5 @@
 -- What a step of a call of the bit set has to show: the common cases.
-use Rattle.std.proofs.Common.{◌≡◌, ℕ, ◌+◌, ◌≤◌, Bool, Option, Some, None, List, [], ◌∷◌, ◌++◌, length, refl, sym, ap, subst, arith, length-set}
+use Rattle.std.proofs.Common.{◌≡◌, ℕ, ◌+◌, ◌≤◌, Bool, Option, Some, None, List, [], ◌∷◌, ◌++◌, fold, length, get_or, refl, sym, ap, subst, arith, length-set}
 use Rattle.steps.specs.declared.ask.Ask.{Ask}
 use Rattle.steps.specs.declared.ask.After.{After}
 use Rattle.steps.specs.declared.ask.After.TheVariants.{GoOn, Done}
@@ -15,7 +15,7 @@ use Rattle.model.specs.Families.{ask_of}
 use Rattle.model.specs.Families.Bits.Bounds.{most_bits_steps}
 use Rattle.model.specs.Families.Bits.Calls.{want, after, goes_back}
 use Rattle.model.specs.Families.Bits.Promises.{BitsAnswerRight, BitsWrote}
-use Rattle.model.specs.Families.Bits.Reading.{sets, clears}
+use Rattle.model.specs.Families.Bits.Reading.{sets, clears, position_after}
 use Rattle.model.specs.Families.Bits.Steps.{effects_of}
 use Rattle.model.specs.Reading.{Open, span_of}
 use Rattle.model.specs.Turns.{one_if, old_of, words_after, change_of, step_count}
@@ -50,19 +50,23 @@ module _ {T : Type 0} (code : Coding T) (c : ℕ) (s : SetState T) (events : Lis
   pub same_bits : (ask : Option Ask) → words_after s.words ask ≡ s.words → SameBits ask
   same_bits ask same b = ap (λ ws. stands ws b) same
 
-  pub no_change : (ask : Option Ask) (es : List (Event T)) → SameBits ask → ((b : ℕ) → sets b es ≡ 0) → ((b : ℕ) → clears b es ≡ 0) → AreRight (BitsAnswerRight c) events es → Conserves c s.words events changes (words_after s.words ask) es (changes + change_of s.words ask)
-  no_change ask es same no_sets no_clears right =
-      rest_conserves c s.words events changes (words_after s.words ask) es (changes + change_of s.words ask) (as_long s.words ask) same no_sets no_clears (pays_by s.words ask changes) right
+  -- the reset position after these events
+  abbrev pub Stands : Option Ask → List (Event T) → Type 0
+  Stands ask es = get_or (words_after s.words ask) 0 0 ≡ fold position_after (get_or s.words 0 0) es
+
+  pub no_change : (ask : Option Ask) (es : List (Event T)) → SameBits ask → ((b : ℕ) → sets b es ≡ 0) → ((b : ℕ) → clears b es ≡ 0) → Stands ask es → AreRight (BitsAnswerRight c) events es → Conserves c s.words events changes (words_after s.words ask) es (changes + change_of s.words ask)
+  no_change ask es same no_sets no_clears position right =
+      rest_conserves c s.words events changes (words_after s.words ask) es (changes + change_of s.words ask) (as_long s.words ask) same no_sets no_clears position (pays_by s.words ask changes) right
 
   -- a call that has written nothing goes on, and no bit changes
   pub goes_on :
-      (start : BitsStart) (ask : Option Ask) (back : Bool) (flight : BitsFlight) → SameBits ask → steps + step_count ask ≤ number_of flight (backs + one_if back)
+      (start : BitsStart) (ask : Option Ask) (back : Bool) (flight : BitsFlight) → SameBits ask → Stands ask [] → steps + step_count ask ≤ number_of flight (backs + one_if back)
       → [] ≡ call_wrote p flight (span_of p (events ++ [])) → CallAt c (wrote_in (span_of p (events ++ []))) start flight
       → KnowsCall p (events ++ []) (words_after s.words ask) (since + change_of s.words ask) (changes + change_of s.words ask) (backs + one_if back) flight
       → Does [] start ask back (GoOn flight) []
-  goes_on start ask back flight same few none at knows =
+  goes_on start ask back flight same position few none at knows =
       record {
-        conserves = no_change ask [] same (λ b. refl) (λ b. refl) tt;
+        conserves = no_change ask [] same (λ b. refl) (λ b. refl) position tt;
         own = tt;
         stands = tt;
         here = record { span = ap (λ es. Open (Bits start) es) none; steps = few; at = at };
@@ -71,12 +75,12 @@ module _ {T : Type 0} (code : Coding T) (c : ℕ) (s : SetState T) (events : Lis
 
   -- a call is done, and no bit changes
   pub ends :
-      (wrote : List (Event T)) (start : BitsStart) (ask : Option Ask) (back : Bool) (answer : Answer T) → SameBits ask → BitsAnswerRight c events (Finished p (Bits start) answer) → BitsWrote c (Bits start) answer wrote
+      (wrote : List (Event T)) (start : BitsStart) (ask : Option Ask) (back : Bool) (answer : Answer T) → SameBits ask → Stands ask (Finished p (Bits start) answer ∷ []) → BitsAnswerRight c events (Finished p (Bits start) answer) → BitsWrote c (Bits start) answer wrote
       → steps + step_count ask ≤ most_bits_steps c start (backs + one_if back) → backs + one_if back + since ≤ changes
       → Does wrote start ask back (Done answer) []
-  ends wrote start ask back answer same right says few paid =
+  ends wrote start ask back answer same position right says few paid =
       record {
-        conserves = no_change ask (Finished p (Bits start) answer ∷ []) same (λ b. refl) (λ b. refl) (right, tt);
+        conserves = no_change ask (Finished p (Bits start) answer ∷ []) same (λ b. refl) (λ b. refl) position (right, tt);
         own = (refl, tt);
         stands = ((refl, says), tt);
         here = record { answer = answer; wrote = wrote; span = refl; steps = few };

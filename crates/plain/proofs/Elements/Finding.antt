@@ -4,7 +4,6 @@ use Rattle.std.specs.List.{FoldsTo}
 use Rattle.std.proofs.lemmas.List.{append_assoc, append-nil, length-append, length-drop}
 use Rattle.std.proofs.lemmas.Bool.Decides.{nat_tests}
 use Rattle.steps.specs.Copied.{value_in}
-use Rattle.steps.specs.Indices.Robust.Parts.{empty}
 use Rattle.steps.specs.Container.Find.{first_find, find_comes_to, find_want, find_after, find_kept}
 use Rattle.steps.specs.Objects.Owners.{indices_of}
 use Rattle.steps.specs.declared.ask.Want.{Want}
@@ -19,14 +18,14 @@ use Rattle.plain.specs.declared.drive.Stop as stops
 use Rattle.plain.specs.Alone.{CanStop, StopsAlike}
 use Rattle.plain.specs.Callable.{TakesIndices, HasFound, index_in, as_answer}
 use Rattle.plain.specs.Robust.{owners_in}
-use Rattle.plain.specs.Contents.{Contents, contents_in, Holds}
+use Rattle.plain.specs.Contents.{Contents, contents_in}
 use Rattle.plain.specs.Visited.{handle_of, MaySee, Sees}
 use Rattle.plain.proofs.Alone.{Halts, can_stop, stops_so}
 use Rattle.plain.proofs.Walks.{plus, plus_sum, Goes}
 use Rattle.plain.proofs.Rooms.{with_room, want_both, after_both, Apart, halts_both}
 use Rattle.plain.proofs.Robust.Finds.{mine}
 use Rattle.plain.proofs.Robust.Finding.{folds_more}
-use Rattle.plain.proofs.Elements.Finds.{Ready, counter, cells, cells_long, front, AsksAt, StopsAt, each, finds_on}
+use Rattle.plain.proofs.Elements.Finds.{Ready, cells, cells_long, front, AsksAt, StopsAt, finds_on}
 
 module _ {V R F : Type 0} (value_of : List ℕ → V) (words_in : R → List ℕ) (with_word : R → ℕ → ℕ → R)
     (put_in : (x : R) (at word : ℕ) → words_in (with_word x at word) ≡ slice_set (words_in x) at word)

@@ -1,9 +1,9 @@
 -- A find in a container that runs alone, from one value to the next.
-use Rattle.std.proofs.Common.{◌≡◌, ◌≢◌, ℕ, zero, suc, ◌+◌, ◌-◌, ◌^◌, ◌<◌, ◌≤◌, ⊎_elim, true, false, ◌==◌, nat_lt, List, [], ◌∷◌, length, drop, map, take, Option, Some, None, refl, sym, ap, subst, ◌∙◌, arith, slice_index, slice_set, length-set, eq-eqb, get_or-take, if◌then◌else◌}
+use Rattle.std.proofs.Common.{◌≡◌, ℕ, zero, suc, ◌+◌, ◌-◌, ◌^◌, ◌<◌, ◌≤◌, ⊎_elim, true, false, nat_lt, List, [], ◌∷◌, length, drop, take, Some, None, refl, sym, ap, subst, ◌∙◌, arith, slice_index, slice_set, length-set, eq-eqb, get_or-take, if◌then◌else◌}
 use Rattle.std.specs.Prelude.{slice_index_or}
 use Rattle.std.proofs.lemmas.Bool.{cases_Bool}
 use Rattle.std.proofs.lemmas.Bool.Decides.{nat_tests}
-use Rattle.std.proofs.lemmas.List.{set-get_or, get_or-map, length-drop}
+use Rattle.std.proofs.lemmas.List.{set-get_or, get_or-map}
 use Rattle.std.proofs.lemmas.List.FromFn.{get_or-map-range_with_len}
 use Rattle.steps.specs.Picks.{by_test, by_eq}
 use Rattle.steps.specs.Copied.{value_in}
@@ -13,7 +13,7 @@ use Rattle.steps.specs.Container.Layout.{count_word, element_word, is_even}
 use Rattle.steps.specs.Container.Find.{at_find, first_find, find_comes_to, find_want, find_after, find_kept}
 use Rattle.steps.specs.declared.ask.Want.{Want}
 use Rattle.steps.specs.declared.ask.After.{After}
-use Rattle.steps.specs.declared.ask.After.TheVariants.{GoOn, Done}
+use Rattle.steps.specs.declared.ask.After.TheVariants.{GoOn}
 use Rattle.steps.specs.declared.ask.Question.{Question}
 use Rattle.steps.specs.declared.ask.Question as questions
 use Rattle.steps.specs.declared.container.find.Find.{Find}
@@ -22,7 +22,7 @@ use Rattle.plain.specs.declared.drive.Stop.{Stop}
 use Rattle.plain.specs.declared.drive.Stop.TheVariants.{Asked, Ended}
 use Rattle.plain.specs.Queues.{words_from}
 use Rattle.plain.specs.Robust.{owner_in, owners_in}
-use Rattle.plain.specs.Contents.{Contents, value_at, values_in, contents_in, Fits, Holds}
+use Rattle.plain.specs.Contents.{Contents, value_at, contents_in, Fits, Holds}
 use Rattle.plain.specs.Visited.{Stands}
 use Rattle.plain.proofs.Walks.{plus, Walks, Goes, longer}
 use Rattle.plain.proofs.Rooms.{with_room, want_both, after_both}

@@ -1,16 +1,16 @@
 -- What a recovery of a container does to the words once it was told to free an index.
-use Rattle.std.proofs.Common.{◌≡◌, ◌≢◌, ℕ, zero, suc, ◌+◌, ◌-◌, ◌^◌, ◌<◌, ◌≤◌, true, false, ◌==◌, List, [], ◌∷◌, length, take, Option, Some, None, refl, sym, ap, subst, ◌∙◌, arith, slice_index, slice_set, length-set, get_or-set_same, get_or-set_other, get_or-take, if◌then◌else◌}
+use Rattle.std.proofs.Common.{◌≡◌, ◌≢◌, ℕ, zero, suc, ◌+◌, ◌^◌, ◌<◌, ◌≤◌, false, List, [], ◌∷◌, length, take, None, refl, sym, ap, subst, ◌∙◌, arith, slice_index, slice_set, length-set, get_or-set_same, get_or-set_other, get_or-take, if◌then◌else◌}
 use Rattle.std.proofs.lemmas.List.{take-set-le}
 use Rattle.steps.specs.Indices.Robust.Parts.{cell_word, empty, locked, one_more, raise_want, raise_after, lock_want, lock_after, first_lock}
-use Rattle.steps.specs.Container.Layout.{change_word, count_word, element_word, is_even}
+use Rattle.steps.specs.Container.Layout.{change_word, count_word, is_even}
 use Rattle.steps.specs.Objects.Owners.{Owners, next_generation, given_back}
 use Rattle.steps.specs.declared.indices.enums.ReleaseMode.{ReleaseMode}
 use Rattle.steps.specs.declared.indices.enums.ReleaseState.{ReleaseState}
-use Rattle.steps.specs.declared.indices.enums.ReleaseState.TheVariants.{Locked, Unlocked}
+use Rattle.steps.specs.declared.indices.enums.ReleaseState.TheVariants.{Unlocked}
 use Rattle.steps.specs.declared.indices.robust.parts.Raise as raises
 use Rattle.plain.specs.Robust as robust
 use Rattle.plain.specs.Robust.{owners_in}
-use Rattle.plain.specs.Contents.{Contents, value_at, values_in, counts_in, contents_in, changed, IsFilled, Fits, Holds}
+use Rattle.plain.specs.Contents.{Contents, value_at, contents_in, changed, IsFilled, Fits, Holds}
 use Rattle.plain.specs.Visited.{freed, one_change}
 use Rattle.plain.proofs.Walks.{plus, Walks, OnEnd, any_low}
 use Rattle.plain.proofs.Fronts.{Behind, stays, take_set, front_walks}
@@ -20,7 +20,7 @@ use Rattle.plain.proofs.Robust.Releases.{counter_then, counter_small, given_back
 use Rattle.plain.proofs.Elements.Sets.{raise_below, LockLow, lock_goes_low, lock_below}
 use Rattle.plain.proofs.Elements.Filled.{filled_gone, given_owners}
 use Rattle.plain.proofs.Elements.Finds.{counter, cells, front, cells_long}
-use Rattle.plain.proofs.Elements.Values.{value_same, front_fits, behind_contents, behind_fits, hidden, hides, gone, after_change, change_contents}
+use Rattle.plain.proofs.Elements.Values.{value_same, behind_contents, behind_fits, hidden, hides, gone, after_change, change_contents}
 
 -- ---- raise and lock, where more words stand behind those of the set
 

@@ -1,5 +1,5 @@
 -- A recovery of a container with its closure, from one question to the next.
-use Rattle.std.proofs.Common.{◌≡◌, ◌≢◌, ℕ, suc, ◌+◌, ◌-◌, ◌^◌, ◌<◌, ◌≤◌, Bool, true, false, ◌==◌, nat_lt, if◌then◌else◌, List, [], ◌∷◌, ◌++◌, length, drop, map, filter, fold, None, refl, sym, ap, subst, ◌∙◌, arith, slice_index, slice_set, length-set, get_or-set_other, eq-eqb}
+use Rattle.std.proofs.Common.{◌≡◌, ◌≢◌, ℕ, suc, ◌+◌, ◌-◌, ◌^◌, ◌<◌, ◌≤◌, Bool, true, false, ◌==◌, nat_lt, if◌then◌else◌, List, [], ◌∷◌, ◌++◌, length, filter, None, refl, sym, ap, subst, ◌∙◌, arith, slice_index, slice_set, length-set, get_or-set_other, eq-eqb}
 use Rattle.std.specs.Prelude.{slice_index_or}
 use Rattle.std.specs.List.{FoldsTo}
 use Rattle.std.proofs.lemmas.List.{append_assoc, append-nil, length-drop, drop-set-lt}
@@ -8,7 +8,7 @@ use Rattle.steps.specs.Copied.{value_in}
 use Rattle.steps.specs.Indices.Robust.Parts.{empty, locked}
 use Rattle.steps.specs.Container.Layout.{count_word}
 use Rattle.steps.specs.Container.Recover.{first_recover, recover_want, recover_after, recover_kept}
-use Rattle.steps.specs.Objects.Owners.{Owners, Owned, taken, taken_from, state_of, given_back}
+use Rattle.steps.specs.Objects.Owners.{Owners, Owned, taken, state_of, given_back}
 use Rattle.steps.specs.declared.ask.Want.{Want}
 use Rattle.steps.specs.declared.ask.After.{After}
 use Rattle.steps.specs.declared.ask.After.TheVariants.{GoOn, Done}
@@ -21,7 +21,7 @@ use Rattle.steps.specs.declared.indices.enums.ReleaseState.{ReleaseState}
 use Rattle.plain.specs.declared.drive.Stop as stops
 use Rattle.plain.specs.Alone.{CanStop, StopsAlike}
 use Rattle.plain.specs.Callable.{Asked, questions, agreed, asks, TakesQuestions}
-use Rattle.plain.specs.Robust.{owner_in, owners_in}
+use Rattle.plain.specs.Robust.{owners_in}
 use Rattle.plain.specs.Contents.{Contents, contents_in, Holds}
 use Rattle.plain.specs.Visited.{Stands, to_ask, MayAsk, Says, freed, all_freed, one_change, HasRecovered}
 use Rattle.plain.proofs.Alone.{Halts, can_stop, stops_so}
@@ -31,8 +31,8 @@ use Rattle.plain.proofs.Robust.Releases.{counter_then, given_back_is}
 use Rattle.plain.proofs.Robust.Finding.{folds_more}
 use Rattle.plain.proofs.Robust.Recovering.{locked_leaves, an_answer, questions_more, agreed_no, agreed_yes}
 use Rattle.plain.proofs.Elements.Finds.{Ready, counter, cells, cells_long, front}
-use Rattle.plain.proofs.Elements.Frees.{generation_is, counter_low}
-use Rattle.plain.proofs.Elements.Recovers.{of_owner, AsksAt, EndsAt, StopsAt, recovers_on, begin_walk, frees_on}
+use Rattle.plain.proofs.Elements.Frees.{counter_low}
+use Rattle.plain.proofs.Elements.Recovers.{of_owner, AsksAt, StopsAt, recovers_on, begin_walk, frees_on}
 
 module _ {V R F : Type 0} (value_of : List ℕ → V) (words_in : R → List ℕ) (with_word : R → ℕ → ℕ → R)
     (put_in : (x : R) (at word : ℕ) → words_in (with_word x at word) ≡ slice_set (words_in x) at word)

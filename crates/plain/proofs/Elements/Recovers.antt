@@ -1,17 +1,17 @@
 -- A recovery of a container that runs alone, from one question to the next.
-use Rattle.std.proofs.Common.{◌≡◌, ◌≢◌, ℕ, zero, suc, ◌+◌, ◌-◌, ◌^◌, ◌<◌, ◌≤◌, ⊎_elim, true, false, cond, ◌==◌, nat_lt, List, [], ◌∷◌, length, drop, filter, map, take, Option, Some, None, refl, sym, ap, subst, ◌∙◌, arith, slice_index, slice_set, length-set, eq-eqb, ne_eqb, get_or-set_other, if◌then◌else◌}
+use Rattle.std.proofs.Common.{◌≡◌, ◌≢◌, ℕ, zero, suc, ◌+◌, ◌-◌, ◌^◌, ◌<◌, ◌≤◌, ⊎_elim, true, false, cond, ◌==◌, nat_lt, List, [], ◌∷◌, length, drop, filter, map, take, Some, refl, sym, ap, subst, ◌∙◌, arith, slice_index, slice_set, eq-eqb, ne_eqb, get_or-set_other, if◌then◌else◌}
 use Rattle.std.proofs.lemmas.Bool.Decides.{nat_tests, eqb_tells}
 use Rattle.std.proofs.lemmas.List.{set-get_or, drop-set-lt}
 use Rattle.steps.specs.Picks.{by_test, by_eq}
 use Rattle.steps.specs.Copied.{value_in}
 use Rattle.steps.specs.Queues.Ring.{word_at}
 use Rattle.steps.specs.Indices.Robust.Parts.{cell_word, empty, locked, one_more, raise_want, raise_after, lock_want, lock_after, first_lock}
-use Rattle.steps.specs.Container.Layout.{change_word, count_word, element_word, is_even}
+use Rattle.steps.specs.Container.Layout.{count_word, element_word, is_even}
 use Rattle.steps.specs.Container.Recover.{first_recover, goes_to, recover_comes_to, recover_raises, recover_raised, recover_locked, recover_sees, recover_want, recover_after, recover_kept}
 use Rattle.steps.specs.Objects.Owners.{Owned, taken, taken_from, state_of, next_generation}
 use Rattle.steps.specs.declared.ask.Want.{Want}
 use Rattle.steps.specs.declared.ask.After.{After}
-use Rattle.steps.specs.declared.ask.After.TheVariants.{GoOn, Done}
+use Rattle.steps.specs.declared.ask.After.TheVariants.{Done}
 use Rattle.steps.specs.declared.ask.Question.{Question}
 use Rattle.steps.specs.declared.ask.Question as questions
 use Rattle.steps.specs.declared.container.recover.Recover.{Recover}
@@ -31,10 +31,10 @@ use Rattle.plain.proofs.Walks.{plus, Walks, Goes, longer, goes_longer, part_walk
 use Rattle.plain.proofs.Fronts.{Behind, behind_more}
 use Rattle.plain.proofs.Rooms.{with_room, want_both, after_both}
 use Rattle.plain.proofs.Words.{read_in, value_read}
-use Rattle.plain.proofs.Robust.Parts.{head_or, tail_of, here, past, next_small, owner_free, owner_some, locking}
+use Rattle.plain.proofs.Robust.Parts.{tail_of, here, past, next_small, owner_free, owner_some}
 use Rattle.plain.proofs.Robust.Releases.{counter_then}
-use Rattle.plain.proofs.Elements.Finds.{counter, cells, cells_long, front, cell_is, odd_at, stands_at, small_at, long_read}
-use Rattle.plain.proofs.Elements.Frees.{head_is, generation_is, counter_low, counts_so, Counted, counted, bare, emptied, emptied_long, bare_front, bare_behind, Freed, frees_so, raise_over, lock_over}
+use Rattle.plain.proofs.Elements.Finds.{counter, cells_long, front, cell_is, odd_at, stands_at, small_at, long_read}
+use Rattle.plain.proofs.Elements.Frees.{head_is, generation_is, counter_low, counts_so, counted, bare, emptied_long, bare_front, bare_behind, frees_so, raise_over, lock_over}
 
 module _ (owner : ℕ) where
   -- the indices of the owner in a list whose first index is this one

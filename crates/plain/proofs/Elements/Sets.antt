@@ -1,10 +1,10 @@
 -- The calls of the robust set over the first words of a container.
-use Rattle.std.proofs.Common.{◌≡◌, ◌≢◌, ℕ, suc, ◌+◌, ◌^◌, ◌-◌, ◌<◌, ◌≤◌, true, nat_lt, List, [], ◌∷◌, length, refl, sym, ap, subst, ◌∙◌, arith, length-set, slice_set, ◌==◌, ◌&&◌, not, if◌then◌else◌}
+use Rattle.std.proofs.Common.{◌≡◌, ℕ, suc, ◌+◌, ◌^◌, ◌<◌, ◌≤◌, nat_lt, List, [], ◌∷◌, length, sym, subst, arith, length-set, slice_set, ◌==◌, ◌&&◌, not, if◌then◌else◌}
 use Rattle.std.proofs.lemmas.Bool.Decides.{nat_tests}
 use Rattle.steps.specs.Picks.{by_test, by_eq}
-use Rattle.steps.specs.Indices.Robust.Parts.{cell_word, empty, locked, greatest, one_more, raise_want, raise_after, count_want, count_after, count_comes_to, lock_want, lock_after, lock_counted, first_lock}
+use Rattle.steps.specs.Indices.Robust.Parts.{empty, locked, greatest, one_more, raise_want, raise_after, count_want, count_after, count_comes_to, lock_want, lock_after, lock_counted}
 use Rattle.steps.specs.Indices.Robust.Acquire.{Acquired, first_acquire, at_acquire, acquire_asks, acquire_tries, acquire_sees, acquire_raised, acquire_takes, acquire_want, acquire_after}
-use Rattle.steps.specs.Indices.Robust.Release.{Released, first_release, at_release, release_asks, release_raised, release_locked, release_takes, release_want, release_after}
+use Rattle.steps.specs.Indices.Robust.Release.{Released, first_release, release_asks, release_raised, release_locked, release_takes, release_want, release_after}
 use Rattle.steps.specs.declared.ask.After.{After}
 use Rattle.steps.specs.declared.ask.After.TheVariants.{GoOn, Done}
 use Rattle.steps.specs.declared.indices.enums.ReleaseMode.{ReleaseMode}

@@ -1,6 +1,7 @@
 -- What holds of the machine of a bit set, and of one of a counting bit set, after any turns.
 use Rattle.std.specs.Prelude.{◌≡◌, ◌≤◌, ◌<◌, ◌⊎◌, ℕ, ◌+◌, ◌*◌, ◌^◌, ◌%◌, true, false, Option, List, [], ◌∷◌, ◌++◌, length, slice_index}
 use Rattle.steps.specs.declared.ask.Ask.{Ask}
+use Rattle.steps.specs.Bits.BitSet.{place_after, at_most}
 use Rattle.steps.specs.Bits.Words.{stands}
 use Rattle.model.specs.declared.event.Answer.{Answer}
 use Rattle.model.specs.declared.event.Answer.TheVariants.{Done, Truth, Number, ResetNone, Reset}
@@ -11,7 +12,7 @@ use Rattle.model.specs.declared.event.Start.{Start}
 use Rattle.model.specs.declared.event.Start.TheVariants.{Bits}
 use Rattle.model.specs.declared.families.bits.BitsStart.TheVariants.{Set, ResetNext, ResetAll}
 use Rattle.model.specs.Families.Bits.Bounds.{most_bits_steps, most_counts_steps}
-use Rattle.model.specs.Families.Bits.Reading.{sets, clears, counts, takes, standing, count_at}
+use Rattle.model.specs.Families.Bits.Reading.{sets, clears, counts, takes, standing, position_of, count_at}
 use Rattle.model.specs.Moments.{HeldOnce, SinceBegin}
 use Rattle.model.specs.Promise.{Promise}
 use Rattle.model.specs.Reading.{Each, Span, Open}
@@ -30,11 +31,25 @@ module _ {T : Type 0} where
   HasCleared capacity before since =
       (b : ℕ) → b < capacity → standing b before ≡ 1 → 1 ≤ clears b since
 
-  -- A set answers false only if the bit stood at a moment of the call, and a reset of the next
-  -- one None only if each bit was clear at some moment of it. A reset of all clears what stood.
+  -- it has come to the bit from where the reset position stood at a moment of the call: each of the
+  -- places before it, of which the first follows the last, was clear at some moment of it
+  pub record CameTo (p capacity bit : ℕ) (events : List (Event T)) : Type 0 where
+    pub start : ℕ
+    pub passed : ℕ
+    pub within : passed < capacity
+    pub is : place_after capacity start passed ≡ bit
+    pub begun : HeldOnce p (λ part. at_most capacity (position_of part) ≡ start) events
+    pub clear : (k : ℕ) → k < passed
+        → HeldOnce p (λ part. standing (place_after capacity start k) part ≡ 0) events
+
+  -- A set answers false only if the bit stood at a moment of the call. A reset of the next one
+  -- begins at the reset position, and answers None only if each bit was clear at some moment of it.
+  -- A reset of all clears what stood.
   abbrev pub BitsAnswerRight : ℕ → List (Event T) → Event T → Type 0
   BitsAnswerRight capacity before (Finished p (Bits (Set bit)) (Truth false)) =
       HeldOnce p (λ part. standing bit part ≡ 1) before
+  BitsAnswerRight capacity before (Finished p (Bits ResetNext) (Reset bit)) =
+      CameTo p capacity bit before
   BitsAnswerRight capacity before (Finished p (Bits ResetNext) ResetNone) =
       (b : ℕ) → b < capacity → HeldOnce p (λ part. standing b part ≡ 0) before
   BitsAnswerRight capacity before (Finished p (Bits ResetAll) answer) =

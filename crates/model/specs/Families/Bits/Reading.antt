@@ -1,8 +1,12 @@
 -- How the events of the bit sets are read.
-use Rattle.std.specs.Prelude.{ℕ, ◌-◌, ◌==◌, Bool, false, List, if◌then◌else◌}
+use Rattle.std.specs.Prelude.{ℕ, ◌-◌, ◌==◌, Bool, false, List, fold, if◌then◌else◌}
 use Rattle.std.specs.List.{count_by, sum_by}
+use Rattle.steps.specs.Queues.Ring.{after_position}
+use Rattle.model.specs.declared.event.Answer.TheVariants.{Reset}
 use Rattle.model.specs.declared.event.Event.{Event}
-use Rattle.model.specs.declared.event.Event.TheVariants.{Set, Cleared, Counted, TakenOut}
+use Rattle.model.specs.declared.event.Event.TheVariants.{Set, Cleared, Counted, TakenOut, Finished}
+use Rattle.model.specs.declared.event.Start.TheVariants.{Bits}
+use Rattle.model.specs.declared.families.bits.BitsStart.TheVariants.{ResetNext}
 
 module _ {T : Type 0} where
   abbrev pub is_set_of : ℕ → Event T → Bool
@@ -38,6 +42,14 @@ module _ {T : Type 0} where
   -- 1 where the bit stands after these events, else 0
   abbrev pub standing : ℕ → List (Event T) → ℕ
   standing bit events = sets bit events - clears bit events
+
+  -- the reset position: the place after the one that the latest reset of the next bit answered
+  abbrev pub position_after : ℕ → Event T → ℕ
+  position_after position (Finished p (Bits ResetNext) (Reset bit)) = after_position bit
+  position_after position e = position
+
+  abbrev pub position_of : List (Event T) → ℕ
+  position_of events = fold position_after 0 events
 
   -- the count of the place after these events
   abbrev pub count_at : ℕ → List (Event T) → ℕ
