@@ -1,7 +1,7 @@
 //! Queues: drawn calls.
 ghost use Rattle.std.specs.Prelude.{◌≡◌};
 ghost use Rattle.std.specs.Option.{ForSome};
-ghost use Rattle.lock_free.specs.Ends.{queue_id, IsPassOf, producer_queue, consumer_queue};
+ghost use Rattle.lock_free.specs.Ends.{queue_id, ring_of, IsPassOf, producer_queue, consumer_queue};
 
 use crate::drawn::{Answer, Answers, CALLS, Call, Draws, Pair, Part, SEED, compare};
 use crate::wide::{Drawn, Greatest, Sixteen, Three, digest};
@@ -268,8 +268,21 @@ impl<'a, E: Kind<T>, T: Words> Answers<QueueCall> for User<'a, E, T> {
     }
 }
 
-/// Makes the drawn calls on a queue of one caller and on one of threads, and then fewer, which fill both. The pass is for
-/// the end.
+/// Makes the drawn calls on both, and then fewer, which fill both.
+fn fills<P: Answers<QueueCall>, Q: Answers<QueueCall>, R: Abort + Wait>(
+    rt: &R,
+    pair: Pair<'_>,
+    alone: &mut P,
+    shared: &mut Q,
+) {
+    let mut draws = Draws::new(SEED);
+    let part = Part::Drawn;
+    compare::<QueueCall, _, _, R>(rt, pair, &mut draws, part, 0..CALLS, alone, shared);
+    let calls = 0..(pair.capacity as u64).wrapping_add(8);
+    compare::<QueueCall, _, _, R>(rt, pair, &mut draws, part, calls, alone, shared);
+}
+
+/// Makes them on a queue of one caller and on one of threads. The pass is for the end.
 fn plays<E: Kind<T>, T: Words, P: Answers<QueueCall>, R: Abort + Wait>(
     rt: &R,
     pair: Pair<'_>,
@@ -285,11 +298,7 @@ fn plays<E: Kind<T>, T: Words, P: Answers<QueueCall>, R: Abort + Wait>(
         panic!(rt; "no further pass");
     };
     let mut user = User::new(queue, pass);
-    let mut draws = Draws::new(SEED);
-    let part = Part::Drawn;
-    compare::<QueueCall, _, _, R>(rt, pair, &mut draws, part, 0..CALLS, alone, &mut user);
-    let calls = 0..(pair.capacity as u64).wrapping_add(8);
-    compare::<QueueCall, _, _, R>(rt, pair, &mut draws, part, calls, alone, &mut user);
+    fills(rt, pair, alone, &mut user);
     last
 }
 
@@ -400,6 +409,21 @@ fn drawn_to_the_last_position(rt: HostRuntime) -> Result<(), Fail> {
     Ok(())
 }
 
+/// Closes a queue, and compares what waits.
+fn closes<T: Words + Drawn, const CAPACITY: usize>(
+    rt: &(impl Abort + Wait),
+    pair: Pair<'_>,
+    alone: &mut plain::Queue<T>,
+    queue: Queue<T, CAPACITY>,
+    last: Pass<Values, T>,
+) -> Result<(), UniqueIndexCreationError>
+    requires { IsPassOf (ring_of queue) last }
+{
+    let mut closed = queue.close(last)?;
+    ends(rt, pair, alone, &mut closed);
+    Ok(())
+}
+
 /// Queues of values of this type.
 fn of_values<T: Words + Drawn, const CAPACITY: usize>(
     rt: &(impl Abort + Wait),
@@ -410,9 +434,7 @@ fn of_values<T: Words + Drawn, const CAPACITY: usize>(
     let mut alone = plain::Queue::<T>::new(alloc, CAPACITY)?;
     let (queue, pass) = Queue::<T, CAPACITY>::new(alloc)?;
     let last = plays(rt, pair, &mut alone, &queue, pass);
-    let mut closed = queue.close(last)?;
-    ends(rt, pair, &mut alone, &mut closed);
-    Ok(())
+    closes(rt, pair, &mut alone, queue, last)
 }
 
 #[test]

@@ -125,8 +125,28 @@ impl<'a, T: Words + Drawn> Answers<ValueCall> for User<'a, T> {
     }
 }
 
-/// Makes the calls on a value of this type, from this version on.
+/// Makes the calls on a value of one caller and on one of threads.
 fn plays<T: Words + Drawn>(
+    rt: &(impl Abort + Wait),
+    name: &str,
+    alone: &mut plain::UnrestrictedAtomic<T>,
+    value: &UnrestrictedAtomic<T>,
+    pass: Pass<T>,
+)
+    requires { IsPassOf value.now pass }
+{
+    let mut user = User::new(value, pass);
+    let mut draws = Draws::new(SEED);
+    let pair = Pair {
+        name,
+        capacity: 1,
+        calls: CALLS,
+    };
+    compare_parts::<ValueCall, _, _, _>(rt, pair, &mut draws, 0, alone, &mut user);
+}
+
+/// On values of this type, from this version on.
+fn of_type<T: Words + Drawn>(
     rt: &(impl Abort + Wait),
     alloc: Global,
     name: &str,
@@ -137,25 +157,18 @@ fn plays<T: Words + Drawn>(
     let first = T::drawn(7);
     let mut alone = plain::UnrestrictedAtomic::<T>::new_at(alloc, first, version)?;
     let (value, pass) = UnrestrictedAtomic::<T>::new_at(alloc, first, version)?;
-    let mut user = User::new(&value, pass);
-    let mut draws = Draws::new(SEED);
-    let pair = Pair {
-        name,
-        capacity: 1,
-        calls: CALLS,
-    };
-    compare_parts::<ValueCall, _, _, _>(rt, pair, &mut draws, 0, &mut alone, &mut user);
+    plays(rt, name, &mut alone, &value, pass);
     Ok(())
 }
 
 #[test]
 fn drawn_values(rt: HostRuntime) -> Result<(), Fail> {
-    plays::<u64>(&rt, rt.alloc(), "value of one word", 1)?;
-    plays::<u128>(&rt, rt.alloc(), "value of two words", 1)?;
-    plays::<Three>(&rt, rt.alloc(), "value of three words", 1)?;
-    plays::<Sixteen>(&rt, rt.alloc(), "value of 16 words", 1)?;
-    plays::<Greatest>(&rt, rt.alloc(), "value of 128 words", 1)?;
-    plays::<u128>(
+    of_type::<u64>(&rt, rt.alloc(), "value of one word", 1)?;
+    of_type::<u128>(&rt, rt.alloc(), "value of two words", 1)?;
+    of_type::<Three>(&rt, rt.alloc(), "value of three words", 1)?;
+    of_type::<Sixteen>(&rt, rt.alloc(), "value of 16 words", 1)?;
+    of_type::<Greatest>(&rt, rt.alloc(), "value of 128 words", 1)?;
+    of_type::<u128>(
         &rt,
         rt.alloc(),
         "value at its last versions",
