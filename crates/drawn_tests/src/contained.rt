@@ -283,8 +283,8 @@ impl<'a, T: Words + Drawn> Answers<ContainerCall> for User<'a, T> {
     }
 }
 
-/// Makes the calls on a container of one caller and on one of threads, the drawn ones from the one of this number on. The
-/// number of the next one.
+/// Makes the calls on a container of one caller and on one of threads, the drawn ones from the one of this number on.
+/// The number of the next one.
 fn plays<T: Words + Drawn, R: Abort + Wait>(
     rt: &R,
     alloc: Global,
