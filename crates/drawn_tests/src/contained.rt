@@ -2,8 +2,7 @@
 ghost use Rattle.lock_free.specs.Container.Names.{IsPassOf};
 
 use crate::drawn::{
-    Answer, Answers, CALLS, Call, Draws, End, FEW_CALLS, Heard, Pair, SEED, Turn, compare_parts,
-    turn_of,
+    Answer, Answers, CALLS, Call, Draws, End, Heard, Pair, SEED, Turn, compare_parts, turn_of,
 };
 use crate::robust::{goes_on, owner_of};
 use crate::wide::{Drawn, Greatest, Sixteen, Three, digest};
@@ -284,8 +283,8 @@ impl<'a, T: Words + Drawn> Answers<ContainerCall> for User<'a, T> {
     }
 }
 
-/// Makes the calls on a container of one caller and on one of threads, the drawn ones from the one of this number on. The
-/// number of the next one.
+/// Makes the calls on a container of one caller and on one of threads, the drawn ones from the one of this number on.
+/// The number of the next one.
 fn plays<T: Words + Drawn, R: Abort + Wait>(
     rt: &R,
     alloc: Global,
@@ -329,7 +328,6 @@ fn fixes(
     let pair = Pair {
         name: "fixed container",
         capacity: 5,
-        calls: CALLS,
     };
     let (container, pass) = FixedSizeContainer::<u64, 5>::new(alloc, ID)?;
     plays(rt, alloc, pair, &container, pass, draws, from)
@@ -342,16 +340,11 @@ fn of_capacity<T: Words + Drawn>(
     name: &str,
     capacity: usize,
 ) -> Result<(), Fail> {
-    let calls = if capacity > 1000 { FEW_CALLS } else { CALLS };
-    let pair = Pair {
-        name,
-        capacity,
-        calls,
-    };
+    let pair = Pair { name, capacity };
     let mut draws = Draws::new(SEED);
     let mut next = 0;
-    for _ in 0..calls {
-        if next < calls {
+    for _ in 0..CALLS {
+        if next < CALLS {
             next = heaps::<T>(rt, alloc, pair, &mut draws, next)?;
         }
     }

@@ -2,7 +2,7 @@
 ghost use Rattle.std.specs.Prelude.{◌≡◌};
 ghost use Rattle.lock_free.specs.Counts.Calls.{IsPassOf};
 
-use crate::drawn::{Answer, Answers, CALLS, Call, Draws, End, Heard, Pair, SEED, compare_parts};
+use crate::drawn::{Answer, Answers, Call, Draws, End, Heard, Pair, SEED, compare_parts};
 use lock_free::mpmc::counting_bit_set::{CountingBitSet, FixedSizeCountingBitSet, Pass};
 use std::process::Abort;
 use std::sync::Wait;
@@ -34,12 +34,10 @@ impl Call for CountCall {
     fn each(at: usize, capacity: usize) -> Option<CountCall> {
         let place = at / 2;
         if place < capacity {
-            // (an emptying goes over all places, so one is for eight of them where there are more than 1,000)
-            let is_taken = at % 2 == 1 && (capacity <= 1000 || place % 8 == 7);
-            return Some(if is_taken {
-                CountCall::All
-            } else {
+            return Some(if at % 2 == 0 {
                 CountCall::Set(place)
+            } else {
+                CountCall::All
             });
         }
         let count = at.wrapping_sub(capacity.wrapping_mul(2));
@@ -136,11 +134,7 @@ fn plays<R: Abort + Wait>(
     let mut user = User { set, pass };
     let mut draws = Draws::new(SEED);
     let capacity = set.capacity();
-    let pair = Pair {
-        name,
-        capacity,
-        calls: CALLS,
-    };
+    let pair = Pair { name, capacity };
     compare_parts::<CountCall, _, _, R>(rt, pair, &mut draws, 0, &mut alone, &mut user);
 }
 

@@ -10,9 +10,6 @@ use steps::indices::enums::{ReleaseMode, ReleaseState, UniqueIndexSetAcquireFail
 /// How many drawn calls a pair of structures gets.
 pub const CALLS: u64 = 10_000;
 
-/// The same where each call goes over thousands of indices.
-pub const FEW_CALLS: u64 = 2_000;
-
 /// The seed of all draws.
 pub const SEED: u64 = 0x9e37_79b9_7f4a_7c15;
 
@@ -191,8 +188,8 @@ pub trait Call: Copy {
     /// A drawn one, for a structure of this capacity, which is to fill up or to run empty for now.
     fn draw(draws: &mut Draws, capacity: usize, fills: bool) -> Self;
 
-    /// The calls that use each place or index alone, on a structure that was made anew: the one of this number, if there
-    /// are as many. Where there are no places there are none.
+    /// The calls that use each place or index alone, on a structure that was made anew: the one of this number, if
+    /// there are as many. Where there are no places there are none.
     fn each(at: usize, capacity: usize) -> Option<Self>;
 
     /// The calls at the end, which show what is left: the one of this number, if there are as many.
@@ -205,19 +202,18 @@ pub enum Turn {
     Goes(usize),
 }
 
-/// Each index comes, goes and comes again while just those below it are out, and then each goes: the turn of this number.
-/// Where there are more than 1,000, each comes but once.
+/// Each index comes, goes and comes again while just those below it are out, and then each goes: the turn of this
+/// number.
 pub fn turn_of(at: usize, capacity: usize) -> Option<Turn> {
-    let each = if capacity > 1000 { 1 } else { 3 };
-    let index = at / each;
+    let index = at / 3;
     if index < capacity {
-        return Some(if at % each == 1 {
+        return Some(if at % 3 == 1 {
             Turn::Goes(index)
         } else {
             Turn::Comes(index)
         });
     }
-    let left = at.wrapping_sub(capacity.wrapping_mul(each));
+    let left = at.wrapping_sub(capacity.wrapping_mul(3));
     if left < capacity {
         Some(Turn::Goes(left))
     } else {
@@ -260,8 +256,6 @@ impl Part {
 pub struct Pair<'a> {
     pub name: &'a str,
     pub capacity: usize,
-    /// How many drawn calls it gets.
-    pub calls: u64,
 }
 
 /// Makes the calls of these numbers on both. The test fails where they answer differently. The number of the next call.
@@ -274,11 +268,7 @@ pub fn compare<C: Call, P: Answers<C>, S: Answers<C>, R: Abort + Wait>(
     alone: &mut P,
     shared: &mut S,
 ) -> u64 {
-    let Pair {
-        name,
-        capacity,
-        calls: _,
-    } = pair;
+    let Pair { name, capacity } = pair;
     let seed = SEED;
     let ends = part.ends_by_a_lock();
     let mut after_lock = 0u64;
@@ -318,7 +308,7 @@ pub fn compare_parts<C: Call, P: Answers<C>, S: Answers<C>, R: Abort + Wait>(
     if from == 0 {
         compare::<C, P, S, R>(rt, pair, draws, Part::Each, 0..u64::MAX, alone, shared);
     }
-    let calls = from..pair.calls;
+    let calls = from..CALLS;
     let next = compare::<C, P, S, R>(rt, pair, draws, Part::Drawn, calls, alone, shared);
     compare::<C, P, S, R>(rt, pair, draws, Part::Last, 0..u64::MAX, alone, shared);
     next

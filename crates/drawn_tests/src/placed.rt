@@ -2,7 +2,7 @@
 ghost use Rattle.std.specs.Prelude.{◌≡◌};
 ghost use Rattle.lock_free.specs.Bits.Calls.{IsPassOf};
 
-use crate::drawn::{Answer, Answers, CALLS, Call, Draws, End, Heard, Pair, SEED, compare_parts};
+use crate::drawn::{Answer, Answers, Call, Draws, End, Heard, Pair, SEED, compare_parts};
 use lock_free::mpmc::bit_set::{BitSet, FixedSizeBitSet, Pass};
 use std::process::Abort;
 use std::sync::Wait;
@@ -128,11 +128,7 @@ fn plays<R: Abort + Wait>(rt: &R, name: &str, alone: plain::BitSet, set: &BitSet
     let mut user = User { set, pass };
     let mut draws = Draws::new(SEED);
     let capacity = set.capacity();
-    let pair = Pair {
-        name,
-        capacity,
-        calls: CALLS,
-    };
+    let pair = Pair { name, capacity };
     compare_parts::<BitCall, _, _, R>(rt, pair, &mut draws, 0, &mut alone, &mut user);
 }
 

@@ -371,11 +371,7 @@ fn of_fixed_overflow(
 }
 
 fn pair_of(name: &str, capacity: usize) -> Pair<'_> {
-    Pair {
-        name,
-        capacity,
-        calls: CALLS,
-    }
+    Pair { name, capacity }
 }
 
 #[test]

@@ -3,7 +3,7 @@ ghost use Rattle.std.specs.Prelude.{◌≡◌};
 ghost use Rattle.lock_free.specs.RobustUniqueIndexSet.{IsPassOf};
 
 use crate::drawn::{
-    Answer, Answers, CALLS, Call, Draws, FEW_CALLS, Heard, Pair, SEED, Turn, compare_parts, turn_of,
+    Answer, Answers, CALLS, Call, Draws, Heard, Pair, SEED, Turn, compare_parts, turn_of,
 };
 use lock_free::mpmc::robust_unique_index_set::{
     CallbackProgression, OwnerId, Pass, RobustUniqueIndexSet, StaticRobustUniqueIndexSet,
@@ -290,7 +290,6 @@ fn fixes(
     let pair = Pair {
         name: "static set",
         capacity: 5,
-        calls: CALLS,
     };
     let alone = plain::RobustUniqueIndexSet::new(alloc, 5)?;
     let (set, pass) = StaticRobustUniqueIndexSet::<5>::new(alloc)?;
@@ -307,7 +306,6 @@ fn reduces(
     let pair = Pair {
         name: "reduced set",
         capacity: 5,
-        calls: CALLS,
     };
     let alone = plain::RobustUniqueIndexSet::new(alloc, 5)?;
     let (set, pass) = StaticRobustUniqueIndexSet::<6>::new_with_reduced_capacity(alloc, 5)?;
@@ -318,16 +316,14 @@ fn reduces(
 #[test]
 fn drawn_robust_sets(rt: HostRuntime) -> Result<(), Fail> {
     for capacity in [1, 2, 3, 5, 63, 64, 65, 130, 1000, 5000] {
-        let calls = if capacity > 1000 { FEW_CALLS } else { CALLS };
         let pair = Pair {
             name: "robust set",
             capacity,
-            calls,
         };
         let mut draws = Draws::new(SEED);
         let mut next = 0;
-        for _ in 0..calls {
-            if next < calls {
+        for _ in 0..CALLS {
+            if next < CALLS {
                 next = heaps(&rt, rt.alloc(), pair, &mut draws, next)?;
             }
         }

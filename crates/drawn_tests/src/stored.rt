@@ -3,7 +3,7 @@ ghost use Rattle.std.specs.Prelude.{◌≡◌, ◌≤◌};
 ghost use Rattle.std.specs.Option.{ForSome};
 ghost use Rattle.lock_free.specs.UnrestrictedAtomic.{IsPassOf, value_id, value_of_producer};
 
-use crate::drawn::{Answer, Answers, CALLS, Call, Draws, Pair, SEED, compare_parts};
+use crate::drawn::{Answer, Answers, Call, Draws, Pair, SEED, compare_parts};
 use crate::wide::{Drawn, Greatest, Sixteen, Three, digest};
 use lock_free::spmc::unrestricted_atomic::{Pass, Producer, UnrestrictedAtomic};
 use std::alloc::Global;
@@ -137,11 +137,7 @@ fn plays<T: Words + Drawn>(
 {
     let mut user = User::new(value, pass);
     let mut draws = Draws::new(SEED);
-    let pair = Pair {
-        name,
-        capacity: 1,
-        calls: CALLS,
-    };
+    let pair = Pair { name, capacity: 1 };
     compare_parts::<ValueCall, _, _, _>(rt, pair, &mut draws, 0, alone, &mut user);
 }
 

@@ -321,7 +321,6 @@ fn heaps(
     let pair = Pair {
         name: "unique set",
         capacity,
-        calls: CALLS,
     };
     let alone = plain::UniqueIndexSet::new(alloc, capacity)?;
     let (set, pass) = UniqueIndexSet::new(alloc, capacity)?;
@@ -339,7 +338,6 @@ fn fixes(
     let pair = Pair {
         name: "fixed set",
         capacity: 5,
-        calls: CALLS,
     };
     let alone = plain::UniqueIndexSet::new(alloc, 5)?;
     let (set, pass) = FixedSizeUniqueIndexSet::<5>::new(alloc)?;
@@ -357,7 +355,6 @@ fn reduces(
     let pair = Pair {
         name: "reduced set",
         capacity: 5,
-        calls: CALLS,
     };
     let alone = plain::UniqueIndexSet::new(alloc, 5)?;
     let (set, pass) = FixedSizeUniqueIndexSet::<6>::new_with_reduced_capacity(alloc, 5)?;
