@@ -1,8 +1,13 @@
 pub mod Adds
 pub mod Filled
+pub mod Finding
+pub mod Finds
+pub mod Frees
 pub mod Handles
 pub mod Looks
 pub mod Opens
+pub mod Recovering
+pub mod Recovers
 pub mod Removes
 pub mod Replaces
 pub mod Sets

@@ -1,10 +1,8 @@
 -- A call that keeps to the first words of a list: it runs alike where further words stand behind them.
-use Rattle.std.proofs.Common.{◌≡◌, ℕ, zero, suc, ◌+◌, ◌<◌, ◌≤◌, List, [], ◌∷◌, length, take, refl, sym, ap, subst, ◌∙◌, arith, slice_index, slice_set, get_or-set_other, get_or-take, length-set, ◌==◌}
-use Rattle.std.proofs.lemmas.List.{take-set-le}
-use Rattle.std.specs.Prelude.{if◌then◌else◌, true, false}
+use Rattle.std.proofs.Common.{◌≡◌, ℕ, zero, suc, ◌<◌, ◌≤◌, List, [], ◌∷◌, length, take, refl, ap, subst, ◌∙◌, arith, slice_index, slice_set, get_or-set_other, get_or-take, length-set, ◌==◌}
+use Rattle.std.specs.Prelude.{if◌then◌else◌}
 use Rattle.steps.specs.Ask.{written}
 use Rattle.steps.specs.Picks.{by_test}
-use Rattle.steps.specs.declared.ask.Ask.{Ask}
 use Rattle.steps.specs.declared.ask.Op.{Op}
 use Rattle.steps.specs.declared.ask.Op.TheVariants.{Load, Store, Swap, Add, Sub, And, Or, Exchange}
 use Rattle.steps.specs.declared.ask.Want.{Want}
@@ -12,9 +10,7 @@ use Rattle.steps.specs.declared.ask.Want as wants
 use Rattle.steps.specs.declared.ask.After.{After}
 use Rattle.steps.specs.declared.ask.After.TheVariants.{GoOn, Done}
 use Rattle.std.specs.Prelude.{bit_and, bit_or}
-use Rattle.plain.specs.declared.drive.Stop.{Stop}
-use Rattle.plain.specs.declared.drive.Stop.TheVariants.{Asked, Ended}
-use Rattle.plain.specs.Alone.{written_by, written_at, answer_in, words_then, stepped, goes}
+use Rattle.plain.specs.Alone.{written_by, answer_in, words_then, stepped}
 use Rattle.plain.proofs.Walks.{WalksFrom, OnEnd, Walks, LowThen}
 
 -- the later list is as long, and from here on it is the same
@@ -102,7 +98,7 @@ then_behind k words (wants.TheVariants.Ask ask) low = written_behind k ask.word 
 then_behind k words (wants.TheVariants.Question question) low = stays k words
 then_behind k words wants.TheVariants.Nothing low = stays k words
 
-behind_more : (k : ℕ) (a b c : List ℕ) → Behind k a b → Behind k b c → Behind k a c
+pub behind_more : (k : ℕ) (a b c : List ℕ) → Behind k a b → Behind k b c → Behind k a c
 behind_more k a b c h g =
     record { long = g.long ∙ h.long; same = λ j far. g.same j far ∙ h.same j far }
 

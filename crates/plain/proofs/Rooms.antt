@@ -1,5 +1,5 @@
 -- A call with a room runs alone: both together are walked as one call.
-use Rattle.std.proofs.Common.{◌≡◌, ℕ, zero, suc, ◌^◌, ◌-◌, ◌≤◌, List, refl}
+use Rattle.std.proofs.Common.{ℕ, zero, suc, ◌^◌, ◌-◌, ◌≤◌, List, refl}
 use Rattle.steps.specs.declared.ask.Want.{Want}
 use Rattle.steps.specs.declared.ask.Want as wants
 use Rattle.steps.specs.declared.ask.After.{After}

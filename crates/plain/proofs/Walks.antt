@@ -69,7 +69,7 @@ module _ {C E : Type 0} (Low : C → Type 0) where
   LowThen (GoOn d) = Low d
   LowThen (Done e) = Unit {0}
 
-any_low : {C E : Type 0} (a : After C E) → LowThen (λ d. Unit {0}) a
+pub any_low : {C E : Type 0} (a : After C E) → LowThen (λ d. Unit {0}) a
 any_low (GoOn d) = tt
 any_low (Done e) = tt
 

@@ -8,4 +8,5 @@ pub mod Robust
 pub mod States
 pub mod Unique
 pub mod Value
+pub mod Visited
 pub mod Visits

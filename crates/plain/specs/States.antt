@@ -1,7 +1,7 @@
 -- What a state of a container has seen of it, and shows.
-use Rattle.std.specs.Prelude.{◌≡◌, ◌==◌, ℕ, Bool, true, false, not, Option, None, List, length, map, replicate, slice_index, slice_index_or, if◌then◌else◌}
+use Rattle.std.specs.Prelude.{◌≡◌, ◌==◌, ℕ, Bool, false, not, Option, None, List, length, map, replicate, slice_index, slice_index_or, if◌then◌else◌}
 use Rattle.std.specs.List.{range_with_len}
-use Rattle.steps.specs.Container.State.{Numbers, value_shown}
+use Rattle.steps.specs.Container.State.{value_shown}
 use Rattle.steps.specs.declared.container.state.ContainerState.{ContainerState}
 use Rattle.steps.specs.declared.container.state.Element.{Element}
 use Rattle.plain.specs.Contents.{Contents, capacity}

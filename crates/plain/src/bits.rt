@@ -91,7 +91,7 @@ impl BitSet {
         }
     }
 
-    /// Calls `visit` with each place that stands, ascending, and resets all places.
+    /// Calls `visit` with each place that stands, ascending, and resets all places. The start of the search stays.
     pub fn reset_all<F: FnMut(usize)>(&mut self, visit: F)
         requires { Takes F.pre F.step (standing self.old) visit }
         ensures places { self.new ≡ emptied self.old }

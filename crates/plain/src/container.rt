@@ -24,9 +24,13 @@ use steps::indices::robust::parts::{COUNTER, EMPTY, FIRST_CELL};
 use steps::indices::robust::release::GiveBack;
 use steps::words::Words;
 
+mod recovery;
+mod visits;
+
 /// Values, each at an index that has an owner, and a lock. After `Container` of the Rust crate, for one caller.
 ///
-/// Its generation and its lock are those of a `RobustUniqueIndexSet`. It counts its changes, modulo 2^64.
+/// Its generation and its lock are those of a `RobustUniqueIndexSet`. It counts its changes, modulo 2^64: each add,
+/// replace and remove that is not refused is one, and each recovery, whatever it frees.
 #[derive(Drop)]
 pub struct Container<T: Words> {
     words: Vec<u64>,
@@ -172,9 +176,9 @@ fn bring_up<T: Words>(
 }
 
 impl<T: Words> Container<T> {
-    /// Adds `value` for `owner` at the lowest index without an owner, and answers its handle. `IsLocked` where the
-    /// container is locked, `OutOfSpace` where each index has an owner or the generation is at its end; then nothing
-    /// changes.
+    /// Adds `value` for `owner` at the lowest index without an owner, and answers its handle; that is a change.
+    /// `IsLocked` where the container is locked, `OutOfSpace` where each index has an owner or the generation is at
+    /// its end; then nothing changes.
     pub fn add(&mut self, value: T, owner: OwnerId) -> Result<ContainerHandle, ContainerAddFailure>
         ensures answer { result ≡ added self.old owner }
         ensures map { self.new ≡ after_add self.old owner value }
@@ -183,10 +187,11 @@ impl<T: Words> Container<T> {
         add::<T>(&mut self.words, self.capacity, self.id, &given)
     }
 
-    /// Removes the value of `handle`, where its index is that of its owner, and gives the index back. Else, and where
-    /// it is the handle of another container or its index is not below the capacity,
-    /// `ContainerHandleNotOwnedByContainer`, and nothing changes. In mode `LockIfLastIndex` it locks the container where
-    /// no index has an owner then, unless its generation comes to its end: `Locked` where it is locked, else `Unlocked`.
+    /// Removes the value of `handle`, where its index is that of its owner, and gives the index back; that is a
+    /// change. Else, and where it is the handle of another container or its index is not below the capacity,
+    /// `ContainerHandleNotOwnedByContainer`, and nothing changes. In mode `LockIfLastIndex` it locks the container
+    /// where no index has an owner then, unless its generation comes to its end: `Locked` where it is locked, else
+    /// `Unlocked`.
     pub fn remove(
         &mut self,
         handle: ContainerHandle,
@@ -201,7 +206,8 @@ impl<T: Words> Container<T> {
         remove::<T>(&mut self.words, self.capacity, handle, mode)
     }
 
-    /// Puts `value` in the place of that of `handle`. It is refused as a remove is; then nothing changes.
+    /// Puts `value` in the place of that of `handle`; that is a change. It is refused as a remove is; then nothing
+    /// changes.
     pub fn replace(&mut self, handle: ContainerHandle, value: T) -> Result<(), ContainerRemoveError>
         ensures answer { result ≡ replaced self.old handle }
         ensures map { self.new ≡ after_replace self.old handle value }
@@ -212,7 +218,7 @@ impl<T: Words> Container<T> {
         replace::<T>(&mut self.words, self.capacity, handle, value)
     }
 
-    /// How many indices have an owner, 0 where the container is locked. It raises the generation.
+    /// How many indices have an owner, 0 where the container is locked. It raises the generation, and is no change.
     pub fn len(&mut self) -> usize
         ensures answer { result ≡ number self.old }
         ensures map { self.new ≡ counted self.old }
@@ -236,8 +242,8 @@ impl<T: Words> Container<T> {
         look::<T>(&mut self.words, self.capacity, self.id)
     }
 
-    /// A state of the container: it shows the value at each index where one stands, or nothing where the number of changes
-    /// is 0. `NoMemory` where a state has no memory; then nothing was asked of the container.
+    /// A state of the container: it shows the value at each index where one stands, or nothing where the number of
+    /// changes is 0. `NoMemory` where a state has no memory; then nothing was asked of the container.
     pub fn get_state(&mut self) -> Result<ContainerState<T>, ContainerStateError>
         ensures of { IfOk result (λ s. IsStateOf self.old s × IsSettled s) }
         ensures shows { IfOk result
@@ -249,9 +255,10 @@ impl<T: Words> Container<T> {
         Ok(state)
     }
 
-    /// Brings a state of this container up to date. False where no change was counted since it was brought up to date last;
-    /// it then shows what it showed. Else each index of which the number has changed since shows the value that stands there,
-    /// or none.
+    /// Brings a state of this container up to date. False where the number of changes, counted modulo 2^64, is the
+    /// one that the state has seen; it then shows what it showed. Else, of a settled state, each index under another
+    /// number than the state has seen shows the value that stands there, or none. A state is settled when `get_state`
+    /// has made it, and stays so.
     pub fn update_state(&mut self, state: &mut ContainerState<T>) -> bool
         requires { IsStateOf self.old state.old }
         ensures answer { result ≡ not (self.old.changes == state.old.seen.change) }

@@ -12,7 +12,8 @@ pub enum Stop<C, E> {
     Ended(E),
 }
 
-/// Does the operation, and answers the word's old value. Where there is no such word, nothing changes, and the answer is 0.
+/// Does the operation, and answers the word's old value. Where there is no such word, nothing changes, and the answer
+/// is 0.
 #[inline(always)]
 fn perform(words: &mut Vec<u64>, ask: Ask) -> u64
     ensures old { result ≡ slice_index words.old.items ask.word }

@@ -2,6 +2,7 @@
 //! a stack of free indices and the like do, and the contracts say so by equations.
 #![tactic(auto)]
 
+mod answers;
 pub mod bits;
 pub mod container;
 pub mod counts;

@@ -1,12 +1,13 @@
 //! The set of indices with owners of one caller.
-ghost use Rattle.std.specs.Prelude.{◌≡◌, ◌<◌, ◌^◌, ◌-◌, ◌⊎◌, if◌then◌else◌, IsTrue, IsFalse, None, Some, IfOk, IfErr, OnOk};
+ghost use Rattle.std.specs.Prelude.{◌≡◌, ◌<◌, ◌^◌, ◌-◌, ◌⊎◌, IsTrue, IsFalse, None, Some, IfOk, IfErr, OnOk};
 ghost use Rattle.steps.specs.Enums.{capacity_refusal};
 ghost use Rattle.steps.specs.declared.enums.UniqueIndexCreationError.TheVariants.{NoMemory};
 ghost use Rattle.steps.specs.Objects.Owners.{Owners, opened_at, capacity, is_locked, state_of, raised, indices_of, to_recover, borrowed, acquired, after_acquire, released, after_release};
 ghost use Rattle.plain.specs.Alone.{Turns};
-ghost use Rattle.plain.specs.Callable.{TakesIndices, HasFound, TakesQuestions, TakesFreed, HasRecovered, index_in, as_answer};
+ghost use Rattle.plain.specs.Callable.{TakesIndices, HasFound, TakesQuestions, TakesFreed, HasRecovered};
 ghost use Rattle.plain.specs.Robust.{owners_in, Fits};
 
+use crate::answers::{as_answer, as_yes, index_in};
 use crate::drive::{Stop, drive, drive_to_stop};
 use std::alloc::Global;
 use std::marker::Model;
@@ -96,27 +97,6 @@ fn is_locked(words: &mut Vec<u64>, capacity: u32) -> bool
     drive(words, IsLocked, &(), &mut room)
 }
 
-/// The index that a question is about.
-fn index_in(question: Question<()>) -> usize
-    ensures { result ≡ index_in question }
-{
-    match question {
-        Question::Index(index) => index,
-        Question::Owned(_, index) => index,
-        Question::Value(index, ()) => index,
-    }
-}
-
-/// What a closure says, as the answer to a call.
-fn as_answer(progression: CallbackProgression) -> u64
-    ensures { result ≡ as_answer progression }
-{
-    match progression {
-        CallbackProgression::Continue => 1,
-        CallbackProgression::Stop => 0,
-    }
-}
-
 /// Calls the closure with the index, and hands it back.
 fn visit_at<F: FnMut(usize) -> CallbackProgression>(
     mut visit: F,
@@ -192,13 +172,6 @@ fn tell_where<S: FnMut(OwnerId, usize)>(
     recovered
 }
 
-/// Yes or no, as the answer to a call.
-fn as_yes(yes: bool) -> u64
-    ensures { result ≡ if yes then 1 else 0 }
-{
-    if yes { 1 } else { 0 }
-}
-
 /// A recovery, over the words of a set. Hands the closures back.
 fn recover<F: FnMut(OwnerId, usize) -> bool, S: FnMut(OwnerId, usize)>(
     words: &mut Vec<u64>,
@@ -243,8 +216,8 @@ fn recover<F: FnMut(OwnerId, usize) -> bool, S: FnMut(OwnerId, usize)>(
 }
 
 impl RobustUniqueIndexSet {
-    /// Takes the lowest index without an owner for `owner`. `IsLocked` where the set is locked, `OutOfIndices` where each
-    /// index has an owner or the generation is at its end; then nothing changes.
+    /// Takes the lowest index without an owner for `owner`. `IsLocked` where the set is locked, `OutOfIndices` where
+    /// each index has an owner or the generation is at its end; then nothing changes.
     pub fn acquire(&mut self, owner: OwnerId) -> Result<usize, UniqueIndexSetAcquireFailure>
         ensures answer { result ≡ acquired self.old }
         ensures map { self.new ≡ after_acquire self.old owner }
@@ -255,8 +228,9 @@ impl RobustUniqueIndexSet {
         }
     }
 
-    /// Gives `index` back, where it is that of `owner`. Else `IndexIsNotOwnedByProvidedOwner`, and nothing changes. In
-    /// mode `LockIfLastIndex` it locks the set where no index has an owner then, unless its generation comes to its end.
+    /// Gives `index` back, where it is that of `owner`. Else `IndexIsNotOwnedByProvidedOwner`, and nothing changes.
+    /// In mode `LockIfLastIndex` it locks the set where no index has an owner then, unless its generation comes to
+    /// its end.
     pub fn release(
         &mut self,
         index: usize,
@@ -270,8 +244,8 @@ impl RobustUniqueIndexSet {
         release(&mut self.words, self.capacity, index as u32, owner, mode)
     }
 
-    /// Comes to the indices of `owner`, ascending, and calls `visit` with each, until it says `Stop`: how many it came to,
-    /// the one on which it was told to stop among them.
+    /// Comes to the indices of `owner`, ascending, and calls `visit` with each, until it says `Stop`: how many it
+    /// came to, the one on which it was told to stop among them.
     pub fn find<F: FnMut(usize) -> CallbackProgression>(
         &mut self,
         owner: OwnerId,
@@ -288,9 +262,10 @@ impl RobustUniqueIndexSet {
         found
     }
 
-    /// Asks `predicate` about each index that has an owner, ascending, tells `recover_success` of those about which it said
-    /// true, and gives these back. In mode `LockIfLastIndex` it locks the set where no index has an owner after one was
-    /// given back, unless its generation comes to its end. `Locked` where the set is locked then, else `Unlocked`. A locked set asks nothing.
+    /// Asks `predicate` about each index that has an owner, ascending, tells `recover_success` of those about which
+    /// it said true, and gives these back. In mode `LockIfLastIndex` it locks the set where no index has an owner
+    /// after one was given back, unless its generation comes to its end. `Locked` where the set is locked then, else
+    /// `Unlocked`. Of a locked set it asks nothing.
     pub fn recover<F: FnMut(OwnerId, usize) -> bool, S: FnMut(OwnerId, usize)>(
         &mut self,
         mode: ReleaseMode,

@@ -6,6 +6,10 @@ mod bits;
 #[cfg(test)]
 mod container;
 #[cfg(test)]
+mod greatest;
+#[cfg(test)]
+mod owners;
+#[cfg(test)]
 mod queues;
 #[cfg(test)]
 mod robust;

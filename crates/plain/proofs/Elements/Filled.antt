@@ -1,6 +1,6 @@
 -- Each index that has an owner keeps a value.
-use Rattle.std.proofs.Common.{◌≡◌, ◌≢◌, ℕ, zero, suc, ◌<◌, ⊎_elim, Bool, true, false, ◌==◌, List, [], ◌∷◌, length, take, Option, Some, None, Result, Ok, Err, refl, sym, ap, subst, ◌∙◌, arith, slice_set, get_or-set_same, get_or-set_other}
-use Rattle.std.specs.Prelude.{slice_index_or, replicate, ◌+◌, ◌&&◌, not, if◌then◌else◌}
+use Rattle.std.proofs.Common.{◌≡◌, ◌≢◌, ℕ, zero, suc, ◌<◌, ⊎_elim, true, false, ◌==◌, List, [], ◌∷◌, length, take, Option, Some, None, Result, Ok, Err, refl, sym, ap, subst, ◌∙◌, arith, slice_set, get_or-set_same, get_or-set_other}
+use Rattle.std.specs.Prelude.{slice_index_or, replicate, ◌+◌, ◌&&◌, not}
 use Rattle.std.proofs.lemmas.Bool.Decides.{eqb_tells}
 use Rattle.std.proofs.lemmas.List.FromFn.{length-map-range_with_len}
 use Rattle.steps.specs.Picks.{by_test}
@@ -8,13 +8,13 @@ use Rattle.steps.specs.declared.container.handle.ContainerHandle.{ContainerHandl
 use Rattle.steps.specs.declared.indices.enums.ReleaseMode.{ReleaseMode}
 use Rattle.steps.specs.declared.indices.enums.ReleaseMode.TheVariants.{LockIfLastIndex, Default}
 use Rattle.steps.specs.declared.indices.enums.UniqueIndexSetAcquireFailure.{UniqueIndexSetAcquireFailure}
-use Rattle.steps.specs.Objects.Owners.{Owners, acquired, granted, without, raised, the_end, the_lock, taken, given_back}
+use Rattle.steps.specs.Objects.Owners.{Owners, acquired, without, raised, the_end, taken, given_back}
 use Rattle.plain.specs.Alone.{Turns}
 use Rattle.plain.specs.Contents.{Contents, opened, changed, names, put_at, after_add, after_remove, after_replace, counted, value_at, contents_in, IsFilled, Fits, Holds}
 use Rattle.plain.proofs.Elements.Adds.{acquired_low, owners_long}
 use Rattle.plain.proofs.Elements.Values.{front_fits}
 
-abbrev IsSome : {X : Type 0} → Option X → Type 0
+abbrev pub IsSome : {X : Type 0} → Option X → Type 0
 IsSome (Some x) = Unit {0}
 IsSome None = ⊥
 

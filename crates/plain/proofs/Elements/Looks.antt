@@ -1,7 +1,7 @@
 -- The looks at a container that run alone, and a container as it opens.
-use Rattle.std.proofs.Common.{◌≡◌, ℕ, suc, ◌+◌, ◌*◌, ◌^◌, ◌<◌, ◌≤◌, Bool, List, [], ◌∷◌, length, take, refl, sym, ap, subst, ◌∙◌, arith, slice_index, eq-eqb, ne_eqb, if◌then◌else◌}
+use Rattle.std.proofs.Common.{◌≡◌, ℕ, suc, ◌+◌, ◌*◌, ◌^◌, ◌≤◌, Bool, List, [], ◌∷◌, length, take, refl, sym, ap, subst, ◌∙◌, arith}
 use Rattle.steps.specs.Queues.Ring.{load}
-use Rattle.steps.specs.Indices.Robust.Parts.{locked, count_after}
+use Rattle.steps.specs.Indices.Robust.Parts.{count_after}
 use Rattle.steps.specs.Indices.Robust.Looks.{first_borrowed, borrowed_want, borrowed_counted, borrowed_after, locked_after}
 use Rattle.steps.specs.declared.ask.After.{After}
 use Rattle.steps.specs.declared.ask.After.TheVariants.{GoOn, Done}
@@ -14,10 +14,10 @@ use Rattle.steps.specs.Objects.Owners as owners
 use Rattle.plain.specs.Alone.{Turns}
 use Rattle.plain.specs.Robust as robust
 use Rattle.plain.specs.Robust.{owners_in}
-use Rattle.plain.specs.Contents.{Contents, is_locked, number, counted, contents_in, Fits}
+use Rattle.plain.specs.Contents.{is_locked, number, counted, contents_in, Fits}
 use Rattle.plain.proofs.Alone.{Runs}
 use Rattle.plain.proofs.Walks.{plus, plus_sum, Walks, OnEnd, LowThen, runs}
-use Rattle.plain.proofs.Fronts.{AsksBelow, Behind, stays, front_walks}
+use Rattle.plain.proofs.Fronts.{stays, front_walks}
 use Rattle.plain.proofs.Robust.Looks.{borrowed_walks}
 use Rattle.plain.proofs.Elements.Sets.{CountLow, count_goes_low, count_below}
 use Rattle.plain.proofs.Elements.Values.{front_fits, behind_contents, behind_fits}

@@ -1,13 +1,13 @@
 -- A container as it opens.
-use Rattle.std.proofs.Common.{◌≡◌, ℕ, zero, suc, ◌+◌, ◌-◌, ◌*◌, ◌^◌, ◌<◌, ◌≤◌, List, [], ◌∷◌, ◌++◌, length, take, map, replicate, Option, None, Some, refl, sym, ap, ◌∙◌, arith, slice_index, slice_set, get_or-set_same, get_or-set_other, get_or-take, length-set, length-append, take_all, Result, Ok, Err, is_ok, is_err, false, true≢false, if◌then◌else◌}
+use Rattle.std.proofs.Common.{◌≡◌, ℕ, zero, suc, ◌+◌, ◌-◌, ◌<◌, ◌≤◌, List, [], ◌∷◌, ◌++◌, length, take, map, replicate, None, Some, refl, ap, ◌∙◌, arith, slice_index, slice_set, length-set, take_all, Result, Ok, Err, is_ok, is_err, false, true≢false, if◌then◌else◌}
 use Rattle.std.specs.List.{range_with_len}
-use Rattle.std.proofs.lemmas.List.{length-replicate, get_or-replicate, get_or_append_left, get_or-append_right}
+use Rattle.std.proofs.lemmas.List.{length-replicate}
 use Rattle.steps.specs.Indices.Robust.Parts.{empty}
-use Rattle.steps.specs.Container.Layout.{change_word, count_word, element_word, total_words, is_even}
+use Rattle.steps.specs.Container.Layout.{change_word, count_word, element_word, is_even}
 use Rattle.steps.specs.Objects.Owners.{opened_at}
 use Rattle.plain.specs.Queues.{words_from}
 use Rattle.plain.specs.Robust.{owners_in}
-use Rattle.plain.specs.Contents.{opened, value_at, values_in, contents_in, Fits}
+use Rattle.plain.specs.Contents.{opened, value_at, contents_in}
 use Rattle.plain.proofs.Robust.Looks.{opens}
 
 take_front : (xs ys : List ℕ) (n : ℕ) → length xs ≡ n → take n (xs ++ ys) ≡ xs

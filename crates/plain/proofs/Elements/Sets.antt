@@ -1,10 +1,10 @@
 -- The calls of the robust set over the first words of a container.
-use Rattle.std.proofs.Common.{◌≡◌, ◌≢◌, ℕ, suc, ◌+◌, ◌^◌, ◌-◌, ◌<◌, ◌≤◌, true, nat_lt, List, [], ◌∷◌, length, refl, sym, ap, subst, ◌∙◌, arith, length-set, slice_set, ◌==◌, ◌&&◌, not, if◌then◌else◌}
+use Rattle.std.proofs.Common.{◌≡◌, ℕ, suc, ◌+◌, ◌^◌, ◌<◌, ◌≤◌, nat_lt, List, [], ◌∷◌, length, sym, subst, arith, length-set, slice_set, ◌==◌, ◌&&◌, not, if◌then◌else◌}
 use Rattle.std.proofs.lemmas.Bool.Decides.{nat_tests}
 use Rattle.steps.specs.Picks.{by_test, by_eq}
-use Rattle.steps.specs.Indices.Robust.Parts.{cell_word, empty, locked, greatest, one_more, raise_want, raise_after, count_want, count_after, count_comes_to, lock_want, lock_after, lock_counted, first_lock}
+use Rattle.steps.specs.Indices.Robust.Parts.{empty, locked, greatest, one_more, raise_want, raise_after, count_want, count_after, count_comes_to, lock_want, lock_after, lock_counted}
 use Rattle.steps.specs.Indices.Robust.Acquire.{Acquired, first_acquire, at_acquire, acquire_asks, acquire_tries, acquire_sees, acquire_raised, acquire_takes, acquire_want, acquire_after}
-use Rattle.steps.specs.Indices.Robust.Release.{Released, first_release, at_release, release_asks, release_raised, release_locked, release_takes, release_want, release_after}
+use Rattle.steps.specs.Indices.Robust.Release.{Released, first_release, release_asks, release_raised, release_locked, release_takes, release_want, release_after}
 use Rattle.steps.specs.declared.ask.After.{After}
 use Rattle.steps.specs.declared.ask.After.TheVariants.{GoOn, Done}
 use Rattle.steps.specs.declared.indices.enums.ReleaseMode.{ReleaseMode}
@@ -29,7 +29,7 @@ use Rattle.plain.proofs.Robust.Acquires.{take_walks}
 use Rattle.plain.proofs.Robust.Releases.{give_walks}
 
 module _ (capacity : ℕ) where
-  raise_below : (r : raises.Raise) → AsksBelow (1 + capacity) (raise_want r)
+  pub raise_below : (r : raises.Raise) → AsksBelow (1 + capacity) (raise_want r)
   raise_below raises.TheVariants.LoadsCounter = omega arith
   raise_below (raises.TheVariants.ExchangesCounter counter) = omega arith
 
@@ -120,7 +120,7 @@ module _ (capacity : ℕ) where
   count_below (counts.TheVariants.LoadsCell counter index filled) low = omega arith
   count_below (counts.TheVariants.ExchangesCounter counter filled) low = omega arith
 
-  abbrev LockLow : locks.Lock → Type 0
+  abbrev pub LockLow : locks.Lock → Type 0
   LockLow (locks.TheVariants.Counts count) = CountLow count
   LockLow (locks.TheVariants.ExchangesCounter counter) = Unit {0}
 
@@ -132,13 +132,13 @@ module _ (capacity : ℕ) where
       by_test (λ a. LowThen {E = ReleaseState} LockLow a) ((filled == 0) && not (counter == greatest)) _ _
       (λ _. tt) (λ _. tt)
 
-  lock_goes_low : (lock : locks.Lock) (old : ℕ) → LowThen {E = ReleaseState} LockLow (lock_after capacity lock old)
+  pub lock_goes_low : (lock : locks.Lock) (old : ℕ) → LowThen {E = ReleaseState} LockLow (lock_after capacity lock old)
   lock_goes_low (locks.TheVariants.Counts count) old =
       counted_low (count_after capacity count old) (count_goes_low count old)
   lock_goes_low (locks.TheVariants.ExchangesCounter counter) old =
       by_eq (λ a. LowThen {E = ReleaseState} LockLow a) old counter _ _ (λ _. tt) (λ _. tt)
 
-  lock_below : (lock : locks.Lock) → LockLow lock → AsksBelow (1 + capacity) (lock_want lock)
+  pub lock_below : (lock : locks.Lock) → LockLow lock → AsksBelow (1 + capacity) (lock_want lock)
   lock_below (locks.TheVariants.Counts count) low = count_below count low
   lock_below (locks.TheVariants.ExchangesCounter counter) low = omega arith
 

@@ -1,18 +1,17 @@
 -- The values in the words of a container.
-use Rattle.std.proofs.Common.{◌≡◌, ◌≢◌, ℕ, zero, suc, ◌+◌, ◌*◌, ◌%◌, ◌^◌, ◌<◌, ◌≤◌, ◌⊎◌, inl, inr, ⊎_elim, Bool, true, false, ◌==◌, List, length, take, Option, Some, None, refl, sym, ap, subst, ◌∙◌, arith, slice_index, slice_set, get_or-set_same, get_or-set_other, get_or-take, length-set, length-take-le, eq-eqb, ne_eqb, if◌then◌else◌, true≢false}
+use Rattle.std.proofs.Common.{◌≡◌, ◌≢◌, ℕ, zero, suc, ◌+◌, ◌*◌, ◌%◌, ◌^◌, ◌<◌, ◌≤◌, ◌⊎◌, inl, inr, ⊎_elim, true, false, List, length, take, Option, Some, None, refl, sym, ap, subst, ◌∙◌, arith, slice_index, slice_set, get_or-set_same, get_or-set_other, get_or-take, length-set, length-take-le, eq-eqb, ne_eqb, if◌then◌else◌, true≢false}
 use Rattle.std.proofs.Math.Nat.{mul-le-mul_left}
 use Rattle.std.proofs.lemmas.Bool.{cases_lt}
 use Rattle.std.proofs.lemmas.List.{take-set-le}
 use Rattle.std.proofs.lemmas.List.FromFn.{get_or-map-range_with_len}
 use Rattle.steps.specs.Picks.{by_test}
 use Rattle.steps.specs.Indices.Robust.Parts.{one_more}
-use Rattle.steps.specs.Container.Layout.{change_word, count_word, element_word, total_words, is_even}
-use Rattle.steps.specs.Objects.Owners.{Owners}
+use Rattle.steps.specs.Container.Layout.{change_word, count_word, element_word, is_even}
 use Rattle.steps.specs.Queues.Ring.{word_at}
 use Rattle.plain.specs.Queues.{words_from}
 use Rattle.plain.specs.Robust as robust
 use Rattle.plain.specs.Robust.{owners_in}
-use Rattle.plain.specs.Contents.{Contents, count_without, count_with, changed, value_at, values_in, counts_in, contents_in, Fits}
+use Rattle.plain.specs.Contents.{count_without, count_with, changed, value_at, values_in, counts_in, contents_in, Fits}
 use Rattle.plain.proofs.Fronts.{Behind}
 use Rattle.plain.proofs.Places.Flags.{map_same, map_changed_within}
 use Rattle.plain.proofs.Words.{words_same, words_all, stored, stored_length, stored_other, stored_words}
@@ -56,7 +55,7 @@ module _ {V : Type 0} (value_of : List ℕ → V) (size capacity : ℕ) where
         small = subst (λ w. w < 2 ^ 64) (sym (get_or-take (1 + capacity) words 0 0 (omega arith))) fits.small;
       }
 
-  value_same : (ws vs : List ℕ) (i : ℕ) → slice_index vs (count_word capacity i) ≡ slice_index ws (count_word capacity i)
+  pub value_same : (ws vs : List ℕ) (i : ℕ) → slice_index vs (count_word capacity i) ≡ slice_index ws (count_word capacity i)
       → ((j : ℕ) → element_word capacity size i 0 ≤ j → j < element_word capacity size i 0 + size → slice_index vs j ≡ slice_index ws j)
       → value_at value_of size capacity vs i ≡ value_at value_of size capacity ws i
   value_same ws vs i count same =

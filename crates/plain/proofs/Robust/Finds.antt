@@ -23,12 +23,12 @@ module _ (owner : ℕ) where
   abbrev pub mine : ℕ → List ℕ → List ℕ
   mine index rest = mine_in (taken_from index (map owner_in rest))
 
-  hits : (index c : ℕ) (rest : List ℕ) → owner < empty → c ≡ owner → mine index (c ∷ rest) ≡ index ∷ mine (index + 1) rest
+  pub hits : (index c : ℕ) (rest : List ℕ) → owner < empty → c ≡ owner → mine index (c ∷ rest) ≡ index ∷ mine (index + 1) rest
   hits index c rest lives e =
       ap (λ o. mine_in (taken_from index (o ∷ map owner_in rest))) (owner_some c (λ x. absurd (omega arith)))
       ∙ ap (λ b. map (λ (o : Owned). o.index) (cond b (record { owner = c; index = index } ∷ filter (λ (o : Owned). o.owner == owner) (taken_from (index + 1) (map owner_in rest))) (filter (λ (o : Owned). o.owner == owner) (taken_from (index + 1) (map owner_in rest))))) (eq-eqb c owner e)
 
-  misses : (index c : ℕ) (rest : List ℕ) → c ≢ owner → mine index (c ∷ rest) ≡ mine (index + 1) rest
+  pub misses : (index c : ℕ) (rest : List ℕ) → c ≢ owner → mine index (c ∷ rest) ≡ mine (index + 1) rest
   misses index c rest n =
       ⊎_elim
       (λ (t : ((c == empty) ≡ true) × (c ≡ empty)). ap (λ o. mine_in (taken_from index (o ∷ map owner_in rest))) (owner_free c t.1))

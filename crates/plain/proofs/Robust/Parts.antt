@@ -23,11 +23,11 @@ pub record Here (cells : List ℕ) (index word : ℕ) (rest : List ℕ) : Type 0
   pub word_is : slice_index cells index ≡ word
   pub rest_is : drop (index + 1) cells ≡ rest
 
-abbrev head_or : ℕ → List ℕ → ℕ
+abbrev pub head_or : ℕ → List ℕ → ℕ
 head_or d [] = d
 head_or d (x ∷ xs) = x
 
-abbrev tail_of : List ℕ → List ℕ
+abbrev pub tail_of : List ℕ → List ℕ
 tail_of [] = []
 tail_of (x ∷ xs) = xs
 

@@ -83,7 +83,7 @@ next_opens g small other e =
     (eqb_tells g greatest)
 
 -- a lock leaves nothing to ask about
-locked_leaves : (mode : ReleaseMode) (g : ℕ) (emptied : List ℕ) (n i : ℕ) → g < 2 ^ 64 → g ≢ locked → counter_then mode g emptied ≡ locked
+pub locked_leaves : (mode : ReleaseMode) (g : ℕ) (emptied : List ℕ) (n i : ℕ) → g < 2 ^ 64 → g ≢ locked → counter_then mode g emptied ≡ locked
     → taken_from i (map owner_in (drop n emptied)) ≡ []
 locked_leaves Default g emptied n i small other e = absurd (next_opens g small other e)
 locked_leaves LockIfLastIndex g emptied n i small other e =
@@ -99,10 +99,10 @@ locked_leaves LockIfLastIndex g emptied n i small other e =
 
 -- ---- one more question
 
-abbrev an_answer : Owned → Bool → Asked
+abbrev pub an_answer : Owned → Bool → Asked
 an_answer o told = record { of = o; yes = told }
 
-questions_more : (xs : List Asked) (a : Asked) → said.questions (xs ++ a ∷ []) ≡ said.questions xs ++ a.of ∷ []
+pub questions_more : (xs : List Asked) (a : Asked) → said.questions (xs ++ a ∷ []) ≡ said.questions xs ++ a.of ∷ []
 questions_more xs a = map-append (λ (a : Asked). a.of) xs (a ∷ [])
 
 agreed_more : (xs ys : List Asked) → agreed (xs ++ ys) ≡ agreed xs ++ agreed ys
@@ -110,10 +110,10 @@ agreed_more xs ys =
     ap (map (λ (a : Asked). a.of)) (filter-append (λ (a : Asked). a.yes) xs ys)
     ∙ map-append (λ (a : Asked). a.of) (filter (λ (a : Asked). a.yes) xs) (filter (λ (a : Asked). a.yes) ys)
 
-agreed_no : (xs : List Asked) (o : Owned) → agreed (xs ++ an_answer o false ∷ []) ≡ agreed xs
+pub agreed_no : (xs : List Asked) (o : Owned) → agreed (xs ++ an_answer o false ∷ []) ≡ agreed xs
 agreed_no xs o = agreed_more xs (an_answer o false ∷ []) ∙ append-nil (agreed xs)
 
-agreed_yes : (xs : List Asked) (o : Owned) → agreed (xs ++ an_answer o true ∷ []) ≡ agreed xs ++ o ∷ []
+pub agreed_yes : (xs : List Asked) (o : Owned) → agreed (xs ++ an_answer o true ∷ []) ≡ agreed xs ++ o ∷ []
 agreed_yes xs o = agreed_more xs (an_answer o true ∷ [])
 
 module _ {F S : Type 0} (step : F → ℕ → ℕ → Bool → F → Type 0) (tell : S → ℕ → ℕ → S → Type 0) (mode : ReleaseMode)

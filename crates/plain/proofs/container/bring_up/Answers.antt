@@ -1,4 +1,3 @@
-use Rattle.std.proofs.Common.{subst}
 use Rattle.plain.proofs.Alone.{can_end, ends_so}
 use Rattle.plain.proofs.Elements.Updates.{look_runs}
 use Rattle.plain.proofs.Elements.Snapshots.{words_kept, brought_if, brought_not}

@@ -1,4 +1,4 @@
-use Rattle.std.proofs.Common.{rules, ◌≤◌, ◌+◌, ◌∙◌, sym, subst, arith}
+use Rattle.std.proofs.Common.{rules, ◌∙◌, sym, subst, arith}
 use Rattle.plain.specs.Contents.{IsFilled}
 use Rattle.plain.proofs.Elements.Filled.{filled_opened}
 use Rattle.plain.proofs.Elements.Opens.{opens_grown}

@@ -1,0 +1,248 @@
+-- A find in a container that runs alone, from one value to the next.
+use Rattle.std.proofs.Common.{◌≡◌, ℕ, zero, suc, ◌+◌, ◌-◌, ◌^◌, ◌<◌, ◌≤◌, ⊎_elim, true, false, nat_lt, List, [], ◌∷◌, length, drop, take, Some, None, refl, sym, ap, subst, ◌∙◌, arith, slice_index, slice_set, length-set, eq-eqb, get_or-take, if◌then◌else◌}
+use Rattle.std.specs.Prelude.{slice_index_or}
+use Rattle.std.proofs.lemmas.Bool.{cases_Bool}
+use Rattle.std.proofs.lemmas.Bool.Decides.{nat_tests}
+use Rattle.std.proofs.lemmas.List.{set-get_or, get_or-map}
+use Rattle.std.proofs.lemmas.List.FromFn.{get_or-map-range_with_len}
+use Rattle.steps.specs.Picks.{by_test, by_eq}
+use Rattle.steps.specs.Copied.{value_in}
+use Rattle.steps.specs.Queues.Ring.{word_at}
+use Rattle.steps.specs.Indices.Robust.Parts.{cell_word, empty, one_more}
+use Rattle.steps.specs.Container.Layout.{count_word, element_word, is_even}
+use Rattle.steps.specs.Container.Find.{at_find, first_find, find_comes_to, find_want, find_after, find_kept}
+use Rattle.steps.specs.declared.ask.Want.{Want}
+use Rattle.steps.specs.declared.ask.After.{After}
+use Rattle.steps.specs.declared.ask.After.TheVariants.{GoOn}
+use Rattle.steps.specs.declared.ask.Question.{Question}
+use Rattle.steps.specs.declared.ask.Question as questions
+use Rattle.steps.specs.declared.container.find.Find.{Find}
+use Rattle.steps.specs.declared.container.find.FindStage as finds
+use Rattle.plain.specs.declared.drive.Stop.{Stop}
+use Rattle.plain.specs.declared.drive.Stop.TheVariants.{Asked, Ended}
+use Rattle.plain.specs.Queues.{words_from}
+use Rattle.plain.specs.Robust.{owner_in, owners_in}
+use Rattle.plain.specs.Contents.{Contents, value_at, contents_in, Fits, Holds}
+use Rattle.plain.specs.Visited.{Stands}
+use Rattle.plain.proofs.Walks.{plus, Walks, Goes, longer}
+use Rattle.plain.proofs.Rooms.{with_room, want_both, after_both}
+use Rattle.plain.proofs.Words.{read_in, value_read}
+use Rattle.plain.proofs.Robust.Parts.{head_or, tail_of, here, past, next_cell, owner_some}
+use Rattle.plain.proofs.Robust.Finds.{mine, hits, misses}
+use Rattle.plain.proofs.Elements.Filled.{IsSome}
+use Rattle.plain.proofs.Elements.Values.{front_fits, cell_within, all_small}
+
+-- what a find begins with
+pub record Ready {V : Type 0} (value_of : List ℕ → V) (size capacity container owner : ℕ) (words : List ℕ) : Type 0 where
+  pub some : 1 ≤ size
+  pub wide : size ≤ 128
+  pub lives : owner < empty
+  pub holds : Holds value_of size capacity container words
+
+split : (n : ℕ) (ws : List ℕ) → length ws ≡ 1 + n → ws ≡ head_or 0 ws ∷ tail_of ws
+split n [] e = let e₁ : 0 ≡ 1 + n = e in absurd (omega arith)
+split n (w ∷ ws) e = refl
+
+-- ---- the cells and the values that stand there
+
+module _ {V : Type 0} (value_of : List ℕ → V) (size capacity container : ℕ) (words : List ℕ) (holds : Holds value_of size capacity container words) where
+  abbrev pub fits : Fits size capacity words
+  fits = holds.0
+
+  abbrev pub old : Contents V
+  old = contents_in value_of size capacity container words
+
+  abbrev pub cells : List ℕ
+  cells = tail_of (take (1 + capacity) words)
+
+  abbrev pub counter : ℕ
+  counter = head_or 0 (take (1 + capacity) words)
+
+  front_long : length (take (1 + capacity) words) ≡ 1 + capacity
+  front_long = (front_fits value_of size capacity words fits).long
+
+  pub front : take (1 + capacity) words ≡ counter ∷ cells
+  front = split capacity (take (1 + capacity) words) front_long
+
+  pub cells_long : length cells ≡ capacity
+  cells_long =
+      let e : suc (length cells) ≡ 1 + capacity = sym (ap length front) ∙ front_long in omega arith
+
+  pub cell_is : (index : ℕ) → index < capacity → slice_index words (cell_word index) ≡ slice_index cells index
+  cell_is index near =
+      sym (get_or-take (1 + capacity) words (cell_word index) 0 (omega arith))
+      ∙ (ap (λ ws. slice_index ws (cell_word index)) front ∙ next_cell counter index cells)
+
+  abbrev pub count : ℕ → ℕ
+  count index = slice_index words (count_word capacity index)
+
+  abbrev pub cell : ℕ → ℕ
+  cell index = element_word capacity size index 0
+
+  value_is : (index : ℕ) → index < capacity → slice_index_or old.values index None ≡ value_at value_of size capacity words index
+  value_is index near =
+      get_or-map-range_with_len (value_at value_of size capacity words) 0 capacity index index None near (omega arith)
+
+  owner_is : (index owner : ℕ) → index < capacity → owner < empty → slice_index cells index ≡ owner
+      → slice_index_or old.owners.owners index None ≡ Some owner
+  owner_is index owner near lives is =
+      let long = cells_long in
+      ap (λ ws. slice_index_or (owners_in ws).owners index None) front
+      ∙ (get_or-map owner_in cells index 0 None (omega arith)
+      ∙ (ap owner_in is ∙ owner_some owner (λ e. absurd (omega arith))))
+
+  -- an index with an owner has a value
+  pub odd_at : (index owner : ℕ) → index < capacity → owner < empty → slice_index cells index ≡ owner
+      → is_even (count index) ≡ false
+  odd_at index owner near lives is =
+      ⊎_elim
+      (λ (even : is_even (count index) ≡ true).
+      absurd (subst IsSome
+      (sym (owner_is index owner near lives is)
+      ∙ holds.1 index (value_is index near ∙ ap (λ b. if b then None else Some (value_of (words_from words (cell index) size))) even)) tt))
+      (λ odd. odd)
+      (cases_Bool (is_even (count index)))
+
+  pub stands_at : (index : ℕ) → index < capacity → is_even (count index) ≡ false
+      → Stands old index (value_of (words_from words (cell index) size))
+  stands_at index near odd =
+      value_is index near ∙ ap (λ b. if b then None else Some (value_of (words_from words (cell index) size))) odd
+
+  pub small_at : (index : ℕ) → index < capacity → size ≤ 128 → cell index + size < 2 ^ 64
+  small_at index near wide =
+      let w = cell_within value_of size capacity words fits index near wide in
+      let a = all_small value_of size capacity words fits index near wide in omega arith
+
+-- reading words keeps the length of a room
+pub long_read : {R : Type 0} (words_in : R → List ℕ) (with_word : R → ℕ → ℕ → R)
+    → ((x : R) (at word : ℕ) → words_in (with_word x at word) ≡ slice_set (words_in x) at word)
+    → (words : List ℕ) (room : R) (k n at : ℕ) → length (words_in (read_in with_word room words k at n)) ≡ length (words_in room)
+long_read words_in with_word put_in words room k zero at = refl
+long_read words_in with_word put_in words room k (suc n) at =
+    long_read words_in with_word put_in words (with_word room at (slice_index words (word_at k at))) k n (at + 1)
+    ∙ (ap length (put_in room at (slice_index words (word_at k at)))
+    ∙ length-set (words_in room) at (slice_index words (word_at k at)))
+
+-- ---- the walk from one value to the next
+
+module _ {V R : Type 0} (value_of : List ℕ → V) (words_in : R → List ℕ) (with_word : R → ℕ → ℕ → R)
+    (put_in : (x : R) (at word : ℕ) → words_in (with_word x at word) ≡ slice_set (words_in x) at word)
+    (size capacity container owner : ℕ) (words : List ℕ) (ready : Ready value_of size capacity container owner words) where
+  abbrev want : Find V R → ℕ → Want (Unit {0})
+  want c given = find_want size c
+
+  abbrev W : Find V R × R → Want (Unit {0})
+  W = want_both want (find_after size) (find_kept with_word) owner
+
+  abbrev A : Find V R × R → ℕ → After (Find V R × R) (ℕ × R)
+  A = after_both want (find_after size) (find_kept with_word) owner
+
+  abbrev pub at : finds.FindStage → Find V R
+  at stage = at_find (first_find capacity) stage
+
+  abbrev number_at : ℕ → ℕ
+  number_at i = slice_index words (count_word capacity i)
+
+  abbrev cell_at : ℕ → ℕ
+  cell_at i = element_word capacity size i 0
+
+  abbrev pub its_cells : List ℕ
+  its_cells = cells value_of size capacity container words ready.holds
+
+  -- the room once the value is read
+  abbrev after_reading : R → ℕ → ℕ → R
+  after_reading room i n = read_in with_word room words (cell_at i) 0 n
+
+  -- it asks about the next of those that are left, and has read its value
+  pub record AsksAt (found : ℕ) (left : List ℕ) (question : Question (Unit {0})) (call : Find V R) (room : R) (last : List ℕ) : Type 0 where
+    pub index : ℕ
+    pub rest : List ℕ
+    pub left_is : left ≡ index ∷ mine owner (index + 1) rest
+    pub rest_is : drop (index + 1) its_cells ≡ rest
+    pub low : found ≤ index
+    pub near : index < capacity
+    pub asks : question ≡ questions.TheVariants.Value index tt
+    pub stands : call ≡ at (finds.TheVariants.Asks index (found + 1))
+    pub copied : Stands (contents_in value_of size capacity container words) index (value_in value_of size (words_in room))
+    pub wide : size ≤ length (words_in room)
+    pub same : last ≡ words
+
+  abbrev pub StopsAt : ℕ → List ℕ → Stop (Find V R × R) (ℕ × R) → List ℕ → Type 0
+  StopsAt found left (Ended z) last = (left ≡ []) × (z.0 ≡ found) × (last ≡ words)
+  StopsAt found left (Asked question z) last = AsksAt found left question z.0 z.1 last
+
+  -- the words of a value, then its number for itself, then the question
+  reads : (P : Stop (Find V R × R) (ℕ × R) → List ℕ → Type 0) (i found : ℕ) → i < capacity → (n k : ℕ) → k + suc n ≡ size → (room : R)
+      → P (Asked (questions.TheVariants.Value i tt) (at (finds.TheVariants.Asks i found), read_in with_word room words (cell_at i) k (suc n))) words
+      → Walks W A (suc (suc (suc n))) P (at (finds.TheVariants.LoadsWord i found (number_at i) k), room) words
+  reads P i found near zero k end room h =
+      let place : element_word capacity size i k ≡ word_at (cell_at i) k =
+      let s = small_at value_of size capacity container words ready.holds i near ready.wide in omega arith in
+      let c = count_word capacity i in
+      let next = with_word room k (slice_index words (word_at (cell_at i) k)) in
+      subst (λ p. Goes W A 2 P (with_room (with_word room k (slice_index words p)) (if nat_lt (k + 1) size then GoOn (at (finds.TheVariants.LoadsWord i found (number_at i) (k + 1))) else GoOn (at (finds.TheVariants.ChecksCount i found (number_at i))))) words) (sym place)
+      (by_test (λ a. Goes W A 2 P (with_room next a) words) (nat_lt (k + 1) size) _ _
+      (λ t. let more : k + 1 < size = grind (arith, nat_tests) in absurd (omega arith))
+      (λ t. subst (λ b. Goes W A 1 P (with_room next (if b then GoOn (at (finds.TheVariants.Asks i found)) else find_comes_to (first_find capacity) (i + 1) found)) (if b then slice_set words c (number_at i) else words)) (sym (eq-eqb (number_at i) (number_at i) refl))
+      (subst (λ ws. Walks W A 1 P (at (finds.TheVariants.Asks i found), next) ws) (sym (set-get_or words c 0)) h)))
+  reads P i found near (suc n) k end room h =
+      let place : element_word capacity size i k ≡ word_at (cell_at i) k =
+      let s = small_at value_of size capacity container words ready.holds i near ready.wide in omega arith in
+      let next = with_word room k (slice_index words (word_at (cell_at i) k)) in
+      subst (λ p. Goes W A (suc (suc (suc n))) P (with_room (with_word room k (slice_index words p)) (if nat_lt (k + 1) size then GoOn (at (finds.TheVariants.LoadsWord i found (number_at i) (k + 1))) else GoOn (at (finds.TheVariants.ChecksCount i found (number_at i))))) words) (sym place)
+      (by_test (λ a. Goes W A (suc (suc (suc n))) P (with_room next a) words) (nat_lt (k + 1) size) _ _
+      (λ t. reads P i found near n (k + 1) (omega arith) next h)
+      (λ t. let less : size ≤ k + 1 = grind (arith, nat_tests) in absurd (omega arith)))
+
+  -- the steps of one value
+  abbrev pub each : ℕ
+  each = suc (suc (suc (suc (size - 1))))
+
+  hit : (i found : ℕ) (rest left : List ℕ) → i < capacity → found ≤ i → slice_index its_cells i ≡ owner → drop (i + 1) its_cells ≡ rest
+      → left ≡ i ∷ mine owner (i + 1) rest → (room : R) → size ≤ length (words_in room)
+      → Walks W A each (StopsAt found left) (at (finds.TheVariants.LoadsCount i (one_more found)), room) words
+  hit i found rest left near low is rest_is left_is room long =
+      let odd = odd_at value_of size capacity container words ready.holds i owner near ready.lives is in
+      let all : size ≡ suc (size - 1) = let s = ready.some in omega arith in
+      let small = small_at value_of size capacity container words ready.holds i near ready.wide in
+      let few = ready.holds.0.few in
+      let more : one_more found ≡ found + 1 = omega arith in
+      subst (λ b. Goes W A (suc (suc (suc (size - 1)))) (StopsAt found left) (with_room room (if b then find_comes_to (first_find capacity) (i + 1) (one_more found) else GoOn (at (finds.TheVariants.LoadsWord i (one_more found) (number_at i) 0)))) words) (sym odd)
+      (reads (StopsAt found left) i (one_more found) near (size - 1) 0 (omega arith) room
+      (subst (λ n. StopsAt found left (Asked (questions.TheVariants.Value i tt) (at (finds.TheVariants.Asks i (one_more found)), after_reading room i n)) words) all
+      (record {
+        index = i;
+        rest = rest;
+        left_is = left_is;
+        rest_is = rest_is;
+        low = low;
+        near = near;
+        asks = refl;
+        stands = ap (λ n. at (finds.TheVariants.Asks i n)) more;
+        copied = stands_at value_of size capacity container words ready.holds i near odd
+            ∙ ap Some (sym (value_read value_of size words_in with_word put_in room words (cell_at i) long (omega arith)));
+        wide = subst (λ n. size ≤ n) (sym (long_read words_in with_word put_in words room (cell_at i) size 0)) long;
+        same = refl;
+      })))
+
+  pub finds_on : (rest : List ℕ) (index found : ℕ) (left : List ℕ) → drop index its_cells ≡ rest → found ≤ index → left ≡ mine owner index rest
+      → (room : R) → size ≤ length (words_in room)
+      → Goes W A (plus (suc (length rest)) each) (StopsAt found left) (with_room room (find_comes_to (first_find capacity) index found)) words
+  finds_on [] index found left is low all room long =
+      let far = past its_cells index is in
+      let size_is = cells_long value_of size capacity container words ready.holds in
+      by_test (λ a. Goes W A (suc each) (StopsAt found left) (with_room room a) words) (nat_lt index capacity) _ _
+      (λ t. let near : index < capacity = grind (arith, nat_tests) in absurd (omega arith))
+      (λ _. (all, refl, refl))
+  finds_on (c ∷ rest) index found left is low all room long =
+      let there = here its_cells index c rest is in
+      let size_is = cells_long value_of size capacity container words ready.holds in
+      let below = there.near in
+      let near : index < capacity = omega arith in
+      let word = cell_is value_of size capacity container words ready.holds index near ∙ there.word_is in
+      by_test (λ a. Goes W A (suc (suc (plus (length rest) each))) (StopsAt found left) (with_room room a) words) (nat_lt index capacity) _ _
+      (λ _. by_eq (λ a. Goes W A (suc (plus (length rest) each)) (StopsAt found left) (with_room room a) words) (slice_index words (cell_word index)) owner _ _
+      (λ e. longer W A (suc (length rest)) each (StopsAt found left) (at (finds.TheVariants.LoadsCount index (one_more found)), room) words
+      (hit index found rest left near low (there.word_is ∙ (sym word ∙ e)) there.rest_is (all ∙ hits owner index c rest ready.lives (sym word ∙ e)) room long))
+      (λ n. finds_on rest (index + 1) found left there.rest_is (omega arith) (all ∙ misses owner index c rest (λ e. n (word ∙ e))) room long))
+      (λ t. let far : capacity ≤ index = grind (arith, nat_tests) in absurd (omega arith))

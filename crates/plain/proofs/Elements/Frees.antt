@@ -1,0 +1,224 @@
+-- What a recovery of a container does to the words once it was told to free an index.
+use Rattle.std.proofs.Common.{◌≡◌, ◌≢◌, ℕ, zero, suc, ◌+◌, ◌^◌, ◌<◌, ◌≤◌, false, List, [], ◌∷◌, length, take, None, refl, sym, ap, subst, ◌∙◌, arith, slice_index, slice_set, length-set, get_or-set_same, get_or-set_other, get_or-take, if◌then◌else◌}
+use Rattle.std.proofs.lemmas.List.{take-set-le}
+use Rattle.steps.specs.Indices.Robust.Parts.{cell_word, empty, locked, one_more, raise_want, raise_after, lock_want, lock_after, first_lock}
+use Rattle.steps.specs.Container.Layout.{change_word, count_word, is_even}
+use Rattle.steps.specs.Objects.Owners.{Owners, next_generation, given_back}
+use Rattle.steps.specs.declared.indices.enums.ReleaseMode.{ReleaseMode}
+use Rattle.steps.specs.declared.indices.enums.ReleaseState.{ReleaseState}
+use Rattle.steps.specs.declared.indices.enums.ReleaseState.TheVariants.{Unlocked}
+use Rattle.steps.specs.declared.indices.robust.parts.Raise as raises
+use Rattle.plain.specs.Robust as robust
+use Rattle.plain.specs.Robust.{owners_in}
+use Rattle.plain.specs.Contents.{Contents, value_at, contents_in, changed, IsFilled, Fits, Holds}
+use Rattle.plain.specs.Visited.{freed, one_change}
+use Rattle.plain.proofs.Walks.{plus, Walks, OnEnd, any_low}
+use Rattle.plain.proofs.Fronts.{Behind, stays, take_set, front_walks}
+use Rattle.plain.proofs.Places.Flags.{map_same}
+use Rattle.plain.proofs.Robust.Parts.{next_set, raise_walks, lock_walks, locking}
+use Rattle.plain.proofs.Robust.Releases.{counter_then, counter_small, given_back_is}
+use Rattle.plain.proofs.Elements.Sets.{raise_below, LockLow, lock_goes_low, lock_below}
+use Rattle.plain.proofs.Elements.Filled.{filled_gone, given_owners}
+use Rattle.plain.proofs.Elements.Finds.{counter, cells, front, cells_long}
+use Rattle.plain.proofs.Elements.Values.{value_same, behind_contents, behind_fits, hidden, hides, gone, after_change, change_contents}
+
+-- ---- raise and lock, where more words stand behind those of the set
+
+module _ (capacity g : ℕ) (cells ws : List ℕ) (small : g < 2 ^ 64) (front : take (1 + capacity) ws ≡ g ∷ cells) where
+  pub raise_over : g ≢ locked → (Q : ReleaseState → List ℕ → Type 0)
+      → ((last : List ℕ) → Behind (1 + capacity) ws last → take (1 + capacity) last ≡ next_generation g ∷ cells → Q Unlocked last)
+      → Walks raise_want raise_after 2 (OnEnd Q) raises.TheVariants.LoadsCounter ws
+  raise_over opens Q so =
+      front_walks raise_want raise_after (1 + capacity) (λ r. Unit {0}) (λ r low. raise_below capacity r) (λ r old low. any_low (raise_after r old)) ws
+      (λ e last. (e ≡ Unlocked) × (last ≡ next_generation g ∷ cells)) Q
+      (λ e last behind t. subst (λ s. Q s last) (sym t.0) (so last behind t.1))
+      2 raises.TheVariants.LoadsCounter ws tt (stays (1 + capacity) ws)
+      (subst (λ vs. Walks raise_want raise_after 2 (OnEnd (λ e last. (e ≡ Unlocked) × (last ≡ next_generation g ∷ cells))) raises.TheVariants.LoadsCounter vs) (sym front)
+      (raise_walks g cells small (λ e last. (e ≡ Unlocked) × (last ≡ next_generation g ∷ cells)) (λ e. absurd (opens e)) (λ _. (refl, refl))))
+
+  pub lock_over : length cells ≡ capacity → capacity < 2 ^ 32 → (Q : ReleaseState → List ℕ → Type 0)
+      → ((state : ReleaseState) (last : List ℕ) → Behind (1 + capacity) ws last → take (1 + capacity) last ≡ locking g cells ∷ cells → Q state last)
+      → Walks lock_want (lock_after capacity) (plus (suc (suc (suc (length cells)))) 1) (OnEnd Q) first_lock ws
+  lock_over long few Q so =
+      front_walks lock_want (lock_after capacity) (1 + capacity) (LockLow capacity) (lock_below capacity) (λ l old low. lock_goes_low capacity l old) ws
+      (λ e last. last ≡ locking g cells ∷ cells) Q so
+      (plus (suc (suc (suc (length cells)))) 1) first_lock ws tt (stays (1 + capacity) ws)
+      (subst (λ vs. Walks lock_want (lock_after capacity) (plus (suc (suc (suc (length cells)))) 1) (OnEnd (λ e last. last ≡ locking g cells ∷ cells)) first_lock vs) (sym front)
+      (lock_walks capacity g cells small long few (λ e last. last ≡ locking g cells ∷ cells) refl))
+
+set_swap : (l : List ℕ) (i j x y : ℕ) → i ≢ j → slice_set (slice_set l i x) j y ≡ slice_set (slice_set l j y) i x
+set_swap [] i j x y ne = refl
+set_swap (z ∷ l) zero zero x y ne = absurd (ne refl)
+set_swap (z ∷ l) zero (suc j) x y ne = refl
+set_swap (z ∷ l) (suc i) zero x y ne = refl
+set_swap (z ∷ l) (suc i) (suc j) x y ne = ap (λ t. z ∷ t) (set_swap l i j x y (λ e. ne (ap suc e)))
+
+module _ {V : Type 0} (value_of : List ℕ → V) (size capacity container : ℕ) (words : List ℕ) (holds : Holds value_of size capacity container words) where
+  fits : Fits size capacity words
+  fits = holds.0
+
+  abbrev s : Contents V
+  s = contents_in value_of size capacity container words
+
+  abbrev g : ℕ
+  g = counter value_of size capacity container words holds
+
+  abbrev its_cells : List ℕ
+  its_cells = cells value_of size capacity container words holds
+
+  pub head_is : slice_index words 0 ≡ g
+  head_is =
+      sym (get_or-take (1 + capacity) words 0 0 (omega arith))
+      ∙ ap (λ ws. slice_index ws 0) (front value_of size capacity container words holds)
+
+  pub generation_is : s.owners.generation ≡ g
+  generation_is = ap (λ ws. (owners_in ws).generation) (front value_of size capacity container words holds)
+
+  pub counter_low : g < 2 ^ 64
+  counter_low = subst (λ n. n < 2 ^ 64) head_is fits.small
+
+  -- ---- the change is counted
+
+  abbrev pub counted : List ℕ
+  counted = slice_set words (change_word capacity) (one_more (slice_index words (change_word capacity)))
+
+  counted_is : contents_in value_of size capacity container counted ≡ one_change s
+  counted_is =
+      let c = one_more (slice_index words (change_word capacity)) in
+      let long = fits.long in
+      let front_same : take (1 + capacity) counted ≡ take (1 + capacity) words = take-set-le (1 + capacity) words (change_word capacity) c (omega arith) in
+      let values = map_same (value_at value_of size capacity words) (value_at value_of size capacity counted) capacity 0
+      (λ j low high. value_same value_of size capacity words counted j
+      (get_or-set_other words (change_word capacity) (count_word capacity j) c 0 (λ e. absurd (omega arith)))
+      (λ k from below. get_or-set_other words (change_word capacity) k c 0 (λ e. absurd (omega arith)))) in
+      let counts = map_same (λ j. slice_index words (count_word capacity j)) (λ j. slice_index counted (count_word capacity j)) capacity 0
+      (λ j low high. get_or-set_other words (change_word capacity) (count_word capacity j) c 0 (λ e. absurd (omega arith))) in
+      let changes : slice_index counted (change_word capacity) ≡ c = get_or-set_same words (change_word capacity) c 0 (omega arith) in
+      λ i. record { container = container; owners = owners_in (front_same i); values = values i; counts = counts i; changes = changes i }
+
+  pub record Counted (last : List ℕ) : Type 0 where
+    pub fit : Holds value_of size capacity container last
+    pub is : contents_in value_of size capacity container last ≡ one_change s
+
+  pub counts_so : Counted counted
+  counts_so =
+      record {
+        fit = (
+          record {
+            long = length-set words (change_word capacity) _ ∙ fits.long;
+            some = fits.some;
+            few = fits.few;
+            small = subst (λ n. n < 2 ^ 64) (sym (get_or-set_other words (change_word capacity) 0 _ 0 (λ e. absurd (omega arith)))) fits.small;
+          },
+          subst IsFilled (sym counted_is) holds.1,
+        );
+        is = counted_is;
+      }
+
+  -- ---- an index is freed
+
+  module _ (wide : size ≤ 128) (mode : ReleaseMode) (index : ℕ) (near : index < capacity)
+      (odd : is_even (slice_index words (count_word capacity index)) ≡ false) where
+    abbrev n : ℕ
+    n = slice_index words (count_word capacity index)
+
+    -- without the value
+    abbrev hid : List ℕ
+    hid = slice_set words (count_word capacity index) (one_more n)
+
+    -- without the owner too
+    abbrev pub bare : List ℕ
+    bare = slice_set (slice_set words (cell_word index) empty) (count_word capacity index) (one_more n)
+
+    abbrev pub emptied : List ℕ
+    emptied = slice_set its_cells index empty
+
+    bare_is : bare ≡ slice_set hid (cell_word index) empty
+    bare_is = set_swap words (cell_word index) (count_word capacity index) empty (one_more n) (λ e. absurd (omega arith))
+
+    pub emptied_long : length emptied ≡ capacity
+    emptied_long = length-set its_cells index empty ∙ cells_long value_of size capacity container words holds
+
+    hid_front : take (1 + capacity) hid ≡ take (1 + capacity) words
+    hid_front = take-set-le (1 + capacity) words (count_word capacity index) (one_more n) (omega arith)
+
+    pub bare_front : take (1 + capacity) bare ≡ g ∷ emptied
+    bare_front =
+        ap (take (1 + capacity)) bare_is
+        ∙ (sym (take_set (1 + capacity) (cell_word index) empty hid (omega arith))
+        ∙ (ap (λ ws. slice_set ws (cell_word index) empty) (hid_front ∙ front value_of size capacity container words holds)
+        ∙ next_set g index empty its_cells))
+
+    pub bare_behind : Behind (1 + capacity) hid bare
+    bare_behind =
+        subst (Behind (1 + capacity) hid) (sym bare_is)
+        (record {
+          long = length-set hid (cell_word index) empty;
+          same = λ j far. get_or-set_other hid (cell_word index) j empty 0 (λ e. absurd (omega arith));
+        })
+
+    hid_is : hidden value_of size capacity words fits index near wide ≡ hid
+    hid_is = ap (λ b. if b then words else hid) odd
+
+    hid_fits : Fits size capacity hid
+    hid_fits =
+        record {
+          long = length-set words (count_word capacity index) (one_more n) ∙ fits.long;
+          some = fits.some;
+          few = fits.few;
+          small = subst (λ n. n < 2 ^ 64) (sym (get_or-set_other words (count_word capacity index) 0 (one_more n) 0 (λ e. absurd (omega arith)))) fits.small;
+        }
+
+    -- the contents without the value
+    abbrev without_value : Contents V
+    without_value = record (changed s s.owners index None) { changes = s.changes }
+
+    -- but for the changes it is as a remove leaves it
+    abbrev both : List ℕ
+    both = hidden value_of size capacity words fits index near wide
+
+    hidden_contents : contents_in value_of size capacity container both ≡ without_value
+    hidden_contents =
+        let there = hides value_of size capacity words fits index near wide in
+        let changed_is = change_contents value_of size capacity words fits index near wide container both None there.writes (gone value_of size capacity words fits index near wide both there) in
+        let later = after_change value_of size capacity words fits index near wide both in
+        let c = one_more (slice_index both (change_word capacity)) in
+        let values = map_same (value_at value_of size capacity both) (value_at value_of size capacity later) capacity 0
+        (λ j low high. value_same value_of size capacity both later j
+        (get_or-set_other both (change_word capacity) (count_word capacity j) c 0 (λ e. absurd (omega arith)))
+        (λ k from below. get_or-set_other both (change_word capacity) k c 0 (λ e. absurd (omega arith)))) in
+        let counts = map_same (λ j. slice_index both (count_word capacity j)) (λ j. slice_index later (count_word capacity j)) capacity 0
+        (λ j low high. get_or-set_other both (change_word capacity) (count_word capacity j) c 0 (λ e. absurd (omega arith))) in
+        let v = sym values ∙ ap (λ (t : Contents V). t.values) changed_is in
+        let k = sym counts ∙ ap (λ (t : Contents V). t.counts) changed_is in
+        let front_same = there.writes.front in
+        let changes = there.writes.changes in
+        λ i. record { container = container; owners = owners_in (front_same i); values = v i; counts = k i; changes = changes i }
+
+    hid_contents : contents_in value_of size capacity container hid ≡ without_value
+    hid_contents = ap (contents_in value_of size capacity container) (sym hid_is) ∙ hidden_contents
+
+    pub record Freed (last : List ℕ) : Type 0 where
+      pub fit : Holds value_of size capacity container last
+      pub is : contents_in value_of size capacity container last ≡ freed mode s index
+
+    pub frees_so : (last : List ℕ) → Behind (1 + capacity) hid last → take (1 + capacity) last ≡ counter_then mode g emptied ∷ emptied → Freed last
+    frees_so last behind front_is =
+        let set : owners_in (take (1 + capacity) last) ≡ given_back mode s.owners index =
+        ap owners_in front_is
+        ∙ (sym (given_back_is mode g its_cells index)
+        ∙ ap (λ ws. given_back mode (owners_in ws) index) (sym (front value_of size capacity container words holds))) in
+        let is : contents_in value_of size capacity container last ≡ freed mode s index =
+        behind_contents value_of size capacity container hid last behind
+        ∙ (ap (λ (o : Owners). record (contents_in value_of size capacity container hid) { owners = o }) set
+        ∙ ap (λ (t : Contents V). record t { owners = given_back mode s.owners index }) hid_contents) in
+        let long = emptied_long in
+        record {
+          fit = (
+            behind_fits value_of size capacity hid last behind hid_fits
+                (subst (robust.Fits capacity) (sym front_is)
+                (record { long = (let e : suc (length emptied) ≡ 1 + capacity = omega arith in e); some = fits.some; few = fits.few; small = counter_small mode g emptied counter_low })),
+            subst IsFilled (sym is) (filled_gone s (freed mode s index) index refl (given_owners mode s.owners index) holds.1),
+          );
+          is = is;
+        }

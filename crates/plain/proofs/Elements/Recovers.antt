@@ -1,0 +1,304 @@
+-- A recovery of a container that runs alone, from one question to the next.
+use Rattle.std.proofs.Common.{◌≡◌, ◌≢◌, ℕ, zero, suc, ◌+◌, ◌-◌, ◌^◌, ◌<◌, ◌≤◌, ⊎_elim, true, false, cond, ◌==◌, nat_lt, List, [], ◌∷◌, length, drop, filter, map, take, Some, refl, sym, ap, subst, ◌∙◌, arith, slice_index, slice_set, eq-eqb, ne_eqb, get_or-set_other, if◌then◌else◌}
+use Rattle.std.proofs.lemmas.Bool.Decides.{nat_tests, eqb_tells}
+use Rattle.std.proofs.lemmas.List.{set-get_or, drop-set-lt}
+use Rattle.steps.specs.Picks.{by_test, by_eq}
+use Rattle.steps.specs.Copied.{value_in}
+use Rattle.steps.specs.Queues.Ring.{word_at}
+use Rattle.steps.specs.Indices.Robust.Parts.{cell_word, empty, locked, one_more, raise_want, raise_after, lock_want, lock_after, first_lock}
+use Rattle.steps.specs.Container.Layout.{count_word, element_word, is_even}
+use Rattle.steps.specs.Container.Recover.{first_recover, goes_to, recover_comes_to, recover_raises, recover_raised, recover_locked, recover_sees, recover_want, recover_after, recover_kept}
+use Rattle.steps.specs.Objects.Owners.{Owned, taken, taken_from, state_of, next_generation}
+use Rattle.steps.specs.declared.ask.Want.{Want}
+use Rattle.steps.specs.declared.ask.After.{After}
+use Rattle.steps.specs.declared.ask.After.TheVariants.{Done}
+use Rattle.steps.specs.declared.ask.Question.{Question}
+use Rattle.steps.specs.declared.ask.Question as questions
+use Rattle.steps.specs.declared.container.recover.Recover.{Recover}
+use Rattle.steps.specs.declared.container.recover.RecoverStage as recovers
+use Rattle.steps.specs.declared.container.recover.DeadOwner.{DeadOwner}
+use Rattle.steps.specs.declared.indices.enums.ReleaseMode.{ReleaseMode}
+use Rattle.steps.specs.declared.indices.enums.ReleaseMode.TheVariants.{LockIfLastIndex, Default}
+use Rattle.steps.specs.declared.indices.enums.ReleaseState.{ReleaseState}
+use Rattle.steps.specs.declared.indices.enums.ReleaseState.TheVariants.{Locked, Unlocked}
+use Rattle.steps.specs.declared.indices.robust.parts.Raise as raises
+use Rattle.plain.specs.declared.drive.Stop.{Stop}
+use Rattle.plain.specs.declared.drive.Stop.TheVariants.{Asked, Ended}
+use Rattle.plain.specs.Robust.{owner_in, owners_in}
+use Rattle.plain.specs.Contents.{Contents, contents_in, Holds}
+use Rattle.plain.specs.Visited.{Stands, to_ask, freed, one_change}
+use Rattle.plain.proofs.Walks.{plus, Walks, Goes, longer, goes_longer, part_walks}
+use Rattle.plain.proofs.Fronts.{Behind, behind_more}
+use Rattle.plain.proofs.Rooms.{with_room, want_both, after_both}
+use Rattle.plain.proofs.Words.{read_in, value_read}
+use Rattle.plain.proofs.Robust.Parts.{tail_of, here, past, next_small, owner_free, owner_some}
+use Rattle.plain.proofs.Robust.Releases.{counter_then}
+use Rattle.plain.proofs.Elements.Finds.{counter, cells_long, front, cell_is, odd_at, stands_at, small_at, long_read}
+use Rattle.plain.proofs.Elements.Frees.{head_is, generation_is, counter_low, counts_so, counted, bare, emptied_long, bare_front, bare_behind, frees_so, raise_over, lock_over}
+
+module _ (owner : ℕ) where
+  -- the indices of the owner in a list whose first index is this one
+  abbrev pub of_owner : ℕ → List ℕ → List Owned
+  of_owner index rest = filter (λ (o : Owned). o.owner == owner) (taken_from index (map owner_in rest))
+
+  of_hit : (index c : ℕ) (rest : List ℕ) → owner < empty → c ≡ owner
+      → of_owner index (c ∷ rest) ≡ record { owner = owner; index = index } ∷ of_owner (index + 1) rest
+  of_hit index c rest lives e =
+      ap (λ o. filter (λ (o : Owned). o.owner == owner) (taken_from index (o ∷ map owner_in rest))) (owner_some c (λ x. absurd (omega arith)))
+      ∙ (ap (λ b. cond b (record { owner = c; index = index } ∷ of_owner (index + 1) rest) (of_owner (index + 1) rest)) (eq-eqb c owner e)
+      ∙ ap (λ w. record { owner = w; index = index } ∷ of_owner (index + 1) rest) e)
+
+  of_miss : (index c : ℕ) (rest : List ℕ) → c ≢ owner → of_owner index (c ∷ rest) ≡ of_owner (index + 1) rest
+  of_miss index c rest n =
+      ⊎_elim
+      (λ (t : ((c == empty) ≡ true) × (c ≡ empty)). ap (λ o. filter (λ (o : Owned). o.owner == owner) (taken_from index (o ∷ map owner_in rest))) (owner_free c t.1))
+      (λ (t : ((c == empty) ≡ false) × (c ≢ empty)). ap (λ o. filter (λ (o : Owned). o.owner == owner) (taken_from index (o ∷ map owner_in rest))) (owner_some c t.1)
+      ∙ ap (λ b. cond b (record { owner = c; index = index } ∷ of_owner (index + 1) rest) (of_owner (index + 1) rest)) (ne_eqb c owner n))
+      (eqb_tells c empty)
+
+module _ {V R : Type 0} (value_of : List ℕ → V) (words_in : R → List ℕ) (with_word : R → ℕ → ℕ → R)
+    (put_in : (x : R) (at word : ℕ) → words_in (with_word x at word) ≡ slice_set (words_in x) at word)
+    (size capacity container owner : ℕ) (mode : ReleaseMode) (some : 1 ≤ size) (wide : size ≤ 128) (lives : owner < empty) where
+  abbrev given : DeadOwner
+  given = record { owner = owner; mode = mode }
+
+  abbrev W : Recover V R × R → Want (Unit {0})
+  W = want_both (recover_want size) (recover_after size) (recover_kept with_word) given
+
+  abbrev A : Recover V R × R → ℕ → After (Recover V R × R) (ReleaseState × R)
+  A = after_both (recover_want size) (recover_after size) (recover_kept with_word) given
+
+  abbrev pub first : Recover V R
+  first = first_recover capacity
+
+  abbrev pub at : recovers.RecoverStage → Recover V R
+  at stage = record { capacity = capacity; stage = stage; of = record {} }
+
+  abbrev pub read : List ℕ → Contents V
+  read words = contents_in value_of size capacity container words
+
+  abbrev pub Fit : List ℕ → Type 0
+  Fit words = Holds value_of size capacity container words
+
+  abbrev pub cells_of : List ℕ → List ℕ
+  cells_of words = tail_of (take (1 + capacity) words)
+
+  -- It asks about the first of those that are left, has read its value, and these are the contents. No index below this
+  -- one is left.
+  pub record AsksAt (s : Contents V) (from : ℕ) (left : List Owned) (call : Recover V R) (room : R) (last : List ℕ) : Type 0 where
+    pub index : ℕ
+    pub rest : List ℕ
+    pub left_is : left ≡ record { owner = owner; index = index } ∷ of_owner owner (index + 1) rest
+    pub rest_is : drop (index + 1) (cells_of last) ≡ rest
+    pub low : from ≤ index
+    pub near : index < capacity
+    pub holds : Fit last
+    pub is : read last ≡ s
+    pub owns : slice_index (cells_of last) index ≡ owner
+    pub stands : call ≡ at (recovers.TheVariants.Asks index (slice_index last (count_word capacity index)))
+    pub copied : Stands s index (value_in value_of size (words_in room))
+    pub roomy : size ≤ length (words_in room)
+
+  -- nothing is left, and the change is counted
+  pub record EndsAt (s : Contents V) (left : List Owned) (state : ReleaseState) (last : List ℕ) : Type 0 where
+    pub none : left ≡ []
+    pub holds : Fit last
+    pub state_is : state ≡ state_of s.owners
+    pub is : read last ≡ one_change s
+
+  abbrev pub StopsAt : Contents V → ℕ → List Owned → Stop (Recover V R × R) (ReleaseState × R) → List ℕ → Type 0
+  StopsAt s from left (Ended z) last = EndsAt s left z.0 last
+  StopsAt s from left (Asked question z) last = AsksAt s from left z.0 z.1 last
+
+  -- the steps of one value
+  abbrev pub each : ℕ
+  each = suc (suc (suc (suc (size - 1))))
+
+  abbrev pub fuel : List ℕ → ℕ
+  fuel rest = plus (suc (suc (suc (length rest)))) each
+
+  -- ---- over words that stay as they are
+
+  module _ (words : List ℕ) (holds : Fit words) where
+    abbrev number_at : ℕ → ℕ
+    number_at i = slice_index words (count_word capacity i)
+
+    abbrev cell_at : ℕ → ℕ
+    cell_at i = element_word capacity size i 0
+
+    -- the words of a value, then its number for itself, then the question
+    reads : (P : Stop (Recover V R × R) (ReleaseState × R) → List ℕ → Type 0) (i : ℕ) → i < capacity → (n k : ℕ) → k + suc n ≡ size → (room : R)
+        → P (Asked (questions.TheVariants.Value i tt) (at (recovers.TheVariants.Asks i (number_at i)), read_in with_word room words (cell_at i) k (suc n))) words
+        → Walks W A (suc (suc (suc n))) P (at (recovers.TheVariants.LoadsWord i (number_at i) k), room) words
+    reads P i near zero k end room h =
+        let place : element_word capacity size i k ≡ word_at (cell_at i) k =
+        let s = small_at value_of size capacity container words holds i near wide in omega arith in
+        let c = count_word capacity i in
+        let next = with_word room k (slice_index words (word_at (cell_at i) k)) in
+        subst (λ p. Goes W A 2 P (with_room (with_word room k (slice_index words p)) (if nat_lt (k + 1) size then goes_to first (recovers.TheVariants.LoadsWord i (number_at i) (k + 1)) else goes_to first (recovers.TheVariants.ChecksCount i (number_at i)))) words) (sym place)
+        (by_test (λ a. Goes W A 2 P (with_room next a) words) (nat_lt (k + 1) size) _ _
+        (λ t. let more : k + 1 < size = grind (arith, nat_tests) in absurd (omega arith))
+        (λ t. subst (λ b. Goes W A 1 P (with_room next (if b then goes_to first (recovers.TheVariants.Asks i (number_at i)) else recover_sees first i (number_at i))) (if b then slice_set words c (number_at i) else words)) (sym (eq-eqb (number_at i) (number_at i) refl))
+        (subst (λ ws. Walks W A 1 P (at (recovers.TheVariants.Asks i (number_at i)), next) ws) (sym (set-get_or words c 0)) h)))
+    reads P i near (suc n) k end room h =
+        let place : element_word capacity size i k ≡ word_at (cell_at i) k =
+        let s = small_at value_of size capacity container words holds i near wide in omega arith in
+        let next = with_word room k (slice_index words (word_at (cell_at i) k)) in
+        subst (λ p. Goes W A (suc (suc (suc n))) P (with_room (with_word room k (slice_index words p)) (if nat_lt (k + 1) size then goes_to first (recovers.TheVariants.LoadsWord i (number_at i) (k + 1)) else goes_to first (recovers.TheVariants.ChecksCount i (number_at i)))) words) (sym place)
+        (by_test (λ a. Goes W A (suc (suc (suc n))) P (with_room next a) words) (nat_lt (k + 1) size) _ _
+        (λ t. reads P i near n (k + 1) (omega arith) next h)
+        (λ t. let less : size ≤ k + 1 = grind (arith, nat_tests) in absurd (omega arith)))
+
+    module _ (s : Contents V) (is : read words ≡ s) (from : ℕ) where
+      hit : (i : ℕ) (rest : List ℕ) (left : List Owned) → i < capacity → from ≤ i → slice_index (cells_of words) i ≡ owner → drop (i + 1) (cells_of words) ≡ rest
+          → left ≡ record { owner = owner; index = i } ∷ of_owner owner (i + 1) rest → (room : R) → size ≤ length (words_in room)
+          → Walks W A each (StopsAt s from left) (at (recovers.TheVariants.LoadsCount i), room) words
+      hit i rest left near low owns rest_is left_is room long =
+          let odd = odd_at value_of size capacity container words holds i owner near lives owns in
+          let all : size ≡ suc (size - 1) = omega arith in
+          let small = small_at value_of size capacity container words holds i near wide in
+          subst (λ b. Goes W A (suc (suc (suc (size - 1)))) (StopsAt s from left) (with_room room (goes_to first (if b then recovers.TheVariants.EmptiesCell i (number_at i) else recovers.TheVariants.LoadsWord i (number_at i) 0))) words) (sym odd)
+          (reads (StopsAt s from left) i near (size - 1) 0 (omega arith) room
+          (subst (λ n. StopsAt s from left (Asked (questions.TheVariants.Value i tt) (at (recovers.TheVariants.Asks i (number_at i)), read_in with_word room words (cell_at i) 0 n)) words) all
+          (record {
+            index = i;
+            rest = rest;
+            left_is = left_is;
+            rest_is = rest_is;
+            low = low;
+            near = near;
+            holds = holds;
+            is = is;
+            owns = owns;
+            stands = refl;
+            copied = subst (λ (t : Contents V). Stands t i (value_in value_of size (words_in (read_in with_word room words (cell_at i) 0 size)))) is
+                (stands_at value_of size capacity container words holds i near odd
+                ∙ ap Some (sym (value_read value_of size words_in with_word put_in room words (cell_at i) long (omega arith))));
+            roomy = subst (λ n. size ≤ n) (sym (long_read words_in with_word put_in words room (cell_at i) size 0)) long;
+          })))
+
+      -- the change is counted, and then it ends
+      ends : (left : List Owned) (state : ReleaseState) → left ≡ [] → state ≡ state_of s.owners
+          → EndsAt s left state (counted value_of size capacity container words holds)
+      ends left state none state_is =
+          let there = counts_so value_of size capacity container words holds in
+          record { none = none; holds = there.fit; state_is = state_is; is = there.is ∙ ap one_change is }
+
+      state_at : (if slice_index words 0 == locked then Locked else Unlocked) ≡ state_of s.owners
+      state_at =
+          ap (λ n. if n == locked then Locked else Unlocked) (head_is value_of size capacity container words holds ∙ sym (generation_is value_of size capacity container words holds))
+          ∙ ap (λ (t : Contents V). state_of t.owners) is
+
+      pub recovers_on : (rest : List ℕ) (index : ℕ) (left : List Owned) → drop index (cells_of words) ≡ rest → left ≡ of_owner owner index rest → from ≤ index
+          → (room : R) → size ≤ length (words_in room)
+          → Goes W A (fuel rest) (StopsAt s from left) (with_room room (recover_comes_to first index)) words
+      recovers_on [] index left rest_is all low room long =
+          let far = past (cells_of words) index rest_is in
+          let size_is = cells_long value_of size capacity container words holds in
+          by_test (λ stage. Goes W A (suc (suc (suc each))) (StopsAt s from left) (with_room room (goes_to first stage)) words) (nat_lt index capacity) _ _
+          (λ t. let near : index < capacity = grind (arith, nat_tests) in absurd (omega arith))
+          (λ _. ends left (if slice_index words 0 == locked then Locked else Unlocked) all state_at)
+      recovers_on (c ∷ rest) index left rest_is all low room long =
+          let there = here (cells_of words) index c rest rest_is in
+          let size_is = cells_long value_of size capacity container words holds in
+          let below = there.near in
+          let near : index < capacity = omega arith in
+          let word = cell_is value_of size capacity container words holds index near ∙ there.word_is in
+          by_test (λ stage. Goes W A (suc (suc (suc (suc (plus (length rest) each))))) (StopsAt s from left) (with_room room (goes_to first stage)) words) (nat_lt index capacity) _ _
+          (λ _. by_eq (λ a. Goes W A (suc (suc (suc (plus (length rest) each)))) (StopsAt s from left) (with_room room a) words) (slice_index words (cell_word index)) owner _ _
+          (λ e. longer W A (suc (suc (suc (length rest)))) each (StopsAt s from left) (at (recovers.TheVariants.LoadsCount index), room) words
+          (hit index rest left near low (there.word_is ∙ (sym word ∙ e)) there.rest_is (all ∙ of_hit owner index c rest lives (sym word ∙ e)) room long))
+          (λ n. recovers_on rest (index + 1) left there.rest_is (all ∙ of_miss owner index c rest (λ e. n (word ∙ e))) (omega arith) room long))
+          (λ t. let far : capacity ≤ index = grind (arith, nat_tests) in absurd (omega arith))
+
+    pub begin_walk : (room : R) → size ≤ length (words_in room)
+        → Walks W A (suc (fuel (cells_of words))) (StopsAt (read words) 0 (to_ask (read words) owner)) (first, room) words
+    begin_walk room long =
+        let g = counter value_of size capacity container words holds in
+        let generation = generation_is value_of size capacity container words holds in
+        let head = head_is value_of size capacity container words holds in
+        by_eq (λ a. Goes W A (fuel (cells_of words)) (StopsAt (read words) 0 (to_ask (read words) owner)) (with_room room a) words) (slice_index words 0) locked _ _
+        (λ e. ends (read words) refl 0 (to_ask (read words) owner) Locked
+        (ap (λ b. filter (λ (o : Owned). o.owner == owner) (if b then [] else taken (read words).owners)) (eq-eqb (read words).owners.generation locked (generation ∙ (sym head ∙ e))))
+        (sym (ap (λ b. if b then Locked else Unlocked) (eq-eqb (read words).owners.generation locked (generation ∙ (sym head ∙ e))))))
+        (λ other. recovers_on (read words) refl 0 (cells_of words) 0 (to_ask (read words) owner) refl
+        (ap (λ b. filter (λ (o : Owned). o.owner == owner) (if b then [] else taken (read words).owners)) (ne_eqb (read words).owners.generation locked (λ e. other (head ∙ (sym generation ∙ e))))
+        ∙ ap (λ ws. filter (λ (o : Owned). o.owner == owner) (taken (owners_in ws))) (front value_of size capacity container words holds))
+        (omega arith) room long)
+
+  -- ---- an index is freed
+
+  module _ (words : List ℕ) (holds : Fit words) (s : Contents V) (is : read words ≡ s) (index : ℕ) (near : index < capacity)
+      (owns : slice_index (cells_of words) index ≡ owner) (opens : counter value_of size capacity container words holds ≢ locked)
+      (rest : List ℕ) (rest_is : drop (index + 1) (cells_of words) ≡ rest) (room : R) (long : size ≤ length (words_in room)) where
+    odd : is_even (slice_index words (count_word capacity index)) ≡ false
+    odd = odd_at value_of size capacity container words holds index owner near lives owns
+
+    abbrev g : ℕ
+    g = counter value_of size capacity container words holds
+
+    abbrev gone : List ℕ
+    gone = slice_set (cells_of words) index empty
+
+    abbrev n : ℕ
+    n = slice_index words (count_word capacity index)
+
+    abbrev hid : List ℕ
+    hid = slice_set words (count_word capacity index) (one_more n)
+
+    abbrev P : Stop (Recover V R × R) (ReleaseState × R) → List ℕ → Type 0
+    P stop last = StopsAt (freed mode s index) (index + 1) (of_owner owner (index + 1) rest) stop last
+
+    abbrev locks : ℕ
+    locks = plus (suc (suc (suc (length gone)))) 1
+
+    low : g < 2 ^ 64
+    low = counter_low value_of size capacity container words holds
+
+    gone_long : length gone ≡ capacity
+    gone_long = emptied_long value_of size capacity container words holds wide mode index near odd
+
+    -- from the next index on
+    then_on : (last : List ℕ) → Behind (1 + capacity) hid last → take (1 + capacity) last ≡ counter_then mode g gone ∷ gone
+        → Goes W A (fuel rest) P (with_room room (recover_comes_to first (index + 1))) last
+    then_on last behind front_is =
+        let there = frees_so value_of size capacity container words holds wide mode index near odd last behind front_is in
+        recovers_on last there.fit (freed mode s index) (there.is ∙ ap (λ t. freed mode t index) is) (index + 1) rest (index + 1) (of_owner owner (index + 1) rest)
+        (ap (λ ws. drop (index + 1) (tail_of ws)) front_is ∙ (drop-set-lt (index + 1) (cells_of words) index empty (let t : index < index + 1 = omega arith in t) ∙ rest_is))
+        refl (let t : index + 1 ≤ index + 1 = omega arith in t) room long
+
+    abbrev After_raise : ReleaseMode → List ℕ → Type 0
+    After_raise m last = Goes W A (plus locks (fuel rest)) P (with_room room (recover_raised first index m (Done Unlocked))) last
+
+    on_raised : (m : ReleaseMode) → mode ≡ m → (last : List ℕ) → Behind (1 + capacity) hid last → take (1 + capacity) last ≡ next_generation g ∷ gone
+        → After_raise m last
+    on_raised Default e last behind front_is =
+        goes_longer W A locks (fuel rest) P (with_room room (recover_comes_to first (index + 1))) last
+        (then_on last behind (front_is ∙ ap (λ m. counter_then m g gone ∷ gone) (sym e)))
+    on_raised LockIfLastIndex e last behind front_is =
+        part_walks W A lock_want (lock_after capacity) (λ l. (at (recovers.TheVariants.Locks index l), room)) (λ a. with_room room (recover_locked first index a))
+        (λ d. refl) (λ d old. refl) (λ d. refl) locks (fuel rest) P first_lock last
+        (lock_over capacity (next_generation g) gone last (next_small g low) front_is gone_long holds.0.few _
+        (λ state later more front_later. then_on later (behind_more (1 + capacity) hid last later behind more) (front_later ∙ ap (λ m. counter_then m g gone ∷ gone) (sym e))))
+
+    abbrev pub rounds : ℕ
+    rounds = suc (suc (plus 2 (plus locks (fuel rest))))
+
+    raises_on : Walks W A (plus 2 (plus locks (fuel rest))) P (at (recovers.TheVariants.Raises index raises.TheVariants.LoadsCounter), room) (bare value_of size capacity container words holds wide mode index near odd)
+    raises_on =
+        part_walks W A raise_want raise_after (λ r. (at (recovers.TheVariants.Raises index r), room)) (λ a. with_room room (recover_raised first index mode a))
+        (λ d. refl) (λ d old. refl) (λ d. refl) 2 (plus locks (fuel rest)) P raises.TheVariants.LoadsCounter (bare value_of size capacity container words holds wide mode index near odd)
+        (raise_over capacity g gone (bare value_of size capacity container words holds wide mode index near odd) low (bare_front value_of size capacity container words holds wide mode index near odd) opens _
+        (λ last behind front_is. on_raised mode refl last (behind_more (1 + capacity) hid (bare value_of size capacity container words holds wide mode index near odd) last (bare_behind value_of size capacity container words holds wide mode index near odd) behind) front_is))
+
+    -- from a yes to the next question, or to the end
+    pub frees_on : Walks W A rounds P (at (recovers.TheVariants.EmptiesCell index n), room) words
+    frees_on =
+        let word = cell_is value_of size capacity container words holds index near ∙ owns in
+        let ci = cell_word index in
+        let without = slice_set words ci empty in
+        let same : slice_index without (count_word capacity index) ≡ n = get_or-set_other words ci (count_word capacity index) empty 0 (λ e. absurd (omega arith)) in
+        subst (λ b. Goes W A (suc (plus 2 (plus locks (fuel rest)))) P (with_room room (if b then (if is_even n then recover_raises first index else goes_to first (recovers.TheVariants.Hides index n)) else recover_comes_to first (index + 1))) (if b then slice_set words ci empty else words)) (sym (eq-eqb (slice_index words ci) owner word))
+        (subst (λ b. Goes W A (suc (plus 2 (plus locks (fuel rest)))) P (with_room room (if b then recover_raises first index else goes_to first (recovers.TheVariants.Hides index n))) without) (sym odd)
+        (subst (λ b. Walks W A (plus 2 (plus locks (fuel rest))) P (at (recovers.TheVariants.Raises index raises.TheVariants.LoadsCounter), room) (if b then slice_set without (count_word capacity index) (one_more n) else without)) (sym (eq-eqb (slice_index without (count_word capacity index)) n same))
+        raises_on))

@@ -1,0 +1,34 @@
+//! What closures say, as answers to calls.
+ghost use Rattle.std.specs.Prelude.{◌≡◌, if◌then◌else◌};
+ghost use Rattle.plain.specs.Callable.{index_in, as_answer};
+
+use steps::ask::Question;
+use steps::enums::CallbackProgression;
+
+/// The index that a question is about.
+pub fn index_in(question: Question<()>) -> usize
+    ensures { result ≡ index_in question }
+{
+    match question {
+        Question::Index(index) => index,
+        Question::Owned(_, index) => index,
+        Question::Value(index, ()) => index,
+    }
+}
+
+/// What a closure says, as the answer to a call.
+pub fn as_answer(progression: CallbackProgression) -> u64
+    ensures { result ≡ as_answer progression }
+{
+    match progression {
+        CallbackProgression::Continue => 1,
+        CallbackProgression::Stop => 0,
+    }
+}
+
+/// Yes or no, as the answer to a call.
+pub fn as_yes(yes: bool) -> u64
+    ensures { result ≡ if yes then 1 else 0 }
+{
+    if yes { 1 } else { 0 }
+}

@@ -1,0 +1,102 @@
+//! The call on a container of one caller that frees the indices of an owner that has died.
+ghost use Rattle.std.specs.Prelude.{◌≡◌, ◌<◌, ◌^◌, ◌-◌};
+ghost use Rattle.steps.specs.Objects.Owners.{state_of};
+ghost use Rattle.plain.specs.Callable.{TakesQuestions};
+ghost use Rattle.plain.specs.Contents.{contents_in, Holds};
+ghost use Rattle.plain.specs.Visited.{to_ask, MayAsk, Says, HasRecovered};
+
+use super::Container;
+use crate::answers::as_yes;
+use crate::drive::{Stop, drive_to_stop};
+use steps::ask::After;
+use steps::container::recover::{DeadOwner, Recover};
+use steps::copied::Copied;
+use steps::enums::OwnerId;
+use steps::indices::enums::{ReleaseMode, ReleaseState};
+use steps::routine::Routine;
+use steps::words::Words;
+
+/// Asks the closure about the value, and hands it back.
+fn ask_about<T: Words, F: FnMut(T) -> bool>(mut predicate: F, value: T) -> (bool, F)
+    requires { F.pre predicate value }
+    ensures { F.step predicate value result.0 result.1 }
+{
+    let yes = predicate(value);
+    (yes, predicate)
+}
+
+/// A recovery, over the words of a container. Hands the closure back.
+fn recover<T: Words, F: FnMut(T) -> bool>(
+    words: &mut Vec<u64>,
+    capacity: u32,
+    id: u64,
+    owner: OwnerId,
+    mode: ReleaseMode,
+    mut predicate: F,
+) -> (ReleaseState, F)
+    requires holds { Holds T.value_of T.WORDS capacity id words.old.items }
+    requires owner { owner < 2 ^ 64 - 1 }
+    requires questions { TakesQuestions
+        (MayAsk F.pre (contents_in T.value_of T.WORDS capacity id words.old.items))
+        (Says (λ p x b q. F.step p x b q)
+        (contents_in T.value_of T.WORDS capacity id words.old.items))
+        (to_ask (contents_in T.value_of T.WORDS capacity id words.old.items) owner) predicate }
+    ensures holds { Holds T.value_of T.WORDS capacity id words.new.items }
+    ensures state { result.0
+        ≡ state_of (contents_in T.value_of T.WORDS capacity id words.new.items).owners }
+    ensures calls { HasRecovered (λ p x b q. F.step p x b q) owner mode
+        (contents_in T.value_of T.WORDS capacity id words.old.items)
+        (contents_in T.value_of T.WORDS capacity id words.new.items) predicate result.1 }
+{
+    let given = DeadOwner { owner, mode };
+    let mut room = Copied::new();
+    let mut call = Recover::<T, Copied>::new(capacity);
+    for _ in 0..u64::MAX {
+        match drive_to_stop(words, call, &given, &mut room) {
+            Stop::Ended(state) => return (state, predicate),
+            Stop::Asked(_, asks) => {
+                let value = Recover::<T, Copied>::value(&given, &room);
+                let (yes, next_predicate) = ask_about::<T, F>(predicate, value);
+                predicate = next_predicate;
+                let answer = as_yes(yes);
+                match asks.take(&given, &mut room, answer) {
+                    After::GoOn(next) => call = next,
+                    After::Done(_) => unreachable!(),
+                }
+            }
+        }
+    }
+    unreachable!()
+}
+
+impl<T: Words> Container<T> {
+    /// Asks `predicate` about a copy of the value at each index of `owner`, ascending, and frees the indices of those
+    /// about which it said true: they have no owner and no value then. In mode `LockIfLastIndex` it locks the
+    /// container where no index has an owner after one was freed, unless its generation comes to its end. `Locked`
+    /// where the container is locked then, else `Unlocked`. Of a locked container it asks nothing. Whatever it frees,
+    /// it is one change. That `owner` is dead is the caller's concern. After `recover` of the Rust crate's
+    /// `Container`.
+    pub fn recover<F: FnMut(T) -> bool>(
+        &mut self,
+        owner: OwnerId,
+        predicate: F,
+        mode: ReleaseMode,
+    ) -> ReleaseState
+        requires { TakesQuestions (MayAsk F.pre self.old) (Says (λ p x b q. F.step p x b q) self.old)
+            (to_ask self.old owner) predicate }
+        ensures answer { result ≡ state_of self.new.owners }
+        ensures calls { (last : F) × HasRecovered (λ p x b q. F.step p x b q) owner mode self.old
+            self.new predicate last }
+    {
+        let _ = owner.value();
+        let (state, _) = recover::<T, F>(
+            &mut self.words,
+            self.capacity,
+            self.id,
+            owner,
+            mode,
+            predicate,
+        );
+        state
+    }
+}
