@@ -2,4 +2,10 @@
 #![tactic(auto)]
 
 #[cfg(test)]
+mod owners;
+#[cfg(test)]
+mod user;
+#[cfg(test)]
 mod values;
+#[cfg(test)]
+mod wide;

@@ -1,14 +1,12 @@
-//! Containers, alone and between threads.
-ghost use Rattle.lock_free.specs.Container.Names.{IsPassOf};
-
+//! Values in containers, alone and between threads.
+use crate::user::User;
 use lock_free::mpmc::container::{
     CallbackProgression, Container, ContainerAddFailure, ContainerHandle, ContainerRemoveError,
-    ContainerState, FixedSizeContainer, OwnerId, Pass,
+    ContainerState, FixedSizeContainer, OwnerId,
 };
 use lock_free::mpmc::unique_index_set_enums::{
     ReleaseMode, ReleaseState, UniqueIndexCreationError,
 };
-use lock_free::words::Words;
 use std::process::Abort;
 use std::sync::Wait;
 use std::test::Fail;
@@ -16,78 +14,6 @@ use std::thread;
 use std::thread::Threads;
 
 const FOREIGN: ContainerRemoveError = ContainerRemoveError::ContainerHandleNotOwnedByContainer;
-
-/// One who uses a container.
-#[derive(Drop)]
-struct User<'a, T: Words> {
-    container: &'a Container<T>,
-    pass: Pass<T>,
-    ghost of: { IsPassOf container.now pass },
-}
-
-impl<'a, T: Words> User<'a, T> {
-    fn new(container: &'a Container<T>, pass: Pass<T>) -> User<'a, T>
-        requires { IsPassOf container.now pass }
-    {
-        User { container, pass }
-    }
-
-    /// One with a pass that was made of two.
-    fn another(&mut self) -> Option<User<'a, T>> {
-        let mut pass = self.pass.split()?;
-        let other = self.pass.split()?;
-        pass.join(other);
-        Some(User {
-            container: self.container,
-            pass,
-        })
-    }
-
-    fn adds(
-        &mut self,
-        rt: &impl Wait,
-        value: T,
-        owner: OwnerId,
-    ) -> Result<ContainerHandle, ContainerAddFailure> {
-        self.container.add(rt, value, owner, &mut self.pass)
-    }
-
-    fn removes(
-        &mut self,
-        rt: &impl Wait,
-        handle: &ContainerHandle,
-        mode: ReleaseMode,
-    ) -> Result<ReleaseState, ContainerRemoveError> {
-        self.container.remove(rt, *handle, mode, &mut self.pass)
-    }
-
-    fn replaces(&mut self, handle: &ContainerHandle, value: T) -> Result<(), ContainerRemoveError> {
-        self.container.replace(*handle, value, &mut self.pass)
-    }
-
-    /// A state of the container.
-    fn state(&mut self, rt: &impl Wait) -> Option<ContainerState<T>> {
-        self.container.get_state(rt, &mut self.pass).ok()
-    }
-
-    /// Whether the state has changed. None where it is of another container.
-    fn updates(&mut self, rt: &impl Wait, state: &mut ContainerState<T>) -> Option<bool> {
-        if self.container.is_state_of(state) {
-            Some(self.container.update_state(rt, state, &mut self.pass))
-        } else {
-            None
-        }
-    }
-
-    /// How many indices have an owner, whether none has, and whether the container is locked.
-    fn says(&mut self, rt: &impl Wait) -> (usize, bool, bool) {
-        (
-            self.container.len(rt, &mut self.pass),
-            self.container.is_empty(rt, &mut self.pass),
-            self.container.is_locked(&mut self.pass),
-        )
-    }
-}
 
 /// How many values a state shows, and their sum.
 fn shown(state: &ContainerState<u32>) -> (usize, u64) {
@@ -187,7 +113,7 @@ fn foreign_and_locked(rt: HostRuntime) -> Result<(), Fail> {
 }
 
 /// Adds a pair of equal numbers, replaces it by another such, and removes it, many times: whether each went well.
-fn change_many(rt: &impl Wait, mut user: User<'_, (u64, u64)>, owner: OwnerId) -> bool {
+pub fn change_many(rt: &impl Wait, mut user: User<'_, (u64, u64)>, owner: OwnerId) -> bool {
     let mut well = true;
     for n in 0..300u64 {
         match user.adds(rt, (n, n), owner) {

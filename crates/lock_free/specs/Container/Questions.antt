@@ -1,19 +1,31 @@
--- What the closure of a recovery of a container is called with. T is the type of its values.
-use Rattle.std.specs.Prelude.{◌≡◌, ℕ, ◌<◌, ◌≤◌, Bool, true, List, [], length}
+-- What the closure of a recovery of a container is called with: values at indices that ascend below
+-- the capacity, each at most once. T is the type of its values.
+use Rattle.std.specs.Prelude.{◌≡◌, ℕ, ◌<◌, ◌≤◌, Bool, true, List, [], length, All, AllPairs}
 use Rattle.std.specs.List.{FoldsTo}
 
--- a question about a value, and the answer
+-- a question about the value at an index, and the answer
 pub record Answered (T : Type 0) : Type 0 where
+  pub index : ℕ
   pub value : T
   pub yes : Bool
 
-abbrev pub asks : {F T : Type 0} → (F → T → Bool → F → Type 0) → F → Answered T → F → Type 0
-asks step p a q = step p a.value a.yes q
+module _ {T : Type 0} where
+  -- each index is below the capacity, and above the one before
+  abbrev pub AnswersAscend : ℕ → List (Answered T) → Type 0
+  AnswersAscend capacity asked =
+      AllPairs (λ (x y : Answered T). x.index < y.index) asked
+      × All (λ (a : Answered T). a.index < capacity) asked
 
--- while it was asked fewer times than the capacity, the closure may be asked about any value
+  abbrev pub asks : {F : Type 0} → (F → T → Bool → F → Type 0) → F → Answered T → F → Type 0
+  asks step p a q = step p a.value a.yes q
+
+-- after questions that ascend, fewer than the capacity, the closure may be asked about any value at
+-- an index above them and below the capacity
 pub record TakesValues {F T : Type 0} (pre : F → T → Type 0) (step : F → T → Bool → F → Type 0)
     (capacity : ℕ) (f : F) : Type 0 where
-  pub at : (before : List (Answered T)) (now : F) (value : T) → FoldsTo (asks step) f before now
+  pub at : (before : List (Answered T)) (now : F) (index : ℕ) (value : T)
+      → FoldsTo (asks step) f before now → AnswersAscend capacity before
+      → All (λ (a : Answered T). a.index < index) before → index < capacity
       → length before < capacity → pre now value
 
 -- a recovery asked these questions, at most one for each index, and none where the lock was seen
@@ -22,5 +34,6 @@ pub record HasAsked {F T : Type 0} (step : F → T → Bool → F → Type 0) (c
     (locked : Bool) (f last : F) : Type 0 where
   pub asked : List (Answered T)
   pub questions : FoldsTo (asks step) f asked last
+  pub ascend : AnswersAscend capacity asked
   pub few : length asked ≤ capacity
   pub nothing : locked ≡ true → asked ≡ []

@@ -1,13 +1,13 @@
-//! Values at indices that have owners, shared between threads. A state of a container shows what stood there when it was
-//! brought up to date. A container can be locked. The indices of an owner that is dead are recovered.
+//! Values at indices that have owners, shared between threads. A state of a container shows what stood there when it
+//! was brought up to date. A container can be locked. The indices of an owner that is dead are recovered.
 //!
 //! Each call but `capacity` and `is_state_of` is made with a pass of its container, which is the caller's concern. A pass
 //! tells whether the lock was seen: from then on the calls that are made with it find the container locked.
 //!
-//! Three things are the caller's concern besides, which no contract asks for: a handle is given back at most once, by its
-//! holder; no remove and no replace of a handle is begun while a replace of it is under way; and nobody acts for an owner
-//! once its recovery has begun. Where a caller breaks them each call still answers as its contract says, but a value can
-//! be torn, stay hidden, or be that of another.
+//! Three things are the caller's concern besides, which no contract asks for: a handle is given back at most once, by
+//! its holder; no remove and no replace of a handle is begun while a replace of it is under way; and nobody acts for an
+//! owner once its recovery has begun. Where a caller breaks them each call still answers as its contract says, but a
+//! value can be torn, stay hidden, or be that of another.
 use crate::container::rule::Board;
 use crate::container::token::Token;
 use std::alloc::Global;

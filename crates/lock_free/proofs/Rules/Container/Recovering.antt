@@ -1,7 +1,9 @@
 -- What the closure of a recovery on a container was asked so far.
 use Rattle.std.proofs.Common.{◌≡◌, ℕ, ◌+◌, ◌<◌, ◌≤◌, nat_lt, Bool, true, false, true≢false, List, [], ◌∷◌, ◌++◌, length, refl, sym, ap, ◌∙◌, subst, arith, if◌then◌else◌, length-append}
-use Rattle.std.specs.List.{FoldsTo}
+use Rattle.std.specs.List.{All, FoldsTo}
 use Rattle.std.proofs.lemmas.Fn.{FoldsTo-push}
+use Rattle.std.proofs.lemmas.List.Elements.{All-nil, All-push, All-weaker}
+use Rattle.std.proofs.lemmas.List.Quantifiers.{all_pairs_push}
 use Rattle.steps.specs.Picks.{by_test, by_eq}
 use Rattle.steps.specs.declared.ask.After.{After}
 use Rattle.steps.specs.declared.ask.After.TheVariants.{GoOn, Done}
@@ -18,15 +20,33 @@ use Rattle.steps.specs.Indices.Robust.Parts.{locked, raise_after, lock_after}
 use Rattle.steps.specs.Container.Layout.{is_even}
 use Rattle.steps.specs.Container.Recover.{goes_to, recover_comes_to, recover_sees, recover_ends, recover_raised, recover_locked, recover_raises, recover_takes}
 use Rattle.lock_free.specs.declared.robust.view.View.{View}
-use Rattle.lock_free.specs.Container.Questions.{Answered, asks, TakesValues, HasAsked}
+use Rattle.lock_free.specs.Container.Questions.{Answered, AnswersAscend, asks, TakesValues, HasAsked}
 use Rattle.lock_free.specs.Container.Recovery.{RecoverStage, RecoverStands, RecoverAsks, RecoverMoves, GoesQuietly}
 
 module _ {T F : Type 0} (step : F → T → Bool → F → Type 0) (cap : ℕ) (base : View) (f : F) where
-  -- the questions that led to p, at most so many
-  pub record Asked (most : ℕ) (p : F) : Type 0 where
+  abbrev Below : ℕ → List (Answered T) → Type 0
+  Below low xs = All (λ (a : Answered T). a.index < low) xs
+
+  -- the questions that led to p, at indices below this one
+  pub record Asked (low : ℕ) (p : F) : Type 0 where
     pub asked : List (Answered T)
     pub questions : FoldsTo (asks step) f asked p
-    pub few : length asked ≤ most
+    pub ascend : AnswersAscend cap asked
+    pub below : Below low asked
+    pub few : length asked ≤ low
+
+  no_answers : AnswersAscend {T = T} cap []
+  no_answers = ((λ i j d lt within. absurd (omega arith)), All-nil (λ (a : Answered T). a.index < cap))
+
+  none : (low : ℕ) (p : F) → p ≡ f → Asked low p
+  none low p e =
+      record {
+        asked = [];
+        questions = sym e;
+        ascend = no_answers;
+        below = All-nil (λ (a : Answered T). a.index < low);
+        few = omega arith;
+      }
 
   abbrev Whole : F → Type 0
   Whole p = HasAsked step cap base.locked f p
@@ -46,27 +66,41 @@ module _ {T F : Type 0} (step : F → T → Bool → F → Type 0) (cap : ℕ) (
   SoFar (recovers.TheVariants.AddsChange state) p = Whole p
 
   widen : (low high : ℕ) (p : F) → low ≤ high → Asked low p → Asked high p
-  widen low high p up h = record { asked = h.asked; questions = h.questions; few = (let l = h.few in omega arith) }
-
-  whole : (p : F) (most : ℕ) → most ≤ cap → base.locked ≡ false → Asked most p → Whole p
-  whole p most within free h =
+  widen low high p up h =
       record {
         asked = h.asked;
         questions = h.questions;
+        ascend = h.ascend;
+        below = All-weaker (λ (a : Answered T). a.index < low) (λ (a : Answered T). a.index < high) (λ a l. omega arith) h.asked h.below;
+        few = (let l = h.few in omega arith);
+      }
+
+  whole : (p : F) (low : ℕ) → low ≤ cap → base.locked ≡ false → Asked low p → Whole p
+  whole p low within free h =
+      record {
+        asked = h.asked;
+        questions = h.questions;
+        ascend = h.ascend;
         few = (let l = h.few in omega arith);
         nothing = λ t. absurd (true≢false (sym t ∙ free));
       }
 
   whole_none : (p : F) → p ≡ f → Whole p
-  whole_none p e = record { asked = []; questions = sym e; few = omega arith; nothing = λ t. refl }
+  whole_none p e = record { asked = []; questions = sym e; ascend = no_answers; few = omega arith; nothing = λ t. refl }
 
   -- one question more
-  more : (index : ℕ) (value : T) (answer : Bool) (p q : F) → step p value answer q → Asked index p → Asked (index + 1) q
-  more index value answer p q hit h =
-      let a : Answered T = record { value = value; yes = answer } in
+  more : (index : ℕ) (value : T) (answer : Bool) (p q : F) → index < cap → step p value answer q → Asked index p → Asked (index + 1) q
+  more index value answer p q within hit h =
+      let a : Answered T = record { index = index; value = value; yes = answer } in
       let longer = length-append h.asked (a ∷ []) in
       let l = h.few in
-      record { asked = h.asked ++ a ∷ []; questions = FoldsTo-push (asks step) f h.asked p a q h.questions hit; few = omega arith }
+      record {
+        asked = h.asked ++ a ∷ [];
+        questions = FoldsTo-push (asks step) f h.asked p a q h.questions hit;
+        ascend = (all_pairs_push (λ (x y : Answered T). x.index < y.index) h.asked a h.ascend.0 h.below, All-push (λ (x : Answered T). x.index < cap) h.asked a h.ascend.1 within);
+        below = All-push (λ (x : Answered T). x.index < index + 1) h.asked a (All-weaker (λ (x : Answered T). x.index < index) (λ (x : Answered T). x.index < index + 1) (λ x l. omega arith) h.asked h.below) (omega arith);
+        few = omega arith;
+      }
 
   -- the closure may be asked about any value
   pub may_ask : {pre : F → T → Type 0} (size : ℕ) → (base.locked ≡ false → TakesValues pre step cap f) → (v : View) → v.capacity ≡ cap → (stage : recovers.RecoverStage) → RecoverStage size base v stage → (p : F) → SoFar stage p → RecoverAsks pre stage p
@@ -75,7 +109,8 @@ module _ {T F : Type 0} (step : F → T → Bool → F → Type 0) (cap : ℕ) (
   may_ask size takes v same (recovers.TheVariants.LoadsCount index) at p so = tt
   may_ask size takes v same (recovers.TheVariants.LoadsWord index count place) at p so = tt
   may_ask size takes v same (recovers.TheVariants.ChecksCount index count) at p so = tt
-  may_ask size takes v same (recovers.TheVariants.Asks index count) at p so = λ value. (takes at.0.1).at so.asked p value so.questions (let l = so.few in let within = at.1 in omega arith)
+  may_ask size takes v same (recovers.TheVariants.Asks index count) at p so =
+      λ value. (takes at.0.1).at so.asked p index value so.questions so.ascend so.below (let within = at.1 in omega arith) (let l = so.few in let within = at.1 in omega arith)
   may_ask size takes v same (recovers.TheVariants.EmptiesCell index count) at p so = tt
   may_ask size takes v same (recovers.TheVariants.Hides index count) at p so = tt
   may_ask size takes v same (recovers.TheVariants.Raises index raise) at p so = tt
@@ -115,8 +150,8 @@ module _ {T F : Type 0} (step : F → T → Bool → F → Type 0) (cap : ℕ) (
         subst (Onward a) (sym m.0) (subst (λ z. Onward z p) (ap (λ z. recover_takes size c z given m.1.0) (sym is) ∙ sym m.1.1) (goes m.1.0))
 
     answered : (index count : ℕ) (value : T) (answer : Bool) (p q : F) → index < cap → step p value answer q → Asked index p → Onward (recover_takes size c (recovers.TheVariants.Asks index count) given (if answer then 1 else 0)) q
-    answered index count value true p q within hit h = more index value true p q hit h
-    answered index count value false p q within hit h = comes (index + 1) q (omega arith) (more index value false p q hit h)
+    answered index count value true p q within hit h = more index value true p q within hit h
+    answered index count value false p q within hit h = comes (index + 1) q (omega arith) (more index value false p q within hit h)
 
     module _ (v : View) (same : v.capacity ≡ cap) where
       by_stage : (stage : recovers.RecoverStage) → c.stage ≡ stage → RecoverStage size base v stage → (p q : F) (a : After (Recover T R) ReleaseState) → SoFar stage p → RecoverMoves step size c given stage p a q → Onward a q
@@ -124,7 +159,7 @@ module _ {T F : Type 0} (step : F → T → Bool → F → Type 0) (cap : ℕ) (
           quietly recovers.TheVariants.LoadsCounter is p q a
           (λ k. by_eq (λ z. Onward z p) k locked (recover_ends c Locked) (recover_comes_to c 0)
           (λ e. whole_none p so)
-          (λ ne. comes 0 p (omega arith) (record { asked = []; questions = sym so; few = omega arith }))) m
+          (λ ne. comes 0 p (omega arith) (none 0 p so))) m
       by_stage (recovers.TheVariants.LoadsCell index) is at p q a so m =
           quietly (recovers.TheVariants.LoadsCell index) is p q a
           (λ k. by_eq (λ z. Onward z p) k given.owner (goes_to c (recovers.TheVariants.LoadsCount index)) (recover_comes_to c (index + 1))

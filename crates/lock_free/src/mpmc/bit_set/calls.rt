@@ -123,11 +123,11 @@ impl BitSet {
     /// Resets the next place that stands, and answers it: a place below the capacity. None only where each place was
     /// clear at a moment of the call.
     ///
-    /// It looks from the reset position to the greatest place, and then from 0 on. The position is 0 at first, and a call
-    /// that resets a place stores the one after it, as its last step: where two calls overlap, the later store stands,
-    /// whichever place it is of. A call that answers None leaves the position. At most 3 + capacity steps, and 1 more for
-    /// each time that another call changed the word of a place between its load and its reset; one step in a set of no
-    /// place. After `reset_next` of the Rust crate.
+    /// It looks from the reset position to the greatest place, and then from 0 on. The position is 0 at first, and a
+    /// call that resets a place stores the one after it, as its last step: where two calls overlap, the later store
+    /// stands, whichever place it is of. A call that answers None leaves the position. At most 3 + capacity steps, and
+    /// 1 more for each time that another call changed the word of a place between its load and its reset; one step in a
+    /// set of no place. After `reset_next` of the Rust crate.
     pub fn reset_next(&self, rt: &impl Wait, pass: &mut Pass) -> Option<usize>
         requires { IsPassOf self.now pass.old }
         ensures set { set_of pass.new ≡ set_of pass.old }

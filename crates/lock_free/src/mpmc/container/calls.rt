@@ -59,11 +59,11 @@ impl<T: Words> Container<T> {
     /// have the index (no clause says so); then nothing has changed.
     ///
     /// In mode `Default` the answer is `Unlocked`, also where the container is locked. In mode `LockIfLastIndex` the
-    /// container is locked where no index has an owner by then, unless the generation counter is at its end, where nothing
-    /// locks any more; `Locked` says that it is locked, by this call or an earlier one, and leaves the lock seen. A pass
-    /// that has seen the lock gets no `Unlocked` in that mode. In mode
-    /// `Default` at most 6 atomic steps where nobody else steps in between, in mode `LockIfLastIndex` at most 9 more than
-    /// the capacity; else it may try again for as long as others step. After `remove` of the Rust crate.
+    /// container is locked where no index has an owner by then, unless the generation counter is at its end, where
+    /// nothing locks any more; `Locked` says that it is locked, by this call or an earlier one, and leaves the lock
+    /// seen. A pass that has seen the lock gets no `Unlocked` in that mode. In mode `Default` at most 6 atomic steps
+    /// where nobody else steps in between, in mode `LockIfLastIndex` at most 9 more than the capacity; else it may try
+    /// again for as long as others step. After `remove` of the Rust crate.
     pub fn remove(
         &self,
         rt: &impl Wait,

@@ -10,10 +10,10 @@ use steps::container::look::Look;
 use steps::words::Words;
 
 impl<T: Words> Container<T> {
-    /// A state that shows the values that stand in the container: each whole, as it stood when the call came to it (tests
-    /// say so, no clause does). It shows nothing while the number of changes is 0: so until the first add, replace,
-    /// remove or recovery has counted its change, which is its last step. `NoMemory` where a state has no memory; then
-    /// nothing was asked of the container.
+    /// A state that shows the values that stand in the container: each whole, as it stood when the call came to it
+    /// (tests say so, no clause does). It shows nothing while the number of changes is 0: so until the first add,
+    /// replace, remove or recovery has counted its change, which is its last step. `NoMemory` where a state has no
+    /// memory; then nothing was asked of the container.
     ///
     /// Two growths, and then at most 1 atomic step and for each index 2 + `T::WORDS` where nobody else steps in between;
     /// else it may try again for as long as others step. After `get_state` of the Rust crate.
@@ -32,18 +32,19 @@ impl<T: Words> Container<T> {
         Ok(state)
     }
 
-    /// Brings a state of this container up to date. False where no add, replace, remove or recovery has counted a change
-    /// since the state was brought up to date last (no clause says so); the state then stays as it is. True where one has,
-    /// also where all values are the same as before: the state then shows at each index what stood there when the call came
-    /// to it.
+    /// Brings a state of this container up to date. False where no add, replace, remove or recovery has counted a
+    /// change since the state was brought up to date last (no clause says so); the state then stays as it is. True
+    /// where one has, also where all values are the same as before: the state then shows at each index what stood there
+    /// when the call came to it.
     ///
-    /// The number of changes has 64 bits and wraps, as that of each value does: where it has come round to the one that the
-    /// state has seen the answer is false. A state of another container with the same number and capacity is taken for one
-    /// of this container, which no call can tell: at an index where both have counted as many changes it goes on to show
-    /// the value of the other. That containers have different numbers is the caller's concern.
+    /// The number of changes has 64 bits and wraps, as that of each value does: where it has come round to the one that
+    /// the state has seen the answer is false. A state of another container with the same number and capacity is taken
+    /// for one of this container, which no call can tell: at an index where both have counted as many changes it goes
+    /// on to show the value of the other. That containers have different numbers is the caller's concern.
     ///
-    /// It takes no memory. At most 1 atomic step and for each index 2 + `T::WORDS` where nobody else steps in between, 1
-    /// where the answer is false; else it may try again for as long as others step. After `update_state` of the Rust crate.
+    /// It takes no memory. At most 1 atomic step and for each index 2 + `T::WORDS` where nobody else steps in between,
+    /// 1 where the answer is false; else it may try again for as long as others step. After `update_state` of the Rust
+    /// crate.
     pub fn update_state(
         &self,
         rt: &impl Wait,

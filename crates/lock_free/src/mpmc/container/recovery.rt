@@ -119,16 +119,16 @@ impl<T: Words> Container<T> {
 
     /// Asks `predicate` about a copy of each value of `owner`, by ascending index, at most once for each, and frees the
     /// index where the answer is true and `owner` still has it. An index of `owner` without a value is freed without a
-    /// question. In mode `LockIfLastIndex` the container is locked where no index has an owner after one was freed, unless
-    /// the generation counter is at its end, where nothing locks any more. `Unlocked`, or `Locked` where the container is
-    /// locked, which leaves the lock seen.
+    /// question. In mode `LockIfLastIndex` the container is locked where no index has an owner after one was freed,
+    /// unless the generation counter is at its end, where nothing locks any more. `Unlocked`, or `Locked` where the
+    /// container is locked, which leaves the lock seen.
     ///
     /// Where the container is locked at the beginning `predicate` is not called: so where the pass has seen the lock. A
     /// recovery that meets the lock right after it has freed an index answers `Locked` at once, and comes to no further
-    /// index. Whatever it answers, it counts as a change for `update_state`. That `owner` is dead for good is the caller's
-    /// concern; nobody acts for it from then on. That only values of `owner` are asked about, that each of them which
-    /// stands through the whole call is, that each copy is whole, and what is freed, is tested. Where a remove stopped
-    /// before it hid the value, and `owner` was given the index, it is the value of an earlier owner.
+    /// index. Whatever it answers, it counts as a change for `update_state`. That `owner` is dead for good is the
+    /// caller's concern; nobody acts for it from then on. That only values of `owner` are asked about, that each of
+    /// them which stands through the whole call is, that each copy is whole, and what is freed, is tested. Where a
+    /// remove stopped before it hid the value, and `owner` was given the index, it is the value of an earlier owner.
     ///
     /// At most 3 atomic steps and for each index 7 + `T::WORDS` where nobody else steps in between, in mode
     /// `LockIfLastIndex` for each index that is freed as many more as the capacity and 3; else it may try again for as

@@ -98,16 +98,16 @@ impl<T: Words> Container<T> {
         }
     }
 
-    /// Comes to the indices of `owner`, ascending, each at most once and below the capacity, and calls `visit` with a copy
-    /// of the value that stands there and the handle that names it, until it says `Stop`: how many indices it came to, the
-    /// one on which it was told to stop among them. An index without a value, or whose value has changed while it was
-    /// copied, counts too, but `visit` is not called there. That it comes to each index that `owner` has through the whole
-    /// call, up to the one on which it is told to stop, and that a copy is whole, is tested.
+    /// Comes to the indices of `owner`, ascending, each at most once and below the capacity, and calls `visit` with a
+    /// copy of the value that stands there and the handle that names it, until it says `Stop`: how many indices it came
+    /// to, the one on which it was told to stop among them. An index without a value, or whose value has changed while
+    /// it was copied, counts too, but `visit` is not called there. That it comes to each index that `owner` has through
+    /// the whole call, up to the one on which it is told to stop, and that a copy is whole, is tested.
     ///
-    /// It finds also the indices whose add met the lock, since they keep their owner. Each value may have been removed by
-    /// the time that `visit` is called with it. Where a remove stopped before it hid the value, and the index was given to
-    /// `owner`, it is the value of an earlier owner. At most 3 + `T::WORDS` atomic steps for each index. It takes no memory.
-    /// After `find` of the Rust crate, which hands out a pointer to the value.
+    /// It finds also the indices whose add met the lock, since they keep their owner. Each value may have been removed
+    /// by the time that `visit` is called with it. Where a remove stopped before it hid the value, and the index was
+    /// given to `owner`, it is the value of an earlier owner. At most 3 + `T::WORDS` atomic steps for each index. It
+    /// takes no memory. After `find` of the Rust crate, which hands out a pointer to the value.
     pub fn find<F: FnMut(T, ContainerHandle) -> CallbackProgression>(
         &self,
         owner: OwnerId,

@@ -47,10 +47,10 @@ impl RobustUniqueIndexSet {
     ///
     /// In mode `Default` the answer is `Unlocked`, also where the set is locked. In mode `LockIfLastIndex` the set is
     /// locked where no index has an owner by then, unless the generation counter is at its end, where nothing locks any
-    /// more; `Locked` says that the set is locked, by this call or an earlier one, and leaves the lock seen. A pass that has
-    /// seen the lock gets no `Unlocked` in that mode. In mode `Default` 3 atomic steps where nobody else steps in between,
-    /// in mode `LockIfLastIndex` at most 6 more than the capacity; else it may try again for as long as others step. After
-    /// `release` of the Rust crate.
+    /// more; `Locked` says that the set is locked, by this call or an earlier one, and leaves the lock seen. A pass
+    /// that has seen the lock gets no `Unlocked` in that mode. In mode `Default` 3 atomic steps where nobody else steps
+    /// in between, in mode `LockIfLastIndex` at most 6 more than the capacity; else it may try again for as long as
+    /// others step. After `release` of the Rust crate.
     pub fn release(
         &self,
         rt: &impl Wait,

@@ -243,9 +243,9 @@ fn tell_where<S: FnMut(OwnerId, usize)>(
 }
 
 impl RobustUniqueIndexSet {
-    /// Comes to the indices of `owner`, ascending, each at most once and below the capacity, and calls `visit` with each,
-    /// until it says `Stop`: how many it came to, the one on which it was told to stop among them. That it comes to each
-    /// index that `owner` has through the whole call, up to the one on which it is told to stop, is tested.
+    /// Comes to the indices of `owner`, ascending, each at most once and below the capacity, and calls `visit` with
+    /// each, until it says `Stop`: how many it came to, the one on which it was told to stop among them. That it comes
+    /// to each index that `owner` has through the whole call, up to the one on which it is told to stop, is tested.
     ///
     /// It finds also the indices whose acquire met the lock, since they keep their owner. Each index may have been given
     /// back by the time that `visit` is called with it. At most as many atomic steps as the capacity. After `find` of the
@@ -268,11 +268,11 @@ impl RobustUniqueIndexSet {
         found
     }
 
-    /// Asks `predicate` about each index that has an owner, ascending, each at most once and below the capacity, and frees
-    /// the index where the answer is true and that owner still has it. Then it tells `recover_success` of the owner and the
-    /// index: only of such about which `predicate` said true, ascending too. In mode `LockIfLastIndex` the set is locked
-    /// where no index has an owner after one was freed, unless the generation counter is at its end, where nothing locks
-    /// any more. `Unlocked`, or `Locked` where the set is locked, which leaves the lock seen.
+    /// Asks `predicate` about each index that has an owner, ascending, each at most once and below the capacity, and
+    /// frees the index where the answer is true and that owner still has it. Then it tells `recover_success` of the
+    /// owner and the index: only of such about which `predicate` said true, ascending too. In mode `LockIfLastIndex`
+    /// the set is locked where no index has an owner after one was freed, unless the generation counter is at its end,
+    /// where nothing locks any more. `Unlocked`, or `Locked` where the set is locked, which leaves the lock seen.
     ///
     /// Where the set is locked at the beginning neither closure is called: so where the pass has seen the lock. A recovery
     /// that meets the lock right after it has freed an index, and told of it, answers `Locked` at once, and comes to no

@@ -15,8 +15,8 @@ impl<E: Exact, T: Words> Ring<E, T, RingRule<E, T>> {
     /// at its place or lies before it, and each that it knows to be taken lies before it. Who has the whole right knows
     /// that just what was published and not taken waits. Other passes may still live.
     ///
-    /// Refused is memory (`NoMemory`), and the queue is gone then too. 2 + `T::WORDS` times the capacity atomic steps.
-    /// This project's own.
+    /// Refused is memory (`NoMemory`), for which it asks before the first atomic step; the queue and the pass are gone
+    /// then too. Else one growth, and 2 + `T::WORDS` times the capacity atomic steps. This project's own.
     pub fn close(self, pass: Pass<E, T>) -> Result<Queue<T>, UniqueIndexCreationError>
         requires { IsPassOf self pass }
         ensures list { IfOk result (λ q. Closes (view pass) q) }
@@ -32,7 +32,8 @@ impl<E: Exact, T: Words> Ring<E, T, RingRule<E, T>> {
 }
 
 impl<E: Exact, T: Words, const CAPACITY: usize> FixedSize<E, T, RingRule<E, T>, CAPACITY> {
-    /// `close` of the queue that it has. This project's own.
+    /// The queue of one caller that the queue which it has is in the end: as `close` of that says, with the same
+    /// memory, refusal and atomic steps. This project's own.
     pub fn close(self, pass: Pass<E, T>) -> Result<Queue<T>, UniqueIndexCreationError>
         requires { IsPassOf (ring_of self) pass }
         ensures list { IfOk result (λ q. Closes (view pass) q) }
@@ -44,8 +45,13 @@ impl<E: Exact, T: Words, const CAPACITY: usize> FixedSize<E, T, RingRule<E, T>, 
 }
 
 impl Ring<Overflowing, u64, RingRule<Overflowing, u64>> {
-    /// The queue of one caller that this one is in the end, as `close` of an index queue says it. Refused is memory
-    /// (`NoMemory`), and the queue is gone then too. 3 atomic steps and one a place. This project's own.
+    /// The queue of one caller that this one is in the end. Each number that the pass knows to be published waits in it
+    /// at its place or lies before it, and each that it knows to be taken lies before it. Who has the whole right knows
+    /// that just what was published and not taken waits. Other passes may still live. At most the capacity waits: where
+    /// one number more was published, the oldest is left out; who has the whole right knows that none was.
+    ///
+    /// Refused is memory (`NoMemory`), for which it asks before the first atomic step; the queue and the pass are gone
+    /// then too. Else one growth, and 3 atomic steps more than the capacity. This project's own.
     pub fn close(
         self,
         pass: Pass<Overflowing, u64>,
@@ -64,7 +70,8 @@ impl Ring<Overflowing, u64, RingRule<Overflowing, u64>> {
 }
 
 impl<const CAPACITY: usize> FixedSize<Overflowing, u64, RingRule<Overflowing, u64>, CAPACITY> {
-    /// `close` of the queue that it has. This project's own.
+    /// The queue of one caller that the queue which it has is in the end: as `close` of that says, with the same
+    /// memory, refusal and atomic steps. This project's own.
     pub fn close(
         self,
         pass: Pass<Overflowing, u64>,
