@@ -2,11 +2,14 @@
 ghost use Rattle.std.specs.Prelude.{◌≡◌};
 ghost use Rattle.lock_free.specs.Counts.Calls.{IsPassOf};
 
-use crate::drawn::{Answer, Answers, CALLS, Call, Draws, Heard, SEED, compare};
+use crate::drawn::{Answer, Answers, Call, Draws, End, Heard, Pair, SEED, compare_parts};
 use lock_free::mpmc::counting_bit_set::{CountingBitSet, FixedSizeCountingBitSet, Pass};
 use std::process::Abort;
 use std::sync::Wait;
 use std::test::Fail;
+
+/// How often one place is counted.
+const OFTEN: usize = 100_000;
 
 /// A call on a counting bit set.
 #[derive(Clone, Copy)]
@@ -27,6 +30,26 @@ impl Call for CountCall {
         }
     }
 
+    /// It is counted once and taken out; at last the middle one is counted very often.
+    fn each(at: usize, capacity: usize) -> Option<CountCall> {
+        let place = at / 2;
+        if place < capacity {
+            return Some(if at % 2 == 0 {
+                CountCall::Set(place)
+            } else {
+                CountCall::All
+            });
+        }
+        let count = at.wrapping_sub(capacity.wrapping_mul(2));
+        if count < OFTEN {
+            Some(CountCall::Set(capacity / 2))
+        } else if count == OFTEN {
+            Some(CountCall::All)
+        } else {
+            None
+        }
+    }
+
     fn last(at: usize, _capacity: usize) -> Option<CountCall> {
         if at < 2 { Some(CountCall::All) } else { None }
     }
@@ -34,13 +57,13 @@ impl Call for CountCall {
 
 /// What an emptying hands out.
 #[tactic(auto, using(plain::proofs::Visits::takes_any))]
-fn empties(set: &mut plain::CountingBitSet) -> Heard {
+fn empties(set: &mut plain::CountingBitSet) -> Answer {
     let mut heard = Heard::new();
     set.reset_all(|state| {
         heard.hear(state.bit() as u64);
         heard.hear(state.count());
     });
-    heard
+    Answer::of(End::Nothing).and(heard)
 }
 
 impl Answers<CountCall> for plain::CountingBitSet {
@@ -48,12 +71,12 @@ impl Answers<CountCall> for plain::CountingBitSet {
         match call {
             CountCall::Set(place) => {
                 if place < self.capacity() {
-                    Answer::Number(self.set(place))
+                    Answer::number(self.set(place))
                 } else {
-                    Answer::Nothing
+                    Answer::refused()
                 }
             }
-            CountCall::All => Answer::Heard(empties(self)),
+            CountCall::All => empties(self),
         }
     }
 }
@@ -66,32 +89,38 @@ struct User<'a> {
     ghost of: { IsPassOf set.now pass },
 }
 
+impl<'a> User<'a> {
+    fn counts(&mut self, place: usize) -> Answer {
+        if place < self.set.capacity() {
+            Answer::number(self.set.set(place, &mut self.pass))
+        } else {
+            Answer::refused()
+        }
+    }
+
+    fn empties(&mut self) -> Answer {
+        let mut heard = Heard::new();
+        self.set.reset_all(
+            |state| {
+                heard.hear(state.bit() as u64);
+                heard.hear(state.count());
+            },
+            &mut self.pass,
+        );
+        Answer::of(End::Nothing).and(heard)
+    }
+}
+
 impl<'a> Answers<CountCall> for User<'a> {
     fn answer(&mut self, _rt: &impl Wait, call: CountCall) -> Answer {
         match call {
-            CountCall::Set(place) => {
-                if place < self.set.capacity() {
-                    Answer::Number(self.set.set(place, &mut self.pass))
-                } else {
-                    Answer::Nothing
-                }
-            }
-            CountCall::All => {
-                let mut heard = Heard::new();
-                self.set.reset_all(
-                    |state| {
-                        heard.hear(state.bit() as u64);
-                        heard.hear(state.count());
-                    },
-                    &mut self.pass,
-                );
-                Answer::Heard(heard)
-            }
+            CountCall::Set(place) => self.counts(place),
+            CountCall::All => self.empties(),
         }
     }
 }
 
-/// Makes drawn calls on a set of one caller and on one of threads.
+/// Makes the calls on a set of one caller and on one of threads.
 fn plays<R: Abort + Wait>(
     rt: &R,
     name: &str,
@@ -105,15 +134,8 @@ fn plays<R: Abort + Wait>(
     let mut user = User { set, pass };
     let mut draws = Draws::new(SEED);
     let capacity = set.capacity();
-    compare::<CountCall, _, _, R>(
-        rt,
-        name,
-        capacity,
-        &mut draws,
-        0..CALLS,
-        &mut alone,
-        &mut user,
-    );
+    let pair = Pair { name, capacity };
+    compare_parts::<CountCall, _, _, R>(rt, pair, &mut draws, 0, &mut alone, &mut user);
 }
 
 #[test]

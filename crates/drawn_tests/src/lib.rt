@@ -1,6 +1,9 @@
-//! Drawn calls: each container of one caller against the threads' one, which one thread drives.
+//! Drawn calls: each container of one caller against the threads' one, which one thread drives. (`rt try --test` needs
+//! `--seconds 600`, for 5,000 indices.)
 #![tactic(auto)]
 
+#[cfg(test)]
+mod contained;
 #[cfg(test)]
 mod counted;
 #[cfg(test)]

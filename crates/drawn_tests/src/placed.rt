@@ -2,7 +2,7 @@
 ghost use Rattle.std.specs.Prelude.{◌≡◌};
 ghost use Rattle.lock_free.specs.Bits.Calls.{IsPassOf};
 
-use crate::drawn::{Answer, Answers, CALLS, Call, Draws, Heard, SEED, compare};
+use crate::drawn::{Answer, Answers, Call, Draws, End, Heard, Pair, SEED, compare_parts};
 use lock_free::mpmc::bit_set::{BitSet, FixedSizeBitSet, Pass};
 use std::process::Abort;
 use std::sync::Wait;
@@ -27,6 +27,19 @@ impl Call for BitCall {
         }
     }
 
+    /// It is set and taken out, as the next one and with all.
+    fn each(at: usize, capacity: usize) -> Option<BitCall> {
+        let place = at / 4;
+        if place >= capacity {
+            return None;
+        }
+        Some(match at % 4 {
+            1 => BitCall::Next,
+            3 => BitCall::All,
+            _ => BitCall::Set(place),
+        })
+    }
+
     fn last(at: usize, _capacity: usize) -> Option<BitCall> {
         match at {
             0 => Some(BitCall::Next),
@@ -37,12 +50,19 @@ impl Call for BitCall {
     }
 }
 
+fn perhaps(place: Option<usize>) -> Answer {
+    match place {
+        Some(place) => Answer::number(place as u64),
+        None => Answer::of(End::Nothing),
+    }
+}
+
 /// What an emptying hands out.
 #[tactic(auto, using(plain::proofs::Visits::takes_any))]
-fn empties(set: &mut plain::BitSet) -> Heard {
+fn empties(set: &mut plain::BitSet) -> Answer {
     let mut heard = Heard::new();
     set.reset_all(|place| heard.hear(place as u64));
-    heard
+    Answer::of(End::Nothing).and(heard)
 }
 
 impl Answers<BitCall> for plain::BitSet {
@@ -50,16 +70,13 @@ impl Answers<BitCall> for plain::BitSet {
         match call {
             BitCall::Set(place) => {
                 if place < self.capacity() {
-                    Answer::Yes(self.set(place))
+                    Answer::yes(self.set(place))
                 } else {
-                    Answer::Nothing
+                    Answer::refused()
                 }
             }
-            BitCall::Next => match self.reset_next() {
-                Some(place) => Answer::Perhaps(Some(place as u64)),
-                None => Answer::Perhaps(None),
-            },
-            BitCall::All => Answer::Heard(empties(self)),
+            BitCall::Next => perhaps(self.reset_next()),
+            BitCall::All => empties(self),
         }
     }
 }
@@ -72,31 +89,38 @@ struct User<'a> {
     ghost of: { IsPassOf set.now pass },
 }
 
+impl<'a> User<'a> {
+    fn sets(&mut self, rt: &impl Wait, place: usize) -> Answer {
+        if place < self.set.capacity() {
+            Answer::yes(self.set.set(rt, place, &mut self.pass))
+        } else {
+            Answer::refused()
+        }
+    }
+
+    fn resets(&mut self, rt: &impl Wait) -> Answer {
+        perhaps(self.set.reset_next(rt, &mut self.pass))
+    }
+
+    fn empties(&mut self) -> Answer {
+        let mut heard = Heard::new();
+        self.set
+            .reset_all(|place| heard.hear(place as u64), &mut self.pass);
+        Answer::of(End::Nothing).and(heard)
+    }
+}
+
 impl<'a> Answers<BitCall> for User<'a> {
     fn answer(&mut self, rt: &impl Wait, call: BitCall) -> Answer {
         match call {
-            BitCall::Set(place) => {
-                if place < self.set.capacity() {
-                    Answer::Yes(self.set.set(rt, place, &mut self.pass))
-                } else {
-                    Answer::Nothing
-                }
-            }
-            BitCall::Next => match self.set.reset_next(rt, &mut self.pass) {
-                Some(place) => Answer::Perhaps(Some(place as u64)),
-                None => Answer::Perhaps(None),
-            },
-            BitCall::All => {
-                let mut heard = Heard::new();
-                self.set
-                    .reset_all(|place| heard.hear(place as u64), &mut self.pass);
-                Answer::Heard(heard)
-            }
+            BitCall::Set(place) => self.sets(rt, place),
+            BitCall::Next => self.resets(rt),
+            BitCall::All => self.empties(),
         }
     }
 }
 
-/// Makes drawn calls on a set of one caller and on one of threads.
+/// Makes the calls on a set of one caller and on one of threads.
 fn plays<R: Abort + Wait>(rt: &R, name: &str, alone: plain::BitSet, set: &BitSet, pass: Pass)
     requires { IsPassOf set.now pass }
 {
@@ -104,15 +128,8 @@ fn plays<R: Abort + Wait>(rt: &R, name: &str, alone: plain::BitSet, set: &BitSet
     let mut user = User { set, pass };
     let mut draws = Draws::new(SEED);
     let capacity = set.capacity();
-    compare::<BitCall, _, _, R>(
-        rt,
-        name,
-        capacity,
-        &mut draws,
-        0..CALLS,
-        &mut alone,
-        &mut user,
-    );
+    let pair = Pair { name, capacity };
+    compare_parts::<BitCall, _, _, R>(rt, pair, &mut draws, 0, &mut alone, &mut user);
 }
 
 #[test]

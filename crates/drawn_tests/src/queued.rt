@@ -1,9 +1,9 @@
 //! Queues: drawn calls.
 ghost use Rattle.std.specs.Prelude.{◌≡◌};
 ghost use Rattle.std.specs.Option.{ForSome};
-ghost use Rattle.lock_free.specs.Ends.{queue_id, IsPassOf, producer_queue, consumer_queue};
+ghost use Rattle.lock_free.specs.Ends.{queue_id, ring_of, IsPassOf, producer_queue, consumer_queue};
 
-use crate::drawn::{Answer, Answers, CALLS, Call, Draws, SEED, compare};
+use crate::drawn::{Answer, Answers, CALLS, Call, Draws, Pair, Part, SEED, compare};
 use crate::wide::{Drawn, Greatest, Sixteen, Three, digest};
 use lock_free::spsc::index_queue::{FixedSizeIndexQueue, IndexQueue};
 use lock_free::spsc::queue::Queue;
@@ -50,6 +50,10 @@ impl Call for QueueCall {
         }
     }
 
+    fn each(_at: usize, _capacity: usize) -> Option<QueueCall> {
+        None
+    }
+
     fn last(at: usize, capacity: usize) -> Option<QueueCall> {
         if at == 0 {
             Some(QueueCall::Len)
@@ -64,13 +68,13 @@ impl Call for QueueCall {
 impl<T: Words + Drawn> Answers<QueueCall> for plain::Queue<T> {
     fn answer(&mut self, _rt: &impl Wait, call: QueueCall) -> Answer {
         match call {
-            QueueCall::Push(number) => Answer::Yes(self.push(T::drawn(number))),
-            QueueCall::Pop => Answer::Perhaps(self.pop().map(|value| digest(value))),
-            QueueCall::Len => Answer::Number(self.len() as u64),
-            QueueCall::IsEmpty => Answer::Yes(self.is_empty()),
-            QueueCall::IsFull => Answer::Yes(self.is_full()),
-            QueueCall::Produces(_) => Answer::Yes(true),
-            QueueCall::Consumes(_) => Answer::Yes(true),
+            QueueCall::Push(number) => Answer::yes(self.push(T::drawn(number))),
+            QueueCall::Pop => Answer::perhaps(self.pop().map(|value| digest(value))),
+            QueueCall::Len => Answer::number(self.len() as u64),
+            QueueCall::IsEmpty => Answer::yes(self.is_empty()),
+            QueueCall::IsFull => Answer::yes(self.is_full()),
+            QueueCall::Produces(_) => Answer::yes(true),
+            QueueCall::Consumes(_) => Answer::yes(true),
         }
     }
 }
@@ -78,13 +82,13 @@ impl<T: Words + Drawn> Answers<QueueCall> for plain::Queue<T> {
 impl Answers<QueueCall> for plain::SafelyOverflowingIndexQueue {
     fn answer(&mut self, _rt: &impl Wait, call: QueueCall) -> Answer {
         match call {
-            QueueCall::Push(number) => Answer::Perhaps(self.push(number)),
-            QueueCall::Pop => Answer::Perhaps(self.pop()),
-            QueueCall::Len => Answer::Number(self.len() as u64),
-            QueueCall::IsEmpty => Answer::Yes(self.is_empty()),
-            QueueCall::IsFull => Answer::Yes(self.is_full()),
-            QueueCall::Produces(_) => Answer::Yes(true),
-            QueueCall::Consumes(_) => Answer::Yes(true),
+            QueueCall::Push(number) => Answer::perhaps(self.push(number)),
+            QueueCall::Pop => Answer::perhaps(self.pop()),
+            QueueCall::Len => Answer::number(self.len() as u64),
+            QueueCall::IsEmpty => Answer::yes(self.is_empty()),
+            QueueCall::IsFull => Answer::yes(self.is_full()),
+            QueueCall::Produces(_) => Answer::yes(true),
+            QueueCall::Consumes(_) => Answer::yes(true),
         }
     }
 }
@@ -100,31 +104,31 @@ trait Kind<T: Words>: Spare + Sized {
 
 impl Kind<u64> for Numbers {
     fn push(producer: &mut Producer<'_, Numbers, u64>, number: u64) -> Answer {
-        Answer::Yes(producer.push(number))
+        Answer::yes(producer.push(number))
     }
 
     fn pop(_rt: &impl Wait, consumer: &mut Consumer<'_, Numbers, u64>) -> Answer {
-        Answer::Perhaps(consumer.pop())
+        Answer::perhaps(consumer.pop())
     }
 }
 
 impl<T: Words + Drawn> Kind<T> for Values {
     fn push(producer: &mut Producer<'_, Values, T>, number: u64) -> Answer {
-        Answer::Yes(producer.push(&T::drawn(number)))
+        Answer::yes(producer.push(&T::drawn(number)))
     }
 
     fn pop(_rt: &impl Wait, consumer: &mut Consumer<'_, Values, T>) -> Answer {
-        Answer::Perhaps(consumer.pop().map(|value| digest(value)))
+        Answer::perhaps(consumer.pop().map(|value| digest(value)))
     }
 }
 
 impl Kind<u64> for Overflowing {
     fn push(producer: &mut Producer<'_, Overflowing, u64>, number: u64) -> Answer {
-        Answer::Perhaps(producer.push(number))
+        Answer::perhaps(producer.push(number))
     }
 
     fn pop(rt: &impl Wait, consumer: &mut Consumer<'_, Overflowing, u64>) -> Answer {
-        Answer::Perhaps(consumer.pop(rt))
+        Answer::perhaps(consumer.pop(rt))
     }
 }
 
@@ -155,8 +159,34 @@ impl<'a, E: Kind<T>, T: Words> User<'a, E, T> {
         user
     }
 
-    /// Gives the producer's role back, by its drop or with its pass, and takes it again.
-    fn produces(&mut self, drops: bool) -> bool {
+    fn pushes(&mut self, number: u64) -> Answer {
+        match &mut self.producer {
+            Some(producer) => E::push(producer, number),
+            None => Answer::refused(),
+        }
+    }
+
+    fn pops(&mut self, rt: &impl Wait) -> Answer {
+        match &mut self.consumer {
+            Some(consumer) => E::pop(rt, consumer),
+            None => Answer::refused(),
+        }
+    }
+
+    fn number(&mut self, rt: &impl Wait) -> Answer {
+        Answer::number(self.queue.len(rt, &mut self.pass) as u64)
+    }
+
+    fn is_empty(&mut self, rt: &impl Wait) -> Answer {
+        Answer::yes(self.queue.is_empty(rt, &mut self.pass))
+    }
+
+    fn is_full(&mut self, rt: &impl Wait) -> Answer {
+        Answer::yes(self.queue.is_full(rt, &mut self.pass))
+    }
+
+    /// Gives the producer's role back, by its drop or with its pass.
+    fn leaves_producer(&mut self, drops: bool) {
         match self.producer.take() {
             Some(producer) => {
                 if drops {
@@ -167,6 +197,24 @@ impl<'a, E: Kind<T>, T: Words> User<'a, E, T> {
             }
             None => {}
         }
+    }
+
+    /// The same of the consumer.
+    fn leaves_consumer(&mut self, drops: bool) {
+        match self.consumer.take() {
+            Some(consumer) => {
+                if drops {
+                    drop(consumer);
+                } else {
+                    self.pass.join(consumer.release());
+                }
+            }
+            None => {}
+        }
+    }
+
+    /// Takes the producer's role: whether it was free.
+    fn takes_producer(&mut self) -> bool {
         let Some(pass) = self.pass.split() else {
             return false;
         };
@@ -180,17 +228,7 @@ impl<'a, E: Kind<T>, T: Words> User<'a, E, T> {
     }
 
     /// The same of the consumer.
-    fn consumes(&mut self, drops: bool) -> bool {
-        match self.consumer.take() {
-            Some(consumer) => {
-                if drops {
-                    drop(consumer);
-                } else {
-                    self.pass.join(consumer.release());
-                }
-            }
-            None => {}
-        }
+    fn takes_consumer(&mut self) -> bool {
         let Some(pass) = self.pass.split() else {
             return false;
         };
@@ -202,113 +240,210 @@ impl<'a, E: Kind<T>, T: Words> User<'a, E, T> {
             Err(_) => false,
         }
     }
+
+    /// Gives the producer's role back and takes it again.
+    fn produces(&mut self, drops: bool) -> bool {
+        self.leaves_producer(drops);
+        self.takes_producer()
+    }
+
+    /// The same of the consumer.
+    fn consumes(&mut self, drops: bool) -> bool {
+        self.leaves_consumer(drops);
+        self.takes_consumer()
+    }
 }
 
 impl<'a, E: Kind<T>, T: Words> Answers<QueueCall> for User<'a, E, T> {
     fn answer(&mut self, rt: &impl Wait, call: QueueCall) -> Answer {
         match call {
-            QueueCall::Push(number) => match &mut self.producer {
-                Some(producer) => E::push(producer, number),
-                None => Answer::Nothing,
-            },
-            QueueCall::Pop => match &mut self.consumer {
-                Some(consumer) => E::pop(rt, consumer),
-                None => Answer::Nothing,
-            },
-            QueueCall::Len => Answer::Number(self.queue.len(rt, &mut self.pass) as u64),
-            QueueCall::IsEmpty => Answer::Yes(self.queue.is_empty(rt, &mut self.pass)),
-            QueueCall::IsFull => Answer::Yes(self.queue.is_full(rt, &mut self.pass)),
-            QueueCall::Produces(drops) => Answer::Yes(self.produces(drops)),
-            QueueCall::Consumes(drops) => Answer::Yes(self.consumes(drops)),
+            QueueCall::Push(number) => self.pushes(number),
+            QueueCall::Pop => self.pops(rt),
+            QueueCall::Len => self.number(rt),
+            QueueCall::IsEmpty => self.is_empty(rt),
+            QueueCall::IsFull => self.is_full(rt),
+            QueueCall::Produces(drops) => Answer::yes(self.produces(drops)),
+            QueueCall::Consumes(drops) => Answer::yes(self.consumes(drops)),
         }
     }
 }
 
-/// Makes drawn calls on a queue of one caller and on one of threads.
-fn plays<E: Kind<T>, T: Words, P: Answers<QueueCall> + Drop, R: Abort + Wait>(
+/// Makes the drawn calls on both, and then fewer, which fill both.
+fn fills<P: Answers<QueueCall>, Q: Answers<QueueCall>, R: Abort + Wait>(
     rt: &R,
-    name: &str,
-    alone: P,
+    pair: Pair<'_>,
+    alone: &mut P,
+    shared: &mut Q,
+) {
+    let mut draws = Draws::new(SEED);
+    let part = Part::Drawn;
+    compare::<QueueCall, _, _, R>(rt, pair, &mut draws, part, 0..CALLS, alone, shared);
+    let calls = 0..(pair.capacity as u64).wrapping_add(8);
+    compare::<QueueCall, _, _, R>(rt, pair, &mut draws, part, calls, alone, shared);
+}
+
+/// Makes them on a queue of one caller and on one of threads. The pass is for the end.
+fn plays<E: Kind<T>, T: Words, P: Answers<QueueCall>, R: Abort + Wait>(
+    rt: &R,
+    pair: Pair<'_>,
+    alone: &mut P,
     queue: &Ring<E, T, RingRule<E, T>>,
     pass: Pass<E, T>,
-)
+) -> Pass<E, T>
     requires { IsPassOf queue.now pass }
+    ensures { IsPassOf queue.now result }
 {
-    let mut alone = alone;
+    let mut pass = pass;
+    let Some(last) = pass.split() else {
+        panic!(rt; "no further pass");
+    };
     let mut user = User::new(queue, pass);
+    fills(rt, pair, alone, &mut user);
+    last
+}
+
+/// Compares what waits in a queue of one caller and in one that was closed.
+fn ends<P: Answers<QueueCall>, Q: Answers<QueueCall>, R: Abort + Wait>(
+    rt: &R,
+    pair: Pair<'_>,
+    alone: &mut P,
+    closed: &mut Q,
+) {
     let mut draws = Draws::new(SEED);
-    let capacity = queue.capacity();
-    compare::<QueueCall, _, _, R>(
-        rt,
-        name,
-        capacity,
-        &mut draws,
-        0..CALLS,
-        &mut alone,
-        &mut user,
-    );
+    compare::<QueueCall, _, _, R>(rt, pair, &mut draws, Part::Last, 0..u64::MAX, alone, closed);
+}
+
+/// Index queues from this position on.
+fn of_numbers(
+    rt: &(impl Abort + Wait),
+    alloc: Global,
+    pair: Pair<'_>,
+    position: u64,
+) -> Result<(), UniqueIndexCreationError> {
+    let mut alone = plain::IndexQueue::new_at(alloc, pair.capacity, position)?;
+    let (queue, pass) = IndexQueue::new_at(alloc, pair.capacity, position)?;
+    let last = plays(rt, pair, &mut alone, &queue, pass);
+    let mut closed = queue.close(last)?;
+    ends(rt, pair, &mut alone, &mut closed);
+    Ok(())
+}
+
+/// Overflowing queues from this position on.
+fn of_overflow(
+    rt: &(impl Abort + Wait),
+    alloc: Global,
+    pair: Pair<'_>,
+    position: u64,
+) -> Result<(), UniqueIndexCreationError> {
+    let mut alone = plain::SafelyOverflowingIndexQueue::new_at(alloc, pair.capacity, position)?;
+    let (queue, pass) = SafelyOverflowingIndexQueue::new_at(alloc, pair.capacity, position)?;
+    let last = plays(rt, pair, &mut alone, &queue, pass);
+    let mut closed = queue.close(last)?;
+    ends(rt, pair, &mut alone, &mut closed);
+    Ok(())
+}
+
+/// Queues of a fixed capacity.
+fn of_fixed_numbers(
+    rt: &(impl Abort + Wait),
+    alloc: Global,
+    pair: Pair<'_>,
+) -> Result<(), UniqueIndexCreationError> {
+    let mut alone = plain::IndexQueue::new(alloc, 5)?;
+    let (queue, pass) = FixedSizeIndexQueue::<5>::new(alloc)?;
+    let last = plays(rt, pair, &mut alone, &queue, pass);
+    let mut closed = queue.close(last)?;
+    ends(rt, pair, &mut alone, &mut closed);
+    Ok(())
+}
+
+fn of_fixed_overflow(
+    rt: &(impl Abort + Wait),
+    alloc: Global,
+    pair: Pair<'_>,
+) -> Result<(), UniqueIndexCreationError> {
+    let mut alone = plain::SafelyOverflowingIndexQueue::new(alloc, 5)?;
+    let (queue, pass) = FixedSizeSafelyOverflowingIndexQueue::<5>::new(alloc)?;
+    let last = plays(rt, pair, &mut alone, &queue, pass);
+    let mut closed = queue.close(last)?;
+    ends(rt, pair, &mut alone, &mut closed);
+    Ok(())
+}
+
+fn pair_of(name: &str, capacity: usize) -> Pair<'_> {
+    Pair { name, capacity }
 }
 
 #[test]
 fn drawn_queues(rt: HostRuntime) -> Result<(), Fail> {
     for capacity in [0, 1, 2, 3, 5, 63, 64, 65, 130, 1000, 5000] {
-        let alone = plain::IndexQueue::new(rt.alloc(), capacity)?;
-        let (queue, pass) = IndexQueue::new(rt.alloc(), capacity)?;
-        plays(&rt, "index queue", alone, &queue, pass);
-        let alone = plain::SafelyOverflowingIndexQueue::new(rt.alloc(), capacity)?;
-        let (queue, pass) = SafelyOverflowingIndexQueue::new(rt.alloc(), capacity)?;
-        plays(&rt, "overflowing queue", alone, &queue, pass);
+        of_numbers(&rt, rt.alloc(), pair_of("index queue", capacity), 0)?;
+        of_overflow(&rt, rt.alloc(), pair_of("overflowing queue", capacity), 0)?;
     }
-    let alone = plain::IndexQueue::new(rt.alloc(), 5)?;
-    let (queue, pass) = FixedSizeIndexQueue::<5>::new(rt.alloc())?;
-    plays(&rt, "index queue of a fixed size", alone, &queue, pass);
-    let alone = plain::SafelyOverflowingIndexQueue::new(rt.alloc(), 5)?;
-    let (queue, pass) = FixedSizeSafelyOverflowingIndexQueue::<5>::new(rt.alloc())?;
-    plays(
-        &rt,
-        "overflowing queue of a fixed size",
-        alone,
-        &queue,
-        pass,
-    );
+    of_fixed_numbers(&rt, rt.alloc(), pair_of("fixed index queue", 5))?;
+    of_fixed_overflow(&rt, rt.alloc(), pair_of("fixed overflowing queue", 5))?;
     Ok(())
 }
 
 /// The positions come to their end on the way.
 #[test]
 fn drawn_to_the_last_position(rt: HostRuntime) -> Result<(), Fail> {
-    let position = u64::MAX - 500;
     for capacity in [1, 5, 1000] {
-        let alone = plain::IndexQueue::new_at(rt.alloc(), capacity, position)?;
-        let (queue, pass) = IndexQueue::new_at(rt.alloc(), capacity, position)?;
-        plays(&rt, "index queue at the end", alone, &queue, pass);
-        let alone = plain::SafelyOverflowingIndexQueue::new_at(rt.alloc(), capacity, position)?;
-        let (queue, pass) = SafelyOverflowingIndexQueue::new_at(rt.alloc(), capacity, position)?;
-        plays(&rt, "overflowing queue at the end", alone, &queue, pass);
+        of_numbers(
+            &rt,
+            rt.alloc(),
+            pair_of("index queue", capacity),
+            u64::MAX - 500,
+        )?;
+        of_overflow(
+            &rt,
+            rt.alloc(),
+            pair_of("overflowing queue", capacity),
+            u64::MAX - 500,
+        )?;
     }
     Ok(())
 }
 
-/// Makes them on queues of values of this type.
+/// Closes a queue, and compares what waits.
+fn closes<T: Words + Drawn, const CAPACITY: usize>(
+    rt: &(impl Abort + Wait),
+    pair: Pair<'_>,
+    alone: &mut plain::Queue<T>,
+    queue: Queue<T, CAPACITY>,
+    last: Pass<Values, T>,
+) -> Result<(), UniqueIndexCreationError>
+    requires { IsPassOf (ring_of queue) last }
+{
+    let mut closed = queue.close(last)?;
+    ends(rt, pair, alone, &mut closed);
+    Ok(())
+}
+
+/// Queues of values of this type.
 fn of_values<T: Words + Drawn, const CAPACITY: usize>(
     rt: &(impl Abort + Wait),
     alloc: Global,
     name: &str,
 ) -> Result<(), UniqueIndexCreationError> {
-    let alone = plain::Queue::<T>::new(alloc, CAPACITY)?;
+    let pair = pair_of(name, CAPACITY);
+    let mut alone = plain::Queue::<T>::new(alloc, CAPACITY)?;
     let (queue, pass) = Queue::<T, CAPACITY>::new(alloc)?;
-    plays(rt, name, alone, &queue, pass);
-    Ok(())
+    let last = plays(rt, pair, &mut alone, &queue, pass);
+    closes(rt, pair, &mut alone, queue, last)
 }
 
 #[test]
 fn drawn_queues_of_values(rt: HostRuntime) -> Result<(), Fail> {
-    of_values::<u64, 5>(&rt, rt.alloc(), "queue of 5 values of one word")?;
-    of_values::<u64, 1000>(&rt, rt.alloc(), "queue of 1,000 values of one word")?;
-    of_values::<u128, 1>(&rt, rt.alloc(), "queue of 1 value of two words")?;
-    of_values::<u128, 5>(&rt, rt.alloc(), "queue of 5 values of two words")?;
-    of_values::<Three, 65>(&rt, rt.alloc(), "queue of 65 values of three words")?;
-    of_values::<Sixteen, 2>(&rt, rt.alloc(), "queue of 2 values of 16 words")?;
-    of_values::<Greatest, 3>(&rt, rt.alloc(), "queue of 3 values of 128 words")?;
+    of_values::<u128, 1>(&rt, rt.alloc(), "queue of values of two words")?;
+    of_values::<Sixteen, 2>(&rt, rt.alloc(), "queue of values of 16 words")?;
+    of_values::<Greatest, 3>(&rt, rt.alloc(), "queue of values of 128 words")?;
+    of_values::<u64, 5>(&rt, rt.alloc(), "queue of values of one word")?;
+    of_values::<u128, 63>(&rt, rt.alloc(), "queue of values of two words")?;
+    of_values::<u64, 64>(&rt, rt.alloc(), "queue of values of one word")?;
+    of_values::<Three, 65>(&rt, rt.alloc(), "queue of values of three words")?;
+    of_values::<Three, 130>(&rt, rt.alloc(), "queue of values of three words")?;
+    of_values::<u64, 1000>(&rt, rt.alloc(), "queue of values of one word")?;
+    of_values::<u128, 5000>(&rt, rt.alloc(), "queue of values of two words")?;
     Ok(())
 }

@@ -2,14 +2,18 @@
 ghost use Rattle.std.specs.Prelude.{◌≡◌};
 ghost use Rattle.lock_free.specs.RobustUniqueIndexSet.{IsPassOf};
 
-use crate::drawn::{Answer, Answers, CALLS, Call, Draws, Heard, SEED, compare};
+use crate::drawn::{
+    Answer, Answers, CALLS, Call, Draws, Heard, Pair, SEED, Turn, compare_parts, turn_of,
+};
 use lock_free::mpmc::robust_unique_index_set::{
     CallbackProgression, OwnerId, Pass, RobustUniqueIndexSet, StaticRobustUniqueIndexSet,
 };
 use lock_free::mpmc::unique_index_set_enums::ReleaseMode;
+use std::alloc::Global;
 use std::process::Abort;
 use std::sync::Wait;
 use std::test::Fail;
+use steps::enums::UniqueIndexCreationError;
 
 /// A call on a set of indices of owners.
 #[derive(Clone, Copy)]
@@ -25,8 +29,8 @@ pub enum RobustCall {
 }
 
 /// One of five owners, the least and the greatest among them.
-fn drawn_owner(draws: &mut Draws) -> OwnerId {
-    let number = match draws.below(5) {
+pub fn owner_of(which: usize) -> OwnerId {
+    let number = match which % 5 {
         0 => 0,
         1 => u64::MAX - 1,
         2 => 12345,
@@ -39,12 +43,8 @@ fn drawn_owner(draws: &mut Draws) -> OwnerId {
     }
 }
 
-fn drawn_mode(draws: &mut Draws) -> ReleaseMode {
-    if draws.in_eight(2) {
-        ReleaseMode::LockIfLastIndex
-    } else {
-        ReleaseMode::Default
-    }
+fn drawn_owner(draws: &mut Draws) -> OwnerId {
+    owner_of(draws.below(5))
 }
 
 impl Call for RobustCall {
@@ -52,84 +52,112 @@ impl Call for RobustCall {
         match draws.below(64) {
             0 => RobustCall::Borrowed,
             1 => RobustCall::IsLocked,
-            2 => RobustCall::Find(drawn_owner(draws), draws.number() % 8),
-            3 => RobustCall::Find(drawn_owner(draws), u64::MAX),
-            4 => RobustCall::Recover(draws.number(), drawn_mode(draws)),
+            2 => RobustCall::Find(drawn_owner(draws), draws.stop()),
+            3 => RobustCall::Recover(draws.number(), draws.mode()),
             _ => {
                 if draws.in_eight(6) == fills {
                     RobustCall::Acquire(drawn_owner(draws))
                 } else {
-                    RobustCall::Release(
-                        draws.below(capacity),
-                        drawn_owner(draws),
-                        drawn_mode(draws),
-                    )
+                    RobustCall::Release(draws.below(capacity), drawn_owner(draws), draws.mode())
                 }
             }
+        }
+    }
+
+    fn each(at: usize, capacity: usize) -> Option<RobustCall> {
+        match turn_of(at, capacity) {
+            Some(Turn::Comes(index)) => Some(RobustCall::Acquire(owner_of(index))),
+            Some(Turn::Goes(index)) => {
+                let mode = ReleaseMode::Default;
+                Some(RobustCall::Release(index, owner_of(index), mode))
+            }
+            None => None,
         }
     }
 
     /// One more is acquired; half of all are recovered, then the rest: the last one locks.
     fn last(at: usize, _capacity: usize) -> Option<RobustCall> {
         match at {
-            0 => Some(RobustCall::Acquire(drawn_owner(&mut Draws::new(SEED)))),
+            0 => Some(RobustCall::Acquire(owner_of(2))),
             1 => Some(RobustCall::Borrowed),
             2 => Some(RobustCall::Recover(1, ReleaseMode::Default)),
             3 => Some(RobustCall::Recover(0, ReleaseMode::LockIfLastIndex)),
             4 => Some(RobustCall::IsLocked),
-            5 => Some(RobustCall::Acquire(drawn_owner(&mut Draws::new(SEED)))),
+            5 => Some(RobustCall::Acquire(owner_of(2))),
             6 => Some(RobustCall::Borrowed),
             _ => None,
         }
     }
 }
 
+/// Whether the closure goes on after what it has heard.
+pub fn goes_on(heard: &Heard, stop: u64) -> CallbackProgression {
+    if heard.number == stop {
+        CallbackProgression::Stop
+    } else {
+        CallbackProgression::Continue
+    }
+}
+
+fn acquires(set: &mut plain::RobustUniqueIndexSet, owner: OwnerId) -> Answer {
+    match set.acquire(owner) {
+        Ok(index) => Answer::number(index as u64),
+        Err(failure) => Answer::failed(failure),
+    }
+}
+
+fn releases(
+    set: &mut plain::RobustUniqueIndexSet,
+    index: usize,
+    owner: OwnerId,
+    mode: ReleaseMode,
+) -> Answer {
+    if index >= set.capacity() {
+        return Answer::refused();
+    }
+    match set.release(index, owner, mode) {
+        Ok(state) => Answer::released(state),
+        Err(_) => Answer::refused(),
+    }
+}
+
+fn finds(set: &mut plain::RobustUniqueIndexSet, owner: OwnerId, stop: u64) -> Answer {
+    let mut heard = Heard::new();
+    let found = set.find(owner, |index| {
+        heard.hear(index as u64);
+        goes_on(&heard, stop)
+    });
+    Answer::number(found as u64).and(heard)
+}
+
+fn recovers(set: &mut plain::RobustUniqueIndexSet, seed: u64, mode: ReleaseMode) -> Answer {
+    let mut draws = Draws::new(seed);
+    let mut asked = Heard::new();
+    let mut told = Heard::new();
+    let state = set.recover(
+        mode,
+        |owner, index| {
+            asked.hear(owner.value());
+            asked.hear(index as u64);
+            seed == 0 || draws.in_eight(4)
+        },
+        |owner, index| {
+            told.hear(owner.value());
+            told.hear(index as u64);
+        },
+    );
+    Answer::released(state).and(asked.and(told))
+}
+
 impl Answers<RobustCall> for plain::RobustUniqueIndexSet {
     fn answer(&mut self, _rt: &impl Wait, call: RobustCall) -> Answer {
         match call {
-            RobustCall::Acquire(owner) => Answer::Acquired(self.acquire(owner).map(|i| i as u64)),
-            RobustCall::Release(index, owner, mode) => {
-                if index < self.capacity() {
-                    match self.release(index, owner, mode) {
-                        Ok(state) => Answer::Released(state),
-                        Err(_) => Answer::Nothing,
-                    }
-                } else {
-                    Answer::Nothing
-                }
-            }
-            RobustCall::Find(owner, stop) => {
-                let mut heard = Heard::new();
-                let found = self.find(owner, |index| {
-                    heard.hear(index as u64);
-                    if heard.number == stop {
-                        CallbackProgression::Stop
-                    } else {
-                        CallbackProgression::Continue
-                    }
-                });
-                Answer::Found(heard, found as u64)
-            }
-            RobustCall::Recover(seed, mode) => {
-                let mut draws = Draws::new(seed);
-                let mut asked = Heard::new();
-                let mut told = Heard::new();
-                let state = self.recover(
-                    mode,
-                    |owner, index| {
-                        asked.hear(owner.value());
-                        asked.hear(index as u64);
-                        seed == 0 || draws.in_eight(4)
-                    },
-                    |owner, index| {
-                        told.hear(owner.value());
-                        told.hear(index as u64);
-                    },
-                );
-                Answer::Recovered(asked, told, state)
-            }
-            RobustCall::Borrowed => Answer::Number(self.borrowed_indices() as u64),
-            RobustCall::IsLocked => Answer::Yes(self.is_locked()),
+            RobustCall::Acquire(owner) => acquires(self, owner),
+            RobustCall::Release(index, owner, mode) => releases(self, index, owner, mode),
+            RobustCall::Find(owner, stop) => finds(self, owner, stop),
+            RobustCall::Recover(seed, mode) => recovers(self, seed, mode),
+            RobustCall::Borrowed => Answer::number(self.borrowed_indices() as u64),
+            RobustCall::IsLocked => Answer::yes(self.is_locked()),
         }
     }
 }
@@ -142,72 +170,91 @@ struct User<'a> {
     ghost of: { IsPassOf set.now pass },
 }
 
+impl<'a> User<'a> {
+    fn acquires(&mut self, rt: &impl Wait, owner: OwnerId) -> Answer {
+        match self.set.acquire(rt, owner, &mut self.pass) {
+            Ok(index) => Answer::number(index as u64),
+            Err(failure) => Answer::failed(failure),
+        }
+    }
+
+    fn releases(
+        &mut self,
+        rt: &impl Wait,
+        index: usize,
+        owner: OwnerId,
+        mode: ReleaseMode,
+    ) -> Answer {
+        if index >= self.set.capacity() {
+            return Answer::refused();
+        }
+        match self.set.release(rt, index, owner, mode, &mut self.pass) {
+            Ok(state) => Answer::released(state),
+            Err(_) => Answer::refused(),
+        }
+    }
+
+    fn finds(&mut self, owner: OwnerId, stop: u64) -> Answer {
+        let mut heard = Heard::new();
+        let found = self.set.find(
+            owner,
+            |index| {
+                heard.hear(index as u64);
+                goes_on(&heard, stop)
+            },
+            &mut self.pass,
+        );
+        Answer::number(found as u64).and(heard)
+    }
+
+    fn recovers(&mut self, rt: &impl Wait, seed: u64, mode: ReleaseMode) -> Answer {
+        let mut draws = Draws::new(seed);
+        let mut asked = Heard::new();
+        let mut told = Heard::new();
+        let state = self.set.recover(
+            rt,
+            mode,
+            |owner, index| {
+                asked.hear(owner.value());
+                asked.hear(index as u64);
+                seed == 0 || draws.in_eight(4)
+            },
+            |owner, index| {
+                told.hear(owner.value());
+                told.hear(index as u64);
+            },
+            &mut self.pass,
+        );
+        Answer::released(state).and(asked.and(told))
+    }
+
+    fn borrowed(&mut self, rt: &impl Wait) -> Answer {
+        Answer::number(self.set.borrowed_indices(rt, &mut self.pass) as u64)
+    }
+
+    fn is_locked(&mut self) -> Answer {
+        Answer::yes(self.set.is_locked(&mut self.pass))
+    }
+}
+
 impl<'a> Answers<RobustCall> for User<'a> {
     fn answer(&mut self, rt: &impl Wait, call: RobustCall) -> Answer {
         match call {
-            RobustCall::Acquire(owner) => {
-                let acquired = self.set.acquire(rt, owner, &mut self.pass);
-                Answer::Acquired(acquired.map(|index| index as u64))
-            }
-            RobustCall::Release(index, owner, mode) => {
-                if index < self.set.capacity() {
-                    match self.set.release(rt, index, owner, mode, &mut self.pass) {
-                        Ok(state) => Answer::Released(state),
-                        Err(_) => Answer::Nothing,
-                    }
-                } else {
-                    Answer::Nothing
-                }
-            }
-            RobustCall::Find(owner, stop) => {
-                let mut heard = Heard::new();
-                let found = self.set.find(
-                    owner,
-                    |index| {
-                        heard.hear(index as u64);
-                        if heard.number == stop {
-                            CallbackProgression::Stop
-                        } else {
-                            CallbackProgression::Continue
-                        }
-                    },
-                    &mut self.pass,
-                );
-                Answer::Found(heard, found as u64)
-            }
-            RobustCall::Recover(seed, mode) => {
-                let mut draws = Draws::new(seed);
-                let mut asked = Heard::new();
-                let mut told = Heard::new();
-                let state = self.set.recover(
-                    rt,
-                    mode,
-                    |owner, index| {
-                        asked.hear(owner.value());
-                        asked.hear(index as u64);
-                        seed == 0 || draws.in_eight(4)
-                    },
-                    |owner, index| {
-                        told.hear(owner.value());
-                        told.hear(index as u64);
-                    },
-                    &mut self.pass,
-                );
-                Answer::Recovered(asked, told, state)
-            }
-            RobustCall::Borrowed => {
-                Answer::Number(self.set.borrowed_indices(rt, &mut self.pass) as u64)
-            }
-            RobustCall::IsLocked => Answer::Yes(self.set.is_locked(&mut self.pass)),
+            RobustCall::Acquire(owner) => self.acquires(rt, owner),
+            RobustCall::Release(index, owner, mode) => self.releases(rt, index, owner, mode),
+            RobustCall::Find(owner, stop) => self.finds(owner, stop),
+            RobustCall::Recover(seed, mode) => self.recovers(rt, seed, mode),
+            RobustCall::Borrowed => self.borrowed(rt),
+            RobustCall::IsLocked => self.is_locked(),
         }
     }
 }
 
-/// Makes drawn calls on a set of one caller and on one of threads, from the one of this number on. The number of the
-/// next one.
+/// Makes the calls on a set of one caller and on one of threads, the drawn ones from the one of this number on. The
+/// number of the next one.
 fn plays<R: Abort + Wait>(
     rt: &R,
-    name: &str,
+    pair: Pair<'_>,
     alone: plain::RobustUniqueIndexSet,
     set: &RobustUniqueIndexSet,
     pass: Pass,
@@ -218,29 +265,66 @@ fn plays<R: Abort + Wait>(
 {
     let mut alone = alone;
     let mut user = User { set, pass };
-    let calls = from..CALLS;
-    compare::<RobustCall, _, _, R>(
-        rt,
-        name,
-        set.capacity(),
-        draws,
-        calls,
-        &mut alone,
-        &mut user,
-    )
+    compare_parts::<RobustCall, _, _, R>(rt, pair, draws, from, &mut alone, &mut user)
+}
+
+fn heaps(
+    rt: &(impl Abort + Wait),
+    alloc: Global,
+    pair: Pair<'_>,
+    draws: &mut Draws,
+    from: u64,
+) -> Result<u64, UniqueIndexCreationError> {
+    let alone = plain::RobustUniqueIndexSet::new(alloc, pair.capacity)?;
+    let (set, pass) = RobustUniqueIndexSet::new(alloc, pair.capacity)?;
+    Ok(plays(rt, pair, alone, &set, pass, draws, from))
+}
+
+/// The same of a fixed capacity.
+fn fixes(
+    rt: &(impl Abort + Wait),
+    alloc: Global,
+    draws: &mut Draws,
+    from: u64,
+) -> Result<u64, UniqueIndexCreationError> {
+    let pair = Pair {
+        name: "static set",
+        capacity: 5,
+    };
+    let alone = plain::RobustUniqueIndexSet::new(alloc, 5)?;
+    let (set, pass) = StaticRobustUniqueIndexSet::<5>::new(alloc)?;
+    Ok(plays(rt, pair, alone, &set, pass, draws, from))
+}
+
+/// The same of a fixed capacity of which one is not used.
+fn reduces(
+    rt: &(impl Abort + Wait),
+    alloc: Global,
+    draws: &mut Draws,
+    from: u64,
+) -> Result<u64, UniqueIndexCreationError> {
+    let pair = Pair {
+        name: "reduced set",
+        capacity: 5,
+    };
+    let alone = plain::RobustUniqueIndexSet::new(alloc, 5)?;
+    let (set, pass) = StaticRobustUniqueIndexSet::<6>::new_with_reduced_capacity(alloc, 5)?;
+    Ok(plays(rt, pair, alone, &set, pass, draws, from))
 }
 
 /// Ten calls after a lock both are made anew.
 #[test]
 fn drawn_robust_sets(rt: HostRuntime) -> Result<(), Fail> {
-    for capacity in [1, 2, 3, 5, 63, 64, 65, 130, 1000] {
+    for capacity in [1, 2, 3, 5, 63, 64, 65, 130, 1000, 5000] {
+        let pair = Pair {
+            name: "robust set",
+            capacity,
+        };
         let mut draws = Draws::new(SEED);
         let mut next = 0;
         for _ in 0..CALLS {
             if next < CALLS {
-                let alone = plain::RobustUniqueIndexSet::new(rt.alloc(), capacity)?;
-                let (set, pass) = RobustUniqueIndexSet::new(rt.alloc(), capacity)?;
-                next = plays(&rt, "robust set", alone, &set, pass, &mut draws, next);
+                next = heaps(&rt, rt.alloc(), pair, &mut draws, next)?;
             }
         }
     }
@@ -253,17 +337,10 @@ fn drawn_robust_sets_of_a_type(rt: HostRuntime) -> Result<(), Fail> {
     let (mut next, mut reduced) = (0, 0);
     for _ in 0..CALLS {
         if next < CALLS {
-            let alone = plain::RobustUniqueIndexSet::new(rt.alloc(), 5)?;
-            let (set, pass) = StaticRobustUniqueIndexSet::<5>::new(rt.alloc())?;
-            next = plays(&rt, "static set", alone, &set, pass, &mut draws, next);
+            next = fixes(&rt, rt.alloc(), &mut draws, next)?;
         }
         if reduced < CALLS {
-            let alone = plain::RobustUniqueIndexSet::new(rt.alloc(), 5)?;
-            let (set, pass) = StaticRobustUniqueIndexSet::<6>::new_with_reduced_capacity(
-                rt.alloc(),
-                5,
-            )?;
-            reduced = plays(&rt, "reduced set", alone, &set, pass, &mut draws, reduced);
+            reduced = reduces(&rt, rt.alloc(), &mut draws, reduced)?;
         }
     }
     Ok(())

@@ -2,7 +2,7 @@
 ghost use Rattle.std.specs.Prelude.{◌≡◌, [], ◌∷◌};
 ghost use Rattle.lock_free.specs.UniqueIndexSet.{view, set_id, IsPassOf, index_set};
 
-use crate::drawn::{Answer, Answers, CALLS, Call, Draws, SEED, compare};
+use crate::drawn::{Answer, Answers, CALLS, Call, Draws, Pair, SEED, Turn, compare_parts, turn_of};
 use lock_free::mpmc::unique_index_set::{
     FixedSizeUniqueIndexSet, Pass, UniqueIndex, UniqueIndexSet,
 };
@@ -42,6 +42,16 @@ impl Call for IndexCall {
         }
     }
 
+    fn each(at: usize, capacity: usize) -> Option<IndexCall> {
+        match turn_of(at, capacity) {
+            Some(Turn::Comes(_)) => Some(IndexCall::Acquire(at % 2 == 0)),
+            Some(Turn::Goes(index)) => {
+                Some(IndexCall::Release(index.min(0xffff) as u32, at % 2 == 0))
+            }
+            None => None,
+        }
+    }
+
     /// Some more are acquired, and each is given back: the last one locks.
     fn last(at: usize, capacity: usize) -> Option<IndexCall> {
         if at < 8 {
@@ -61,28 +71,37 @@ impl Call for IndexCall {
     }
 }
 
+fn acquires(set: &mut plain::UniqueIndexSet) -> Answer {
+    match set.acquire_raw_index() {
+        Ok(index) => Answer::number(index as u64),
+        Err(failure) => Answer::failed(failure),
+    }
+}
+
+fn releases(set: &mut plain::UniqueIndexSet, index: u32) -> Answer {
+    if set.is_out(index) {
+        Answer::released(set.release_raw_index(index))
+    } else {
+        Answer::refused()
+    }
+}
+
+fn releases_or_locks(set: &mut plain::UniqueIndexSet, index: u32) -> Answer {
+    if set.is_out(index) {
+        Answer::released(set.release_or_lock(index))
+    } else {
+        Answer::refused()
+    }
+}
+
 impl Answers<IndexCall> for plain::UniqueIndexSet {
     fn answer(&mut self, _rt: &impl Wait, call: IndexCall) -> Answer {
         match call {
-            IndexCall::Acquire(_) => {
-                Answer::Acquired(self.acquire_raw_index().map(|index| index as u64))
-            }
-            IndexCall::Release(index, _) => {
-                if self.is_out(index) {
-                    Answer::Released(self.release_raw_index(index))
-                } else {
-                    Answer::Nothing
-                }
-            }
-            IndexCall::ReleaseOrLock(index) => {
-                if self.is_out(index) {
-                    Answer::Released(self.release_or_lock(index))
-                } else {
-                    Answer::Nothing
-                }
-            }
-            IndexCall::Borrowed => Answer::Number(self.borrowed_indices() as u64),
-            IndexCall::IsLocked => Answer::Yes(self.is_locked()),
+            IndexCall::Acquire(_) => acquires(self),
+            IndexCall::Release(index, _) => releases(self, index),
+            IndexCall::ReleaseOrLock(index) => releases_or_locks(self, index),
+            IndexCall::Borrowed => Answer::number(self.borrowed_indices() as u64),
+            IndexCall::IsLocked => Answer::yes(self.is_locked()),
         }
     }
 }
@@ -154,7 +173,7 @@ impl<'a> User<'a> {
 
     fn acquires(&mut self, rt: &impl Wait) -> Answer {
         let Some(pass) = self.pass.split() else {
-            return Answer::Nothing;
+            return Answer::refused();
         };
         match self.set.acquire(rt, pass) {
             Ok(index) => {
@@ -164,15 +183,15 @@ impl<'a> User<'a> {
                     index,
                 };
                 self.comes(value, Index::Held(held));
-                Answer::Acquired(Ok(value as u64))
+                Answer::number(value as u64)
             }
-            Err((failure, _)) => Answer::Acquired(Err(failure)),
+            Err((failure, _)) => Answer::failed(failure),
         }
     }
 
     fn acquires_raw(&mut self, rt: &impl Wait) -> Answer {
         let Some(mut pass) = self.pass.split() else {
-            return Answer::Nothing;
+            return Answer::refused();
         };
         match self.set.acquire_raw_index(rt, &mut pass) {
             Ok(index) => {
@@ -182,9 +201,9 @@ impl<'a> User<'a> {
                     index,
                 };
                 self.comes(index, Index::Raw(raw));
-                Answer::Acquired(Ok(index as u64))
+                Answer::number(index as u64)
             }
-            Err(failure) => Answer::Acquired(Err(failure)),
+            Err(failure) => Answer::failed(failure),
         }
     }
 }
@@ -199,7 +218,7 @@ impl<'a> Index<'a> {
                     mut pass,
                     index,
                 } = raw;
-                Answer::Released(set.release_raw_index(index, &mut pass))
+                Answer::released(set.release_raw_index(index, &mut pass))
             }
             Index::Held(held) => {
                 let Held { set: _, index } = held;
@@ -208,7 +227,7 @@ impl<'a> Index<'a> {
                 } else {
                     index.release();
                 }
-                Answer::Released(ReleaseState::Unlocked)
+                Answer::released(ReleaseState::Unlocked)
             }
         }
     }
@@ -222,17 +241,41 @@ impl<'a> Index<'a> {
                     mut pass,
                     index,
                 } = raw;
-                Answer::Released(set.release_or_lock(rt, index, &mut pass))
+                Answer::released(set.release_or_lock(rt, index, &mut pass))
             }
             Index::Held(held) => {
                 let Held { set, index } = held;
                 let mut pass = index.release();
                 match set.acquire_raw_index(rt, &mut pass) {
-                    Ok(again) => Answer::Released(set.release_or_lock(rt, again, &mut pass)),
-                    Err(failure) => Answer::Acquired(Err(failure)),
+                    Ok(again) => Answer::released(set.release_or_lock(rt, again, &mut pass)),
+                    Err(failure) => Answer::failed(failure),
                 }
             }
         }
+    }
+}
+
+impl<'a> User<'a> {
+    fn releases(&mut self, index: u32, drops: bool) -> Answer {
+        match self.leaves(index) {
+            Some(index) => index.goes(drops),
+            None => Answer::refused(),
+        }
+    }
+
+    fn releases_or_locks(&mut self, rt: &impl Wait, index: u32) -> Answer {
+        match self.leaves(index) {
+            Some(index) => index.goes_or_locks(rt),
+            None => Answer::refused(),
+        }
+    }
+
+    fn borrowed(&mut self) -> Answer {
+        Answer::number(self.set.borrowed_indices(&mut self.pass) as u64)
+    }
+
+    fn is_locked(&mut self) -> Answer {
+        Answer::yes(self.set.is_locked(&mut self.pass))
     }
 }
 
@@ -246,49 +289,88 @@ impl<'a> Answers<IndexCall> for User<'a> {
                     self.acquires(rt)
                 }
             }
-            IndexCall::Release(index, drops) => match self.leaves(index) {
-                Some(index) => index.goes(drops),
-                None => Answer::Nothing,
-            },
-            IndexCall::ReleaseOrLock(index) => match self.leaves(index) {
-                Some(index) => index.goes_or_locks(rt),
-                None => Answer::Nothing,
-            },
-            IndexCall::Borrowed => Answer::Number(self.set.borrowed_indices(&mut self.pass) as u64),
-            IndexCall::IsLocked => Answer::Yes(self.set.is_locked(&mut self.pass)),
+            IndexCall::Release(index, drops) => self.releases(index, drops),
+            IndexCall::ReleaseOrLock(index) => self.releases_or_locks(rt, index),
+            IndexCall::Borrowed => self.borrowed(),
+            IndexCall::IsLocked => self.is_locked(),
         }
     }
 }
 
-/// Makes drawn calls on a set of one caller and on one of threads, from the one of this number on. The number of the
-/// next one.
+/// Makes the calls on a set of one caller and on one of threads, the drawn ones from the one of this number on. The
+/// number of the next one.
 fn plays<R: Abort + Wait>(
     rt: &R,
-    name: &str,
+    pair: Pair<'_>,
     alone: plain::UniqueIndexSet,
     user: User<'_>,
     draws: &mut Draws,
     from: u64,
 ) -> u64 {
     let (mut alone, mut user) = (alone, user);
-    let capacity = user.set.capacity() as usize;
-    let calls = from..CALLS;
-    compare::<IndexCall, _, _, R>(rt, name, capacity, draws, calls, &mut alone, &mut user)
+    compare_parts::<IndexCall, _, _, R>(rt, pair, draws, from, &mut alone, &mut user)
+}
+
+fn heaps(
+    rt: &(impl Abort + Wait),
+    alloc: Global,
+    capacity: usize,
+    draws: &mut Draws,
+    from: u64,
+) -> Result<u64, Fail> {
+    let pair = Pair {
+        name: "unique set",
+        capacity,
+    };
+    let alone = plain::UniqueIndexSet::new(alloc, capacity)?;
+    let (set, pass) = UniqueIndexSet::new(alloc, capacity)?;
+    let user = User::new(alloc, &set, pass)?;
+    Ok(plays(rt, pair, alone, user, draws, from))
+}
+
+/// The same of a fixed capacity.
+fn fixes(
+    rt: &(impl Abort + Wait),
+    alloc: Global,
+    draws: &mut Draws,
+    from: u64,
+) -> Result<u64, Fail> {
+    let pair = Pair {
+        name: "fixed set",
+        capacity: 5,
+    };
+    let alone = plain::UniqueIndexSet::new(alloc, 5)?;
+    let (set, pass) = FixedSizeUniqueIndexSet::<5>::new(alloc)?;
+    let user = User::new(alloc, &set, pass)?;
+    Ok(plays(rt, pair, alone, user, draws, from))
+}
+
+/// The same of a fixed capacity of which one is not used.
+fn reduces(
+    rt: &(impl Abort + Wait),
+    alloc: Global,
+    draws: &mut Draws,
+    from: u64,
+) -> Result<u64, Fail> {
+    let pair = Pair {
+        name: "reduced set",
+        capacity: 5,
+    };
+    let alone = plain::UniqueIndexSet::new(alloc, 5)?;
+    let (set, pass) = FixedSizeUniqueIndexSet::<6>::new_with_reduced_capacity(alloc, 5)?;
+    let user = User::new(alloc, &set, pass)?;
+    Ok(plays(rt, pair, alone, user, draws, from))
 }
 
 /// Ten calls after a lock both are made anew.
 #[test]
 fn drawn_unique_sets(rt: HostRuntime) -> Result<(), Fail> {
-    let alloc = rt.alloc();
     for capacity in [1, 2, 3, 5, 63, 64, 65, 130, 1000, 5000] {
         let mut draws = Draws::new(SEED);
         let mut next = 0;
         for _ in 0..CALLS {
             if next < CALLS {
-                let alone = plain::UniqueIndexSet::new(alloc, capacity)?;
-                let (set, pass) = UniqueIndexSet::new(alloc, capacity)?;
-                let user = User::new(alloc, &set, pass)?;
-                next = plays(&rt, "unique set", alone, user, &mut draws, next);
+                next = heaps(&rt, rt.alloc(), capacity, &mut draws, next)?;
             }
         }
     }
@@ -297,21 +379,14 @@ fn drawn_unique_sets(rt: HostRuntime) -> Result<(), Fail> {
 
 #[test]
 fn drawn_unique_sets_of_a_type(rt: HostRuntime) -> Result<(), Fail> {
-    let alloc = rt.alloc();
     let mut draws = Draws::new(SEED);
     let (mut next, mut reduced) = (0, 0);
     for _ in 0..CALLS {
         if next < CALLS {
-            let alone = plain::UniqueIndexSet::new(alloc, 5)?;
-            let (set, pass) = FixedSizeUniqueIndexSet::<5>::new(alloc)?;
-            let user = User::new(alloc, &set, pass)?;
-            next = plays(&rt, "fixed set", alone, user, &mut draws, next);
+            next = fixes(&rt, rt.alloc(), &mut draws, next)?;
         }
         if reduced < CALLS {
-            let alone = plain::UniqueIndexSet::new(alloc, 5)?;
-            let (set, pass) = FixedSizeUniqueIndexSet::<6>::new_with_reduced_capacity(alloc, 5)?;
-            let user = User::new(alloc, &set, pass)?;
-            reduced = plays(&rt, "reduced set", alone, user, &mut draws, reduced);
+            reduced = reduces(&rt, rt.alloc(), &mut draws, reduced)?;
         }
     }
     Ok(())
