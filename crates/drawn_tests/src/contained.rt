@@ -27,9 +27,21 @@ pub enum ContainerCall {
     Remove(ContainerHandle, ReleaseMode),
     Replace(ContainerHandle, u64),
     Show(Show),
+    /// The closure says Stop at this one of what it hears.
+    Find(OwnerId, u64),
+    Recover(Recovery),
     Len,
     IsEmpty,
     IsLocked,
+}
+
+/// How the values of an owner are recovered.
+#[derive(Clone, Copy)]
+pub struct Recovery {
+    owner: OwnerId,
+    /// What the closure says is drawn from it; 0: yes to all.
+    seed: u64,
+    mode: ReleaseMode,
 }
 
 /// How a state is taken and read.
@@ -82,6 +94,12 @@ impl Call for ContainerCall {
                 anew: draws.in_eight(2),
                 stop: draws.stop(),
             }),
+            4 => ContainerCall::Find(owner_of(drawn_which(draws)), draws.stop()),
+            5 => ContainerCall::Recover(Recovery {
+                owner: owner_of(1 + draws.below(3)),
+                seed: draws.number() | 1,
+                mode: draws.mode(),
+            }),
             _ => {
                 if draws.in_eight(7) == fills {
                     ContainerCall::Add(draws.number(), owner_of(drawn_which(draws)))
@@ -105,7 +123,8 @@ impl Call for ContainerCall {
         }
     }
 
-    /// Each value is replaced and removed, in both owners' names; one comes anew, and the container is locked.
+    /// Each value is replaced and removed, in both owners' names; one comes anew and is found, and another is recovered,
+    /// which locks.
     fn last(at: usize, capacity: usize) -> Option<ContainerCall> {
         if at == 0 {
             return Some(show_all(false));
@@ -124,10 +143,14 @@ impl Call for ContainerCall {
             return None;
         }
         Some(match call % 4 {
-            0 => show_all(true),
-            1 => ContainerCall::Add(9, owner_of(2)),
-            2 => ContainerCall::Remove(handle_of(0, 2), ReleaseMode::LockIfLastIndex),
-            _ => ContainerCall::Add(9, owner_of(2)),
+            0 => ContainerCall::Add(9, owner_of(2)),
+            1 => ContainerCall::Find(owner_of(2), u64::MAX),
+            2 => show_all(true),
+            _ => ContainerCall::Recover(Recovery {
+                owner: owner_of(2),
+                seed: 0,
+                mode: ReleaseMode::LockIfLastIndex,
+            }),
         })
     }
 }
@@ -168,6 +191,12 @@ fn shown<T: Words>(state: &ContainerState<T>, stop: u64, changed: bool) -> Answe
     Answer::yes(changed).and(heard)
 }
 
+/// What the closure of a find or of a recovery hears of a value.
+fn heard_value<T: Words>(heard: &mut Heard, index: u64, value: T) {
+    heard.hear(index);
+    heard.hear(digest(value));
+}
+
 /// A container of one caller, and the state that was taken last.
 #[derive(Drop)]
 struct Alone<T: Words> {
@@ -197,6 +226,29 @@ impl<T: Words> Alone<T> {
         };
         shown(&self.state, how.stop, changed)
     }
+
+    fn finds(&mut self, owner: OwnerId, stop: u64) -> Answer {
+        let mut heard = Heard::new();
+        let found = self.container.find(owner, |value, handle| {
+            heard_value(&mut heard, handle.index as u64, value);
+            goes_on(&heard, stop)
+        });
+        Answer::number(found as u64).and(heard)
+    }
+
+    fn recovers(&mut self, how: Recovery) -> Answer {
+        let mut draws = Draws::new(how.seed);
+        let mut heard = Heard::new();
+        let state = self.container.recover(
+            how.owner,
+            |value| {
+                heard_value(&mut heard, 0, value);
+                how.seed == 0 || draws.in_eight(4)
+            },
+            how.mode,
+        );
+        Answer::released(state).and(heard)
+    }
 }
 
 impl<T: Words + Drawn> Answers<ContainerCall> for Alone<T> {
@@ -210,6 +262,8 @@ impl<T: Words + Drawn> Answers<ContainerCall> for Alone<T> {
                 replaced(self.container.replace(handle, T::drawn(number)))
             }
             ContainerCall::Show(how) => self.shows(how),
+            ContainerCall::Find(owner, stop) => self.finds(owner, stop),
+            ContainerCall::Recover(how) => self.recovers(how),
             ContainerCall::Len => Answer::number(self.container.len() as u64),
             ContainerCall::IsEmpty => Answer::yes(self.container.is_empty()),
             ContainerCall::IsLocked => Answer::yes(self.container.is_locked()),
@@ -256,6 +310,35 @@ impl<'a, T: Words> User<'a, T> {
         shown(&self.state, how.stop, changed)
     }
 
+    fn finds(&mut self, owner: OwnerId, stop: u64) -> Answer {
+        let mut heard = Heard::new();
+        let found = self.container.find(
+            owner,
+            |value, handle| {
+                heard_value(&mut heard, handle.index as u64, value);
+                goes_on(&heard, stop)
+            },
+            &mut self.pass,
+        );
+        Answer::number(found as u64).and(heard)
+    }
+
+    fn recovers(&mut self, rt: &impl Wait, how: Recovery) -> Answer {
+        let mut draws = Draws::new(how.seed);
+        let mut heard = Heard::new();
+        let state = self.container.recover(
+            rt,
+            how.owner,
+            |value| {
+                heard_value(&mut heard, 0, value);
+                how.seed == 0 || draws.in_eight(4)
+            },
+            how.mode,
+            &mut self.pass,
+        );
+        Answer::released(state).and(heard)
+    }
+
     fn number(&mut self, rt: &impl Wait) -> Answer {
         Answer::number(self.container.len(rt, &mut self.pass) as u64)
     }
@@ -276,6 +359,8 @@ impl<'a, T: Words + Drawn> Answers<ContainerCall> for User<'a, T> {
             ContainerCall::Remove(handle, mode) => self.removes(rt, handle, mode),
             ContainerCall::Replace(handle, number) => self.replaces(handle, T::drawn(number)),
             ContainerCall::Show(how) => self.shows(rt, how),
+            ContainerCall::Find(owner, stop) => self.finds(owner, stop),
+            ContainerCall::Recover(how) => self.recovers(rt, how),
             ContainerCall::Len => self.number(rt),
             ContainerCall::IsEmpty => self.is_empty(rt),
             ContainerCall::IsLocked => self.is_locked(),
