@@ -4,7 +4,7 @@ use std::io;
 use std::io::Write;
 use std::test::Fail;
 
-const RUNS: [Run; 9] = [
+const RUNS: [Run; 10] = [
     (
         b"bits 8 1\n0 begin set 1\n0 next 9\n0 begin set 3\n0 next 9\n0 begin reset_all\n0 next 9\n",
         b"0 begun set 1\n0 set 1\n0 finished set 1 -> true\n0 begun set 3\n0 set 3\n0 finished set 3 -> true\n0 begun reset_all\n0 cleared 1\n0 cleared 3\n0 finished reset_all -> done\n",
@@ -22,6 +22,13 @@ const RUNS: [Run; 9] = [
     (
         b"bits 70 1\n0 begin set 1\n0 next 9\n0 begin set 1\n0 next 9\n0 begin set 69\n0 next 9\n0 begin reset_next\n0 next 99\n0 begin set 1\n0 next 9\n0 begin reset_next\n0 next 99\n0 begin reset_next\n0 next 99\n0 begin reset_next\n0 next 99\n",
         b"0 begun set 1\n0 set 1\n0 finished set 1 -> true\n0 begun set 1\n0 finished set 1 -> false\n0 begun set 69\n0 set 69\n0 finished set 69 -> true\n0 begun reset_next\n0 cleared 1\n0 finished reset_next -> some 1\n0 begun set 1\n0 set 1\n0 finished set 1 -> true\n0 begun reset_next\n0 cleared 69\n0 finished reset_next -> some 69\n0 begun reset_next\n0 cleared 1\n0 finished reset_next -> some 1\n0 begun reset_next\n0 finished reset_next -> none\n",
+        b"",
+        0,
+    ),
+    // A reset_next begins behind the place that the last one cleared: the turns of each are counted out.
+    (
+        b"bits 1000 1\n0 begin set 700\n0 next 2\n0 begin reset_next\n0 next 703\n0 next\n0 begin set 3\n0 next 2\n0 begin set 990\n0 next 2\n0 begin reset_next\n0 next 292\n0 next\n0 begin set 991\n0 next 2\n0 begin reset_next\n0 next 3\n0 next\n0 begin set 999\n0 next 2\n0 begin reset_next\n0 next 10\n0 next\n0 begin reset_next\n0 next 6\n0 next\n0 begin set 2\n0 next 2\n0 begin set 4\n0 next 2\n0 begin reset_next\n0 next 3\n0 next\n0 begin reset_next\n0 next 1000\n0 next\n0 begin reset_next\n0 next 1000\n0 next\n",
+        b"0 begun set 700\n0 set 700\n0 finished set 700 -> true\n0 begun reset_next\n0 cleared 700\n0 finished reset_next -> some 700\n0 begun set 3\n0 set 3\n0 finished set 3 -> true\n0 begun set 990\n0 set 990\n0 finished set 990 -> true\n0 begun reset_next\n0 cleared 990\n0 finished reset_next -> some 990\n0 begun set 991\n0 set 991\n0 finished set 991 -> true\n0 begun reset_next\n0 cleared 991\n0 finished reset_next -> some 991\n0 begun set 999\n0 set 999\n0 finished set 999 -> true\n0 begun reset_next\n0 cleared 999\n0 finished reset_next -> some 999\n0 begun reset_next\n0 cleared 3\n0 finished reset_next -> some 3\n0 begun set 2\n0 set 2\n0 finished set 2 -> true\n0 begun set 4\n0 set 4\n0 finished set 4 -> true\n0 begun reset_next\n0 cleared 4\n0 finished reset_next -> some 4\n0 begun reset_next\n0 cleared 2\n0 finished reset_next -> some 2\n0 begun reset_next\n0 finished reset_next -> none\n",
         b"",
         0,
     ),
