@@ -96,7 +96,7 @@ impl Call for ContainerCall {
             }),
             4 => ContainerCall::Find(owner_of(drawn_which(draws)), draws.stop()),
             5 => ContainerCall::Recover(Recovery {
-                owner: owner_of(1 + draws.below(3)),
+                owner: owner_of(draws.below(4)),
                 seed: draws.number() | 1,
                 mode: draws.mode(),
             }),
