@@ -1,6 +1,6 @@
 //! Participants of a system, each with its records in one registry. A reader keeps a state of it up to date while they
-//! join, one is taken out after its death, and the last to leave closes the registry. Proved: once it was seen closed
-//! nobody gets in.
+//! join, one is taken out after its death, and the last to leave closes the registry. Proved: who has
+//! seen it closed gets nobody in.
 #![tactic(auto)]
 
 mod error;

@@ -69,6 +69,25 @@ impl<T: Words> Look<T> {
         }
     }
 
+    /// What it wants next, whatever the state has seen.
+    #[inline(always)]
+    pub fn wants(self) -> Want<()>
+        ensures { result ≡ look_want T.WORDS self }
+    {
+        let (word, op) = match self.stage {
+            LookStage::LoadsChange => (change_word(self.capacity), Op::Load),
+            LookStage::LoadsCount { index } => (count_word(self.capacity, index), Op::Load),
+            LookStage::LoadsWord { index, at, .. } => (
+                element_word(self.capacity, T::WORDS as u8, index, at),
+                Op::Load,
+            ),
+            LookStage::ChecksCount { index, count } => {
+                (count_word(self.capacity, index), Op::Exchange(count, count))
+            }
+        };
+        Want::Ask(Ask { word, op })
+    }
+
     #[inline(always)]
     fn at(self, stage: LookStage) -> After<Look<T>, bool>
         ensures { result ≡ at_look self stage }
@@ -139,18 +158,7 @@ impl<T: Words> Routine for Look<T> {
 
     #[inline(always)]
     fn ask(self, _given: &Seen) -> Want<()> {
-        let (word, op) = match self.stage {
-            LookStage::LoadsChange => (change_word(self.capacity), Op::Load),
-            LookStage::LoadsCount { index } => (count_word(self.capacity, index), Op::Load),
-            LookStage::LoadsWord { index, at, .. } => (
-                element_word(self.capacity, T::WORDS as u8, index, at),
-                Op::Load,
-            ),
-            LookStage::ChecksCount { index, count } => {
-                (count_word(self.capacity, index), Op::Exchange(count, count))
-            }
-        };
-        Want::Ask(Ask { word, op })
+        self.wants()
     }
 
     #[inline(always)]

@@ -27,7 +27,7 @@ use std::marker::PhantomData;
 /// the value, by an exchange of an odd number for the next, and goes on also where that fails. It raises the counter, and
 /// where the container is locked it ends there with `Locked`; in mode `LockIfLastIndex` it locks the container where no
 /// cell has an owner, and goes on whatever that answers. At the end it loads the counter, which says `Locked` or
-/// `Unlocked`. Whatever it answers, it adds 1 to the changes before. That the owner is dead is the caller's concern.
+/// `Unlocked`. Whatever it answers, it adds 1 to the changes before it answers. That the owner is dead is the caller's concern.
 /// After `recover` of the Rust crate's `Container`.
 pub struct Recover<T, R> {
     pub capacity: u32,

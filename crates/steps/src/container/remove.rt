@@ -11,7 +11,7 @@ use crate::routine::Routine;
 
 /// Removes the value at the index that it is given, where the index is that of the given owner: `Unlocked`, or `Locked`
 /// in mode `LockIfLastIndex` where the container is locked. Else `ContainerHandleNotOwnedByContainer`, and nothing
-/// changes. Three steps more than a release of the set.
+/// changes. At most three steps more than a release of the set.
 ///
 /// Of an index past the capacity it asks for no word. Else it loads the number of the element, and releases the index;
 /// where that fails it ends there. Where the number was odd it exchanges it for the next, and goes on also where that

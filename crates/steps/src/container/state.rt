@@ -104,13 +104,13 @@ fn visit_elements<T: Words, F: FnMut(usize, &T) -> CallbackProgression>(
 
 /// What a state shows, while a look writes into it, and room for the words of one value.
 #[derive(Drop)]
-pub struct Shown<T: Words> {
+pub struct Shown<T> {
     change: u64,
     elements: Vec<Element<T>>,
     copy: Copied,
 }
 
-impl<T: Words> Model for Shown<T> {
+impl<T> Model for Shown<T> {
     ghost use Rattle.steps.specs.Container.State.{Showing};
 
     ghost Value = { Showing T };
@@ -223,7 +223,7 @@ impl<T: Words> Shown<T> {
 /// A look is given `seen` and writes into `shown`. After one that answers true, `settle` makes what is shown what was
 /// seen.
 #[derive(Drop)]
-pub struct ContainerState<T: Words> {
+pub struct ContainerState<T> {
     pub container: u64,
     pub capacity: u32,
     pub seen: Seen,

@@ -15,8 +15,8 @@ impl<T: Words> Container<T> {
     /// replace, remove or recovery has counted its change, which is its last step. `NoMemory` where a state has no
     /// memory; then nothing was asked of the container.
     ///
-    /// Two growths, and then at most 1 atomic step and for each index 2 + `T::WORDS` where nobody else steps in between;
-    /// else it may try again for as long as others step. After `get_state` of the Rust crate.
+    /// It asks for memory twice, before its first atomic step: at most 1 and for each index 2 + `T::WORDS` where nobody
+    /// else steps in between; else it may try again for as long as others step. After `get_state` of the Rust crate.
     pub fn get_state(
         &self,
         rt: &impl Wait,
@@ -35,7 +35,8 @@ impl<T: Words> Container<T> {
     /// Brings a state of this container up to date. False where no add, replace, remove or recovery has counted a
     /// change since the state was brought up to date last (no clause says so); the state then stays as it is. True
     /// where one has, also where all values are the same as before: the state then shows at each index what stood there
-    /// when the call came to it.
+    /// when the call came to it. A change that is counted while it goes on is told by the next call as well, though
+    /// its value may be shown by then.
     ///
     /// The number of changes has 64 bits and wraps, as that of each value does: where it has come round to the one that
     /// the state has seen the answer is false. A state of another container with the same number and capacity is taken

@@ -124,8 +124,8 @@ impl<T: Words> Container<T> {
     /// container is locked, which leaves the lock seen.
     ///
     /// Where the container is locked at the beginning `predicate` is not called: so where the pass has seen the lock. A
-    /// recovery that meets the lock right after it has freed an index answers `Locked` at once, and comes to no further
-    /// index. Whatever it answers, it counts as a change for `update_state`. That `owner` is dead for good is the
+    /// recovery that meets the lock right after it has freed an index comes to no further index, counts its change and
+    /// answers `Locked`. Whatever it answers, it counts as a change for `update_state`. That `owner` is dead for good is the
     /// caller's concern; nobody acts for it from then on. That only values of `owner` are asked about, that each of
     /// them which stands through the whole call is, that each copy is whole, and what is freed, is tested. Where a
     /// remove stopped before it hid the value, and `owner` was given the index, it is the value of an earlier owner.

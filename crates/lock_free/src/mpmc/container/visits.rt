@@ -104,7 +104,7 @@ impl<T: Words> Container<T> {
     /// it was copied, counts too, but `visit` is not called there. That it comes to each index that `owner` has through
     /// the whole call, up to the one on which it is told to stop, and that a copy is whole, is tested.
     ///
-    /// It finds also the indices whose add met the lock, since they keep their owner. Each value may have been removed
+    /// It counts also the indices whose add met the lock, since they keep their owner. Each value may have been removed
     /// by the time that `visit` is called with it. Where a remove stopped before it hid the value, and the index was
     /// given to `owner`, it is the value of an earlier owner. At most 3 + `T::WORDS` atomic steps for each index. It
     /// takes no memory. After `find` of the Rust crate, which hands out a pointer to the value.
