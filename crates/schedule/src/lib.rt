@@ -1,7 +1,9 @@
 //! Reads a written schedule of turns, and prints what each of them did.
 #![tactic(auto)]
 
+pub mod arguments;
 mod atomic;
+pub mod bare;
 mod bits;
 pub mod error;
 mod families;
@@ -10,10 +12,11 @@ mod indices;
 pub mod input;
 pub mod line;
 pub mod output;
+pub mod pen;
 mod queues;
 pub mod runs;
 pub mod text;
 mod told;
 
-pub use runs::run;
+pub use runs::{run, run_and_tell};
 pub use told::status;

@@ -1,9 +1,12 @@
 //! A whole run: the input is read, the machine is made, and the lines are done one after another.
-ghost use Rattle.std.specs.Prelude.{◌^◌, ◌<◌, Bool, length};
+ghost use Rattle.std.specs.Prelude.{◌≡◌, ◌^◌, ◌<◌, ℕ, Bool, Option, List, Result, length};
 ghost use Rattle.schedule.specs.Grammar.{Gives};
 ghost use Rattle.schedule.specs.Output.{world_of, outcome, nexts, commanded, lines_from, machine_of, output};
+ghost use Rattle.schedule.specs.Print.{exit_of, message_text};
 ghost use Rattle.schedule.specs.Run.{IsTurn, IsStep, Prints, IsOutput, IsRun};
 ghost use Rattle.schedule.specs.Text.{words, words_left};
+ghost use Rattle.schedule.specs.Written.{AppendsPart};
+ghost use Rattle.schedule.specs.declared.error.ScheduleError.{ScheduleError};
 ghost use Rattle.model.specs.declared.turn.Turn.TheVariants.{Next};
 
 use crate::error::{Cause, ScheduleError};
@@ -11,10 +14,11 @@ use crate::grammar::{Command, Setup, command_of, setup_of};
 use crate::input::whole_input;
 use crate::output::{flush, put_events, put_refusal};
 use crate::text::{Rest, lines};
+use crate::told::status;
 use machine::Machine;
 use machine::turn::{Kind, Turn, capacity_error};
 use std::alloc::{Allocator, Global};
-use std::io::{Read, Write};
+use std::io::{BufWriter, Read, Write};
 use steps::enums::UniqueIndexCreationError;
 
 // One turn. Whether it was taken.
@@ -123,9 +127,9 @@ fn do_lines<W: Write>(
     Ok(())
 }
 
-// The first line, with the capacity tested last.
+/// Reads the first line. The error is the first from the left, and last comes a capacity that the kind does not admit.
 #[tactic(auto, unfolding(crate::specs::Output::machine_of))]
-fn machine_of(line: &[u8]) -> Result<Setup, Cause>
+pub fn machine_of(line: &[u8]) -> Result<Setup, Cause>
     ensures { Gives (λ setup. setup) result (machine_of (words line.now)) }
 {
     let setup = setup_of(line)?;
@@ -198,4 +202,25 @@ pub fn run<R: Read, W: Write>(
         (W.contents writer.old) (W.contents writer.new) result }
 {
     run_in(alloc, alloc, reader, writer)
+}
+
+/// Runs the schedule that is read to its end, with its output gathered into larger writes, tells how it ended, and
+/// answers the exit status. The output on its way is kept in the memory of `buffers`.
+pub fn run_and_tell<A: Allocator, R: Read, W: Write, E: Write>(
+    buffers: A,
+    alloc: Global,
+    reader: &mut R,
+    output: &mut W,
+    errors: &mut E,
+) -> u8
+    ensures { (ran : Result (Unit {0}) ScheduleError)
+        × (before : Option (List ℕ)) × (after : Option (List ℕ))
+        × IsRun (R.remaining reader.old) before after ran × (result ≡ exit_of ran)
+        × AppendsPart (E.contents errors.old) (E.contents errors.new) (message_text ran) }
+{
+    let ran = match BufWriter::new(buffers, output) {
+        Ok(mut writer) => run(alloc, reader, &mut writer),
+        Err(_) => Err(ScheduleError::NoMemory),
+    };
+    status(&ran, errors)
 }

@@ -1,0 +1,118 @@
+//! Calls of a machine, and of what reads and prints a schedule, for those who need no contract: a caller of these
+//! loads and carries none of theirs.
+use crate::error::{Cause, ScheduleError};
+use crate::grammar::{Command, Setup, command_of, setup_of};
+use crate::line::Line;
+use crate::runs::{machine_of, run_and_tell, run_in};
+use crate::told::status;
+use machine::event::Event;
+use machine::party::Progress;
+use machine::turn::{Kind, Refusal, Turn};
+use machine::{Machine, Stopped};
+use std::alloc::{Allocator, Global};
+use std::io::{Read, Write};
+use std::str;
+use steps::enums::UniqueIndexCreationError;
+use steps::words::Words;
+
+/// A new machine.
+pub fn made_of<T: Words>(
+    alloc: Global,
+    kind: Kind,
+    capacity: usize,
+    parties: u32,
+) -> Result<Machine<T>, UniqueIndexCreationError> {
+    Machine::new(alloc, kind, capacity, parties)
+}
+
+/// The machine of a first line that was read, or None where there is no memory.
+pub fn made(alloc: Global, setup: Setup) -> Option<Machine<u128>> {
+    made_of(alloc, setup.kind, setup.capacity as usize, setup.parties).ok()
+}
+
+/// One turn.
+pub fn step<T: Words>(machine: &mut Machine<T>, turn: Turn<T>) -> Result<(), Refusal> {
+    machine.step(turn)
+}
+
+/// The turns up to the first that is refused, and how many these are.
+pub fn run<T: Words>(machine: &mut Machine<T>, turns: &[Turn<T>]) -> usize {
+    machine.run(turns)
+}
+
+/// The turns up to the first that is refused, and why that was.
+pub fn run_all<T: Words>(machine: &mut Machine<T>, turns: &[Turn<T>]) -> Result<(), Stopped> {
+    machine.run_all(turns)
+}
+
+/// Whether the party has a call under way that needs no decision.
+pub fn is_going<T: Words>(machine: &Machine<T>, party: u32) -> bool {
+    machine.is_going(party)
+}
+
+/// How far the party's latest call has come.
+pub fn under_way<T: Words>(machine: &Machine<T>, party: u32) -> Option<Progress> {
+    machine.under_way(party)
+}
+
+/// Reads the first line, whatever the capacity is.
+pub fn read_words(line: &[u8]) -> Result<Setup, Cause> {
+    setup_of(line)
+}
+
+/// Reads the first line.
+pub fn read_setup(line: &[u8]) -> Result<Setup, Cause> {
+    machine_of(line)
+}
+
+/// Reads a line after the first.
+pub fn read_command(kind: Kind, line: &[u8]) -> Result<Command, Cause> {
+    command_of(kind, line)
+}
+
+/// The line of an event.
+pub fn line_of(event: &Event<u128>) -> Line {
+    Line::of_event(event)
+}
+
+/// The line of a refused turn.
+pub fn line_of_refusal(refusal: Refusal) -> Line {
+    Line::of_refusal(refusal)
+}
+
+/// The line of an error.
+pub fn line_of_error(error: ScheduleError) -> Line {
+    Line::of_error(error)
+}
+
+/// A line without its line feed.
+pub fn text_of(line: &Line) -> &str {
+    let text = str::from_utf8(line.as_bytes()).unwrap_or("");
+    text.strip_suffix('\n').unwrap_or(text)
+}
+
+/// A whole run, as `runs::run_in` does it.
+pub fn ran_in<A: Allocator, R: Read, W: Write>(
+    buffers: A,
+    alloc: Global,
+    reader: &mut R,
+    writer: &mut W,
+) -> Result<(), ScheduleError> {
+    run_in(buffers, alloc, reader, writer)
+}
+
+/// What is told of a run, and the exit status.
+pub fn told<W: Write>(ran: &Result<(), ScheduleError>, errors: &mut W) -> u8 {
+    status(ran, errors)
+}
+
+/// A whole run, what is told of it, and the exit status.
+pub fn ran_and_told<A: Allocator, R: Read, W: Write, E: Write>(
+    buffers: A,
+    alloc: Global,
+    reader: &mut R,
+    output: &mut W,
+    errors: &mut E,
+) -> u8 {
+    run_and_tell(buffers, alloc, reader, output, errors)
+}
