@@ -1,12 +1,26 @@
-//! The tests of the crate `machine`: whole runs, as a caller makes them.
+//! The tests of the crate `machine`: whole runs, as a caller makes them, most by scripts in the words of a schedule.
 #![tactic(auto)]
 
 #[cfg(test)]
 mod atomic;
 #[cfg(test)]
-mod rows;
+mod bits;
 #[cfg(test)]
-mod runs;
+mod capacities;
+#[cfg(test)]
+mod indices;
+#[cfg(test)]
+mod many;
+#[cfg(test)]
+mod queues;
+#[cfg(test)]
+mod robust;
+#[cfg(test)]
+mod script;
+#[cfg(test)]
+mod seventy;
+#[cfg(test)]
+mod size;
 #[cfg(test)]
 mod values;
 #[cfg(test)]

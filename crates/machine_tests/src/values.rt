@@ -1,14 +1,17 @@
-//! A machine over a type of three words, through its queue of values.
+//! Machines over a type of three words: its queue of values, and its single value.
 use machine::Machine;
 use machine::event::{Answer, Event, Item, Start};
+use machine::families::atomic::AtomicStart;
 use machine::families::queues::QueueStart;
-use machine::turn::{Kind, Refusal, Turn};
+use machine::turn::{Kind, Turn};
+use schedule::bare::{is_going, made_of, step};
+use std::alloc::Global;
 use std::test::Fail;
 use steps::words::Words;
 
 /// Three numbers, each a word of its own.
 #[derive(Debug, Clone, Copy, PartialEq, Eq)]
-pub struct Reading {
+struct Reading {
     pub time: u64,
     pub level: u64,
     pub state: u64,
@@ -62,11 +65,6 @@ const ACQUIRE_CONSUMER: Start<Reading> = Start::Queues(QueueStart::AcquireConsum
 const POP: Start<Reading> = Start::Queues(QueueStart::Pop);
 
 const LEN: Start<Reading> = Start::Queues(QueueStart::Len);
-
-/// One turn. No test needs what its contract says, and each call through it is proved without.
-pub fn step(machine: &mut Machine<Reading>, turn: Turn<Reading>) -> Result<(), Refusal> {
-    machine.step(turn)
-}
 
 const FIRST: Reading = Reading {
     time: 1,
@@ -162,7 +160,7 @@ const TOLD: [Event<Reading>; 4] = [
 ];
 
 /// Whether so many turns of the party's call are taken.
-pub fn goes(machine: &mut Machine<Reading>, party: u32, turns: u64) -> bool {
+fn goes(machine: &mut Machine<Reading>, party: u32, turns: u64) -> bool {
     let mut taken = true;
     for _ in 0..turns {
         taken &= step(machine, Turn::Next(party)).is_ok();
@@ -173,7 +171,7 @@ pub fn goes(machine: &mut Machine<Reading>, party: u32, turns: u64) -> bool {
 /// Whether the row comes out as it says. A call that is under way goes on.
 fn does(machine: &mut Machine<Reading>, row: &Row) -> bool {
     let (party, start, turns, last, words) = row;
-    let begins = machine.is_going(*party)
+    let begins = is_going(machine, *party)
         || step(machine, Turn::Begin(*party, Start::Queues(*start))).is_ok();
     begins
         & goes(machine, *party, *turns)
@@ -181,13 +179,80 @@ fn does(machine: &mut Machine<Reading>, row: &Row) -> bool {
         & (machine.words() == words.as_slice())
 }
 
-#[test]
-fn three_words_at_once(rt: HostRuntime) -> Result<(), Fail> {
-    let mut machine: Machine<Reading> = Machine::new(rt.alloc(), Kind::Queue, 1, 2)?;
+/// The first row that comes out otherwise, or behind them all whether the last events are others.
+fn wrong_of_queue(alloc: Global) -> Option<usize> {
+    let Ok(mut machine) = made_of(alloc, Kind::Queue, 1, 2) else {
+        return Some(0);
+    };
     for (at, row) in ROWS.iter().enumerate() {
-        assert!(rt; does(&mut machine, row), "{at}");
+        if !does(&mut machine, row) {
+            return Some(at);
+        }
     }
-    let late = machine.events().len().saturating_sub(4);
-    assert!(rt; machine.events().get(late..) == Some(TOLD.as_slice()));
-    Ok(())
+    if machine.events().ends_with(&TOLD) {
+        None
+    } else {
+        Some(ROWS.len())
+    }
+}
+
+#[test]
+fn three_words_at_once(rt: HostRuntime) {
+    assert_eq!(rt; wrong_of_queue(rt.alloc()), None);
+}
+
+const ZEROS: Reading = Reading {
+    time: 0,
+    level: 0,
+    state: 0,
+};
+
+const VALUE: Reading = Reading {
+    time: 7,
+    level: u64::MAX,
+    state: 9,
+};
+
+/// A party, its call, the turns that it takes, and its answer.
+const THREE_WORDS: [(u32, AtomicStart<Reading>, u64, Answer<Reading>); 4] = [
+    (0, AtomicStart::AcquireProducer, 1, Answer::Truth(true)),
+    (1, AtomicStart::Load, 5, Answer::Loaded(ZEROS)),
+    (0, AtomicStart::Store(VALUE), 5, Answer::Truth(true)),
+    (1, AtomicStart::Load, 5, Answer::Loaded(VALUE)),
+];
+
+/// Whether the call takes so many turns, of which the last gives this answer.
+fn answers(
+    machine: &mut Machine<Reading>,
+    party: u32,
+    start: AtomicStart<Reading>,
+    turns: u64,
+    answer: Answer<Reading>,
+) -> bool {
+    let last = Event::Finished(party, Start::Atomic(start), answer);
+    step(machine, Turn::Begin(party, Start::Atomic(start))).is_ok()
+        & goes(machine, party, turns)
+        & (machine.events().last() == Some(&last))
+}
+
+/// Likewise, or whether the words are others.
+fn wrong_of_value(alloc: Global) -> Option<usize> {
+    let Ok(mut machine) = made_of(alloc, Kind::Atomic, 1, 2) else {
+        return Some(0);
+    };
+    for (at, (party, start, turns, answer)) in THREE_WORDS.iter().enumerate() {
+        if !answers(&mut machine, *party, *start, *turns, *answer) {
+            return Some(at);
+        }
+    }
+    if machine.words() == [2, 0, 0, 0, 0, 7, u64::MAX, 9].as_slice() {
+        None
+    } else {
+        Some(THREE_WORDS.len())
+    }
+}
+
+#[test]
+fn three_words_in_one_value(rt: HostRuntime) {
+    assert_eq!(rt; wrong_of_value(rt.alloc()), None);
 }

@@ -1,6 +1,4 @@
 //! Calls that a machine of another kind does not have.
-use crate::rows::made;
-use machine::Machine;
 use machine::event::Start;
 use machine::families::atomic::AtomicStart;
 use machine::families::bits::BitsStart;
@@ -8,12 +6,15 @@ use machine::families::indices::IndexStart;
 use machine::families::indices::robust::RobustStart;
 use machine::families::queues::QueueStart;
 use machine::turn::{Kind, Refusal, Turn};
+use schedule::bare::{made_of, step};
+use std::alloc::Global;
 use std::test::Fail;
 use steps::enums::OwnerId;
 
 const POP: Start<u128> = Start::Queues(QueueStart::Pop);
 
-const WRONG: [(Kind, Start<u128>); 9] = [
+const WRONG: [(Kind, Start<u128>); 10] = [
+    (Kind::Atomic, POP),
     (Kind::Bits, POP),
     (Kind::Counts, POP),
     (Kind::Indices, POP),
@@ -25,20 +26,24 @@ const WRONG: [(Kind, Start<u128>); 9] = [
     (Kind::IndexQueue, Start::Robust(RobustStart::IsLocked)),
 ];
 
-/// Whether the call is refused so, and nothing is written down.
-fn is_wrong(machine: &mut Machine<u128>, start: Start<u128>) -> bool {
-    machine.step(Turn::Begin(0, start)) == Err(Refusal::WrongCall) && machine.events().is_empty()
+/// Whether the call is refused so on a new machine, and nothing is written down.
+fn is_wrong(alloc: Global, kind: Kind, start: Start<u128>) -> bool {
+    match made_of(alloc, kind, 1, 2) {
+        Ok(mut machine) => {
+            step(&mut machine, Turn::Begin(0, start)) == Err(Refusal::WrongCall)
+                && machine.events().is_empty()
+        }
+        Err(_) => false,
+    }
 }
 
 #[test]
 fn wrong_calls(rt: HostRuntime) -> Result<(), Fail> {
     for (at, (kind, start)) in WRONG.iter().enumerate() {
-        let mut machine = made(rt.alloc(), *kind, 1, 2)?;
-        assert!(rt; is_wrong(&mut machine, *start), "{at}");
+        assert!(rt; is_wrong(rt.alloc(), *kind, *start), "{at}");
     }
     // One with an owner, which no constant can hold.
     let acquire = Start::Robust(RobustStart::Acquire(OwnerId::new(2)?));
-    let mut queue = made(rt.alloc(), Kind::IndexQueue, 1, 2)?;
-    assert!(rt; is_wrong(&mut queue, acquire));
+    assert!(rt; is_wrong(rt.alloc(), Kind::IndexQueue, acquire));
     Ok(())
 }

@@ -1,8 +1,7 @@
 //! Bit sets and counting bit sets: scripts, refusals, and sets of 5,000 places.
-use crate::script::{Row, Script, Shows, answers, begins, made, play};
-use machine::Machine;
+use crate::many::with;
+use crate::script::{Played, Row, Script, Shows, first_wrong, opened};
 use machine::event::Event;
-use machine::turn::Kind;
 use std::alloc::{AllocError, Global};
 use std::test::Fail;
 
@@ -110,32 +109,27 @@ const SCRIPTS: [Script; 9] = [
 
 #[test]
 fn scripts_of_flags_and_counts(rt: HostRuntime) -> Result<(), Fail> {
-    play(&rt, rt.alloc(), &SCRIPTS)?;
+    assert_eq!(rt; first_wrong(rt.alloc(), &SCRIPTS)?, None);
     Ok(())
 }
 
-/// Whether each of 5,000 places is set so often, each in so many turns.
-fn all_set(
-    machine: &mut Machine<u128>,
-    kind: Kind,
-    alloc: Global,
-    times: u64,
-    turns: u64,
-) -> Result<bool, AllocError> {
-    let mut right = true;
-    for _ in 0..times {
-        for place in 0..5000u64 {
-            let call = format!(in alloc; "set {place}")?;
-            right &= begins(machine, kind, alloc, 0, call.as_str(), turns)?;
+impl Played {
+    /// Whether each of 5,000 places is set so often, each in so many turns.
+    fn sets_all(&mut self, times: u64, turns: u64) -> Result<bool, AllocError> {
+        let mut right = true;
+        for _ in 0..times {
+            for place in 0..5000u64 {
+                let call = with(self.alloc, "set ", place)?;
+                right &= self.begins(0, &call, turns)?;
+            }
         }
+        Ok(right)
     }
-    Ok(right)
 }
 
 /// Whether the last events, before the end of the call, say of each place that this much was taken out of it, or of 0 that
 /// its flag was cleared.
-fn each_told(machine: &Machine<u128>, number: u64) -> bool {
-    let events = machine.events();
+fn each_told(events: &[Event<u128>], number: u64) -> bool {
     let before = events.len().saturating_sub(5001);
     let mut right = events.len() > 5001;
     for at in 0..5000usize {
@@ -150,32 +144,40 @@ fn each_told(machine: &Machine<u128>, number: u64) -> bool {
     right
 }
 
+/// Whether the flags of 5,000 places are set and then reset.
+fn resets_flags(alloc: Global) -> Result<bool, AllocError> {
+    let Some(mut played) = opened(alloc, "bits 5000 1") else {
+        return Ok(false);
+    };
+    Ok(
+        played.sets_all(1, 2)?
+            && played.answers(0, "reset_all", 79, "done")?
+            && each_told(played.machine.events(), 0)
+            && played.answers(0, "reset_next", 5001, "none")?,
+    )
+}
+
+/// Whether 5,000 places are counted twice and then emptied.
+fn empties_counts(alloc: Global) -> Result<bool, AllocError> {
+    let Some(mut played) = opened(alloc, "counts 5000 1") else {
+        return Ok(false);
+    };
+    Ok(
+        played.sets_all(2, 1)?
+            && played.answers(0, "reset_all", 5000, "done")?
+            && each_told(played.machine.events(), 2)
+            && played.machine.words().iter().all(|count| *count == 0),
+    )
+}
+
 #[test]
 fn five_thousand_flags(rt: HostRuntime) -> Result<(), Fail> {
-    let (kind, mut machine) = made(&rt, rt.alloc(), "bits 5000 1");
-    assert!(rt; all_set(&mut machine, kind, rt.alloc(), 1, 2)?);
-    assert!(rt; answers(&mut machine, kind, rt.alloc(), 0, "reset_all", 79, "done")?);
-    assert!(rt; each_told(&machine, 0));
-    assert!(rt;
-        answers(
-            &mut machine,
-            kind,
-            rt.alloc(),
-            0,
-            "reset_next",
-            5001,
-            "none"
-        )?
-    );
+    assert!(rt; resets_flags(rt.alloc())?);
     Ok(())
 }
 
 #[test]
 fn five_thousand_counts(rt: HostRuntime) -> Result<(), Fail> {
-    let (kind, mut machine) = made(&rt, rt.alloc(), "counts 5000 1");
-    assert!(rt; all_set(&mut machine, kind, rt.alloc(), 2, 1)?);
-    assert!(rt; answers(&mut machine, kind, rt.alloc(), 0, "reset_all", 5000, "done")?);
-    assert!(rt; each_told(&machine, 2));
-    assert!(rt; machine.words().iter().all(|count| *count == 0));
+    assert!(rt; empties_counts(rt.alloc())?);
     Ok(())
 }

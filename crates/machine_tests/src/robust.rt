@@ -1,5 +1,5 @@
 //! The robust set of indices: scripts, owners that die, recoveries, the lock, and refusals.
-use crate::script::{Row, Script, Shows, play};
+use crate::script::{Row, Script, Shows, first_wrong};
 use std::test::Fail;
 
 const EMPTY: u64 = u64::MAX;
@@ -183,7 +183,7 @@ const ROUNDS: [Script; 1] = [("robust 3 1", &[(5_000, &ROUND), (1, &ROUNDS_END)]
 
 #[test]
 fn scripts_of_a_robust_set(rt: HostRuntime) -> Result<(), Fail> {
-    play(&rt, rt.alloc(), &SCRIPTS)?;
-    play(&rt, rt.alloc(), &ROUNDS)?;
+    assert_eq!(rt; first_wrong(rt.alloc(), &SCRIPTS)?, None);
+    assert_eq!(rt; first_wrong(rt.alloc(), &ROUNDS)?, None);
     Ok(())
 }

@@ -1,6 +1,9 @@
 //! Which capacities the sets admit, and how many words they have.
-use crate::script::made;
+use crate::script::opened;
+use machine::Machine;
 use machine::turn::{Kind, capacity_error};
+use schedule::bare::made_of;
+use std::alloc::Global;
 use steps::enums::UniqueIndexCreationError;
 
 const ZERO: Option<UniqueIndexCreationError> = Some(
@@ -11,7 +14,16 @@ const ABOVE: Option<UniqueIndexCreationError> = Some(
     UniqueIndexCreationError::ProvidedCapacityGreaterThanMaxCapacity,
 );
 
-const CAPACITIES: [(Kind, usize, Option<UniqueIndexCreationError>); 14] = [
+const CAPACITIES: [(Kind, usize, Option<UniqueIndexCreationError>); 23] = [
+    (Kind::IndexQueue, 0, None),
+    (Kind::IndexQueue, 4_294_967_295, None),
+    (Kind::IndexQueue, 4_294_967_296, ABOVE),
+    (Kind::Overflow, 0, None),
+    (Kind::Overflow, 4_294_967_295, None),
+    (Kind::Overflow, 4_294_967_296, ABOVE),
+    (Kind::Atomic, 0, ZERO),
+    (Kind::Atomic, 1, None),
+    (Kind::Atomic, 2, ABOVE),
     (Kind::Bits, 0, None),
     (Kind::Bits, 4_294_967_295, None),
     (Kind::Bits, 4_294_967_296, ABOVE),
@@ -28,11 +40,29 @@ const CAPACITIES: [(Kind, usize, Option<UniqueIndexCreationError>); 14] = [
     (Kind::Robust, 4_294_967_296, ABOVE),
 ];
 
-#[test]
-fn admitted_capacities(rt: HostRuntime) {
+fn first_wrong() -> Option<usize> {
     for (at, (kind, capacity, error)) in CAPACITIES.iter().enumerate() {
-        assert!(rt; capacity_error(*kind, *capacity) == *error, "{at}");
+        if capacity_error(*kind, *capacity) != *error {
+            return Some(at);
+        }
     }
+    None
+}
+
+fn is_refused(alloc: Global) -> bool {
+    let made: Result<Machine<u128>, UniqueIndexCreationError> = made_of(
+        alloc,
+        Kind::IndexQueue,
+        4_294_967_296,
+        1,
+    );
+    made.err() == ABOVE
+}
+
+#[test]
+fn capacities(rt: HostRuntime) {
+    assert_eq!(rt; first_wrong(), None);
+    assert!(rt; is_refused(rt.alloc()));
 }
 
 /// Sixty-four flags stand in a word, and a word more has the reset position; a count has a word of its own.
@@ -53,10 +83,16 @@ const SIZES: [(&str, usize); 14] = [
     ("robust 100 1", 101),
 ];
 
+fn has_words(alloc: Global, line: &str, words: usize) -> bool {
+    match opened(alloc, line) {
+        Some(played) => played.machine.words().len() == words,
+        None => false,
+    }
+}
+
 #[test]
 fn how_many_words(rt: HostRuntime) {
     for (line, words) in &SIZES {
-        let (_, machine) = made(&rt, rt.alloc(), line);
-        assert!(rt; machine.words().len() == *words, "{line}");
+        assert!(rt; has_words(rt.alloc(), line, *words), "{line}");
     }
 }
