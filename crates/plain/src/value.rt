@@ -76,7 +76,7 @@ impl<T: Words> UnrestrictedAtomic<T> {
         UnrestrictedAtomic::new_at(alloc, value, 1)
     }
 
-    /// This value, of this version. It is refused as `new` is.
+    /// This value, of this version, which is at least 1. It is refused as `new` is.
     pub fn new_at(
         alloc: Global,
         value: T,
