@@ -1,0 +1,12 @@
+//! Tests of the program's runs: a text of every kind, on readers and writers that fail at each call in turn, and texts
+//! that are broken or long.
+#![tactic(auto)]
+
+#[cfg(test)]
+mod broken;
+#[cfg(test)]
+mod faulty;
+#[cfg(test)]
+mod pipes;
+#[cfg(test)]
+mod texts;

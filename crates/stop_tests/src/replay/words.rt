@@ -1,0 +1,85 @@
+//! What the words hold where the events have come to their end.
+use super::{Replay, Right, bit, want};
+use machine::turn::Kind;
+use steps::words::Words;
+
+/// The word at this place, or a number that none has here.
+fn word(words: &[u64], at: usize) -> u64 {
+    match words.get(at) {
+        Some(word) => *word,
+        None => 77,
+    }
+}
+
+/// Whether the head of a unique set says locked.
+fn says_locked(head: u64) -> bool {
+    head & 0xff_ffff == 0xff_ffff
+}
+
+impl Replay {
+    /// The cell of the version, an odd one the first.
+    fn value_stands(&self, words: &[u64]) -> bool {
+        let cell = if word(words, 0) & 1 == 1 { 2 } else { 4 };
+        word(words, cell) == self.value.word(0)
+            && word(words, cell.wrapping_add(1)) == self.value.word(1)
+    }
+
+    fn owners_stand(&self, words: &[u64]) -> bool {
+        let mut stand = true;
+        for (index, owner) in self.numbers.iter().enumerate() {
+            if (index as u64) < self.capacity {
+                let is_filled = self.stands & bit(index as u64) != 0;
+                let cell = if is_filled { *owner } else { u64::MAX };
+                stand &= word(words, index.wrapping_add(1)) == cell;
+            }
+        }
+        stand
+    }
+
+    /// Places below 63 are in the first word, and place 64 is the lowest of the second.
+    fn flags_stand(&self, words: &[u64]) -> bool {
+        let second = match words.get(2) {
+            Some(word) => *word,
+            None => 0,
+        };
+        word(words, 1) == self.stands & 0x7fff_ffff_ffff_ffff && second == self.stands >> 63
+    }
+
+    fn claims_stand(&self, words: &[u64]) -> bool {
+        let flags = (self.capacity as usize).wrapping_add(1);
+        word(words, flags) == self.stands && says_locked(word(words, 0)) == self.is_locked
+    }
+
+    /// Whether the list by the acts is what waits, as far as the capacity.
+    fn is_list(&self) -> bool {
+        let mut is_list = self.list.len() <= self.capacity;
+        for place in 0..8usize {
+            let is_within = (place as u64) < self.capacity;
+            is_list &= !is_within || self.list.at(place) == self.waits.at(place);
+        }
+        is_list
+    }
+
+    /// Whether the positions are as far apart as the list of those that wait is long.
+    fn waits_stand(&self, words: &[u64]) -> bool {
+        word(words, 0).wrapping_sub(word(words, 1)) == self.waits.len()
+    }
+
+    /// Whether the words hold what the events say.
+    pub fn words_right(&self, words: &[u64]) -> Right {
+        want(self.is_list(), "the list by the acts is what waits")?;
+        let stand = match self.kind {
+            Kind::IndexQueue => self.waits_stand(words),
+            Kind::Overflow => self.waits_stand(words),
+            Kind::Queue => self.waits_stand(words),
+            Kind::Atomic => self.value_stands(words),
+            Kind::Bits => self.flags_stand(words),
+            Kind::Counts => Some(&word(words, 0)) == self.numbers.first(),
+            Kind::Indices => self.claims_stand(words),
+            Kind::Robust => {
+                self.owners_stand(words) && (word(words, 0) == u64::MAX) == self.is_locked
+            }
+        };
+        want(stand, "the words hold what the events say")
+    }
+}
