@@ -11,7 +11,7 @@ use std::test::Fail;
 use std::thread;
 use std::thread::Threads;
 
-/// How often each place is set.
+/// How often each place is set, and how often places are taken out.
 const ROUNDS: u64 = 300;
 
 /// A number for each place.
@@ -72,7 +72,80 @@ impl Three {
     }
 }
 
-/// One who uses a bit set, and how often which place was set by it or handed out to it.
+/// One who sets places and takes them out.
+trait Places: Drop + Sized {
+    /// Another one, with a pass that was made of two.
+    fn another(&mut self) -> Option<Self>;
+
+    /// How many places there are.
+    fn number(&self) -> usize;
+
+    /// Sets a place below that number: where it was this one who did, it adds it there.
+    fn set(&mut self, rt: &impl Wait, place: usize, sums: &mut Sums);
+
+    /// Adds all that stand, and takes them out.
+    fn empty(&mut self, sums: &mut Sums);
+
+    /// A round of what takes places out.
+    fn take(&mut self, rt: &impl Wait, sums: &mut Sums);
+}
+
+/// Sets each place, round for round.
+fn sets<P: Places>(rt: &impl Wait, mut user: P, mut sums: Sums) -> Sums {
+    let places = user.number();
+    for _ in 0..ROUNDS {
+        for place in 0..places {
+            user.set(rt, place, &mut sums);
+        }
+        thread::yield_now();
+    }
+    sums
+}
+
+/// Takes places out, round for round.
+fn takes<P: Places>(rt: &impl Wait, mut user: P, mut sums: Sums) -> Sums {
+    for _ in 0..ROUNDS {
+        user.take(rt, &mut sums);
+        thread::yield_now();
+    }
+    sums
+}
+
+/// What two threads do: where the first set places, and where the second took them out.
+fn set_and_take<R: Threads + Wait + Sync, P: Places + Send>(
+    rt: &R,
+    first: P,
+    second: P,
+    set: Sums,
+    out: Sums,
+) -> (Sums, Sums) {
+    thread::join(
+        rt,
+        move || sets(rt, first, set),
+        move || takes(rt, second, out),
+    )
+}
+
+/// What two threads set while a third takes places out, and what is left. None where there are no further passes.
+fn between<R: Threads + Wait + Sync, P: Places + Send>(
+    rt: &R,
+    mut user: P,
+    sums: Three,
+) -> Option<Three> {
+    let first = user.another()?;
+    let second = user.another()?;
+    let third = user.another()?;
+    let Three { one, two, out } = sums;
+    let (one, (two, mut out)) = thread::join(
+        rt,
+        move || sets(rt, first, one),
+        move || set_and_take(rt, second, third, two, out),
+    );
+    user.empty(&mut out);
+    Some(Three { one, two, out })
+}
+
+/// One who uses a bit set.
 #[derive(Drop)]
 struct BitUser<'a> {
     set: &'a BitSet,
@@ -81,6 +154,15 @@ struct BitUser<'a> {
 }
 
 impl<'a> BitUser<'a> {
+    /// The next place that stands, if any.
+    fn reset(&mut self, rt: &impl Wait, sums: &mut Sums) {
+        if let Some(place) = self.set.reset_next(rt, &mut self.pass) {
+            sums.add(place, 1);
+        }
+    }
+}
+
+impl<'a> Places for BitUser<'a> {
     fn another(&mut self) -> Option<BitUser<'a>> {
         let mut pass = self.pass.split()?;
         let other = self.pass.split()?;
@@ -91,85 +173,28 @@ impl<'a> BitUser<'a> {
         })
     }
 
-    /// Sets a place: where it was this one who did.
-    fn set_one(&mut self, rt: &impl Wait, place: usize, sums: &mut Sums) {
-        if place < self.set.capacity() {
-            if self.set.set(rt, place, &mut self.pass) {
-                sums.add(place, 1);
-            }
-        }
+    fn number(&self) -> usize {
+        self.set.capacity()
     }
 
-    /// Sets each place, round for round.
-    fn sets(mut self, rt: &impl Wait, mut sums: Sums) -> Sums {
-        let places = self.set.capacity();
-        for _ in 0..ROUNDS {
-            for place in 0..places {
-                self.set_one(rt, place, &mut sums);
-            }
-            thread::yield_now();
-        }
-        sums
-    }
-
-    /// The next place that stands, if any.
-    fn reset(&mut self, rt: &impl Wait, sums: &mut Sums) {
-        if let Some(place) = self.set.reset_next(rt, &mut self.pass) {
+    fn set(&mut self, rt: &impl Wait, place: usize, sums: &mut Sums) {
+        if place < self.set.capacity() && self.set.set(rt, place, &mut self.pass) {
             sums.add(place, 1);
         }
     }
 
-    /// All that stand.
-    fn empties(&mut self, sums: &mut Sums) {
+    fn empty(&mut self, sums: &mut Sums) {
         self.set
             .reset_all(|place| sums.add(place, 1), &mut self.pass);
     }
 
     /// Resets places in both ways.
-    fn resets(mut self, rt: &impl Wait, mut sums: Sums) -> Sums {
-        for _ in 0..ROUNDS {
-            self.empties(&mut sums);
-            for _ in 0..40 {
-                self.reset(rt, &mut sums);
-            }
-            thread::yield_now();
+    fn take(&mut self, rt: &impl Wait, sums: &mut Sums) {
+        self.empty(sums);
+        for _ in 0..40 {
+            self.reset(rt, sums);
         }
-        sums
     }
-}
-
-/// What two threads do: where the first set a bit, and where one was handed out to the second.
-fn set_and_reset<R: Threads + Wait + Sync>(
-    rt: &R,
-    first: BitUser<'_>,
-    second: BitUser<'_>,
-    set: Sums,
-    out: Sums,
-) -> (Sums, Sums) {
-    thread::join(
-        rt,
-        move || first.sets(rt, set),
-        move || second.resets(rt, out),
-    )
-}
-
-/// What two threads set while a third resets, and what is left. None where there are no further passes.
-fn bits_between<R: Threads + Wait + Sync>(
-    rt: &R,
-    mut user: BitUser<'_>,
-    sums: Three,
-) -> Option<Three> {
-    let first = user.another()?;
-    let second = user.another()?;
-    let third = user.another()?;
-    let Three { one, two, out } = sums;
-    let (one, (two, mut out)) = thread::join(
-        rt,
-        move || first.sets(rt, one),
-        move || set_and_reset(rt, second, third, two, out),
-    );
-    user.empties(&mut out);
-    Some(Three { one, two, out })
 }
 
 /// One who uses a counting bit set.
@@ -180,7 +205,7 @@ struct CountUser<'a> {
     ghost of: { IsCountsPassOf set.now pass },
 }
 
-impl<'a> CountUser<'a> {
+impl<'a> Places for CountUser<'a> {
     fn another(&mut self) -> Option<CountUser<'a>> {
         let mut pass = self.pass.split()?;
         let other = self.pass.split()?;
@@ -191,84 +216,64 @@ impl<'a> CountUser<'a> {
         })
     }
 
-    /// Counts a place.
-    fn count(&mut self, place: usize, sums: &mut Sums) {
+    fn number(&self) -> usize {
+        self.set.capacity()
+    }
+
+    /// Each counts.
+    fn set(&mut self, _rt: &impl Wait, place: usize, sums: &mut Sums) {
         if place < self.set.capacity() {
             self.set.set(place, &mut self.pass);
             sums.add(place, 1);
         }
     }
 
-    /// Counts each place, round for round: where and how often.
-    fn counts(mut self, mut sums: Sums) -> Sums {
-        let places = self.set.capacity();
-        for _ in 0..ROUNDS {
-            for place in 0..places {
-                self.count(place, &mut sums);
-            }
-            thread::yield_now();
-        }
-        sums
-    }
-
-    /// All counts that stand.
-    fn empties(&mut self, sums: &mut Sums) {
+    fn empty(&mut self, sums: &mut Sums) {
         self.set.reset_all(|state| sums.add(state.bit(), state.count()), &mut self.pass);
     }
 
-    /// Takes the counts out, round for round.
-    fn takes(mut self, mut sums: Sums) -> Sums {
-        for _ in 0..ROUNDS {
-            self.empties(&mut sums);
-            thread::yield_now();
-        }
-        sums
+    fn take(&mut self, _rt: &impl Wait, sums: &mut Sums) {
+        self.empty(sums);
     }
 }
 
-/// What two threads do: where the first counted, and what the second took out.
-fn count_and_take<R: Threads + Sync>(
+/// The first place, if any, of a bit set of this capacity where what was set is not what was taken out.
+fn bits_differ<R: Threads + Wait + Sync>(
     rt: &R,
-    first: CountUser<'_>,
-    second: CountUser<'_>,
-    counted: Sums,
-    out: Sums,
-) -> (Sums, Sums) {
-    thread::join(rt, move || first.counts(counted), move || second.takes(out))
+    alloc: Global,
+    capacity: usize,
+) -> Result<Option<usize>, Fail> {
+    let (set, pass) = BitSet::new(alloc, capacity)?;
+    let user = BitUser { set: &set, pass };
+    let sums = between(rt, user, Three::new(alloc, capacity)?).ok_or("no further pass")?;
+    Ok(sums.differs())
 }
 
-/// What two threads count while a third takes counts out, and what is left. None where there are no further passes.
-fn counts_between<R: Threads + Sync>(
+/// The same of a counting bit set.
+fn counts_differ<R: Threads + Wait + Sync>(
     rt: &R,
-    mut user: CountUser<'_>,
-    sums: Three,
-) -> Option<Three> {
-    let first = user.another()?;
-    let second = user.another()?;
-    let third = user.another()?;
-    let Three { one, two, out } = sums;
-    let (one, (two, mut out)) = thread::join(
-        rt,
-        move || first.counts(one),
-        move || count_and_take(rt, second, third, two, out),
-    );
-    user.empties(&mut out);
-    Some(Three { one, two, out })
+    alloc: Global,
+    capacity: usize,
+) -> Result<Option<usize>, Fail> {
+    let (set, pass) = CountingBitSet::new(alloc, capacity)?;
+    let user = CountUser { set: &set, pass };
+    let sums = between(rt, user, Three::new(alloc, capacity)?).ok_or("no further pass")?;
+    Ok(sums.differs())
 }
 
 #[test]
 fn sets_between_threads(rt: HostRuntime) -> Result<(), Fail> {
     for capacity in [9, 64, 65, 1000] {
-        let (set, pass) = BitSet::new(rt.alloc(), capacity)?;
-        let user = BitUser { set: &set, pass };
-        let sums = Three::new(rt.alloc(), capacity)?;
-        let sums = bits_between(&rt, user, sums).ok_or("no further pass")?;
-        assert_eq!(rt; sums.differs(), None, "bits, {capacity}");
-        let (set, pass) = CountingBitSet::new(rt.alloc(), capacity)?;
-        let user = CountUser { set: &set, pass };
-        let sums = Three::new(rt.alloc(), capacity)?;
-        let sums = counts_between(&rt, user, sums).ok_or("no further pass")?;
-        assert_eq!(rt; sums.differs(), None, "counts, {capacity}");
+        assert_eq!(rt;
+            bits_differ(&rt, rt.alloc(), capacity)?,
+            None,
+            "bits, {capacity}"
+        );
+        assert_eq!(rt;
+            counts_differ(&rt, rt.alloc(), capacity)?,
+            None,
+            "counts, {capacity}"
+        );
     }
     Ok(())
 }

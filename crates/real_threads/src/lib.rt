@@ -15,3 +15,5 @@ mod pairs;
 mod roles;
 #[cfg(test)]
 mod unique;
+#[cfg(test)]
+mod users;

@@ -1,7 +1,10 @@
 //! Overflowing queues: no number is lost, and none comes twice.
+ghost use Rattle.std.specs.Prelude.{◌≡◌};
+ghost use Rattle.lock_free.specs.Ends.{queue_of, IsPassOf};
+
 use crate::limit::{LIMIT, pause};
 use lock_free::spsc::safely_overflowing_index_queue::{
-    Consumer, Producer, SafelyOverflowingIndexQueue,
+    Consumer, Pass, Producer, SafelyOverflowingIndexQueue,
 };
 use std::alloc::AllocError;
 use std::sync::Wait;
@@ -56,14 +59,14 @@ fn are_all(back: &[u64], came: &[u64], left: &[u64]) -> bool {
     (handed, popped, waiting) == (back.len(), came.len(), left.len())
 }
 
-/// The numbers that two threads hand back and take.
+/// The numbers that two threads hand back and take, by both guards of a queue.
 fn in_two_threads<R: Wait + Threads + Sync>(
     rt: &R,
-    back: Vec<u64>,
-    came: Vec<u64>,
-    producer: Producer<'_>,
-    consumer: Consumer<'_>,
+    room: (Vec<u64>, Vec<u64>),
+    ends: (Producer<'_>, Consumer<'_>),
 ) -> Result<Option<(Vec<u64>, Vec<u64>)>, AllocError> {
+    let (back, came) = room;
+    let (producer, consumer) = ends;
     let (back, came) = thread::join(
         rt,
         move || overflow_all(back, producer),
@@ -73,27 +76,55 @@ fn in_two_threads<R: Wait + Threads + Sync>(
     Ok(came?.map(|came| (back, came)))
 }
 
+/// Both guards of a queue.
+fn ends<'a>(
+    queue: &'a SafelyOverflowingIndexQueue,
+    pass: &mut Pass,
+) -> Option<(Producer<'a>, Consumer<'a>)>
+    requires { IsPassOf queue.now pass.old }
+    ensures { queue_of pass.new ≡ queue_of pass.old }
+{
+    let first = pass.split()?;
+    let second = pass.split()?;
+    let Ok(producer) = queue.acquire_producer(first) else {
+        return None;
+    };
+    let Ok(consumer) = queue.acquire_consumer(second) else {
+        return None;
+    };
+    Some((producer, consumer))
+}
+
+/// What waits in a queue that is closed.
+fn left(
+    mut into: Vec<u64>,
+    queue: SafelyOverflowingIndexQueue,
+    pass: Pass,
+) -> Result<Vec<u64>, Fail>
+    requires { IsPassOf queue pass }
+{
+    let mut list = queue.close(pass)?;
+    for _ in 0..3 {
+        if let Some(value) = list.pop() {
+            into.push(value)?;
+        }
+    }
+    Ok(into)
+}
+
 #[test]
 fn numbers_come_or_are_handed_back(rt: HostRuntime) -> Result<(), Fail> {
     // The room is had before the threads start: a thread that had none would leave the other waiting.
     let back = Vec::with_capacity(rt.alloc(), 10_000)?;
     let came = Vec::with_capacity(rt.alloc(), 10_000)?;
-    let mut left = Vec::with_capacity(rt.alloc(), 2)?;
+    let rest = Vec::with_capacity(rt.alloc(), 2)?;
     let (queue, mut pass) = SafelyOverflowingIndexQueue::new(rt.alloc(), 2)?;
-    let first = pass.split().ok_or("no further pass")?;
-    let second = pass.split().ok_or("no further pass")?;
-    let producer = queue.acquire_producer(first).map_err(|_| "taken")?;
-    let consumer = queue.acquire_consumer(second).map_err(|_| "taken")?;
-    let (back, came) = in_two_threads(&rt, back, came, producer, consumer)?.ok_or("the limit")?;
-    let mut list = queue.close(pass)?;
-    for _ in 0..3 {
-        if let Some(value) = list.pop() {
-            left.push(value)?;
-        }
-    }
+    let guards = ends(&queue, &mut pass).ok_or("no ends")?;
+    let (back, came) = in_two_threads(&rt, (back, came), guards)?.ok_or("the limit")?;
+    let rest = left(rest, queue, pass)?;
     assert!(rt;
-        are_all(back.as_slice(), came.as_slice(), left.as_slice()),
-        "{left:?}"
+        are_all(back.as_slice(), came.as_slice(), rest.as_slice()),
+        "{rest:?}"
     );
     Ok(())
 }

@@ -1,11 +1,22 @@
 //! Index queues: threads that wait for one another, and a role that goes from one to another.
 ghost use Rattle.lock_free.specs.Ends.{IsPassOf};
+ghost use Rattle.std.specs.Prelude.{IfOk};
 
 use crate::limit::{LIMIT, pause};
+use lock_free::mpmc::unique_index_set_enums::UniqueIndexCreationError;
 use lock_free::spsc::index_queue::{Consumer, IndexQueue, Pass, Producer};
+use std::alloc::Global;
 use std::test::Fail;
 use std::thread;
 use std::thread::Threads;
+
+/// A new queue, of which a caller needs no more than what its pass is for.
+fn queue(alloc: Global, capacity: usize) -> Result<(IndexQueue, Pass), UniqueIndexCreationError>
+    ensures { IfOk result (λ r. IsPassOf r.0 r.1) }
+{
+    let (queue, pass) = IndexQueue::new(alloc, capacity)?;
+    Ok((queue, pass))
+}
 
 /// Both guards of a queue.
 fn ends<'a>(queue: &'a IndexQueue, pass: Pass) -> Option<(Producer<'a>, Consumer<'a>)>
@@ -13,33 +24,72 @@ fn ends<'a>(queue: &'a IndexQueue, pass: Pass) -> Option<(Producer<'a>, Consumer
 {
     let mut pass = pass;
     let other = pass.split()?;
-    let producer = queue.acquire_producer(pass).ok()?;
-    let consumer = queue.acquire_consumer(other).ok()?;
+    let Ok(producer) = queue.acquire_producer(pass) else {
+        return None;
+    };
+    let Ok(consumer) = queue.acquire_consumer(other) else {
+        return None;
+    };
     Some((producer, consumer))
 }
 
-/// Pushes a number into a queue, and pops from the other's until one comes: which one. None at the limit.
-fn gives_and_takes(number: u64, mut mine: Producer<'_>, mut other: Consumer<'_>) -> Option<u64> {
-    mine.push(number);
-    for _ in 0..LIMIT {
-        if let Some(came) = other.pop() {
-            return Some(came);
+/// One who pushes a number into a queue, and pops from another.
+#[derive(Drop)]
+struct Giver<'a> {
+    number: u64,
+    mine: Producer<'a>,
+    other: Consumer<'a>,
+}
+
+impl<'a> Giver<'a> {
+    /// Pushes its number, and pops until one comes: which one. None at the limit.
+    fn gives_and_takes(mut self) -> Option<u64> {
+        let number = self.number;
+        self.mine.push(number);
+        for _ in 0..LIMIT {
+            if let Some(came) = self.other.pop() {
+                return Some(came);
+            }
         }
+        None
     }
-    None
+}
+
+/// Two, each of whom pops what the other pushes.
+fn two_givers<'a>(
+    one: &'a IndexQueue,
+    of_one: Pass,
+    two: &'a IndexQueue,
+    of_two: Pass,
+) -> Option<(Giver<'a>, Giver<'a>)>
+    requires one { IsPassOf one.now of_one }
+    requires two { IsPassOf two.now of_two }
+{
+    let (to_one, from_one) = ends(one, of_one)?;
+    let (to_two, from_two) = ends(two, of_two)?;
+    let first = Giver {
+        number: 1,
+        mine: to_one,
+        other: from_two,
+    };
+    let second = Giver {
+        number: 2,
+        mine: to_two,
+        other: from_one,
+    };
+    Some((first, second))
 }
 
 /// Neither of two threads comes to an end without the other.
 #[test]
 fn two_that_wait_for_one_another(rt: HostRuntime) -> Result<(), Fail> {
-    let (one, pass) = IndexQueue::new(rt.alloc(), 1)?;
-    let (to_one, of_one) = ends(&one, pass).ok_or("no ends")?;
-    let (two, pass) = IndexQueue::new(rt.alloc(), 1)?;
-    let (to_two, of_two) = ends(&two, pass).ok_or("no ends")?;
+    let (one, of_one) = queue(rt.alloc(), 1)?;
+    let (two, of_two) = queue(rt.alloc(), 1)?;
+    let (first, second) = two_givers(&one, of_one, &two, of_two).ok_or("no ends")?;
     let came = thread::join(
         &rt,
-        move || gives_and_takes(1, to_one, of_two),
-        move || gives_and_takes(2, to_two, of_one),
+        move || first.gives_and_takes(),
+        move || second.gives_and_takes(),
     );
     assert_eq!(rt; came, (Some(2), Some(1)));
     Ok(())
@@ -48,12 +98,11 @@ fn two_that_wait_for_one_another(rt: HostRuntime) -> Result<(), Fail> {
 /// One after the other the first comes to its limit: the test above runs both at once.
 #[test]
 fn one_after_the_other_the_first_waits_in_vain(rt: HostRuntime) -> Result<(), Fail> {
-    let (one, pass) = IndexQueue::new(rt.alloc(), 1)?;
-    let (to_one, of_one) = ends(&one, pass).ok_or("no ends")?;
-    let (two, pass) = IndexQueue::new(rt.alloc(), 1)?;
-    let (to_two, of_two) = ends(&two, pass).ok_or("no ends")?;
-    assert_eq!(rt; gives_and_takes(1, to_one, of_two), None);
-    assert_eq!(rt; gives_and_takes(2, to_two, of_one), Some(1));
+    let (one, of_one) = queue(rt.alloc(), 1)?;
+    let (two, of_two) = queue(rt.alloc(), 1)?;
+    let (first, second) = two_givers(&one, of_one, &two, of_two).ok_or("no ends")?;
+    assert_eq!(rt; first.gives_and_takes(), None);
+    assert_eq!(rt; second.gives_and_takes(), Some(1));
     Ok(())
 }
 
@@ -137,21 +186,24 @@ fn one_by_one<R: Threads + Sync>(rt: &R, first: Producer<'_>, heir: Heir<'_>) ->
     left && right
 }
 
+/// Whether all numbers are pushed, and whether they come in order. None where there are no further passes.
+fn between<R: Threads + Sync>(rt: &R, queue: &IndexQueue, pass: Pass) -> Option<(bool, bool)>
+    requires { IsPassOf queue.now pass }
+{
+    let mut pass = pass;
+    let other = pass.split()?;
+    let heir = Heir { queue, pass: other };
+    let (producer, consumer) = ends(queue, pass)?;
+    Some(thread::join(
+        rt,
+        move || one_by_one(rt, producer, heir),
+        move || pops(consumer),
+    ))
+}
+
 #[test]
 fn a_dropped_guard_is_taken_up(rt: HostRuntime) -> Result<(), Fail> {
-    let (queue, mut pass) = IndexQueue::new(rt.alloc(), 8)?;
-    let other = pass.split().ok_or("no further pass")?;
-    let heir = Heir {
-        queue: &queue,
-        pass: other,
-    };
-    let (producer, consumer) = ends(&queue, pass).ok_or("no ends")?;
-    let handle = &rt;
-    let (pushed, popped) = thread::join(
-        &rt,
-        move || one_by_one(handle, producer, heir),
-        move || pops(consumer),
-    );
-    assert!(rt; pushed && popped, "{pushed} {popped}");
+    let (queue, pass) = queue(rt.alloc(), 8)?;
+    assert_eq!(rt; between(&rt, &queue, pass), Some((true, true)));
     Ok(())
 }
