@@ -1,5 +1,5 @@
 //! The printed schedules: `schedule` takes each of them, and the calls answer as the outcome says.
-use super::{ENOUGH, list_of};
+use crate::listed::{ENOUGH, list_of};
 use std::alloc::{AllocError, Global};
 use std::str;
 use std::test::Fail;

@@ -1,7 +1,7 @@
 use Rattle.std.proofs.Common.{◌≡◌, ℕ, ◌+◌, ◌-◌, ◌*◌, ◌<◌, ◌≤◌, length}
 use denote.Text.{Utf8}
 use denote.Shadow.{shadow}
-use Rattle.outcomes.proofs.tests.schedules.agreeing.Given as goal
+use Rattle.outcomes_tests.proofs.schedules.agreeing.Given as goal
 
 -- the outcome's text is text
 abbrev pub invariant-loop-block : goal.invariant-loop-block

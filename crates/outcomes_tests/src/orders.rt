@@ -1,10 +1,6 @@
 //! The outcomes beside those of whole calls, one after another in every order that keeps each party's own, of a structure
 //! that is ordinary values.
-use super::ENOUGH;
-use crate::error::Failure;
-use crate::run::Answers;
-use crate::search::{Found, Search};
-use crate::text::{self, Text};
+use crate::listed::ENOUGH;
 use machine::event::{Answer, Event, Start};
 use machine::families::atomic::AtomicStart;
 use machine::families::bits::BitsStart;
@@ -12,6 +8,11 @@ use machine::families::indices::IndexStart;
 use machine::families::indices::robust::RobustStart;
 use machine::families::queues::QueueStart;
 use machine::turn::{Kind, Turn};
+use outcomes::error::Failure;
+use outcomes::progress::Progress;
+use outcomes::run::Answers;
+use outcomes::search::{Found, Search};
+use outcomes::text::{self, Party, Text};
 use std::alloc::{AllocError, Global};
 use std::test::Fail;
 use steps::indices::enums::{ReleaseState, UniqueIndexSetAcquireFailure};
@@ -80,6 +81,13 @@ impl Object {
         Ok(Answer::Truth(!stood))
     }
 
+    fn reset_next(&mut self) -> Answer<u128> {
+        match self.take_first() {
+            Some(place) => Answer::Reset(u64::try_from(place).unwrap_or(0)),
+            None => Answer::ResetNone,
+        }
+    }
+
     fn acquire(&mut self) -> Answer<u128> {
         match self.take_first() {
             Some(index) => Answer::Index(u32::try_from(index).unwrap_or(0)),
@@ -96,33 +104,63 @@ impl Object {
         Ok(Answer::State(ReleaseState::Unlocked))
     }
 
-    fn call(&mut self, start: Start<u128>) -> Result<Answer<u128>, AllocError> {
+    // (A match in a match: a pattern two deep costs more to prove.)
+
+    fn queue_call(&mut self, start: QueueStart<u128>) -> Result<Answer<u128>, AllocError> {
         match start {
-            Start::Queues(QueueStart::PushIndex(value)) => self.push(u128::from(value)),
-            Start::Queues(QueueStart::Push(value)) => self.push(value),
-            Start::Queues(QueueStart::Pop) => {
+            QueueStart::PushIndex(value) => self.push(u128::from(value)),
+            QueueStart::Push(value) => self.push(value),
+            QueueStart::Pop => {
                 let oldest = self.take_first();
                 Ok(self.popped(oldest))
             }
-            Start::Atomic(AtomicStart::Store(value)) => {
+            _ => Ok(Answer::Truth(true)),
+        }
+    }
+
+    fn value_call(&mut self, start: AtomicStart<u128>) -> Result<Answer<u128>, AllocError> {
+        match start {
+            AtomicStart::Store(value) => {
                 self.take_first();
                 self.items.push(value)?;
                 Ok(Answer::Truth(true))
             }
-            Start::Atomic(AtomicStart::Load) => {
-                Ok(Answer::Loaded(self.items.first().copied().unwrap_or(0)))
-            }
-            Start::Bits(BitsStart::Set(place)) => self.set(u128::from(place)),
-            Start::Bits(BitsStart::ResetNext) => Ok(match self.take_first() {
-                Some(place) => Answer::Reset(u64::try_from(place).unwrap_or(0)),
-                None => Answer::ResetNone,
-            }),
-            Start::Indices(IndexStart::Acquire) | Start::Robust(RobustStart::Acquire(_)) => {
-                Ok(self.acquire())
-            }
-            Start::Indices(IndexStart::Release(index, _)) => self.release(index),
-            Start::Robust(RobustStart::Release(index, _, _)) => self.release(index),
+            AtomicStart::Load => Ok(Answer::Loaded(self.items.first().copied().unwrap_or(0))),
             _ => Ok(Answer::Truth(true)),
+        }
+    }
+
+    fn bits_call(&mut self, start: BitsStart) -> Result<Answer<u128>, AllocError> {
+        match start {
+            BitsStart::Set(place) => self.set(u128::from(place)),
+            BitsStart::ResetNext => Ok(self.reset_next()),
+            _ => Ok(Answer::Truth(true)),
+        }
+    }
+
+    fn index_call(&mut self, start: IndexStart) -> Result<Answer<u128>, AllocError> {
+        match start {
+            IndexStart::Acquire => Ok(self.acquire()),
+            IndexStart::Release(index, _) => self.release(index),
+            _ => Ok(Answer::Truth(true)),
+        }
+    }
+
+    fn robust_call(&mut self, start: RobustStart) -> Result<Answer<u128>, AllocError> {
+        match start {
+            RobustStart::Acquire(_) => Ok(self.acquire()),
+            RobustStart::Release(index, _, _) => self.release(index),
+            _ => Ok(Answer::Truth(true)),
+        }
+    }
+
+    fn call(&mut self, start: Start<u128>) -> Result<Answer<u128>, AllocError> {
+        match start {
+            Start::Queues(start) => self.queue_call(start),
+            Start::Atomic(start) => self.value_call(start),
+            Start::Bits(start) => self.bits_call(start),
+            Start::Indices(start) => self.index_call(start),
+            Start::Robust(start) => self.robust_call(start),
         }
     }
 }
@@ -132,34 +170,71 @@ fn made(order: &[usize], place: usize) -> usize {
     order.iter().filter(|it| **it == place).count()
 }
 
-// What the calls answer in this order of the parties, party by party.
-fn answers_in(
-    alloc: Global,
-    text: &Text,
-    order: &[usize],
-    answers: &mut Answers,
-) -> Result<Vec<usize>, AllocError> {
+// What comes before is done.
+fn opened(alloc: Global, text: &Text) -> Result<Object, AllocError> {
     let mut object = Object::new(alloc, text.setup.kind, text.setup.capacity as usize)?;
     for opening in text.opening.iter() {
         if let Turn::Begin(_, start) = opening.turn {
             object.call(start)?;
         }
     }
+    Ok(object)
+}
+
+// The party's next call is made, if it has made these.
+fn make(
+    alloc: Global,
+    party: &Party,
+    made: usize,
+    object: &mut Object,
+    answers: &mut Answers,
+) -> Result<Option<usize>, AllocError> {
+    match party.calls.get(made) {
+        Some(start) => {
+            let answer = object.call(*start)?;
+            let event = Event::Finished(party.number, *start, answer);
+            Ok(Some(answers.of_event(alloc, &event, " finished ", "")?))
+        }
+        None => Ok(None),
+    }
+}
+
+// What the calls answer in this order of the parties, each with its party's place.
+fn said_in(
+    alloc: Global,
+    text: &Text,
+    order: &[usize],
+    object: &mut Object,
+    answers: &mut Answers,
+) -> Result<Vec<(usize, usize)>, AllocError> {
     let mut said = Vec::new(alloc);
     for (at, place) in order.iter().enumerate() {
         if let Some(party) = text.parties.get(*place) {
-            let before = order.get(..at).unwrap_or(&[]);
-            if let Some(start) = party.calls.get(made(before, *place)) {
-                let answer = object.call(*start)?;
-                let event = Event::Finished(party.number, *start, answer);
-                said.push((*place, answers.finished(alloc, &event)?))?;
+            let before = made(order.get(..at).unwrap_or(&[]), *place);
+            if let Some(number) = make(alloc, party, before, object, answers)? {
+                said.push((*place, number))?;
             }
         }
     }
-    said.sort_by_key(|it| it.0)?; // which keeps the order of a party's own
+    Ok(said)
+}
+
+// The same party by party.
+fn answers_in(
+    alloc: Global,
+    text: &Text,
+    order: &[usize],
+    answers: &mut Answers,
+) -> Result<Vec<usize>, AllocError> {
+    let mut object = opened(alloc, text)?;
+    let said = said_in(alloc, text, order, &mut object, answers)?;
     let mut all = Vec::new(alloc);
-    for (_, number) in said.iter() {
-        all.push(*number)?;
+    for place in 0..text.parties.len() {
+        for (party, number) in said.iter() {
+            if *party == place {
+                all.push(*number)?;
+            }
+        }
     }
     Ok(all)
 }
@@ -186,7 +261,7 @@ fn allowed(
     let mut allowed = Vec::new(alloc);
     let mut left = Vec::new(alloc);
     left.push(Vec::new(alloc))?;
-    for _ in 0..ENOUGH {
+    for _ in 0..ENOUGH.states {
         let Some(order) = left.pop() else {
             return Ok(allowed);
         };
@@ -222,7 +297,7 @@ fn agrees(alloc: Global, input: &[u8]) -> Result<bool, Failure> {
         stops: false,
         most: ENOUGH,
     };
-    let mut found = search.find()?;
+    let mut found = search.find(&mut Progress::unseen())?;
     let allowed = allowed(alloc, &text, &mut found.answers)?;
     Ok(!found.is_cut && is_same(&found, &allowed))
 }

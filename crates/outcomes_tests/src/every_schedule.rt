@@ -1,52 +1,53 @@
 //! The numbers of schedules beside those of a search that runs every one of them, and knows no state again.
-use super::ENOUGH;
-use crate::error::Failure;
-use crate::run::{Answers, Choice};
-use crate::search::{Found, Search, path_to, replay};
-use crate::text::{self, Text};
-use std::alloc::Global;
+use crate::listed::ENOUGH;
+use outcomes::error::Failure;
+use outcomes::progress::Progress;
+use outcomes::run::{Answers, Choice};
+use outcomes::search::{Ahead, Found, Search};
+use outcomes::text;
+use std::alloc::{AllocError, Global};
+
+fn path_to(alloc: Global, path: &[Choice], choice: Choice) -> Result<Vec<Choice>, AllocError> {
+    let mut longer = Vec::from_slice(alloc, path)?;
+    longer.push(choice)?;
+    Ok(longer)
+}
 
 // A schedule is gone on with by each choice. What it came to is counted where it can end.
 fn go_on(
-    alloc: Global,
-    text: &Text,
-    stops: bool,
+    search: &Search<'_>,
     path: &[Choice],
     left: &mut Vec<Vec<Choice>>,
     ended: &mut Vec<Vec<usize>>,
     answers: &mut Answers,
 ) -> Result<(), Failure> {
-    let run = replay(alloc, text, path, answers)?;
-    let choices = run.choices()?;
-    if choices.is_empty() || stops && run.is_stopped() {
-        ended.push(run.answers(answers)?)?;
+    let Ahead {
+        choices,
+        ended: all,
+    } = search.look(path, answers)?;
+    if let Some(all) = all {
+        ended.push(all)?;
     }
     for choice in choices.iter() {
-        let mut run = replay(alloc, text, path, answers)?;
-        if run.take(*choice, answers)? {
-            left.push(path_to(alloc, path, *choice)?)?;
+        if search.go(path, *choice, answers)?.is_some() {
+            left.push(path_to(search.alloc, path, *choice)?)?;
         }
     }
     Ok(())
 }
 
 // What each schedule came to.
-fn every(
-    alloc: Global,
-    text: &Text,
-    stops: bool,
-    answers: &mut Answers,
-) -> Result<Vec<Vec<usize>>, Failure> {
-    let mut ended = Vec::new(alloc);
-    let mut left = Vec::new(alloc);
-    left.push(Vec::new(alloc))?;
-    for _ in 0..ENOUGH {
+fn every(search: &Search<'_>, answers: &mut Answers) -> Result<Vec<Vec<usize>>, Failure> {
+    let mut ended = Vec::new(search.alloc);
+    let mut left = Vec::new(search.alloc);
+    left.push(Vec::new(search.alloc))?;
+    for _ in 0..ENOUGH.states {
         let Some(path) = left.pop() else {
             return Ok(ended);
         };
-        go_on(alloc, text, stops, &path, &mut left, &mut ended, answers)?;
+        go_on(search, &path, &mut left, &mut ended, answers)?;
     }
-    Err(Failure::TooMany(ENOUGH))
+    Err(Failure::TooMany(ENOUGH.states))
 }
 
 // Whether each outcome has as many schedules as came to it, and there are no others.
@@ -70,8 +71,8 @@ fn agrees(alloc: Global, stops: bool, input: &[u8]) -> Result<bool, Failure> {
         stops,
         most: ENOUGH,
     };
-    let mut found = search.find()?;
-    let ended = every(alloc, &text, stops, &mut found.answers)?;
+    let mut found = search.find(&mut Progress::unseen())?;
+    let ended = every(&search, &mut found.answers)?;
     Ok(!found.is_cut && is_same(&found, &ended))
 }
 

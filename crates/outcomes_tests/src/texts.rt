@@ -1,7 +1,12 @@
 //! Texts that are refused, the bound, and one whole list.
-use super::{ENOUGH, list_of};
+use crate::listed::{ENOUGH, list_of};
+use outcomes::search::Most;
 use std::alloc::Global;
 use std::str;
+
+fn most(states: usize, turns: usize) -> Most {
+    Most { states, turns }
+}
 
 /// A text, and what is told of it.
 type Refused = (&'static [u8], &'static [u8]);
@@ -60,7 +65,8 @@ const TWO_SETS: &[u8] = b"bits 64 2\n0 set 5\n1 set 5\n";
 
 #[test]
 fn too_many_states(rt: HostRuntime) {
-    let listed = list_of(rt.alloc(), false, 4, TWO_SETS);
+    let bound = most(4, ENOUGH.turns);
+    let listed = list_of(rt.alloc(), false, bound, TWO_SETS);
     assert!(rt;
         listed.told.as_slice()
             == b"more than 4 states: not all schedules were gone through\n".as_slice()
@@ -71,6 +77,22 @@ fn too_many_states(rt: HostRuntime) {
             .starts_with(b"0 outcomes of 0 schedules, 5 states\ncut: ")
     );
     assert!(rt; listed.exit == 1);
+}
+
+/// A call before the parties begin that takes 9 turns.
+const LONG_OPEN: &[u8] = b"bits 8 2\nopen 0 reset_next\n0 set 5\n1 set 5\n";
+
+#[test]
+fn unended_open_call(rt: HostRuntime) {
+    let bound = most(ENOUGH.states, 8);
+    let listed = list_of(rt.alloc(), false, bound, LONG_OPEN);
+    assert!(rt;
+        listed.told.as_slice()
+            == b"line 2, column 8: the call has not ended after 8 turns\n".as_slice()
+    );
+    assert!(rt; listed.exit == 1 && listed.output.is_empty());
+    let bound = most(ENOUGH.states, 9);
+    assert!(rt; list_of(rt.alloc(), false, bound, LONG_OPEN).exit == 0);
 }
 
 const REFUSED_CALLS: &[u8] =
