@@ -1,8 +1,7 @@
 //! Reads and writes that fail, and what is told of them.
-use super::super::run_and_tell;
-use super::{STOPPED_PUSH, STOPPED_PUSH_OUTPUT};
+use crate::rows::{STOPPED_PUSH, STOPPED_PUSH_OUTPUT};
+use schedule::bare::{ran_and_told, ran_in, told};
 use schedule::error::{Cause, ScheduleError};
-use schedule::{run, status};
 use std::alloc::{AllocError, Global};
 use std::io;
 use std::io::{ErrorKind, Read, Write};
@@ -84,15 +83,6 @@ impl Write for Stuck {
     }
 }
 
-/// A run whose contract no test needs: each call through it is proved without.
-fn ran<R: Read, W: Write>(
-    alloc: Global,
-    reader: &mut R,
-    writer: &mut W,
-) -> Result<(), ScheduleError> {
-    run(alloc, reader, writer)
-}
-
 /// How a run ends whose reads fail so, and whether it has written what it must.
 fn ends_reading(
     alloc: Global,
@@ -103,7 +93,7 @@ fn ends_reading(
     let input = Vec::from_slice(alloc, STOPPED_PUSH)?;
     let mut reader = Faulty::new(input, 7, calls, kind);
     let mut written: Vec<u8> = Vec::new(alloc);
-    let ended = ran(alloc, &mut reader, &mut written);
+    let ended = ran_in(alloc, alloc, &mut reader, &mut written);
     Ok(if whole {
         ended == Ok(()) && written.as_slice() == STOPPED_PUSH_OUTPUT
     } else {
@@ -139,7 +129,7 @@ fn ends_writing(
 ) -> (Result<(), ScheduleError>, Vec<u8>) {
     let mut reader = STOPPED_PUSH;
     let mut writer = Faulty::new(Vec::new(alloc), at_most, calls, kind);
-    let ended = ran(alloc, &mut reader, &mut writer);
+    let ended = ran_in(alloc, alloc, &mut reader, &mut writer);
     (ended, writer.bytes)
 }
 
@@ -181,7 +171,7 @@ fn failing_writes(rt: HostRuntime) {
 fn failing_flushes(rt: HostRuntime) {
     for input in [STOPPED_PUSH, b"index_queue 1 1\n0 jump"] {
         let mut reader = input;
-        let ended = ran(rt.alloc(), &mut reader, &mut Stuck);
+        let ended = ran_in(rt.alloc(), rt.alloc(), &mut reader, &mut Stuck);
         assert!(rt; ended == Err(ScheduleError::WriteFailed));
     }
 }
@@ -206,30 +196,30 @@ const TOLD: [Told; 6] = [
     (Err(ScheduleError::NoMemory), b"no memory\n", 1),
 ];
 
-fn is_told(alloc: Global, ran: &Result<(), ScheduleError>, told: &[u8], exit: u8) -> bool {
+fn is_told(alloc: Global, ran: &Result<(), ScheduleError>, wanted: &[u8], exit: u8) -> bool {
     let mut errors = Vec::new(alloc);
-    let answer = status(ran, &mut errors);
+    let answer = told(ran, &mut errors);
     // What is told may fail, and the answer stays.
     let mut broken = Faulty::new(Vec::new(alloc), 5, 1, ErrorKind::Other);
-    let same = status(ran, &mut broken);
+    let same = told(ran, &mut broken);
     answer == exit
-        && errors.as_slice() == told
+        && errors.as_slice() == wanted
         && same == exit
-        && told.starts_with(broken.bytes.as_slice())
+        && wanted.starts_with(broken.bytes.as_slice())
 }
 
 #[test]
 fn what_is_told(rt: HostRuntime) {
-    for (at, (ran, told, exit)) in TOLD.iter().enumerate() {
-        assert!(rt; is_told(rt.alloc(), ran, told, *exit), "row {at}");
+    for (at, (ran, wanted, exit)) in TOLD.iter().enumerate() {
+        assert!(rt; is_told(rt.alloc(), ran, wanted, *exit), "row {at}");
     }
 }
 
 /// Whether a run ends with exit 1 and this line.
-fn fails<R: Read, W: Write>(alloc: Global, reader: &mut R, output: &mut W, told: &[u8]) -> bool {
+fn fails<R: Read, W: Write>(alloc: Global, reader: &mut R, output: &mut W, wanted: &[u8]) -> bool {
     let mut errors = Vec::new(alloc);
-    let exit = run_and_tell(alloc, alloc, reader, output, &mut errors);
-    exit == 1 && errors.as_slice() == told
+    let exit = ran_and_told(alloc, alloc, reader, output, &mut errors);
+    exit == 1 && errors.as_slice() == wanted
 }
 
 #[test]

@@ -1,5 +1,5 @@
 //! Schedules of bit sets and of counting bit sets.
-use super::{Run, runs_so};
+use crate::rows::{Run, ends_at_line_2, first_wrong, runs_so};
 use std::io;
 use std::io::Write;
 use std::test::Fail;
@@ -85,20 +85,14 @@ const LINES: [(&[u8], &[u8]); 6] = [
 
 #[test]
 fn schedules_of_flags_and_counts(rt: HostRuntime) {
-    for (at, (input, output, told, exit)) in RUNS.iter().enumerate() {
-        assert!(rt; runs_so(rt.alloc(), input, output, told, *exit), "{at}");
-    }
+    assert_eq!(rt; first_wrong(rt.alloc(), &RUNS), None);
 }
 
 #[test]
 fn calls_that_are_not_read(rt: HostRuntime) -> Result<(), Fail> {
     for (at, (line, cause)) in LINES.iter().enumerate() {
-        let mut input = Vec::from_slice(rt.alloc(), b"bits 8 1\n")?;
-        input.extend_from_slice(line)?;
-        let mut told = Vec::from_slice(rt.alloc(), b"line 2: ")?;
-        told.extend_from_slice(cause)?;
-        told.push(b'\n')?;
-        assert!(rt; runs_so(rt.alloc(), &input, b"", &told, 2), "{at}");
+        let alloc = rt.alloc();
+        assert!(rt; ends_at_line_2(alloc, b"bits 8 1\n", line, cause)?, "{at}");
     }
     Ok(())
 }

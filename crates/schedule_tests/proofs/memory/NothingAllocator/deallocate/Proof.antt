@@ -26,12 +26,12 @@ use denote.Steps.{nothing}
 use denote.Triple.Spec.{triple_of}
 use denote.Triple.Table.{entered}
 use denote.Triple.Walked.{Stays, stay_dropped, walk_of, ends_at, walked, Goes-dropped, walk_Meets}
-use Rattle.schedule_program.specs.contracts.tests.memory.Nothing as BP
+use Rattle.schedule_tests.specs.contracts.memory.Nothing as BP
 use denote.Signature.{type_at, types_at}
-use Rattle.schedule_program.specs.contracts.tests.memory.NothingAllocator.deallocate as F
-use Rattle.schedule_program.specs.contracts.tests.memory.NothingAllocator.deallocate.Key.{name as #self}
-use Rattle.schedule_program.proofs.tests.memory.NothingAllocator.deallocate.Statement as stated
-use Rattle.schedule_program.proofs.tests.memory.NothingAllocator.deallocate.Code as code
+use Rattle.schedule_tests.specs.contracts.memory.NothingAllocator.deallocate as F
+use Rattle.schedule_tests.specs.contracts.memory.NothingAllocator.deallocate.Key.{name as #self}
+use Rattle.schedule_tests.proofs.memory.NothingAllocator.deallocate.Statement as stated
+use Rattle.schedule_tests.proofs.memory.NothingAllocator.deallocate.Code as code
 
 abbrev stayed : Stays (F.ended).signature.params (F.ended).kept
 stayed = (stay_dropped (RefOf (0 ∷ []) tt (plain (λ _. BP.the_row)) (λ _. tt)) yes, (stay_dropped (plain (λ _. RawPtr)) yes, (stay_dropped (plain (λ _. usize)) yes, (stay_dropped (plain (λ _. usize)) yes, tt))))

@@ -1,16 +1,7 @@
 //! Whole runs: worked schedules and broken texts.
-use super::run_and_tell;
+use schedule::bare::ran_and_told;
 use std::alloc::{AllocError, Global};
 use std::test::Fail;
-
-mod atomic;
-mod bits;
-mod failures;
-mod indices;
-mod memory;
-mod robust;
-mod size;
-mod values;
 
 pub const STOPPED_PUSH: &[u8] =
     b"index_queue 1 2\n0 begin acquire_producer\n0 next\n1 begin acquire_consumer\n1 next\n0 begin push 5\n0 next 3\n1 begin pop\n1 next 4\n0 next\n";
@@ -23,7 +14,7 @@ pub fn runs_so(alloc: Global, input: &[u8], output: &[u8], told: &[u8], exit: u8
     let mut reader = input;
     let mut written = Vec::new(alloc);
     let mut errors = Vec::new(alloc);
-    let ended = run_and_tell(alloc, alloc, &mut reader, &mut written, &mut errors);
+    let ended = ran_and_told(alloc, alloc, &mut reader, &mut written, &mut errors);
     written.as_slice() == output && errors.as_slice() == told && ended == exit
 }
 
@@ -215,8 +206,14 @@ fn joined(alloc: Global, one: &[u8], two: &[u8], three: &[u8]) -> Result<Vec<u8>
     Ok(text)
 }
 
-fn ends_at_line_2(alloc: Global, line: &[u8], cause: &[u8]) -> Result<bool, AllocError> {
-    let input = joined(alloc, b"index_queue 1 1\n", line, b"")?;
+/// Whether a run of these two lines ends at the second with this cause.
+pub fn ends_at_line_2(
+    alloc: Global,
+    first: &[u8],
+    line: &[u8],
+    cause: &[u8],
+) -> Result<bool, AllocError> {
+    let input = joined(alloc, first, line, b"")?;
     let told = joined(alloc, b"line 2: ", cause, b"\n")?;
     Ok(runs_so(alloc, &input, b"", &told, 2))
 }
@@ -224,7 +221,11 @@ fn ends_at_line_2(alloc: Global, line: &[u8], cause: &[u8]) -> Result<bool, Allo
 #[test]
 fn broken_later_lines(rt: HostRuntime) -> Result<(), Fail> {
     for (at, (line, cause)) in LATER_LINES.iter().enumerate() {
-        assert!(rt; ends_at_line_2(rt.alloc(), line, cause)?, "line {at}");
+        let alloc = rt.alloc();
+        assert!(rt;
+            ends_at_line_2(alloc, b"index_queue 1 1\n", line, cause)?,
+            "line {at}"
+        );
     }
     Ok(())
 }

@@ -27,12 +27,12 @@ use denote.Triple.Spec.{triple_of}
 use denote.Triple.Table.{entered}
 use denote.Triple.Walked.{Stays, stay_dropped, walk_of, ends_at, walked, Goes-dropped, walk_Meets}
 use Rattle.std.proofs.alloc.Calls.{Answer, answer_val, Answer-typed, Answer-err}
-use Rattle.schedule_program.specs.contracts.tests.memory.Nothing as BP
+use Rattle.schedule_tests.specs.contracts.memory.Nothing as BP
 use denote.Signature.{type_at, types_at}
-use Rattle.schedule_program.specs.contracts.tests.memory.NothingAllocator.allocate as F
-use Rattle.schedule_program.specs.contracts.tests.memory.NothingAllocator.allocate.Key.{name as #self}
-use Rattle.schedule_program.proofs.tests.memory.NothingAllocator.allocate.Statement as stated
-use Rattle.schedule_program.proofs.tests.memory.NothingAllocator.allocate.Code as code
+use Rattle.schedule_tests.specs.contracts.memory.NothingAllocator.allocate as F
+use Rattle.schedule_tests.specs.contracts.memory.NothingAllocator.allocate.Key.{name as #self}
+use Rattle.schedule_tests.proofs.memory.NothingAllocator.allocate.Statement as stated
+use Rattle.schedule_tests.proofs.memory.NothingAllocator.allocate.Code as code
 
 abbrev stayed : Stays (F.ended).signature.params (F.ended).kept
 stayed = (stay_dropped (RefOf (0 ∷ []) tt (plain (λ _. BP.the_row)) (λ _. tt)) yes, (stay_dropped (plain (λ _. usize)) yes, (stay_dropped (plain (λ _. usize)) yes, tt)))

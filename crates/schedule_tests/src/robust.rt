@@ -1,5 +1,5 @@
 //! Schedules of the robust set of indices.
-use super::runs_so;
+use crate::rows::runs_so;
 
 /// An acquire fills a cell that the lock has read as empty, and meets the lock.
 const MEETS_THE_LOCK: &[u8] =

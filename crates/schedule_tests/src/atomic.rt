@@ -1,5 +1,5 @@
 //! Schedules of the single value.
-use super::{Run, first_wrong};
+use crate::rows::{Run, first_wrong};
 
 /// A load reads one word of its cell, two values are stored, and then it goes on.
 const STOPPED_LOAD: &[u8] =

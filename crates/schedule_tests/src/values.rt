@@ -1,5 +1,5 @@
 //! The queue of values, whose numbers have two words.
-use super::{Run, first_wrong};
+use crate::rows::{Run, first_wrong};
 
 const RUNS: [Run; 3] = [
     // A push stops inside its cell: a pop finds nothing, and once the push has gone on, the value counts.

@@ -1,5 +1,5 @@
 //! Inputs of many pieces, of long lines, and of lines that end where a piece does.
-use super::runs_so;
+use crate::rows::runs_so;
 use std::alloc::{AllocError, Global};
 use std::io;
 use std::io::Write;

@@ -1,10 +1,9 @@
 //! What a run answers where memory is refused.
 ghost use Rattle.std.specs.Borrow.{ffalse};
 
-use super::super::run_and_tell;
-use super::{STOPPED_PUSH, STOPPED_PUSH_OUTPUT};
+use crate::rows::{STOPPED_PUSH, STOPPED_PUSH_OUTPUT};
+use schedule::bare::{ran_and_told, ran_in};
 use schedule::error::{Cause, ScheduleError};
-use schedule::runs::run_in;
 use std::alloc::{AllocError, Allocator};
 
 /// Memory that is refused at every call.
@@ -32,7 +31,7 @@ fn the_first_piece_is_refused(rt: HostRuntime) {
     ];
     for (input, wanted) in rows {
         let mut reader = input;
-        let ended = run_in(Nothing, rt.alloc(), &mut reader, &mut written);
+        let ended = ran_in(Nothing, rt.alloc(), &mut reader, &mut written);
         assert!(rt; ended == wanted && written.is_empty());
     }
 }
@@ -43,10 +42,10 @@ fn the_room_for_the_output_is_refused(rt: HostRuntime) {
     let mut reader = STOPPED_PUSH;
     let mut written: Vec<u8> = Vec::new(alloc);
     let mut errors: Vec<u8> = Vec::new(alloc);
-    let ended = run_and_tell(Nothing, alloc, &mut reader, &mut written, &mut errors);
+    let ended = ran_and_told(Nothing, alloc, &mut reader, &mut written, &mut errors);
     assert!(rt; ended == 1 && written.is_empty());
     assert!(rt; errors.as_slice() == b"no memory\n".as_slice());
     // Nothing was read, so that another run has it all.
-    let ended = run_and_tell(alloc, alloc, &mut reader, &mut written, &mut errors);
+    let ended = ran_and_told(alloc, alloc, &mut reader, &mut written, &mut errors);
     assert!(rt; ended == 0 && written.as_slice() == STOPPED_PUSH_OUTPUT);
 }

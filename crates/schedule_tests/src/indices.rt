@@ -1,5 +1,5 @@
 //! Schedules of the unique index set.
-use super::runs_so;
+use crate::rows::runs_so;
 
 /// A release whose exchange fails subtracts: another party has taken an index since it loaded the head.
 const FALLS_BACK: &[u8] =
