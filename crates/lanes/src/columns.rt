@@ -1,132 +1,161 @@
 //! A run in columns of text: a line a turn, a column a party.
 use crate::recorded::Did;
-use crate::story::Story;
+use crate::story::{Call, Story};
+use schedule::pen::Pen;
 use std::alloc::{AllocError, Global};
 
 /// How many turns stand under one head.
 const PAGE: usize = 60;
 
-// As many spaces as are missing to this width.
-fn pad(text: &mut String, from: usize, width: usize) -> Result<(), AllocError> {
-    for _ in text.len().saturating_sub(from)..width {
-        text.push(' ')?;
+fn sign_of(did: Did) -> &'static str {
+    match did {
+        Did::Back => "<",
+        Did::Step => "|",
+        Did::Begin | Did::NoStep | Did::Said(_) | Did::Died => "'",
     }
-    Ok(())
 }
 
-// What a lane shows at a turn: what its party did, the answer with which its call ends, the numbers of its acts.
-fn cell(alloc: Global, story: &Story, lane: usize, turn: usize) -> Result<String, AllocError> {
-    let mut text = String::new(alloc);
-    let mut under_way = false;
-    let mut ends = false;
+// A call at a turn of its own or of another. Whether it goes on behind it.
+fn write_call(pen: &mut Pen, call: &Call, turn: usize) -> bool {
+    let ends = call.end == Some(turn);
+    if call.begin == turn {
+        pen.put("+ ");
+        pen.put(call.name());
+    } else if ends {
+        pen.put("= ");
+        pen.put(call.answer());
+    }
+    !ends
+}
+
+// The call of a lane at a turn. Whether there is one that goes on behind it.
+fn write_calls(pen: &mut Pen, story: &Story, lane: usize, turn: usize) -> bool {
+    let mut goes_on = false;
     for call in story.calls.iter() {
         if call.lane == lane && call.begin <= turn && call.end.unwrap_or(usize::MAX) >= turn {
-            under_way = true;
-            ends = call.end == Some(turn);
-            if call.begin == turn {
-                let name = call
-                    .text
-                    .split_once(" ->")
-                    .map_or(call.text.as_str(), |it| it.0);
-                write!(text, "+ {name}")?;
-            } else if ends {
-                let answer = call.text.split_once("-> ").map_or("", |it| it.1);
-                write!(text, "= {answer}")?;
-            }
+            goes_on = write_call(pen, call, turn);
         }
     }
-    let own = story.turns.get(turn).filter(|it| it.lane == lane);
-    match own {
-        Some(it) if it.refused => text.push_str("x")?,
-        Some(it) if text.is_empty() => match it.did {
-            Did::Back => text.push_str("<")?,
-            Did::Step => text.push_str("|")?,
-            Did::Begin | Did::NoStep | Did::Said(_) | Did::Died => text.push_str("'")?,
-        },
-        None if under_way && !ends => text.push_str(":")?,
-        _ => {}
-    }
+    goes_on
+}
+
+// What is named of a lane at a turn, and the numbers of its acts.
+fn write_marks(pen: &mut Pen, story: &Story, lane: usize, turn: usize) {
     for mark in story.marks.iter() {
         if mark.turn == turn && mark.lane == lane {
-            let said = &mark.text;
-            write!(text, " {said}")?;
+            pen.put(" ");
+            pen.put(&mark.text);
         }
     }
     for act in story.acts.iter() {
         if act.turn == turn && act.lane == lane {
-            let number = act.number;
-            write!(text, " *{number}")?;
+            pen.number(" *", act.number);
         }
     }
-    Ok(text)
+}
+
+// What a lane shows at a turn: what its party did, the answer with which its call ends, the numbers of its acts.
+fn write_cell(pen: &mut Pen, story: &Story, lane: usize, turn: usize) {
+    let from = pen.len();
+    let goes_on = write_calls(pen, story, lane, turn);
+    match story.turns.get(turn) {
+        Some(own) if own.lane == lane => {
+            if own.refused {
+                pen.put("x");
+            } else if pen.len() == from {
+                pen.put(sign_of(own.did));
+            }
+        }
+        _ => {
+            if goes_on {
+                pen.put(":");
+            }
+        }
+    }
+    write_marks(pen, story, lane, turn);
+}
+
+// The width of a lane's column.
+fn width_of(alloc: Global, story: &Story, lane: usize, name: &str) -> Result<usize, AllocError> {
+    let mut width = name.len();
+    for turn in 0..story.turns.len() {
+        let mut pen = Pen::new(alloc);
+        write_cell(&mut pen, story, lane, turn);
+        width = width.max(pen.done()?.len());
+    }
+    Ok(width.saturating_add(2))
 }
 
 fn widths_of(alloc: Global, story: &Story) -> Result<Vec<usize>, AllocError> {
     let mut widths = Vec::new(alloc);
     for (lane, name) in story.lanes.iter().enumerate() {
-        let mut width = name.len();
-        for turn in 0..story.turns.len() {
-            width = width.max(cell(alloc, story, lane, turn)?.len());
-        }
-        widths.push(width.saturating_add(2))?;
+        widths.push(width_of(alloc, story, lane, name)?)?;
     }
     Ok(widths)
 }
 
-fn head(text: &mut String, story: &Story, widths: &[usize]) -> Result<(), AllocError> {
-    text.push_str("\nturn  ")?;
+fn write_head(pen: &mut Pen, story: &Story, widths: &[usize]) {
+    pen.put("\nturn  ");
     for (name, width) in story.lanes.iter().zip(widths) {
-        let from = text.len();
-        text.push_str(name)?;
-        pad(text, from, *width)?;
+        let from = pen.len();
+        pen.put(name);
+        pen.pad(from, *width);
     }
-    let opening = &story.opening;
-    write!(text, "contents, at first {opening}\n")
+    pen.put("contents, at first ");
+    pen.put(&story.opening);
+    pen.put("\n");
 }
 
 // The line of a turn, with spaces behind it.
 fn row(alloc: Global, story: &Story, widths: &[usize], turn: usize) -> Result<String, AllocError> {
+    let mut pen = Pen::new(alloc);
     let number = turn.saturating_add(1);
-    let mut text = format!(in alloc; "{number:>4}  ")?;
+    pen.put(&format!(in alloc; "{number:>4}  ")?);
     for (lane, width) in widths.iter().enumerate() {
-        let from = text.len();
-        text.push_str(&cell(alloc, story, lane, turn)?)?;
-        pad(&mut text, from, *width)?;
+        let from = pen.len();
+        write_cell(&mut pen, story, lane, turn);
+        pen.pad(from, *width);
     }
     for after in story.contents.iter() {
         if after.turn == turn {
-            text.push_str(&after.text)?;
+            pen.put(&after.text);
         }
     }
-    Ok(text)
+    pen.done()
+}
+
+// All turns.
+fn write_rows(pen: &mut Pen, alloc: Global, story: &Story) -> Result<(), AllocError> {
+    let widths = widths_of(alloc, story)?;
+    let mut left = 0;
+    for turn in 0..story.turns.len() {
+        if left == 0 {
+            write_head(pen, story, &widths);
+            left = PAGE;
+        }
+        left = left.saturating_sub(1);
+        pen.put(row(alloc, story, &widths, turn)?.trim_end());
+        pen.put("\n");
+    }
+    Ok(())
 }
 
 /// The run as a text: `+` begins a call, `|` is a step, `<` one that goes back, `'` a turn without a step, `=` ends the
 /// call, `x` is refused, `:` stands while others have turns, and `*` numbers the acts.
 pub fn draw(alloc: Global, story: &Story) -> Result<String, AllocError> {
-    let mut text = String::new(alloc);
-    text.push_str(&story.title)?;
-    text.push_str("\n")?;
-    let widths = widths_of(alloc, story)?;
-    let mut left = 0;
-    for turn in 0..story.turns.len() {
-        if left == 0 {
-            head(&mut text, story, &widths)?;
-            left = PAGE;
-        }
-        left = left.saturating_sub(1);
-        let row = row(alloc, story, &widths, turn)?;
-        text.push_str(row.trim_end())?;
-        text.push_str("\n")?;
-    }
+    let mut pen = Pen::new(alloc);
+    pen.put(&story.title);
+    pen.put("\n");
+    write_rows(&mut pen, alloc, story)?;
     if story.cut {
-        text.push_str("further turns are left out\n")?;
+        pen.put("further turns are left out\n");
     }
-    let order = story.order;
-    write!(text, "\n{order}:\n")?;
+    pen.put("\n");
+    pen.put(story.order);
+    pen.put(":\n");
     for act in story.acts.iter() {
-        let told = story.told(alloc, act)?;
-        write!(text, "{told}\n")?;
+        pen.put(&story.told(alloc, act)?);
+        pen.put("\n");
     }
-    Ok(text)
+    pen.done()
 }

@@ -32,6 +32,54 @@ pub fn has_acts(kind: Kind) -> bool {
     )
 }
 
+/// A change of a set.
+#[derive(Clone, Copy)]
+enum Change {
+    /// The item of this key is there, with this number, surely or not yet.
+    Puts(u128, u64, bool),
+    /// The count of this place is one more.
+    Counts(u128),
+    Takes(u128),
+    Locks,
+}
+
+fn change_of(event: &Event<u128>) -> Option<Change> {
+    match *event {
+        Event::Set(_, place) => Some(Change::Puts(u128::from(place), 1, true)),
+        Event::Cleared(_, place) => Some(Change::Takes(u128::from(place))),
+        Event::Counted(_, place) => Some(Change::Counts(u128::from(place))),
+        Event::TakenOut(_, place, _) => Some(Change::Takes(u128::from(place))),
+        Event::Claimed(party, index) => {
+            Some(Change::Puts(u128::from(index), u64::from(party), true))
+        }
+        Event::Freed(_, index) => Some(Change::Takes(u128::from(index))),
+        Event::Locked(_) => Some(Change::Locks),
+        Event::Filled(_, index, owner) => {
+            Some(Change::Puts(u128::from(index), owner.value(), false))
+        }
+        Event::Granted(_, index, owner) => {
+            Some(Change::Puts(u128::from(index), owner.value(), true))
+        }
+        Event::FreedOf(_, index, _) => Some(Change::Takes(u128::from(index))),
+        _ => None,
+    }
+}
+
+fn truth_of(answer: &Answer<u128>) -> Option<bool> {
+    match *answer {
+        Answer::Truth(said) => Some(said),
+        _ => None,
+    }
+}
+
+// Whether the oldest value goes.
+fn hands_back(answer: &Answer<u128>) -> bool {
+    match *answer {
+        Answer::PoppedIndex(_) | Answer::Popped(_) => true,
+        _ => false,
+    }
+}
+
 impl Contents {
     /// As a machine of this kind opens.
     pub fn new(alloc: Global, kind: Kind) -> Result<Contents, AllocError> {
@@ -86,36 +134,27 @@ impl Contents {
     }
 
     fn push(&mut self, value: u128, answer: &Answer<u128>) -> Result<(), AllocError> {
-        match *answer {
-            Answer::Truth(false) => {}
-            Answer::PoppedIndex(_) | Answer::Popped(_) => {
-                self.append(value)?;
-                self.take_first();
-            }
-            _ => self.append(value)?,
+        if truth_of(answer) == Some(false) {
+            return Ok(());
+        }
+        self.append(value)?;
+        if hands_back(answer) {
+            self.take_first();
         }
         Ok(())
     }
 
-    fn pop(&mut self, answer: &Answer<u128>) {
-        if matches!(*answer, Answer::PoppedIndex(_) | Answer::Popped(_)) {
-            self.take_first();
-        }
-    }
-
-    // A call acts.
-    fn act(&mut self, start: &Start<u128>, answer: &Answer<u128>) -> Result<(), AllocError> {
+    fn act_in_queue(
+        &mut self,
+        start: &QueueStart<u128>,
+        answer: &Answer<u128>,
+    ) -> Result<(), AllocError> {
         match *start {
-            Start::Queues(QueueStart::PushIndex(value)) => self.push(u128::from(value), answer),
-            Start::Queues(QueueStart::Push(value)) => self.push(value, answer),
-            Start::Queues(QueueStart::Pop) => {
-                self.pop(answer);
-                Ok(())
-            }
-            Start::Atomic(AtomicStart::Store(value)) => {
-                if matches!(*answer, Answer::Truth(true)) {
+            QueueStart::PushIndex(value) => self.push(u128::from(value), answer),
+            QueueStart::Push(value) => self.push(value, answer),
+            QueueStart::Pop => {
+                if hands_back(answer) {
                     self.take_first();
-                    self.append(value)?;
                 }
                 Ok(())
             }
@@ -123,33 +162,57 @@ impl Contents {
         }
     }
 
-    /// Something happens.
-    pub fn go_on(&mut self, event: &Event<u128>) -> Result<(), AllocError> {
-        match *event {
-            Event::Acted(_, start, answer) => self.act(&start, &answer)?,
-            Event::Set(_, place) => self.put(u128::from(place), 1, true)?,
-            Event::Cleared(_, place) => self.take(u128::from(place)),
-            Event::Counted(_, place) => {
-                let key = u128::from(place);
-                let count = self.count_at(key).saturating_add(1);
-                self.put(key, count, true)?;
-            }
-            Event::TakenOut(_, place, _) => self.take(u128::from(place)),
-            Event::Claimed(party, index) => {
-                self.put(u128::from(index), u64::from(party), true)?;
-            }
-            Event::Freed(_, index) => self.take(u128::from(index)),
-            Event::Locked(_) => self.locked = true,
-            Event::Filled(_, index, owner) => {
-                self.put(u128::from(index), owner.value(), false)?;
-            }
-            Event::Granted(_, index, owner) => {
-                self.put(u128::from(index), owner.value(), true)?;
-            }
-            Event::FreedOf(_, index, _) => self.take(u128::from(index)),
-            _ => {}
+    fn store(&mut self, value: u128, answer: &Answer<u128>) -> Result<(), AllocError> {
+        if truth_of(answer) == Some(true) {
+            self.take_first();
+            self.append(value)?;
         }
         Ok(())
+    }
+
+    // A call acts.
+    fn act(&mut self, start: &Start<u128>, answer: &Answer<u128>) -> Result<(), AllocError> {
+        match start {
+            Start::Queues(start) => self.act_in_queue(start, answer),
+            Start::Atomic(start) => match *start {
+                AtomicStart::Store(value) => self.store(value, answer),
+                _ => Ok(()),
+            },
+            _ => Ok(()),
+        }
+    }
+
+    fn change(&mut self, change: Change) -> Result<(), AllocError> {
+        match change {
+            Change::Puts(key, with, surely) => self.put(key, with, surely),
+            Change::Counts(key) => {
+                let count = self.count_at(key).saturating_add(1);
+                self.put(key, count, true)
+            }
+            Change::Takes(key) => {
+                self.take(key);
+                Ok(())
+            }
+            Change::Locks => {
+                self.locked = true;
+                Ok(())
+            }
+        }
+    }
+
+    /// Something happens. Whether it changes what is in a set.
+    pub fn go_on(&mut self, event: &Event<u128>) -> Result<bool, AllocError> {
+        if let Event::Acted(_, start, answer) = event {
+            self.act(start, answer)?;
+            return Ok(false);
+        }
+        match change_of(event) {
+            Some(change) => {
+                self.change(change)?;
+                Ok(true)
+            }
+            None => Ok(false),
+        }
     }
 
     fn write_item(&self, text: &mut String, item: Item) -> Result<(), AllocError> {
@@ -165,6 +228,20 @@ impl Contents {
         }
     }
 
+    fn write_items(&self, text: &mut String) -> Result<(), AllocError> {
+        for (at, item) in self.items.iter().enumerate() {
+            if at >= SHOWN {
+                let all = self.items.len();
+                return write!(text, ", .. {all} in all");
+            }
+            if at > 0 {
+                text.push_str(", ")?;
+            }
+            self.write_item(text, *item)?;
+        }
+        Ok(())
+    }
+
     /// The contents as a text: a list in brackets, the oldest first, a set in braces, a single value as it is.
     pub fn text(&self, alloc: Global) -> Result<String, AllocError> {
         let mut text = String::new(alloc);
@@ -174,17 +251,7 @@ impl Contents {
             _ => ("{", "}"),
         };
         text.push_str(open)?;
-        for (at, item) in self.items.iter().enumerate() {
-            if at >= SHOWN {
-                let all = self.items.len();
-                write!(text, ", .. {all} in all")?;
-                break;
-            }
-            if at > 0 {
-                text.push_str(", ")?;
-            }
-            self.write_item(&mut text, *item)?;
-        }
+        self.write_items(&mut text)?;
         text.push_str(close)?;
         if self.locked {
             text.push_str(" locked")?;

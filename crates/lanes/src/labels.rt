@@ -1,4 +1,5 @@
 //! Labels that stand beside one another where there is room, and else a line further out; and the pieces of a picture.
+use schedule::pen::Pen;
 use std::alloc::{AllocError, Global};
 
 /// The height of a line of text, in the units of the picture, and so those below.
@@ -16,55 +17,49 @@ pub fn lines_high(count: usize) -> usize {
 }
 
 /// Writes a text that begins here.
-pub fn text_at(
-    out: &mut String,
-    class: &str,
-    x: usize,
-    y: usize,
-    text: &str,
-) -> Result<(), AllocError> {
-    write!(
-        out,
-        "<text class=\"{class}\" x=\"{x}\" y=\"{y}\">{text}</text>\n"
-    )
+pub fn text_at(pen: &mut Pen, class: &str, x: usize, y: usize, text: &str) {
+    pen.put("<text class=\"");
+    pen.put(class);
+    pen.number("\" x=\"", x);
+    pen.number("\" y=\"", y);
+    pen.put("\">");
+    pen.put(text);
+    pen.put("</text>\n");
 }
 
 /// Draws a line from one place to another.
-pub fn line_at(
-    out: &mut String,
-    class: &str,
-    from: (usize, usize),
-    to: (usize, usize),
-) -> Result<(), AllocError> {
-    let ((a, b), (c, d)) = (from, to);
-    write!(
-        out,
-        "<line class=\"{class}\" x1=\"{a}\" y1=\"{b}\" x2=\"{c}\" y2=\"{d}\"/>\n"
-    )
+pub fn line_at(pen: &mut Pen, class: &str, from: (usize, usize), to: (usize, usize)) {
+    pen.put("<line class=\"");
+    pen.put(class);
+    pen.number("\" x1=\"", from.0);
+    pen.number("\" y1=\"", from.1);
+    pen.number("\" x2=\"", to.0);
+    pen.number("\" y2=\"", to.1);
+    pen.put("\"/>\n");
 }
 
 #[derive(Drop)]
-struct Label {
+struct Label<'a> {
     x: usize,
     // Where its text begins: there, but for one that would not end on the page.
     from: usize,
     level: usize,
     class: &'static str,
-    text: String,
+    text: &'a str,
 }
 
 /// The labels of a lane, in the order in which they begin.
 #[derive(Drop)]
-pub struct Labels {
-    labels: Vec<Label>,
+pub struct Labels<'a> {
+    labels: Vec<Label<'a>>,
     /// Where the last label of each level ends.
     ends: Vec<usize>,
     /// Where the page ends.
     right: usize,
 }
 
-impl Labels {
-    pub fn new(alloc: Global, right: usize) -> Labels {
+impl<'a> Labels<'a> {
+    pub fn new(alloc: Global, right: usize) -> Labels<'a> {
         Labels {
             right,
             labels: Vec::new(alloc),
@@ -92,13 +87,7 @@ impl Labels {
     }
 
     /// One more, which begins here.
-    pub fn add(
-        &mut self,
-        x: usize,
-        text: &str,
-        class: &'static str,
-        alloc: Global,
-    ) -> Result<(), AllocError> {
+    pub fn add(&mut self, x: usize, text: &'a str, class: &'static str) -> Result<(), AllocError> {
         let width = text.len().saturating_mul(LETTER).saturating_add(LETTER);
         let from = x.min(self.right.saturating_sub(width));
         let level = self.place(from, from.saturating_add(width))?;
@@ -107,44 +96,36 @@ impl Labels {
             from,
             level,
             class,
-            text: String::from_str(alloc, text)?,
+            text,
         })?;
         Ok(())
     }
 
     /// Draws them above this height, each with a line down to it.
-    pub fn draw_above(&self, out: &mut String, y: usize) -> Result<(), AllocError> {
+    pub fn draw_above(&self, pen: &mut Pen, y: usize) {
         for label in self.labels.iter() {
             let at = y.saturating_sub(lines_high(label.level)).saturating_sub(4);
             if label.level > 0 {
-                line_at(out, "l", (label.x, at.saturating_sub(8)), (label.x, y))?;
+                line_at(pen, "l", (label.x, at.saturating_sub(8)), (label.x, y));
             }
-            text_at(
-                out,
-                label.class,
-                label.from.saturating_add(3),
-                at,
-                &label.text,
-            )?;
+            label.draw(pen, at);
         }
-        Ok(())
     }
 
     /// Draws them below this height, each with a line up to it.
-    pub fn draw_below(&self, out: &mut String, y: usize) -> Result<(), AllocError> {
+    pub fn draw_below(&self, pen: &mut Pen, y: usize) {
         for label in self.labels.iter() {
             let at = y
                 .saturating_add(lines_high(label.level))
                 .saturating_add(LINE - 2);
-            line_at(out, "l", (label.x, y), (label.x, at))?;
-            text_at(
-                out,
-                label.class,
-                label.from.saturating_add(3),
-                at,
-                &label.text,
-            )?;
+            line_at(pen, "l", (label.x, y), (label.x, at));
+            label.draw(pen, at);
         }
-        Ok(())
+    }
+}
+
+impl Label<'_> {
+    fn draw(&self, pen: &mut Pen, y: usize) {
+        text_at(pen, self.class, self.from.saturating_add(3), y, self.text);
     }
 }

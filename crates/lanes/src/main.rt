@@ -8,17 +8,18 @@ mod labels;
 mod recorded;
 mod story;
 mod svg;
+mod teller;
 
 use recorded::{Recorded, record};
+use schedule::arguments::is_given;
 use schedule::error::ScheduleError;
 use schedule::input::whole_input;
 use schedule::output::{flush, put};
 use schedule::status;
 use std::alloc::{AllocError, Global};
-use std::env;
 use std::io::{self, BufWriter, Read, Write};
 use std::process::ExitCode;
-use story::Story;
+use teller::tell;
 
 /// What a run is drawn as.
 #[derive(Clone, Copy)]
@@ -28,7 +29,7 @@ enum Form {
 }
 
 fn picture_of(alloc: Global, form: Form, run: &Recorded) -> Result<String, AllocError> {
-    let story = Story::of(alloc, run)?;
+    let story = tell(alloc, run)?;
     match form {
         Form::Svg => svg::draw(alloc, &story),
         Form::Columns => columns::draw(alloc, &story),
@@ -81,23 +82,14 @@ fn draw_and_tell<R: Read, W: Write, E: Write>(
     status(&drawn, errors)
 }
 
-// None where an argument is not known.
-fn form_of(rt: &HostRuntime) -> io::Result<Option<Form>> {
-    let mut form = Form::Svg;
-    for argument in env::args(rt)?.skip(1) {
-        if argument.as_str() == "--text" {
-            form = Form::Columns;
-        } else {
-            return Ok(None);
-        }
-    }
-    Ok(Some(form))
-}
-
 fn main(rt: HostRuntime) -> io::Result<ExitCode> {
-    let Some(form) = form_of(&rt)? else {
-        eprintln!(rt; "usage: lanes [--text] <SCHEDULE")?;
-        return Ok(ExitCode::from(2));
+    let form = match is_given(&rt, "--text")? {
+        Some(true) => Form::Columns,
+        Some(false) => Form::Svg,
+        None => {
+            eprintln!(rt; "usage: lanes [--text] <SCHEDULE")?;
+            return Ok(ExitCode::from(2));
+        }
     };
     let exit = draw_and_tell(
         rt.alloc(),

@@ -1,18 +1,18 @@
 //! The turns of a schedule, with what each of them came to.
 use machine::Machine;
 use machine::party::Progress;
-use machine::turn::{Refusal, Turn, capacity_error};
+use machine::turn::{Refusal, Turn};
+use schedule::bare::{is_going, made, read_command, read_setup, step, under_way};
 use schedule::error::{Cause, ScheduleError};
-use schedule::grammar::{Command, Setup, command_of, setup_of};
+use schedule::grammar::{Command, Setup};
 use schedule::text::{Rest, lines};
 use std::alloc::Global;
-use steps::enums::UniqueIndexCreationError;
 
 /// The most turns that are drawn: a hundred pages.
 const MOST: usize = 6000;
 
 /// What a turn is.
-#[derive(Clone, Copy, PartialEq, Eq)]
+#[derive(Clone, Copy)]
 pub enum Did {
     Begin,
     /// A step on one word.
@@ -63,36 +63,53 @@ fn step_of(before: Option<Progress>, after: Option<Progress>) -> Did {
     }
 }
 
+// The party whose turn it is.
+fn party_of(turn: &Turn<u128>) -> Option<u32> {
+    match *turn {
+        Turn::Begin(party, _) | Turn::Next(party) | Turn::Decide(party, _) => Some(party),
+        Turn::Die(_) => None,
+    }
+}
+
+fn did_of(turn: &Turn<u128>, before: Option<Progress>, after: Option<Progress>) -> Did {
+    match *turn {
+        Turn::Begin(_, _) => Did::Begin,
+        Turn::Next(_) => step_of(before, after),
+        Turn::Decide(_, said) => Did::Said(said),
+        Turn::Die(_) => Did::Died,
+    }
+}
+
 impl Recorded {
+    fn push(&mut self, taken: Taken) -> Result<(), ScheduleError> {
+        match self.turns.push(taken) {
+            Ok(()) => Ok(()),
+            Err(_) => Err(ScheduleError::NoMemory),
+        }
+    }
+
     // One turn. Whether the party's call goes on.
     fn take(&mut self, turn: Turn<u128>) -> Result<bool, ScheduleError> {
         if self.turns.len() >= MOST {
             self.cut = true;
             return Ok(false);
         }
-        let party = match turn {
-            Turn::Begin(party, _) | Turn::Next(party) | Turn::Decide(party, _) => Some(party),
-            Turn::Die(_) => None,
-        };
+        let party = party_of(&turn);
         let number = party.unwrap_or(0);
-        let before = self.machine.under_way(number);
-        let refusal = self.machine.step(turn).err();
-        let did = match turn {
-            Turn::Begin(_, _) => Did::Begin,
-            Turn::Next(_) => step_of(before, self.machine.under_way(number)),
-            Turn::Decide(_, said) => Did::Said(said),
-            Turn::Die(_) => Did::Died,
-        };
+        let before = under_way(&self.machine, number);
+        let refusal = step(&mut self.machine, turn).err();
+        let did = did_of(&turn, before, under_way(&self.machine, number));
         let taken = Taken {
-            party: party.filter(|number| *number < self.setup.parties),
+            party: match party {
+                Some(number) if number < self.setup.parties => party,
+                _ => None,
+            },
             did,
             refusal,
             events: self.machine.events().len(),
         };
-        match self.turns.push(taken) {
-            Ok(()) => Ok(refusal.is_none() && self.machine.is_going(number)),
-            Err(_) => Err(ScheduleError::NoMemory),
-        }
+        self.push(taken)?;
+        Ok(refusal.is_none() && is_going(&self.machine, number))
     }
 
     // What a line asks for.
@@ -109,6 +126,23 @@ impl Recorded {
         Ok(())
     }
 
+    // A line after the first. Whether the lines go on.
+    fn line(&mut self, number: u64, line: &[u8]) -> Result<bool, ScheduleError> {
+        if line.is_empty() {
+            return Ok(true);
+        }
+        match read_command(self.setup.kind, line) {
+            Ok(command) => {
+                self.command(command)?;
+                Ok(true)
+            }
+            Err(cause) => {
+                self.malformed = Some((number, cause));
+                Ok(false)
+            }
+        }
+    }
+
     // The lines after the first, of which at most so many bytes are left.
     fn lines(&mut self, bytes: usize, lines: Rest<'_>) -> Result<(), ScheduleError> {
         let mut left = lines;
@@ -116,31 +150,12 @@ impl Recorded {
             let Some((line, rest)) = left.first() else {
                 return Ok(());
             };
-            if !line.is_empty() {
-                match command_of(self.setup.kind, line) {
-                    Ok(command) => self.command(command)?,
-                    Err(cause) => {
-                        self.malformed = Some(((at as u64).saturating_add(2), cause));
-                        return Ok(());
-                    }
-                }
+            if !self.line((at as u64).saturating_add(2), line)? {
+                return Ok(());
             }
             left = rest;
         }
         Ok(())
-    }
-}
-
-fn first_line(line: &[u8]) -> Result<Setup, Cause> {
-    let setup = setup_of(line)?;
-    match capacity_error(setup.kind, setup.capacity as usize) {
-        Some(UniqueIndexCreationError::ProvidedCapacityGreaterThanMaxCapacity) => {
-            Err(Cause::ProvidedCapacityGreaterThanMaxCapacity)
-        }
-        Some(UniqueIndexCreationError::ProvidedCapacityIsZero) => {
-            Err(Cause::ProvidedCapacityIsZero)
-        }
-        Some(UniqueIndexCreationError::NoMemory) | None => Ok(setup),
     }
 }
 
@@ -149,11 +164,11 @@ pub fn record(alloc: Global, input: &[u8]) -> Result<Recorded, ScheduleError> {
     let Some((first, rest)) = lines(input).first() else {
         return Err(ScheduleError::Malformed(1, Cause::MissingValue));
     };
-    let setup = match first_line(first) {
+    let setup = match read_setup(first) {
         Ok(setup) => setup,
         Err(cause) => return Err(ScheduleError::Malformed(1, cause)),
     };
-    let Ok(machine) = Machine::new(alloc, setup.kind, setup.capacity as usize, setup.parties) else {
+    let Some(machine) = made(alloc, setup) else {
         return Err(ScheduleError::NoMemory);
     };
     let mut run = Recorded {

@@ -1,7 +1,8 @@
 //! A run as a picture, an SVG: time goes to the right, a column a turn, and pages stand below one another.
-use crate::labels::{BAR, LETTER, LINE, Labels, line_at, lines_high, text_at};
+use crate::labels::{BAR, LETTER, LINE, Labels, line_at, text_at};
 use crate::recorded::Did;
-use crate::story::{Call, Story};
+use crate::story::{Call, Story, Turned};
+use schedule::pen::Pen;
 use std::alloc::{AllocError, Global};
 
 /// How many turns a page has.
@@ -45,7 +46,7 @@ struct Bar {
     ends: bool,
 }
 
-impl Page<'_> {
+impl<'a> Page<'a> {
     fn has(&self, turn: usize) -> bool {
         self.first <= turn && turn < self.end
     }
@@ -81,12 +82,13 @@ impl Page<'_> {
     }
 
     // The calls of a lane by name.
-    fn names(&self, lane: usize) -> Result<Labels, AllocError> {
+    fn names(&self, lane: usize) -> Result<Labels<'a>, AllocError> {
+        let story = self.story;
         let mut labels = Labels::new(self.alloc, self.right);
-        for call in self.story.calls.iter() {
+        for call in story.calls.iter() {
             if call.lane == lane {
                 if let Some(bar) = self.bar(call) {
-                    labels.add(bar.left, &call.text, "", self.alloc)?;
+                    labels.add(bar.left, call.text.as_str(), "")?;
                 }
             }
         }
@@ -94,114 +96,65 @@ impl Page<'_> {
     }
 
     // The marks of a lane by name.
-    fn marks(&self, lane: usize) -> Result<Labels, AllocError> {
+    fn marks(&self, lane: usize) -> Result<Labels<'a>, AllocError> {
+        let story = self.story;
         let mut labels = Labels::new(self.alloc, self.right);
-        for mark in self.story.marks.iter() {
+        for mark in story.marks.iter() {
             if mark.lane == lane && self.has(mark.turn) {
                 let class = if mark.refused { "r" } else { "" };
-                labels.add(self.x(mark.turn), &mark.text, class, self.alloc)?;
+                labels.add(self.x(mark.turn), mark.text.as_str(), class)?;
             }
         }
         Ok(labels)
     }
 
     // The contents, as they are when the page begins and after each change.
-    fn contents(&self) -> Result<Labels, AllocError> {
+    fn contents(&self) -> Result<Labels<'a>, AllocError> {
+        let story = self.story;
         let mut labels = Labels::new(self.alloc, self.right);
-        let before = self
-            .story
-            .contents
-            .iter()
-            .filter(|after| after.turn < self.first);
-        let opening = before
-            .last()
-            .map_or(&self.story.opening, |after| &after.text);
-        labels.add(LEFT, opening, "m", self.alloc)?;
-        for after in self.story.contents.iter() {
+        labels.add(LEFT, story.contents_before(self.first), "m")?;
+        for after in story.contents.iter() {
             if self.has(after.turn) {
-                labels.add(self.x(after.turn), &after.text, "", self.alloc)?;
+                labels.add(self.x(after.turn), after.text.as_str(), "")?;
             }
         }
         Ok(labels)
     }
 
-    fn draw_bars(&self, out: &mut String, lane: usize, top: usize) -> Result<(), AllocError> {
-        let low = top.saturating_add(BAR);
+    fn draw_bars(&self, pen: &mut Pen, lane: usize, top: usize) {
         for call in self.story.calls.iter() {
             if call.lane == lane {
                 if let Some(bar) = self.bar(call) {
-                    let Bar { left, right, .. } = bar;
-                    let wide = right.saturating_sub(left);
-                    write!(
-                        out,
-                        "<rect class=\"b\" x=\"{left}\" y=\"{top}\" width=\"{wide}\" height=\"{BAR}\"/>\n"
-                    )?;
-                    line_at(out, "o", (left, top), (right, top))?;
-                    line_at(out, "o", (left, low), (right, low))?;
-                    if bar.begins {
-                        line_at(out, "k", (left, top), (left, low))?;
-                    }
-                    if bar.ends {
-                        line_at(out, "k", (right, top), (right, low))?;
-                    }
+                    bar.draw(pen, top);
                 }
             }
         }
-        Ok(())
     }
 
     // What a lane's party did in each of its turns.
-    fn draw_turns(&self, out: &mut String, lane: usize, top: usize) -> Result<(), AllocError> {
-        let low = top.saturating_add(BAR);
-        let middle = top.saturating_add(BAR / 2);
+    fn draw_turns(&self, pen: &mut Pen, lane: usize, top: usize) {
         for (turn, turned) in self.story.turns.iter().enumerate() {
             if turned.lane == lane && self.has(turn) {
-                let x = self.x(turn);
-                let (left, right) = (x.saturating_sub(5), x.saturating_add(5));
-                let (over, under) = (middle.saturating_sub(5), middle.saturating_add(5));
-                if turned.refused {
-                    line_at(out, "z", (left, over), (right, under))?;
-                    line_at(out, "z", (left, under), (right, over))?;
-                    continue;
-                }
-                match turned.did {
-                    Did::Step => line_at(out, "k", (x, top), (x, low))?,
-                    Did::Back => {
-                        write!(
-                            out,
-                            "<path class=\"w\" d=\"M{right} {over}L{left} {middle}L{right} {under}\"/>\n"
-                        )?;
-                    }
-                    Did::NoStep | Did::Said(_) => line_at(out, "s", (x, top), (x, low))?,
-                    Did::Begin | Did::Died => {}
-                }
+                draw_turn(pen, turned, self.x(turn), top);
             }
         }
-        Ok(())
     }
 
-    fn draw_acts(&self, out: &mut String, lane: usize, top: usize) -> Result<(), AllocError> {
+    fn draw_acts(&self, pen: &mut Pen, lane: usize, top: usize) {
         let y = top.saturating_add(BAR / 2);
-        let low = y.saturating_add(3);
         let mut last = usize::MAX;
         for act in self.story.acts.iter() {
             if act.lane == lane && self.has(act.turn) && act.turn != last {
                 last = act.turn;
-                let x = self.x(act.turn);
-                let number = act.number;
-                write!(
-                    out,
-                    "<circle class=\"d\" cx=\"{x}\" cy=\"{y}\" r=\"8\"/><text class=\"e\" x=\"{x}\" y=\"{low}\">{number}</text>\n"
-                )?;
+                draw_act(pen, act.number, self.x(act.turn), y);
             }
         }
-        Ok(())
     }
 
     // A lane from here on. Where it ends.
     fn draw_lane(
         &self,
-        out: &mut String,
+        pen: &mut Pen,
         lane: usize,
         name: &str,
         y: usize,
@@ -209,75 +162,135 @@ impl Page<'_> {
         let (names, marks) = (self.names(lane)?, self.marks(lane)?);
         let top = y.saturating_add(names.height()).saturating_add(4);
         let low = top.saturating_add(BAR);
-        text_at(out, "h", 8, top.saturating_add(13), name)?;
-        line_at(
-            out,
-            "g",
-            (LEFT, top.saturating_add(BAR / 2)),
-            (self.right, top.saturating_add(BAR / 2)),
-        )?;
-        names.draw_above(out, top)?;
-        marks.draw_below(out, low)?;
-        self.draw_bars(out, lane, top)?;
-        self.draw_turns(out, lane, top)?;
-        self.draw_acts(out, lane, top)?;
+        let middle = top.saturating_add(BAR / 2);
+        text_at(pen, "h", 8, top.saturating_add(13), name);
+        line_at(pen, "g", (LEFT, middle), (self.right, middle));
+        names.draw_above(pen, top);
+        marks.draw_below(pen, low);
+        self.draw_bars(pen, lane, top);
+        self.draw_turns(pen, lane, top);
+        self.draw_acts(pen, lane, top);
         Ok(low.saturating_add(marks.height()).saturating_add(12))
     }
 
     // The acts in their order. Where the list ends.
-    fn draw_list(&self, out: &mut String, y: usize) -> Result<usize, AllocError> {
+    fn draw_list(&self, pen: &mut Pen, y: usize) -> Result<usize, AllocError> {
         let x = self.right.saturating_add(24);
-        text_at(out, "h", x, y, self.story.order)?;
+        text_at(pen, "h", x, y, self.story.order);
         let mut at = y;
         for act in self.story.acts.iter() {
             if self.has(act.turn) {
                 at = at.saturating_add(LINE + 2);
-                let text = self.story.told(self.alloc, act)?;
-                text_at(out, "", x, at, &text)?;
+                text_at(pen, "", x, at, &self.story.told(self.alloc, act)?);
             }
         }
         Ok(at)
     }
 
     // Light lines through all lanes at the turns in which something acts.
-    fn draw_guides(&self, out: &mut String, y: usize, low: usize) -> Result<(), AllocError> {
+    fn draw_guides(&self, pen: &mut Pen, y: usize, low: usize) {
         for after in self.story.contents.iter() {
             if self.has(after.turn) {
-                line_at(out, "g", (self.x(after.turn), y), (self.x(after.turn), low))?;
+                line_at(pen, "g", (self.x(after.turn), y), (self.x(after.turn), low));
             }
         }
-        Ok(())
+    }
+
+    // The numbers of the turns.
+    fn draw_numbers(&self, pen: &mut Pen, y: usize) {
+        text_at(pen, "m", 8, y, "turn");
+        for turn in self.first..self.end {
+            pen.number("<text class=\"n\" x=\"", self.x(turn));
+            pen.number("\" y=\"", y);
+            pen.number("\">", turn.saturating_add(1));
+            pen.put("</text>\n");
+        }
     }
 
     // The page from here on. Where it ends.
-    fn draw(&self, out: &mut String, y: usize) -> Result<usize, AllocError> {
+    fn draw(&self, pen: &mut Pen, y: usize) -> Result<usize, AllocError> {
         let head = y.saturating_add(10);
-        text_at(out, "m", 8, head, "turn")?;
-        for turn in self.first..self.end {
-            let x = self.x(turn);
-            let number = turn.saturating_add(1);
-            write!(
-                out,
-                "<text class=\"n\" x=\"{x}\" y=\"{head}\">{number}</text>\n"
-            )?;
-        }
-        let mut inside = String::new(self.alloc);
+        self.draw_numbers(pen, head);
+        let mut inside = Pen::new(self.alloc);
         let mut low = head.saturating_add(8);
         for (lane, name) in self.story.lanes.iter().enumerate() {
             low = self.draw_lane(&mut inside, lane, name, low)?;
         }
-        self.draw_guides(out, head.saturating_add(4), low)?;
-        out.push_str(&inside)?;
+        self.draw_guides(pen, head.saturating_add(4), low);
+        pen.put(&inside.done()?);
         let contents = self.contents()?;
-        text_at(out, "h", 8, low.saturating_add(LINE - 2), "contents")?;
-        contents.draw_below(out, low)?;
-        let list = self.draw_list(out, head)?;
+        text_at(pen, "h", 8, low.saturating_add(LINE - 2), "contents");
+        contents.draw_below(pen, low);
+        let list = self.draw_list(pen, head)?;
         Ok(
             low.saturating_add(contents.height())
                 .max(list)
                 .saturating_add(24),
         )
     }
+}
+
+impl Bar {
+    fn draw(self, pen: &mut Pen, top: usize) {
+        let Bar { left, right, .. } = self;
+        let low = top.saturating_add(BAR);
+        pen.number("<rect class=\"b\" x=\"", left);
+        pen.number("\" y=\"", top);
+        pen.number("\" width=\"", right.saturating_sub(left));
+        pen.number("\" height=\"", BAR);
+        pen.put("\"/>\n");
+        line_at(pen, "o", (left, top), (right, top));
+        line_at(pen, "o", (left, low), (right, low));
+        if self.begins {
+            line_at(pen, "k", (left, top), (left, low));
+        }
+        if self.ends {
+            line_at(pen, "k", (right, top), (right, low));
+        }
+    }
+}
+
+// What a turn was, in the middle of its column.
+fn draw_turn(pen: &mut Pen, turned: &Turned, x: usize, top: usize) {
+    let low = top.saturating_add(BAR);
+    let middle = top.saturating_add(BAR / 2);
+    if turned.refused {
+        draw_cross(pen, x, middle);
+        return;
+    }
+    match turned.did {
+        Did::Step => line_at(pen, "k", (x, top), (x, low)),
+        Did::Back => draw_hook(pen, x, middle),
+        Did::NoStep | Did::Said(_) => line_at(pen, "s", (x, top), (x, low)),
+        Did::Begin | Did::Died => {}
+    }
+}
+
+fn draw_cross(pen: &mut Pen, x: usize, y: usize) {
+    let (left, right) = (x.saturating_sub(5), x.saturating_add(5));
+    let (over, under) = (y.saturating_sub(5), y.saturating_add(5));
+    line_at(pen, "z", (left, over), (right, under));
+    line_at(pen, "z", (left, under), (right, over));
+}
+
+fn draw_hook(pen: &mut Pen, x: usize, y: usize) {
+    let (left, right) = (x.saturating_sub(5), x.saturating_add(5));
+    pen.number("<path class=\"w\" d=\"M", right);
+    pen.number(" ", y.saturating_sub(5));
+    pen.number("L", left);
+    pen.number(" ", y);
+    pen.number("L", right);
+    pen.number(" ", y.saturating_add(5));
+    pen.put("\"/>\n");
+}
+
+fn draw_act(pen: &mut Pen, number: usize, x: usize, y: usize) {
+    pen.number("<circle class=\"d\" cx=\"", x);
+    pen.number("\" cy=\"", y);
+    pen.number("\" r=\"8\"/><text class=\"e\" x=\"", x);
+    pen.number("\" y=\"", y.saturating_add(3));
+    pen.number("\">", number);
+    pen.put("</text>\n");
 }
 
 // The width of the list at the right.
@@ -289,15 +302,14 @@ fn list_width(alloc: Global, story: &Story) -> Result<usize, AllocError> {
     Ok(most.saturating_mul(LETTER).saturating_add(32))
 }
 
-/// The run as a picture.
-pub fn draw(alloc: Global, story: &Story) -> Result<String, AllocError> {
+// All pages, of which each ends here. Where the last one ends.
+fn draw_pages(
+    alloc: Global,
+    story: &Story,
+    pen: &mut Pen,
+    right: usize,
+) -> Result<usize, AllocError> {
     let turns = story.turns.len();
-    let right = turns
-        .clamp(LEAST, PAGE)
-        .saturating_mul(PITCH)
-        .saturating_add(LEFT + 8);
-    let mut body = String::new(alloc);
-    text_at(&mut body, "h", 8, 18, &story.title)?;
     let mut y = 30usize;
     let mut first = 0usize;
     for _ in 0..turns.div_ceil(PAGE).max(1) {
@@ -309,20 +321,51 @@ pub fn draw(alloc: Global, story: &Story) -> Result<String, AllocError> {
             end,
             right,
         };
-        y = page.draw(&mut body, y)?;
+        y = page.draw(pen, y)?;
         first = end;
     }
+    Ok(y)
+}
+
+// What stands below the pages. Where it ends.
+fn draw_legend(story: &Story, pen: &mut Pen, from: usize) -> usize {
+    let mut y = from;
     if story.cut {
-        text_at(&mut body, "r", 8, y, "further turns are left out")?;
+        text_at(pen, "r", 8, y, "further turns are left out");
         y = y.saturating_add(LINE);
     }
+    for said in LEGEND.iter() {
+        text_at(pen, "m", 8, y, said);
+        y = y.saturating_add(LINE);
+    }
+    y
+}
+
+/// The run as a picture.
+pub fn draw(alloc: Global, story: &Story) -> Result<String, AllocError> {
+    let right = story
+        .turns
+        .len()
+        .clamp(LEAST, PAGE)
+        .saturating_mul(PITCH)
+        .saturating_add(LEFT + 8);
+    let mut body = Pen::new(alloc);
+    text_at(&mut body, "h", 8, 18, &story.title);
+    let low = draw_pages(alloc, story, &mut body, right)?;
+    let high = draw_legend(story, &mut body, low);
     let mut wide = right.saturating_add(list_width(alloc, story)?);
     for said in LEGEND.iter() {
-        text_at(&mut body, "m", 8, y, said)?;
-        y = y.saturating_add(LINE);
         wide = wide.max(said.len().saturating_mul(LETTER).saturating_add(16));
     }
-    format!(in alloc;
-        "<svg xmlns=\"http://www.w3.org/2000/svg\" width=\"{wide}\" height=\"{y}\" viewBox=\"0 0 {wide} {y}\">\n{STYLE}<rect width=\"100%\" height=\"100%\" fill=\"#fff\"/>\n{body}</svg>\n"
-    )
+    let mut pen = Pen::new(alloc);
+    pen.number("<svg xmlns=\"http://www.w3.org/2000/svg\" width=\"", wide);
+    pen.number("\" height=\"", high);
+    pen.number("\" viewBox=\"0 0 ", wide);
+    pen.number(" ", high);
+    pen.put("\">\n");
+    pen.put(STYLE);
+    pen.put("<rect width=\"100%\" height=\"100%\" fill=\"#fff\"/>\n");
+    pen.put(&body.done()?);
+    pen.put("</svg>\n");
+    pen.done()
 }

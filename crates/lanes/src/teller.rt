@@ -1,0 +1,270 @@
+//! Tells a run: what was done in each turn, by the lines that a schedule prints of it.
+use crate::contents::{Contents, has_acts};
+use crate::recorded::{Did, Recorded, Taken};
+use crate::story::{Act, After, Call, Mark, Story, Turned};
+use machine::event::Event;
+use machine::turn::Kind;
+use schedule::bare::{line_of, line_of_refusal, text_of};
+use std::alloc::{AllocError, Global};
+
+// The first word, and what stands behind it.
+fn halves(text: &str) -> (&str, &str) {
+    text.split_once(' ').unwrap_or((text, ""))
+}
+
+// Which of these is the number, or how many there are.
+fn place_of(numbers: &[u32], number: u32) -> usize {
+    for (at, it) in numbers.iter().enumerate() {
+        if *it == number {
+            return at;
+        }
+    }
+    numbers.len()
+}
+
+// The lane of the party that a line begins with, or that of no party.
+fn lane_of(parties: &[u32], word: &str) -> usize {
+    match word.parse::<u32>() {
+        Ok(party) => place_of(parties, party),
+        Err(_) => parties.len(),
+    }
+}
+
+fn parties_of(alloc: Global, turns: &[Taken]) -> Result<Vec<u32>, AllocError> {
+    let mut parties = Vec::new(alloc);
+    for turn in turns {
+        if let Some(party) = turn.party {
+            if !parties.contains(&party) {
+                parties.push(party)?;
+            }
+        }
+    }
+    parties.sort()?;
+    Ok(parties)
+}
+
+fn names_of(alloc: Global, run: &Recorded, parties: &[u32]) -> Result<Vec<String>, AllocError> {
+    let mut names = Vec::new(alloc);
+    for party in parties {
+        names.push(format!(in alloc; "party {party}")?)?;
+    }
+    if run.turns.iter().any(|turn| turn.party.is_none()) {
+        names.push(format!(in alloc; "no party")?)?;
+    }
+    Ok(names)
+}
+
+fn name_of(kind: Kind) -> &'static str {
+    match kind {
+        Kind::IndexQueue => "index_queue",
+        Kind::Overflow => "overflow",
+        Kind::Queue => "queue",
+        Kind::Atomic => "atomic",
+        Kind::Bits => "bits",
+        Kind::Counts => "counts",
+        Kind::Indices => "indices",
+        Kind::Robust => "robust",
+    }
+}
+
+fn title_of(alloc: Global, run: &Recorded) -> Result<String, AllocError> {
+    let name = name_of(run.setup.kind);
+    let capacity = run.setup.capacity;
+    let number = run.setup.parties;
+    format!(in alloc; "{name}, capacity {capacity}, parties {number}")
+}
+
+fn opening(alloc: Global, run: &Recorded, parties: &[u32]) -> Result<Story, AllocError> {
+    let order = if has_acts(run.setup.kind) {
+        "calls in the order in which they act"
+    } else {
+        "changes in their order"
+    };
+    Ok(Story {
+        title: title_of(alloc, run)?,
+        order,
+        lanes: names_of(alloc, run, parties)?,
+        turns: Vec::new(alloc),
+        calls: Vec::new(alloc),
+        marks: Vec::new(alloc),
+        acts: Vec::new(alloc),
+        opening: Contents::new(alloc, run.setup.kind)?.text(alloc)?,
+        contents: Vec::new(alloc),
+        cut: run.cut,
+    })
+}
+
+impl Mark {
+    fn add(&mut self, said: &str) -> Result<(), AllocError> {
+        if self.text.len() < 60 {
+            write!(self.text, ", {said}")
+        } else if !self.text.ends_with("..") {
+            self.text.push_str(", ..")
+        } else {
+            Ok(())
+        }
+    }
+}
+
+/// A story up to some turn.
+#[derive(Drop)]
+struct Teller<'a> {
+    alloc: Global,
+    parties: &'a [u32],
+    contents: Contents,
+    story: Story,
+}
+
+impl Teller<'_> {
+    fn begin(&mut self, lane: usize, turn: usize, said: &str) -> Result<(), AllocError> {
+        self.story.calls.push(Call {
+            lane,
+            begin: turn,
+            end: None,
+            text: String::from_str(self.alloc, said)?,
+        })?;
+        Ok(())
+    }
+
+    fn finish(&mut self, lane: usize, turn: usize, said: &str) -> Result<(), AllocError> {
+        let text = String::from_str(self.alloc, said)?;
+        for call in self.story.calls.iter_mut() {
+            if call.lane == lane && call.end.is_none() {
+                call.end = Some(turn);
+                call.text = text;
+                return Ok(());
+            }
+        }
+        Ok(())
+    }
+
+    fn act(&mut self, lane: usize, turn: usize, said: &str) -> Result<(), AllocError> {
+        let number = self.story.acts.len().saturating_add(1);
+        self.story.acts.push(Act {
+            lane,
+            turn,
+            number,
+            text: String::from_str(self.alloc, said)?,
+        })?;
+        Ok(())
+    }
+
+    // What happens of one lane in one turn is one mark.
+    fn mark(
+        &mut self,
+        lane: usize,
+        turn: usize,
+        said: &str,
+        refused: bool,
+    ) -> Result<(), AllocError> {
+        if let Some(last) = self.story.marks.last_mut() {
+            if last.turn == turn && last.lane == lane {
+                return last.add(said);
+            }
+        }
+        self.story.marks.push(Mark {
+            lane,
+            turn,
+            text: String::from_str(self.alloc, said)?,
+            refused,
+        })?;
+        Ok(())
+    }
+
+    // An event that is no part of a call's own line.
+    fn mark_event(
+        &mut self,
+        lane: usize,
+        turn: usize,
+        said: &str,
+        changes: bool,
+    ) -> Result<(), AllocError> {
+        self.mark(lane, turn, said, false)?;
+        if changes {
+            self.act(lane, turn, said)?;
+        }
+        Ok(())
+    }
+
+    fn mark_death(&mut self, lane: usize, turn: usize, owner: &str) -> Result<(), AllocError> {
+        let text = format!(in self.alloc; "{owner} died")?;
+        self.mark(lane, turn, &text, false)
+    }
+
+    fn happen(&mut self, turn: usize, event: &Event<u128>) -> Result<(), AllocError> {
+        let changes = self.contents.go_on(event)?;
+        let line = line_of(event);
+        let (first, said) = halves(text_of(&line));
+        let (_, call) = halves(said);
+        let lane = lane_of(self.parties, first);
+        match event {
+            Event::Begun(_, _) => self.begin(lane, turn, call),
+            Event::Finished(_, _, _) => self.finish(lane, turn, call),
+            Event::Acted(_, _, _) => self.act(lane, turn, call),
+            Event::Died(_) => self.mark_death(lane, turn, said),
+            _ => self.mark_event(lane, turn, said, changes),
+        }
+    }
+
+    // What a turn came to, before what happened in it.
+    fn take(&mut self, turn: usize, taken: &Taken) -> Result<(), AllocError> {
+        let lane = match taken.party {
+            Some(party) => place_of(self.parties, party),
+            None => self.parties.len(),
+        };
+        self.story.turns.push(Turned {
+            lane,
+            did: taken.did,
+            refused: taken.refusal.is_some(),
+        })?;
+        if let Some(refusal) = taken.refusal {
+            let line = line_of_refusal(refusal);
+            let (_, said) = halves(text_of(&line));
+            return self.mark(lane, turn, said, true);
+        }
+        match taken.did {
+            Did::Said(true) => self.mark(lane, turn, "yes", false),
+            Did::Said(false) => self.mark(lane, turn, "no", false),
+            _ => Ok(()),
+        }
+    }
+
+    fn turn(
+        &mut self,
+        turn: usize,
+        taken: &Taken,
+        events: &[Event<u128>],
+    ) -> Result<(), AllocError> {
+        self.take(turn, taken)?;
+        let acts = self.story.acts.len();
+        for event in events {
+            self.happen(turn, event)?;
+        }
+        if self.story.acts.len() > acts {
+            self.story.contents.push(After {
+                turn,
+                text: self.contents.text(self.alloc)?,
+            })?;
+        }
+        Ok(())
+    }
+}
+
+/// A run, told.
+pub fn tell(alloc: Global, run: &Recorded) -> Result<Story, AllocError> {
+    let parties = parties_of(alloc, &run.turns)?;
+    let mut teller = Teller {
+        alloc,
+        parties: &parties,
+        contents: Contents::new(alloc, run.setup.kind)?,
+        story: opening(alloc, run, &parties)?,
+    };
+    let events = run.machine.events();
+    let mut before = 0;
+    for (turn, taken) in run.turns.iter().enumerate() {
+        let new = events.get(before..taken.events).unwrap_or(&[]);
+        teller.turn(turn, taken, new)?;
+        before = taken.events;
+    }
+    Ok(teller.story)
+}
