@@ -1,170 +1,134 @@
 //! The calls of a sender, in one thread: what comes back, what is freed, and what stays.
-ghost use Rattle.std.specs.Prelude.{◌≡◌, [], IfSome};
-ghost use Rattle.lock_free.specs.UniqueIndexSet.{view, set_of, IsPassOf};
-ghost use Rattle.lock_free.specs.Ends as ends;
-ghost use Rattle.lock_free.specs.Loan.Sender.{set_of_sender, submission_of};
-
-use lock_free::mpmc::unique_index_set::{Pass, UniqueIndexSet};
+use crate::channel::{Receives, Sends};
+use crate::uses::{Use, uses};
 use lock_free::mpmc::unique_index_set_enums::UniqueIndexSetAcquireFailure;
-use lock_free::spsc::index_queue::IndexQueue;
-use lock_free::spsc::loan::LoanSender;
-use lock_free::spsc::safely_overflowing_index_queue::SafelyOverflowingIndexQueue;
-use lock_free::spsc::{index_queue, safely_overflowing_index_queue as overflow};
-use std::alloc::Global;
+use std::process::Abort;
 use std::sync::Wait;
 use std::test::Fail;
 
-/// A sender by a pass of each of the three.
-pub fn sender_of<'a>(
-    alloc: Global,
-    set: &'a UniqueIndexSet,
-    pass: Pass,
-    submission: &'a SafelyOverflowingIndexQueue,
-    into: overflow::Pass,
-    completion: &'a IndexQueue,
-    from: index_queue::Pass,
-) -> Option<LoanSender<'a>>
-    requires set { IsPassOf set.now pass }
-    requires nothing { (view pass).held ≡ [] }
-    requires submission { ends.IsPassOf submission.now into }
-    requires completion { ends.IsPassOf completion.now from }
-    ensures set { IfSome result (λ s. set_of_sender s ≡ set_of pass) }
-    ensures submission { IfSome result (λ s. submission_of s ≡ ends.queue_of into) }
-{
-    let Ok(producer) = submission.acquire_producer(into) else {
-        return None;
-    };
-    let Ok(consumer) = completion.acquire_consumer(from) else {
-        return None;
-    };
-    let Ok(sender) = LoanSender::new(alloc, set, pass, producer, consumer) else {
-        return None;
-    };
-    Some(sender)
+/// A call, and what it must answer.
+pub enum Row {
+    Loan(Result<u32, UniqueIndexSetAcquireFailure>),
+    Send(u32, Option<u64>),
+    GiveUp(u32),
+    IsLoaned(u32, bool),
+    TakeBack(Option<u64>),
+    /// The receiver gives this back.
+    GiveBack(u64),
+    Borrowed(usize),
 }
 
-/// Two slots and a queue for one: whether each of 1,000 sends after the first hands the index of the one before back,
-/// which is free at once, so that there is always one to loan.
-fn overflows(rt: &impl Wait, alloc: Global) -> Option<bool> {
-    let Ok((set, mut pass)) = UniqueIndexSet::new(alloc, 2) else {
+/// Whether a call answers so.
+fn does(rt: &impl Wait, sends: &mut Sends<'_>, receives: &mut Receives<'_>, row: &Row) -> bool {
+    match *row {
+        Row::Loan(answer) => sends.loan(rt) == answer,
+        Row::Send(index, back) => sends.send(index) == Some(back),
+        Row::GiveUp(index) => sends.give_up(index),
+        Row::IsLoaned(index, is) => sends.is_loaned(index) == is,
+        Row::TakeBack(value) => sends.take_back() == value,
+        Row::GiveBack(value) => receives.give_back(value),
+        Row::Borrowed(number) => sends.borrowed() == number,
+    }
+}
+
+/// Makes these calls, each of which has to answer so.
+pub fn play<R: Wait + Abort>(
+    rt: &R,
+    name: &str,
+    sends: &mut Sends<'_>,
+    receives: &mut Receives<'_>,
+    rows: &[Row],
+) {
+    for (at, row) in rows.iter().enumerate() {
+        assert!(rt; does(rt, sends, receives, row), "{name}: row {at}");
+    }
+}
+
+/// A queue for none: a send hands its own index back, which is free.
+const HANDS_ITS_OWN_BACK: [Row; 3] = [Row::Loan(Ok(0)), Row::Send(0, Some(0)), Row::Borrowed(0)];
+
+/// No more is loaned than there is.
+const RUNS_OUT: [Row; 3] = [
+    Row::Loan(Ok(0)),
+    Row::Loan(Err(UniqueIndexSetAcquireFailure::OutOfIndices)),
+    Row::IsLoaned(0, true),
+];
+
+/// Values that are not Sent come back, and one that is: that one alone is freed. One index is given up, and one stays
+/// loaned.
+const SETTLES: [Row; 28] = [
+    Row::Loan(Ok(0)),
+    Row::IsLoaned(0, true),
+    Row::Send(0, None),
+    Row::Loan(Ok(1)),
+    Row::GiveUp(1),
+    Row::IsLoaned(1, false),
+    Row::IsLoaned(0, false),
+    Row::IsLoaned(u32::MAX, false),
+    Row::Borrowed(1),
+    Row::Loan(Ok(1)),
+    Row::GiveBack(u64::MAX),
+    Row::TakeBack(Some(u64::MAX)),
+    Row::Borrowed(2),
+    Row::GiveBack(3),
+    Row::TakeBack(Some(3)),
+    Row::Borrowed(2),
+    Row::GiveBack(1),
+    Row::TakeBack(Some(1)),
+    Row::Borrowed(2),
+    Row::GiveBack(0),
+    Row::TakeBack(Some(0)),
+    Row::Borrowed(1),
+    Row::GiveBack(0),
+    Row::TakeBack(Some(0)),
+    Row::Borrowed(1),
+    Row::IsLoaned(1, true),
+    Row::IsLoaned(0, false),
+    Row::TakeBack(None),
+];
+
+/// Each with its name, how many slots there are and places in each queue, and how many indices are borrowed in the end.
+const ROWS: [(&str, [usize; 3], &[Row], usize); 2] = [
+    ("RUNS_OUT", [1, 1, 1], &RUNS_OUT, 1),
+    ("SETTLES", [3, 3, 8], &SETTLES, 1),
+];
+
+/// Loans one index and sends it: which one, and what comes back.
+fn passes_on(rt: &impl Wait, sends: &mut Sends<'_>) -> Option<(u32, Option<u64>)> {
+    let Ok(index) = sends.loan(rt) else {
         return None;
     };
-    let Ok((submission, into)) = SafelyOverflowingIndexQueue::new(alloc, 1) else {
-        return None;
-    };
-    let Ok((completion, from)) = IndexQueue::new(alloc, 2) else {
-        return None;
-    };
-    let mut looks = pass.split()?;
-    let mut sender = sender_of(alloc, &set, pass, &submission, into, &completion, from)?;
-    let Ok(first) = sender.loan(rt) else {
-        return None;
-    };
-    let mut fine = sender.send(first).is_none();
-    let mut before = first;
+    Some((index, sends.send(index)?))
+}
+
+/// Whether each of 1,000 sends after the first hands the index of the one before back, which is free at once, so that
+/// there is always one to loan.
+pub fn overflows(rt: &impl Wait, sends: &mut Sends<'_>) -> Option<bool> {
+    let (mut before, none) = passes_on(rt, sends)?;
+    let mut right = none.is_none();
     for _ in 0..1000 {
-        let Ok(index) = sender.loan(rt) else {
-            return None;
-        };
-        fine &= sender.send(index) == Some(before as u64) && index != before;
+        let (index, back) = passes_on(rt, sends)?;
+        right &= back == Some(before as u64) && index != before;
         before = index;
     }
-    fine &= sender.take_back().is_none();
-    Some(fine && set.borrowed_indices(&mut looks) == 1)
-}
-
-/// A queue for none: whether a send hands its own index back, which is free.
-fn hands_its_own_back(rt: &impl Wait, alloc: Global) -> Option<bool> {
-    let Ok((set, mut pass)) = UniqueIndexSet::new(alloc, 1) else {
-        return None;
-    };
-    let Ok((submission, into)) = SafelyOverflowingIndexQueue::new(alloc, 0) else {
-        return None;
-    };
-    let Ok((completion, from)) = IndexQueue::new(alloc, 1) else {
-        return None;
-    };
-    let mut looks = pass.split()?;
-    let mut sender = sender_of(alloc, &set, pass, &submission, into, &completion, from)?;
-    let Ok(index) = sender.loan(rt) else {
-        return None;
-    };
-    let back = sender.send(index);
-    Some(back == Some(index as u64) && set.borrowed_indices(&mut looks) == 0)
-}
-
-/// Values that are not Sent come back, and one that is: whether that one alone is freed. One index is given up, and one
-/// stays loaned.
-fn settles(rt: &impl Wait, alloc: Global) -> Option<bool> {
-    let Ok((set, mut pass)) = UniqueIndexSet::new(alloc, 3) else {
-        return None;
-    };
-    let Ok((submission, into)) = SafelyOverflowingIndexQueue::new(alloc, 3) else {
-        return None;
-    };
-    let Ok((completion, mut from)) = IndexQueue::new(alloc, 8) else {
-        return None;
-    };
-    let giving = from.split()?;
-    let mut looks = pass.split()?;
-    let Ok(mut gives) = completion.acquire_producer(giving) else {
-        return None;
-    };
-    let mut sender = sender_of(alloc, &set, pass, &submission, into, &completion, from)?;
-    let Ok(sent) = sender.loan(rt) else {
-        return None;
-    };
-    let mut fine = sender.is_loaned(sent) && sender.send(sent).is_none();
-    let Ok(up) = sender.loan(rt) else {
-        return None;
-    };
-    sender.give_up(up);
-    fine &= !sender.is_loaned(up) && !sender.is_loaned(sent) && !sender.is_loaned(u32::MAX);
-    fine &= set.borrowed_indices(&mut looks) == 1;
-    let Ok(kept) = sender.loan(rt) else {
-        return None;
-    };
-    let others = [u64::MAX, 3, kept as u64, sent as u64, sent as u64];
-    for at in 0..5 {
-        fine &= gives.push(others[at]);
-        fine &= sender.take_back() == Some(others[at]);
-        let left = if at < 3 { 2 } else { 1 };
-        fine &= set.borrowed_indices(&mut looks) == left;
-    }
-    Some(fine && sender.is_loaned(kept) && sender.take_back().is_none())
-}
-
-/// Whether no more is loaned than there is.
-fn runs_out(rt: &impl Wait, alloc: Global) -> Option<bool> {
-    let Ok((set, pass)) = UniqueIndexSet::new(alloc, 1) else {
-        return None;
-    };
-    let Ok((submission, into)) = SafelyOverflowingIndexQueue::new(alloc, 1) else {
-        return None;
-    };
-    let Ok((completion, from)) = IndexQueue::new(alloc, 1) else {
-        return None;
-    };
-    let mut sender = sender_of(alloc, &set, pass, &submission, into, &completion, from)?;
-    let Ok(index) = sender.loan(rt) else {
-        return None;
-    };
-    let out = Err(UniqueIndexSetAcquireFailure::OutOfIndices);
-    let refused = sender.loan(rt) == out && sender.is_loaned(index);
-    let mut pass = sender.finish();
-    Some(refused && set.borrowed_indices(&mut pass) == 1)
-}
-
-#[test]
-fn each_send_overflows(rt: HostRuntime) -> Result<(), Fail> {
-    assert_eq!(rt; overflows(&rt, rt.alloc()), Some(true));
-    assert_eq!(rt; hands_its_own_back(&rt, rt.alloc()), Some(true));
-    Ok(())
+    Some(right && sends.take_back().is_none() && sends.borrowed() == 1)
 }
 
 #[test]
 fn what_is_not_sent_changes_nothing(rt: HostRuntime) -> Result<(), Fail> {
-    assert_eq!(rt; settles(&rt, rt.alloc()), Some(true));
-    assert_eq!(rt; runs_out(&rt, rt.alloc()), Some(true));
+    for (name, numbers, rows, borrowed) in ROWS {
+        let end = uses(&rt, rt.alloc(), numbers, &Use::Rows(name, rows))?;
+        assert!(rt; end == Some((true, borrowed)), "{name}");
+    }
+    Ok(())
+}
+
+/// Two slots and a queue for one.
+#[test]
+fn each_send_overflows(rt: HostRuntime) -> Result<(), Fail> {
+    let end = uses(&rt, rt.alloc(), [2, 1, 2], &Use::Overflow)?;
+    assert_eq!(rt; end, Some((true, 1)));
+    let none = Use::Rows("HANDS_ITS_OWN_BACK", &HANDS_ITS_OWN_BACK);
+    assert_eq!(rt; uses(&rt, rt.alloc(), [1, 0, 1], &none)?, Some((true, 0)));
     Ok(())
 }

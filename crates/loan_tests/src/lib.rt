@@ -4,4 +4,8 @@
 #[cfg(test)]
 mod calls;
 #[cfg(test)]
+mod channel;
+#[cfg(test)]
 mod threads;
+#[cfg(test)]
+mod uses;

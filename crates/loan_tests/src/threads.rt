@@ -1,16 +1,6 @@
 //! A loan channel between two threads.
-ghost use Rattle.std.specs.Prelude.{◌≡◌, [], IfSome};
-ghost use Rattle.lock_free.specs.UniqueIndexSet.{view, set_of, IsPassOf};
-ghost use Rattle.lock_free.specs.Ends as ends;
-ghost use Rattle.lock_free.specs.Loan.Sender.{set_of_sender, submission_of};
-
-use crate::calls::sender_of;
-use lock_free::mpmc::unique_index_set::{Pass, UniqueIndexSet};
-use lock_free::spsc::index_queue::IndexQueue;
-use lock_free::spsc::loan::LoanSender;
-use lock_free::spsc::safely_overflowing_index_queue::SafelyOverflowingIndexQueue;
-use lock_free::spsc::{index_queue, safely_overflowing_index_queue as overflow};
-use std::alloc::Global;
+use crate::channel::{Receives, Sends};
+use crate::uses::{Use, uses};
 use std::sync::Wait;
 use std::test::Fail;
 use std::thread;
@@ -18,216 +8,132 @@ use std::thread::Threads;
 
 const LOANS: u64 = 10_000;
 
+/// Loans an index and sends it: whether it came back at once. None where there was no index.
+fn sends_one(rt: &impl Wait, sends: &mut Sends<'_>) -> Option<bool> {
+    let Ok(index) = sends.loan(rt) else {
+        return None;
+    };
+    Some(sends.send(index)?.is_some())
+}
+
 /// Sends 10,000 loans, and waits until each has come back: how many came back at once, and how many later.
-fn send_all(
-    rt: &impl Wait,
-    alloc: Global,
-    set: &UniqueIndexSet,
-    pass: Pass,
-    submission: &SafelyOverflowingIndexQueue,
-    into: overflow::Pass,
-    completion: &IndexQueue,
-    from: index_queue::Pass,
-) -> Option<(u64, u64, Pass)>
-    requires set { IsPassOf set.now pass }
-    requires nothing { (view pass).held ≡ [] }
-    requires submission { ends.IsPassOf submission.now into }
-    requires completion { ends.IsPassOf completion.now from }
-    ensures { IfSome result (λ r. set_of r.2 ≡ set_of pass) }
-{
-    let mut sender = sender_of(alloc, set, pass, submission, into, completion, from)?;
-    let mut sent = 0u64;
-    let mut at_once = 0u64;
-    let mut later = 0u64;
+fn send_all<'a>(rt: &impl Wait, mut sends: Sends<'a>) -> (u64, u64, Sends<'a>) {
+    let (mut sent, mut at_once, mut later) = (0u64, 0u64, 0u64);
     for _ in rt.forever() {
         if at_once.wrapping_add(later) >= LOANS {
             break;
         }
         if sent < LOANS {
-            if let Ok(index) = sender.loan(rt) {
-                if sender.send(index).is_some() {
-                    at_once = at_once.wrapping_add(1);
-                }
+            if let Some(back) = sends_one(rt, &mut sends) {
+                at_once = at_once.wrapping_add(back as u64);
                 sent += 1;
             }
         }
-        if sender.take_back().is_some() {
+        if sends.take_back().is_some() {
             later = later.wrapping_add(1);
         } else {
             thread::yield_now();
         }
     }
-    Some((at_once, later, sender.finish()))
+    (at_once, later, sends)
 }
 
-/// Receives so many, and gives each back: its pass of the submission, and whether each was an index below 4 that was
-/// taken back.
-fn receive_all(
-    rt: &impl Wait,
-    submission: &SafelyOverflowingIndexQueue,
-    from: overflow::Pass,
-    completion: &IndexQueue,
-    into: index_queue::Pass,
-    count: u64,
-) -> Option<(overflow::Pass, bool)>
-    requires submission { ends.IsPassOf submission.now from }
-    requires completion { ends.IsPassOf completion.now into }
-    ensures { IfSome result (λ r. ends.queue_of r.0 ≡ ends.queue_of from) }
-{
-    let Ok(mut consumer) = submission.acquire_consumer(from) else {
-        return None;
-    };
-    let Ok(mut producer) = completion.acquire_producer(into) else {
-        return None;
-    };
+/// Receives so many, and gives each back: whether each was an index below 4 that was taken back.
+fn receive_all(rt: &impl Wait, receives: &mut Receives<'_>, count: u64) -> bool {
     let mut received = 0u64;
     let mut fine = true;
     for _ in rt.forever() {
         if received >= count {
             break;
         }
-        if let Some(index) = consumer.pop(rt) {
+        if let Some(index) = receives.receive(rt) {
             fine &= index < 4;
-            fine &= producer.push(index);
+            fine &= receives.give_back(index);
             received += 1;
         } else {
             thread::yield_now();
         }
     }
-    Some((consumer.release(), fine))
+    fine
 }
 
-/// 10,000 loans through 4 slots and a queue as long, which never overflows: whether each comes back by the receiver, and
-/// none is borrowed in the end.
-fn pass_all<R: Wait + Threads + Sync>(rt: &R, alloc: Global) -> Option<bool> {
-    let Ok((set, pass)) = UniqueIndexSet::new(alloc, 4) else {
-        return None;
-    };
-    let Ok((submission, mut into)) = SafelyOverflowingIndexQueue::new(alloc, 4) else {
-        return None;
-    };
-    let Ok((completion, mut from)) = IndexQueue::new(alloc, 4) else {
-        return None;
-    };
-    let receiving = into.split()?;
-    let giving = from.split()?;
-    let (slots, sends, returns) = (&set, &submission, &completion);
-    let (sent, received) = thread::join(
+/// The same of all loans, by one who ends then.
+fn receives_all(rt: &impl Wait, mut receives: Receives<'_>) -> bool {
+    receive_all(rt, &mut receives, LOANS)
+}
+
+/// 10,000 loans: whether each comes back by the receiver, and the sender.
+pub fn pass_all<'a, R: Wait + Threads + Sync>(
+    rt: &R,
+    sends: Sends<'a>,
+    receives: Receives<'_>,
+) -> (bool, Sends<'a>) {
+    let ((at_once, later, sends), fine) = thread::join(
         rt,
-        move || send_all(rt, alloc, slots, pass, sends, into, returns, from),
-        move || receive_all(rt, sends, receiving, returns, giving, LOANS),
+        move || send_all(rt, sends),
+        move || receives_all(rt, receives),
     );
-    let (at_once, later, mut pass) = sent?;
-    let (_, fine) = received?;
-    let borrowed = slots.borrowed_indices(&mut pass);
-    Some(at_once == 0 && later == LOANS && fine && borrowed == 0)
+    (at_once == 0 && later == LOANS && fine, sends)
 }
 
 /// Loans and sends so many times, and takes back what has come.
-fn send_some<'a>(
-    rt: &impl Wait,
-    alloc: Global,
-    set: &'a UniqueIndexSet,
-    pass: Pass,
-    submission: &'a SafelyOverflowingIndexQueue,
-    into: overflow::Pass,
-    completion: &'a IndexQueue,
-    from: index_queue::Pass,
-    count: u32,
-) -> Option<LoanSender<'a>>
-    requires set { IsPassOf set.now pass }
-    requires nothing { (view pass).held ≡ [] }
-    requires submission { ends.IsPassOf submission.now into }
-    requires completion { ends.IsPassOf completion.now from }
-    ensures set { IfSome result (λ s. set_of_sender s ≡ set_of pass) }
-    ensures submission { IfSome result (λ s. submission_of s ≡ ends.queue_of into) }
-{
-    let mut sender = sender_of(alloc, set, pass, submission, into, completion, from)?;
-    for _done in 0..count {
-        if let Ok(index) = sender.loan(rt) {
-            sender.send(index);
-        } else {
-            sender.take_back();
+fn send_some<'a>(rt: &impl Wait, mut sends: Sends<'a>, count: u32) -> Sends<'a> {
+    for _ in 0..count {
+        if sends_one(rt, &mut sends).is_none() {
+            sends.take_back();
         }
     }
-    Some(sender)
+    sends
 }
 
 /// Receives one and keeps it, and gives two back.
-fn receive_three(
-    rt: &impl Wait,
-    submission: &SafelyOverflowingIndexQueue,
-    from: overflow::Pass,
-    completion: &IndexQueue,
-    into: index_queue::Pass,
-) -> Option<overflow::Pass>
-    requires submission { ends.IsPassOf submission.now from }
-    requires completion { ends.IsPassOf completion.now into }
-    ensures { IfSome result (λ p. ends.queue_of p ≡ ends.queue_of from) }
-{
-    let Ok(mut consumer) = submission.acquire_consumer(from) else {
-        return None;
-    };
+fn receive_three(rt: &impl Wait, mut receives: Receives<'_>) -> bool {
     for _ in rt.forever() {
-        if consumer.pop(rt).is_some() {
+        if receives.receive(rt).is_some() {
             break;
         }
         thread::yield_now();
     }
-    let (pass, _) = receive_all(rt, submission, consumer.release(), completion, into, 2)?;
-    Some(pass)
+    receive_all(rt, &mut receives, 2)
+}
+
+/// Whether an index that is loaned stays so while six are reclaimed, and nothing waits to be received then.
+fn reclaims(rt: &impl Wait, sends: &mut Sends<'_>) -> Option<bool> {
+    let Ok(kept) = sends.loan(rt) else {
+        return None;
+    };
+    let freed = sends.reclaim(rt);
+    Some(freed == Some((6, true)) && sends.is_loaned(kept))
 }
 
 /// Six slots are sent, of which the receiver gets three: it keeps one, gives two back, and ends, so three wait in one
-/// queue and two in the other. The sender loans one more and reclaims: whether then both queues are empty, and each index
-/// is free or with the sender.
-fn ends_early<R: Wait + Threads + Sync>(rt: &R, alloc: Global) -> Option<bool> {
-    let Ok((set, pass)) = UniqueIndexSet::new(alloc, 8) else {
-        return None;
-    };
-    let Ok((submission, mut into)) = SafelyOverflowingIndexQueue::new(alloc, 8) else {
-        return None;
-    };
-    let Ok((completion, mut from)) = IndexQueue::new(alloc, 8) else {
-        return None;
-    };
-    let receiving = into.split()?;
-    let giving = from.split()?;
-    let last = from.split()?;
-    let (slots, sends, returns) = (&set, &submission, &completion);
-    let (sent, received) = thread::join(
+/// queue and two in the other. The sender loans one more and reclaims: whether it keeps that one, and the sender.
+pub fn ends_early<'a, R: Wait + Threads + Sync>(
+    rt: &R,
+    sends: Sends<'a>,
+    receives: Receives<'_>,
+) -> (bool, Sends<'a>) {
+    let (mut sends, given_back) = thread::join(
         rt,
-        move || send_some(rt, alloc, slots, pass, sends, into, returns, from, 6),
-        move || receive_three(rt, sends, receiving, returns, giving),
+        move || send_some(rt, sends, 6),
+        move || receive_three(rt, receives),
     );
-    let mut sender = sent?;
-    let receiving = received?;
-    let Ok(mut receiver) = sends.acquire_consumer(receiving) else {
-        return None;
-    };
-    let Ok(kept) = sender.loan(rt) else {
-        return None;
-    };
-    let freed = sender.reclaim(rt, &mut receiver);
-    let none_sent = receiver.pop(rt).is_none();
-    let with_sender = sender.is_loaned(kept);
-    let mut pass = sender.finish();
-    let borrowed = slots.borrowed_indices(&mut pass);
-    let Ok(mut consumer) = returns.acquire_consumer(last) else {
-        return None;
-    };
-    let none_back = consumer.pop().is_none();
-    Some(freed == 6 && none_sent && none_back && with_sender && borrowed == 1)
+    let reclaimed = reclaims(rt, &mut sends);
+    (given_back && reclaimed == Some(true), sends)
 }
 
+/// Four slots and a queue as long, which never overflows.
 #[test]
 fn ten_thousand_loans_through_four_slots(rt: HostRuntime) -> Result<(), Fail> {
-    assert_eq!(rt; pass_all(&rt, rt.alloc()), Some(true));
+    let end = uses(&rt, rt.alloc(), [4, 4, 4], &Use::AllPass)?;
+    assert_eq!(rt; end, Some((true, 0)));
     Ok(())
 }
 
+/// Both queues are empty then, and each index is free or with the sender.
 #[test]
 fn what_a_receiver_left_is_reclaimed(rt: HostRuntime) -> Result<(), Fail> {
-    assert_eq!(rt; ends_early(&rt, rt.alloc()), Some(true));
+    let end = uses(&rt, rt.alloc(), [8, 8, 8], &Use::EndEarly)?;
+    assert_eq!(rt; end, Some((true, 1)));
     Ok(())
 }
