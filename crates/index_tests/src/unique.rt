@@ -7,122 +7,113 @@ use lock_free::mpmc::unique_index_set::{
 use lock_free::mpmc::unique_index_set_enums::{
     ReleaseState, UniqueIndexCreationError, UniqueIndexSetAcquireFailure,
 };
+use std::process::Abort;
 use std::sync::Wait;
 use std::test::Fail;
 
-/// Whether a set of three hands its indices out and takes them back as a stack, by held indices.
-fn holds_three(rt: &impl Wait, set: &UniqueIndexSet, pass: Pass) -> Option<bool>
-    requires { IsPassOf set.now pass }
-{
-    let mut pass = pass;
-    let second = pass.split()?;
-    let third = pass.split()?;
-    let fourth = pass.split()?;
-    let Ok(zero) = set.acquire(rt, pass) else {
-        return None;
-    };
-    let Ok(one) = set.acquire(rt, second) else {
-        return None;
-    };
-    let Ok(two) = set.acquire(rt, third) else {
-        return None;
-    };
-    let handed_out = [zero.value(), one.value(), two.value()] == [0, 1, 2];
-    let Err((failure, fourth)) = set.acquire(rt, fourth) else {
-        return None;
-    };
-    let mut pass = zero.release();
-    drop(two);
-    let left = set.borrowed_indices(&mut pass);
-    let Ok(again) = set.acquire(rt, pass) else {
-        return None;
-    };
-    let Ok(last) = set.acquire(rt, fourth) else {
-        return None;
-    };
-    let values = [again.value(), last.value(), one.value()] == [2, 0, 1];
-    let out = failure == UniqueIndexSetAcquireFailure::OutOfIndices;
-    Some(handed_out && out && left == 1 && values)
+mod users;
+
+use users::{Does, Guarded, Held, Raw, Taken};
+
+const OUT: UniqueIndexSetAcquireFailure = UniqueIndexSetAcquireFailure::OutOfIndices;
+
+const SHUT: UniqueIndexSetAcquireFailure = UniqueIndexSetAcquireFailure::IsLocked;
+
+/// At capacity 3, each call by one of four users: held indices go out and come back as a stack.
+const HOLDS_THREE: [(usize, Held); 10] = [
+    (0, Held::Acquire(Ok(0))),
+    (1, Held::Acquire(Ok(1))),
+    (2, Held::Acquire(Ok(2))),
+    (3, Held::Acquire(Err(OUT))),
+    (0, Held::Release),
+    (2, Held::Drop),
+    (0, Held::Borrowed(1)),
+    (0, Held::Acquire(Ok(2))),
+    (3, Held::Acquire(Ok(0))),
+    (1, Held::Holds(1)),
+];
+
+/// The same by raw indices.
+const HANDS_THREE_OUT: [(usize, Taken); 8] = [
+    (0, Taken::Acquire(Ok(0))),
+    (1, Taken::Acquire(Ok(1))),
+    (2, Taken::Acquire(Ok(2))),
+    (3, Taken::Acquire(Err(OUT))),
+    (0, Taken::Release(ReleaseState::Unlocked)),
+    (2, Taken::Release(ReleaseState::Unlocked)),
+    (0, Taken::Acquire(Ok(2))),
+    (2, Taken::Acquire(Ok(0))),
+];
+
+/// The last index locks the set for good, and an earlier one does not.
+const LOCKS: [(usize, Taken); 9] = [
+    (0, Taken::Acquire(Ok(0))),
+    (1, Taken::Acquire(Ok(1))),
+    (1, Taken::ReleaseOrLock(ReleaseState::Unlocked)),
+    (1, Taken::Stands(1, false)),
+    (0, Taken::ReleaseOrLock(ReleaseState::Locked)),
+    (1, Taken::Acquire(Err(SHUT))),
+    (1, Taken::Refuses(SHUT)),
+    (1, Taken::Stands(0, true)),
+    (0, Taken::Stands(0, true)),
+];
+
+/// Makes these calls, each by the user whose number stands with it.
+fn play<R: Wait + Abort, C, U: Does<C>>(rt: &R, name: &str, users: &mut [U], rows: &[(usize, C)]) {
+    for (at, (who, call)) in rows.iter().enumerate() {
+        let right = match users.get_mut(*who) {
+            Some(user) => user.does(rt, call),
+            None => false,
+        };
+        assert!(rt; right, "{name}: row {at}");
+    }
 }
 
-/// The same by raw indices, each of a pass of its own.
-fn hands_three_out(rt: &impl Wait, set: &UniqueIndexSet, pass: Pass) -> Option<bool>
+/// Makes these calls by four users of a set: its capacity. None where there are no further passes.
+fn raw_play<R: Wait + Abort>(
+    rt: &R,
+    name: &str,
+    set: &UniqueIndexSet,
+    pass: Pass,
+    rows: &[(usize, Taken)],
+) -> Option<u32>
     requires { IsPassOf set.now pass }
 {
-    let mut first = pass;
-    let mut second = first.split()?;
-    let mut third = first.split()?;
-    let mut fourth = first.split()?;
-    let Ok(zero) = set.acquire_raw_index(rt, &mut first) else {
-        return None;
-    };
-    let Ok(one) = set.acquire_raw_index(rt, &mut second) else {
-        return None;
-    };
-    let Ok(two) = set.acquire_raw_index(rt, &mut third) else {
-        return None;
-    };
-    let full = set.acquire_raw_index(rt, &mut fourth);
-    let left = set.release_raw_index(zero, &mut first);
-    let right = set.release_raw_index(two, &mut third);
-    let again = set.acquire_raw_index(rt, &mut first);
-    let last = set.acquire_raw_index(rt, &mut third);
-    let unlocked = ReleaseState::Unlocked;
-    Some(
-        [zero, one, two] == [0, 1, 2]
-            && full == Err(UniqueIndexSetAcquireFailure::OutOfIndices)
-            && [left, right] == [unlocked, unlocked]
-            && again == Ok(2)
-            && last == Ok(0),
-    )
+    let mut first = Raw::new(set, pass);
+    let others = (first.another()?, first.another()?, first.another()?);
+    let mut users = [first, others.0, others.1, others.2];
+    play(rt, name, &mut users, rows);
+    Some(set.capacity())
 }
 
-/// Whether the last index locks the set for good, and an earlier one does not.
-fn locks(rt: &impl Wait, set: &UniqueIndexSet, pass: Pass) -> Option<bool>
+/// The same by users who hold indices.
+fn held_play<R: Wait + Abort>(
+    rt: &R,
+    name: &str,
+    set: &UniqueIndexSet,
+    pass: Pass,
+    rows: &[(usize, Held)],
+) -> Option<u32>
     requires { IsPassOf set.now pass }
 {
-    let mut pass = pass;
-    let mut other = pass.split()?;
-    let Ok(zero) = set.acquire_raw_index(rt, &mut pass) else {
-        return None;
-    };
-    let Ok(one) = set.acquire_raw_index(rt, &mut other) else {
-        return None;
-    };
-    let first = set.release_or_lock(rt, one, &mut other);
-    let open = !set.is_locked(&mut other) && set.borrowed_indices(&mut other) == 1;
-    let last = set.release_or_lock(rt, zero, &mut pass);
-    let raw = set.acquire_raw_index(rt, &mut other);
-    let Err((failure, other)) = set.acquire(rt, other) else {
-        return None;
-    };
-    let mut other = other;
-    let locked = UniqueIndexSetAcquireFailure::IsLocked;
-    Some(
-        [first, last] == [ReleaseState::Unlocked, ReleaseState::Locked]
-            && open
-            && raw == Err(locked)
-            && failure == locked
-            && set.borrowed_indices(&mut other) == 0
-            && set.is_locked(&mut other)
-            && set.is_locked(&mut pass),
-    )
+    let mut first = Guarded::new(set, pass);
+    let others = (first.another()?, first.another()?, first.another()?);
+    let mut users = [first, others.0, others.1, others.2];
+    play(rt, name, &mut users, rows);
+    Some(set.capacity())
 }
 
 #[test]
 fn sets_of_three(rt: HostRuntime) -> Result<(), Fail> {
     let alloc = rt.alloc();
     let (set, pass) = UniqueIndexSet::new(alloc, 3)?;
-    assert_eq!(rt; set.capacity(), 3);
-    assert_eq!(rt; holds_three(&rt, &set, pass), Some(true));
+    assert!(rt; held_play(&rt, "held", &set, pass, &HOLDS_THREE) == Some(3));
     let (set, pass) = FixedSizeUniqueIndexSet::<3>::new(alloc)?;
-    assert_eq!(rt; set.capacity(), 3);
-    assert_eq!(rt; hands_three_out(&rt, &set, pass), Some(true));
+    assert!(rt; raw_play(&rt, "by type", &set, pass, &HANDS_THREE_OUT) == Some(3));
     let (set, pass) = FixedSizeUniqueIndexSet::<5>::new_with_reduced_capacity(alloc, 3)?;
-    assert_eq!(rt; set.capacity(), 3);
-    assert_eq!(rt; hands_three_out(&rt, &set, pass), Some(true));
+    assert!(rt; raw_play(&rt, "reduced", &set, pass, &HANDS_THREE_OUT) == Some(3));
     let (set, pass) = UniqueIndexSet::new(alloc, 3)?;
-    assert_eq!(rt; locks(&rt, &set, pass), Some(true));
+    assert!(rt; raw_play(&rt, "locks", &set, pass, &LOCKS) == Some(3));
     Ok(())
 }
 
@@ -147,36 +138,22 @@ fn refused_capacities(rt: HostRuntime) {
     assert!(rt; reduced == [Some(zero), Some(above), Some(above), None]);
 }
 
-/// One who takes indices of a set.
-#[derive(Drop)]
-struct User<'a> {
-    set: &'a UniqueIndexSet,
-    pass: Pass,
-    ghost of: { IsPassOf set.now pass },
-}
-
-impl<'a> User<'a> {
-    /// Whether this is the index that it takes, and keeps.
-    fn takes(&mut self, rt: &impl Wait, index: u32) -> bool {
-        self.set.acquire_raw_index(rt, &mut self.pass) == Ok(index)
+/// Whether so many indices go out in order, and no more.
+fn runs_out(rt: &impl Wait, set: &UniqueIndexSet, pass: Pass, number: u32) -> bool
+    requires { IsPassOf set.now pass }
+{
+    let mut user = Raw::new(set, pass);
+    let mut right = true;
+    for index in 0..number {
+        right &= user.keep(rt) == Ok(index);
     }
-
-    /// Whether there is no index to be had, and so many are borrowed.
-    fn finds_none(&mut self, rt: &impl Wait, borrowed: usize) -> bool {
-        let out = UniqueIndexSetAcquireFailure::OutOfIndices;
-        self.set.acquire_raw_index(rt, &mut self.pass) == Err(out)
-            && self.set.borrowed_indices(&mut self.pass) == borrowed
-    }
+    right && user.keep(rt) == Err(OUT) && user.borrowed() == number as usize
 }
 
 #[test]
 fn a_set_of_130(rt: HostRuntime) -> Result<(), Fail> {
     let (set, pass) = UniqueIndexSet::new(rt.alloc(), 130)?;
-    let mut user = User { set: &set, pass };
-    for index in 0..130 {
-        assert!(rt; user.takes(&rt, index));
-    }
-    assert!(rt; user.finds_none(&rt, 130));
+    assert!(rt; runs_out(&rt, &set, pass, 130));
     Ok(())
 }
 
@@ -185,11 +162,7 @@ fn a_set_of_130(rt: HostRuntime) -> Result<(), Fail> {
 #[test]
 fn a_set_of_a_million(rt: HostRuntime) -> Result<(), Fail> {
     let (set, pass) = UniqueIndexSet::new(rt.alloc(), 1_000_000)?;
-    let mut user = User { set: &set, pass };
-    for index in 0..1_000_000 {
-        assert!(rt; user.takes(&rt, index));
-    }
-    assert!(rt; user.finds_none(&rt, 1_000_000));
+    assert!(rt; runs_out(&rt, &set, pass, 1_000_000));
     Ok(())
 }
 

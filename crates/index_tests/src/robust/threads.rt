@@ -1,5 +1,7 @@
 //! The robust unique index set between threads.
-use super::{Ask, Calls, Look, Row, User, owner, three_owners};
+use super::rows::{Ask, Look, Row, owner};
+use super::three_owners;
+use super::users::{Calls, User};
 use lock_free::mpmc::robust_unique_index_set::{
     Pass, RobustUniqueIndexSet, StaticRobustUniqueIndexSet,
 };
@@ -64,7 +66,7 @@ fn recovers_beside<R: Wait + Threads + Abort + Sync>(
 #[test]
 fn a_recovery_beside_two_owners(rt: HostRuntime) -> Result<(), Fail> {
     let (set, pass) = RobustUniqueIndexSet::new(rt.alloc(), 70)?;
-    let mut user = User { set: &set, pass };
+    let mut user = User::new(&set, pass);
     let owners = [owner(&rt, 9), owner(&rt, 3), owner(&rt, 9)];
     assert!(rt; three_owners(&rt, &mut user, owners, 68));
     assert!(rt; recovers_beside(&rt, &mut user, 9, 45) == Some(true));

@@ -26,6 +26,52 @@ impl Numbered for (u64, u64) {
     }
 }
 
+/// Whether a value of this round is taken at each place, with as many before it as there must be.
+fn fills<E: Kind<T>, T: Words + Numbered + PartialEq + Drop>(
+    rt: &impl Wait,
+    users: &mut Users<'_, E, T>,
+    capacity: usize,
+    round: u64,
+) -> bool {
+    let mut right = true;
+    for at in 0..capacity {
+        let value = T::numbered(round, at as u64);
+        right &= users.has_and_does(rt, at, Call::Push(value, None));
+    }
+    right
+}
+
+/// Whether a full queue hands a value of the second round back for each of the first that is pushed.
+fn hands_back<E: Kind<T>, T: Words + Numbered + PartialEq + Drop>(
+    rt: &impl Wait,
+    users: &mut Users<'_, E, T>,
+    capacity: usize,
+    rounds: (u64, u64),
+) -> bool {
+    let mut right = true;
+    for at in 0..capacity {
+        let value = T::numbered(rounds.0, at as u64);
+        let back = T::numbered(rounds.1, at as u64);
+        right &= users.has_and_does(rt, capacity, Call::Push(value, Some(back)));
+    }
+    right
+}
+
+/// Whether a value of this round comes from each place, with as many waiting as there must be, and no more then.
+fn empties<E: Kind<T>, T: Words + Numbered + PartialEq + Drop>(
+    rt: &impl Wait,
+    users: &mut Users<'_, E, T>,
+    capacity: usize,
+    round: u64,
+) -> bool {
+    let mut right = true;
+    for at in 0..capacity {
+        let value = T::numbered(round, at as u64);
+        right &= users.has_and_does(rt, capacity - at, Call::Pop(Some(value)));
+    }
+    right & users.has_and_does(rt, 0, Call::Pop(None))
+}
+
 /// Whether a queue can be filled, pushed to as often again and emptied, three times, with its length before each call.
 /// A queue that replaces hands its oldest values back where it is full, and another one the values that are pushed.
 pub fn fills_and_empties<E: Kind<T>, T: Words + Numbered + PartialEq + Drop>(
@@ -46,20 +92,9 @@ pub fn fills_and_empties<E: Kind<T>, T: Words + Numbered + PartialEq + Drop>(
         } else {
             (round, round + 3)
         };
-        for at in 0..capacity {
-            let value = T::numbered(round, at as u64);
-            right &= users.has_and_does(rt, at, Call::Push(value, None));
-        }
-        for at in 0..capacity {
-            let value = T::numbered(round + 3, at as u64);
-            let back = T::numbered(other, at as u64);
-            right &= users.has_and_does(rt, capacity, Call::Push(value, Some(back)));
-        }
-        for at in 0..capacity {
-            let value = T::numbered(first, at as u64);
-            right &= users.has_and_does(rt, capacity - at, Call::Pop(Some(value)));
-        }
-        right &= users.has_and_does(rt, 0, Call::Pop(None));
+        right &= fills(rt, &mut users, capacity, round);
+        right &= hands_back(rt, &mut users, capacity, (round + 3, other));
+        right &= empties(rt, &mut users, capacity, first);
     }
     right
 }

@@ -1,10 +1,11 @@
 //! Calls on a queue, one after another, each with what it must answer.
-ghost use Rattle.std.specs.Prelude.{◌≡◌};
+ghost use Rattle.std.specs.Prelude.{◌≡◌, ⊤};
 ghost use Rattle.std.specs.Option.{ForSome};
 ghost use Rattle.lock_free.specs.Ends.{queue_id, queue_of, IsPassOf, producer_queue, consumer_queue};
 
 use lock_free_sp::ring::ends::{Consumer, Pass, Producer, Ring};
 use lock_free_sp::ring::rule::{Numbers, Overflowing, RingRule, Spare, Values};
+use std::alloc::AllocError;
 use std::process::Abort;
 use std::sync::Wait;
 use steps::words::Words;
@@ -58,7 +59,7 @@ impl Kind<u64> for Overflowing {
 }
 
 /// A call on a queue, with what it must answer.
-#[derive(Clone, Copy)]
+#[derive(Copy)]
 pub enum Call<T> {
     /// A push of the first value, which gives the second one back.
     Push(T, Option<T>),
@@ -76,6 +77,16 @@ pub enum Call<T> {
     /// The consumer gives its role back, and its pass to the producer.
     JoinProducer,
     JoinConsumer,
+}
+
+impl<T: Copy> Clone for Call<T> {
+    ghost is_clone = { λ x y. y ≡ x };
+
+    ghost is_infallible = { λ _. ⊤ };
+
+    fn clone(&self) -> Result<Call<T>, AllocError> {
+        Ok(*self)
+    }
 }
 
 /// Those who use a queue: a pass, and a guard of each role that is taken.
@@ -105,53 +116,85 @@ impl<'a, E: Kind<T>, T: Words + PartialEq + Drop> Users<'a, E, T> {
     /// Whether a call answers so.
     pub fn does(&mut self, rt: &impl Wait, call: Call<T>) -> bool {
         match call {
-            Call::Push(value, back) => match &mut self.producer {
-                Some(producer) => E::push(producer, value) == back,
-                None => false,
-            },
-            Call::Pop(value) => match &mut self.consumer {
-                Some(consumer) => E::pop(rt, consumer) == value,
-                None => false,
-            },
+            Call::Push(value, back) => self.push(value) == Some(back),
+            Call::Pop(value) => self.pop(rt) == Some(value),
             Call::Len(waiting) => has(rt, self.queue, &mut self.pass, waiting),
             Call::AskProducer(is_free) => self.ask_producer() == is_free,
             Call::AskConsumer(is_free) => self.ask_consumer() == is_free,
-            Call::ReleaseProducer => match self.producer.take() {
-                Some(producer) => {
-                    self.pass.join(producer.release());
-                    true
-                }
-                None => false,
-            },
-            Call::ReleaseConsumer => match self.consumer.take() {
-                Some(consumer) => {
-                    self.pass.join(consumer.release());
-                    true
-                }
-                None => false,
-            },
+            Call::ReleaseProducer => self.release_producer(),
+            Call::ReleaseConsumer => self.release_consumer(),
             Call::DropProducer => self.producer.take().is_some(),
             Call::DropConsumer => self.consumer.take().is_some(),
-            Call::JoinProducer => match (&mut self.producer, self.consumer.take()) {
-                (Some(producer), Some(consumer)) => {
-                    producer.join(consumer.release());
-                    true
-                }
-                _ => false,
-            },
-            Call::JoinConsumer => match (&mut self.consumer, self.producer.take()) {
-                (Some(consumer), Some(producer)) => {
-                    consumer.join(producer.release());
-                    true
-                }
-                _ => false,
-            },
+            Call::JoinProducer => self.join_producer(),
+            Call::JoinConsumer => self.join_consumer(),
         }
     }
 
     /// Whether as many values wait, and a call then answers so.
     pub fn has_and_does(&mut self, rt: &impl Wait, waiting: usize, call: Call<T>) -> bool {
-        self.does(rt, Call::Len(waiting)) & self.does(rt, call)
+        has(rt, self.queue, &mut self.pass, waiting) & self.does(rt, call)
+    }
+
+    /// What the push gives back. None where there is no producer.
+    fn push(&mut self, value: T) -> Option<Option<T>> {
+        match &mut self.producer {
+            Some(producer) => Some(E::push(producer, value)),
+            None => None,
+        }
+    }
+
+    /// The same of a pop.
+    fn pop(&mut self, rt: &impl Wait) -> Option<Option<T>> {
+        match &mut self.consumer {
+            Some(consumer) => Some(E::pop(rt, consumer)),
+            None => None,
+        }
+    }
+
+    fn release_producer(&mut self) -> bool {
+        match self.producer.take() {
+            Some(producer) => {
+                self.pass.join(producer.release());
+                true
+            }
+            None => false,
+        }
+    }
+
+    fn release_consumer(&mut self) -> bool {
+        match self.consumer.take() {
+            Some(consumer) => {
+                self.pass.join(consumer.release());
+                true
+            }
+            None => false,
+        }
+    }
+
+    fn join_producer(&mut self) -> bool {
+        let Some(consumer) = self.consumer.take() else {
+            return false;
+        };
+        match &mut self.producer {
+            Some(producer) => {
+                producer.join(consumer.release());
+                true
+            }
+            None => false,
+        }
+    }
+
+    fn join_consumer(&mut self) -> bool {
+        let Some(producer) = self.producer.take() else {
+            return false;
+        };
+        match &mut self.consumer {
+            Some(consumer) => {
+                consumer.join(producer.release());
+                true
+            }
+            None => false,
+        }
     }
 
     /// Whether a new pass gets the producer's role.

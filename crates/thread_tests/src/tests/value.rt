@@ -64,29 +64,38 @@ impl<'a, T: Words + PartialEq + Drop> Users<'a, T> {
     /// Whether a call answers so.
     fn does(&mut self, rt: &impl Wait, call: &Call<T>) -> bool {
         match *call {
-            Call::Store(value, is_taken) => match &mut self.producer {
-                Some(producer) => producer.store(value) == is_taken,
-                None => false,
-            },
+            Call::Store(value, is_taken) => self.store(value) == Some(is_taken),
             Call::Load(value) => load(rt, self.value, &mut self.pass) == value,
             Call::Ask(is_free) => self.ask() == is_free,
-            Call::Release(value) => match self.producer.take() {
-                Some(producer) => {
-                    let mut pass = producer.release();
-                    let loaded = load(rt, self.value, &mut pass);
-                    self.pass.join(pass);
-                    loaded == value
-                }
-                None => false,
-            },
+            Call::Release(value) => self.release(rt) == Some(value),
             Call::Drop => self.producer.take().is_some(),
-            Call::Join => match (&mut self.producer, self.pass.split()) {
-                (Some(producer), Some(new)) => {
-                    producer.join(mem::replace(&mut self.pass, new));
-                    true
-                }
-                _ => false,
-            },
+            Call::Join => self.join(),
+        }
+    }
+
+    /// Whether the store is taken. None where there is no producer.
+    fn store(&mut self, value: T) -> Option<bool> {
+        match &mut self.producer {
+            Some(producer) => Some(producer.store(value)),
+            None => None,
+        }
+    }
+
+    /// What the producer's pass loads before it is joined.
+    fn release(&mut self, rt: &impl Wait) -> Option<T> {
+        let mut pass = self.producer.take()?.release();
+        let loaded = load(rt, self.value, &mut pass);
+        self.pass.join(pass);
+        Some(loaded)
+    }
+
+    fn join(&mut self) -> bool {
+        match (&mut self.producer, self.pass.split()) {
+            (Some(producer), Some(new)) => {
+                producer.join(mem::replace(&mut self.pass, new));
+                true
+            }
+            _ => false,
         }
     }
 
