@@ -34,7 +34,7 @@ pub record Value : Type 0 where
   pub holder : Option ℕ
   pub core : Core
 
-abbrev pub Fit : Kept → List ℕ → Value → Type 0
+abbrev pub Fit : {T : Type 0} → Kept T → List ℕ → Value → Type 0
 Fit (kepts.TheVariants.Atomic producer) words s = (words ≡ layout s.holder s.core) × (producer ≡ s.holder)
 Fit kept words s = ⊥
 

@@ -28,7 +28,7 @@ use Rattle.model.specs.declared.turn.Kind as kinds
 use Rattle.model.specs.declared.turn.Turn.{Turn}
 use Rattle.model.specs.declared.turn.Turn.TheVariants.{Next}
 use Rattle.model.specs.Coding.{Coding}
-use Rattle.model.specs.Families.{after_of, ask_of, beside_of, step_of}
+use Rattle.model.specs.Families.{ask_of, beside_of, step_of, goes_of}
 use Rattle.model.specs.Families.Atomic.Calls.{want, after}
 use Rattle.model.specs.Families.Atomic.Promises.{AnswersRight, check_of_version, promise}
 use Rattle.model.specs.Families.Atomic.Steps.{acted}
@@ -149,8 +149,8 @@ module _ {T : Type 0} (code : Coding T) (c : ℕ) (t : Trace T) (p : ℕ) (s : f
       in_order_from t p promise t.world.coding (layout s.state.holder s.state.core) (kepts.TheVariants.Atomic s.state.holder) x.start flight is.1 is.0 (in_order x.start flight is.1 (stands_there (family code c) t s p x since flight found doing))
 
 -- a call of a value goes on as its table says
-told : {T : Type 0} (code z : Coding T) (c : ℕ) (words : List ℕ) (beside : Option (ℕ × ℕ)) (s : Value) (p : ℕ) (start : Start T) (flight : Flight T) (answer : ℕ) (kept : Kept) → Fit kept words s → (family code c).At s p start flight
-    → (step_of z words beside p start flight answer kept).after ≡ after_of z flight answer
+told : {T : Type 0} (code z : Coding T) (c : ℕ) (words : List ℕ) (beside : Option (ℕ × ℕ)) (s : Value) (p : ℕ) (start : Start T) (flight : Flight T) (answer : ℕ) (kept : Kept T) → Fit kept words s → (family code c).At s p start flight
+    → (step_of z words beside p start flight answer kept).after ≡ goes_of z p flight answer kept
 told y z c words beside s p (Atomic start) (flights.TheVariants.Atomic flight) answer (kepts.TheVariants.Atomic producer) fit at = refl
 told y z c words beside s p (Atomic start) (flights.TheVariants.Atomic flight) answer held fit at = absurd fit
 told y z c words beside s p start flight answer held fit at = absurd at

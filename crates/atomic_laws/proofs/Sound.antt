@@ -23,7 +23,7 @@ use Rattle.model.specs.declared.party.Party.{Party}
 use Rattle.model.specs.declared.turn.Kind as kinds
 use Rattle.model.specs.declared.turn.Refusal.TheVariants.{NoRole}
 use Rattle.model.specs.Coding.{Coding, IsCoding}
-use Rattle.model.specs.Families.{first_of, want_of, is_question}
+use Rattle.model.specs.Families.{first_of, want_of, is_question, kept_after_begin}
 use Rattle.model.specs.Families.Atomic.Calls.{first, want}
 use Rattle.model.specs.Families.Atomic.Opening.{lacks_role, kept_rows}
 use Rattle.model.specs.Families.Queues.Opening.{holds}
@@ -52,7 +52,7 @@ holds_is (Some q) p e = go (q == p) refl e
     go true t e = let same : q ≡ p = grind (arith, nat_tests) in ap Some same
     go false t e = absurd (cc)
 
-pub kept_is : (kept : Kept) (words : List ℕ) (s : Value) → Fit kept words s → (kept ≡ kepts.TheVariants.Atomic s.holder) × (words ≡ layout s.holder s.core)
+pub kept_is : {T : Type 0} → (kept : Kept T) (words : List ℕ) (s : Value) → Fit kept words s → (kept ≡ kepts.TheVariants.Atomic s.holder) × (words ≡ layout s.holder s.core)
 kept_is (kepts.TheVariants.Atomic producer) words s fit = (ap (λ o. kepts.TheVariants.Atomic o) fit.1, fit.0)
 kept_is kept words s fit = absurd fit
 
@@ -193,7 +193,7 @@ module _ {T : Type 0} (code : Coding T) (c : ℕ) (t : Trace T) (s : frame.Sound
       }
 
   pub begin_comes : (start : Start T) (flight : Flight T) → MayBegin t.world p start → first_of t.world.kind t.world.capacity start ≡ Some flight
-      → frame.Comes (family code c) t p t.world.kept t.world.words (party_at_begin start flight t.world.changes) (Begun p start ∷ []) t.world.changes
+      → frame.Comes (family code c) t p (kept_after_begin t.world.coding t.world.capacity start p t.world.kept) t.world.words (party_at_begin start flight t.world.changes) (Begun p start ∷ []) t.world.changes
   begin_comes (Atomic start) (flights.TheVariants.Atomic flight) may e =
       let is = kept_is t.world.kept t.world.words s.state s.fit in
       let rows : first_row (kept_rows start (kepts.TheVariants.Atomic s.state.holder) p) ≡ None = subst (λ kept. first_row (kept_rows start kept p) ≡ None) is.0 may.rows in

@@ -48,7 +48,7 @@ pub record SetKind (T : Type 0) : Type 1 where
 module _ {T : Type 0} where
   -- ---- the family of a kind
 
-  abbrev pub Fit : Kept → List ℕ → SetState T → Type 0
+  abbrev pub Fit : Kept T → List ℕ → SetState T → Type 0
   Fit kept words s = (kept ≡ kepts.TheVariants.Nothing) × (words ≡ s.words)
 
   abbrev pub number_by : (BitsFlight → ℕ → ℕ) → Flight T → ℕ → ℕ

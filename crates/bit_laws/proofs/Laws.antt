@@ -17,7 +17,7 @@ use Rattle.model.specs.declared.turn.Refusal.TheVariants.{BadIndex}
 use Rattle.model.specs.declared.turn.Turn.{Turn}
 use Rattle.model.specs.declared.turn.Turn.TheVariants.{Next}
 use Rattle.model.specs.Coding.{Coding}
-use Rattle.model.specs.Families.{opening_of, first_of, want_of, after_of, ask_of, is_question, beside_of, step_of}
+use Rattle.model.specs.Families.{opening_of, first_of, want_of, ask_of, is_question, beside_of, step_of, kept_after_begin, goes_of}
 use Rattle.model.specs.Families.Bits.Calls.{first, want}
 use Rattle.model.specs.Families.Bits.Opening.{is_past, kept_rows}
 use Rattle.model.specs.Families.Bits.Steps.{effects_of}
@@ -56,7 +56,7 @@ module _ {T : Type 0} (K : SetKind T) where
   -- what a kind owes
   pub record SetLaws (code : Coding T) (c : ℕ) : Type 1 where
     -- of its machine at the opening, and of what it promises
-    pub bare : (opening_of K.kind).kept c ≡ kepts.TheVariants.Nothing
+    pub bare : (opening_of K.kind).kept {T = T} c ≡ kepts.TheVariants.Nothing
     pub opens : K.Holds c ((opening_of K.kind).words code.size c) [] 0
     pub promise : promise_of {T = T} K.kind ≡ K.promise
     pub tells : (old : Trace T) (turn : Turn T) (new : Trace T) → K.promise.tells old turn new
@@ -143,7 +143,7 @@ module _ {T : Type 0} (K : SetKind T) where
       begun start = Begun p (Bits start) ∷ []
 
       -- where the words, and what is kept, and the call are these
-      abbrev Begins : List ℕ → Kept → BitsStart → Flight T → Type 0
+      abbrev Begins : List ℕ → Kept T → BitsStart → Flight T → Type 0
       Begins words kept start flight = frame.Comes F t p kept words (party_at_begin (Bits start) flight t.world.changes) (begun start) t.world.changes
 
       begins : (start : BitsStart) (flight : BitsFlight) → IsFirst c p t.events s.state.words t.world.changes start flight → MayBegin t.world p (Bits start) → Begins s.state.words kepts.TheVariants.Nothing start (flights.TheVariants.Bits flight)
@@ -179,10 +179,10 @@ module _ {T : Type 0} (K : SetKind T) where
           (subst (λ kind. first_of kind t.world.capacity start ≡ Some flight) s.kind e)
 
       begin_comes : (start : Start T) (flight : Flight T) → MayBegin t.world p start → first_of t.world.kind t.world.capacity start ≡ Some flight
-          → frame.Comes F t p t.world.kept t.world.words (party_at_begin start flight t.world.changes) (Begun p start ∷ []) t.world.changes
+          → frame.Comes F t p (kept_after_begin t.world.coding t.world.capacity start p t.world.kept) t.world.words (party_at_begin start flight t.world.changes) (Begun p start ∷ []) t.world.changes
       begin_comes (Bits start) flight may e =
           let mine = some_first start flight (first_here (Bits start) flight e) in
-          let rows : first_row (kept_rows t.world.capacity start kepts.TheVariants.Nothing p) ≡ None = subst (λ kept. first_row (kept_rows t.world.capacity start kept p) ≡ None) s.fit.0 may.rows in
+          let rows : first_row (kept_rows {T = T} t.world.capacity start kepts.TheVariants.Nothing p) ≡ None = subst (λ kept. first_row (kept_rows {T = T} t.world.capacity start kept p) ≡ None) s.fit.0 may.rows in
           let place : is_past t.world.capacity start ≡ false = (row_passed (is_past t.world.capacity start) BadIndex None rows).0 in
           let is = L.first p t.events s.state.words t.world.changes start mine.0 mine.2 (subst (λ n. is_past n start ≡ false) s.capacity place) in
           subst (λ ws. Begins ws t.world.kept start flight) (sym s.fit.1)
@@ -232,8 +232,8 @@ module _ {T : Type 0} (K : SetKind T) where
       in_order start flight at = absurd at
 
       -- a call of the set goes on as its table says
-      told : (kept : Kept) (start : Start T) (flight : Flight T) (answer : ℕ) → kept ≡ kepts.TheVariants.Nothing → F.At s.state p start flight
-          → (step_of t.world.coding t.world.words (beside_of t.world.words t.world.kept t.world.latest p) p start flight answer kept).after ≡ after_of t.world.coding flight answer
+      told : (kept : Kept T) (start : Start T) (flight : Flight T) (answer : ℕ) → kept ≡ kepts.TheVariants.Nothing → F.At s.state p start flight
+          → (step_of t.world.coding t.world.words (beside_of t.world.words t.world.kept t.world.latest p) p start flight answer kept).after ≡ goes_of t.world.coding p flight answer kept
       told kepts.TheVariants.Nothing (Bits start) (flights.TheVariants.Bits flight) answer none at = refl
       told kept (Bits start) (flights.TheVariants.Bits flight) answer none at = absurd (cc)
       told kept start flight answer none at = absurd at

@@ -100,7 +100,7 @@ module _ {T : Type 0} where
       → Moved w p start flight (old_of w.words (ask_of (want_of w.coding flight))) (writes (old_of w.words (ask_of (want_of w.coding flight))))
   moved w p start flight writes h goes same =
       let old = old_of w.words (ask_of (want_of w.coding flight)) in
-      let s : Step (Flight T) Kept T = step_in w p h.x flight old in
+      let s : Step (Flight T) (Kept T) T = step_in w p h.x flight old in
       let after = goes h.x old h.found in
       let ask = ask_of (want_of w.coding flight) in
       let there : call_in (after_step w p h.x h.since ask s) p ≡ call_at h.x.start (Rattle.model.specs.Turns.doing_after (w.changes + change_of w.words ask) (h.since + change_of w.words ask) s.after) = ap call_of (party_put_same p (party_after h.x h.since w.changes (step_count ask) (change_of w.words ask) s) w.latest) in

@@ -18,7 +18,7 @@ use Rattle.model.specs.declared.party.Party.{Party}
 use Rattle.model.specs.declared.turn.Kind as kinds
 use Rattle.model.specs.declared.turn.Turn.TheVariants.{Next}
 use Rattle.model.specs.Coding.{Coding, one_word}
-use Rattle.model.specs.Families.{opening_of, step_of, beside_of, after_of, going_rows}
+use Rattle.model.specs.Families.{opening_of, step_of, beside_of, after_of, goes_of, going_rows}
 use Rattle.model.specs.Families.Bits.Steps.{effects_of}
 use Rattle.model.specs.Parties.{party_of}
 use Rattle.model.specs.Promises.Turns.{IsEffectOf, IsParty}
@@ -66,6 +66,10 @@ module _ {T : Type 0} where
   effect_own p (events.TheVariants.FreedOf q index o) h = ap Some h
   effect_own p (events.TheVariants.Asked q index o) h = ap Some h
   effect_own p (events.TheVariants.Told q index o) h = ap Some h
+  effect_own p (events.TheVariants.Placed q index value) h = ap Some h
+  effect_own p (events.TheVariants.Hidden q index) h = ap Some h
+  effect_own p (events.TheVariants.Copied q index value) h = ap Some h
+  effect_own p (events.TheVariants.Shown q index) h = ap Some h
   effect_own p (events.TheVariants.Died o) h = absurd h
   effect_own p (events.TheVariants.Acted q start answer) h = absurd h
   effect_own p (events.TheVariants.Finished q start answer) h = absurd h
@@ -91,7 +95,12 @@ module _ {T : Type 0} (K : SetKind T) (laws : (code : Coding T) (c : ℕ) → Se
   no_rows t At (Bits start) (flights.TheVariants.Bits flight) at = refl
   no_rows t At start flight at = absurd at
 
-  writes_there : (t : Trace T) (p old : ℕ) (At : BitsStart → BitsFlight → Type 0) (kept : Kept) (start : Start T) (flight : Flight T) → kept ≡ kepts.TheVariants.Nothing → FlightAt At start flight
+  -- a call of the set goes on alike whatever is kept
+  as_told : (code : Coding T) (p n : ℕ) (At : BitsStart → BitsFlight → Type 0) (kept : Kept T) (start : Start T) (flight : Flight T) → FlightAt At start flight → goes_of code p flight n kept ≡ after_of code flight n
+  as_told code p n At kept (Bits start) (flights.TheVariants.Bits flight) at = refl
+  as_told code p n At kept start flight at = absurd at
+
+  writes_there : (t : Trace T) (p old : ℕ) (At : BitsStart → BitsFlight → Type 0) (kept : Kept T) (start : Start T) (flight : Flight T) → kept ≡ kepts.TheVariants.Nothing → FlightAt At start flight
       → (step_of t.world.coding t.world.words (beside_of t.world.words t.world.kept t.world.latest p) p start flight old kept).wrote ≡ set_effects p flight old
   writes_there t p old At kepts.TheVariants.Nothing (Bits start) (flights.TheVariants.Bits flight) none at = refl
   writes_there t p old At kept (Bits start) (flights.TheVariants.Bits flight) none at = absurd (cc)
@@ -118,7 +127,8 @@ module _ {T : Type 0} (K : SetKind T) (laws : (code : Coding T) (c : ℕ) → Se
             let same : here.x ≡ x = (let both : Some here.x ≡ Some x = sym here.found ∙ found in cc) in
             let orders = sets.orders K t.world.coding t.world.capacity (laws t.world.coding t.world.capacity) in
             subst (λ (z : Party T). (step_in t.world p z flight n).after ≡ after_of t.world.coding flight n) same
-            (orders.after t p here.x flight here.since n (sound t r) here.found here.doing));
+            (orders.after t p here.x flight here.since n (sound t r) here.found here.doing
+            ∙ as_told t.world.coding p n (K.At t.world.capacity wrote) t.world.kept here.x.start flight mine));
       }
 
   pub sets_owe : KindLaws code K.kind capacity words set_effects

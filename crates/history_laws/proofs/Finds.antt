@@ -161,11 +161,11 @@ module _ {T : Type 0} where
       (λ (none : (b : ℕ) → clears b es ≡ 0). inr (λ b. (let zero = none b in let more = clears_more b es (Finished p start answer ∷ []) in more ∙ omega arith)))
       h
 
-  abbrev wrote_there : Trace T → ℕ → ℕ → Start T → Flight T → Kept → List (Event T)
+  abbrev wrote_there : Trace T → ℕ → ℕ → Start T → Flight T → Kept T → List (Event T)
   wrote_there t p old start flight kept =
       (step_of t.world.coding t.world.words (beside_of t.world.words t.world.kept t.world.latest p) p start flight old kept).wrote
 
-  step_sided : (t : Trace T) (c p old : ℕ) (wrote : List (Event T)) (kept : Kept) (start : Start T) (flight : Flight T) → kept ≡ kepts.TheVariants.Nothing → FlightAt (bit_calls.CallAt c wrote) start flight → OneSided (wrote_there t p old start flight kept)
+  step_sided : (t : Trace T) (c p old : ℕ) (wrote : List (Event T)) (kept : Kept T) (start : Start T) (flight : Flight T) → kept ≡ kepts.TheVariants.Nothing → FlightAt (bit_calls.CallAt c wrote) start flight → OneSided (wrote_there t p old start flight kept)
   step_sided t c p old wrote kepts.TheVariants.Nothing (Bits start) (flights.TheVariants.Bits flight) none at = sided c p old wrote start flight at
   step_sided t c p old wrote kept (Bits start) (flights.TheVariants.Bits flight) none at = absurd (cc)
   step_sided t c p old wrote kept start flight none at = absurd at
@@ -268,7 +268,7 @@ module _ {T : Type 0} where
     hears_next (flights.TheVariants.Bits flight) = tt
     hears_next flight = tt
 
-    count_step : (c p old : ℕ) (wrote : List (Event T)) (kept : Kept) (start : Start T) (flight : Flight T) (o : Option (Answer T)) → kept ≡ kepts.TheVariants.Nothing → FlightAt (counting.CallAt c wrote) start flight → Hears flight old
+    count_step : (c p old : ℕ) (wrote : List (Event T)) (kept : Kept T) (start : Start T) (flight : Flight T) (o : Option (Answer T)) → kept ≡ kepts.TheVariants.Nothing → FlightAt (counting.CallAt c wrote) start flight → Hears flight old
         → AreRight CountFinds t.events (wrote_there t p old start flight kept ++ ending_of p start o)
     count_step c p old wrote kepts.TheVariants.Nothing (Bits (starts.Set place)) (flights.TheVariants.Bits (calls.Count run)) o none at hears =
         (tt, ends_right (t.events ++ Counted p run.given ∷ []) p (Bits (starts.Set place)) o)

@@ -34,7 +34,7 @@ pub record IndexSet : Type 0 where
   pub holders : List (Option ℕ)
   pub seats : ℕ  -- the parties from this number on have begun no call
 
-abbrev pub Fit : Kept → List ℕ → IndexSet → Type 0
+abbrev pub Fit : {T : Type 0} → Kept T → List ℕ → IndexSet → Type 0
 Fit (kepts.TheVariants.Indices holders) words s = (words ≡ s.words) × (holders ≡ s.holders)
 Fit kept words s = ⊥
 

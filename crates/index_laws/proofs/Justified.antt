@@ -16,7 +16,7 @@ use Rattle.model.specs.declared.turn.Kind as kinds
 use Rattle.model.specs.declared.turn.Turn.{Turn}
 use Rattle.model.specs.declared.turn.Turn.TheVariants.{Next}
 use Rattle.model.specs.Coding.{Coding}
-use Rattle.model.specs.Families.{want_of, after_of, ask_of, beside_of, step_of}
+use Rattle.model.specs.Families.{want_of, after_of, ask_of, beside_of, step_of, goes_of}
 use Rattle.model.specs.Families.Indices.Calls.{after}
 use Rattle.model.specs.Families.Indices.Promises.{promise}
 use Rattle.model.specs.Families.Indices.Steps.{effects, ended, wrote}
@@ -72,8 +72,8 @@ module _ {T : Type 0} (code : Coding T) (c : ℕ) (t : Trace T) (p : ℕ) (s : f
       in_order_from t p promise t.world.coding t.world.words (kepts.TheVariants.Indices s.state.holders) x.start flight refl is.0 (in_order t.world.words x.start flight (stands_there (family code c) t s p x since flight found doing).at)
 
 -- a call of the set goes on as its table says
-told : {T : Type 0} (code z : Coding T) (c : ℕ) (words : List ℕ) (beside : Option (ℕ × ℕ)) (s : IndexSet) (p : ℕ) (start : Start T) (flight : Flight T) (answer : ℕ) (kept : Kept) → Fit kept words s → (family code c).At s p start flight
-    → (step_of z words beside p start flight answer kept).after ≡ after_of z flight answer
+told : {T : Type 0} (code z : Coding T) (c : ℕ) (words : List ℕ) (beside : Option (ℕ × ℕ)) (s : IndexSet) (p : ℕ) (start : Start T) (flight : Flight T) (answer : ℕ) (kept : Kept T) → Fit kept words s → (family code c).At s p start flight
+    → (step_of z words beside p start flight answer kept).after ≡ goes_of z p flight answer kept
 told y z c words beside s p (Indices start) (flights.TheVariants.Indices flight) answer (kepts.TheVariants.Indices holders) fit at = refl
 told y z c words beside s p (Indices start) (flights.TheVariants.Indices flight) answer held fit at = absurd fit
 told y z c words beside s p start flight answer held fit at = absurd at

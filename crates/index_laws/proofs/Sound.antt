@@ -23,7 +23,7 @@ use Rattle.model.specs.declared.party.Party.{Party}
 use Rattle.model.specs.declared.turn.Kind as kinds
 use Rattle.model.specs.declared.turn.Refusal.TheVariants.{BadIndex, NotHeld}
 use Rattle.model.specs.Coding.{Coding}
-use Rattle.model.specs.Families.{first_of, want_of, is_question}
+use Rattle.model.specs.Families.{first_of, want_of, is_question, kept_after_begin}
 use Rattle.model.specs.Families.Indices.Calls.{first, want}
 use Rattle.model.specs.Families.Indices.Opening.{opening_words, call_rows, kept_rows}
 use Rattle.model.specs.Families.Indices.Promises.{GoesStraight}
@@ -55,12 +55,12 @@ holds_is (Some q) p e = go (q == p) refl e
     go true t e = let same : q ≡ p = grind (arith, nat_tests) in ap Some same
     go false t e = absurd (cc)
 
-pub kept_is : (kept : Kept) (words : List ℕ) (s : IndexSet) → Fit kept words s → (kept ≡ kepts.TheVariants.Indices s.holders) × (words ≡ s.words)
+pub kept_is : {T : Type 0} → (kept : Kept T) (words : List ℕ) (s : IndexSet) → Fit kept words s → (kept ≡ kepts.TheVariants.Indices s.holders) × (words ≡ s.words)
 kept_is (kepts.TheVariants.Indices holders) words s fit = (ap (λ o. kepts.TheVariants.Indices o) fit.1, fit.0)
 kept_is kept words s fit = absurd fit
 
 -- a seat more
-fit_seats : (kept : Kept) (words : List ℕ) (s : IndexSet) (seats : ℕ) → Fit kept words s → Fit kept words (record { words = s.words; holders = s.holders; seats = seats })
+fit_seats : {T : Type 0} → (kept : Kept T) (words : List ℕ) (s : IndexSet) (seats : ℕ) → Fit kept words s → Fit kept words (record { words = s.words; holders = s.holders; seats = seats })
 fit_seats (kepts.TheVariants.Indices holders) words s seats fit = fit
 fit_seats kept words s seats fit = absurd fit
 
@@ -257,10 +257,10 @@ module _ {T : Type 0} (code : Coding T) (c : ℕ) (t : Trace T) (s : frame.Sound
       }
 
   pub begin_comes : (start : Start T) (flight : Flight T) → MayBegin t.world p start → first_of t.world.kind t.world.capacity start ≡ Some flight
-      → frame.Comes (family code c) t p t.world.kept t.world.words (party_at_begin start flight t.world.changes) (Begun p start ∷ []) t.world.changes
+      → frame.Comes (family code c) t p (kept_after_begin t.world.coding t.world.capacity start p t.world.kept) t.world.words (party_at_begin start flight t.world.changes) (Begun p start ∷ []) t.world.changes
   begin_comes (Indices start) (flights.TheVariants.Indices flight) may e =
       let is = kept_is t.world.kept t.world.words s.state s.fit in
-      let rows : first_row (kept_rows t.world.capacity start (kepts.TheVariants.Indices s.state.holders) p) ≡ None = subst (λ kept. first_row (kept_rows t.world.capacity start kept p) ≡ None) is.0 may.rows in
+      let rows : first_row (kept_rows {T = T} t.world.capacity start (kepts.TheVariants.Indices s.state.holders) p) ≡ None = subst (λ kept. first_row (kept_rows {T = T} t.world.capacity start kept p) ≡ None) is.0 may.rows in
       let passed : first_row (call_rows c s.state.holders p start) ≡ None = subst (λ n. first_row (call_rows n s.state.holders p start) ≡ None) s.capacity rows in
       let named : first_of {T = T} kinds.TheVariants.Indices t.world.capacity (Indices start) ≡ Some (flights.TheVariants.Indices flight) = subst (λ kind. first_of {T = T} kind t.world.capacity (Indices start) ≡ Some (flights.TheVariants.Indices flight)) s.kind e in
       let own : first c start ≡ flight = subst (λ n. first n start ≡ flight) s.capacity (begins_own t.world.capacity (Indices start) (flights.TheVariants.Indices flight) named) in

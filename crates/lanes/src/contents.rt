@@ -9,12 +9,14 @@ use std::alloc::{AllocError, Global};
 /// The most items that are written out.
 const SHOWN: usize = 8;
 
-// A value; a flag; a place with its count; an index with the party or the owner that has it, surely or not yet.
+// A value; a flag; a place with its count; an index with the party or the owner that has it, surely or not yet, and
+// with the value that stands there.
 #[derive(Clone, Copy)]
 struct Item {
     key: u128,
-    with: u64,
+    with: Option<u64>,
     surely: bool,
+    value: Option<u128>,
 }
 
 #[derive(Drop)]
@@ -37,6 +39,10 @@ pub fn has_acts(kind: Kind) -> bool {
 enum Change {
     /// The item of this key is there, with this number, surely or not yet.
     Puts(u128, u64, bool),
+    /// Nobody has this index any more. A value that stands there still does.
+    Frees(u128),
+    /// From now on this value stands at this index, or none.
+    Places(u128, Option<u128>),
     /// The count of this place is one more.
     Counts(u128),
     Takes(u128),
@@ -60,7 +66,9 @@ fn change_of(event: &Event<u128>) -> Option<Change> {
         Event::Granted(_, index, owner) => {
             Some(Change::Puts(u128::from(index), owner.value(), true))
         }
-        Event::FreedOf(_, index, _) => Some(Change::Takes(u128::from(index))),
+        Event::FreedOf(_, index, _) => Some(Change::Frees(u128::from(index))),
+        Event::Placed(_, index, value) => Some(Change::Places(u128::from(index), Some(value))),
+        Event::Hidden(_, index) => Some(Change::Places(u128::from(index), None)),
         _ => None,
     }
 }
@@ -87,8 +95,9 @@ impl Contents {
         if matches!(kind, Kind::Atomic) {
             items.push(Item {
                 key: 0,
-                with: 0,
+                with: None,
                 surely: true,
+                value: None,
             })?;
         }
         Ok(Contents {
@@ -101,8 +110,9 @@ impl Contents {
     fn append(&mut self, key: u128) -> Result<(), AllocError> {
         self.items.push(Item {
             key,
-            with: 0,
+            with: None,
             surely: true,
+            value: None,
         })?;
         Ok(())
     }
@@ -117,20 +127,53 @@ impl Contents {
         self.items.retain(|item| item.key != key);
     }
 
-    // In the order of places and indices.
-    fn put(&mut self, key: u128, with: u64, surely: bool) -> Result<(), AllocError> {
-        self.take(key);
-        self.items.push(Item { key, with, surely })?;
+    fn at(&self, key: u128) -> Item {
+        for item in self.items.iter() {
+            if item.key == key {
+                return *item;
+            }
+        }
+        Item {
+            key,
+            with: None,
+            surely: true,
+            value: None,
+        }
+    }
+
+    // In the order of places and indices, unless nothing is left of it.
+    fn set(&mut self, item: Item) -> Result<(), AllocError> {
+        self.take(item.key);
+        if item.with.is_none() && item.value.is_none() {
+            return Ok(());
+        }
+        self.items.push(item)?;
         self.items.sort_by_key(|item| item.key)
     }
 
+    fn put(&mut self, key: u128, with: Option<u64>, surely: bool) -> Result<(), AllocError> {
+        let value = self.at(key).value;
+        self.set(Item {
+            key,
+            with,
+            surely,
+            value,
+        })
+    }
+
+    // From now on this value stands there, or none.
+    fn place(&mut self, key: u128, value: Option<u128>) -> Result<(), AllocError> {
+        let Item { with, surely, .. } = self.at(key);
+        self.set(Item {
+            key,
+            with,
+            surely,
+            value,
+        })
+    }
+
     fn count_at(&self, key: u128) -> u64 {
-        for item in self.items.iter() {
-            if item.key == key {
-                return item.with;
-            }
-        }
-        0
+        self.at(key).with.unwrap_or(0)
     }
 
     fn push(&mut self, value: u128, answer: &Answer<u128>) -> Result<(), AllocError> {
@@ -184,10 +227,12 @@ impl Contents {
 
     fn change(&mut self, change: Change) -> Result<(), AllocError> {
         match change {
-            Change::Puts(key, with, surely) => self.put(key, with, surely),
+            Change::Puts(key, with, surely) => self.put(key, Some(with), surely),
+            Change::Frees(key) => self.put(key, None, true),
+            Change::Places(key, value) => self.place(key, value),
             Change::Counts(key) => {
                 let count = self.count_at(key).saturating_add(1);
-                self.put(key, count, true)
+                self.put(key, Some(count), true)
             }
             Change::Takes(key) => {
                 self.take(key);
@@ -215,17 +260,26 @@ impl Contents {
         }
     }
 
-    fn write_item(&self, text: &mut String, item: Item) -> Result<(), AllocError> {
-        let Item { key, with, surely } = item;
+    fn write_with(&self, text: &mut String, with: u64, surely: bool) -> Result<(), AllocError> {
+        let doubt = if surely { "" } else { "?" };
         match self.kind {
-            Kind::Counts => write!(text, "{key}: {with}"),
-            Kind::Indices => write!(text, "{key} by {with}"),
-            Kind::Robust => {
-                let doubt = if surely { "" } else { "?" };
-                write!(text, "{key} of {with}{doubt}")
-            }
-            _ => write!(text, "{key}"),
+            Kind::Counts => write!(text, ": {with}"),
+            Kind::Indices => write!(text, " by {with}"),
+            Kind::Robust | Kind::Container => write!(text, " of {with}{doubt}"),
+            _ => Ok(()),
         }
+    }
+
+    fn write_item(&self, text: &mut String, item: Item) -> Result<(), AllocError> {
+        let key = item.key;
+        write!(text, "{key}")?;
+        if let Some(with) = item.with {
+            self.write_with(text, with, item.surely)?;
+        }
+        if let Some(value) = item.value {
+            write!(text, ": {value}")?;
+        }
+        Ok(())
     }
 
     fn write_items(&self, text: &mut String) -> Result<(), AllocError> {

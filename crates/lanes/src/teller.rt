@@ -64,6 +64,7 @@ fn name_of(kind: Kind) -> &'static str {
         Kind::Counts => "counts",
         Kind::Indices => "indices",
         Kind::Robust => "robust",
+        Kind::Container => "container",
     }
 }
 

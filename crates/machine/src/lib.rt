@@ -2,17 +2,19 @@
 //! happened.
 #![tactic(auto)]
 
-ghost use Rattle.std.specs.Prelude.{◌≡◌, ◌≤◌, ◌<◌, None, OnOk, OnErr, IfOk, IfErr, IfSome, length, take, slice_get};
+ghost use Rattle.std.specs.Prelude.{◌≡◌, [], ◌≤◌, ◌<◌, None, OnOk, OnErr, IfOk, IfErr, IfSome, length, take, slice_get, option_copied};
 
 pub mod theorems;
 
 use event::Event;
+use families::Kept;
 use model::coding::Coded;
 pub use model::{event, families, party, turn};
 use parts::parts::Parts;
 use party::{Progress, flight_of, progress_of};
 use std::alloc::Global;
 use std::marker::Model;
+use steps::container::state::ContainerState;
 use steps::enums::UniqueIndexCreationError;
 use steps::words::Words;
 use turn::{Kind, Refusal, Turn};
@@ -22,6 +24,14 @@ use turn::{Kind, Refusal, Turn};
 #[derive(Drop)]
 pub struct Machine<T: Words> {
     parts: Parts<T>,
+    unlooked: Unlooked<T>,
+}
+
+/// The state of a party of a container before its first look. It has no elements, and takes no memory.
+#[derive(Drop)]
+struct Unlooked<T> {
+    state: ContainerState<T>,
+    ghost shows_nothing: { state.shown.elements ≡ [] },
 }
 
 /// Where a list of turns stopped: how many were taken, and why the next one was refused.
@@ -51,12 +61,13 @@ impl<T: Words> Machine<T> {
     ghost use Rattle.model.specs.Turns.{after_turn, after_turns, AreAllowed};
     ghost use Rattle.model.specs.Linearized.{IsLinearizableRun};
     ghost use Rattle.model.specs.Progress.{KeepsGuarantees};
+    ghost use Rattle.machine.specs.States.{IsStateIn};
     ghost use Rattle.model.specs.Promises.{IsKept, WritesEvents, TellsBeside, AreTurns};
     ghost use Rattle.model.specs.Promises.Turns.{IsOneTurnLater, WritesOneWord, GoesOn, CountsTurn, CountsOthers};
 
     /// A structure that is empty, or has the value that words of zeros make, with its roles free, and this many
-    /// parties, numbered from 0. Of a set of indices no index is held, and no owner is dead. Room for a party is made as
-    /// it first begins a call.
+    /// parties, numbered from 0. Of a set of indices or a container no index is held, and no owner is dead. Room for a
+    /// party is made as it first begins a call, and room for its state of a container as it first looks.
     ///
     /// Refused are, in this order, a capacity above the greatest of the kind, one below the least, and memory.
     pub fn new(
@@ -70,21 +81,28 @@ impl<T: Words> Machine<T> {
         ensures admitted { OnOk result (capacity_error kind capacity ≡ None) }
         ensures refused { IfErr result (IsCreationError kind capacity) }
     {
+        let parts = Parts::new(alloc, kind, capacity, parties)?;
+        let Ok(mut state) = ContainerState::new(alloc, 0, 0) else {
+            return Err(UniqueIndexCreationError::NoMemory);
+        };
+        state.capacity = parts.capacity;
         Ok(Machine {
-            parts: Parts::new(alloc, kind, capacity, parties)?,
+            parts,
+            unlooked: Unlooked { state },
         })
     }
 
     /// One turn. A refused turn changes nothing.
     ///
     /// The refusals are tested in this order: `AtEnd` after 2^64 - 2 turns, `NoParty` for a number that is not below
-    /// the number of parties; for `Begin` then `Busy`, `WrongCall`, `BadIndex` for a bit or index that is not below the
-    /// capacity, `NoRole`, `NotHeld` for a release of an index that the party does not hold, and `OwnerIsDead` for an
-    /// acquire or a release of a dead owner; for `Next` `Idle`, `Undecided` where a decision is due, and `OwnerIsDead`
-    /// for such a call under way; for `Decide` `Idle`, `Undecided` where none is due, `OwnerIsDead`, and `OwnerLives`
-    /// for a yes by which a recovery would free an index of an owner who lives; for `Die` `WrongCall` where the kind
-    /// has no owners, and `OwnerIsDead`; last `NoMemory`, where there is no room for the events, for a new party or for
-    /// a dead owner.
+    /// the number of parties; for `Begin` then `Busy`, `WrongCall`, `BadIndex` for a bit or index of a set that is not
+    /// below the capacity, `NoRole`, `NotHeld` for a release of an index that the party does not hold, `OwnerIsDead` for
+    /// an acquire, a release, an add, a remove or a replace of a dead owner, and `OwnerLives` for a container's recovery
+    /// of an owner who lives; for `Next` `Idle`, `Undecided` where a decision is due, and `OwnerIsDead` for such a call
+    /// under way; for `Decide` `Idle`, `Undecided` where none is due, `OwnerIsDead`, and `OwnerLives` for a yes by which a
+    /// recovery of the robust set would free an index of an owner who lives; for `Die` `WrongCall` where the kind has no
+    /// owners, and `OwnerIsDead`; last `NoMemory`, where there is no room for the events, for a new party, for its state
+    /// or for a dead owner.
     pub fn step(&mut self, turn: Turn<T>) -> Result<(), Refusal>
         ensures allowed { OnOk result
             (refusal_of (world_in ⟦<T as Coded>⟧.coding self.old) turn ≡ None) }
@@ -196,11 +214,28 @@ impl<T: Words> Machine<T> {
     /// set: the reset position, and then one word for each 64 places begun, in which place b is bit b mod 64 of the word
     /// 1 + b / 64. Of a counting bit set: the count of each place. Of the unique index set: the head, the next
     /// index of each index, and the claim flags, 64 to a word. Of the robust index set: the counter, and for each index a
-    /// cell with its owner, or `u64::MAX`.
+    /// cell with its owner, or `u64::MAX`. Of the container: those of a robust index set, how often it has changed, the
+    /// number of each element, which is odd while a value stands there, and `T::WORDS` words for each.
     pub fn words(&self) -> &[u64]
         ensures { result.now ≡ self.now.words }
     {
         &self.parts.words
+    }
+
+    /// The state of a party of a container, which its looks write into: what it shows is that of its latest look where
+    /// none is under way, and it shows nothing before the first. None for a number that is no party's, and of every other
+    /// kind.
+    pub fn state(&self, party: u32) -> Option<&ContainerState<T>>
+        ensures { IsStateIn self.now.kept self.now.parties party (option_copied result) }
+    {
+        let Kept::Container(_, states) = &self.parts.kept else {
+            return None;
+        };
+        match states.get(party) {
+            Some(state) => Some(state),
+            None if party < self.parts.parties => Some(&self.unlooked.state),
+            None => None,
+        }
     }
 
     /// How far the party's latest call has come, or None where it has begun none.

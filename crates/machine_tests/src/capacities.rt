@@ -14,7 +14,7 @@ const ABOVE: Option<UniqueIndexCreationError> = Some(
     UniqueIndexCreationError::ProvidedCapacityGreaterThanMaxCapacity,
 );
 
-const CAPACITIES: [(Kind, usize, Option<UniqueIndexCreationError>); 23] = [
+const CAPACITIES: [(Kind, usize, Option<UniqueIndexCreationError>); 27] = [
     (Kind::IndexQueue, 0, None),
     (Kind::IndexQueue, 4_294_967_295, None),
     (Kind::IndexQueue, 4_294_967_296, ABOVE),
@@ -38,6 +38,10 @@ const CAPACITIES: [(Kind, usize, Option<UniqueIndexCreationError>); 23] = [
     (Kind::Robust, 1, None),
     (Kind::Robust, 4_294_967_295, None),
     (Kind::Robust, 4_294_967_296, ABOVE),
+    (Kind::Container, 0, ZERO),
+    (Kind::Container, 1, None),
+    (Kind::Container, 4_294_967_295, None),
+    (Kind::Container, 4_294_967_296, ABOVE),
 ];
 
 fn first_wrong() -> Option<usize> {
@@ -65,8 +69,9 @@ fn capacities(rt: HostRuntime) {
     assert!(rt; is_refused(rt.alloc()));
 }
 
-/// Sixty-four flags stand in a word, and a word more has the reset position; a count has a word of its own.
-const SIZES: [(&str, usize); 14] = [
+/// Sixty-four flags stand in a word, and a word more has the reset position; a count has a word of its own; an element
+/// of a container, of two words, has its cell and its number besides.
+const SIZES: [(&str, usize); 15] = [
     ("bits 0 1", 1),
     ("bits 1 1", 2),
     ("bits 64 1", 2),
@@ -81,6 +86,7 @@ const SIZES: [(&str, usize); 14] = [
     ("counts 130 1", 130),
     ("indices 100 1", 103),
     ("robust 100 1", 101),
+    ("container 100 1", 402),
 ];
 
 fn has_words(alloc: Global, line: &str, words: usize) -> bool {

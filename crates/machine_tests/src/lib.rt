@@ -8,6 +8,8 @@ mod bits;
 #[cfg(test)]
 mod capacities;
 #[cfg(test)]
+mod container;
+#[cfg(test)]
 mod indices;
 #[cfg(test)]
 mod many;

@@ -6,7 +6,8 @@ use machine::families::queues::QueueStart;
 use machine::party::Progress;
 use machine::turn::{Kind, Refusal, Turn};
 use schedule::bare::{
-    is_going, line_of, line_of_refusal, made, read_command, read_words, step, text_of, under_way,
+    is_going, line_of, line_of_refusal, made, read_command, read_words, state, step, text_of,
+    under_way,
 };
 use schedule::grammar::Command;
 use schedule::pen::Pen;
@@ -54,6 +55,8 @@ pub enum Shows {
     Proposed(u32),
     /// So many words, and so many events.
     Sizes(usize, usize),
+    /// The party's state shows these, and no more.
+    State(u32, &'static [Option<u128>]),
 }
 
 /// A machine on which rows are played.
@@ -287,7 +290,20 @@ impl Played {
             Shows::Sizes(words, events) => {
                 self.machine.words().len() == words && self.machine.events().len() == events
             }
+            Shows::State(party, values) => self.state_is(party, values),
         }
+    }
+
+    /// Whether the party has a state of so many indices, which shows these values.
+    fn state_is(&self, party: u32, values: &[Option<u128>]) -> bool {
+        let Some(state) = state(&self.machine, party) else {
+            return false;
+        };
+        let mut right = state.capacity as usize == values.len();
+        for (at, value) in values.iter().enumerate() {
+            right &= state.get(at).copied() == *value;
+        }
+        right
     }
 
     /// Whether the row comes out as it says.

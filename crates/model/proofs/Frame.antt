@@ -15,7 +15,7 @@ use Rattle.model.specs.declared.turn.Kind.{Kind}
 use Rattle.model.specs.declared.turn.Turn.{Turn}
 use Rattle.model.specs.declared.turn.Turn.TheVariants.{Begin, Next, Decide, Die}
 use Rattle.model.specs.Coding.{Coding}
-use Rattle.model.specs.Families.{first_of, want_of, ask_of, is_question, going_rows, has_owners, kept_after_death}
+use Rattle.model.specs.Families.{first_of, want_of, ask_of, is_question, going_rows, has_owners, kept_after_begin, kept_after_death}
 use Rattle.model.specs.Parties.{party_of, put, doing_of, flight_of, progress_after}
 use Rattle.model.specs.Promises.Bounds.{Progresses}
 use Rattle.model.specs.Promise.{Promise}
@@ -42,7 +42,7 @@ pub record Family (T : Type 0) : Type 1 where
   pub promise : Promise T
   pub capacity : ℕ
   pub State : Type 0  -- what the words and what is kept beside them hold
-  pub Fit : Kept → List ℕ → State → Type 0  -- they hold it
+  pub Fit : Kept T → List ℕ → State → Type 0  -- they hold it
   pub Holds : State → List (ℕ × Party T) → List (Event T) → ℕ → Type 0  -- what is so of it and of the events, after so many turns
   pub written : State → ℕ → Flight T → List (Event T)  -- what a party's call under way has written since its begin
   pub number : Flight T → ℕ → ℕ  -- how many steps it has taken at most, having turned back so often
@@ -194,7 +194,7 @@ module _ {T : Type 0} (F : Family T) where
     pub inv : Inv state t.world.latest t.events t.world.changes
 
   -- what a turn comes to that leaves these words, this beside them, and the party so
-  pub record Comes (t : Trace T) (p : ℕ) (kept : Kept) (words : List ℕ) (y : Party T) (es : List (Event T)) (changes : ℕ) : Type 0 where
+  pub record Comes (t : Trace T) (p : ℕ) (kept : Kept T) (words : List ℕ) (y : Party T) (es : List (Event T)) (changes : ℕ) : Type 0 where
     pub state : F.State
     pub fit : F.Fit kept words state
     pub holds : F.Holds state (put p y t.world.latest) (t.events ++ es) (t.world.turns + 1)
@@ -214,7 +214,7 @@ module _ {T : Type 0} (F : Family T) where
     pub calls_know : (q since backs : ℕ) (flight : Flight T) → F.Knows s.state q t.events since t.world.changes backs flight → F.Knows state q (t.events ++ Died owner ∷ []) since t.world.changes backs flight
 
   -- where a family keeps no owners none dies
-  pub no_death : ((kept : Kept) (words : List ℕ) (state : F.State) → F.Fit kept words state → has_owners kept ≡ false) → (t : Trace T) (owner : ℕ) (s : Sound t) → MayDie t.world owner → ComesByDeath t s owner
+  pub no_death : ((kept : Kept T) (words : List ℕ) (state : F.State) → F.Fit kept words state → has_owners kept ≡ false) → (t : Trace T) (owner : ℕ) (s : Sound t) → MayDie t.world owner → ComesByDeath t s owner
   no_death none t owner s may =
       let owners = is_true (has_owners t.world.kept) may.owners in
       let without = none t.world.kept t.world.words s.state s.fit in
@@ -227,7 +227,7 @@ module _ {T : Type 0} (F : Family T) where
     pub decision : (t : Trace T) (p : ℕ) (x : Party T) (flight : Flight T) (since : ℕ) (said : Bool) → Sound t → May t → first_row (going_rows t.world.coding t.world.kept (Some flight) (Some said)) ≡ None → party_of p t.world.latest ≡ Some x → x.doing ≡ Going flight since → is_question (want_of t.world.coding flight) ≡ true
         → ComesByStep t p x flight since None (number_of said)
     pub begin : (t : Trace T) (p : ℕ) (start : Start T) (flight : Flight T) → Sound t → May t → MayBegin t.world p start → first_of t.world.kind t.world.capacity start ≡ Some flight
-        → Comes t p t.world.kept t.world.words (party_at_begin start flight t.world.changes) (Begun p start ∷ []) t.world.changes
+        → Comes t p (kept_after_begin t.world.coding t.world.capacity start p t.world.kept) t.world.words (party_at_begin start flight t.world.changes) (Begun p start ∷ []) t.world.changes
     pub death : (t : Trace T) (owner : ℕ) (s : Sound t) → MayDie t.world owner → ComesByDeath t s owner
 
   module _ (May : Trace T → Type 0) (laws : LawsWhere May) where

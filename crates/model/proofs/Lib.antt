@@ -20,6 +20,7 @@ pub mod Values
 pub mod Worked
 pub mod WorkedActs
 pub mod WorkedBits
+pub mod WorkedContainer
 pub mod WorkedIndices
 pub mod WorkedLinearizable
 pub mod WorkedProgress

@@ -10,7 +10,7 @@ use Rattle.model.specs.declared.party.Party.{Party}
 use Rattle.model.specs.declared.turn.Kind.{Kind}
 use Rattle.model.specs.declared.turn.Turn.{Turn}
 use Rattle.model.specs.declared.turn.Turn.TheVariants.{Begin, Next, Decide, Die}
-use Rattle.model.specs.Families.{want_of, after_of, ask_of, is_question}
+use Rattle.model.specs.Families.{want_of, goes_of, ask_of, is_question}
 use Rattle.model.specs.Parties.{party_of, doing_of, flight_of}
 use Rattle.model.specs.Promises.{IsTurnBy, IsTurn, AreTurns, IsKept}
 use Rattle.model.specs.Promises.Turns.{IsParty, IsEndOf, WritesInOrder, WritesDown}
@@ -35,7 +35,7 @@ module _ {T : Type 0} (F : Family T) where
         → WritesInOrder F.promise t (Next p) (t.events ++ events_of_step p x.start (step_in t.world p x flight (old_of t.world.words (ask_of (want_of t.world.coding flight)))))
     pub decision : (t : Trace T) (p : ℕ) (x : Party T) (flight : Flight T) (since : ℕ) (said : Bool) → Sound F t → t.world.turns < 2 ^ 64 - 2 → party_of p t.world.latest ≡ Some x → x.doing ≡ Going flight since → is_question (want_of t.world.coding flight) ≡ true
         → WritesInOrder F.promise t (Decide p said) (t.events ++ events_of_step p x.start (step_in t.world p x flight (number_of said)))
-    pub after : (t : Trace T) (p : ℕ) (x : Party T) (flight : Flight T) (since answer : ℕ) → Sound F t → party_of p t.world.latest ≡ Some x → x.doing ≡ Going flight since → (step_in t.world p x flight answer).after ≡ after_of t.world.coding flight answer
+    pub after : (t : Trace T) (p : ℕ) (x : Party T) (flight : Flight T) (since answer : ℕ) → Sound F t → party_of p t.world.latest ≡ Some x → x.doing ≡ Going flight since → (step_in t.world p x flight answer).after ≡ goes_of t.world.coding p flight answer t.world.kept
     pub tells : (t : Trace T) (turn : Turn T) → refusal_of t.world turn ≡ None → Sound F t → F.promise.tells t turn (after_turn t turn)
 
   nothing : (t : Trace T) (turn : Turn T) → WritesInOrder F.promise t turn (t.events ++ [])

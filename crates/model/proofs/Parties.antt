@@ -4,7 +4,7 @@ use Rattle.std.proofs.lemmas.Bool.Decides.{nat_tests}
 use Rattle.std.specs.BTreeMap.{insert_entry, is_at}
 use Rattle.std.specs.List.{AllByRecursion}
 use Rattle.std.specs.List.Sorted.{IsStrictlySortedBy}
-use Rattle.std.specs.Map.{keys_of, lookup, set_value}
+use Rattle.std.specs.Map.{keys_of, lookup, remove_entry, set_value}
 use Rattle.std.proofs.lemmas.Map.Keys.{sorted_head, sorted_tail}
 use Rattle.std.specs.declared.cmp.Ordering.{Ordering}
 use Rattle.std.specs.declared.cmp.Ordering.TheVariants.{Less, Equal, Greater}
@@ -94,6 +94,21 @@ module _ {X : Type 0} where
       by Equal t more = rw t refl
       by Greater t more =
           let behind : find p es ≡ Some y = rw t at found in
+          rw t (ap (λ xs. e ∷ xs) (more behind))
+
+  -- one that was not there is taken out again
+  pub put_removed : (p : ℕ) (x : X) (es : List (ℕ × X)) → find p es ≡ None → remove_entry (is_at (nat_cmp p)) (insert_entry nat_cmp es p x) ≡ es
+  put_removed p x [] absent = rw (itself p) refl
+  put_removed p x (e ∷ es) absent = by (nat_cmp p e.0) refl (put_removed p x es)
+    where
+      by : (r : Ordering) → nat_cmp p e.0 ≡ r → (find p es ≡ None → remove_entry (is_at (nat_cmp p)) (insert_entry nat_cmp es p x) ≡ es)
+          → remove_entry (is_at (nat_cmp p)) (match_ordering r ((p, x) ∷ e ∷ es) ((e.0, x) ∷ es) (e ∷ insert_entry nat_cmp es p x)) ≡ e ∷ es
+      by Less t more = rw (itself p) refl
+      by Equal t more =
+          let found : Some e.1 ≡ None = rw t at absent in
+          absurd (cc)
+      by Greater t more =
+          let behind : find p es ≡ None = rw t at absent in
           rw t (ap (λ xs. e ∷ xs) (more behind))
 
 module _ {T : Type 0} where

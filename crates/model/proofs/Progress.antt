@@ -5,6 +5,7 @@ use Rattle.model.specs.declared.event.Start.{Start}
 use Rattle.model.specs.declared.event.Start.TheVariants as starts
 use Rattle.model.specs.declared.families.atomic.AtomicStart.TheVariants as atomics
 use Rattle.model.specs.declared.families.bits.BitsStart.TheVariants as bits
+use Rattle.model.specs.declared.families.container.ContainerStart.TheVariants as containers
 use Rattle.model.specs.declared.families.indices.IndexStart.TheVariants as indices
 use Rattle.model.specs.declared.families.indices.robust.RobustStart.TheVariants as robust
 use Rattle.model.specs.declared.families.queues.QueueKind.{QueueKind}
@@ -13,13 +14,14 @@ use Rattle.model.specs.declared.families.queues.QueueStart.{QueueStart}
 use Rattle.model.specs.declared.families.queues.QueueStart.TheVariants as queues
 use Rattle.model.specs.declared.party.Progress.{Progress}
 use Rattle.model.specs.declared.turn.Kind.{Kind}
-use Rattle.model.specs.declared.turn.Kind.TheVariants.{IndexQueue, Overflow, Queue, Atomic, Bits, Counts, Indices, Robust}
+use Rattle.model.specs.declared.turn.Kind.TheVariants.{IndexQueue, Overflow, Queue, Atomic, Bits, Counts, Indices, Robust, Container}
 use Rattle.model.specs.Families.Atomic.Promises as value_promises
 use Rattle.model.specs.Families.Bits.Promises.{bits_promise, counts_promise}
+use Rattle.model.specs.Families.Container.Promises as container_promises
 use Rattle.model.specs.Families.Indices.Promises as index_promises
 use Rattle.model.specs.Families.Indices.Robust.Promises as robust_promises
 use Rattle.model.specs.Families.Queues.Promises as queue_promises
-use Rattle.model.specs.Progress.{Guarantee, WaitFree, ObstructionFree, IsGuaranteed, of_push, of_pop, in_queue, in_value, in_bits, in_counts, in_indices, in_robust, guarantee_of, IsWithin, LatestIsWithin, KeepsGuarantees}
+use Rattle.model.specs.Progress.{Guarantee, WaitFree, ObstructionFree, IsGuaranteed, of_push, of_pop, in_queue, in_value, in_bits, in_counts, in_indices, in_robust, in_container, guarantee_of, IsWithin, LatestIsWithin, KeepsGuarantees}
 use Rattle.model.specs.Promise.{Promise}
 use Rattle.model.specs.Promises.{IsKept}
 use Rattle.model.specs.Promises.Bounds.{IsBounded, Progresses}
@@ -115,6 +117,21 @@ module _ {T : Type 0} where
   robust_guaranteed capacity size (starts.Robust robust.IsLocked) = λ backs. at_most _
   robust_guaranteed capacity size other = λ backs. at_most _
 
+  container_guaranteed : (capacity size : ℕ) (start : Start T) → IsGuaranteed container_promises.promise capacity size start (in_container capacity size start)
+  container_guaranteed capacity size (starts.Container (containers.Add value owner)) = λ backs. at_most _
+  container_guaranteed capacity size (starts.Container (containers.Remove index owner Default)) = λ backs. omega arith
+  container_guaranteed capacity size (starts.Container (containers.Remove index owner LockIfLastIndex)) = λ backs. at_most _
+  container_guaranteed capacity size (starts.Container (containers.Replace index value owner)) = λ backs. at_most _
+  container_guaranteed capacity size (starts.Container (containers.Find owner)) = λ backs. at_most _
+  container_guaranteed capacity size (starts.Container (containers.Recover owner Default)) = λ backs. at_most _
+  container_guaranteed capacity size (starts.Container (containers.Recover owner LockIfLastIndex)) = λ backs. at_most _
+  container_guaranteed capacity size (starts.Container containers.GetState) = λ backs. at_most _
+  container_guaranteed capacity size (starts.Container containers.UpdateState) = λ backs. at_most _
+  container_guaranteed capacity size (starts.Container containers.Len) = λ backs. at_most _
+  container_guaranteed capacity size (starts.Container containers.IsEmpty) = λ backs. at_most _
+  container_guaranteed capacity size (starts.Container containers.IsLocked) = λ backs. at_most _
+  container_guaranteed capacity size other = λ backs. at_most _
+
 pub guaranteed : {T : Type 0} (kind : Kind) (capacity size : ℕ) (start : Start T) → IsGuaranteed (promise_of kind) capacity size start (guarantee_of kind capacity size start)
 guaranteed IndexQueue capacity size start = queue_guaranteed queue_kinds.TheVariants.IndexQueue capacity size start
 guaranteed Overflow capacity size start = queue_guaranteed queue_kinds.TheVariants.Overflow capacity size start
@@ -124,6 +141,7 @@ guaranteed Bits capacity size start = bits_guaranteed capacity size start
 guaranteed Counts capacity size start = counts_guaranteed capacity size start
 guaranteed Indices capacity size start = index_guaranteed capacity size start
 guaranteed Robust capacity size start = robust_guaranteed capacity size start
+guaranteed Container capacity size start = container_guaranteed capacity size start
 
 module _ {T : Type 0} where
   -- ---- every run

@@ -70,7 +70,7 @@ module _ {T : Type 0} where
   doing_small changes since change (GoOn flight) h = omega arith
   doing_small changes since change (Done answer) h = omega arith
 
-  step_small : (w : World T) (p : ℕ) (x : Party T) (since : ℕ) (ask : Option Ask) (s : Step (Flight T) Kept T) → w.turns < 2 ^ 64 - 2 → x.steps ≤ w.turns → x.backs ≤ w.turns → since ≤ w.changes → IsSmall w
+  step_small : (w : World T) (p : ℕ) (x : Party T) (since : ℕ) (ask : Option Ask) (s : Step (Flight T) (Kept T) T) → w.turns < 2 ^ 64 - 2 → x.steps ≤ w.turns → x.backs ≤ w.turns → since ≤ w.changes → IsSmall w
       → IsSmall (after_step w p x since ask s)
   step_small w p x since ask s below steps backs begun h =
       let few = back_small s.back in

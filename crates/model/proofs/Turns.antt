@@ -16,7 +16,7 @@ use Rattle.model.specs.declared.party.Doing.TheVariants.{Going, Over}
 use Rattle.model.specs.declared.party.Party.{Party}
 use Rattle.model.specs.declared.turn.Turn.{Turn}
 use Rattle.model.specs.declared.turn.Turn.TheVariants.{Begin, Next, Decide, Die}
-use Rattle.model.specs.Families.{first_of, want_of, ask_of, after_of}
+use Rattle.model.specs.Families.{first_of, want_of, ask_of, goes_of}
 use Rattle.model.specs.Parties.{party_of, doing_of, flight_of, progress_after}
 use Rattle.model.specs.Promises.Turns.{IsOneTurnLater, ask_of_flight, WritesOneWord, StandsAt, GoesOn, BothGoOn, CountsTurn, BothSee, CountsOthers}
 use Rattle.model.specs.Refusals.{call_refusal}
@@ -79,7 +79,7 @@ one_or_more old false = inl (omega arith)
 module _ {T : Type 0} where
   -- each call goes on as its table alone says, whatever its step does besides
   abbrev pub GoesAsTold : World T → Type 0
-  GoesAsTold w = (p : ℕ) (x : Party T) (flight : Flight T) (since answer : ℕ) → party_of p w.latest ≡ Some x → x.doing ≡ Going flight since → (step_in w p x flight answer).after ≡ after_of w.coding flight answer
+  GoesAsTold w = (p : ℕ) (x : Party T) (flight : Flight T) (since answer : ℕ) → party_of p w.latest ≡ Some x → x.doing ≡ Going flight since → (step_in w p x flight answer).after ≡ goes_of w.coding p flight answer w.kept
 
   -- ---- the machine
 
@@ -146,7 +146,7 @@ module _ {T : Type 0} where
   -- ---- the party's own call
 
   -- the party after its call went on
-  step_here : (w : World T) (p : ℕ) (x : Party T) (since : ℕ) (ask : Option Ask) (s : Step (Flight T) Kept T)
+  step_here : (w : World T) (p : ℕ) (x : Party T) (since : ℕ) (ask : Option Ask) (s : Step (Flight T) (Kept T) T)
       → party_of p (after_step w p x since ask s).latest ≡ Some (party_after x since w.changes (step_count ask) (change_of w.words ask) s)
   step_here w p x since ask s = party_put_same p (party_after x since w.changes (step_count ask) (change_of w.words ask) s) w.latest
 
@@ -154,30 +154,30 @@ module _ {T : Type 0} where
   stands changes since (GoOn flight) w p x e d = rw (e, d) refl
   stands changes since (Done answer) w p x e d = rw (e, d) refl
 
-  goes : (w : World T) (p : ℕ) (x : Party T) (flight : Flight T) (since : ℕ) (ask : Option Ask) (answer : ℕ) → (step_in w p x flight answer).after ≡ after_of w.coding flight answer
-      → StandsAt (after_step w p x since ask (step_in w p x flight answer)) p (after_of w.coding flight answer)
+  goes : (w : World T) (p : ℕ) (x : Party T) (flight : Flight T) (since : ℕ) (ask : Option Ask) (answer : ℕ) → (step_in w p x flight answer).after ≡ goes_of w.coding p flight answer w.kept
+      → StandsAt (after_step w p x since ask (step_in w p x flight answer)) p (goes_of w.coding p flight answer w.kept)
   goes w p x flight since ask answer same =
       let s = step_in w p x flight answer in
       let y = party_after x since w.changes (step_count ask) (change_of w.words ask) s in
       subst (StandsAt (after_step w p x since ask s) p) same
       (stands (w.changes + change_of w.words ask) (since + change_of w.words ask) s.after (after_step w p x since ask s) p y (step_here w p x since ask s) refl)
 
-  next_goes : (w : World T) (p : ℕ) → GoesAsTold w → (o : Option (Party T)) → party_of p w.latest ≡ o → IfSome (flight_of (doing_of o)) (λ flight. StandsAt (after_next w p o) p (after_of w.coding flight (old_of w.words (ask_of (want_of w.coding flight)))))
+  next_goes : (w : World T) (p : ℕ) → GoesAsTold w → (o : Option (Party T)) → party_of p w.latest ≡ o → IfSome (flight_of (doing_of o)) (λ flight. StandsAt (after_next w p o) p (goes_of w.coding p flight (old_of w.words (ask_of (want_of w.coding flight))) w.kept))
   next_goes w p tells None found = tt
   next_goes w p tells (Some x) found = go x.doing refl
     where
       go : (doing : Doing T) → x.doing ≡ doing
-          → IfSome (flight_of (Some doing)) (λ flight. StandsAt (after_answer w p x (ask_of_doing w.coding doing) (old_of w.words (ask_of_doing w.coding doing)) doing) p (after_of w.coding flight (old_of w.words (ask_of (want_of w.coding flight)))))
+          → IfSome (flight_of (Some doing)) (λ flight. StandsAt (after_answer w p x (ask_of_doing w.coding doing) (old_of w.words (ask_of_doing w.coding doing)) doing) p (goes_of w.coding p flight (old_of w.words (ask_of (want_of w.coding flight))) w.kept))
       go (Over others) e = tt
       go (Going flight since) e =
           let old = old_of w.words (ask_of (want_of w.coding flight)) in
           goes w p x flight since (ask_of (want_of w.coding flight)) old (tells p x flight since old found e)
 
-  decision_goes : (w : World T) (p : ℕ) (said : Bool) → GoesAsTold w → (o : Option (Party T)) → party_of p w.latest ≡ o → IfSome (flight_of (doing_of o)) (λ flight. StandsAt (after_decision w p said o) p (after_of w.coding flight (number_of said)))
+  decision_goes : (w : World T) (p : ℕ) (said : Bool) → GoesAsTold w → (o : Option (Party T)) → party_of p w.latest ≡ o → IfSome (flight_of (doing_of o)) (λ flight. StandsAt (after_decision w p said o) p (goes_of w.coding p flight (number_of said) w.kept))
   decision_goes w p said tells None found = tt
   decision_goes w p said tells (Some x) found = go x.doing refl
     where
-      go : (doing : Doing T) → x.doing ≡ doing → IfSome (flight_of (Some doing)) (λ flight. StandsAt (after_answer w p x None (number_of said) doing) p (after_of w.coding flight (number_of said)))
+      go : (doing : Doing T) → x.doing ≡ doing → IfSome (flight_of (Some doing)) (λ flight. StandsAt (after_answer w p x None (number_of said) doing) p (goes_of w.coding p flight (number_of said) w.kept))
       go (Over others) e = tt
       go (Going flight since) e = goes w p x flight since None (number_of said) (tells p x flight since (number_of said) found e)
 
@@ -193,7 +193,7 @@ module _ {T : Type 0} where
 
   -- ---- its counts
 
-  going_on : (changes since steps change : ℕ) (asks : Bool) (s : Step (Flight T) Kept T) (x : Party T) (flight : Flight T) → x.doing ≡ Going flight since → x.steps + steps ≡ cond asks (x.steps + 1) x.steps
+  going_on : (changes since steps change : ℕ) (asks : Bool) (s : Step (Flight T) (Kept T) T) (x : Party T) (flight : Flight T) → x.doing ≡ Going flight since → x.steps + steps ≡ cond asks (x.steps + 1) x.steps
       → BothGoOn asks (is_none (flight_of (doing_of (Some (party_after x since changes steps change s))))) (progress_after changes (Some x)) (progress_after (changes + change) (Some (party_after x since changes steps change s)))
   going_on changes since steps change asks s x flight e count = go s.after
     where
@@ -276,7 +276,7 @@ module _ {T : Type 0} where
   still_tells : (old new : World T) → new.words ≡ old.words → new.changes ≡ old.changes → Tells old new
   still_tells old new words changes = record { same = λ s. changes; changed = λ ne. absurd (ne words) }
 
-  step_tells : (w : World T) (p : ℕ) (x : Party T) (since : ℕ) (ask : Option Ask) (s : Step (Flight T) Kept T) → Tells w (after_step w p x since ask s)
+  step_tells : (w : World T) (p : ℕ) (x : Party T) (since : ℕ) (ask : Option Ask) (s : Step (Flight T) (Kept T) T) → Tells w (after_step w p x since ask s)
   step_tells w p x since ask s =
       record {
         same = λ e. let none = unchanged_words w.words ask e in omega arith;

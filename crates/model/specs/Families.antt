@@ -24,6 +24,7 @@ use Rattle.model.specs.Opening.{Opening}
 use Rattle.model.specs.Step.{Beginning, Going, Step, as_step}
 pub mod Atomic
 pub mod Bits
+pub mod Container
 pub mod Indices
 pub mod Queues
 use Rattle.model.specs.Families.Atomic.Calls as atomic_calls
@@ -32,6 +33,9 @@ use Rattle.model.specs.Families.Atomic.Steps as atomic_steps
 use Rattle.model.specs.Families.Bits.Calls as bits_calls
 use Rattle.model.specs.Families.Bits.Opening as bits_opening
 use Rattle.model.specs.Families.Bits.Steps as bits_steps
+use Rattle.model.specs.Families.Container.Calls as container_calls
+use Rattle.model.specs.Families.Container.Opening as container_opening
+use Rattle.model.specs.Families.Container.Steps as container_steps
 use Rattle.model.specs.Families.Indices.Calls as index_calls
 use Rattle.model.specs.Families.Indices.Opening as index_opening
 use Rattle.model.specs.Families.Indices.Steps as index_steps
@@ -54,11 +58,12 @@ opening_of kinds.TheVariants.Bits = bits_opening.bits_opening
 opening_of kinds.TheVariants.Counts = bits_opening.counts_opening
 opening_of kinds.TheVariants.Indices = index_opening.opening
 opening_of kinds.TheVariants.Robust = robust_opening.opening
+opening_of kinds.TheVariants.Container = container_opening.opening
 
 -- ---- a call begins
 
 module _ {T : Type 0} where
-  abbrev pub begin_of : Kind → ℕ → Start T → Beginning (Flight T) Kept
+  abbrev pub begin_of : Kind → ℕ → Start T → Beginning (Flight T) (Kept T)
   begin_of kind capacity (starts.TheVariants.Queues start) =
       queue_opening.begin kind capacity start
   begin_of kind capacity (starts.TheVariants.Atomic start) = atomic_opening.begin kind start
@@ -67,16 +72,24 @@ module _ {T : Type 0} where
       index_opening.begin kind capacity start
   begin_of kind capacity (starts.TheVariants.Robust start) =
       robust_opening.begin kind capacity start
+  begin_of kind capacity (starts.TheVariants.Container start) =
+      container_opening.begin kind capacity start
 
   -- the call that begins, or None where the kind has no such call
   abbrev pub first_of : Kind → ℕ → Start T → Option (Flight T)
   first_of kind capacity start = (begin_of kind capacity start).call
 
   -- what is tested of a party that is to begin a call, in order: the family's rows come last
-  abbrev pub begin_rows : Kind → ℕ → Kept → ℕ → Start T → List (Bool × Refusal)
+  abbrev pub begin_rows : Kind → ℕ → Kept T → ℕ → Start T → List (Bool × Refusal)
   begin_rows kind capacity kept p start =
       (is_none (first_of kind capacity start), WrongCall)
       ∷ (begin_of kind capacity start).rows kept p
+
+  -- what a family keeps once the party has begun the call
+  abbrev pub kept_after_begin : Coding T → ℕ → Start T → ℕ → Kept T → Kept T
+  kept_after_begin code capacity (starts.TheVariants.Container start) p kept =
+      container_opening.keeps code capacity start p kept
+  kept_after_begin code capacity start p kept = kept
 
 -- ---- a call goes on
 
@@ -98,6 +111,7 @@ module _ {T : Type 0} where
   going_of code (flights.TheVariants.Bits flight) = bits_calls.going flight
   going_of code (flights.TheVariants.Indices flight) = index_calls.going flight
   going_of code (flights.TheVariants.Robust flight) = robust_calls.going flight
+  going_of code (flights.TheVariants.Container flight) = container_calls.going code flight
 
   -- what a call under way wants next
   abbrev pub want_of : Coding T → Flight T → Want (Unit {0})
@@ -107,26 +121,32 @@ module _ {T : Type 0} where
   abbrev pub after_of : Coding T → Flight T → ℕ → After (Flight T) (Answer T)
   after_of code flight old = (going_of code flight).after old
 
+  -- and how a party's call goes on where this is kept: a look from what the party's state has seen
+  abbrev pub goes_of : Coding T → ℕ → Flight T → ℕ → Kept T → After (Flight T) (Answer T)
+  goes_of code p (flights.TheVariants.Container flight) old kept =
+      container_calls.goes code p flight old kept
+  goes_of code p flight old kept = after_of code flight old
+
   -- how many events its next step writes at most, apart from the end of the call
   abbrev pub most_of : Coding T → Flight T → ℕ
   most_of code flight = (going_of code flight).most
 
   -- what a family tests of a call under way that is to go on, by a decision or without, in order
-  abbrev pub going_rows : Coding T → Kept → Option (Flight T) → Option Bool
+  abbrev pub going_rows : Coding T → Kept T → Option (Flight T) → Option Bool
       → List (Bool × Refusal)
   going_rows code kept None said = []
   going_rows code kept (Some flight) said = (going_of code flight).rows kept said
 
   -- what a step of this party has to know of the others
-  abbrev pub beside_of : List ℕ → Kept → List (ℕ × Party T) → ℕ → Option (ℕ × ℕ)
+  abbrev pub beside_of : List ℕ → Kept T → List (ℕ × Party T) → ℕ → Option (ℕ × ℕ)
   beside_of words (kepts.TheVariants.Queues roles) latest p =
       queue_steps.beside roles words latest p
   beside_of words kept latest p = None
 
   -- What the step of a call comes to, in these words and from this old value of its word. Where the
   -- name, the call and what is kept are not of one family, nothing happens.
-  abbrev pub step_of : Coding T → List ℕ → Option (ℕ × ℕ) → ℕ → Start T → Flight T → ℕ → Kept
-      → Step (Flight T) Kept T
+  abbrev pub step_of : Coding T → List ℕ → Option (ℕ × ℕ) → ℕ → Start T → Flight T → ℕ → Kept T
+      → Step (Flight T) (Kept T) T
   step_of code words beside p (starts.TheVariants.Queues start) (flights.TheVariants.Queues flight)
       old (kepts.TheVariants.Queues roles) =
       as_step flights.TheVariants.Queues kepts.TheVariants.Queues
@@ -147,28 +167,36 @@ module _ {T : Type 0} where
       old (kepts.TheVariants.Owners dead) =
       as_step flights.TheVariants.Robust kepts.TheVariants.Owners
       (robust_steps.step p flight old dead)
+  step_of code words beside p (starts.TheVariants.Container start)
+      (flights.TheVariants.Container flight) old (kepts.TheVariants.Container dead states) =
+      as_step flights.TheVariants.Container (λ kept. kepts.TheVariants.Container kept.0 kept.1)
+      (container_steps.step code p flight old dead states)
   step_of code words beside p start flight old kept =
       record { after = GoOn flight; back = false; wrote = []; kept = kept }
 
 -- ---- an owner dies
 
 -- whether a structure has owners
-abbrev pub has_owners : Kept → Bool
+abbrev pub has_owners : {T : Type 0} → Kept T → Bool
 has_owners (kepts.TheVariants.Owners dead) = true
+has_owners (kepts.TheVariants.Container dead states) = true
 has_owners kept = false
 
 -- whether the owner is dead
-abbrev pub is_dead : Kept → ℕ → Bool
+abbrev pub is_dead : {T : Type 0} → Kept T → ℕ → Bool
 is_dead (kepts.TheVariants.Owners dead) owner = has_died owner dead
+is_dead (kepts.TheVariants.Container dead states) owner = has_died owner dead
 is_dead kept owner = false
 
 -- what is tested of an owner who is to die
-abbrev pub death_rows : Kept → ℕ → List (Bool × Refusal)
+abbrev pub death_rows : {T : Type 0} → Kept T → ℕ → List (Bool × Refusal)
 death_rows kept owner =
     (not (has_owners kept), WrongCall) ∷ (is_dead kept owner, OwnerIsDead) ∷ []
 
 -- what a family keeps once the owner is dead
-abbrev pub kept_after_death : Kept → ℕ → Kept
+abbrev pub kept_after_death : {T : Type 0} → Kept T → ℕ → Kept T
 kept_after_death (kepts.TheVariants.Owners dead) owner =
     kepts.TheVariants.Owners (dead_with owner dead)
+kept_after_death (kepts.TheVariants.Container dead states) owner =
+    kepts.TheVariants.Container (dead_with owner dead) states
 kept_after_death kept owner = kept

@@ -2,8 +2,8 @@
 use Rattle.std.specs.Prelude.{ℕ, List}
 use Rattle.model.specs.declared.families.Kept.{Kept}
 
-pub record Opening : Type 0 where
+pub record Opening : Type 1 where
   pub least : ℕ  -- its least capacity
   pub greatest : ℕ
   pub words : ℕ → ℕ → List ℕ  -- its words, by the number of words of a value and by the capacity
-  pub kept : ℕ → Kept  -- what its family keeps beside them, by the capacity
+  pub kept : {T : Type 0} → ℕ → Kept T  -- what its family keeps beside them, by the capacity

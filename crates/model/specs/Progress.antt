@@ -11,6 +11,8 @@ use Rattle.model.specs.declared.families.atomic.AtomicStart.{AtomicStart}
 use Rattle.model.specs.declared.families.atomic.AtomicStart.TheVariants as atomics
 use Rattle.model.specs.declared.families.bits.BitsStart.{BitsStart}
 use Rattle.model.specs.declared.families.bits.BitsStart.TheVariants as bits
+use Rattle.model.specs.declared.families.container.ContainerStart.{ContainerStart}
+use Rattle.model.specs.declared.families.container.ContainerStart.TheVariants as containers
 use Rattle.model.specs.declared.families.indices.IndexStart.{IndexStart}
 use Rattle.model.specs.declared.families.indices.IndexStart.TheVariants as indices
 use Rattle.model.specs.declared.families.indices.robust.RobustStart.{RobustStart}
@@ -22,7 +24,7 @@ use Rattle.model.specs.declared.families.queues.QueueStart.{QueueStart}
 use Rattle.model.specs.declared.families.queues.QueueStart.TheVariants as queues
 use Rattle.model.specs.declared.party.Progress.{Progress}
 use Rattle.model.specs.declared.turn.Kind.{Kind}
-use Rattle.model.specs.declared.turn.Kind.TheVariants.{IndexQueue, Overflow, Queue, Atomic, Bits, Counts, Indices, Robust}
+use Rattle.model.specs.declared.turn.Kind.TheVariants.{IndexQueue, Overflow, Queue, Atomic, Bits, Counts, Indices, Robust, Container}
 use Rattle.model.specs.Coding.{Coding}
 use Rattle.model.specs.Families.{ask_of, want_of}
 use Rattle.model.specs.Promise.{Promise}
@@ -116,6 +118,26 @@ of_robust capacity robust.BorrowedIndices = ObstructionFree (capacity + 2) (capa
 of_robust capacity robust.IsLocked = WaitFree 1
 
 module _ {T : Type 0} where
+  abbrev pub of_container : ℕ → ℕ → ContainerStart T → Guarantee
+  of_container capacity size (containers.Add value owner) =
+      ObstructionFree (capacity + 7 + size) (capacity + 1)
+  of_container capacity size (containers.Remove index owner Default) = ObstructionFree 6 1
+  of_container capacity size (containers.Remove index owner LockIfLastIndex) =
+      ObstructionFree (capacity + 9) (capacity + 3)
+  of_container capacity size (containers.Replace index value owner) = WaitFree (5 + size)
+  of_container capacity size (containers.Find owner) = WaitFree (capacity * (size + 3))
+  of_container capacity size (containers.Recover owner Default) =
+      ObstructionFree (3 + capacity * (size + 7)) (size + 1)
+  of_container capacity size (containers.Recover owner LockIfLastIndex) =
+      ObstructionFree (3 + capacity * (size + capacity + 10)) (size + capacity + 4)
+  of_container capacity size containers.GetState =
+      ObstructionFree (1 + capacity * (size + 2)) (size + 1)
+  of_container capacity size containers.UpdateState =
+      ObstructionFree (1 + capacity * (size + 2)) (size + 1)
+  of_container capacity size containers.Len = ObstructionFree (capacity + 2) (capacity + 2)
+  of_container capacity size containers.IsEmpty = ObstructionFree (capacity + 2) (capacity + 2)
+  of_container capacity size containers.IsLocked = WaitFree 1
+
   -- a call of another family takes no step, since none begins
   abbrev pub in_queue : ℕ → QueueKind → Start T → Guarantee
   in_queue size kind (starts.Queues start) = of_queue size kind start
@@ -141,6 +163,10 @@ module _ {T : Type 0} where
   in_robust capacity (starts.Robust start) = of_robust capacity start
   in_robust capacity other = WaitFree 0
 
+  abbrev pub in_container : ℕ → ℕ → Start T → Guarantee
+  in_container capacity size (starts.Container start) = of_container capacity size start
+  in_container capacity size other = WaitFree 0
+
   -- the guarantee of a kind's call, at this capacity, where a value has so many words
   abbrev pub guarantee_of : Kind → ℕ → ℕ → Start T → Guarantee
   guarantee_of IndexQueue capacity size start = in_queue size queue_kinds.TheVariants.IndexQueue start
@@ -151,6 +177,7 @@ module _ {T : Type 0} where
   guarantee_of Counts capacity size start = in_counts capacity start
   guarantee_of Indices capacity size start = in_indices capacity start
   guarantee_of Robust capacity size start = in_robust capacity start
+  guarantee_of Container capacity size start = in_container capacity size start
 
 -- the table is right by the promised bounds
 abbrev pub AreGuaranteed : Type 0 → Kind → Type 0

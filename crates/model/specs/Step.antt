@@ -15,7 +15,7 @@ pub record Beginning (F K : Type 0) : Type 0 where
 
 pub record Going (F T : Type 0) : Type 0 where
   pub want : Want (Unit {0})  -- what the call wants next
-  pub rows : Kept → Option Bool → List (Bool × Refusal)  -- what is tested before it goes on
+  pub rows : Kept T → Option Bool → List (Bool × Refusal)  -- what is tested before it goes on
   pub after : ℕ → After F (Answer T)  -- how it goes on from the old value of its word
   pub most : ℕ  -- its next step writes at most so many events, apart from the end of the call
 

@@ -17,7 +17,7 @@ use Rattle.model.specs.declared.turn.Refusal.{Refusal}
 use Rattle.model.specs.declared.turn.Turn.{Turn}
 use Rattle.model.specs.declared.turn.Turn.TheVariants.{Begin, Next, Decide, Die}
 use Rattle.model.specs.Coding.{Coding, IsCoding}
-use Rattle.model.specs.Families.{first_of, want_of, ask_of, beside_of, step_of, kept_after_death}
+use Rattle.model.specs.Families.{first_of, want_of, ask_of, beside_of, step_of, kept_after_begin, kept_after_death}
 use Rattle.model.specs.Parties.{party_of, put}
 use Rattle.model.specs.Refusals.{refusal_of, call_refusal}
 use Rattle.model.specs.Step.{Step, answer_in}
@@ -74,6 +74,7 @@ module _ {T : Type 0} where
   after_begin w p start None = w
   after_begin w p start (Some flight) =
       record w {
+        kept = kept_after_begin w.coding w.capacity start p w.kept;
         latest = put p (party_at_begin start flight w.changes) w.latest;
         turns = w.turns + 1;
       }
@@ -86,7 +87,7 @@ module _ {T : Type 0} where
   doing_after changes since (Done answer) = Over (changes - since)
 
   -- its party, after so many steps more and so many changes of a word
-  abbrev pub party_after : Party T → ℕ → ℕ → ℕ → ℕ → Step (Flight T) Kept T → Party T
+  abbrev pub party_after : Party T → ℕ → ℕ → ℕ → ℕ → Step (Flight T) (Kept T) T → Party T
   party_after x since changes steps change s =
       record {
         start = x.start;
@@ -96,7 +97,7 @@ module _ {T : Type 0} where
       }
 
   -- the operation is done, if there is one, and the call goes on by this step
-  abbrev pub after_step : World T → ℕ → Party T → ℕ → Option Ask → Step (Flight T) Kept T → World T
+  abbrev pub after_step : World T → ℕ → Party T → ℕ → Option Ask → Step (Flight T) (Kept T) T → World T
   after_step w p x since ask s =
       record w {
         words = words_after w.words ask;
@@ -108,7 +109,7 @@ module _ {T : Type 0} where
       }
 
   -- what the step of a party's call comes to from this answer
-  abbrev pub step_in : World T → ℕ → Party T → Flight T → ℕ → Step (Flight T) Kept T
+  abbrev pub step_in : World T → ℕ → Party T → Flight T → ℕ → Step (Flight T) (Kept T) T
   step_in w p x flight answer =
       step_of w.coding w.words (beside_of w.words w.kept w.latest p) p x.start flight answer w.kept
 
@@ -123,7 +124,7 @@ module _ {T : Type 0} where
   ending_of p start (Some answer) = Finished p start answer ∷ []
 
   -- the events of a step, the end of the call last
-  abbrev pub events_of_step : ℕ → Start T → Step (Flight T) Kept T → List (Event T)
+  abbrev pub events_of_step : ℕ → Start T → Step (Flight T) (Kept T) T → List (Event T)
   events_of_step p start s = s.wrote ++ ending_of p start (answer_in s.after)
 
   abbrev pub events_of_answer : World T → ℕ → Party T → ℕ → Doing T → List (Event T)

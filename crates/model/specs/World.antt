@@ -19,7 +19,7 @@ pub record World (T : Type 0) : Type 0 where
   pub capacity : ℕ
   pub parties : ℕ
   pub words : List ℕ
-  pub kept : Kept  -- what the kind's family keeps beside its words
+  pub kept : Kept T  -- what the kind's family keeps beside its words
   pub latest : List (ℕ × Party T)  -- the latest call of each party that has begun one, by number
   pub changes : ℕ  -- how often a step has changed a word's value
   pub turns : ℕ
@@ -30,7 +30,7 @@ pub record State (T : Type 0) : Type 0 where
   pub capacity : ℕ
   pub parties : ℕ
   pub words : List ℕ
-  pub kept : Kept
+  pub kept : Kept T
   pub latest : List (ℕ × Party T)
   pub changes : ℕ
   pub turns : ℕ

@@ -3,10 +3,12 @@ ghost use Rattle.std.specs.Prelude.{◌≡◌, ⊤};
 
 use crate::families::atomic::AtomicStart;
 use crate::families::bits::BitsStart;
+use crate::families::container::ContainerStart;
 use crate::families::indices::IndexStart;
 use crate::families::indices::robust::RobustStart;
 use crate::families::queues::QueueStart;
 use std::alloc::AllocError;
+use steps::container::enums::{ContainerAddFailure, ContainerRemoveError};
 use steps::enums::OwnerId;
 use steps::indices::enums::{
     ReleaseState, RobustUniqueIndexSetReleaseError, UniqueIndexSetAcquireFailure,
@@ -34,6 +36,8 @@ pub enum Start<T> {
     Indices(IndexStart),
     /// A call of the robust index set.
     Robust(RobustStart),
+    /// A call of the container.
+    Container(ContainerStart<T>),
 }
 
 // `clone` by hand, here and below, and no `Debug`: a derive goes through every field of every case, and the proof of
@@ -51,13 +55,13 @@ impl<T: Copy> Clone for Start<T> {
 /// What a call answers.
 #[derive(Copy, PartialEq, Eq)]
 pub enum Answer<T> {
-    /// Of giving a role back, and of resetting all bits or counts.
+    /// Of giving a role back, of resetting all bits or counts, and of a replace.
     Done,
-    /// Of a push of the bounded queue, of a store, of acquiring a role, of asking whether a queue is empty or full or a set
-    /// of indices locked, and of setting a bit.
+    /// Of a push of the bounded queue, of a store, of acquiring a role, of asking whether a queue is empty or full, a
+    /// container empty or a set of indices or a container locked, of setting a bit, and of bringing a state up to date.
     Truth(bool),
-    /// Of asking how many values wait, how many indices are borrowed or how many an owner has, and the count of a place
-    /// before it was set.
+    /// Of asking how many values wait, how many indices are borrowed or how many an owner has, the count of a place
+    /// before it was set, and how many values a new state of a container shows.
     Number(u64),
     /// Of a pop, or of a push of the overflowing queue, that has no value.
     PoppedNone,
@@ -71,14 +75,18 @@ pub enum Answer<T> {
     ResetNone,
     /// The bit that was reset.
     Reset(u64),
-    /// The index that an acquire hands out.
+    /// The index that an acquire hands out, or at which an add has put its value.
     Index(u32),
     /// Why an acquire hands out none.
     NoIndex(UniqueIndexSetAcquireFailure),
-    /// Whether the set is locked, by a release or a recovery.
+    /// Whether the set or the container is locked, by a release, a remove or a recovery.
     State(ReleaseState),
     /// Why a release gives nothing back.
     NotOwned(RobustUniqueIndexSetReleaseError),
+    /// Why no value was added.
+    NoPlace(ContainerAddFailure),
+    /// Why no value was removed or replaced.
+    NotRemoved(ContainerRemoveError),
 }
 
 impl<T: Copy> Clone for Answer<T> {
@@ -112,19 +120,28 @@ pub enum Event<T> {
     Claimed(u32, u32),
     /// A release cleared the claim flag of this index: from here on nobody holds it.
     Freed(u32, u32),
-    /// The set is locked from here on: a release gave the last index back, or in the robust set a release or a recovery
-    /// found no index with an owner.
+    /// The set is locked from here on: a release gave the last index back, or in the robust set or a container a
+    /// release, a remove or a recovery found no index with an owner.
     Locked(u32),
-    /// An acquire of the robust set filled the cell of this index for this owner.
+    /// An acquire of the robust set, or an add, filled the cell of this index for this owner.
     Filled(u32, u32, OwnerId),
-    /// The acquire hands this index out to this owner: from here on the owner holds it.
+    /// The acquire or the add is granted this index for this owner: from here on the owner holds it.
     Granted(u32, u32, OwnerId),
-    /// A release or a recovery of the robust set emptied the cell of this index, which held this owner.
+    /// A release, a remove or a recovery emptied the cell of this index, which held this owner.
     FreedOf(u32, u32, OwnerId),
-    /// A recovery has found this index filled with this owner, and asks whether it is to free it.
+    /// A recovery has found this index filled with this owner, in a container has copied its value too, and asks
+    /// whether it is to free it.
     Asked(u32, u32, OwnerId),
     /// The recovery was told to free it.
     Told(u32, u32, OwnerId),
+    /// An add or a replace has made the number of this index odd: from here on this value stands there.
+    Placed(u32, u32, T),
+    /// The call has made the odd number of this index even: from here on nothing stands there.
+    Hidden(u32, u32),
+    /// The call has copied this value, whole, from this index.
+    Copied(u32, u32, T),
+    /// A recovery has found that nothing stands at this index.
+    Shown(u32, u32),
     /// The owner died. This is an event of no party.
     Died(OwnerId),
     /// The linearization point of the call, with its answer. It can come in the turn of another party.

@@ -1,7 +1,7 @@
 //! The families of calls. Each has a room of its own, and here one line where a machine passes on to it.
 ghost use Rattle.std.specs.Prelude.{◌≡◌, ◌+◌, ◌≤◌, ◌++◌, true, false, None, Some, OnOk, IfOk, IfErr, vec_len, vec_capacity};
 ghost use Rattle.steps.specs.Ask.{CameTo};
-ghost use Rattle.model.specs.Families.{opening_of, first_of, begin_rows, want_of, is_question, most_of, beside_of, step_of, going_rows, death_rows, kept_after_death};
+ghost use Rattle.model.specs.Families.{opening_of, first_of, begin_rows, want_of, is_question, most_of, beside_of, step_of, going_rows, death_rows, kept_after_death, kept_after_begin};
 ghost use Rattle.model.specs.Rows.{first_row};
 
 use crate::coding::Coded;
@@ -10,6 +10,8 @@ use crate::party::Latest;
 use crate::turn::{Kind, Refusal};
 use atomic::calls::AtomicFlight;
 use bits::calls::BitsFlight;
+use container::calls::ContainerFlight;
+use container::states::States;
 use indices::calls::IndexFlight;
 use indices::holders::Holders;
 use indices::robust::calls::RobustFlight;
@@ -23,6 +25,7 @@ use steps::words::Words;
 
 pub mod atomic;
 pub mod bits;
+pub mod container;
 pub mod indices;
 pub mod queues;
 
@@ -34,11 +37,12 @@ pub enum Flight<T> {
     Bits(BitsFlight),
     Indices(IndexFlight),
     Robust(RobustFlight),
+    Container(ContainerFlight<T>),
 }
 
 /// What a family needs to know beside its words.
 #[derive(Drop)]
-pub enum Kept {
+pub enum Kept<T> {
     Queues(Roles),
     /// Who holds the producer's role of the single value.
     Atomic(Option<u32>),
@@ -48,6 +52,8 @@ pub enum Kept {
     Indices(Holders),
     /// The owners of the robust index set that have died.
     Owners(Dead),
+    /// The owners that have died, and the states of the parties of a container.
+    Container(Dead, States<T>),
 }
 
 /// What the step of one party has to know of the others: the party and the value of a push that acts where this step
@@ -75,6 +81,7 @@ pub fn capacities(kind: Kind) -> (u64, u64)
         Kind::Counts => bits::opening::CAPACITIES,
         Kind::Indices => indices::opening::CAPACITIES,
         Kind::Robust => indices::robust::opening::CAPACITIES,
+        Kind::Container => container::opening::CAPACITIES,
     }
 }
 
@@ -83,7 +90,7 @@ pub fn opening<T: Words>(
     alloc: Global,
     kind: Kind,
     capacity: u32,
-) -> Result<(Vec<u64>, Kept), AllocError>
+) -> Result<(Vec<u64>, Kept<T>), AllocError>
     ensures words { IfOk result
         (λ opened. opened.0.items ≡ (opening_of kind).words ⟦<T as Coded>⟧.coding.size capacity) }
     ensures kept { IfOk result (λ opened. opened.1 ≡ (opening_of kind).kept capacity) }
@@ -93,10 +100,11 @@ pub fn opening<T: Words>(
         Kind::Overflow => queues::opening::open::<T>(alloc, QueueKind::Overflow, capacity),
         Kind::Queue => queues::opening::open::<T>(alloc, QueueKind::Queue, capacity),
         Kind::Atomic => atomic::opening::open::<T>(alloc),
-        Kind::Bits => bits::opening::open_bits(alloc, capacity),
-        Kind::Counts => bits::opening::open_counts(alloc, capacity),
-        Kind::Indices => indices::opening::open(alloc, capacity),
-        Kind::Robust => indices::robust::opening::open(alloc, capacity),
+        Kind::Bits => bits::opening::open_bits::<T>(alloc, capacity),
+        Kind::Counts => bits::opening::open_counts::<T>(alloc, capacity),
+        Kind::Indices => indices::opening::open::<T>(alloc, capacity),
+        Kind::Robust => indices::robust::opening::open::<T>(alloc, capacity),
+        Kind::Container => container::opening::open::<T>(alloc, capacity),
     }
 }
 
@@ -104,7 +112,7 @@ pub fn opening<T: Words>(
 pub fn begin<T: Words>(
     kind: Kind,
     capacity: u32,
-    kept: &Kept,
+    kept: &Kept<T>,
     number: u32,
     start: &Start<T>,
 ) -> Result<Flight<T>, Refusal>
@@ -135,16 +143,42 @@ pub fn begin<T: Words>(
             let flight = indices::robust::opening::begin(kind, capacity, dead, start)?;
             Ok(Flight::Robust(flight))
         }
+        (Start::Container(start), Kept::Container(dead, _)) => {
+            let flight = container::opening::begin(kind, capacity, dead, start)?;
+            Ok(Flight::Container(flight))
+        }
         _ => Err(Refusal::WrongCall),
     }
 }
 
+/// The party begins this call: what its family keeps from now on, unless memory for it is refused. Then nothing
+/// changes.
+pub fn keep<T: Words>(kept: &mut Kept<T>, capacity: u32, start: &Start<T>, number: u32) -> bool
+    ensures keeps { result ≡ true → kept.new
+        ≡ kept_after_begin ⟦<T as Coded>⟧.coding capacity start.now number kept.old }
+    ensures same { result ≡ false → kept.new ≡ kept.old }
+{
+    match (start, kept) {
+        (Start::Container(start), Kept::Container(_, states)) => {
+            container::opening::keep(capacity, start, number, states)
+        }
+        _ => true,
+    }
+}
+
 /// Why this owner may not die, or None. Only a structure that has owners keeps who has died.
-pub fn death_refusal(kept: &Kept, owner: OwnerId) -> Option<Refusal>
+pub fn death_refusal<T>(kept: &Kept<T>, owner: OwnerId) -> Option<Refusal>
     ensures { result ≡ first_row (death_rows kept.now owner) }
 {
     match kept {
         Kept::Owners(dead) => {
+            if dead.has(owner) {
+                Some(Refusal::OwnerIsDead)
+            } else {
+                None
+            }
+        }
+        Kept::Container(dead, _) => {
             if dead.has(owner) {
                 Some(Refusal::OwnerIsDead)
             } else {
@@ -156,18 +190,19 @@ pub fn death_refusal(kept: &Kept, owner: OwnerId) -> Option<Refusal>
 }
 
 /// This owner is dead from now on, unless memory for it is refused. Then nothing changes.
-pub fn die(kept: &mut Kept, owner: OwnerId) -> bool
+pub fn die<T>(kept: &mut Kept<T>, owner: OwnerId) -> bool
     ensures dies { result ≡ true → kept.new ≡ kept_after_death kept.old owner }
     ensures same { result ≡ false → kept.new ≡ kept.old }
 {
     match kept {
         Kept::Owners(dead) => dead.add(owner),
+        Kept::Container(dead, _) => dead.add(owner),
         _ => true,
     }
 }
 
 /// What a step of this party has to know of the others.
-pub fn look_beside<T>(kept: &Kept, words: &Vec<u64>, latest: &Latest<T>, number: u32) -> Beside
+pub fn look_beside<T>(kept: &Kept<T>, words: &Vec<u64>, latest: &Latest<T>, number: u32) -> Beside
     ensures { result ≡ beside_of words.now.items kept.now latest.now.entries number }
 {
     match kept {
@@ -189,6 +224,7 @@ impl<T: Words> Flight<T> {
             Flight::Bits(flight) => (flight.want(), flight.most_effects()),
             Flight::Indices(flight) => (flight.want(), indices::effects::MOST_EFFECTS),
             Flight::Robust(flight) => (flight.want(), indices::robust::effects::MOST_EFFECTS),
+            Flight::Container(flight) => (flight.want(), container::effects::MOST_EFFECTS),
         }
     }
 
@@ -204,11 +240,12 @@ impl<T: Words> Flight<T> {
     }
 
     /// Why the call may not go on, by a decision or without, for what its family keeps. None where it may.
-    pub fn going_refusal(&self, kept: &Kept, said: Option<bool>) -> Option<Refusal>
+    pub fn going_refusal(&self, kept: &Kept<T>, said: Option<bool>) -> Option<Refusal>
         ensures { result ≡ first_row (going_rows ⟦<T as Coded>⟧.coding kept.now (Some self.now) said) }
     {
         match (self, kept) {
             (Flight::Robust(flight), Kept::Owners(dead)) => flight.going_refusal(dead, said),
+            (Flight::Container(flight), Kept::Container(dead, _)) => flight.going_refusal(dead),
             _ => None,
         }
     }
@@ -222,7 +259,7 @@ impl<T: Words> Flight<T> {
         words: &Vec<u64>,
         beside: Beside,
         answer: u64,
-        kept: &mut Kept,
+        kept: &mut Kept<T>,
         events: &mut Vec<Event<T>>,
     ) -> Went<T>
         requires { vec_len events.old + most_of ⟦<T as Coded>⟧.coding self.old
@@ -255,6 +292,9 @@ impl<T: Words> Flight<T> {
             }
             (Flight::Robust(flight), Start::Robust(_), Kept::Owners(dead)) => {
                 flight.go_on(number, answer, dead, events)
+            }
+            (Flight::Container(flight), Start::Container(_), Kept::Container(_, states)) => {
+                flight.go_on(number, answer, states, events)
             }
             _ => Went {
                 back: false,

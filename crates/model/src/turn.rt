@@ -26,10 +26,13 @@ pub enum Kind {
     Indices,
     /// The robust index set.
     Robust,
+    /// The container of values.
+    Container,
 }
 
 /// Why a machine of this kind is not made with this capacity, or None. A queue and a set of bits or counts have from 0
-/// to 2^32 - 1, the single value 1, the unique index set from 1 to 2^24 - 2, and the robust one from 1 to 2^32 - 1.
+/// to 2^32 - 1, the single value 1, the unique index set from 1 to 2^24 - 2, and the robust one and the container from
+/// 1 to 2^32 - 1.
 pub fn capacity_error(kind: Kind, capacity: usize) -> Option<UniqueIndexCreationError>
     ensures { result ≡ capacity_error kind capacity }
 {
@@ -46,7 +49,7 @@ pub enum Turn<T> {
     Next(u32),
     /// The party's question is answered by yes or no. No word is touched.
     Decide(u32, bool),
-    /// The owner dies. From here on no call acquires or releases for it.
+    /// The owner dies. From here on no call acquires, releases, adds, removes or replaces for it.
     Die(OwnerId),
 }
 

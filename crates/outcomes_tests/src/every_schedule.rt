@@ -77,7 +77,7 @@ fn agrees(alloc: Global, stops: bool, input: &[u8]) -> Result<bool, Failure> {
 }
 
 /// Texts, and whether parties stop for good.
-const TEXTS: [(bool, &[u8]); 4] = [
+const TEXTS: [(bool, &[u8]); 5] = [
     (
         false,
         b"index_queue 1 2\nopen 0 acquire_producer\nopen 1 acquire_consumer\n0 push 5\n1 pop",
@@ -90,6 +90,11 @@ const TEXTS: [(bool, &[u8]); 4] = [
     (
         false,
         b"robust 1 2\nopen 0 acquire 3\ndie 3\n0 is_locked\n1 recover default",
+    ),
+    // What the first of the two looks has seen shows in the second alone.
+    (
+        false,
+        b"container 1 2\ndie 1\n0 recover 1 default\n1 get_state; update_state",
     ),
 ];
 

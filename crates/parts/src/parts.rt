@@ -1,5 +1,7 @@
 //! The parts of a machine, and what each turn does to them.
-ghost use Rattle.std.specs.Prelude.{◌≡◌, ◌-◌, ◌^◌, ◌≤◌, ◌<◌, None, OnOk, OnErr, IfOk, IfErr};
+ghost use Rattle.std.specs.Prelude.{◌≡◌, ◌-◌, ◌^◌, ◌≤◌, ◌<◌, true, false, None, OnOk, OnErr, IfOk, IfErr};
+ghost use Rattle.model.specs.Families.{kept_after_begin};
+ghost use Rattle.model.specs.Parties.{put};
 ghost use Rattle.model.specs.World.{opening, capacity_error, IsCreationError};
 ghost use Rattle.model.specs.Refusals.{refusal_of, IsRefusal};
 ghost use Rattle.model.specs.Small.{IsSmall, HasSmallCounts};
@@ -27,7 +29,7 @@ pub struct Parts<T> {
     pub capacity: u32,
     pub parties: u32,
     pub words: Vec<u64>,
-    pub kept: Kept,
+    pub kept: Kept<T>,
     pub latest: Latest<T>,
     pub changes: u64,
     pub turns: u64,
@@ -48,6 +50,39 @@ fn one_if(back: bool) -> u64
     if back { 1 } else { 0 }
 }
 
+/// The party's latest call is this one, and its family keeps what it keeps from its begin on, unless memory for one of
+/// them is refused. Then nothing changes.
+#[tactic(auto, using(model::proofs::Parties::put_removed))]
+fn enter<T: Words>(
+    latest: &mut Latest<T>,
+    kept: &mut Kept<T>,
+    capacity: u32,
+    number: u32,
+    party: Party<T>,
+) -> bool
+    ensures latest { result ≡ true → latest.new.entries ≡ put number party latest.old.entries }
+    ensures kept { result ≡ true → kept.new
+        ≡ kept_after_begin ⟦<T as Coded>⟧.coding capacity party.start number kept.old }
+    ensures latest_stays { result ≡ false → latest.new.entries ≡ latest.old.entries }
+    ensures kept_stays { result ≡ false → kept.new ≡ kept.old }
+{
+    let start = party.start;
+    if latest.contains_key(&number) {
+        if !families::keep(kept, capacity, &start, number) {
+            return false;
+        }
+        return latest.insert(number, party).is_ok();
+    }
+    if latest.insert(number, party).is_err() {
+        return false;
+    }
+    if families::keep(kept, capacity, &start, number) {
+        return true;
+    }
+    latest.remove(&number);
+    false
+}
+
 /// The party's call takes its step, or is handed a decision, unless it is refused.
 fn go_on<T: Words>(
     party: &mut Party<T>,
@@ -55,7 +90,7 @@ fn go_on<T: Words>(
     said: Option<bool>,
     beside: Beside,
     words: &mut Vec<u64>,
-    kept: &mut Kept,
+    kept: &mut Kept<T>,
     changes: &mut u64,
     events: &mut Vec<Event<T>>,
     turns: u64,
@@ -168,9 +203,15 @@ impl<T: Words> Parts<T> {
             backs: 0,
             doing: Doing::Going(flight, self.changes),
         };
-        let Ok(_) = self.latest.insert(number, party) else {
+        if !enter(
+            &mut self.latest,
+            &mut self.kept,
+            self.capacity,
+            number,
+            party,
+        ) {
             return Err(Refusal::NoMemory);
-        };
+        }
         self.events.push_reserved(Event::Begun(number, start));
         self.turns += 1;
         Ok(())

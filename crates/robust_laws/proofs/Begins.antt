@@ -9,18 +9,19 @@ use Rattle.model.specs.declared.event.Start.TheVariants.{Robust}
 use Rattle.model.specs.declared.families.indices.robust.RobustStart.{RobustStart}
 use Rattle.model.specs.declared.families.indices.robust.RobustStart.TheVariants.{Release}
 use Rattle.model.specs.Families.Indices.Reading.{locked_after, is_locked}
+use Rattle.model.specs.Families.Container.Reading.{NoneTakes}
 use Rattle.model.specs.Families.Indices.Robust.Promises.{cell_of, SetDoes, AnswersRight, HoldsRight}
 use Rattle.model.specs.Families.Indices.Robust.Reading.{without, deeds, filled_after, filled_of, holder_after, holder_of, settled_after, settled_of, dead_after, is_dead, wrote_in}
 use Rattle.model.proofs.Moments.{others_begin_none}
 use Rattle.model.proofs.Readings.{Each-append, span_of-other}
 use Rattle.robust_laws.proofs.Effects.{at_same, at_other, proper_less}
 use Rattle.robust_laws.proofs.Invariant.{Scene, Good, Does}
-use Rattle.robust_laws.proofs.Rights.{Right, Settled, By, NoneTakes, taken_by, right_after, right_of, AreOwned}
+use Rattle.robust_laws.proofs.Rights.{Right, Settled, By, taken_by, right_after, right_of, AreOwned}
 
 -- ---- the right to one index
 
 -- another owner's index may still be given back
-without_other : (owner : ℕ) (old : Option ℕ) (o : ℕ) → without owner old ≡ Some o → (old ≡ Some o) × (o ≢ owner)
+pub without_other : (owner : ℕ) (old : Option ℕ) (o : ℕ) → without owner old ≡ Some o → (old ≡ Some o) × (o ≢ owner)
 without_other owner None o e = absurd (cc)
 without_other owner (Some other) o e = ⊎_elim same differs (cases_eq other owner)
   where
@@ -37,7 +38,7 @@ without_other owner (Some other) o e = ⊎_elim same differs (cases_eq other own
         let is : other ≡ o = cc in
         (both, λ h. ne (is ∙ h))
 
-not_taken : (p owner o : ℕ) → o ≢ owner → taken_by p owner (Settled o) ≡ Settled o
+pub not_taken : (p owner o : ℕ) → o ≢ owner → taken_by p owner (Settled o) ≡ Settled o
 not_taken p owner o ne = ap (λ b. if b then By p else Settled o) (ne_eqb o owner ne)
 
 still_settled : (T : Type 0) (p : ℕ) (start : RobustStart) (i o : ℕ) (old : Option ℕ) (r : Right) → settled_after {T = T} i old (Begun p (Robust start)) ≡ Some o → (old ≡ Some o → r ≡ Settled o)

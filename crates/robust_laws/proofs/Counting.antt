@@ -34,13 +34,13 @@ abbrev pub chosen_with : (ℕ → Bool) → ℕ → Bool → ℕ → Bool
 chosen_with chosen k b i = if i == k then b else chosen i
 
 module _ (chosen : ℕ → Bool) (k : ℕ) (b : Bool) where
-  with_here : chosen_with chosen k b k ≡ b
+  pub with_here : chosen_with chosen k b k ≡ b
   with_here = ap (λ z. if z then b else chosen k) (eq-eqb k k refl)
 
-  with_there : (i : ℕ) → i ≢ k → chosen_with chosen k b i ≡ chosen i
+  pub with_there : (i : ℕ) → i ≢ k → chosen_with chosen k b i ≡ chosen i
   with_there i ne = ap (λ z. if z then b else chosen i) (ne_eqb i k ne)
 
-  count_with : count_below (chosen_with chosen k b) (suc k) ≡ (if b then 1 else 0) + count_below chosen k
+  pub count_with : count_below (chosen_with chosen k b) (suc k) ≡ (if b then 1 else 0) + count_below chosen k
   count_with =
       ap (λ z. (if z then 1 else 0) + count_below (chosen_with chosen k b) k) with_here
       ∙ ap (λ m. (if b then 1 else 0) + m) (count_same (chosen_with chosen k b) chosen k (λ i below. with_there i (λ e. absurd (omega arith))))
@@ -79,7 +79,7 @@ module _ {T : Type 0} (p : ℕ) (P : ℕ → List (Event T) → Type 0) where
         }
 
     module _ (b : Bool) (new : ℕ) (adds : new ≡ (if b then 1 else 0) + number) (once : b ≡ true → P k events) (not : b ≡ false → P k events → ⊥) where
-      still_once : (i : ℕ) → i < k + 1 → chosen_with h.chosen k b i ≡ true → HeldOnce p (P i) events
+      pub still_once : (i : ℕ) → i < k + 1 → chosen_with h.chosen k b i ≡ true → HeldOnce p (P i) events
       still_once i below e = ⊎_elim here there (cases_eq i k)
         where
           here : i ≡ k → HeldOnce p (P i) events
@@ -94,7 +94,7 @@ module _ {T : Type 0} (p : ℕ) (P : ℕ → List (Event T) → Type 0) where
       chosen_now true e t = refl
       chosen_now false e t = absurd (not e (through_now p (P k) events t))
 
-      still_through : (i : ℕ) → i < k + 1 → HeldThrough p (P i) events → chosen_with h.chosen k b i ≡ true
+      pub still_through : (i : ℕ) → i < k + 1 → HeldThrough p (P i) events → chosen_with h.chosen k b i ≡ true
       still_through i below t = ⊎_elim here there (cases_eq i k)
         where
           here : i ≡ k → chosen_with h.chosen k b i ≡ true

@@ -82,7 +82,7 @@ module _ {T : Type 0} (c : ℕ) (words dead : List ℕ) (events : List (Event T)
         holds = λ proper. Each-append HoldsRight events es (g.holds (proper_less events es proper)) (tt, tt);
       }
 
-  death_goes : Goes words words events es
+  pub death_goes : Goes words words events es
   death_goes =
       record {
         grows = omega arith;
@@ -93,7 +93,7 @@ module _ {T : Type 0} (c : ℕ) (words dead : List ℕ) (events : List (Event T)
         proper = proper_less events es;
       }
 
-  death_spares : (q : ℕ) → Spares q events es
+  pub death_spares : (q : ℕ) → Spares q events es
   death_spares q =
       record {
         none = tt;

@@ -48,7 +48,7 @@ pub record Scene (T : Type 0) : Type 0 where
   pub events : List (Event T)
 
 module _ {T : Type 0} where
-  abbrev pub Fit : Kept → List ℕ → RobustSet T → Type 0
+  abbrev pub Fit : Kept T → List ℕ → RobustSet T → Type 0
   Fit (kepts.TheVariants.Owners dead) words s = (words ≡ s.words) × (dead ≡ s.dead)
   Fit kept words s = ⊥
 

@@ -13,7 +13,7 @@ use Rattle.model.specs.declared.turn.Kind as kinds
 use Rattle.model.specs.declared.turn.Turn.{Turn}
 use Rattle.model.specs.declared.turn.Turn.TheVariants.{Next, Decide}
 use Rattle.model.specs.Coding.{Coding}
-use Rattle.model.specs.Families.{want_of, after_of, ask_of, beside_of, step_of}
+use Rattle.model.specs.Families.{want_of, after_of, ask_of, beside_of, step_of, goes_of}
 use Rattle.model.specs.Families.Indices.Robust.Promises.{promise}
 use Rattle.model.specs.Families.Indices.Robust.Steps.{effects}
 use Rattle.model.specs.Parties.{party_of}
@@ -36,7 +36,7 @@ use Rattle.robust_laws.proofs.Written.{all_effects}
 -- ---- every turn
 
 module _ {T : Type 0} (code : Coding T) (c : ℕ) (t : Trace T) (p : ℕ) (s : frame.Sound (family code c) t) (x : Party T) (since : ℕ) (turn : Turn T) (mine : IsParty turn p) (answer : ℕ) where
-  abbrev InOrderFrom : Kept → Start T → Flight T → Type 0
+  abbrev InOrderFrom : Kept T → Start T → Flight T → Type 0
   InOrderFrom kept start flight =
       WritesInOrder promise t turn (t.events ++ events_of_step p start (step_of t.world.coding t.world.words (beside_of t.world.words kept t.world.latest p) p start flight answer kept))
 
@@ -63,8 +63,8 @@ module _ {T : Type 0} (code : Coding T) (c : ℕ) (t : Trace T) (p : ℕ) (s : f
       subst (λ kept. InOrderFrom kept x.start flight) (sym is.0) (in_order x.start flight (stands_there (family code c) t s p x since flight found doing).at)
 
 -- a call of the set goes on as its table says
-told : {T : Type 0} (code z : Coding T) (c : ℕ) (words : List ℕ) (beside : Option (ℕ × ℕ)) (s : RobustSet T) (p : ℕ) (start : Start T) (flight : Flight T) (answer : ℕ) (kept : Kept) → Fit kept words s → (family code c).At s p start flight
-    → (step_of z words beside p start flight answer kept).after ≡ after_of z flight answer
+told : {T : Type 0} (code z : Coding T) (c : ℕ) (words : List ℕ) (beside : Option (ℕ × ℕ)) (s : RobustSet T) (p : ℕ) (start : Start T) (flight : Flight T) (answer : ℕ) (kept : Kept T) → Fit kept words s → (family code c).At s p start flight
+    → (step_of z words beside p start flight answer kept).after ≡ goes_of z p flight answer kept
 told y z c words beside s p (Robust start) (flights.TheVariants.Robust flight) answer (kepts.TheVariants.Owners dead) fit at = refl
 told y z c words beside s p (Robust start) (flights.TheVariants.Robust flight) answer held fit at = absurd fit
 told y z c words beside s p start flight answer held fit at = absurd at

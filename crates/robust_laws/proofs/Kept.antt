@@ -48,26 +48,26 @@ use Rattle.robust_laws.proofs.Sound.{kept_is, reached_sound}
 
 -- ---- how many steps a call has taken
 
-raise_most : (raise : Raise) → raise_number raise ≤ 1
+pub raise_most : (raise : Raise) → raise_number raise ≤ 1
 raise_most raises.TheVariants.LoadsCounter = omega arith
 raise_most (raises.TheVariants.ExchangesCounter counter) = omega arith
 
-count_most : (c : ℕ) (count : Count) → CountAt c count → count_number c count ≤ c + 1
+pub count_most : (c : ℕ) (count : Count) → CountAt c count → count_number c count ≤ c + 1
 count_most c counts.TheVariants.LoadsCounter at = omega arith
 count_most c (counts.TheVariants.LoadsCell counter index filled) at = let below = at.0 in omega arith
 count_most c (counts.TheVariants.ExchangesCounter counter filled) at = omega arith
 
-lock_most : (c : ℕ) (lock : Lock) → LockAt c lock → lock_number c lock ≤ c + 2
+pub lock_most : (c : ℕ) (lock : Lock) → LockAt c lock → lock_number c lock ≤ c + 2
 lock_most c (locks.TheVariants.Counts count) at = let few = count_most c count at in omega arith
 lock_most c (locks.TheVariants.ExchangesCounter counter) at = omega arith
 
-acquire_most : (c owner : ℕ) (all : List Deed) (stage : AcquireStage) (backs : ℕ) → AcquireAt c owner all stage → acquire_number c stage backs ≤ c + 3 + backs * (c + 1)
+pub acquire_most : (c owner : ℕ) (all : List Deed) (stage : AcquireStage) (backs : ℕ) → AcquireAt c owner all stage → acquire_number c stage backs ≤ c + 3 + backs * (c + 1)
 acquire_most c owner all acquires.TheVariants.LoadsCounter backs at = omega arith
 acquire_most c owner all (acquires.TheVariants.FillsCell counter index) backs at = let below = at.0 in omega arith
 acquire_most c owner all (acquires.TheVariants.ChecksCounter counter) backs at = omega arith
 acquire_most c owner all (acquires.TheVariants.Raises index raise) backs at = let few = raise_most raise in omega arith
 
-release_most : (c index owner : ℕ) (mode : ReleaseMode) (all : List Deed) (stage : ReleaseStage) (backs : ℕ) → ReleaseAt c index owner mode all stage
+pub release_most : (c index owner : ℕ) (mode : ReleaseMode) (all : List Deed) (stage : ReleaseStage) (backs : ℕ) → ReleaseAt c index owner mode all stage
     → release_number c mode stage backs ≤ most_steps c (starts.TheVariants.Release index owner mode) backs
 release_most c index owner Default all releases.TheVariants.EmptiesCell backs at = omega arith
 release_most c index owner LockIfLastIndex all releases.TheVariants.EmptiesCell backs at = omega arith
@@ -111,7 +111,7 @@ steps_most c all backs start flight at = absurd at
 module _ {T : Type 0} where
   -- ---- how often it has turned back
 
-  held_paid : (held : Option ℕ) (v : View T) → Paid held v → v.backs ≤ v.changes - v.since
+  pub held_paid : (held : Option ℕ) (v : View T) → Paid held v → v.backs ≤ v.changes - v.since
   held_paid None v h = omega arith
   held_paid (Some number) v h = ⊎_elim (λ k. let paid = k.1 in omega arith) (λ k. omega arith) h.paid
 

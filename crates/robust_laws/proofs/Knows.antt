@@ -19,6 +19,7 @@ use Rattle.steps.specs.Indices.Robust.Parts.{greatest}
 use Rattle.model.specs.declared.event.Event.{Event}
 use Rattle.model.specs.declared.families.indices.robust.calls.RobustFlight.{RobustFlight}
 use Rattle.model.specs.declared.families.indices.robust.calls.RobustFlight.TheVariants.{Acquire, Release, Find, Recover, BorrowedIndices, IsLocked}
+use Rattle.model.specs.Families.Container.Reading.{NoneTakes}
 use Rattle.model.specs.Families.Indices.Robust.Promises.{IsFilled, IsFilledWith, IsUnlocked, IsCount, HeldThrough, FilledSinceFreed, StillToFree, IsProper}
 use Rattle.model.specs.Families.Indices.Robust.Reading.{Asks, Yes, filled_of, holder_of, settled_of, is_dead, deeds_of, IsOneOf}
 use Rattle.model.specs.Moments.{BeginsNone, HeldOnce, SinceBegin}
@@ -26,7 +27,7 @@ use Rattle.model.proofs.Moments.{held_later}
 use Rattle.robust_laws.proofs.Core.{counter_of}
 use Rattle.robust_laws.proofs.Counting.{count_later}
 use Rattle.robust_laws.proofs.Past.{through_less, since_less}
-use Rattle.robust_laws.proofs.Rights.{IsBy, NoneTakes}
+use Rattle.robust_laws.proofs.Rights.{IsBy}
 use Rattle.robust_laws.proofs.Standing.{}
 
 -- ---- what they see of the machine
@@ -319,14 +320,14 @@ module _ {T : Type 0} where
             let same = s.1 in
             ⊎_elim (λ k. let paid = k.1 in inl (ap counter_of s.0 ∙ k.0, omega arith)) (λ k. inr (omega arith)) h
 
-    held_paid : (held : Option ℕ) → Paid held before → Paid held later
+    pub held_paid : (held : Option ℕ) → Paid held before → Paid held later
     held_paid None h = paid_later h
     held_paid (Some number) h =
         let low = h.low in
         let grows = goes.grows in
         record { before_end = h.before_end; low = omega arith; paid = unless_later number h.paid }
 
-    still_scanned : (s : Option Scan) → Scanned s before → Scanned s later
+    pub still_scanned : (s : Option Scan) → Scanned s before → Scanned s later
     still_scanned None h = tt
     still_scanned (Some s) h =
         let low = h.0 in

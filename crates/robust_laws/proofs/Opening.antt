@@ -11,12 +11,12 @@ use Rattle.model.proofs.Readings.{Each-nil}
 use Rattle.robust_laws.proofs.Core.{cell}
 use Rattle.robust_laws.proofs.Invariant.{Good}
 
-all_the_same : (x n i : ℕ) → i < n → get_or (replicate n x) i 0 ≡ x
+pub all_the_same : (x n i : ℕ) → i < n → get_or (replicate n x) i 0 ≡ x
 all_the_same x zero i below = absurd (omega arith)
 all_the_same x (suc n) zero below = refl
 all_the_same x (suc n) (suc i) below = all_the_same x n i (omega arith)
 
-opening_cell : (c i : ℕ) → i < c → cell (opening_words c) i ≡ empty
+pub opening_cell : (c i : ℕ) → i < c → cell (opening_words c) i ≡ empty
 opening_cell c i below =
     let place : 1 + i ≡ suc i = omega arith in
     ap (λ n. get_or (opening_words c) n 0) place ∙ all_the_same empty c i below

@@ -60,7 +60,7 @@ most_is : (c backs : ℕ) (mode : ReleaseMode) → most_steps c (Recover mode) b
 most_is c backs Default = omega arith
 most_is c backs LockIfLastIndex = omega arith
 
-nothing_said : (c : ℕ) (lock : Lock) → LockSays c (λ k filled. Unit {0}) lock
+pub nothing_said : (c : ℕ) (lock : Lock) → LockSays c (λ k filled. Unit {0}) lock
 nothing_said c (parts.TheVariants.Counts counts.TheVariants.LoadsCounter) = tt
 nothing_said c (parts.TheVariants.Counts (counts.TheVariants.LoadsCell number index filled)) = tt
 nothing_said c (parts.TheVariants.Counts (counts.TheVariants.ExchangesCounter number filled)) = tt

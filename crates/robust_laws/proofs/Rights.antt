@@ -1,10 +1,11 @@
--- Which party may give an index back, or will be granted it: the one whose acquire has filled it, until it has finished;
--- then nobody before a release of it begins for its owner; then the party of that release.
-use Rattle.std.proofs.Common.{◌≡◌, ℕ, ◌==◌, if◌then◌else◌, Some, List, [], ◌∷◌, fold}
+-- Which party may give an index back, or will be granted it: the one whose acquire or add has filled it, until it has
+-- finished; then nobody before a release or a remove of it begins for its owner; then the party of that one.
+use Rattle.std.proofs.Common.{◌≡◌, ℕ, ◌==◌, if◌then◌else◌, Some, List, fold}
 use Rattle.model.specs.declared.event.Answer.TheVariants.{Index}
 use Rattle.model.specs.declared.event.Event.{Event}
 use Rattle.model.specs.declared.event.Event.TheVariants.{Begun, Filled, FreedOf, Finished}
-use Rattle.model.specs.declared.event.Start.TheVariants.{Robust}
+use Rattle.model.specs.declared.event.Start.TheVariants.{Robust, Container}
+use Rattle.model.specs.declared.families.container.ContainerStart.TheVariants.{Add, Remove}
 use Rattle.model.specs.declared.families.indices.robust.RobustStart.TheVariants.{Acquire, Release}
 use Rattle.model.specs.Families.Indices.Robust.Reading.{filled_of, holder_of, settled_of}
 
@@ -24,7 +25,11 @@ module _ {T : Type 0} where
   right_after i right (Filled p index owner) = if index == i then By p else right
   right_after i right (Finished p (Robust (Acquire owner)) (Index index)) =
       if index == i then Settled owner else right
+  right_after i right (Finished p (Container (Add value owner)) (Index index)) =
+      if index == i then Settled owner else right
   right_after i right (Begun p (Robust (Release index owner mode))) =
+      if index == i then taken_by p owner right else right
+  right_after i right (Begun p (Container (Remove index owner mode))) =
       if index == i then taken_by p owner right else right
   right_after i right (FreedOf p index owner) = if index == i then Nobody else right
   right_after i right e = right
@@ -36,15 +41,6 @@ module _ {T : Type 0} where
   pub record IsBy (p i owner : ℕ) (events : List (Event T)) : Type 0 where
     pub right : right_of i events ≡ By p
     pub filled : filled_of i events ≡ Some owner
-
-  -- the event does not begin to give this index back for this owner
-  abbrev pub TakesNot : ℕ → ℕ → Event T → Type 0
-  TakesNot i o (Begun p (Robust (Release index owner mode))) = (index ≡ i) × (owner ≡ o) → ⊥
-  TakesNot i o e = Unit {0}
-
-  abbrev pub NoneTakes : ℕ → ℕ → List (Event T) → Type 0
-  NoneTakes i o [] = Unit {0}
-  NoneTakes i o (e ∷ es) = TakesNot i o e × NoneTakes i o es
 
   -- what is so of the indices in a proper run: one that is held, or may be given back, is filled with its owner
   pub record AreOwned (events : List (Event T)) : Type 0 where

@@ -38,7 +38,7 @@ use Rattle.model.specs.declared.party.Party.{Party}
 use Rattle.model.specs.declared.turn.Kind as kinds
 use Rattle.model.specs.declared.turn.Refusal.TheVariants.{BadIndex, OwnerIsDead, OwnerLives}
 use Rattle.model.specs.Coding.{Coding}
-use Rattle.model.specs.Families.{first_of, want_of, ask_of, is_question, going_rows, beside_of, step_of, kept_after_death}
+use Rattle.model.specs.Families.{first_of, want_of, ask_of, is_question, going_rows, beside_of, step_of, kept_after_death, kept_after_begin}
 use Rattle.model.specs.Families as families
 use Rattle.model.specs.Families.Indices.Robust.Calls.{first, want}
 use Rattle.model.specs.Families.Indices.Robust.Dead.{has_died, dead_with, acts_for_dead, frees_living}
@@ -75,37 +75,37 @@ use Rattle.robust_laws.proofs.Rights.{IsBy, AreOwned}
 use Rattle.robust_laws.proofs.Stages.{IsHere, all, now, StepOf, DecisionOf}
 
 module _ {T : Type 0} where
-  pub kept_is : (kept : Kept) (words : List ℕ) (s : RobustSet T) → Fit kept words s → (kept ≡ kepts.TheVariants.Owners s.dead) × (words ≡ s.words)
+  pub kept_is : (kept : Kept T) (words : List ℕ) (s : RobustSet T) → Fit kept words s → (kept ≡ kepts.TheVariants.Owners s.dead) × (words ≡ s.words)
   kept_is (kepts.TheVariants.Owners dead) words s fit = (ap (λ o. kepts.TheVariants.Owners o) fit.1, fit.0)
   kept_is kept words s fit = absurd fit
 
-  fit_events : (kept : Kept) (words : List ℕ) (s : RobustSet T) (events : List (Event T)) → Fit kept words s → Fit kept words (record { words = s.words; dead = s.dead; events = events })
+  fit_events : (kept : Kept T) (words : List ℕ) (s : RobustSet T) (events : List (Event T)) → Fit kept words s → Fit kept words (record { words = s.words; dead = s.dead; events = events })
   fit_events (kepts.TheVariants.Owners dead) words s events fit = fit
   fit_events kept words s events fit = absurd fit
 
 -- ---- a step of a call that passes its rows
 
 -- no part of a call asks a question
-raise_asks_none : (raise : Raise) → is_question (raise_want raise) ≡ false
+pub raise_asks_none : (raise : Raise) → is_question (raise_want raise) ≡ false
 raise_asks_none raises.TheVariants.LoadsCounter = refl
 raise_asks_none (raises.TheVariants.ExchangesCounter counter) = refl
 
-count_asks_none : (count : Count) → is_question (count_want count) ≡ false
+pub count_asks_none : (count : Count) → is_question (count_want count) ≡ false
 count_asks_none counts.TheVariants.LoadsCounter = refl
 count_asks_none (counts.TheVariants.LoadsCell counter index filled) = refl
 count_asks_none (counts.TheVariants.ExchangesCounter counter filled) = refl
 
-lock_asks_none : (lock : Lock) → is_question (lock_want lock) ≡ false
+pub lock_asks_none : (lock : Lock) → is_question (lock_want lock) ≡ false
 lock_asks_none (locks.TheVariants.Counts count) = count_asks_none count
 lock_asks_none (locks.TheVariants.ExchangesCounter counter) = refl
 
-acquire_asks_none : (stage : AcquireStage) (owner : ℕ) → is_question (acquire_asks stage owner) ≡ false
+pub acquire_asks_none : (stage : AcquireStage) (owner : ℕ) → is_question (acquire_asks stage owner) ≡ false
 acquire_asks_none acquires.TheVariants.LoadsCounter owner = refl
 acquire_asks_none (acquires.TheVariants.FillsCell counter index) owner = refl
 acquire_asks_none (acquires.TheVariants.ChecksCounter counter) owner = refl
 acquire_asks_none (acquires.TheVariants.Raises index raise) owner = raise_asks_none raise
 
-release_asks_none : (stage : ReleaseStage) (given : GiveBack) → is_question (release_asks stage given) ≡ false
+pub release_asks_none : (stage : ReleaseStage) (given : GiveBack) → is_question (release_asks stage given) ≡ false
 release_asks_none releases.TheVariants.EmptiesCell given = refl
 release_asks_none (releases.TheVariants.Raises raise) given = raise_asks_none raise
 release_asks_none (releases.TheVariants.Locks lock) given = lock_asks_none lock
@@ -334,11 +334,11 @@ module _ {T : Type 0} (code : Coding T) (c : ℕ) (t : Trace T) (s : frame.Sound
 
     -- ---- a decision
 
-    abbrev decided : ℕ → List ℕ → Kept → Start T → Flight T → Step (Flight T) Kept T
+    abbrev decided : ℕ → List ℕ → Kept T → Start T → Flight T → Step (Flight T) (Kept T) T
     decided answer words kept start flight =
         step_of t.world.coding words (beside_of words kept t.world.latest p) p start flight answer kept
 
-    abbrev DecidesFrom : ℕ → List ℕ → Kept → Start T → Flight T → Type 0
+    abbrev DecidesFrom : ℕ → List ℕ → Kept T → Start T → Flight T → Type 0
     DecidesFrom answer words kept start flight =
         frame.Comes (family code c) t p (decided answer words kept start flight).kept (words_after words None)
         (party_after (record x { start = start }) since t.world.changes 0 (change_of words None) (decided answer words kept start flight))
@@ -402,10 +402,10 @@ module _ {T : Type 0} (code : Coding T) (c : ℕ) (t : Trace T) (s : frame.Sound
     span_begun start = span_of-own p t.events (Begun p (Robust start) ∷ []) (refl, tt)
 
     pub begin_comes : (start : Start T) (flight : Flight T) → MayBegin t.world p start → first_of t.world.kind t.world.capacity start ≡ Some flight
-        → frame.Comes (family code c) t p t.world.kept t.world.words (party_at_begin start flight t.world.changes) (Begun p start ∷ []) t.world.changes
+        → frame.Comes (family code c) t p (kept_after_begin t.world.coding t.world.capacity start p t.world.kept) t.world.words (party_at_begin start flight t.world.changes) (Begun p start ∷ []) t.world.changes
     begin_comes (Robust start) (flights.TheVariants.Robust flight) may e =
         let is = kept_is t.world.kept t.world.words s.state s.fit in
-        let listed : first_row (kept_rows t.world.capacity start (kepts.TheVariants.Owners s.state.dead) p) ≡ None = subst (λ kept. first_row (kept_rows t.world.capacity start kept p) ≡ None) is.0 may.rows in
+        let listed : first_row (kept_rows {T = T} t.world.capacity start (kepts.TheVariants.Owners s.state.dead) p) ≡ None = subst (λ kept. first_row (kept_rows {T = T} t.world.capacity start kept p) ≡ None) is.0 may.rows in
         let passed : first_row (call_rows c s.state.dead start) ≡ None = subst (λ n. first_row (call_rows n s.state.dead start) ≡ None) s.capacity listed in
         let named : first_of {T = T} kinds.TheVariants.Robust t.world.capacity (Robust start) ≡ Some (flights.TheVariants.Robust flight) = subst
         (λ kind. first_of {T = T} kind t.world.capacity (Robust start) ≡ Some (flights.TheVariants.Robust flight)) s.kind e in
@@ -421,12 +421,12 @@ module _ {T : Type 0} (code : Coding T) (c : ℕ) (t : Trace T) (s : frame.Sound
 
   -- ---- an owner dies
 
-  fit_death : (kept : Kept) (words : List ℕ) (state : RobustSet T) (o : ℕ) (events : List (Event T)) → Fit kept words state
+  fit_death : (kept : Kept T) (words : List ℕ) (state : RobustSet T) (o : ℕ) (events : List (Event T)) → Fit kept words state
       → Fit (kept_after_death kept o) words (record { words = state.words; dead = dead_with o state.dead; events = events })
   fit_death (kepts.TheVariants.Owners dead) words state o events fit = (fit.0, ap (dead_with o) fit.1)
   fit_death kept words state o events fit = absurd fit
 
-  lives_by : (kept : Kept) (words : List ℕ) (state : RobustSet T) (o : ℕ) → Fit kept words state → families.is_dead kept o ≡ false → has_died o state.dead ≡ false
+  lives_by : (kept : Kept T) (words : List ℕ) (state : RobustSet T) (o : ℕ) → Fit kept words state → families.is_dead kept o ≡ false → has_died o state.dead ≡ false
   lives_by (kepts.TheVariants.Owners dead) words state o fit alive = subst (λ d. has_died o d ≡ false) fit.1 alive
   lives_by kept words state o fit alive = absurd fit
 

@@ -61,7 +61,7 @@ module _ {T : Type 0} where
     pub name : start ≡ start'
     pub done : outcome ≡ Some answer
 
-  ends_alone : (turn : Turn T) (q p : ℕ) (es : List (Event T)) (start start' : Start T) (outcome : Option (Answer T)) (answer : Answer T) → AllByRecursion (IsEffectOf turn) es
+  pub ends_alone : (turn : Turn T) (q p : ℕ) (es : List (Event T)) (start start' : Start T) (outcome : Option (Answer T)) (answer : Answer T) → AllByRecursion (IsEffectOf turn) es
       → es ++ ending_of q start outcome ≡ Finished p start' answer ∷ [] → IsEnd q p start start' outcome answer
   ends_alone turn q p [] start start' None answer are e = absurd (cc)
   ends_alone turn q p [] start start' (Some a) answer are e =
@@ -109,7 +109,7 @@ module _ {T : Type 0} where
   module _ (code : Coding T) (c : ℕ) (t : Trace T) (s : frame.Sound (family code c) t) (q : ℕ) (x : Party T) (since : ℕ) (small : t.world.turns < 2 ^ 64 - 2) (found : party_of q t.world.latest ≡ Some x) (turn : Turn T)
       (mine : IsParty turn q) (answer p owner number : ℕ) where
     -- it wrote that a find is done, and nothing else
-    abbrev Wrote : Kept → Start T → Flight T → Type 0
+    abbrev Wrote : Kept T → Start T → Flight T → Type 0
     Wrote kept start flight =
         events_of_step q start (step_of t.world.coding t.world.words (beside_of t.world.words kept t.world.latest q) q start flight answer kept) ≡ Finished p (Robust (starts.TheVariants.Find owner)) (Number number) ∷ []
 

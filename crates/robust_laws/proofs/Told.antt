@@ -85,11 +85,11 @@ module _ {T : Type 0} where
 
 module _ {T : Type 0} (code : Coding T) (c : ℕ) (t : Trace T) (s : frame.Sound (family code c) t) where
   -- what the step of a call of this name writes that is handed this answer, where this is kept
-  abbrev writes : ℕ → ℕ → Kept → Start T → Flight T → List (Event T)
+  abbrev writes : ℕ → ℕ → Kept T → Start T → Flight T → List (Event T)
   writes p answer kept start flight =
       events_of_step p start (step_of t.world.coding t.world.words (beside_of t.world.words kept t.world.latest p) p start flight answer kept)
 
-  abbrev own : Kept
+  abbrev own : Kept T
   own = kepts.TheVariants.Owners s.state.dead
 
   same_kept : t.world.kept ≡ own

@@ -44,10 +44,10 @@ module _ {T : Type 0} (P : Event T → Type 0) (p : ℕ) (h : HoldsOf P p) where
   either true xs ys left right = left
   either false xs ys left right = right
 
-  all_freed : (index owner old : ℕ) → All (freed p index owner old)
+  pub all_freed : (index owner old : ℕ) → All (freed p index owner old)
   all_freed index owner old = either (old == owner) _ [] (h.freed_of index owner, tt) tt
 
-  all_locked : (lock : Lock) (old : ℕ) → All (locked_by p lock old)
+  pub all_locked : (lock : Lock) (old : ℕ) → All (locked_by p lock old)
   all_locked (locks.TheVariants.Counts count) old = tt
   all_locked (locks.TheVariants.ExchangesCounter counter) old = either (old == counter) _ [] (h.locked, tt) tt
 
@@ -56,13 +56,13 @@ module _ {T : Type 0} (P : Event T → Type 0) (p : ℕ) (h : HoldsOf P p) where
   all_granted index owner (Done states.TheVariants.Locked) = tt
   all_granted index owner (Done states.TheVariants.Unlocked) = (h.granted_to index owner, tt)
 
-  all_acquire : (owner : ℕ) (stage : AcquireStage) (old : ℕ) → All (acquire_effects p owner stage old)
+  pub all_acquire : (owner : ℕ) (stage : AcquireStage) (old : ℕ) → All (acquire_effects p owner stage old)
   all_acquire owner acquires.TheVariants.LoadsCounter old = tt
   all_acquire owner (acquires.TheVariants.FillsCell counter index) old = either (old == empty) _ [] (h.filled index owner, tt) tt
   all_acquire owner (acquires.TheVariants.ChecksCounter counter) old = tt
   all_acquire owner (acquires.TheVariants.Raises index raise) old = all_granted index owner (raise_after raise old)
 
-  all_release : (given : GiveBack) (stage : ReleaseStage) (old : ℕ) → All (release_effects p given stage old)
+  pub all_release : (given : GiveBack) (stage : ReleaseStage) (old : ℕ) → All (release_effects p given stage old)
   all_release given releases.TheVariants.EmptiesCell old = all_freed given.index given.owner old
   all_release given (releases.TheVariants.Raises raise) old = tt
   all_release given (releases.TheVariants.Locks lock) old = all_locked lock old

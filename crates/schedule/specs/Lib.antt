@@ -1,5 +1,6 @@
 pub mod Atomic
 pub mod Bits
+pub mod Container
 pub mod Families
 pub mod Family
 pub mod Grammar

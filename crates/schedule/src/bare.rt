@@ -12,6 +12,7 @@ use machine::{Machine, Stopped};
 use std::alloc::{Allocator, Global};
 use std::io::{Read, Write};
 use std::str;
+use steps::container::state::ContainerState;
 use steps::enums::UniqueIndexCreationError;
 use steps::words::Words;
 
@@ -53,6 +54,11 @@ pub fn is_going<T: Words>(machine: &Machine<T>, party: u32) -> bool {
 /// How far the party's latest call has come.
 pub fn under_way<T: Words>(machine: &Machine<T>, party: u32) -> Option<Progress> {
     machine.under_way(party)
+}
+
+/// What the party's state of a container shows.
+pub fn state<T: Words>(machine: &Machine<T>, party: u32) -> Option<&ContainerState<T>> {
+    machine.state(party)
 }
 
 /// Reads the first line, whatever the capacity is.

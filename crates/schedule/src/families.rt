@@ -18,7 +18,8 @@ macro_rules! families {
             crate::atomic::$ask $given,
             crate::bits::$ask $given,
             crate::indices::$ask $given,
-            crate::indices::robust::$ask $given
+            crate::indices::robust::$ask $given,
+            crate::container::$ask $given
         )
     };
 }
@@ -71,20 +72,20 @@ pub fn call<'a>(
 
 /// Writes a call with its arguments. Whether a family says how.
 pub fn print_call(line: &mut Line, start: &Start<u128>) -> bool
-    requires { length line.old + 96 ≤ 256 }
+    requires { length line.old + 128 ≤ 256 }
     ensures text { line.new ≡ line.old ++ unwrap_or (text_of_call start.now) [] }
     ensures said { result ≡ is_some (text_of_call start.now) }
-    ensures short { length line.new ≤ length line.old + 96 }
+    ensures short { length line.new ≤ length line.old + 128 }
 {
     families!(first_true, print_call(line, start))
 }
 
 /// Writes an answer. Whether a family says how.
 pub fn print_answer(line: &mut Line, answer: &Answer<u128>) -> bool
-    requires { length line.old + 80 ≤ 256 }
+    requires { length line.old + 60 ≤ 256 }
     ensures text { line.new ≡ line.old ++ unwrap_or (text_of_answer answer.now) [] }
     ensures said { result ≡ is_some (text_of_answer answer.now) }
-    ensures short { length line.new ≤ length line.old + 80 }
+    ensures short { length line.new ≤ length line.old + 60 }
 {
     families!(first_true, print_answer(line, answer))
 }

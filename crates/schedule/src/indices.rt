@@ -175,10 +175,10 @@ pub fn print_call(line: &mut Line, start: &Start<u128>) -> bool
 
 /// The same of an answer.
 pub fn print_answer(line: &mut Line, answer: &Answer<u128>) -> bool
-    requires { length line.old + 80 ≤ 256 }
+    requires { length line.old + 60 ≤ 256 }
     ensures text { line.new ≡ line.old ++ unwrap_or (answer_text answer.now) [] }
     ensures own { result ≡ is_some (answer_text answer.now) }
-    ensures short { length line.new ≤ length line.old + 80 }
+    ensures short { length line.new ≤ length line.old + 60 }
 {
     match *answer {
         Answer::Index(index) => {

@@ -5,6 +5,7 @@ pub mod arguments;
 mod atomic;
 pub mod bare;
 mod bits;
+mod container;
 pub mod error;
 mod families;
 pub mod grammar;

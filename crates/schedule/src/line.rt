@@ -84,18 +84,18 @@ impl Line {
     }
 
     fn push_call(&mut self, start: &Start<u128>)
-        requires { length self.old + 96 ≤ ROOM }
+        requires { length self.old + 128 ≤ ROOM }
         ensures text { self.new ≡ self.old ++ call_text start.now }
-        ensures short { length self.new ≤ length self.old + 96 }
+        ensures short { length self.new ≤ length self.old + 128 }
     {
         let said = families::print_call(self, start);
         prove!(said); // each call is a family's
     }
 
     fn push_answer(&mut self, answer: &Answer<u128>)
-        requires { length self.old + 80 ≤ ROOM }
+        requires { length self.old + 60 ≤ ROOM }
         ensures text { self.new ≡ self.old ++ answer_text answer.now }
-        ensures short { length self.new ≤ length self.old + 80 }
+        ensures short { length self.new ≤ length self.old + 60 }
     {
         match *answer {
             Answer::Done => self.push("done"),
@@ -110,9 +110,9 @@ impl Line {
     }
 
     fn push_answered(&mut self, start: &Start<u128>, answer: &Answer<u128>)
-        requires { length self.old + 180 ≤ ROOM }
+        requires { length self.old + 192 ≤ ROOM }
         ensures text { self.new ≡ self.old ++ answered_text start.now answer.now }
-        ensures short { length self.new ≤ length self.old + 180 }
+        ensures short { length self.new ≤ length self.old + 192 }
     {
         self.push_call(start);
         self.push(" -> ");

@@ -7,6 +7,7 @@ use steps::enums::OwnerId;
 
 mod acts;
 mod calls;
+mod contents;
 mod deeds;
 mod ends;
 mod list;
@@ -76,6 +77,10 @@ pub struct Span {
     /// What stood at some moment of it, and what stood at each.
     pub ever: u64,
     pub always: u64,
+    /// The values that it placed, the indices that it copied, and those whose value stood at each moment of it.
+    pub placed: u64,
+    pub copied: u64,
+    pub stayed: u64,
 }
 
 /// The span of a call that has just begun.
@@ -96,6 +101,9 @@ fn begun(start: &Start<u128>, is_open: bool) -> Span {
         owner: 0,
         ever: 0,
         always: u64::MAX,
+        placed: 0,
+        copied: 0,
+        stayed: u64::MAX,
     }
 }
 
@@ -123,6 +131,9 @@ pub struct Replay {
     pub value: u128,
     /// The count of each place, or the owner of each index.
     pub numbers: [u64; 16],
+    /// Of a container, the values of those indices at which one stands.
+    pub values: [u128; 16],
+    pub visible: u64,
     pub dead: Option<OwnerId>,
 }
 
@@ -146,6 +157,8 @@ impl Replay {
             waits: List::new(),
             value: 0,
             numbers: [0; 16],
+            values: [0; 16],
+            visible: 0,
             dead: None,
         }
     }
@@ -181,7 +194,7 @@ impl Replay {
             Event::Begun(party, start) => self.begin(*party, start),
             Event::Published(party, item) => self.publish(*party, *item),
             Event::HandedOut(party, item) => self.hand_out(*party, *item),
-            Event::Set(party, place) => self.gives(*party, Name::Set, *place, 0),
+            Event::Set(party, place) => self.gives(*party, &[Name::Set], *place, 0),
             Event::Cleared(party, place) => {
                 self.takes(*party, &[Name::ResetNext, Name::ResetAll], *place, 0)
             }
@@ -195,6 +208,10 @@ impl Replay {
             Event::FreedOf(party, index, owner) => self.free_of(*party, *index as u64, *owner),
             Event::Asked(party, index, owner) => self.ask(*party, *index as u64, *owner),
             Event::Told(party, index, owner) => self.tell(*party, *index as u64, *owner),
+            Event::Placed(party, index, value) => self.place(*party, *index as u64, *value),
+            Event::Hidden(party, index) => self.hide(*party, *index as u64),
+            Event::Copied(party, index, value) => self.copy(*party, *index as u64, *value),
+            Event::Shown(party, index) => self.show(*party, *index as u64),
             Event::Died(owner) => self.die(*owner),
             Event::Acted(party, start, answer) => self.act(*party, start, answer),
             Event::Finished(party, start, answer) => self.finish(*party, start, answer),
@@ -204,9 +221,11 @@ impl Replay {
     /// What stands now belongs to the moments of each call.
     fn mark(&mut self) {
         let stands = self.stands;
+        let visible = self.visible;
         for span in &mut self.spans {
             span.ever |= stands;
             span.always &= stands;
+            span.stayed &= visible;
         }
     }
 

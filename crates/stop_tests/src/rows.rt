@@ -16,6 +16,11 @@ pub enum Call {
     AcquireFor(u64),
     ReleaseOf(u64, u64, ReleaseMode),
     Recover(ReleaseMode),
+    /// To a container, from it, and of it.
+    Add(u128, u64),
+    Remove(u64, u64, ReleaseMode),
+    RecoverOf(u64, ReleaseMode),
+    GetState,
     /// No call: the owner dies.
     Dies(u64),
 }
@@ -109,7 +114,20 @@ const RECOVER: Bounded = (Call::Recover(ReleaseMode::Default), 6, 1);
 
 const RECOVER_AND_LOCK: Bounded = (Call::Recover(ReleaseMode::LockIfLastIndex), 10, 4);
 
-pub const ROWS: [Row; 13] = [
+/// Of a container of one value of two words.
+const ADD_FOR_2: Bounded = (Call::Add(SECOND_VALUE, 2), 10, 2);
+
+const REMOVE: Bounded = (Call::Remove(0, 1, ReleaseMode::Default), 6, 1);
+
+const REMOVE_OR_LOCK: Bounded = (Call::Remove(0, 1, ReleaseMode::LockIfLastIndex), 10, 4);
+
+const RECOVER_OF_1: Bounded = (Call::RecoverOf(1, ReleaseMode::Default), 12, 3);
+
+const RECOVER_OR_LOCK: Bounded = (Call::RecoverOf(1, ReleaseMode::LockIfLastIndex), 16, 7);
+
+const GET_STATE: Bounded = (Call::GetState, 5, 3);
+
+pub const ROWS: [Row; 15] = [
     Row {
         name: "index queue, empty",
         kind: Kind::IndexQueue,
@@ -241,6 +259,27 @@ pub const ROWS: [Row; 13] = [
         pairs: &[
             ((0, RECOVER, 7), (1, FOR_2, 3)),
             ((0, RECOVER_AND_LOCK, 11), (1, FOR_2, 3)),
+        ],
+    },
+    Row {
+        name: "container, a value of owner 1",
+        kind: Kind::Container,
+        capacity: 1,
+        opening: &[(0, Call::Add(5, 1))],
+        pairs: &[
+            ((0, REMOVE, 6), (1, ADD_FOR_2, 3)),
+            ((0, REMOVE_OR_LOCK, 10), (1, ADD_FOR_2, 3)),
+            ((0, REMOVE, 6), (1, GET_STATE, 5)),
+        ],
+    },
+    Row {
+        name: "container, a value of a dead owner",
+        kind: Kind::Container,
+        capacity: 1,
+        opening: &[(0, Call::Add(5, 1)), (0, Call::Dies(1))],
+        pairs: &[
+            ((0, RECOVER_OF_1, 13), (1, GET_STATE, 5)),
+            ((0, RECOVER_OR_LOCK, 17), (1, GET_STATE, 5)),
         ],
     },
 ];

@@ -3,6 +3,7 @@ use crate::replay::{PARTIES, Replay, Right, want};
 use crate::rows::{Begin, Call, Cut, ROWS, Row};
 use machine::Machine;
 use machine::event::Start;
+use machine::families::container::ContainerStart;
 use machine::families::indices::robust::RobustStart;
 use machine::party::Progress;
 use machine::turn::{Kind, Refusal, Turn};
@@ -53,6 +54,19 @@ fn turn_of(party: u32, call: &Call) -> Option<Turn<u128>> {
             Err(_) => return None,
         },
         Call::Recover(mode) => Start::Robust(RobustStart::Recover(mode)),
+        Call::Add(value, owner) => match OwnerId::new(owner) {
+            Ok(owner) => Start::Container(ContainerStart::Add(value, owner)),
+            Err(_) => return None,
+        },
+        Call::Remove(index, owner, mode) => match OwnerId::new(owner) {
+            Ok(owner) => Start::Container(ContainerStart::Remove(index, owner, mode)),
+            Err(_) => return None,
+        },
+        Call::RecoverOf(owner, mode) => match OwnerId::new(owner) {
+            Ok(owner) => Start::Container(ContainerStart::Recover(owner, mode)),
+            Err(_) => return None,
+        },
+        Call::GetState => Start::Container(ContainerStart::GetState),
         Call::Dies(owner) => match OwnerId::new(owner) {
             Ok(owner) => return Some(Turn::Die(owner)),
             Err(_) => return None,
@@ -205,5 +219,5 @@ fn a_stop_after_every_turn(rt: HostRuntime) {
         }
     }
     // Of a call of so many turns one more, twice, both ways round: counted by the table of docs/MODEL.md.
-    assert_eq!(rt; runs, 502);
+    assert_eq!(rt; runs, 668);
 }

@@ -12,7 +12,7 @@ use Rattle.model.specs.declared.party.Progress.{Progress}
 use Rattle.model.specs.declared.turn.Turn.{Turn}
 use Rattle.model.specs.declared.turn.Turn.TheVariants.{Begin, Next, Decide, Die}
 use Rattle.model.specs.Coding.{Coding}
-use Rattle.model.specs.Families.{first_of, want_of, ask_of, after_of}
+use Rattle.model.specs.Families.{first_of, want_of, ask_of, goes_of}
 use Rattle.model.specs.Promise.{Promise}
 use Rattle.model.specs.Reading.{whose}
 use Rattle.model.specs.Turns.{words_after, old_of, number_of}
@@ -78,10 +78,10 @@ module _ {T : Type 0} where
   GoesOn old (Next p) new =
       IfSome (flight_in old p)
       (λ flight. StandsAt new p
-      (after_of old.coding flight (old_of old.words (ask_of (want_of old.coding flight)))))
+      (goes_of old.coding p flight (old_of old.words (ask_of (want_of old.coding flight))) old.kept))
   GoesOn old (Decide p said) new =
       IfSome (flight_in old p)
-      (λ flight. StandsAt new p (after_of old.coding flight (number_of said)))
+      (λ flight. StandsAt new p (goes_of old.coding p flight (number_of said) old.kept))
   GoesOn old (Die owner) new = Unit {0}
 
   -- ---- the counts

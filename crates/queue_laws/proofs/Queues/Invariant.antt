@@ -48,7 +48,7 @@ pub record Queue (V : Type 0) : Type 0 where
   pub roles : Roles
   pub core : Core V
 
-abbrev pub Fit : {V : Type 0} → Kept → List ℕ → Queue V → Type 0
+abbrev pub Fit : {T V : Type 0} → Kept T → List ℕ → Queue V → Type 0
 Fit (kepts.TheVariants.Queues ro) words s = (words ≡ layout s.roles s.core) × (ro ≡ s.roles)
 Fit kept words s = ⊥
 

@@ -49,7 +49,7 @@ use Rattle.model.specs.declared.families.queues.QueueKind as kinds
 use Rattle.model.specs.declared.turn.Turn.{Turn}
 use Rattle.model.specs.declared.turn.Turn.TheVariants.{Next}
 use Rattle.model.specs.Coding.{Coding, IsCoding}
-use Rattle.model.specs.Families.{after_of, ask_of, beside_of, step_of}
+use Rattle.model.specs.Families.{ask_of, beside_of, step_of, goes_of}
 use Rattle.model.specs.Families.Queues.Book.{AnswersRight}
 use Rattle.model.specs.Families.Queues.Calls.{write_word, read_word, want, after, popped}
 use Rattle.model.specs.Families.Queues.Opening.{holds}
@@ -460,8 +460,8 @@ module _ {T : Type 0} (en : Coding T) (law : IsCoding en) (kd : QueueKind) (c : 
       in_order_from t p (promise kd) t.world.coding (layout s.state.roles s.state.core) (kepts.TheVariants.Queues s.state.roles) x.start flight is.1 is.0 (in_order x.start flight s.coding s.capacity is.1 (stands_there (family en kd c) t s p x since flight found doing))
 
 -- a call of a queue goes on as its table says
-told : {T : Type 0} (en z : Coding T) (kd : QueueKind) (c : ℕ) (words : List ℕ) (waits : Option (ℕ × ℕ)) (s : Queue (Val T kd)) (p : ℕ) (start : Start T) (flight : Flight T) (answer : ℕ) (kept : Kept) → Fit kept words s → (family en kd c).At s p start flight
-    → (step_of z words waits p start flight answer kept).after ≡ after_of z flight answer
+told : {T : Type 0} (en z : Coding T) (kd : QueueKind) (c : ℕ) (words : List ℕ) (waits : Option (ℕ × ℕ)) (s : Queue (Val T kd)) (p : ℕ) (start : Start T) (flight : Flight T) (answer : ℕ) (kept : Kept T) → Fit kept words s → (family en kd c).At s p start flight
+    → (step_of z words waits p start flight answer kept).after ≡ goes_of z p flight answer kept
 told y z kd c words waits s p (Queues start) (flights.TheVariants.Queues flight) answer (kepts.TheVariants.Queues roles) fit at = refl
 told y z kd c words waits s p (Queues start) (flights.TheVariants.Queues flight) answer held fit at = absurd fit
 told y z kd c words waits s p start flight answer held fit at = absurd at

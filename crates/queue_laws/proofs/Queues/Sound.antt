@@ -32,7 +32,7 @@ use Rattle.model.specs.declared.families.queues.QueueKind.TheVariants.{IndexQueu
 use Rattle.model.specs.declared.families.queues.QueueKind as kinds
 use Rattle.model.specs.declared.turn.Refusal.TheVariants.{NoRole}
 use Rattle.model.specs.Coding.{Coding, IsCoding, one_word}
-use Rattle.model.specs.Families.{opening_of, first_of, want_of, ask_of, is_question}
+use Rattle.model.specs.Families.{opening_of, first_of, want_of, ask_of, is_question, kept_after_begin}
 use Rattle.model.specs.Families.Queues.Calls.{acquire_of, release_of, first}
 use Rattle.model.specs.Families.Queues.Objects.{list_of}
 use Rattle.model.specs.Families.Queues.Opening.{cells_of, words_of_cell, lacks_role, call_of, kept_rows}
@@ -67,7 +67,7 @@ use Rattle.queue_laws.proofs.Ring.Knows.{push_at, pop_at, ring_number, PushAt, P
 use Rattle.queue_laws.proofs.Ring.Pops.{pop_step}
 use Rattle.queue_laws.proofs.Ring.Pushes.{push_step}
 
-pub kept_is : {V : Type 0} → (kept : Kept) (words : List ℕ) (s : Queue V) → Fit kept words s → (kept ≡ kepts.TheVariants.Queues s.roles) × (words ≡ layout s.roles s.core)
+pub kept_is : {T V : Type 0} → (kept : Kept T) (words : List ℕ) (s : Queue V) → Fit kept words s → (kept ≡ kepts.TheVariants.Queues s.roles) × (words ≡ layout s.roles s.core)
 kept_is (kepts.TheVariants.Queues ro) words s fit = (ap (λ r. kepts.TheVariants.Queues r) fit.1, fit.0)
 kept_is kept words s fit = absurd fit
 
@@ -279,7 +279,7 @@ module _ {T : Type 0} (en : Coding T) (law : IsCoding en) (kd : QueueKind) (c : 
       }
 
   pub begin_comes : (start : Start T) (flight : Flight T) → MayBegin t.world p start → first_of t.world.kind t.world.capacity start ≡ Some flight
-      → frame.Comes (family en kd c) t p t.world.kept t.world.words (party_at_begin start flight t.world.changes) (Begun p start ∷ []) t.world.changes
+      → frame.Comes (family en kd c) t p (kept_after_begin t.world.coding t.world.capacity start p t.world.kept) t.world.words (party_at_begin start flight t.world.changes) (Begun p start ∷ []) t.world.changes
   begin_comes (Queues start) (flights.TheVariants.Queues flight) may e =
       let is = kept_is t.world.kept t.world.words s.state s.fit in
       let rows : first_row (kept_rows start (kepts.TheVariants.Queues s.state.roles) p) ≡ None = subst (λ kept. first_row (kept_rows start kept p) ≡ None) is.0 may.rows in
@@ -306,7 +306,7 @@ empty_core en kd c = record { write = 0; read = 0; waiting = []; cells = replica
 abbrev empty_queue : {T : Type 0} → Coding T → (kd : QueueKind) → ℕ → Queue (Val T kd)
 empty_queue en kd c = record { roles = record { producer = None; consumer = None }; core = empty_core en kd c }
 
-opening_fits : {T : Type 0} → (en : Coding T) (kd : QueueKind) (c : ℕ) → Fit ((opening_of (machine_kind kd)).kept c) ((opening_of (machine_kind kd)).words en.size c) (empty_queue en kd c)
+opening_fits : {T : Type 0} → (en : Coding T) (kd : QueueKind) (c : ℕ) → Fit ((opening_of (machine_kind kd)).kept {T = T} c) ((opening_of (machine_kind kd)).words en.size c) (empty_queue en kd c)
 opening_fits en IndexQueue c = (refl, refl)
 opening_fits en kinds.TheVariants.Overflow c = (refl, refl)
 opening_fits en kinds.TheVariants.Queue c = (refl, refl)

@@ -123,7 +123,8 @@ pub fn call<'a>(
 }
 
 impl Line {
-    fn push_owner(&mut self, owner: OwnerId)
+    /// Writes an owner.
+    pub fn push_owner(&mut self, owner: OwnerId)
         requires { length self.old + 39 ≤ 256 }
         ensures text { self.new ≡ self.old ++ decimal owner }
         ensures short { length self.new ≤ length self.old + 39 }
@@ -131,7 +132,8 @@ impl Line {
         self.push_number(u128::from(owner.value()));
     }
 
-    fn push_owned(&mut self, index: u64, owner: OwnerId)
+    /// Writes an index and its owner.
+    pub fn push_owned(&mut self, index: u64, owner: OwnerId)
         requires { length self.old + 79 ≤ 256 }
         ensures text { self.new ≡ self.old ++ owned_text index owner }
         ensures short { length self.new ≤ length self.old + 79 }
@@ -202,10 +204,10 @@ pub fn print_call(line: &mut Line, start: &Start<u128>) -> bool
 
 /// The same of an answer.
 pub fn print_answer(line: &mut Line, answer: &Answer<u128>) -> bool
-    requires { length line.old + 80 ≤ 256 }
+    requires { length line.old + 60 ≤ 256 }
     ensures text { line.new ≡ line.old ++ unwrap_or (answer_text answer.now) [] }
     ensures own { result ≡ is_some (answer_text answer.now) }
-    ensures short { length line.new ≤ length line.old + 80 }
+    ensures short { length line.new ≤ length line.old + 60 }
 {
     match *answer {
         Answer::NotOwned(failure) => {

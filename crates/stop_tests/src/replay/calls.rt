@@ -2,9 +2,11 @@
 use machine::event::{Answer, Start};
 use machine::families::atomic::AtomicStart;
 use machine::families::bits::BitsStart;
+use machine::families::container::ContainerStart;
 use machine::families::indices::IndexStart;
 use machine::families::indices::robust::RobustStart;
 use machine::families::queues::QueueStart;
+use steps::container::enums::ContainerAddFailure;
 use steps::indices::enums::{ReleaseMode, ReleaseState, UniqueIndexSetAcquireFailure};
 
 #[derive(PartialEq, Drop)]
@@ -22,6 +24,10 @@ pub enum Name {
     AcquireFor,
     ReleaseOf,
     Recover,
+    Add,
+    Remove,
+    RecoverOf,
+    GetState,
     Other,
 }
 
@@ -101,6 +107,19 @@ fn robust_call(start: RobustStart) -> Called {
     }
 }
 
+fn container_call(start: ContainerStart<u128>) -> Called {
+    let keeps = ReleaseMode::Default;
+    match start {
+        ContainerStart::Add(_, owner) => of_owner(Name::Add, ANY, owner.value(), keeps),
+        ContainerStart::Remove(index, owner, mode) => {
+            of_owner(Name::Remove, index, owner.value(), mode)
+        }
+        ContainerStart::Recover(owner, mode) => of_owner(Name::RecoverOf, ANY, owner.value(), mode),
+        ContainerStart::GetState => of_owner(Name::GetState, ANY, ANY, keeps),
+        _ => named(Name::Other, ANY),
+    }
+}
+
 /// The call by name.
 pub fn call_of(start: &Start<u128>) -> Called {
     match start {
@@ -109,6 +128,7 @@ pub fn call_of(start: &Start<u128>) -> Called {
         Start::Bits(start) => bits_call(*start),
         Start::Indices(start) => index_call(*start),
         Start::Robust(start) => robust_call(*start),
+        Start::Container(start) => container_call(*start),
     }
 }
 
@@ -140,6 +160,13 @@ fn failure(failure: UniqueIndexSetAcquireFailure) -> Said {
     }
 }
 
+fn no_place(failure: ContainerAddFailure) -> Said {
+    match failure {
+        ContainerAddFailure::OutOfSpace => Said::OutOfIndices,
+        ContainerAddFailure::IsLocked => Said::IsLocked,
+    }
+}
+
 fn state(state: ReleaseState) -> Said {
     match state {
         ReleaseState::Locked => Said::Locked,
@@ -163,5 +190,7 @@ pub fn said_by(answer: &Answer<u128>) -> (Said, u64) {
         Answer::NoIndex(why) => (failure(*why), 0),
         Answer::State(is) => (state(*is), 0),
         Answer::NotOwned(_) => (Said::NotOwned, 0),
+        Answer::NoPlace(why) => (no_place(*why), 0),
+        Answer::NotRemoved(_) => (Said::NotOwned, 0),
     }
 }

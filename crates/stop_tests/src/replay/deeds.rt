@@ -55,10 +55,10 @@ impl Replay {
         }
     }
 
-    /// A call of this name puts something at a place where nothing stands, for this owner.
-    pub fn gives(&mut self, party: u32, name: Name, place: u64, owner: u64) -> Right {
+    /// A call of these names puts something at a place where nothing stands, for this owner.
+    pub fn gives(&mut self, party: u32, names: &[Name], place: u64, owner: u64) -> Right {
         want(
-            self.is_one(party, &[name], place, owner),
+            self.is_one(party, names, place, owner),
             "a call gives its own place",
         )?;
         want(
@@ -152,12 +152,12 @@ impl Replay {
 
     pub fn claim(&mut self, party: u32, index: u64) -> Right {
         want(!self.is_locked, "nothing is claimed once it is locked")?;
-        self.gives(party, Name::Acquire, index, 0)
+        self.gives(party, &[Name::Acquire], index, 0)
     }
 
     pub fn lock(&mut self, party: u32) -> Right {
         want(!self.is_locked, "the lock comes once")?;
-        let held = if self.kind == Kind::Robust {
+        let held = if self.kind != Kind::Indices {
             self.held
         } else {
             self.stands
@@ -175,11 +175,11 @@ impl Replay {
 
     pub fn fill(&mut self, party: u32, index: u64, owner: OwnerId) -> Right {
         want(self.dead != Some(owner), "nothing is filled for the dead")?;
-        self.gives(party, Name::AcquireFor, index, owner.value())
+        self.gives(party, &[Name::AcquireFor, Name::Add], index, owner.value())
     }
 
     pub fn grant(&mut self, party: u32, index: u64, owner: OwnerId) -> Right {
-        let is_acquire = self.is_one(party, &[Name::AcquireFor], index, owner.value());
+        let is_acquire = self.is_one(party, &[Name::AcquireFor, Name::Add], index, owner.value());
         want(is_acquire, "an acquire is granted for its owner")?;
         want(
             self.held & bit(index) == 0,
@@ -198,7 +198,12 @@ impl Replay {
     }
 
     pub fn free_of(&mut self, party: u32, index: u64, owner: OwnerId) -> Right {
-        if self.is_one(party, &[Name::Recover], index, owner.value()) {
+        if self.is_one(
+            party,
+            &[Name::Recover, Name::RecoverOf],
+            index,
+            owner.value(),
+        ) {
             let was_told = match self.spans.get(party as usize) {
                 Some(span) => span.told & bit(index) != 0 && span.owner == owner.value(),
                 None => false,
@@ -207,7 +212,12 @@ impl Replay {
         }
         self.takes(
             party,
-            &[Name::ReleaseOf, Name::Recover],
+            &[
+                Name::ReleaseOf,
+                Name::Recover,
+                Name::Remove,
+                Name::RecoverOf,
+            ],
             index,
             owner.value(),
         )
@@ -215,7 +225,12 @@ impl Replay {
 
     pub fn ask(&mut self, party: u32, index: u64, owner: OwnerId) -> Right {
         want(
-            self.is_one(party, &[Name::Recover], index, owner.value()),
+            self.is_one(
+                party,
+                &[Name::Recover, Name::RecoverOf],
+                index,
+                owner.value(),
+            ),
             "a recovery asks",
         )?;
         want(
@@ -232,7 +247,12 @@ impl Replay {
 
     pub fn tell(&mut self, party: u32, index: u64, owner: OwnerId) -> Right {
         want(
-            self.is_one(party, &[Name::Recover], index, owner.value()),
+            self.is_one(
+                party,
+                &[Name::Recover, Name::RecoverOf],
+                index,
+                owner.value(),
+            ),
             "a recovery is told",
         )?;
         want(

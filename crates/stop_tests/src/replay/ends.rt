@@ -30,6 +30,10 @@ pub enum Needs {
     IsGranted,
     /// The index is not its owner's.
     IsNotIts,
+    /// It was granted what it answers, and has placed its value there.
+    IsPlaced,
+    /// As many as it copied at most, and at least those whose value stood through all of it.
+    HasCopied,
     /// It has freed what it was told to, and asked about what stood through all of it.
     HasRecovered,
 }
@@ -37,7 +41,7 @@ pub enum Needs {
 /// A call and its answer: how much it has put and taken, what else has to be so, and how that is told.
 type End = (Name, Said, u64, u64, Needs, &'static str);
 
-const ENDS: [End; 30] = [
+const ENDS: [End; 39] = [
     (
         Name::Push,
         Said::True,
@@ -249,6 +253,78 @@ const ENDS: [End; 30] = [
         "a recovery asks about all, and frees what it was told to",
     ),
     (
+        Name::Add,
+        Said::Place,
+        1,
+        0,
+        Needs::IsPlaced,
+        "an add answers where it placed its value",
+    ),
+    (
+        Name::Add,
+        Said::OutOfIndices,
+        0,
+        0,
+        Needs::WereFilled,
+        "each was filled at a moment of the call",
+    ),
+    (
+        Name::Add,
+        Said::IsLocked,
+        ANY,
+        0,
+        Needs::IsLocked,
+        "IsLocked once it is locked",
+    ),
+    (
+        Name::Remove,
+        Said::Locked,
+        0,
+        1,
+        Needs::IsLocked,
+        "Locked once it is locked",
+    ),
+    (
+        Name::Remove,
+        Said::Unlocked,
+        0,
+        1,
+        Needs::WasFilled,
+        "Unlocked where another was filled since",
+    ),
+    (
+        Name::Remove,
+        Said::NotOwned,
+        0,
+        0,
+        Needs::IsNotIts,
+        "a remove fails where the index is not its owner's",
+    ),
+    (
+        Name::RecoverOf,
+        Said::Locked,
+        0,
+        ANY,
+        Needs::IsLocked,
+        "Locked once it is locked",
+    ),
+    (
+        Name::RecoverOf,
+        Said::Unlocked,
+        0,
+        ANY,
+        Needs::HasRecovered,
+        "a recovery asks about all, and frees what it was told to",
+    ),
+    (
+        Name::GetState,
+        Said::Number,
+        0,
+        0,
+        Needs::HasCopied,
+        "a state shows what stood throughout, and what was copied",
+    ),
+    (
         Name::Other,
         Said::True,
         0,
@@ -310,6 +386,10 @@ impl Replay {
             Needs::IsGranted => span.granted == 1 && span.number == number,
             Needs::IsNotIts => !self.is_filled(span.call.place, span.call.owner),
             Needs::HasRecovered => self.has_recovered(span),
+            Needs::IsPlaced => span.granted == 1 && span.placed == 1 && span.number == number,
+            Needs::HasCopied => {
+                places_in(span.stayed) <= number && number <= places_in(span.copied)
+            }
         }
     }
 

@@ -50,6 +50,26 @@ impl Replay {
         word(words, flags) == self.stands && says_locked(word(words, 0)) == self.is_locked
     }
 
+    /// Owners, whether it is locked, and behind the number of changes a number of each element, odd where a value stands,
+    /// and its words.
+    fn values_stand(&self, words: &[u64]) -> bool {
+        let mut stand = self.owners_stand(words) && (word(words, 0) == u64::MAX) == self.is_locked;
+        for (index, value) in self.values.iter().enumerate() {
+            if (index as u64) < self.capacity {
+                let count = (self.capacity as usize).wrapping_add(2).wrapping_add(index);
+                let first = (self.capacity as usize)
+                    .wrapping_add(count)
+                    .wrapping_add(index);
+                let is_odd = word(words, count) & 1 == 1;
+                let is_visible = self.visible & bit(index as u64) != 0;
+                let is_whole = word(words, first) == value.word(0)
+                    && word(words, first.wrapping_add(1)) == value.word(1);
+                stand &= is_odd == is_visible && (!is_visible || is_whole);
+            }
+        }
+        stand
+    }
+
     /// Whether the list by the acts is what waits, as far as the capacity.
     fn is_list(&self) -> bool {
         let mut is_list = self.list.len() <= self.capacity;
@@ -76,6 +96,7 @@ impl Replay {
             Kind::Bits => self.flags_stand(words),
             Kind::Counts => Some(&word(words, 0)) == self.numbers.first(),
             Kind::Indices => self.claims_stand(words),
+            Kind::Container => self.values_stand(words),
             Kind::Robust => {
                 self.owners_stand(words) && (word(words, 0) == u64::MAX) == self.is_locked
             }

@@ -51,11 +51,11 @@ module _ {T : Type 0} where
   abbrev pub call_rows : Option ℕ → ℕ → AtomicStart T → List (Bool × Refusal)
   call_rows producer p start = (lacks_role producer p start, NoRole) ∷ []
 
-  abbrev pub kept_rows : AtomicStart T → Kept → ℕ → List (Bool × Refusal)
+  abbrev pub kept_rows : AtomicStart T → Kept T → ℕ → List (Bool × Refusal)
   kept_rows start (kepts.TheVariants.Atomic producer) p = call_rows producer p start
   kept_rows start kept p = (true, WrongCall) ∷ []
 
-  abbrev pub begin : Kind → AtomicStart T → Beginning (Flight T) Kept
+  abbrev pub begin : Kind → AtomicStart T → Beginning (Flight T) (Kept T)
   begin kind start =
       record {
         call = option_map flights.TheVariants.Atomic (call_of kind start);

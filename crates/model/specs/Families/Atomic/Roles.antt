@@ -19,6 +19,6 @@ module _ {T : Type 0} where
   GrantsRight before e = Unit {0}
 
   -- the machine grants a store and a giving back to the party that holds the role by the events
-  abbrev pub KeepsHolder : Kept → List (Event T) → Type 0
+  abbrev pub KeepsHolder : Kept T → List (Event T) → Type 0
   KeepsHolder (kepts.TheVariants.Atomic producer) events = producer ≡ holder_of events
   KeepsHolder kept events = ⊥

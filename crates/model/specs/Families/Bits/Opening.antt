@@ -47,11 +47,11 @@ is_past capacity ResetAll = false
 abbrev pub call_rows : ℕ → BitsStart → List (Bool × Refusal)
 call_rows capacity start = (is_past capacity start, BadIndex) ∷ []
 
-abbrev pub kept_rows : ℕ → BitsStart → Kept → ℕ → List (Bool × Refusal)
+abbrev pub kept_rows : {T : Type 0} → ℕ → BitsStart → Kept T → ℕ → List (Bool × Refusal)
 kept_rows capacity start kepts.TheVariants.Nothing p = call_rows capacity start
 kept_rows capacity start kept p = (true, WrongCall) ∷ []
 
-abbrev pub begin : {T : Type 0} → Kind → ℕ → BitsStart → Beginning (Flight T) Kept
+abbrev pub begin : {T : Type 0} → Kind → ℕ → BitsStart → Beginning (Flight T) (Kept T)
 begin kind capacity start =
     record {
       call = option_map flights.TheVariants.Bits (first kind capacity start);

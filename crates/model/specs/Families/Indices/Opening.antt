@@ -57,13 +57,13 @@ call_rows capacity holders p Acquire = []
 call_rows capacity holders p BorrowedIndices = []
 call_rows capacity holders p IsLocked = []
 
-abbrev pub kept_rows : ℕ → IndexStart → Kept → ℕ → List (Bool × Refusal)
+abbrev pub kept_rows : {T : Type 0} → ℕ → IndexStart → Kept T → ℕ → List (Bool × Refusal)
 kept_rows capacity start (kepts.TheVariants.Indices holders) p =
     call_rows capacity holders p start
 kept_rows capacity start kept p = (true, WrongCall) ∷ []
 
 module _ {T : Type 0} where
-  abbrev pub begin : Kind → ℕ → IndexStart → Beginning (Flight T) Kept
+  abbrev pub begin : Kind → ℕ → IndexStart → Beginning (Flight T) (Kept T)
   begin kind capacity start =
       record {
         call = option_map flights.TheVariants.Indices (call_of kind capacity start);

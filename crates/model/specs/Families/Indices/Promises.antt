@@ -68,7 +68,7 @@ module _ {T : Type 0} where
   -- ---- what the words say, and what is kept beside them
 
   -- the machine lets that party give an index back which holds it by the events
-  abbrev pub KeepsHolders : Kept → List (Event T) → Type 0
+  abbrev pub KeepsHolders : Kept T → List (Event T) → Type 0
   KeepsHolders (kepts.TheVariants.Indices holders) events =
       (index : ℕ) → slice_index_or holders index None ≡ holder_of index events
   KeepsHolders kept events = ⊥

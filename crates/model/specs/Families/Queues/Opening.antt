@@ -82,11 +82,11 @@ module _ {T : Type 0} where
   abbrev pub call_rows : Roles → ℕ → QueueStart T → List (Bool × Refusal)
   call_rows roles p start = (lacks_role roles p start, NoRole) ∷ []
 
-  abbrev pub kept_rows : QueueStart T → Kept → ℕ → List (Bool × Refusal)
+  abbrev pub kept_rows : QueueStart T → Kept T → ℕ → List (Bool × Refusal)
   kept_rows start (kepts.TheVariants.Queues roles) p = call_rows roles p start
   kept_rows start kept p = (true, WrongCall) ∷ []
 
-  abbrev pub begin : Kind → ℕ → QueueStart T → Beginning (Flight T) Kept
+  abbrev pub begin : Kind → ℕ → QueueStart T → Beginning (Flight T) (Kept T)
   begin kind capacity start =
       record {
         call = option_map flights.TheVariants.Queues (call_of kind capacity start);

@@ -23,7 +23,7 @@ module _ {T : Type 0} where
   GrantsRight before e = Unit {0}
 
   -- the machine grants a push, a pop and a giving back to those that hold the role by the events
-  abbrev pub KeepsHolders : Kept → List (Event T) → Type 0
+  abbrev pub KeepsHolders : Kept T → List (Event T) → Type 0
   KeepsHolders (kepts.TheVariants.Queues roles) events =
       (roles.producer ≡ producer_of events) × (roles.consumer ≡ consumer_of events)
   KeepsHolders kept events = ⊥

@@ -17,7 +17,7 @@ use steps::words::Words;
 pub const CAPACITIES: (u64, u64) = (1, 1);
 
 /// The words of the single value at its opening. Nobody holds the producer's role.
-pub fn open<T: Words>(alloc: Global) -> Result<(Vec<u64>, Kept), AllocError>
+pub fn open<T: Words>(alloc: Global) -> Result<(Vec<u64>, Kept<T>), AllocError>
     ensures words { IfOk result
         (λ opened. opened.0.items ≡ opening.words ⟦<T as Coded>⟧.coding.size 1) }
     ensures kept { IfOk result (λ opened. opened.1 ≡ opening.kept 1) }

@@ -17,7 +17,7 @@ use steps::bits::flags::elements;
 pub const CAPACITIES: (u64, u64) = (0, u32::MAX as u64);
 
 /// The words of a bit set of this capacity at its opening. No bit stands.
-pub fn open_bits(alloc: Global, capacity: u32) -> Result<(Vec<u64>, Kept), AllocError>
+pub fn open_bits<T>(alloc: Global, capacity: u32) -> Result<(Vec<u64>, Kept<T>), AllocError>
     ensures words { IfOk result (λ opened. opened.0.items ≡ bits_words capacity) }
     ensures kept { IfOk result (λ opened. opened.1 ≡ Nothing) }
 {
@@ -28,7 +28,7 @@ pub fn open_bits(alloc: Global, capacity: u32) -> Result<(Vec<u64>, Kept), Alloc
 }
 
 /// The words of a counting bit set of this capacity at its opening. Each count is 0.
-pub fn open_counts(alloc: Global, capacity: u32) -> Result<(Vec<u64>, Kept), AllocError>
+pub fn open_counts<T>(alloc: Global, capacity: u32) -> Result<(Vec<u64>, Kept<T>), AllocError>
     ensures words { IfOk result (λ opened. opened.0.items ≡ counts_words capacity) }
     ensures kept { IfOk result (λ opened. opened.1 ≡ Nothing) }
 {

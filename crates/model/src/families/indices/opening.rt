@@ -23,7 +23,7 @@ fn flag_words(capacity: u32) -> usize
 }
 
 /// The words of a set of this capacity at its opening. Nobody holds an index.
-pub fn open(alloc: Global, capacity: u32) -> Result<(Vec<u64>, Kept), AllocError>
+pub fn open<T>(alloc: Global, capacity: u32) -> Result<(Vec<u64>, Kept<T>), AllocError>
     ensures words { IfOk result (λ opened. opened.0.items ≡ opening.words 0 capacity) }
     ensures kept { IfOk result (λ opened. opened.1 ≡ opening.kept capacity) }
 {

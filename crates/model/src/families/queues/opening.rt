@@ -42,7 +42,7 @@ pub fn open<T: Words>(
     alloc: Global,
     kind: QueueKind,
     capacity: u32,
-) -> Result<(Vec<u64>, Kept), AllocError>
+) -> Result<(Vec<u64>, Kept<T>), AllocError>
     ensures words { IfOk result
         (λ opened. opened.0.items ≡ (opening kind).words ⟦<T as Coded>⟧.coding.size capacity) }
     ensures kept { IfOk result (λ opened. opened.1 ≡ (opening kind).kept capacity) }

@@ -43,6 +43,6 @@ abbrev pub going_rows : List ℕ → RobustFlight → Option Bool → List (Bool
 going_rows dead flight said =
     (acts_for_dead dead flight, OwnerIsDead) ∷ (frees_living dead flight said, OwnerLives) ∷ []
 
-abbrev pub kept_going_rows : RobustFlight → Kept → Option Bool → List (Bool × Refusal)
+abbrev pub kept_going_rows : {T : Type 0} → RobustFlight → Kept T → Option Bool → List (Bool × Refusal)
 kept_going_rows flight (kepts.TheVariants.Owners dead) said = going_rows dead flight said
 kept_going_rows flight kept said = []

@@ -66,12 +66,12 @@ call_rows capacity dead (Recover mode) = []
 call_rows capacity dead BorrowedIndices = []
 call_rows capacity dead IsLocked = []
 
-abbrev pub kept_rows : ℕ → RobustStart → Kept → ℕ → List (Bool × Refusal)
+abbrev pub kept_rows : {T : Type 0} → ℕ → RobustStart → Kept T → ℕ → List (Bool × Refusal)
 kept_rows capacity start (kepts.TheVariants.Owners dead) p = call_rows capacity dead start
 kept_rows capacity start kept p = (true, WrongCall) ∷ []
 
 module _ {T : Type 0} where
-  abbrev pub begin : Kind → ℕ → RobustStart → Beginning (Flight T) Kept
+  abbrev pub begin : Kind → ℕ → RobustStart → Beginning (Flight T) (Kept T)
   begin kind capacity start =
       record {
         call = option_map flights.TheVariants.Robust (call_of kind capacity start);

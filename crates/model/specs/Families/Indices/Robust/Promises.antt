@@ -15,10 +15,11 @@ use Rattle.model.specs.declared.event.Answer.TheVariants.{NoIndex, State, NotOwn
 use Rattle.model.specs.declared.event.Event.{Event}
 use Rattle.model.specs.declared.event.Event.TheVariants.{Filled, Granted, FreedOf, Asked, Told, Locked, Died, Finished}
 use Rattle.model.specs.declared.event.Start.{Start}
-use Rattle.model.specs.declared.event.Start.TheVariants.{Robust}
+use Rattle.model.specs.declared.event.Start.TheVariants.{Robust, Container}
 use Rattle.model.specs.declared.families.Flight.{Flight}
 use Rattle.model.specs.declared.families.Kept.{Kept}
 use Rattle.model.specs.declared.families.Kept as kepts
+use Rattle.model.specs.declared.families.container.ContainerStart.TheVariants.{Remove}
 use Rattle.model.specs.declared.families.indices.robust.RobustStart.TheVariants.{Acquire, Release, Find, Recover, BorrowedIndices, IsLocked}
 use Rattle.model.specs.declared.turn.Turn.{Turn}
 use Rattle.model.specs.declared.turn.Turn.TheVariants.{Decide}
@@ -79,6 +80,8 @@ module _ {T : Type 0} where
   abbrev pub LivesToRelease : ℕ → List (Event T) → Span T → Type 0
   LivesToRelease owner before (Open (Robust (Release i o mode)) wrote) =
       is_dead owner before ≡ false
+  LivesToRelease owner before (Open (Container (Remove i o mode)) wrote) =
+      is_dead owner before ≡ false
   LivesToRelease owner before span = Unit {0}
 
   -- An index of the set is filled where it is not, and granted, for an owner who lives. It is freed
@@ -106,10 +109,13 @@ module _ {T : Type 0} where
 
   -- ---- holders, in a proper run
 
-  -- A release that frees was begun where its index might be given back for its owner: the acquire
-  -- that was granted it had finished, and no other release of it for that owner had begun since.
+  -- A release or a remove that frees was begun where its index might be given back for its owner: the
+  -- acquire or the add that was granted it had finished, and no other release or remove of it for that
+  -- owner had begun since.
   abbrev pub MayGiveBack : ℕ → ℕ → List (Event T) → Span T → Type 0
   MayGiveBack p index before (Open (Robust (Release i owner mode)) wrote) =
+      SinceBegin p (λ part since. settled_of index part ≡ Some owner) before
+  MayGiveBack p index before (Open (Container (Remove i owner mode)) wrote) =
       SinceBegin p (λ part since. settled_of index part ≡ Some owner) before
   MayGiveBack p index before span = Unit {0}
 
@@ -194,7 +200,7 @@ module _ {T : Type 0} where
   -- ---- what the words say, and what is kept beside them
 
   -- the machine refuses as dead whoever has died by the events
-  abbrev pub KeepsDead : Kept → List (Event T) → Type 0
+  abbrev pub KeepsDead : Kept T → List (Event T) → Type 0
   KeepsDead (kepts.TheVariants.Owners dead) events =
       (owner : ℕ) → has_died owner dead ≡ is_dead owner events
   KeepsDead kept events = ⊥

@@ -5,7 +5,8 @@ use Rattle.model.specs.declared.event.Answer.TheVariants.{Index}
 use Rattle.model.specs.declared.event.Event.{Event}
 use Rattle.model.specs.declared.event.Event as events
 use Rattle.model.specs.declared.event.Event.TheVariants.{Begun, Filled, Granted, FreedOf, Asked, Told, Died, Finished}
-use Rattle.model.specs.declared.event.Start.TheVariants.{Robust}
+use Rattle.model.specs.declared.event.Start.TheVariants.{Robust, Container}
+use Rattle.model.specs.declared.families.container.ContainerStart.TheVariants.{Add, Remove}
 use Rattle.model.specs.declared.families.indices.robust.RobustStart.TheVariants.{Acquire, Release}
 use Rattle.model.specs.Reading.{Span, Never, Open, Ended, span_of}
 
@@ -35,12 +36,16 @@ module _ {T : Type 0} where
   abbrev pub holder_of : ℕ → List (Event T) → Option ℕ
   holder_of i events = fold (holder_after i) None events
 
-  -- It may be given back for an owner once the acquire that was granted it has finished, until a
-  -- release of it for that owner begins.
+  -- It may be given back for an owner once the acquire or the add that was granted it has finished,
+  -- until a release or a remove of it for that owner begins.
   abbrev pub settled_after : ℕ → Option ℕ → Event T → Option ℕ
   settled_after i owner (Finished p (Robust (Acquire o)) (Index index)) =
       if index == i then Some o else owner
+  settled_after i owner (Finished p (Container (Add value o)) (Index index)) =
+      if index == i then Some o else owner
   settled_after i owner (Begun p (Robust (Release index o mode))) =
+      if index == i then without o owner else owner
+  settled_after i owner (Begun p (Container (Remove index o mode))) =
       if index == i then without o owner else owner
   settled_after i owner (FreedOf p index o) = if index == i then None else owner
   settled_after i owner e = owner

@@ -1,7 +1,7 @@
 //! What a step of a call of the robust index set writes down.
 ghost use Rattle.std.specs.Prelude.{◌≡◌, ◌+◌, ◌≤◌, ◌++◌, vec_len, vec_capacity, option_to_list};
 ghost use Rattle.steps.specs.Ask.{CameTo};
-ghost use Rattle.model.specs.Families.Indices.Robust.Steps.{acquire_effects, release_effects, recover_effects, effects, locked_by, step};
+ghost use Rattle.model.specs.Families.Indices.Robust.Steps.{freed, acquire_effects, release_effects, recover_effects, effects, locked_by, step};
 
 use super::calls::RobustFlight;
 use super::dead::Dead;
@@ -19,7 +19,7 @@ use steps::indices::robust::release::{GiveBack, ReleaseStage};
 pub const MOST_EFFECTS: usize = 1;
 
 /// What the step of a lock does from this answer.
-fn locked_by<T>(number: u32, lock: Lock, answer: u64) -> Option<Event<T>>
+pub fn locked_by<T>(number: u32, lock: Lock, answer: u64) -> Option<Event<T>>
     ensures { option_to_list result ≡ locked_by number lock answer }
 {
     match lock {
@@ -34,8 +34,19 @@ fn locked_by<T>(number: u32, lock: Lock, answer: u64) -> Option<Event<T>>
     }
 }
 
+/// What the exchange of a cell from this owner to empty does.
+pub fn freed<T>(number: u32, index: u32, owner: OwnerId, answer: u64) -> Option<Event<T>>
+    ensures { option_to_list result ≡ freed number index owner answer }
+{
+    if answer == owner.value() {
+        Some(Event::FreedOf(number, index, owner))
+    } else {
+        None
+    }
+}
+
 /// What the step of an acquire at this stage does from this answer.
-fn acquire_effect<T>(
+pub fn acquire_effect<T>(
     number: u32,
     owner: OwnerId,
     stage: AcquireStage,
@@ -60,7 +71,7 @@ fn acquire_effect<T>(
 }
 
 /// The same of a release.
-fn release_effect<T>(
+pub fn release_effect<T>(
     number: u32,
     given: GiveBack,
     stage: ReleaseStage,
@@ -69,13 +80,7 @@ fn release_effect<T>(
     ensures { option_to_list result ≡ release_effects number given stage answer }
 {
     match stage {
-        ReleaseStage::EmptiesCell => {
-            if answer == given.owner.value() {
-                Some(Event::FreedOf(number, given.index, given.owner))
-            } else {
-                None
-            }
-        }
+        ReleaseStage::EmptiesCell => freed(number, given.index, given.owner, answer),
         ReleaseStage::Raises { .. } => None,
         ReleaseStage::Locks { lock } => locked_by(number, lock, answer),
     }
@@ -97,13 +102,7 @@ fn recover_effect<T>(number: u32, stage: RecoverStage, answer: u64) -> Option<Ev
                 Some(Event::Told(number, index, owner))
             }
         }
-        RecoverStage::EmptiesCell { index, owner } => {
-            if answer == owner.value() {
-                Some(Event::FreedOf(number, index, owner))
-            } else {
-                None
-            }
-        }
+        RecoverStage::EmptiesCell { index, owner } => freed(number, index, owner, answer),
         RecoverStage::Locks { lock, .. } => locked_by(number, lock, answer),
         _ => None,
     }

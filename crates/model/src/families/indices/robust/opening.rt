@@ -18,7 +18,7 @@ use steps::indices::robust::recover::RecoverStage;
 pub const CAPACITIES: (u64, u64) = (1, 0xffff_ffff);
 
 /// The words of a set of this capacity at its opening. Nobody has died.
-pub fn open(alloc: Global, capacity: u32) -> Result<(Vec<u64>, Kept), AllocError>
+pub fn open<T>(alloc: Global, capacity: u32) -> Result<(Vec<u64>, Kept<T>), AllocError>
     ensures words { IfOk result (λ opened. opened.0.items ≡ opening.words 0 capacity) }
     ensures kept { IfOk result (λ opened. opened.1 ≡ opening.kept capacity) }
 {

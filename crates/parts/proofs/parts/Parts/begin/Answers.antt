@@ -33,6 +33,13 @@ returns-in_default-clause-refused g c =
     let free : is_some (flight_in w c.args.number) ≡ false = none_found c.flight_of.result (flight_in w c.args.number) c.flight_of.ensures c.if-is_some.ensures in
     inr (begin_passes w c.args.number c.args.start c.requires within free c.in_ok-flight.ensures.allowed, refl)
 
+pub returns-then-not-enter-clause-refused : goal.returns-then-not-enter-clause-refused
+returns-then-not-enter-clause-refused g c =
+    let w = (trace_of (coding_of g.T.Words.WORDS g.T.Words.words_of g.T.Words.value_of) c.args.self.now).world in
+    let within : c.args.number < c.args.self.now.parties = omega arith in
+    let free : is_some (flight_in w c.args.number) ≡ false = none_found c.flight_of.result (flight_in w c.args.number) c.flight_of.ensures c.if-is_some.ensures in
+    inr (begin_passes w c.args.number c.args.start c.requires within free c.in_ok-flight.ensures.allowed, refl)
+
 pub returns-then-number-self-clause-refused : goal.returns-then-number-self-clause-refused
 returns-then-number-self-clause-refused g c =
     let w = (trace_of (coding_of g.T.Words.WORDS g.T.Words.words_of g.T.Words.value_of) c.args.self.now).world in

@@ -13,14 +13,14 @@ one_more (suc n) a =
     ap (λ l. a ∷ l) (one_more n (a + 1) ∙ ap (λ x. range_with_len (a + 1) n ++ x ∷ []) e)
 
 pub push_reserved-requires-in-loop-index : goal.push_reserved-requires-in-loop-index
-push_reserved-requires-in-loop-index c =
+push_reserved-requires-in-loop-index g c =
     let len = c.loop-index.invariant.1 in
     let room = c.loop-index.invariant.2 in
     let below = c.loop-index-test.true in
     omega arith
 
 pub loop-index-preserved : goal.loop-index-preserved
-loop-index-preserved c =
+loop-index-preserved g c =
     let len = c.loop-index.invariant.1 in
     let room = c.loop-index.invariant.2 in
     let next : c.loop-index.index + 1 ≡ 1 + c.loop-index.index = omega arith in
@@ -32,7 +32,7 @@ loop-index-preserved c =
     (here ∙ ap (λ ws. 0 ∷ ws) (sym grown), omega arith, omega arith)
 
 pub returns-clause-words : goal.returns-clause-words
-returns-clause-words c =
+returns-clause-words g c =
     let end : c.loop-index.index ≡ c.args.capacity = omega arith in
     let len = c.loop-index.invariant.1 in
     let size = 1 + c.args.capacity + c.flag_words-flags.result in

@@ -1,0 +1,83 @@
+-- The words of a container behind its set's: the change counter, an element count an index, and the data words of each
+-- element, z words each. What a store to one of them leaves of the others. No event and no party is in it.
+use Rattle.std.proofs.Common.{◌≡◌, ◌≢◌, ℕ, ◌+◌, ◌*◌, ◌<◌, ◌≤◌, ⊎_elim, List, length, get_or, set, arith, get_or-set_same, get_or-set_other}
+use Rattle.std.proofs.lemmas.Bool.{cases_lt}
+use Rattle.std.proofs.Math.Nat.{mul-le-mul_left}
+use Rattle.steps.specs.Container.Layout.{change_word, count_word, element_word}
+
+abbrev pub change_at : ℕ → List ℕ → ℕ
+change_at c words = get_or words (change_word c) 0
+
+abbrev pub count_at : ℕ → List ℕ → ℕ → ℕ
+count_at c words i = get_or words (count_word c i) 0
+
+abbrev pub datum_at : ℕ → ℕ → List ℕ → ℕ → ℕ → ℕ
+datum_at c z words i j = get_or words (element_word c z i j) 0
+
+-- the words of different elements are different
+places_apart : (z a b i j : ℕ) → i < z → j < z → a ≢ b → z * a + i ≢ z * b + j
+places_apart z a b i j is js ne e = ⊎_elim less more (cases_lt a b)
+  where
+    less : a < b → ⊥
+    less h = let step : z * (a + 1) ≤ z * b = mul-le-mul_left z (omega arith) in absurd (omega arith)
+
+    more : b ≤ a → ⊥
+    more h =
+        let before : b < a = omega arith in
+        let step : z * (b + 1) ≤ z * a = mul-le-mul_left z (omega arith) in
+        absurd (omega arith)
+
+-- a data word of an element is one of the words
+pub data_within : (c z i j : ℕ) → i < c → j < z → element_word c z i j < 2 + (c + c) + z * c
+data_within c z i j below js = let step : z * (i + 1) ≤ z * c = mul-le-mul_left z (omega arith) in omega arith
+
+module _ (c z : ℕ) (words : List ℕ) where
+  -- ---- a data word changes
+
+  module _ (i k x : ℕ) where
+    abbrev stored : List ℕ
+    stored = set words (element_word c z i k) x
+
+    pub counts_stay : (j : ℕ) → j < c → count_at c stored j ≡ count_at c words j
+    counts_stay j below = get_or-set_other words (element_word c z i k) (count_word c j) x 0 (λ e. absurd (omega arith))
+
+    pub datum_set : element_word c z i k < length words → datum_at c z stored i k ≡ x
+    datum_set within = get_or-set_same words (element_word c z i k) x 0 within
+
+    pub datum_before : (j : ℕ) → j < k → datum_at c z stored i j ≡ datum_at c z words i j
+    datum_before j less = get_or-set_other words (element_word c z i k) (element_word c z i j) x 0 (λ e. absurd (omega arith))
+
+    pub data_stay : (a j : ℕ) → a ≢ i → j < z → k < z → datum_at c z stored a j ≡ datum_at c z words a j
+    data_stay a j other js ks =
+        let apart : z * a + j ≢ z * i + k = places_apart z a i j k js ks other in
+        get_or-set_other words (element_word c z i k) (element_word c z a j) x 0 (λ e. apart (omega arith))
+
+  -- ---- an element count changes
+
+  module _ (i n : ℕ) where
+    abbrev counted : List ℕ
+    counted = set words (count_word c i) n
+
+    pub count_set : count_word c i < length words → count_at c counted i ≡ n
+    count_set within = get_or-set_same words (count_word c i) n 0 within
+
+    pub count_stays : (j : ℕ) → j ≢ i → count_at c counted j ≡ count_at c words j
+    count_stays j ne = get_or-set_other words (count_word c i) (count_word c j) n 0 (λ e. ne (omega arith))
+
+    pub data_all_stay : (a j : ℕ) → i < c → datum_at c z counted a j ≡ datum_at c z words a j
+    data_all_stay a j below = get_or-set_other words (count_word c i) (element_word c z a j) n 0 (λ e. absurd (omega arith))
+
+  -- ---- the number of changes
+
+  module _ (n : ℕ) where
+    abbrev changed : List ℕ
+    changed = set words (change_word c) n
+
+    pub change_set : change_word c < length words → change_at c changed ≡ n
+    change_set within = get_or-set_same words (change_word c) n 0 within
+
+    pub changes_no_count : (j : ℕ) → count_at c changed j ≡ count_at c words j
+    changes_no_count j = get_or-set_other words (change_word c) (count_word c j) n 0 (λ e. absurd (omega arith))
+
+    pub changes_no_datum : (a j : ℕ) → datum_at c z changed a j ≡ datum_at c z words a j
+    changes_no_datum a j = get_or-set_other words (change_word c) (element_word c z a j) n 0 (λ e. absurd (omega arith))

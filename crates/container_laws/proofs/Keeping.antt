@@ -1,0 +1,373 @@
+-- What a call of the container knows it knows still after any turn of another party.
+use Rattle.std.proofs.Common.{◌≡◌, ⊎_elim, inl, inr, ℕ, ◌+◌, ◌%◌, ◌<◌, ◌≤◌, Bool, false, true, is_some, List, [], ◌∷◌, ◌++◌, fold, refl, sym, ap, subst, ◌∙◌, arith}
+use Rattle.std.proofs.lemmas.List.Sums.{fold-append}
+use Rattle.steps.specs.declared.container.add.AddStage.{AddStage}
+use Rattle.steps.specs.declared.container.add.AddStage as adds
+use Rattle.steps.specs.declared.container.find.FindStage.{FindStage}
+use Rattle.steps.specs.declared.container.find.FindStage as finds
+use Rattle.steps.specs.declared.container.look.LookStage.{LookStage}
+use Rattle.steps.specs.declared.container.look.LookStage as looks
+use Rattle.steps.specs.declared.container.recover.RecoverStage.{RecoverStage}
+use Rattle.steps.specs.declared.container.recover.RecoverStage as recovers
+use Rattle.steps.specs.declared.container.remove.RemoveStage.{RemoveStage}
+use Rattle.steps.specs.declared.container.remove.RemoveStage as removes
+use Rattle.steps.specs.declared.container.replace.ReplaceStage.{ReplaceStage}
+use Rattle.steps.specs.declared.container.replace.ReplaceStage as replaces
+use Rattle.steps.specs.declared.container.state.ContainerState.{ContainerState}
+use Rattle.steps.specs.declared.copied.Kept as rooms
+use Rattle.steps.specs.declared.indices.enums.ReleaseMode.{ReleaseMode}
+use Rattle.steps.specs.declared.indices.enums.ReleaseMode.TheVariants.{LockIfLastIndex, Default}
+use Rattle.steps.specs.declared.indices.enums.ReleaseState.{ReleaseState}
+use Rattle.steps.specs.declared.indices.enums.ReleaseState as states
+use Rattle.steps.specs.declared.indices.robust.release.ReleaseStage.{ReleaseStage}
+use Rattle.steps.specs.declared.indices.robust.release.ReleaseStage as releases
+use Rattle.model.specs.declared.event.Event.{Event}
+use Rattle.model.specs.declared.event.Event.TheVariants.{Locked}
+use Rattle.model.specs.declared.families.container.calls.ContainerFlight.{ContainerFlight}
+use Rattle.model.specs.declared.families.container.calls.ContainerFlight.TheVariants.{Add, Remove, Replace, Find, Recover, Look, Count, IsLocked}
+use Rattle.model.specs.declared.party.Party.{Party}
+use Rattle.model.specs.Coding.{Coding}
+use Rattle.model.specs.Families.Container.Promises.{StandsProper, WasShown, HasRecovered}
+use Rattle.model.specs.Families.Container.Reading.{MayReplace, Sees, Has, acts, acts_of, places, contents_of}
+use Rattle.model.specs.Families.Container.States.{state_of}
+use Rattle.model.specs.Families.Indices.Reading.{locked_after, is_locked}
+use Rattle.model.specs.Families.Indices.Robust.Promises.{IsFilledWith, IsUnlocked, FilledSinceFreed, StillToFree}
+use Rattle.model.specs.Families.Indices.Robust.Reading.{Asks, Yes, deeds_of, wrote_in, IsOneOf}
+use Rattle.model.specs.Families.Queues.Calls.{read_in}
+use Rattle.model.specs.Moments.{HeldOnce}
+use Rattle.model.specs.Parties.{party_of}
+use Rattle.model.specs.Reading.{span_of}
+use Rattle.model.proofs.Moments.{held_later}
+use Rattle.robust_laws.proofs.Counting.{count_later}
+use Rattle.robust_laws.proofs.Knows.{Goes, Spares, IsSeen, knows_later, held_paid, still_scanned}
+use Rattle.robust_laws.proofs.Knows as set
+use Rattle.robust_laws.proofs.Past.{through_less, through_now}
+use Rattle.robust_laws.proofs.Standing.{acquire_at, release_at, borrowed_at, looking}
+use Rattle.container_laws.proofs.Contents.{writes_on}
+use Rattle.container_laws.proofs.Knows.{View, of_set, now, IsPaid, Dead, Lives, AddOwns, HasFound, ReplaceKnows, Covers, Writes, HasPlaced, Stood, AddKnows, ReplacesKnow, RemoveSays, HasLeft, ReleaseLeft, RemoveKnows, Copying, CheckPaid, HasFoundBelow, Finds, Steady, FindKnows, AskedBelow, GoneBut, Recovers, RecoverSays, RecoverKnows, Looks, LookCopies, LookRests, LookKnows, Knows}
+use Rattle.container_laws.proofs.Replaces.{ReplaceOwns, replace_later, add_later}
+use Rattle.container_laws.proofs.Sights.{StoodThere, copied_later, rests_later, course_later}
+use Rattle.container_laws.proofs.Turns.{Now, Proper, count_in, Passes, Leaves}
+use Rattle.container_laws.proofs.Writers.{Replacing, IsWriter}
+
+module _ {T : Type 0} where
+  -- what is locked stays so
+  shut_on : (b : Bool) (es : List (Event T)) → b ≡ true → fold locked_after b es ≡ true
+  shut_on b [] h = h
+  shut_on b (Locked p ∷ es) h = shut_on true es refl
+  shut_on b (e ∷ es) h = shut_on b es h
+
+  pub shut_later : (events es : List (Event T)) → is_locked events ≡ true → is_locked (events ++ es) ≡ true
+  shut_later events es h = fold-append locked_after false events es ∙ shut_on (is_locked events) es h
+
+  -- a replace that has taken a step was begun rightly, in a proper run
+  pub may_replace : (index owner : ℕ) (value : T) (v : View T) → HasFound index owner value v → Proper (now v) → MayReplace v.party index owner v.events
+  may_replace index owner value v h proper =
+      subst (λ o. StandsProper v.party o v.events) h.found (proper.replaces v.party) index owner value h.wrote h.span h.steps
+
+  pub replacing : (c index owner : ℕ) (value : T) (v : View T) → ReplaceKnows c index owner value v → Proper (now v) → Lives owner v → Replacing v.party index owner v.events
+  replacing c index owner value v h proper alive = h.owns proper.frees alive (may_replace index owner value v h.found proper)
+
+module _ {T : Type 0} (code : Coding T) (c : ℕ) (v : View T) (words' : List ℕ) (states' : List (ℕ × ContainerState T)) (latest' : List (ℕ × Party T)) (es : List (Event T)) (changes' : ℕ)
+    (goes : Goes v.words words' v.events es) (spares : Spares v.party v.events es) (seen : IsSeen v.words words' v.changes changes')
+    (passes : Passes code c (now v) (record { words = words'; latest = latest'; events = v.events ++ es })) (leaves : Leaves code c v.party (now v) (record { words = words'; latest = latest'; events = v.events ++ es }))
+    (span : span_of v.party (v.events ++ es) ≡ span_of v.party v.events) (same_party : party_of v.party latest' ≡ party_of v.party v.latest) (same_state : state_of v.party states' ≡ state_of v.party v.states) where
+  abbrev pub later : View T
+  later =
+      record {
+        words = words';
+        states = states';
+        latest = latest';
+        events = v.events ++ es;
+        party = v.party;
+        since = v.since;
+        changes = changes';
+        backs = v.backs;
+      }
+
+  abbrev q : ℕ
+  q = v.party
+
+  abbrev events : List (Event T)
+  events = v.events
+
+  paid : IsPaid v → IsPaid later
+  paid h = ⊎_elim (λ s. let same = s.1 in omega arith) (λ more. omega arith) seen
+
+  check_paid : (index count : ℕ) → CheckPaid code c index count v → CheckPaid code c index count later
+  check_paid index count h = ⊎_elim still (λ more. inr (⊎_elim (λ k. let was = k.1 in omega arith) (λ k. omega arith) h)) seen
+    where
+      still : (words' ≡ v.words) × (changes' ≡ v.changes) → CheckPaid code c index count later
+      still s =
+          let same = s.1 in
+          ⊎_elim (λ k. let was = k.1 in inl (ap (λ ws. count_in code c (record { words = ws; latest = v.latest; events = events }) index) s.0 ∙ k.0, omega arith)) (λ k. inr (omega arith)) h
+
+  lives : (owner : ℕ) → Lives owner later → Lives owner v
+  lives owner alive = goes.lives owner alive
+
+  set_knows : (flight : _) → set.Knows c flight (of_set v) → set.Knows c flight (of_set later)
+  set_knows flight h = knows_later v.words words' events es q v.since v.changes changes' v.backs goes spares seen c flight h
+
+  once : (P : List (Event T) → Type 0) → HeldOnce q P events → HeldOnce q P (events ++ es)
+  once P h = held_later q P events es spares.none h
+
+  acts_same : acts_of q (events ++ es) ≡ acts_of q events
+  acts_same = ap (λ s. acts (wrote_in s)) span
+
+  deeds_same : deeds_of q (events ++ es) ≡ deeds_of q events
+  deeds_same = spares.deeds
+
+  -- ---- a writer
+
+  add_owns : (owner index : ℕ) → AddOwns c owner index v → AddOwns c owner index later
+  add_owns owner index h =
+      record { paid = paid h.paid; within = h.within; owns = add_later v.words words' events es q index owner goes spares h.owns }
+
+  found : (index owner : ℕ) (value : T) → HasFound index owner value v → HasFound index owner value later
+  found index owner value h =
+      record { party = h.party; found = same_party ∙ h.found; steps = h.steps; wrote = h.wrote; span = span ∙ h.span }
+
+  replace_owns : (index owner : ℕ) → ReplaceOwns q index owner events → ReplaceOwns q index owner (events ++ es)
+  replace_owns index owner h = replace_later v.words words' events es q index owner goes spares h
+
+  replace_knows : (index owner : ℕ) (value : T) → ReplaceKnows c index owner value v → ReplaceKnows c index owner value later
+  replace_knows index owner value h =
+      record { paid = paid h.paid; within = h.within; owns = replace_owns index owner h.owns; found = found index owner value h.found; filled = once (IsFilledWith owner index) h.filled }
+
+  -- it writes at the index
+  abbrev IsTheWriter : ℕ → ℕ → Type 0
+  IsTheWriter owner index = Proper (now v) → Lives owner v → IsWriter q index owner events
+
+  adds_write : (owner index : ℕ) → AddOwns c owner index v → IsTheWriter owner index
+  adds_write owner index h proper alive = inl (h.owns proper.frees alive)
+
+  replaces_write : (owner index : ℕ) (value : T) → ReplaceKnows c index owner value v → IsTheWriter owner index
+  replaces_write owner index value h proper alive = inr (replacing c index owner value v h proper alive)
+
+  covers : (owner index count : ℕ) → index < c → IsTheWriter owner index → Covers code c owner index count v → Covers code c owner index count later
+  covers owner index count below writer h proper alive =
+      let before = passes.proper proper in
+      let mine = writer before (lives owner alive) in
+      ⊎_elim
+      (λ e. ⊎_elim (λ same. inl (same ∙ e)) (λ even. inr even) (leaves.over proper index owner below (lives owner alive) mine))
+      (λ even. inr (ap (λ n. n % 2) (leaves.under proper index owner below (lives owner alive) mine even).0 ∙ even))
+      (h before (lives owner alive))
+
+  writes : (owner index : ℕ) (value : T) (k : ℕ) → index < c → IsTheWriter owner index → Writes code c owner index value k v → Writes code c owner index value k later
+  writes owner index value k below writer h =
+      record {
+        few = h.few;
+        has = λ proper alive.
+            let before = passes.proper proper in
+            let w = h.has before (lives owner alive) in
+            let same = leaves.under proper index owner below (lives owner alive) (writer before (lives owner alive)) w.even in
+            writes_on code c v.words words' index value k h.few same.0 same.1 w;
+      }
+
+  placed : (index : ℕ) (value : T) → HasPlaced code c index value v → HasPlaced code c index value later
+  placed index value h proper = ap (λ a. places a) acts_same ∙ h (passes.proper proper)
+
+  stood : (owner index : ℕ) → index < c → IsTheWriter owner index → Stood code c owner index v → Stood code c owner index later
+  stood owner index below writer h proper alive =
+      let before = passes.proper proper in
+      let k = h before (lives owner alive) in
+      leaves.placed proper index owner below (lives owner alive) (writer before (lives owner alive)) k.0 k.1
+
+  add_knows : (value : T) (owner : ℕ) (stage : AddStage) → AddKnows code c value owner stage v → AddKnows code c value owner stage later
+  add_knows value owner (adds.TheVariants.Acquires stage) h = set_knows (acquire_at c owner stage) h
+  add_knows value owner (adds.TheVariants.LoadsCount index) h = add_owns owner index h
+  add_knows value owner (adds.TheVariants.Hides index count) h = (add_owns owner index h.0, covers owner index count h.0.within (adds_write owner index h.0) h.1)
+  add_knows value owner (adds.TheVariants.Stores index at) h = (add_owns owner index h.0, writes owner index value at h.0.within (adds_write owner index h.0) h.1)
+  add_knows value owner (adds.TheVariants.AddsCount index) h = (add_owns owner index h.0, writes owner index value code.size h.0.within (adds_write owner index h.0) h.1)
+  add_knows value owner (adds.TheVariants.AddsChange index) h = (add_owns owner index h.0, placed index value h.1, stood owner index h.0.within (adds_write owner index h.0) h.2)
+
+  replaces_know : (index : ℕ) (value : T) (owner : ℕ) (stage : ReplaceStage) → ReplacesKnow code c index value owner stage v → ReplacesKnow code c index value owner stage later
+  replaces_know index value owner replaces.TheVariants.Refuses h = paid h
+  replaces_know index value owner replaces.TheVariants.LoadsCell h = (paid h.0, replace_owns index owner h.1)
+  replaces_know index value owner replaces.TheVariants.LoadsCount h = replace_knows index owner value h
+  replaces_know index value owner (replaces.TheVariants.Hides count) h = (replace_knows index owner value h.0, covers owner index count h.0.within (replaces_write owner index value h.0) h.1)
+  replaces_know index value owner (replaces.TheVariants.Stores at) h = (replace_knows index owner value h.0, writes owner index value at h.0.within (replaces_write owner index value h.0) h.1)
+  replaces_know index value owner replaces.TheVariants.AddsCount h = (replace_knows index owner value h.0, writes owner index value code.size h.0.within (replaces_write owner index value h.0) h.1)
+  replaces_know index value owner replaces.TheVariants.AddsChange h = (replace_knows index owner value h.0, placed index value h.1, stood owner index h.0.within (replaces_write owner index value h.0) h.2)
+
+  -- ---- a remove
+
+  freed_later : (owner index : ℕ) → FilledSinceFreed q owner index events → FilledSinceFreed q owner index (events ++ es)
+  freed_later owner index h = record { other = h.other; once = once _ h.once }
+
+  remove_says : (index owner : ℕ) (mode : ReleaseMode) (state : ReleaseState) → RemoveSays code c index owner mode state v → RemoveSays code c index owner mode state later
+  remove_says index owner mode states.TheVariants.Locked h = shut_later events es h
+  remove_says index owner LockIfLastIndex states.TheVariants.Unlocked h = (once IsUnlocked h.0, freed_later owner index h.1)
+  remove_says index owner Default states.TheVariants.Unlocked h = tt
+
+  has_left : (index count : ℕ) → HasLeft code c index count v → HasLeft code c index count later
+  has_left index count h =
+      record {
+        within = h.within;
+        below = let low = h.below in let grows = passes.counts index h.within in omega arith;
+        left = λ proper is.
+            let low = h.below in
+            let grows = passes.counts index h.within in
+            let was : count_in code c (now v) index ≡ count = omega arith in
+            passes.left proper index h.within (is ∙ sym was) (h.left (passes.proper proper) was);
+      }
+
+  count_below : (index count : ℕ) → index < c → count ≤ count_in code c (now v) index → count ≤ count_in code c (now later) index
+  count_below index count low h = let grows = passes.counts index low in omega arith
+
+  release_left : (index count : ℕ) (stage : ReleaseStage) → ReleaseLeft code c index count stage v → ReleaseLeft code c index count stage later
+  release_left index count releases.TheVariants.EmptiesCell h = (h.0, count_below index count h.0 h.1)
+  release_left index count (releases.TheVariants.Raises raise) h = has_left index count h
+  release_left index count (releases.TheVariants.Locks lock) h = has_left index count h
+
+  remove_knows : (index owner : ℕ) (mode : ReleaseMode) (stage : RemoveStage) → RemoveKnows code c index owner mode stage v → RemoveKnows code c index owner mode stage later
+  remove_knows index owner mode removes.TheVariants.Refuses h = paid h
+  remove_knows index owner mode removes.TheVariants.LoadsCount h = set_knows (release_at c index owner mode releases.TheVariants.EmptiesCell) h
+  remove_knows index owner mode (removes.TheVariants.Releases count stage) h = (set_knows (release_at c index owner mode stage) h.0, release_left index count stage h.1)
+  remove_knows index owner mode (removes.TheVariants.Hides count state) h = (paid h.0, remove_says index owner mode state h.1, has_left index count h.2)
+  remove_knows index owner mode (removes.TheVariants.AddsChange state) h = (paid h.0, remove_says index owner mode state h.1)
+
+  -- ---- a copy, and a find
+
+  copying : (index count : ℕ) (copy : List ℕ) (k : ℕ) → Copying code c index count copy k v → Copying code c index count copy k later
+  copying index count copy k h =
+      record {
+        within = h.within;
+        few = h.few;
+        room = h.room;
+        odd = h.odd;
+        below = let low = h.below in let grows = passes.counts index h.within in omega arith;
+        same = λ proper is j js.
+            let low = h.below in
+            let grows = passes.counts index h.within in
+            let was : count_in code c (now v) index ≡ count = omega arith in
+            h.same (passes.proper proper) was j js ∙ sym (passes.words proper index h.within (is ∙ sym was) (ap (λ n. n % 2) was ∙ h.odd) j (let few = h.few in omega arith));
+      }
+
+  through_before : (i : ℕ) → StoodThere q i (events ++ es) → StoodThere q i events
+  through_before i through = through_less q (λ part. is_some (contents_of i part) ≡ true) events es spares.none through
+
+  found_below : (owner bound k number : ℕ) → HasFoundBelow code c owner bound k number v → HasFoundBelow code c owner bound k number later
+  found_below owner bound k number h =
+      record {
+        count =
+            record {
+              chosen = h.count.chosen;
+              is = h.count.is;
+              once = λ i below chosen. once (IsFilledWith owner i) (h.count.once i below chosen);
+              through = λ i below through. h.count.through i below (through_less q (IsFilledWith owner i) events es spares.none through);
+            };
+        copied = λ i less chosen through.
+            let had = h.copied i less chosen (through_before i through) in
+            (had.0, subst (Has _) (sym acts_same) had.1);
+      }
+
+  finds_on : (owner bound k number : ℕ) → Finds code c owner bound k number v → Finds code c owner bound k number later
+  finds_on owner bound k number h =
+      (paid h.0, count_later q (IsFilledWith owner) bound number events h.1 es spares.none, λ proper. found_below owner bound k number (h.2 (passes.proper proper)))
+
+  steady : (index count : ℕ) → index < c → Steady code c index count v → Steady code c index count later
+  steady index count below h proper through =
+      let less = through_before index through in
+      let was = h (passes.proper proper) less in
+      passes.stood proper index below (through_now q (λ part. is_some (contents_of index part) ≡ true) events less) (through_now q (λ part. is_some (contents_of index part) ≡ true) (events ++ es) through) ∙ was
+
+  find_knows : (owner : ℕ) (room : rooms.Kept 128) (stage : FindStage) → FindKnows code c owner room stage v → FindKnows code c owner room stage later
+  find_knows owner room (finds.TheVariants.LoadsCell index number) h = finds_on owner index index number h
+  find_knows owner room (finds.TheVariants.LoadsCount index number) h = finds_on owner (index + 1) index number h
+  find_knows owner room (finds.TheVariants.LoadsWord index number count at) h = (finds_on owner (index + 1) index number h.0, steady index count h.2.within h.1, copying index count room.words at h.2)
+  find_knows owner room (finds.TheVariants.ChecksCount index number count) h = (finds_on owner (index + 1) index number h.0, steady index count h.2.within h.1, copying index count room.words code.size h.2)
+  find_knows owner room (finds.TheVariants.Asks index number) h = (finds_on owner (index + 1) (index + 1) number h.0, copied_later q index (read_in code room) events es h.1)
+
+  -- ---- a recovery
+
+  shown_same : (i : ℕ) → WasShown q i (events ++ es) → WasShown q i events
+  shown_same i h = subst (Has (Sees i)) acts_same h
+
+  asked_below : (owner k : ℕ) → AskedBelow code c owner k v → AskedBelow code c owner k later
+  asked_below owner k h i below through =
+      ⊎_elim (λ asked. inl (subst (IsOneOf (Asks i owner)) (sym deeds_same) asked)) (λ shown. inr (subst (Has (Sees i)) (sym acts_same) shown))
+      (h i below (through_less q (StillToFree q owner i) events es spares.none through))
+
+  -- whoever fills an index is alive, so an index that the dead owner has lost stays lost to it
+  gone_but : (owner : ℕ) (Here : ℕ → Type 0) → Dead owner v → GoneBut code c owner Here v → GoneBut code c owner Here later
+  gone_but owner Here dead h i told =
+      ⊎_elim (λ gone. inl (λ e. gone (goes.fills i owner dead e))) (λ here. inr here)
+      (h i (⊎_elim (λ yes. inl (subst (IsOneOf (Yes i owner)) deeds_same yes)) (λ shown. inr (shown_same i shown)) told))
+
+  recovers_on : (owner k : ℕ) (Here : ℕ → Type 0) → Recovers code c owner k Here v → Recovers code c owner k Here later
+  recovers_on owner k Here h =
+      record { dead = goes.dead owner h.dead; was_open = once IsUnlocked h.was_open; asked = asked_below owner k h.asked; gone = gone_but owner Here h.dead h.gone }
+
+  recovered : (owner : ℕ) → Dead owner v → HasRecovered q owner events → HasRecovered q owner (events ++ es)
+  recovered owner dead h =
+      record {
+        gone = λ i told e.
+            h.gone i (⊎_elim (λ yes. inl (subst (IsOneOf (Yes i owner)) deeds_same yes)) (λ shown. inr (shown_same i shown)) told) (goes.fills i owner dead e);
+        asked = λ i through.
+            ⊎_elim (λ asked. inl (subst (IsOneOf (Asks i owner)) (sym deeds_same) asked)) (λ shown. inr (subst (Has (Sees i)) (sym acts_same) shown))
+            (h.asked i (through_less q (StillToFree q owner i) events es spares.none through));
+      }
+
+  recover_says : (owner : ℕ) (state : ReleaseState) → RecoverSays code c owner state v → RecoverSays code c owner state later
+  recover_says owner states.TheVariants.Locked h = shut_later events es h
+  recover_says owner states.TheVariants.Unlocked h = (goes.dead owner h.0, once IsUnlocked h.1, recovered owner h.0 h.2)
+
+  abbrev none : ℕ → Type 0
+  none i = ⊥
+
+  recover_knows : (owner : ℕ) (mode : ReleaseMode) (room : rooms.Kept 128) (stage : RecoverStage) → RecoverKnows code c owner mode room stage v → RecoverKnows code c owner mode room stage later
+  recover_knows owner mode room recovers.TheVariants.LoadsCounter h = (paid h.0, goes.dead owner h.1, gone_but owner none h.1 h.2)
+  recover_knows owner mode room (recovers.TheVariants.LoadsCell index) h = (paid h.0, recovers_on owner index none h.1)
+  recover_knows owner mode room (recovers.TheVariants.LoadsCount index) h = (paid h.0, recovers_on owner index none h.1, once (IsFilledWith owner index) h.2)
+  recover_knows owner mode room (recovers.TheVariants.LoadsWord index count at) h =
+      (check_paid index count h.0, recovers_on owner index none h.1, once (IsFilledWith owner index) h.2, copying index count room.words at h.3)
+  recover_knows owner mode room (recovers.TheVariants.ChecksCount index count) h =
+      (check_paid index count h.0, recovers_on owner index none h.1, once (IsFilledWith owner index) h.2, copying index count room.words code.size h.3)
+  recover_knows owner mode room (recovers.TheVariants.Asks index count) h = (paid h.0, recovers_on owner (index + 1) none h.1, h.2, count_below index count h.2 h.3, copied_later q index (read_in code room) events es h.4)
+  recover_knows owner mode room (recovers.TheVariants.EmptiesCell index count) h = (paid h.0, recovers_on owner (index + 1) (λ i. i ≡ index) h.1, h.2, count_below index count h.2 h.3)
+  recover_knows owner mode room (recovers.TheVariants.Hides index count) h = (paid h.0, recovers_on owner (index + 1) none h.1, has_left index count h.2)
+  recover_knows owner mode room (recovers.TheVariants.Raises index raise) h =
+      (held_paid v.words words' events es q v.since v.changes changes' v.backs goes spares seen (set.raise_holds raise) h.0, recovers_on owner (index + 1) none h.1)
+  recover_knows owner mode room (recovers.TheVariants.Locks index lock) h = (
+    held_paid v.words words' events es q v.since v.changes changes' v.backs goes spares seen (set.lock_holds lock) h.0,
+    recovers_on owner (index + 1) none h.1,
+    still_scanned v.words words' events es q v.since v.changes changes' v.backs goes spares seen (set.lock_scan c lock) h.2,
+  )
+  recover_knows owner mode room recovers.TheVariants.LoadsCounterAgain h = (paid h.0, recovers_on owner c none h.1)
+  recover_knows owner mode room (recovers.TheVariants.AddsChange state) h = (paid h.0, recover_says owner state h.1)
+
+  -- ---- a look
+
+  abbrev m' : Now T
+  m' = record { words = words'; latest = latest'; events = events ++ es }
+
+  looks_on : (k x : ℕ) → Looks code c k x v → Looks code c k x later
+  looks_on k x h =
+      record { state = h.state; found = same_state ∙ h.found; course = course_later code c (now v) m' es refl passes q h.state spares.none leaves.alone k x h.course }
+
+  look_copies : (index count k : ℕ) → LookCopies code c index count k v → LookCopies code c index count k later
+  unfolding looks_on
+  look_copies index count k h =
+      record { looks = looks_on index index h.looks; number = h.number; copying = copying index count h.looks.state.shown.copy k h.copying }
+
+  look_rests : LookRests code c v → LookRests code c later
+  look_rests h = record { state = h.state; found = same_state ∙ h.found; rests = rests_later code c (now v) m' es refl passes q h.state h.rests }
+
+  look_knows : (stage : LookStage) → LookKnows code c stage v → LookKnows code c stage later
+  look_knows looks.TheVariants.LoadsChange h = (paid h.0, look_rests h.1)
+  look_knows (looks.TheVariants.LoadsCount index) h = (paid h.0, looks_on index c h.1)
+  look_knows (looks.TheVariants.LoadsWord index count at) h = (check_paid index count h.0, look_copies index count at h.1)
+  look_knows (looks.TheVariants.ChecksCount index count) h = (check_paid index count h.0, look_copies index count code.size h.1)
+
+  -- ---- any call
+
+  pub still_knows : (flight : ContainerFlight T) → Knows code c flight v → Knows code c flight later
+  still_knows (Add run) h = add_knows run.given.value run.given.owner run.call.stage h
+  still_knows (Remove run) h = remove_knows run.given.index run.given.owner run.given.mode run.call.stage h
+  still_knows (Replace run) h = replaces_know run.given.index run.given.value run.given.owner run.call.stage h
+  still_knows (Find run) h = (h.0, find_knows run.given run.room run.call.stage h.1)
+  still_knows (Recover run) h = (h.0, recover_knows run.given.owner run.given.mode run.room run.call.stage h.1)
+  still_knows (Look which call) h = look_knows call.stage h
+  still_knows (Count which run) h = set_knows (borrowed_at c run.call.count) h
+  still_knows (IsLocked run) h = set_knows looking h

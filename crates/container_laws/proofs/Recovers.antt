@@ -1,0 +1,287 @@
+-- The last steps of a recovery: it raises the counter, locks, looks at the counter again, and counts its change.
+use Rattle.std.proofs.Common.{◌≡◌, ◌≢◌, ⊎_elim, inl, inr, ℕ, ◌+◌, ◌*◌, ◌<◌, ◌≤◌, ◌==◌, if◌then◌else◌, Bool, false, true, Option, Some, None, List, [], ◌∷◌, ◌++◌, set, refl, sym, ap, subst, append-nil, arith}
+use Rattle.std.proofs.lemmas.Bool.{cases_lt}
+use Rattle.std.proofs.lemmas.Bool.Decides.{nat_tests}
+use Rattle.steps.specs.declared.ask.Ask.{Ask}
+use Rattle.steps.specs.declared.ask.After.{After}
+use Rattle.steps.specs.declared.ask.After.TheVariants.{Done}
+use Rattle.steps.specs.declared.container.recover.RecoverStage.{RecoverStage}
+use Rattle.steps.specs.declared.container.recover.RecoverStage as recovers
+use Rattle.steps.specs.declared.copied.Kept as rooms
+use Rattle.steps.specs.declared.indices.enums.ReleaseMode.{ReleaseMode}
+use Rattle.steps.specs.declared.indices.enums.ReleaseMode.TheVariants.{LockIfLastIndex, Default}
+use Rattle.steps.specs.declared.indices.enums.ReleaseState.{ReleaseState}
+use Rattle.steps.specs.declared.indices.enums.ReleaseState as states
+use Rattle.steps.specs.declared.indices.robust.parts.Count as counts
+use Rattle.steps.specs.declared.indices.robust.parts.Lock.{Lock}
+use Rattle.steps.specs.declared.indices.robust.parts.Lock as parts
+use Rattle.steps.specs.declared.indices.robust.parts.Raise.{Raise}
+use Rattle.steps.specs.declared.indices.robust.parts.Raise as raises
+use Rattle.steps.specs.Container.Layout.{change_word}
+use Rattle.steps.specs.Container.Recover.{recover_ends, recover_raised, recover_locked}
+use Rattle.steps.specs.Indices.Robust.Parts.{empty, locked, first_lock, raise_after, raise_goes_back, lock_after, lock_goes_back}
+use Rattle.model.specs.declared.event.Answer.TheVariants as answers
+use Rattle.model.specs.declared.event.Event.{Event}
+use Rattle.model.specs.declared.event.Event.TheVariants.{Locked, Finished}
+use Rattle.model.specs.declared.event.Start.TheVariants.{Container}
+use Rattle.model.specs.declared.families.container.ContainerStart.TheVariants.{Recover}
+use Rattle.model.specs.Families.Container.Bounds.{most_steps}
+use Rattle.model.specs.Families.Container.Promises.{HasRecovered, AnswersRight, promise}
+use Rattle.model.specs.Families.Container.Reading.{Sees}
+use Rattle.model.specs.Families.Indices.Robust.Promises.{IsProper, IsUnlocked, StillToFree}
+use Rattle.model.specs.Families.Indices.Robust.Reading.{Frees, Yes, Locks, filled_of, holder_of, is_dead}
+use Rattle.model.specs.Families.Indices.Robust.Spans.{HasJustFreed}
+use Rattle.model.specs.Families.Indices.Robust.Steps.{locked_by}
+use Rattle.model.specs.Moments.{HeldOnce}
+use Rattle.model.specs.Promises.Spans.{Stands}
+use Rattle.model.specs.Reading.{Open}
+use Rattle.model.specs.Turns.{old_of, words_after}
+use Rattle.model.proofs.Readings.{AllFollow}
+use Rattle.robust_laws.proofs.Core.{counter_of}
+use Rattle.robust_laws.proofs.Counting.{times_below}
+use Rattle.robust_laws.proofs.Deeds.{was_one}
+use Rattle.robust_laws.proofs.Effects.{at_same, some_none, one_owner, both_ways, proper_less, filled_by, is_shut, unlocked}
+use Rattle.robust_laws.proofs.Effects as set_effects
+use Rattle.robust_laws.proofs.Knows as set_knows
+use Rattle.robust_laws.proofs.Locks as set_locks
+use Rattle.robust_laws.proofs.Parts.{raise_ask, lock_ask, raise_step, lock_step, IsSaid, none_beyond}
+use Rattle.robust_laws.proofs.Past.{through_now}
+use Rattle.robust_laws.proofs.Recovers.{nothing_said}
+use Rattle.robust_laws.proofs.Stages.{loads_same, exchanges, exchange_sets, fails_same}
+use Rattle.robust_laws.proofs.Stages as set_stages
+use Rattle.robust_laws.proofs.Standing.{raise_number, lock_number, LockAt}
+use Rattle.container_laws.proofs.Invariant.{Scene, Inv, of_set, inv_of_set, wrote_of}
+use Rattle.container_laws.proofs.Keeping.{shut_later}
+use Rattle.container_laws.proofs.Knows.{RecoverSays, RecoverKnows, IsLong, Knows}
+use Rattle.container_laws.proofs.RecoverParts.{none, as_recover, first, Few, then_at, recs, asked_on, comes_to_next}
+use Rattle.container_laws.proofs.RecoverEnds.{stays_recs, stays_on, stays_next, just_on, empties_step, hides_step}
+use Rattle.container_laws.proofs.RecoverReads.{Here, Becomes, Course, course_calm, calm_on, back_at_least, index_at_least, counter_step, cell_step, count_step, word_step, check_step, decided}
+use Rattle.container_laws.proofs.Recoveries.{has_of_none, course_then}
+use Rattle.container_laws.proofs.Sets.{leaves_behind, quiet_end}
+use Rattle.container_laws.proofs.SetSteps.{rest_set, wide_set, locks}
+use Rattle.container_laws.proofs.Stages.{all, done, sees_now, StepOf, AnswerOf, Leads, none_lengthens, party_then, backs_then, since_then, changes_then, ends, was_proper}
+use Rattle.container_laws.proofs.Standing.{recover_at, recover_number, for_back, for_index, RecoverAt}
+use Rattle.container_laws.proofs.Steps.{ends_counted}
+use Rattle.container_laws.proofs.Writing.{adds_one, adds_to_change}
+
+most_is : (c z : ℕ) (owner backs : ℕ) (T : Type 0) (mode : ReleaseMode) → 3 + c * for_index c z mode + backs * for_back c z mode ≡ most_steps {T = T} c z (Recover owner mode) backs
+most_is c z owner backs T Default = omega arith
+most_is c z owner backs T LockIfLastIndex = omega arith
+
+module _ {T : Type 0} (scene : Scene T) (inv : Inv scene) (owner : ℕ) (mode : ReleaseMode) (fits : owner < empty) where
+  open scene use {coding as code, capacity as c, party as p, steps as steps, backs as backs, since as since, changes as changes, events as events, latest as latest}
+
+  abbrev ws : List ℕ
+  ws = scene.words
+
+  abbrev z : ℕ
+  z = code.size
+
+  -- ---- the raise of the counter
+
+  module _ (room : rooms.Kept 128) (index : ℕ) (raise : Raise) (here : Here scene inv owner mode fits room (recovers.TheVariants.Raises index raise)) (long : IsLong room) (course : Course scene inv owner mode fits index (index + 1)) (just : HasJustFreed (all scene))
+      (k : RecoverKnows code c owner mode room (recovers.TheVariants.Raises index raise) (sees_now scene)) (s : steps ≤ 6 + z + raise_number raise + index * for_index c z mode + backs * for_back c z mode) where
+    abbrev raises_to : Option Ask → Bool → After Raise ReleaseState → Type 0
+    raises_to ask back r =
+        Leads scene (Recover owner mode) ask back scene.states [] (as_recover scene inv owner mode fits room (recover_raised (first scene inv owner mode fits) index mode r))
+
+    abbrev this : RecoverStage
+    this = recovers.TheVariants.Raises index raise
+
+    -- it locks in the mode for that alone
+    by_mode : (m : ReleaseMode) → mode ≡ m → (ask : Option Ask) → set_effects.Stays (of_set scene) (words_after ws ask) → backs_then scene false + since_then scene ask ≤ changes_then scene ask → Few scene inv owner mode fits ask false (8 + z) index
+        → Leads scene (Recover owner mode) ask false scene.states [] (as_recover scene inv owner mode fits room (recover_raised (first scene inv owner mode fits) index m (Done states.TheVariants.Unlocked)))
+    by_mode Default is ask stays paid few =
+        let wide = index_at_least c z mode in
+        stays_next scene inv owner mode fits room this here long ask false stays paid index k.1 (omega arith) course
+    by_mode LockIfLastIndex is ask stays paid few =
+        let y = then_at scene inv owner mode fits room this here room (recovers.TheVariants.Locks index first_lock) ask false in
+        stays_on scene inv owner mode fits room this here long ask false stays paid index k.1 (recovers.TheVariants.Locks index first_lock) (omega arith)
+        (course_calm scene inv owner mode fits index (index + 1) index (index + 1) course course.within (omega arith), just_on scene inv owner mode fits just, is, tt)
+        (long, (paid, stays_recs scene inv owner mode fits room this here long ask false stays paid index k.1 y, tt))
+
+    raises_step : raises_to (Some (raise_ask raise)) (raise_goes_back raise (counter_of ws)) (raise_after raise (counter_of ws))
+    raises_step =
+        let one = back_at_least c z mode in
+        raise_step (of_set scene) (inv_of_set scene inv) raises_to raise k.0
+        (λ number ask back same held few.
+        let low = few (6 + z + index * for_index c z mode) (for_back c z mode) (omega arith) (omega arith) in
+        let stays = set_effects.stays_same (of_set scene) (inv_of_set scene inv) (words_after ws ask) same in
+        let paid = held_is ask back number held in
+        let y = then_at scene inv owner mode fits room this here room (recovers.TheVariants.Raises index (raises.TheVariants.ExchangesCounter number)) ask back in
+        stays_on scene inv owner mode fits room this here long ask back stays paid index k.1 (recovers.TheVariants.Raises index (raises.TheVariants.ExchangesCounter number)) (omega arith)
+        (course_calm scene inv owner mode fits index (index + 1) index (index + 1) course course.within (omega arith), just_on scene inv owner mode fits just)
+        (long, (subst (λ es. set_knows.Holding number (set_stages.seen (of_set scene) ask back es)) (sym (append-nil events)) held, stays_recs scene inv owner mode fits room this here long ask back stays paid index k.1 y)))
+        (λ ask back same shut paid few.
+        let low = few (6 + z + index * for_index c z mode) (for_back c z mode) (omega arith) (omega arith) in
+        let wide = index_at_least c z mode in
+        let times = times_below c index (for_index c z mode) course.within in
+        let stays = set_effects.stays_same (of_set scene) (inv_of_set scene inv) (words_after ws ask) same in
+        stays_on scene inv owner mode fits room this here long ask back stays paid index k.1 (recovers.TheVariants.AddsChange states.TheVariants.Locked) (omega arith) tt
+        (long, (paid, shut_later events [] (is_shut (of_set scene) (inv_of_set scene inv) shut))))
+        (λ ask open_now new paid few.
+        let low = few (6 + z + index * for_index c z mode) (for_back c z mode) (omega arith) (omega arith) in
+        by_mode mode refl ask (set_effects.stays_raised (of_set scene) (inv_of_set scene inv) (words_after ws ask) open_now new) paid (omega arith))
+      where
+        held_is : (ask : Option Ask) (back : Bool) (number : ℕ) → set_knows.Holding number (set_stages.sees (of_set scene) ask back) → backs_then scene back + since_then scene ask ≤ changes_then scene ask
+        held_is ask back number held = ⊎_elim (λ h. let paid = h.1 in omega arith) (λ h. omega arith) held.paid
+
+  -- ---- the lock
+
+  module _ (room : rooms.Kept 128) (index : ℕ) (lock : Lock) (here : Here scene inv owner mode fits room (recovers.TheVariants.Locks index lock)) (long : IsLong room) (course : Course scene inv owner mode fits index (index + 1)) (just : HasJustFreed (all scene)) (may_lock : mode ≡ LockIfLastIndex) (at : LockAt c lock)
+      (k : RecoverKnows code c owner mode room (recovers.TheVariants.Locks index lock) (sees_now scene)) (s : steps ≤ 8 + z + lock_number c lock + index * for_index c z mode + backs * for_back c z mode) where
+    abbrev locks_to : Option Ask → Bool → List (Event T) → After Lock ReleaseState → Type 0
+    locks_to ask back did r =
+        Leads scene (Recover owner mode) ask back scene.states (did ++ []) (as_recover scene inv owner mode fits room (recover_locked (first scene inv owner mode fits) index r))
+
+    abbrev locks_at : RecoverStage
+    locks_at = recovers.TheVariants.Locks index lock
+
+    for_a_back : for_back c z mode ≡ z + c + 4
+    for_a_back = ap (for_back c z) may_lock
+
+    for_an_index : for_index c z mode ≡ z + c + 10
+    for_an_index = ap (for_index c z) may_lock
+
+    said : IsSaid (of_set scene) (inv_of_set scene inv) (λ j filled. Unit {0})
+    said = record { none = tt; empty_next = λ j filled low none h. tt; filled_next = λ j filled o low is h. tt }
+
+    abbrev locking : List (Event T)
+    locking = Locked p ∷ []
+
+    locks_set : (ask : Option Ask) → (IsProper events → (i : ℕ) → holder_of i events ≡ None) → counter_of ws ≢ locked → words_after ws ask ≡ set ws 0 locked → backs_then scene false + since_then scene ask ≤ changes_then scene ask → Few scene inv owner mode fits ask false 1 (index + 1)
+        → locks_to ask false locking (Done states.TheVariants.Locked)
+    locks_set ask nobody open_now new paid few =
+        let set_does = set_locks.locks (of_set scene) (inv_of_set scene inv) (words_after ws ask) [] set_effects.quiet_none tt tt tt nobody open_now new in
+        comes_to_next scene inv owner mode fits room locks_at here long ask false locking (λ start w. refl)
+        (subst (λ m. AllFollow (Stands promise c) (Open (Container (Recover owner m)) (wrote_of p events)) locking) (sym may_lock) (just, tt))
+        (λ y owe.
+        locks scene inv (Recover owner mode) (recover_at c owner mode room locks_at) tt here y (words_after ws ask) (rest_set scene inv (Recover owner mode) (recover_at c owner mode room locks_at) tt here y (words_after ws ask) 0 locked (omega arith) new)
+        (wide_set scene inv (Recover owner mode) (recover_at c owner mode room locks_at) tt here y (words_after ws ask) 0 locked new) set_does (was_proper scene (Recover owner mode) tt here.span (words_after ws ask) y locking (refl, tt)) (λ was. owe))
+        index few course.within
+        (λ i low. course_then c z (all scene) (Locks ∷ []) (done scene) [] owner index (index + 1) i (index + 1) course low (omega arith) tt tt (λ j was. ⊎_elim (λ had. inl had) (λ e. absurd (cc)) (was_one (Frees j owner) Locks (all scene) was)))
+        paid
+        (λ y. recs scene inv owner mode fits room locks_at here ask false y locking (refl, tt) tt (λ start w. refl) set_does.goes (index + 1) (index + 1) none none none k.1
+        (asked_on scene inv owner mode fits room locks_at here ask false y locking (refl, tt) tt (λ start w. refl) set_does.goes (index + 1) k.1.asked)
+        (λ i said. inl (⊎_elim (λ yes. ⊎_elim (λ had. inl had) (λ e. absurd (cc)) (was_one (Yes i owner) Locks (all scene) yes)) (λ seen. inr (has_of_none (Sees i) (done scene) seen)) said))
+        (λ i e. absurd e) (λ i e. absurd e))
+
+    locks_step : locks_to (Some (lock_ask lock)) (lock_goes_back lock (old_of ws (Some (lock_ask lock)))) (locked_by p lock (old_of ws (Some (lock_ask lock)))) (lock_after c lock (old_of ws (Some (lock_ask lock))))
+    locks_step =
+        let wide = for_a_back in
+        let each = for_an_index in
+        lock_step (of_set scene) (inv_of_set scene inv) (λ j filled. Unit {0}) said locks_to lock at k.0 k.2 (nothing_said c lock)
+        (λ next ask back stays next_at held scanned says few.
+        let low = few (8 + z + index * for_index c z mode) (for_back c z mode) (omega arith) (omega arith) in
+        let paid = lock_paid next ask back held in
+        let y = then_at scene inv owner mode fits room locks_at here room (recovers.TheVariants.Locks index next) ask back in
+        stays_on scene inv owner mode fits room locks_at here long ask back stays paid index k.1 (recovers.TheVariants.Locks index next) (omega arith)
+        (course_calm scene inv owner mode fits index (index + 1) index (index + 1) course course.within (omega arith), just_on scene inv owner mode fits just, may_lock, next_at)
+        (long, (paid_calm next ask back held, stays_recs scene inv owner mode fits room locks_at here long ask back stays paid index k.1 y, scanned_calm next ask back scanned)))
+        (λ ask same shut paid few.
+        let low = few (8 + z + index * for_index c z mode) (for_back c z mode) (omega arith) (omega arith) in
+        stays_next scene inv owner mode fits room locks_at here long ask false (set_effects.stays_same (of_set scene) (inv_of_set scene inv) (words_after ws ask) same) paid index k.1 (omega arith) course)
+        (λ filled ask stays open_now more says paid few.
+        let low = few (8 + z + index * for_index c z mode) (for_back c z mode) (omega arith) (omega arith) in
+        stays_next scene inv owner mode fits room locks_at here long ask false stays paid index k.1 (omega arith) course)
+        (λ ask nobody open_now new paid few.
+        let low = few (8 + z + index * for_index c z mode) (for_back c z mode) (omega arith) (omega arith) in
+        locks_set ask nobody open_now new paid (omega arith))
+      where
+        held_paid : (held : Option ℕ) (ask : Option Ask) (back : Bool) → set_knows.Paid held (set_stages.sees (of_set scene) ask back) → backs_then scene back + since_then scene ask ≤ changes_then scene ask
+        held_paid None ask back h = omega arith
+        held_paid (Some number) ask back h = ⊎_elim (λ k. let paid = k.1 in omega arith) (λ k. omega arith) h.paid
+
+        lock_paid : (next : Lock) (ask : Option Ask) (back : Bool) → set_knows.Paid (set_knows.lock_holds next) (set_stages.sees (of_set scene) ask back) → backs_then scene back + since_then scene ask ≤ changes_then scene ask
+        lock_paid next ask back h = held_paid (set_knows.lock_holds next) ask back h
+
+        -- at the events that it sees
+        paid_calm : (next : Lock) (ask : Option Ask) (back : Bool) → set_knows.Paid (set_knows.lock_holds next) (set_stages.sees (of_set scene) ask back) → set_knows.Paid (set_knows.lock_holds next) (set_stages.seen (of_set scene) ask back (events ++ []))
+        paid_calm next ask back h = subst (λ es. set_knows.Paid (set_knows.lock_holds next) (set_stages.seen (of_set scene) ask back es)) (sym (append-nil events)) h
+
+        scanned_calm : (next : Lock) (ask : Option Ask) (back : Bool) → set_knows.Scanned (set_knows.lock_scan c next) (set_stages.sees (of_set scene) ask back) → set_knows.Scanned (set_knows.lock_scan c next) (set_stages.seen (of_set scene) ask back (events ++ []))
+        scanned_calm next ask back h = subst (λ es. set_knows.Scanned (set_knows.lock_scan c next) (set_stages.seen (of_set scene) ask back es)) (sym (append-nil events)) h
+
+  -- ---- the second look at the counter
+
+  module _ (room : rooms.Kept 128) (here : Here scene inv owner mode fits room recovers.TheVariants.LoadsCounterAgain) (long : IsLong room) (freed : RecoverAt c z (all scene) (done scene) owner mode recovers.TheVariants.LoadsCounterAgain)
+      (k : RecoverKnows code c owner mode room recovers.TheVariants.LoadsCounterAgain (sees_now scene)) (s : steps ≤ 1 + c * for_index c z mode + backs * for_back c z mode) where
+    abbrev load_again : Option Ask
+    load_again = Some (set_stages.loads 0)
+
+    paid_again : backs_then scene false + since_then scene load_again ≤ changes_then scene load_again
+    paid_again = let paid = k.0 in omega arith
+
+    recovered : HasRecovered p owner events
+    recovered =
+        record {
+          gone = λ i told. ⊎_elim (λ gone. gone) (λ never. absurd never) (k.1.gone i told);
+          asked = λ i through.
+              ⊎_elim (λ below. k.1.asked i below through)
+              (λ beyond. ⊎_elim (λ filled. some_none (filled_of i events) owner (none_beyond (of_set scene) (inv_of_set scene inv) i beyond) filled) (λ was_freed. freed i was_freed) (through_now p (StillToFree p owner i) events through))
+              (cases_lt i c);
+        }
+
+    again_step : StepOf scene (Recover owner mode) (recover_at c owner mode room recovers.TheVariants.LoadsCounterAgain)
+    again_step = go (counter_of ws == locked) refl
+      where
+        go : (b : Bool) → (counter_of ws == locked) ≡ b → Becomes scene inv owner mode fits (Some (set_stages.loads 0)) false [] room (recover_ends (first scene inv owner mode fits) (if b then states.TheVariants.Locked else states.TheVariants.Unlocked))
+        go true t =
+            let shut : counter_of ws ≡ locked = grind (arith, nat_tests) in
+            calm_on scene inv owner mode fits room recovers.TheVariants.LoadsCounterAgain here long load_again (loads_same ws 0) false paid_again room (recovers.TheVariants.AddsChange states.TheVariants.Locked) (omega arith) tt
+            (long, (paid_again, shut_later events [] (is_shut (of_set scene) (inv_of_set scene inv) shut)))
+        go false t =
+            calm_on scene inv owner mode fits room recovers.TheVariants.LoadsCounterAgain here long load_again (loads_same ws 0) false paid_again room (recovers.TheVariants.AddsChange states.TheVariants.Unlocked) (omega arith) tt
+            (long, (paid_again, subst (λ es. (is_dead owner es ≡ true) × HeldOnce p IsUnlocked es × HasRecovered p owner es) (sym (append-nil events)) (k.1.dead, k.1.was_open, recovered)))
+
+  -- ---- the change is counted, and the call ends
+
+  module _ (room : rooms.Kept 128) (state : ReleaseState) (here : Here scene inv owner mode fits room (recovers.TheVariants.AddsChange state)) (k : RecoverKnows code c owner mode room (recovers.TheVariants.AddsChange state) (sees_now scene))
+      (s : steps ≤ 2 + c * for_index c z mode + backs * for_back c z mode) where
+    abbrev end_it : Option Ask
+    end_it = Some (adds_one (change_word c))
+
+    answers_right : (state : ReleaseState) → RecoverSays code c owner state (sees_now scene) → AnswersRight c events (Finished p (Container (Recover owner mode)) (answers.State state))
+    answers_right states.TheVariants.Locked h = h
+    answers_right states.TheVariants.Unlocked h = (h.1, h.2)
+
+    end_step : StepOf scene (Recover owner mode) (recover_at c owner mode room (recovers.TheVariants.AddsChange state))
+    end_step =
+        let y = party_then scene (Recover owner mode) end_it false (Done (answers.State state)) in
+        let es = Finished p (Container (Recover owner mode)) (answers.State state) ∷ [] in
+        let proper = was_proper scene (Recover owner mode) tt here.span (words_after ws end_it) y es (refl, tt) in
+        let new = adds_to_change scene inv in
+        let most = most_is c z owner (backs_then scene false) T mode in
+        ends scene (Recover owner mode) (answers.State state) end_it false scene.states [] here.span none_lengthens
+        (ends_counted scene inv (Recover owner mode) (recover_at c owner mode room (recovers.TheVariants.AddsChange state)) tt here y (words_after ws end_it) (answers.State state)
+        (set_effects.quietly (of_set scene) (inv_of_set scene inv) (words_after ws end_it) es (leaves_behind (of_set scene) (inv_of_set scene inv) (words_after ws end_it) (change_word c) _ (omega arith) new) (quiet_end (of_set scene) (inv_of_set scene inv) (Recover owner mode) (answers.State state) (λ i o. refl) (λ i r. refl)) (refl, tt) (tt, tt) (tt, tt))
+        (answers_right state k.1) proper (λ holds. tt) new (λ holds i said. inv.elements.announced holds i said))
+        ((refl, tt), tt) (omega arith) (let paid = k.0 in omega arith)
+
+  -- ---- any step
+
+  abbrev Moves : rooms.Kept 128 → RecoverStage → Type 0
+  Moves room stage =
+      RecoverAt c z (all scene) (done scene) owner mode stage → Here scene inv owner mode fits room stage → Knows code c (recover_at c owner mode room stage) (sees_now scene) → steps ≤ recover_number c z mode stage backs → StepOf scene (Recover owner mode) (recover_at c owner mode room stage)
+
+  pub recover_step : (room : rooms.Kept 128) (stage : RecoverStage) → Moves room stage
+  recover_step room recovers.TheVariants.LoadsCounter at here k s = counter_step scene inv owner mode fits room here k.0 at k.1 s
+  recover_step room (recovers.TheVariants.LoadsCell index) at here k s = cell_step scene inv owner mode fits room index here k.0 at k.1 s
+  recover_step room (recovers.TheVariants.LoadsCount index) at here k s = count_step scene inv owner mode fits room index here k.0 at k.1 s
+  recover_step room (recovers.TheVariants.LoadsWord index count word) at here k s = word_step scene inv owner mode fits room index count word here k.0 at k.1 s
+  recover_step room (recovers.TheVariants.ChecksCount index count) at here k s = check_step scene inv owner mode fits room index count here k.0 at k.1 s
+  recover_step room (recovers.TheVariants.Asks index count) at here k s = decided scene inv owner mode fits room index count at here k.0 k.1 s 0
+  recover_step room (recovers.TheVariants.EmptiesCell index count) at here k s = empties_step scene inv owner mode fits room index count here k.0 at k.1 s
+  recover_step room (recovers.TheVariants.Hides index count) at here k s = hides_step scene inv owner mode fits room index count here k.0 at k.1 s
+  recover_step room (recovers.TheVariants.Raises index raises.TheVariants.LoadsCounter) at here k s = raises_step room index raises.TheVariants.LoadsCounter here k.0 at.0 at.1 k.1 s
+  recover_step room (recovers.TheVariants.Raises index (raises.TheVariants.ExchangesCounter number)) at here k s = raises_step room index (raises.TheVariants.ExchangesCounter number) here k.0 at.0 at.1 k.1 s
+  recover_step room (recovers.TheVariants.Locks index (parts.TheVariants.Counts counts.TheVariants.LoadsCounter)) at here k s = locks_step room index (parts.TheVariants.Counts counts.TheVariants.LoadsCounter) here k.0 at.0 at.1 at.2 at.3 k.1 s
+  recover_step room (recovers.TheVariants.Locks index (parts.TheVariants.Counts (counts.TheVariants.LoadsCell number i filled))) at here k s = locks_step room index (parts.TheVariants.Counts (counts.TheVariants.LoadsCell number i filled)) here k.0 at.0 at.1 at.2 at.3 k.1 s
+  recover_step room (recovers.TheVariants.Locks index (parts.TheVariants.Counts (counts.TheVariants.ExchangesCounter number filled))) at here k s = locks_step room index (parts.TheVariants.Counts (counts.TheVariants.ExchangesCounter number filled)) here k.0 at.0 at.1 at.2 at.3 k.1 s
+  recover_step room (recovers.TheVariants.Locks index (parts.TheVariants.ExchangesCounter number)) at here k s = locks_step room index (parts.TheVariants.ExchangesCounter number) here k.0 at.0 at.1 at.2 at.3 k.1 s
+  recover_step room recovers.TheVariants.LoadsCounterAgain at here k s = again_step room here k.0 at k.1 s
+  recover_step room (recovers.TheVariants.AddsChange state) at here k s = end_step room state here k.1 s
+
+  pub recover_decided : (room : rooms.Kept 128) (index count : ℕ) → RecoverAt c z (all scene) (done scene) owner mode (recovers.TheVariants.Asks index count) → Here scene inv owner mode fits room (recovers.TheVariants.Asks index count) → Knows code c (recover_at c owner mode room (recovers.TheVariants.Asks index count)) (sees_now scene)
+      → steps ≤ recover_number c z mode (recovers.TheVariants.Asks index count) backs → (answer : ℕ) → AnswerOf scene (Recover owner mode) (recover_at c owner mode room (recovers.TheVariants.Asks index count)) None answer
+  recover_decided room index count at here k s answer = decided scene inv owner mode fits room index count at here k.0 k.1 s answer

@@ -1,0 +1,434 @@
+-- The steps of a remove: what the release of the set leads to, in a call that goes on; then it hides what stood there, unless that
+-- has changed, and counts its change.
+use Rattle.std.proofs.Common.{◌≡◌, ◌≢◌, ◌⊎◌, inl, inr, ℕ, ◌+◌, ◌%◌, ◌<◌, ◌≤◌, ◌==◌, if◌then◌else◌, Bool, false, true, Option, Some, None, List, [], ◌∷◌, ◌++◌, set, refl, sym, ap, subst, ◌∙◌, append-nil, arith}
+use Rattle.std.specs.Prelude.{Ok}
+use Rattle.std.proofs.lemmas.Bool.Decides.{nat_tests}
+use Rattle.std.proofs.lemmas.List.Sums.{fold-append}
+use Rattle.steps.specs.declared.ask.Ask.{Ask}
+use Rattle.steps.specs.declared.ask.After.{After}
+use Rattle.steps.specs.declared.ask.After.TheVariants.{GoOn, Done}
+use Rattle.steps.specs.declared.container.enums.ContainerRemoveError.TheVariants.{ContainerHandleNotOwnedByContainer}
+use Rattle.steps.specs.declared.container.remove.Remove as remove_calls
+use Rattle.steps.specs.declared.container.remove.RemoveStage.{RemoveStage}
+use Rattle.steps.specs.declared.container.remove.RemoveStage as removes
+use Rattle.steps.specs.declared.indices.enums.ReleaseMode.{ReleaseMode}
+use Rattle.steps.specs.declared.indices.enums.ReleaseMode.TheVariants.{LockIfLastIndex, Default}
+use Rattle.steps.specs.declared.indices.enums.ReleaseState.{ReleaseState}
+use Rattle.steps.specs.declared.indices.enums.ReleaseState as states
+use Rattle.steps.specs.declared.indices.robust.parts.Raise as raises
+use Rattle.steps.specs.declared.indices.robust.release.GiveBack.{GiveBack}
+use Rattle.steps.specs.declared.indices.robust.release.Release as set_calls
+use Rattle.steps.specs.declared.indices.robust.release.ReleaseStage.{ReleaseStage}
+use Rattle.steps.specs.declared.indices.robust.release.ReleaseStage as releases
+use Rattle.steps.specs.Container.Layout.{change_word, count_word, is_even}
+use Rattle.steps.specs.Container.Remove.{Removed, at_remove, remove_released}
+use Rattle.steps.specs.Indices.Robust.Parts.{cell_word, empty, locked, one_more}
+use Rattle.steps.specs.Indices.Robust.Release.{Released}
+use Rattle.steps.specs.Routine.{went_on}
+use Rattle.model.specs.declared.event.Answer.{Answer}
+use Rattle.model.specs.declared.event.Answer.TheVariants as answers
+use Rattle.model.specs.declared.event.Event.{Event}
+use Rattle.model.specs.declared.event.Event.TheVariants.{FreedOf, Hidden, Locked, Finished}
+use Rattle.model.specs.declared.event.Start.TheVariants.{Container}
+use Rattle.model.specs.declared.families.container.ContainerStart.{ContainerStart}
+use Rattle.model.specs.declared.families.container.ContainerStart.TheVariants.{Remove}
+use Rattle.model.specs.declared.families.container.calls.ContainerFlight.{ContainerFlight}
+use Rattle.model.specs.declared.families.container.calls.ContainerFlight as calls
+use Rattle.model.specs.declared.party.Party.{Party}
+use Rattle.model.specs.Families.Container.Bounds.{most_steps}
+use Rattle.model.specs.Families.Container.Calls.{place_of, removed}
+use Rattle.model.specs.Families.Container.Promises.{FreedRight, AnswersRight, promise}
+use Rattle.model.specs.Families.Container.Reading.{Act}
+use Rattle.model.specs.Families.Container.Spans.{HasDone}
+use Rattle.model.specs.Families.Indices.Reading.{locked_after, is_locked}
+use Rattle.model.specs.Families.Indices.Robust.Promises.{IsUnlocked, IsProper, LivesToRelease, MayGiveBack}
+use Rattle.model.specs.Families.Indices.Robust.Reading.{Deed, Frees, Locks, deeds, filled_of, holder_of, settled_of, is_dead, IsOneOf}
+use Rattle.model.specs.Families.Queues.Calls.{as_it_is}
+use Rattle.model.specs.Moments.{BeginsNone, SinceBegin}
+use Rattle.model.specs.Parties.{put}
+use Rattle.model.specs.Promises.Spans.{Stands}
+use Rattle.model.specs.Reading.{Open, span_of}
+use Rattle.model.specs.Step.{as_call}
+use Rattle.model.specs.Turns.{words_after, step_count}
+use Rattle.model.proofs.Moments.{held_now, held_later}
+use Rattle.model.proofs.Readings.{AllFollow}
+use Rattle.robust_laws.proofs.Core.{counter_of}
+use Rattle.robust_laws.proofs.Effects.{both_ways}
+use Rattle.robust_laws.proofs.Effects as set_effects
+use Rattle.robust_laws.proofs.HeldRelease.{Caller, Ends, held_step}
+use Rattle.robust_laws.proofs.Invariant as set_invariant
+use Rattle.robust_laws.proofs.Knows as set_knows
+use Rattle.robust_laws.proofs.Locks as set_locks
+use Rattle.robust_laws.proofs.Stages.{loads_same, exchanges, fails_same}
+use Rattle.robust_laws.proofs.Stages as set_stages
+use Rattle.robust_laws.proofs.Standing.{release_at, release_number, ReleaseAt}
+use Rattle.container_laws.proofs.Core.{count_at}
+use Rattle.container_laws.proofs.Effects.{calmly}
+use Rattle.container_laws.proofs.Invariant.{Scene, Inv, Does, before, of_set, inv_of_set, wrote_of, view}
+use Rattle.container_laws.proofs.Keeping.{shut_later}
+use Rattle.container_laws.proofs.Knows.{View, HasLeft, ReleaseLeft, RemoveSays, RemoveKnows, IsPaid, Knows}
+use Rattle.container_laws.proofs.Left.{left_after, left_of}
+use Rattle.container_laws.proofs.Sets.{leaves_behind, quiet_end}
+use Rattle.container_laws.proofs.SetSteps.{rest_set, wide_set, frees, locks}
+use Rattle.container_laws.proofs.Silent.{silently}
+use Rattle.container_laws.proofs.Stages.{IsHere, all, done, sees_now, then_sees, StepOf, Leads, none_lengthens, party_then, since_then, changes_then, backs_then, goes_on, goes_calmly, ends, owes_none, was_proper, was_proper_calmly, does_with}
+use Rattle.container_laws.proofs.Standing.{remove_at, remove_number, release_total, RemoveAt, place_is}
+use Rattle.container_laws.proofs.Steps.{loads, hides, ends_counted, calm_none, right_none}
+use Rattle.container_laws.proofs.Turns.{remove_owes, count_in}
+use Rattle.container_laws.proofs.Writing.{odd_is, adds_one, adds_to_change, hides_count}
+
+-- a release and 3 steps
+total_is : (c z index owner : ℕ) (mode : ReleaseMode) (backs : ℕ) (T : Type 0) → 3 + release_total c index owner mode backs ≡ most_steps {T = T} c z (Remove index owner mode) backs
+total_is c z index owner Default backs T = omega arith
+total_is c z index owner LockIfLastIndex backs T = omega arith
+
+-- ---- what its answers say, by the mode
+
+refused_done : (T : Type 0) (index owner : ℕ) (mode : ReleaseMode) (deeds : List Deed) → deeds ≡ [] → HasDone {T = T} (Remove index owner mode) (answers.NotRemoved ContainerHandleNotOwnedByContainer) deeds
+refused_done T index owner Default deeds h = h
+refused_done T index owner LockIfLastIndex deeds h = h
+
+refused_right : {T : Type 0} (c p index owner : ℕ) (mode : ReleaseMode) (events : List (Event T)) → (c ≤ index) ⊎ (filled_of index events ≢ Some owner) → AnswersRight c events (Finished p (Container (Remove index owner mode)) (answers.NotRemoved ContainerHandleNotOwnedByContainer))
+refused_right c p index owner Default events h = h
+refused_right c p index owner LockIfLastIndex events h = h
+
+module _ {T : Type 0} (scene : Scene T) (inv : Inv scene) (index owner : ℕ) (mode : ReleaseMode) (fits : owner < empty) (alive : is_dead owner scene.events ≡ false) (below : index < scene.capacity) where
+  open scene use {coding as code, capacity as c, party as p, steps as steps, backs as backs, events as events, latest as latest}
+
+  abbrev ws : List ℕ
+  ws = scene.words
+
+  abbrev z : ℕ
+  z = code.size
+
+  abbrev start : ContainerStart T
+  start = Remove index owner mode
+
+  abbrev at_stage : RemoveStage → ContainerFlight T
+  at_stage stage = remove_at c index owner mode stage
+
+  abbrev as_remove : After remove_calls.Remove Removed → After (ContainerFlight T) (Answer T)
+  as_remove a =
+      as_call calls.TheVariants.Remove removed
+      (went_on as_it_is (record { index = index; owner = owner; mode = mode }) tt a)
+
+  abbrev first : remove_calls.Remove
+  first = record { capacity = c; stage = removes.TheVariants.LoadsCount }
+
+  abbrev Here : RemoveStage → Type 0
+  Here stage = IsHere scene (Remove index owner mode) (remove_at c index owner mode stage)
+
+  abbrev then_at : RemoveStage → Option Ask → Bool → Party T
+  then_at next ask back = party_then scene start ask back (GoOn (at_stage next))
+
+  abbrev SeesCalmly : RemoveStage → Option Ask → Bool → View T
+  SeesCalmly next ask back =
+      view (words_after ws ask) scene.states (put p (then_at next ask back) latest) events p (since_then scene ask) (changes_then scene ask) (backs_then scene back)
+
+  given_is : ◌≡◌ {A = GiveBack} (record { index = index; owner = owner; mode = mode }) (record { index = place_of c index; owner = owner; mode = mode })
+  given_is = ap (λ n. record { index = n; owner = owner; mode = mode }) (sym (place_is c index below))
+
+  -- ---- a step on the counter, or none, that writes nothing
+
+  stays_does : (stage : RemoveStage) → Here stage → (words' : List ℕ) → set_effects.Stays (of_set scene) words' → (y : Party T) → remove_owes stage ≡ false → Does scene words' scene.states y []
+  stays_does stage here words' stays y owes =
+      let proper = was_proper scene start tt here.span words' y [] tt in
+      does_with scene inv start (at_stage stage) tt here words' y []
+      (calmly scene inv words' y [] proper (λ n behind. stays.others n (omega arith)) stays.leaves.wide (calm_none scene inv start (at_stage stage) tt here y words' proper) (owes_none scene start (at_stage stage) y here owes))
+      (set_effects.quietly (of_set scene) (inv_of_set scene inv) words' [] stays.leaves set_effects.quiet_none tt tt tt)
+      (right_none scene inv start (at_stage stage) tt here y words')
+
+  stays_on : (stage next : RemoveStage) → Here stage → remove_owes stage ≡ false → (ask : Option Ask) (back : Bool) → set_effects.Stays (of_set scene) (words_after ws ask) → steps + step_count ask ≤ remove_number c index owner mode next (backs_then scene back) → RemoveAt c z (all scene) (done scene) index owner mode next
+      → Knows code c (at_stage next) (SeesCalmly next ask back) → Leads scene start ask back scene.states [] (GoOn (at_stage next))
+  stays_on stage next here owes ask back stays few at known =
+      goes_calmly scene start (at_stage next) ask back scene.states here.span (stays_does stage here (words_after ws ask) stays (then_at next ask back) owes) few (refl, given_is, fits, at) known
+
+  -- it ends with nothing removed
+  refuses : (stage : RemoveStage) → Here stage → remove_owes stage ≡ false → (ask : Option Ask) → words_after ws ask ≡ ws → filled_of index events ≢ Some owner → all scene ≡ [] → IsPaid (sees_now scene) → steps + step_count ask ≤ 1 + release_total c index owner mode (backs_then scene false)
+      → Leads scene start ask false scene.states [] (Done (answers.NotRemoved ContainerHandleNotOwnedByContainer))
+  refuses stage here owes ask same other none paid few =
+      let y = party_then scene start ask false (Done (answers.NotRemoved ContainerHandleNotOwnedByContainer)) in
+      let es = Finished p (Container start) (answers.NotRemoved ContainerHandleNotOwnedByContainer) ∷ [] in
+      let most = total_is c z index owner mode (backs_then scene false) T in
+      ends scene start (answers.NotRemoved ContainerHandleNotOwnedByContainer) ask false scene.states [] here.span none_lengthens
+      (silently scene inv (words_after ws ask) same y es (tt, tt) (refl, tt) start (at_stage stage) tt here (was_proper scene start tt here.span (words_after ws ask) y es (refl, tt)) (owes_none scene start (at_stage stage) y here owes)
+      (record { asks = (tt, tt); recovers = (tt, tt); answers = (refused_right c p index owner mode events (inr other), tt); contains = λ h. (tt, tt); places = λ h. (tt, tt) }))
+      ((refl, refused_done T index owner mode (all scene) none), tt) (omega arith) (omega arith)
+
+  -- ---- the release
+
+  module _ (count : ℕ) (stage : ReleaseStage) (here : Here (removes.TheVariants.Releases count stage)) (now_at : ReleaseAt c index owner mode (all scene) stage) (nothing : done scene ≡ []) (left : ReleaseLeft code c index count stage (sees_now scene)) where
+    lives : LivesToRelease owner events (span_of p events)
+    lives = subst (LivesToRelease owner events) (sym here.span) alive
+
+    began : IsProper (events ++ FreedOf p index owner ∷ []) → SinceBegin p (λ part since. settled_of index part ≡ Some owner) events
+    began proper = subst (MayGiveBack p index events) here.span (proper events [] (FreedOf p index owner) refl)
+
+    abbrev Lead : Option Ask → Bool → List (Event T) → After set_calls.Release Released → Type 0
+    Lead ask back did a =
+        Leads scene start ask back scene.states (did ++ []) (as_remove (remove_released first count a))
+
+    abbrev this : RemoveStage
+    this = removes.TheVariants.Releases count stage
+
+    -- what was left is left still
+    left_calm : (next : RemoveStage) (ask : Option Ask) (back : Bool) → set_effects.Stays (of_set scene) (words_after ws ask) → HasLeft code c index count (sees_now scene) → HasLeft code c index count (SeesCalmly next ask back)
+    left_calm next ask back stays h =
+        let same : count_at c (words_after ws ask) index ≡ count_in code c (before scene) index = stays.others (count_word c index) (omega arith) in
+        record {
+          within = h.within;
+          below = let low = h.below in omega arith;
+          left = λ holds is. h.left (was_proper_calmly scene start tt here.span (then_at next ask back) holds) (sym same ∙ is);
+        }
+
+    -- a release that has freed
+    has_left : all scene ≡ Frees index owner ∷ [] → HasLeft code c index count (sees_now scene)
+    has_left freed = go stage now_at left
+      where
+        go : (s : ReleaseStage) → ReleaseAt c index owner mode (all scene) s → ReleaseLeft code c index count s (sees_now scene) → HasLeft code c index count (sees_now scene)
+        go releases.TheVariants.EmptiesCell at h = let none : [] ≡ Frees index owner ∷ [] = sym at ∙ freed in absurd (cc)
+        go (releases.TheVariants.Raises raise) at h = h
+        go (releases.TheVariants.Locks lock) at h = h
+
+    left_next : (next : ReleaseStage) (ask : Option Ask) (back : Bool) → set_effects.Stays (of_set scene) (words_after ws ask) → ReleaseAt c index owner mode (all scene) next → ReleaseLeft code c index count next (SeesCalmly (removes.TheVariants.Releases count next) ask back)
+    left_next releases.TheVariants.EmptiesCell ask back stays at = (below, low stage now_at left)
+      where
+        same : count_at c (words_after ws ask) index ≡ count_in code c (before scene) index
+        same = stays.others (count_word c index) (omega arith)
+
+        low : (s : ReleaseStage) → ReleaseAt c index owner mode (all scene) s → ReleaseLeft code c index count s (sees_now scene) → count ≤ count_at c (words_after ws ask) index
+        low releases.TheVariants.EmptiesCell at h = let was = h.1 in let eq = same in omega arith
+        low (releases.TheVariants.Raises raise) at h = let was = h.below in let eq = same in omega arith
+        low (releases.TheVariants.Locks lock) at h = let was = h.below in let eq = same in omega arith
+    left_next (releases.TheVariants.Raises raise) ask back stays at = left_calm (removes.TheVariants.Releases count (releases.TheVariants.Raises raise)) ask back stays (has_left at)
+    left_next (releases.TheVariants.Locks lock) ask back stays at = left_calm (removes.TheVariants.Releases count (releases.TheVariants.Locks lock)) ask back stays (has_left at.2)
+
+    -- what the end of the release says
+    says_now : (m : ReleaseMode) → mode ≡ m → (state : ReleaseState) → Ends (of_set scene) (inv_of_set scene inv) index owner mode fits below alive lives began 1 m state → RemoveSays code c index owner m state (sees_now scene)
+    says_now Default is states.TheVariants.Locked why = absurd why
+    says_now Default is states.TheVariants.Unlocked why = tt
+    says_now LockIfLastIndex is states.TheVariants.Locked why = why
+    says_now LockIfLastIndex is states.TheVariants.Unlocked why = (held_now p IsUnlocked events why.0, why.1)
+
+    done_now : (m : ReleaseMode) (state : ReleaseState) → Ends (of_set scene) (inv_of_set scene inv) index owner mode fits below alive lives began 1 m state → all scene ≡ Frees index owner ∷ [] → HasDone {T = T} (Remove index owner m) (answers.State state) (all scene)
+    done_now Default states.TheVariants.Locked why freed = absurd why
+    done_now Default states.TheVariants.Unlocked why freed = freed
+    done_now LockIfLastIndex states.TheVariants.Locked why freed = inl freed
+    done_now LockIfLastIndex states.TheVariants.Unlocked why freed = freed
+
+    says_calm : (m : ReleaseMode) (state : ReleaseState) (v' : View T) → v'.events ≡ events → v'.party ≡ p → RemoveSays code c index owner m state (sees_now scene) → RemoveSays code c index owner m state v'
+    says_calm m states.TheVariants.Locked v' same party h = rw same h
+    says_calm Default states.TheVariants.Unlocked v' same party h = tt
+    says_calm LockIfLastIndex states.TheVariants.Unlocked v' same party h = rw (same, party) h
+
+    -- the release has ended with this state
+    released : (state : ReleaseState) (ask : Option Ask) (back : Bool) → set_effects.Stays (of_set scene) (words_after ws ask) → Ends (of_set scene) (inv_of_set scene inv) index owner mode fits below alive lives began 1 mode state → all scene ≡ Frees index owner ∷ []
+        → backs_then scene back + since_then scene ask ≤ changes_then scene ask → steps + step_count ask ≤ 1 + release_total c index owner mode (backs_then scene back) → Lead ask back [] (Done (Ok state))
+    released state ask back stays why freed paid few = go (is_even count) refl
+      where
+        go : (b : Bool) → is_even count ≡ b → Leads scene start ask back scene.states [] (as_remove (if b then GoOn (at_remove first (removes.TheVariants.AddsChange state)) else GoOn (at_remove first (removes.TheVariants.Hides count state))))
+        go true t =
+            stays_on this (removes.TheVariants.AddsChange state) here refl ask back stays (omega arith) (below, done_now mode state why freed)
+            (paid, says_calm mode state (SeesCalmly (removes.TheVariants.AddsChange state) ask back) refl refl (says_now mode refl state why))
+        go false t =
+            stays_on this (removes.TheVariants.Hides count state) here refl ask back stays (omega arith) (below, done_now mode state why freed, subst (IsOneOf (Frees index owner)) (sym freed) (record { before = []; after = []; is = refl }), nothing, odd_is count t)
+            (paid, says_calm mode state (SeesCalmly (removes.TheVariants.Hides count state) ask back) refl refl (says_now mode refl state why), left_calm (removes.TheVariants.Hides count state) ask back stays (has_left freed))
+
+    -- and with the lock
+    locked_by : (ask : Option Ask) → mode ≡ LockIfLastIndex → (IsProper events → (i : ℕ) → holder_of i events ≡ None) → counter_of ws ≢ locked → words_after ws ask ≡ set ws 0 locked → all scene ≡ Frees index owner ∷ [] → backs_then scene false + since_then scene ask ≤ changes_then scene ask
+        → steps + step_count ask ≤ 1 + release_total c index owner mode (backs_then scene false) → Lead ask false (Locked p ∷ []) (Done (Ok states.TheVariants.Locked))
+    locked_by ask may_lock nobody open_now new freed paid few = go (is_even count) refl
+      where
+        set_does : set_invariant.Does (of_set scene) (words_after ws ask) (Locked p ∷ [])
+        set_does = set_locks.locks (of_set scene) (inv_of_set scene inv) (words_after ws ask) [] set_effects.quiet_none tt tt tt nobody open_now new
+
+        does : (y : Party T) → Does scene (words_after ws ask) scene.states y (Locked p ∷ [])
+        does y =
+            locks scene inv start (at_stage this) tt here y (words_after ws ask) (rest_set scene inv start (at_stage this) tt here y (words_after ws ask) 0 locked (omega arith) new) (wide_set scene inv start (at_stage this) tt here y (words_after ws ask) 0 locked new) set_does
+            (was_proper scene start tt here.span (words_after ws ask) y (Locked p ∷ []) (refl, tt)) (owes_none scene start (at_stage this) y here refl)
+
+        stands : AllFollow (Stands promise c) (Open (Container (Remove index owner mode)) (wrote_of p events)) (Locked p ∷ [])
+        stands = subst (λ m. AllFollow (Stands promise c) (Open (Container (Remove index owner m)) (wrote_of p events)) (Locked p ∷ [])) (sym may_lock) (freed, tt)
+
+        done_then : HasDone {T = T} (Remove index owner mode) (answers.State states.TheVariants.Locked) (all scene ++ Locks ∷ [])
+        done_then = subst (λ m. HasDone {T = T} (Remove index owner m) (answers.State states.TheVariants.Locked) (all scene ++ Locks ∷ [])) (sym may_lock) (inr (ap (λ d. d ++ Locks ∷ []) freed))
+
+        says : is_locked (events ++ Locked p ∷ []) ≡ true
+        says = fold-append locked_after false events (Locked p ∷ [])
+
+        left_then : (y : Party T) → HasLeft code c index count (then_sees scene ask false scene.states y (Locked p ∷ []))
+        left_then y =
+            let h = has_left freed in
+            let same : count_at c (words_after ws ask) index ≡ count_in code c (before scene) index = rest_set scene inv start (at_stage this) tt here y (words_after ws ask) 0 locked (omega arith) new (count_word c index) (omega arith) in
+            record {
+              within = h.within;
+              below = let low = h.below in omega arith;
+              left = λ holds is. fold-append (left_after index) true events (Locked p ∷ []) ∙ h.left (was_proper scene start tt here.span (words_after ws ask) y (Locked p ∷ []) (refl, tt) holds) (sym same ∙ is);
+            }
+
+        go : (b : Bool) → is_even count ≡ b → Leads scene start ask false scene.states (Locked p ∷ []) (as_remove (if b then GoOn (at_remove first (removes.TheVariants.AddsChange states.TheVariants.Locked)) else GoOn (at_remove first (removes.TheVariants.Hides count states.TheVariants.Locked))))
+        go true t =
+            goes_on scene start (at_stage (removes.TheVariants.AddsChange states.TheVariants.Locked)) ask false scene.states (Locked p ∷ []) here.span (λ start w. refl) (does (then_at (removes.TheVariants.AddsChange states.TheVariants.Locked) ask false)) stands (omega arith)
+            (refl, given_is, fits, (below, done_then)) (paid, says)
+        go false t =
+            goes_on scene start (at_stage (removes.TheVariants.Hides count states.TheVariants.Locked)) ask false scene.states (Locked p ∷ []) here.span (λ start w. refl) (does (then_at (removes.TheVariants.Hides count states.TheVariants.Locked) ask false)) stands (omega arith)
+            (refl, given_is, fits, (below, done_then, subst (λ d. IsOneOf (Frees index owner) (d ++ Locks ∷ [])) (sym freed) (record { before = []; after = Locks ∷ []; is = refl }), ap (λ (d : List (Act T)). d ++ []) nothing, odd_is count t))
+            (paid, says, left_then (then_at (removes.TheVariants.Hides count states.TheVariants.Locked) ask false))
+
+    caller : Caller (of_set scene) (inv_of_set scene inv) index owner mode fits below alive lives began 1 Lead
+    caller =
+        record {
+          quiet = λ next ask back stays at known few.
+              stays_on this (removes.TheVariants.Releases count next) here refl ask back stays (omega arith) (below, at, nothing) (known, left_next next ask back stays at);
+          freed = λ ask new does none known few.
+              let next = removes.TheVariants.Releases count (releases.TheVariants.Raises raises.TheVariants.LoadsCounter) in
+              let y = then_at next ask false in
+              let es : List (Event T) = FreedOf p index owner ∷ [] in
+              let rest = rest_set scene inv start (at_stage this) tt here y (words_after ws ask) (cell_word index) empty (omega arith) new in
+              let same : count_at c (words_after ws ask) index ≡ count_in code c (before scene) index = rest (count_word c index) (omega arith) in
+              goes_on scene start (at_stage next) ask false scene.states es here.span (λ start w. refl)
+              (frees scene inv start (at_stage this) tt here y (words_after ws ask) rest (wide_set scene inv start (at_stage this) tt here y (words_after ws ask) (cell_word index) empty new) index owner does
+              (was_proper scene start tt here.span (words_after ws ask) y es (refl, tt)) (owes_none scene start (at_stage this) y here refl) (subst (FreedRight p index owner events) (sym here.span) tt))
+              ((refl, refl, none), tt) (omega arith) (refl, given_is, fits, (below, ap (λ d. d ++ Frees index owner ∷ []) none, ap (λ (d : List (Act T)). d ++ []) nothing)) (
+                known,
+                record {
+                  within = below;
+                  below = low same;
+                  left = λ holds is. fold-append (left_after index) true events es ∙ set_effects.at_same index index true (left_of index events) refl;
+                },
+              );
+          refused = λ ask same other none paid few. refuses this here refl ask same other none (omega arith) few;
+          ended = λ state ask back stays why freed paid few. released state ask back stays why freed paid few;
+          locks = λ ask may_lock nobody open_now new freed paid few. locked_by ask may_lock nobody open_now new freed paid few;
+        }
+      where
+        low : {n : ℕ} → n ≡ count_in code c (before scene) index → count ≤ n
+        low {n} same = go stage now_at left
+          where
+            go : (s : ReleaseStage) → ReleaseAt c index owner mode (all scene) s → ReleaseLeft code c index count s (sees_now scene) → count ≤ n
+            go releases.TheVariants.EmptiesCell at h = let was = h.1 in omega arith
+            go (releases.TheVariants.Raises raise) at h = let was = h.below in omega arith
+            go (releases.TheVariants.Locks lock) at h = let was = h.below in omega arith
+
+    release_step : set_knows.Knows c (release_at c index owner mode stage) (set_stages.now (of_set scene)) → steps ≤ 1 + release_number c mode stage backs → StepOf scene start (at_stage (removes.TheVariants.Releases count stage))
+    release_step k s = held_step (of_set scene) (inv_of_set scene inv) index owner mode fits below alive lives began 1 Lead caller stage now_at k s
+
+  -- no turn back was counted
+  same_total : release_total c index owner mode (backs_then scene false) ≡ release_total c index owner mode backs
+  same_total = let same : backs + 0 ≡ backs = omega arith in ap (λ n. release_total c index owner mode n) same
+
+  -- ---- the number is loaded
+
+  module _ (here : Here removes.TheVariants.LoadsCount) (none : all scene ≡ []) (nothing : done scene ≡ []) (k : set_knows.Knows c (release_at c index owner mode releases.TheVariants.EmptiesCell) (set_stages.now (of_set scene))) (s : steps ≤ 0) where
+    abbrev load_it : Option Ask
+    load_it = Some (set_stages.loads (count_word c index))
+
+    abbrev number : ℕ
+    number = count_in code c (before scene) index
+
+    loads_step : StepOf scene start (at_stage removes.TheVariants.LoadsCount)
+    loads_step =
+        let next = removes.TheVariants.Releases number releases.TheVariants.EmptiesCell in
+        let same = loads_same ws (count_word c index) in
+        stays_on removes.TheVariants.LoadsCount next here refl load_it false (set_effects.stays_same (of_set scene) (inv_of_set scene inv) (words_after ws load_it) same) (omega arith) (below, none, nothing)
+        (record { paid = let paid = k.paid in omega arith; scanned = tt; owns = k.owns; says = tt; gone = tt }, (below, let eq : count_at c (words_after ws load_it) index ≡ number = ap (λ w. count_at c w index) same in omega arith))
+
+  -- ---- what stands there is hidden
+
+  module _ (count : ℕ) (state : ReleaseState) (here : Here (removes.TheVariants.Hides count state)) (stands : RemoveAt c z (all scene) (done scene) index owner mode (removes.TheVariants.Hides count state)) (k : RemoveKnows code c index owner mode (removes.TheVariants.Hides count state) (sees_now scene))
+      (s : steps ≤ 1 + release_total c index owner mode backs) where
+    abbrev hide_it : Option Ask
+    hide_it = Some (exchanges (count_word c index) count (one_more count))
+
+    abbrev count_now : ℕ
+    count_now = count_in code c (before scene) index
+
+    abbrev next : RemoveStage
+    next = removes.TheVariants.AddsChange state
+
+    says_then : (m : ReleaseMode) (t : ReleaseState) (es : List (Event T)) → BeginsNone p es → (y : Party T) → RemoveSays code c index owner m t (sees_now scene) → RemoveSays code c index owner m t (then_sees scene hide_it false scene.states y es)
+    says_then m states.TheVariants.Locked es fresh y h = shut_later events es h
+    says_then Default states.TheVariants.Unlocked es fresh y h = tt
+    says_then LockIfLastIndex states.TheVariants.Unlocked es fresh y h = (held_later p IsUnlocked events es fresh h.0, record { other = h.1.other; once = held_later p _ events es fresh h.1.once })
+
+    hides_step : StepOf scene start (at_stage (removes.TheVariants.Hides count state))
+    hides_step = go (count_now == count) refl
+      where
+        go : (b : Bool) → (count_now == count) ≡ b → Leads scene start (Some (exchanges (count_word c index) count (one_more count))) false scene.states ((if b then Hidden p index ∷ [] else []) ++ []) (GoOn (at_stage (removes.TheVariants.AddsChange state)))
+        go true t =
+            let is : count_now ≡ count = grind (arith, nat_tests) in
+            let y = then_at next hide_it false in
+            let es = Hidden p index ∷ [] in
+            let odd : count_now % 2 ≡ 1 = ap (λ n. n % 2) is ∙ stands.4 in
+            let total = same_total in
+            goes_on scene start (at_stage next) hide_it false scene.states es here.span (λ start w. refl)
+            (hides scene inv start (at_stage (removes.TheVariants.Hides count state)) tt here y (words_after ws hide_it) index below (hides_count scene inv index count below is) refl odd
+            (λ holds q ne o theirs fresh. both_ways (left_of index events) fresh (k.2.left holds is)) (was_proper scene start tt here.span (words_after ws hide_it) y es (refl, tt)))
+            ((refl, stands.2, stands.3), tt) (omega arith) (refl, given_is, fits, (below, subst (λ d. HasDone {T = T} (Remove index owner mode) (answers.State state) d) (sym (append-nil (all scene))) stands.1))
+            (let paid = k.0 in omega arith, says_then mode state es tt y k.1)
+        go false t =
+            let other : count_now ≢ count = grind (arith, nat_tests) in
+            let y = then_at next hide_it false in
+            let total = same_total in
+            goes_on scene start (at_stage next) hide_it false scene.states [] here.span none_lengthens
+            (loads scene inv start (at_stage (removes.TheVariants.Hides count state)) tt here y (words_after ws hide_it) (fails_same ws (count_word c index) count (one_more count) other) (was_proper scene start tt here.span (words_after ws hide_it) y [] tt) (λ was. refl))
+            tt (omega arith) (refl, given_is, fits, (below, subst (λ d. HasDone {T = T} (Remove index owner mode) (answers.State state) d) (sym (append-nil (all scene))) stands.1))
+            (let paid = k.0 in omega arith, says_then mode state [] tt y k.1)
+
+  -- ---- the change is counted, and the call ends
+
+  module _ (state : ReleaseState) (here : Here (removes.TheVariants.AddsChange state)) (has_done : HasDone {T = T} (Remove index owner mode) (answers.State state) (all scene)) (k : RemoveKnows code c index owner mode (removes.TheVariants.AddsChange state) (sees_now scene))
+      (s : steps ≤ 2 + release_total c index owner mode backs) where
+    abbrev end_it : Option Ask
+    end_it = Some (adds_one (change_word c))
+
+    answers_right : (m : ReleaseMode) (t : ReleaseState) → RemoveSays code c index owner m t (sees_now scene) → AnswersRight c events (Finished p (Container (Remove index owner m)) (answers.State t))
+    answers_right Default states.TheVariants.Locked h = h
+    answers_right Default states.TheVariants.Unlocked h = tt
+    answers_right LockIfLastIndex states.TheVariants.Locked h = h
+    answers_right LockIfLastIndex states.TheVariants.Unlocked h = h
+
+    end_step : StepOf scene start (at_stage (removes.TheVariants.AddsChange state))
+    end_step =
+        let y = party_then scene start end_it false (Done (answers.State state)) in
+        let es = Finished p (Container start) (answers.State state) ∷ [] in
+        let proper = was_proper scene start tt here.span (words_after ws end_it) y es (refl, tt) in
+        let new = adds_to_change scene inv in
+        let most = total_is c z index owner mode (backs_then scene false) T in
+        let total = same_total in
+        ends scene start (answers.State state) end_it false scene.states [] here.span none_lengthens
+        (ends_counted scene inv start (at_stage (removes.TheVariants.AddsChange state)) tt here y (words_after ws end_it) (answers.State state)
+        (set_effects.quietly (of_set scene) (inv_of_set scene inv) (words_after ws end_it) es (leaves_behind (of_set scene) (inv_of_set scene inv) (words_after ws end_it) (change_word c) _ (omega arith) new) (quiet_end (of_set scene) (inv_of_set scene inv) start (answers.State state) (λ i o. refl) (λ i r. refl)) (refl, tt) (tt, tt) (tt, tt))
+        (answers_right mode state k.1) proper (λ holds. tt) new (λ holds i said. inv.elements.announced holds i said))
+        ((refl, has_done), tt) (omega arith) (let paid = k.0 in omega arith)
+
+-- ---- any step of a remove
+
+module _ {T : Type 0} (scene : Scene T) (inv : Inv scene) (index owner : ℕ) (mode : ReleaseMode) (fits : owner < empty) (alive : is_dead owner scene.events ≡ false) where
+  open scene use {coding as code, capacity as c, party as p, steps as steps, backs as backs, events as events}
+
+  abbrev Moves : RemoveStage → ℕ → Type 0
+  Moves stage at =
+      IsHere scene (Remove index owner mode) (remove_at c at owner mode stage) → RemoveKnows code c at owner mode stage (sees_now scene) → steps ≤ remove_number c at owner mode stage backs → StepOf scene (Remove index owner mode) (remove_at c at owner mode stage)
+
+  -- an index that is none of the container
+  past : (at : ℕ) → c ≤ index → all scene ≡ [] → Moves removes.TheVariants.Refuses at
+  past at beyond none here paid s =
+      let start = Remove index owner mode in
+      let y = party_then scene start None false (Done (answers.NotRemoved ContainerHandleNotOwnedByContainer)) in
+      let es = Finished p (Container start) (answers.NotRemoved ContainerHandleNotOwnedByContainer) ∷ [] in
+      ends scene start (answers.NotRemoved ContainerHandleNotOwnedByContainer) None false scene.states [] here.span none_lengthens
+      (silently scene inv scene.words refl y es (tt, tt) (refl, tt) start (remove_at c at owner mode removes.TheVariants.Refuses) tt here (was_proper scene start tt here.span scene.words y es (refl, tt)) (owes_none scene start (remove_at c at owner mode removes.TheVariants.Refuses) y here refl)
+      (record { asks = (tt, tt); recovers = (tt, tt); answers = (refused_right c p index owner mode events (inl beyond), tt); contains = λ h. (tt, tt); places = λ h. (tt, tt) }))
+      ((refl, refused_done T index owner mode (all scene) none), tt) (let most = total_is c code.size index owner mode (backs + 0) T in omega arith) (omega arith)
+
+  pub remove_step : (stage : RemoveStage) → RemoveAt c code.size (all scene) (done scene) index owner mode stage → Moves stage (place_of c index)
+  remove_step removes.TheVariants.Refuses at = past (place_of c index) at.0 at.1
+  remove_step removes.TheVariants.LoadsCount at =
+      subst (Moves removes.TheVariants.LoadsCount) (sym (place_is c index at.0)) (λ here k s. loads_step scene inv index owner mode fits alive at.0 here at.1 at.2 k s)
+  remove_step (removes.TheVariants.Releases count stage) at =
+      subst (Moves (removes.TheVariants.Releases count stage)) (sym (place_is c index at.0)) (λ here k s. release_step scene inv index owner mode fits alive at.0 count stage here at.1 at.2 k.1 k.0 s)
+  remove_step (removes.TheVariants.Hides count state) at =
+      subst (Moves (removes.TheVariants.Hides count state)) (sym (place_is c index at.0)) (λ here k s. hides_step scene inv index owner mode fits alive at.0 count state here at k s)
+  remove_step (removes.TheVariants.AddsChange state) at =
+      subst (Moves (removes.TheVariants.AddsChange state)) (sym (place_is c index at.0)) (λ here k s. end_step scene inv index owner mode fits alive at.0 state here at.1 k s)

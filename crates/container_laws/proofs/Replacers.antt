@@ -1,0 +1,15 @@
+-- Who began the latest replace of an index for an owner.
+use Rattle.std.proofs.Common.{ℕ, ◌==◌, ◌&&◌, if◌then◌else◌, Option, Some, None, List, fold}
+use Rattle.model.specs.declared.event.Event.{Event}
+use Rattle.model.specs.declared.event.Event.TheVariants.{Begun}
+use Rattle.model.specs.declared.event.Start.TheVariants.{Container}
+use Rattle.model.specs.declared.families.container.ContainerStart.TheVariants.{Replace}
+
+module _ {T : Type 0} where
+  abbrev pub replacer_after : ℕ → ℕ → Option ℕ → Event T → Option ℕ
+  replacer_after i o party (Begun p (Container (Replace index value owner))) =
+      if (index == i) && (owner == o) then Some p else party
+  replacer_after i o party e = party
+
+  abbrev pub replacer_of : ℕ → ℕ → List (Event T) → Option ℕ
+  replacer_of i o events = fold (replacer_after i o) None events

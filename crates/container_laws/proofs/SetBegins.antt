@@ -1,0 +1,125 @@
+-- What a call does to the set of a container as it begins: nothing but that a remove takes the right to give its index back.
+use Rattle.std.proofs.Common.{◌≡◌, ◌≢◌, ℕ, ◌==◌, ⊎_elim, if◌then◌else◌, false, Option, Some, None, List, [], ◌∷◌, ◌++◌, refl, sym, ap, ◌∙◌, arith, eq-eqb, ne_eqb}
+use Rattle.std.proofs.lemmas.Bool.{cases_eq}
+use Rattle.std.proofs.lemmas.List.Sums.{fold-append}
+use Rattle.steps.specs.declared.indices.enums.ReleaseMode.{ReleaseMode}
+use Rattle.model.specs.declared.event.Event.{Event}
+use Rattle.model.specs.declared.event.Event.TheVariants.{Begun}
+use Rattle.model.specs.declared.event.Start.TheVariants.{Container}
+use Rattle.model.specs.declared.families.container.ContainerStart.{ContainerStart}
+use Rattle.model.specs.declared.families.container.ContainerStart.TheVariants.{Remove}
+use Rattle.model.specs.Families.Indices.Reading.{locked_after, is_locked}
+use Rattle.model.specs.Families.Container.Reading.{NoneTakes}
+use Rattle.model.specs.Families.Indices.Robust.Promises.{cell_of, SetDoes, AnswersRight, HoldsRight}
+use Rattle.model.specs.Families.Indices.Robust.Reading.{without, deeds, filled_after, filled_of, holder_after, holder_of, settled_after, settled_of, dead_after, is_dead, wrote_in}
+use Rattle.model.proofs.Moments.{others_begin_none}
+use Rattle.model.proofs.Readings.{Each-append, span_of-other}
+use Rattle.robust_laws.proofs.Begins.{without_other, not_taken}
+use Rattle.robust_laws.proofs.Effects.{at_same, at_other, proper_less}
+use Rattle.robust_laws.proofs.Invariant.{Scene, Good, Does}
+use Rattle.robust_laws.proofs.Rights.{Right, Settled, By, taken_by, right_after, right_of, AreOwned}
+
+-- ---- the right to one index
+
+still_settled : (T : Type 0) (p : ℕ) (start : ContainerStart T) (i o : ℕ) (old : Option ℕ) (r : Right) → settled_after {T = T} i old (Begun p (Container start)) ≡ Some o → (old ≡ Some o → r ≡ Settled o)
+    → (old ≡ Some o) × (right_after {T = T} i r (Begun p (Container start)) ≡ Settled o)
+still_settled T p (Remove index owner mode) i o old r e was = ⊎_elim here there (cases_eq i index)
+  where
+    here : i ≡ index → (old ≡ Some o) × ((if index == i then taken_by p owner r else r) ≡ Settled o)
+    here same =
+        let left : without owner old ≡ Some o = sym (at_same index i (without owner old) old same) ∙ e in
+        let both = without_other owner old o left in
+        (both.0, at_same index i (taken_by p owner r) r same ∙ (ap (taken_by p owner) (was both.0) ∙ not_taken p owner o both.1))
+
+    there : i ≢ index → (old ≡ Some o) × ((if index == i then taken_by p owner r else r) ≡ Settled o)
+    there ne =
+        let left : old ≡ Some o = sym (at_other index i (without owner old) old ne) ∙ e in
+        (left, at_other index i (taken_by p owner r) r ne ∙ was left)
+still_settled T p start i o old r e was = (e, was e)
+
+-- what may be given back still may, unless a release of it for its owner begins
+not_taken_from : (T : Type 0) (p : ℕ) (start : ContainerStart T) (i o : ℕ) (old : Option ℕ) → old ≡ Some o → NoneTakes {T = T} i o (Begun p (Container start) ∷ []) → settled_after {T = T} i old (Begun p (Container start)) ≡ Some o
+not_taken_from T p (Remove index owner mode) i o old e none = ⊎_elim here (λ ne. at_other index i (without owner old) old ne ∙ e) (cases_eq i index)
+  where
+    here : i ≡ index → (if index == i then without owner old else old) ≡ Some o
+    here same = at_same index i (without owner old) old same ∙ (ap (without owner) e ∙ ap (λ b. if b then None else Some o) (ne_eqb o owner (λ is. none.0 (sym same, sym is))))
+not_taken_from T p start i o old e none = e
+
+still_by : (T : Type 0) (p q : ℕ) (start : ContainerStart T) (i : ℕ) (r : Right) → r ≡ By q → right_after {T = T} i r (Begun p (Container start)) ≡ By q
+still_by T p q (Remove index owner mode) i r e = ⊎_elim here (λ ne. at_other index i (taken_by p owner r) r ne ∙ e) (cases_eq i index)
+  where
+    here : i ≡ index → (if index == i then taken_by p owner r else r) ≡ By q
+    here same = at_same index i (taken_by p owner r) r same ∙ ap (taken_by p owner) e
+still_by T p q start i r e = e
+
+module _ {T : Type 0} where
+  -- a release takes the right
+  pub takes_right : (p index owner : ℕ) (mode : ReleaseMode) (events : List (Event T)) → right_of index events ≡ Settled owner → right_of index (events ++ Begun p (Container (Remove index owner mode)) ∷ []) ≡ By p
+  takes_right p index owner mode events e =
+      fold-append (right_after index) _ events (Begun p (Container (Remove index owner mode)) ∷ [])
+      ∙ (at_same index index (taken_by p owner (right_of index events)) (right_of index events) refl
+      ∙ (ap (taken_by p owner) e ∙ ap (λ b. if b then By p else Settled owner) (eq-eqb owner owner refl)))
+
+module _ {T : Type 0} (scene : Scene T) (g : Good scene.capacity scene.set.words scene.set.dead scene.events scene.turns) (start : ContainerStart T) where
+  open scene use {capacity as c, party as p, turns as turns, events as events}
+
+  abbrev es : List (Event T)
+  es = Begun p (Container start) ∷ []
+
+  same_filled : (j : ℕ) → filled_of j (events ++ es) ≡ filled_of j events
+  same_filled j = fold-append (filled_after j) None events es
+
+  same_holder : (j : ℕ) → holder_of j (events ++ es) ≡ holder_of j events
+  same_holder j = fold-append (holder_after j) None events es
+
+  same_lock : is_locked (events ++ es) ≡ is_locked events
+  same_lock = fold-append locked_after false events es
+
+  same_dead : (o : ℕ) → is_dead o (events ++ es) ≡ is_dead o events
+  same_dead o = fold-append (dead_after o) false events es
+
+  settles : AreOwned events → (i o : ℕ) → settled_of i (events ++ es) ≡ Some o → (filled_of i (events ++ es) ≡ Some o) × (right_of i (events ++ es) ≡ Settled o)
+  settles h i o e =
+      let k = still_settled T p start i o (settled_of i events) (right_of i events) (sym (fold-append (settled_after i) None events es) ∙ e) (λ was. (h.settled i o was).1) in
+      (same_filled i ∙ (h.settled i o k.0).0, fold-append (right_after i) _ events es ∙ k.1)
+
+  pub begins : Does scene scene.set.words (Begun p (Container start) ∷ [])
+  begins =
+      record {
+        own = (refl, tt);
+        good =
+            record {
+              some = g.some;
+              few = g.few;
+              wide = g.wide;
+              cells = λ i below. g.cells i below ∙ sym (ap cell_of (same_filled i));
+              filled = λ i owner e. g.filled i owner (sym (same_filled i) ∙ e);
+              lock = g.lock ∙ sym same_lock;
+              low = λ t. let low = g.low (sym same_lock ∙ t) in omega arith;
+              died = λ o. g.died o ∙ sym (same_dead o);
+              does = Each-append (SetDoes c) events es g.does (tt, tt);
+              answers = Each-append (AnswersRight c) events es g.answers (tt, tt);
+              owned = λ proper.
+                  let h = g.owned (proper_less events es proper) in
+                  record { held = λ i owner e. same_filled i ∙ h.held i owner (sym (same_holder i) ∙ e); settled = settles h };
+              holds = λ proper. Each-append HoldsRight events es (g.holds (proper_less events es proper)) (tt, tt);
+            };
+        goes =
+            record {
+              grows = omega arith;
+              grants = λ same j none. same_holder j ∙ none;
+              fills = λ j owner d e. sym (same_filled j) ∙ e;
+              dead = λ o d. same_dead o ∙ d;
+              lives = λ o l. sym (same_dead o) ∙ l;
+              proper = proper_less events es;
+            };
+        spares = λ q ne.
+            record {
+              none = others_begin_none q p es ne (refl, tt);
+              deeds = ap (λ s. deeds (wrote_in s)) (span_of-other p q events es ne (refl, tt));
+              owned = λ proper i owner alive h. record { right = fold-append (right_after i) _ events es ∙ still_by T p q start i (right_of i events) h.right; filled = same_filled i ∙ h.filled };
+              unheld = λ proper i owner alive h none. same_holder i ∙ none;
+              held = λ proper i owner alive h here. same_holder i ∙ here;
+              settled = λ proper i owner alive h none. fold-append (settled_after i) None events es ∙ not_taken_from T p start i owner (settled_of i events) h none;
+            };
+      }

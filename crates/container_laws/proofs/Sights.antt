@@ -1,0 +1,116 @@
+-- What is so of a party's state: between its looks, and while a look goes over the indices. It stays so over any turn.
+use Rattle.std.proofs.Common.{◌≡◌, ◌≢◌, ◌⊎◌, ⊎_elim, inl, inr, ℕ, ◌<◌, ◌≤◌, true, Option, Some, None, is_some, List, ◌++◌, length, slice_get, slice_index_or, sym, ap, subst, ◌∙◌, append_assoc, arith}
+use Rattle.steps.specs.declared.container.state.ContainerState.{ContainerState}
+use Rattle.steps.specs.declared.container.state.Element.{Element}
+use Rattle.model.specs.declared.event.Event.{Event}
+use Rattle.model.specs.Coding.{Coding}
+use Rattle.model.specs.Families.Container.Looks.{shows, WasCopied, WasAlone}
+use Rattle.model.specs.Families.Container.Reading.{contents_of, announced_of}
+use Rattle.model.specs.Families.Indices.Robust.Promises.{HeldThrough}
+use Rattle.model.specs.Moments.{BeginsNone, HeldOnce}
+use Rattle.model.proofs.Moments.{held_later}
+use Rattle.robust_laws.proofs.Past.{through_less, through_now}
+use Rattle.container_laws.proofs.Alone.{alone_less}
+use Rattle.container_laws.proofs.Turns.{Owing, Now, Proper, count_in, change_in, Passes}
+
+module _ {T : Type 0} where
+  -- the number that a state has found at an index
+  abbrev pub number_in : Option (Element T) → ℕ
+  number_in None = 0
+  number_in (Some e) = e.count
+
+  abbrev pub number_at : ContainerState T → ℕ → ℕ
+  number_at s i = number_in (slice_get s.shown.elements i)
+
+  pub copied_later : (p i : ℕ) (value : T) (events es : List (Event T)) → WasCopied p i value events → WasCopied p i value (events ++ es)
+  copied_later p i value events es h =
+      record { before = h.before; after = h.after ++ es; is = ap (λ xs. xs ++ es) h.is ∙ append_assoc h.before _ es }
+
+  -- something stood at the index through the party's call
+  abbrev pub StoodThere : ℕ → ℕ → List (Event T) → Type 0
+  StoodThere p i events = HeldThrough p (λ part. is_some (contents_of i part) ≡ true) events
+
+module _ {T : Type 0} (code : Coding T) (c : ℕ) where
+  -- The state of the party q shows this of the indices, but that one of them is being copied. A look has come
+  -- to the indices below k.
+  pub record Sight (m : Now T) (q : ℕ) (s : ContainerState T) (k copying : ℕ) : Type 0 where
+    pub wide : length s.shown.elements ≡ c
+    pub below : (i : ℕ) → i < c → number_at s i ≤ count_in code c m i
+    pub change : s.shown.change ≤ change_in code c m
+    pub copied : (i : ℕ) (value : T) → i ≢ copying → shows s i ≡ Some value → WasCopied q i value m.events
+    -- a number that still is there shows what stands
+    pub same : Proper m → (i : ℕ) → i < c → i ≢ copying → number_at s i ≡ count_in code c m i → shows s i ≡ contents_of i m.events
+    -- where nothing has changed since, what was announced is shown
+    pub caught : Proper m → s.shown.change ≡ change_in code c m → (i : ℕ) → i < k → i < c → announced_of i m.events ≡ true → number_at s i ≡ count_in code c m i
+    pub owed : s.shown.change ≡ change_in code c m → (i : ℕ) → i < k → i < c → (number_at s i ≡ count_in code c m i) ⊎ Owing m.latest
+
+  -- a state between its party's looks has seen what it shows
+  pub record Rests (m : Now T) (q : ℕ) (s : ContainerState T) : Type 0 where
+    pub sight : Sight m q s c c
+    pub known : length s.seen.counts ≡ c
+    pub seen : s.seen.change ≡ s.shown.change
+    pub counts : (i : ℕ) → i < c → slice_index_or s.seen.counts i 0 ≡ number_at s i
+    pub room : length s.shown.copy ≡ 128
+
+  -- a look that goes on from its state
+  pub record Course (m : Now T) (p : ℕ) (s : ContainerState T) (k copying : ℕ) : Type 0 where
+    pub sight : Sight m p s k copying
+    pub known : length s.seen.counts ≡ c
+    pub room : length s.shown.copy ≡ 128
+    -- it has not come to these
+    pub unseen : (i : ℕ) → k ≤ i → i < c → i ≢ copying → slice_index_or s.seen.counts i 0 ≡ number_at s i
+    pub fresh : Proper m → (i : ℕ) → i < k → i < c → StoodThere p i m.events → number_at s i ≡ count_in code c m i
+    pub once : Proper m → (i : ℕ) → i < k → i < c → HeldOnce p (λ part. shows s i ≡ contents_of i part) m.events
+    pub alone : WasAlone p m.events → (i : ℕ) → i < k → i < c → number_at s i ≡ count_in code c m i
+
+  -- ---- any turn
+
+  module _ (m m' : Now T) (es : List (Event T)) (more : m'.events ≡ m.events ++ es) (passes : Passes code c m m') (q : ℕ) (s : ContainerState T) where
+    -- a number that a state has found is there still, if it is there then
+    still : (i : ℕ) → i < c → number_at s i ≤ count_in code c m i → number_at s i ≡ count_in code c m' i → (number_at s i ≡ count_in code c m i) × (count_in code c m' i ≡ count_in code c m i)
+    still i below low e = let grows = passes.counts i below in (omega arith, omega arith)
+
+    change_still : s.shown.change ≤ change_in code c m → s.shown.change ≡ change_in code c m' → (s.shown.change ≡ change_in code c m) × (change_in code c m' ≡ change_in code c m)
+    change_still low e = let grows = passes.change in (omega arith, omega arith)
+
+    pub sight_later : (k x : ℕ) → Sight m q s k x → Sight m' q s k x
+    sight_later k x h =
+        record {
+          wide = h.wide;
+          below = λ i low. let was = h.below i low in let grows = passes.counts i low in omega arith;
+          change = let was = h.change in let grows = passes.change in omega arith;
+          copied = λ i value ne e. subst (WasCopied q i value) (sym more) (copied_later q i value m.events es (h.copied i value ne e));
+          same = λ proper i low ne e.
+              let k = still i low (h.below i low) e in
+              h.same (passes.proper proper) i low ne k.0 ∙ sym (passes.stands proper i low k.1);
+          caught = λ proper is i ks low said.
+              let k = change_still h.change is in
+              let a = passes.announces proper k.1 i low said in
+              h.caught (passes.proper proper) k.0 i ks low a.0 ∙ sym a.1;
+          owed = λ is i ks low.
+              let k = change_still h.change is in
+              ⊎_elim (λ e. ⊎_elim (λ same. inl (e ∙ sym same)) (λ o. inr o) (passes.owed k.1 i low)) (λ o. inr (passes.owing k.1 o)) (h.owed k.0 i ks low);
+        }
+
+    pub rests_later : Rests m q s → Rests m' q s
+    rests_later h = record { sight = sight_later c c h.sight; known = h.known; seen = h.seen; counts = h.counts; room = h.room }
+
+    -- of a look of a party that begins no call, nor is alone with another's step
+    pub course_later : BeginsNone q es → (WasAlone q m'.events → (i : ℕ) → i < c → count_in code c m' i ≡ count_in code c m i) → (k x : ℕ) → Course m q s k x → Course m' q s k x
+    course_later none steady k x h =
+        record {
+          sight = sight_later k x h.sight;
+          known = h.known;
+          room = h.room;
+          unseen = h.unseen;
+          fresh = λ proper i ks low through.
+              let all = subst (StoodThere q i) more through in
+              let less = through_less q (λ part. is_some (contents_of i part) ≡ true) m.events es none all in
+              let was = h.fresh (passes.proper proper) i ks low less in
+              was ∙ sym (passes.stood proper i low (through_now q (λ part. is_some (contents_of i part) ≡ true) m.events less) (through_now q (λ part. is_some (contents_of i part) ≡ true) m'.events through));
+          once = λ proper i ks low.
+              subst (HeldOnce q (λ part. shows s i ≡ contents_of i part)) (sym more)
+              (held_later q (λ part. shows s i ≡ contents_of i part) m.events es none (h.once (passes.proper proper) i ks low));
+          alone = λ was i ks low.
+              h.alone (alone_less q m.events es none (subst (WasAlone q) more was)) i ks low ∙ sym (steady was i low);
+        }

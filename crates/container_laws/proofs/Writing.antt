@@ -1,0 +1,58 @@
+-- The steps of a call that may write at an index, an add or a replace: it loads the number there, hides what an earlier owner
+-- left, stores the words of its value, and places it. What each step leads to is what the caller makes of it.
+use Rattle.std.proofs.Common.{◌≡◌, ◌≢◌, ℕ, ◌+◌, ◌%◌, ◌^◌, ◌<◌, false, true, Some, List, set, ap, ◌∙◌, arith}
+use Rattle.std.proofs.lemmas.Bool.Decides.{nat_tests}
+use Rattle.steps.specs.declared.ask.Ask.{Ask}
+use Rattle.steps.specs.declared.ask.Op.TheVariants.{Add, Store}
+use Rattle.steps.specs.Container.Layout.{change_word, count_word, is_even}
+use Rattle.steps.specs.Indices.Robust.Parts.{one_more}
+use Rattle.model.specs.Turns.{words_after}
+use Rattle.robust_laws.proofs.Stages.{exchanges, exchange_sets}
+use Rattle.container_laws.proofs.Invariant.{Scene, Inv, before}
+use Rattle.container_laws.proofs.Turns.{count_in, change_in}
+
+abbrev pub adds_one : ℕ → Ask
+adds_one word = record { word = word; op = Add 1 }
+
+abbrev pub stores_to : ℕ → ℕ → Ask
+stores_to word new = record { word = word; op = Store new }
+
+pub even_is : (n : ℕ) → is_even n ≡ true → n % 2 ≡ 0
+even_is n t = grind (arith, nat_tests)
+
+pub odd_is : (n : ℕ) → is_even n ≡ false → n % 2 ≡ 1
+odd_is n t =
+    let other : n % 2 ≢ 0 = grind (arith, nat_tests) in
+    omega arith
+
+module _ {T : Type 0} (scene : Scene T) (inv : Inv scene) where
+  open scene use {coding as code, capacity as c, turns as turns}
+
+  abbrev ws : List ℕ
+  ws = scene.words
+
+  -- a number that is one of the words is far from its end
+  small_count : (i : ℕ) → i < c → (count_in code c (before scene) i + 1) % 2 ^ 64 ≡ count_in code c (before scene) i + 1
+  small_count i below =
+      let few = inv.elements.counts i below in
+      let small = inv.small in
+      omega arith
+
+  -- 1 is added to the number of an element, or to the changes
+  pub adds_to_count : (i : ℕ) → i < c → words_after ws (Some (adds_one (count_word c i))) ≡ set ws (count_word c i) (count_in code c (before scene) i + 1)
+  adds_to_count i below = ap (set ws (count_word c i)) (small_count i below)
+
+  pub adds_to_change : words_after ws (Some (adds_one (change_word c))) ≡ set ws (change_word c) (change_in code c (before scene) + 1)
+  adds_to_change =
+      let few = inv.elements.change in
+      let small = inv.small in
+      let fits : (change_in code c (before scene) + 1) % 2 ^ 64 ≡ change_in code c (before scene) + 1 = omega arith in
+      ap (set ws (change_word c)) fits
+
+  -- a hide that finds the number that it loaded
+  pub hides_count : (i count : ℕ) → i < c → count_in code c (before scene) i ≡ count → words_after ws (Some (exchanges (count_word c i) count (one_more count))) ≡ set ws (count_word c i) (count_in code c (before scene) i + 1)
+  hides_count i count below is =
+      let few = inv.elements.counts i below in
+      let small = inv.small in
+      let next : one_more count ≡ count_in code c (before scene) i + 1 = omega arith in
+      exchange_sets ws (count_word c i) count (one_more count) is ∙ ap (set ws (count_word c i)) next

@@ -1,0 +1,23 @@
+-- What is found where the state of a party of a container is looked up.
+use Rattle.std.specs.Prelude.{◌≡◌, ℕ, ◌<◌, ◌≤◌, Option, Some, None, []}
+use Rattle.steps.specs.declared.container.state.ContainerState.{ContainerState}
+use Rattle.model.specs.declared.families.Kept.{Kept}
+use Rattle.model.specs.declared.families.Kept as kepts
+use Rattle.model.specs.Families.Container.States.{state_of}
+
+module _ {T : Type 0} where
+  abbrev pub ShowsNothing : Option (ContainerState T) → Type 0
+  ShowsNothing (Some state) = state.shown.elements ≡ []
+  ShowsNothing None = ⊥
+
+  -- the state that the party's looks have written into, and before its first look one that shows
+  -- nothing; none where there is no such party
+  abbrev pub IsFound : ℕ → ℕ → Option (ContainerState T) → Option (ContainerState T) → Type 0
+  IsFound parties p found (Some state) = found ≡ Some state
+  IsFound parties p found None = (p < parties → ShowsNothing found) × (parties ≤ p → found ≡ None)
+
+  -- in what a machine of so many parties keeps; other kinds have no states
+  abbrev pub IsStateIn : Kept T → ℕ → ℕ → Option (ContainerState T) → Type 0
+  IsStateIn (kepts.TheVariants.Container dead states) parties p found =
+      IsFound parties p found (state_of p states)
+  IsStateIn kept parties p found = found ≡ None

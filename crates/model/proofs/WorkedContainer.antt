@@ -1,0 +1,361 @@
+-- The definitions of the container at worked runs, of values of two words.
+use Rattle.std.proofs.Common.{◌≡◌, ℕ, ◌+◌, ◌-◌, ◌^◌, true, false, Option, Some, None, List, [], ◌∷◌, ◌++◌, refl}
+use Rattle.steps.specs.declared.container.enums.ContainerRemoveError.TheVariants.{ContainerHandleNotOwnedByContainer}
+use Rattle.steps.specs.declared.container.state.ContainerState.{ContainerState}
+use Rattle.steps.specs.declared.indices.enums.ReleaseMode.{ReleaseMode}
+use Rattle.steps.specs.declared.indices.enums.ReleaseMode.TheVariants.{Default}
+use Rattle.steps.specs.declared.indices.enums.ReleaseState as states
+use Rattle.model.specs.declared.event.Answer.TheVariants.{Done, Index, State, Number, Truth, NotRemoved}
+use Rattle.model.specs.declared.event.Event.{Event}
+use Rattle.model.specs.declared.event.Event.TheVariants.{Begun, Filled, Granted, FreedOf, Asked, Told, Placed, Hidden, Copied, Shown, Died, Finished}
+use Rattle.model.specs.declared.event.Start.{Start}
+use Rattle.model.specs.declared.event.Start.TheVariants.{Container}
+use Rattle.model.specs.declared.families.container.ContainerStart.TheVariants.{Add, Remove, Replace, Find, Recover, GetState, UpdateState}
+use Rattle.model.specs.declared.turn.Kind as kinds
+use Rattle.model.specs.declared.turn.Refusal.TheVariants.{OwnerIsDead, OwnerLives, Undecided, WrongCall}
+use Rattle.model.specs.declared.turn.Turn.{Turn}
+use Rattle.model.specs.declared.turn.Turn.TheVariants.{Begin, Next, Decide, Die}
+use Rattle.model.specs.Families.Container.Looks.{state_in, shows}
+use Rattle.model.specs.Families.Container.Promises.{ContainsRight, question_in}
+use Rattle.model.specs.Refusals.{refusal_of}
+use Rattle.model.specs.World.{Trace, flight_in, progress_in}
+use Rattle.model.proofs.Runs.{two_words, nexts, begins, ran}
+
+abbrev add : ℕ → ℕ → Start ℕ
+add value owner = Container (Add value owner)
+
+abbrev remove : ℕ → ℕ → ReleaseMode → Start ℕ
+remove index owner mode = Container (Remove index owner mode)
+
+abbrev replace : ℕ → ℕ → ℕ → Start ℕ
+replace index value owner = Container (Replace index value owner)
+
+abbrev find : ℕ → Start ℕ
+find owner = Container (Find owner)
+
+abbrev recover : ℕ → Start ℕ
+recover owner = Container (Recover owner Default)
+
+abbrev get_state : Start ℕ
+get_state = Container GetState
+
+abbrev update_state : Start ℕ
+update_state = Container UpdateState
+
+abbrev ran_on : ℕ → List (Turn ℕ) → Trace ℕ
+ran_on capacity turns = ran two_words kinds.TheVariants.Container capacity 2 turns
+
+-- what the party's state shows at an index
+abbrev shown_to : Option (ContainerState ℕ) → ℕ → Option ℕ
+shown_to None i = None
+shown_to (Some state) i = shows state i
+
+abbrev shown_in : Trace ℕ → ℕ → ℕ → Option ℕ
+shown_in t p i = shown_to (state_in t.world.kept p) i
+
+-- ---- the opening: the counter, the cells, the changes, the numbers, and two words an element
+
+pub opening_of_two : (ran_on 2 []).world.words
+    ≡ 0 ∷ (2 ^ 64 - 1) ∷ (2 ^ 64 - 1) ∷ 0 ∷ 0 ∷ 0 ∷ 0 ∷ 0 ∷ 0 ∷ 0 ∷ []
+opening_of_two = refl
+
+-- ---- an owner who dies between the two words of his value: the index is freed without a question
+
+abbrev half_written : List (Turn ℕ)
+half_written =
+    begins 0 (add 18446744073709551618 1) 6
+    ++ (Die 1 ∷ begins 1 (recover 1) 8
+    ++ (begins 1 (add 7 2) 9
+    ++ begins 1 get_state 5))
+
+pub half_written_events : (ran_on 1 half_written).events
+    ≡ Begun 0 (add 18446744073709551618 1)
+    ∷ Filled 0 0 1
+    ∷ Granted 0 0 1
+    ∷ Died 1
+    ∷ Begun 1 (recover 1)
+    ∷ Shown 1 0
+    ∷ FreedOf 1 0 1
+    ∷ Finished 1 (recover 1) (State states.TheVariants.Unlocked)
+    ∷ Begun 1 (add 7 2)
+    ∷ Filled 1 0 2
+    ∷ Granted 1 0 2
+    ∷ Placed 1 0 7
+    ∷ Finished 1 (add 7 2) (Index 0)
+    ∷ Begun 1 get_state
+    ∷ Copied 1 0 7
+    ∷ Finished 1 get_state (Number 1)
+    ∷ []
+half_written_events = refl
+
+pub half_written_shows : shown_in (ran_on 1 half_written) 1 0 ≡ Some 7
+half_written_shows = refl
+
+-- the counter was raised by two acquires and a recovery, and two changes were counted
+pub half_written_words : (ran_on 1 half_written).world.words ≡ 3 ∷ 2 ∷ 2 ∷ 1 ∷ 0 ∷ 7 ∷ []
+half_written_words = refl
+
+-- his add goes on no more
+pub dead_adds_nothing : refusal_of (ran_on 1 half_written).world (Next 0) ≡ Some OwnerIsDead
+dead_adds_nothing = refl
+
+-- ---- a remove that stops after its release: its value can still be seen
+
+abbrev seen_late : List (Turn ℕ)
+seen_late =
+    begins 0 (add 5 1) 9
+    ++ (begins 0 (remove 0 1 Default) 4 ++ (begins 1 get_state 5 ++ nexts 0 2))
+
+pub seen_late_events : (ran_on 1 seen_late).events
+    ≡ Begun 0 (add 5 1)
+    ∷ Filled 0 0 1
+    ∷ Granted 0 0 1
+    ∷ Placed 0 0 5
+    ∷ Finished 0 (add 5 1) (Index 0)
+    ∷ Begun 0 (remove 0 1 Default)
+    ∷ FreedOf 0 0 1
+    ∷ Begun 1 get_state
+    ∷ Copied 1 0 5
+    ∷ Finished 1 get_state (Number 1)
+    ∷ Hidden 0 0
+    ∷ Finished 0 (remove 0 1 Default) (State states.TheVariants.Unlocked)
+    ∷ []
+seen_late_events = refl
+
+-- ---- a replace, and a state that is brought up to date
+
+abbrev replaced : List (Turn ℕ)
+replaced =
+    begins 0 (add 5 1) 9
+    ++ (begins 1 get_state 5
+    ++ (begins 0 (replace 0 6 1) 7 ++ begins 1 update_state 5))
+
+pub replaced_events : (ran_on 1 replaced).events
+    ≡ Begun 0 (add 5 1)
+    ∷ Filled 0 0 1
+    ∷ Granted 0 0 1
+    ∷ Placed 0 0 5
+    ∷ Finished 0 (add 5 1) (Index 0)
+    ∷ Begun 1 get_state
+    ∷ Copied 1 0 5
+    ∷ Finished 1 get_state (Number 1)
+    ∷ Begun 0 (replace 0 6 1)
+    ∷ Hidden 0 0
+    ∷ Placed 0 0 6
+    ∷ Finished 0 (replace 0 6 1) Done
+    ∷ Begun 1 update_state
+    ∷ Copied 1 0 6
+    ∷ Finished 1 update_state (Truth true)
+    ∷ []
+replaced_events = refl
+
+pub replaced_shows : shown_in (ran_on 1 replaced) 1 0 ≡ Some 6
+replaced_shows = refl
+
+-- a replace that has stored one word: an update finds no change, and a new state shows nothing
+abbrev half_replaced : List (Turn ℕ)
+half_replaced =
+    begins 0 (add 5 1) 9 ++ (begins 1 get_state 5 ++ begins 0 (replace 0 6 1) 4)
+
+pub half_replaced_update : (ran_on 1 (half_replaced ++ begins 1 update_state 1)).events
+    ≡ Begun 0 (add 5 1)
+    ∷ Filled 0 0 1
+    ∷ Granted 0 0 1
+    ∷ Placed 0 0 5
+    ∷ Finished 0 (add 5 1) (Index 0)
+    ∷ Begun 1 get_state
+    ∷ Copied 1 0 5
+    ∷ Finished 1 get_state (Number 1)
+    ∷ Begun 0 (replace 0 6 1)
+    ∷ Hidden 0 0
+    ∷ Begun 1 update_state
+    ∷ Finished 1 update_state (Truth false)
+    ∷ []
+half_replaced_update = refl
+
+pub half_replaced_shows : shown_in (ran_on 1 (half_replaced ++ begins 1 update_state 1)) 1 0 ≡ Some 5
+half_replaced_shows = refl
+
+pub half_replaced_state : (ran_on 1 (half_replaced ++ begins 1 get_state 2)).events
+    ≡ Begun 0 (add 5 1)
+    ∷ Filled 0 0 1
+    ∷ Granted 0 0 1
+    ∷ Placed 0 0 5
+    ∷ Finished 0 (add 5 1) (Index 0)
+    ∷ Begun 1 get_state
+    ∷ Copied 1 0 5
+    ∷ Finished 1 get_state (Number 1)
+    ∷ Begun 0 (replace 0 6 1)
+    ∷ Hidden 0 0
+    ∷ Begun 1 get_state
+    ∷ Finished 1 get_state (Number 0)
+    ∷ []
+half_replaced_state = refl
+
+-- ---- whole calls: a new state, an update without a change, and one after a remove
+
+abbrev looked : List (Turn ℕ)
+looked = begins 0 (add 1234567 8192) 9 ++ (begins 0 get_state 6 ++ begins 0 update_state 1)
+
+pub looked_events : (ran_on 2 looked).events
+    ≡ Begun 0 (add 1234567 8192)
+    ∷ Filled 0 0 8192
+    ∷ Granted 0 0 8192
+    ∷ Placed 0 0 1234567
+    ∷ Finished 0 (add 1234567 8192) (Index 0)
+    ∷ Begun 0 get_state
+    ∷ Copied 0 0 1234567
+    ∷ Finished 0 get_state (Number 1)
+    ∷ Begun 0 update_state
+    ∷ Finished 0 update_state (Truth false)
+    ∷ []
+looked_events = refl
+
+pub looked_shows : (shown_in (ran_on 2 looked) 0 0 ≡ Some 1234567) × (shown_in (ran_on 2 looked) 0 1 ≡ None)
+looked_shows = (refl, refl)
+
+abbrev looked_again : List (Turn ℕ)
+looked_again = looked ++ (begins 0 (remove 0 8192 Default) 6 ++ begins 0 update_state 3)
+
+pub looked_again_events : (ran_on 2 looked_again).events
+    ≡ Begun 0 (add 1234567 8192)
+    ∷ Filled 0 0 8192
+    ∷ Granted 0 0 8192
+    ∷ Placed 0 0 1234567
+    ∷ Finished 0 (add 1234567 8192) (Index 0)
+    ∷ Begun 0 get_state
+    ∷ Copied 0 0 1234567
+    ∷ Finished 0 get_state (Number 1)
+    ∷ Begun 0 update_state
+    ∷ Finished 0 update_state (Truth false)
+    ∷ Begun 0 (remove 0 8192 Default)
+    ∷ FreedOf 0 0 8192
+    ∷ Hidden 0 0
+    ∷ Finished 0 (remove 0 8192 Default) (State states.TheVariants.Unlocked)
+    ∷ Begun 0 update_state
+    ∷ Finished 0 update_state (Truth true)
+    ∷ []
+looked_again_events = refl
+
+pub looked_again_shows : shown_in (ran_on 2 looked_again) 0 0 ≡ None
+looked_again_shows = refl
+
+-- ---- a recovery that asks: yes to the first value of the owner, no to the second
+
+abbrev asked : List (Turn ℕ)
+asked =
+    begins 0 (add 5 1) 9
+    ++ (begins 0 (add 6 1) 10
+    ++ (Die 1 ∷ begins 1 (recover 1) 6
+    ++ (Decide 1 true ∷ nexts 1 9 ++ (Decide 1 false ∷ nexts 1 2))))
+
+pub asked_events : (ran_on 2 asked).events
+    ≡ Begun 0 (add 5 1)
+    ∷ Filled 0 0 1
+    ∷ Granted 0 0 1
+    ∷ Placed 0 0 5
+    ∷ Finished 0 (add 5 1) (Index 0)
+    ∷ Begun 0 (add 6 1)
+    ∷ Filled 0 1 1
+    ∷ Granted 0 1 1
+    ∷ Placed 0 1 6
+    ∷ Finished 0 (add 6 1) (Index 1)
+    ∷ Died 1
+    ∷ Begun 1 (recover 1)
+    ∷ Copied 1 0 5
+    ∷ Asked 1 0 1
+    ∷ Told 1 0 1
+    ∷ FreedOf 1 0 1
+    ∷ Hidden 1 0
+    ∷ Copied 1 1 6
+    ∷ Asked 1 1 1
+    ∷ Finished 1 (recover 1) (State states.TheVariants.Unlocked)
+    ∷ []
+asked_events = refl
+
+abbrev question : List (Turn ℕ)
+question = begins 0 (add 5 1) 9 ++ begins 1 (find 1) 5
+
+pub question_is_due : refusal_of (ran_on 1 question).world (Next 1) ≡ Some Undecided
+question_is_due = refl
+
+pub question_is : question_in two_words (flight_in (ran_on 1 question).world 1) ≡ Some (0, 5)
+question_is = refl
+
+pub question_answered : (ran_on 1 (question ++ Decide 1 false ∷ [])).events
+    ≡ Begun 0 (add 5 1)
+    ∷ Filled 0 0 1
+    ∷ Granted 0 0 1
+    ∷ Placed 0 0 5
+    ∷ Finished 0 (add 5 1) (Index 0)
+    ∷ Begun 1 (find 1)
+    ∷ Copied 1 0 5
+    ∷ Finished 1 (find 1) (Number 1)
+    ∷ []
+question_answered = refl
+
+-- ---- refusals, and what is none
+
+pub dead_begins_nothing : refusal_of (ran_on 1 (Die 7 ∷ [])).world (Begin 0 (add 5 7)) ≡ Some OwnerIsDead
+dead_begins_nothing = refl
+
+pub dead_removes_nothing : refusal_of (ran_on 1 (Die 7 ∷ [])).world (Begin 0 (remove 9 7 Default)) ≡ Some OwnerIsDead
+dead_removes_nothing = refl
+
+pub dead_replaces_nothing : refusal_of (ran_on 1 (Die 7 ∷ [])).world (Begin 0 (replace 9 5 7)) ≡ Some OwnerIsDead
+dead_replaces_nothing = refl
+
+pub living_is_not_recovered : refusal_of (ran_on 1 []).world (Begin 0 (recover 7)) ≡ Some OwnerLives
+living_is_not_recovered = refl
+
+pub dead_is_found : refusal_of (ran_on 1 (Die 7 ∷ [])).world (Begin 0 (find 7)) ≡ None
+dead_is_found = refl
+
+pub greatest_is_no_owner : refusal_of (ran_on 1 []).world (Begin 0 (add 5 (2 ^ 64 - 1))) ≡ Some WrongCall
+greatest_is_no_owner = refl
+
+-- an index past the capacity: the call ends without a step
+abbrev past_the_end : List (Turn ℕ)
+past_the_end = begins 0 (remove (2 ^ 40) 7 Default) 1
+
+pub past_the_end_events : (ran_on 1 past_the_end).events
+    ≡ Begun 0 (remove (2 ^ 40) 7 Default)
+    ∷ Finished 0 (remove (2 ^ 40) 7 Default) (NotRemoved ContainerHandleNotOwnedByContainer)
+    ∷ []
+past_the_end_events = refl
+
+pub past_the_end_counts : progress_in (ran_on 1 past_the_end).world 0
+    ≡ Some (record { steps = 0; backs = 0; others = 0; finished = true })
+past_the_end_counts = refl
+
+-- ---- counts: a copy that a remove and an add turn back
+
+abbrev copies_again : List (Turn ℕ)
+copies_again =
+    begins 0 (add 5 1) 9
+    ++ (begins 1 get_state 4
+    ++ (begins 0 (remove 0 1 Default) 6 ++ (begins 0 (add 6 1) 9 ++ nexts 1 4)))
+
+pub copies_again_counts : progress_in (ran_on 1 copies_again).world 1
+    ≡ Some (record { steps = 8; backs = 1; others = 9; finished = true })
+copies_again_counts = refl
+
+pub copies_again_shows : shown_in (ran_on 1 copies_again) 1 0 ≡ Some 6
+copies_again_shows = refl
+
+-- ---- what the definitions refuse
+
+abbrev stands : List (Event ℕ)
+stands = Filled 1 0 7 ∷ Granted 1 0 7 ∷ Placed 1 0 5 ∷ []
+
+-- a copy of another value than the one that stands
+no_torn_copy : ContainsRight stands (Copied 0 0 6) → ⊥
+no_torn_copy whole = cc
+
+-- a value placed over another
+no_value_over_another : ContainsRight stands (Placed 0 0 6) → ⊥
+no_value_over_another free = cc
+
+-- a recovery that is shown nothing where a value stands
+no_blind_recovery : ContainsRight stands (Shown 0 0) → ⊥
+no_blind_recovery none = cc

@@ -1,0 +1,11 @@
+-- The room of the container: its calls, its words at the opening, the states of its parties, what
+-- its steps write down, and what it promises.
+pub mod Bounds
+pub mod Calls
+pub mod Looks
+pub mod Opening
+pub mod Promises
+pub mod Reading
+pub mod Spans
+pub mod States
+pub mod Steps

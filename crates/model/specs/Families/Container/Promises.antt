@@ -1,0 +1,327 @@
+-- What holds of the machine of the container, after any turns.
+use Rattle.std.specs.Prelude.{◌≡◌, ◌≢◌, ◌⊎◌, ℕ, ◌+◌, ◌<◌, ◌≤◌, ◌==◌, Bool, true, false, Option, Some, None, is_some, List, [], ◌∷◌, ◌++◌, slice_index}
+use Rattle.steps.specs.Container.Layout.{count_word, element_word, is_even}
+use Rattle.steps.specs.declared.ask.Ask.{Ask}
+use Rattle.steps.specs.declared.container.enums.ContainerAddFailure.TheVariants as failures
+use Rattle.steps.specs.declared.container.find.FindStage as find_stages
+use Rattle.steps.specs.declared.container.recover.RecoverStage as recover_stages
+use Rattle.steps.specs.declared.container.state.ContainerState.{ContainerState}
+use Rattle.steps.specs.declared.indices.enums.ReleaseMode.TheVariants.{LockIfLastIndex}
+use Rattle.steps.specs.declared.indices.enums.ReleaseState.TheVariants as locks
+use Rattle.steps.specs.Indices.Robust.Parts.{cell_word, locked}
+use Rattle.model.specs.declared.event.Answer.{Answer}
+use Rattle.model.specs.declared.event.Answer.TheVariants.{Done, Index, State, Number, Truth, NoPlace, NotRemoved}
+use Rattle.model.specs.declared.event.Event.{Event}
+use Rattle.model.specs.declared.event.Event.TheVariants.{FreedOf, Asked, Told, Placed, Hidden, Copied, Shown, Finished}
+use Rattle.model.specs.declared.event.Start.{Start}
+use Rattle.model.specs.declared.event.Start.TheVariants.{Container}
+use Rattle.model.specs.declared.families.Flight.{Flight}
+use Rattle.model.specs.declared.families.Flight.TheVariants as flights
+use Rattle.model.specs.declared.families.Kept.{Kept}
+use Rattle.model.specs.declared.families.Kept as kepts
+use Rattle.model.specs.declared.families.container.ContainerStart.{ContainerStart}
+use Rattle.model.specs.declared.families.container.ContainerStart.TheVariants.{Add, Remove, Replace, Find, Recover, Len, IsEmpty, IsLocked}
+use Rattle.model.specs.declared.families.container.calls.ContainerFlight.TheVariants as calls
+use Rattle.model.specs.declared.party.Party.{Party}
+use Rattle.model.specs.declared.turn.Turn.{Turn}
+use Rattle.model.specs.declared.turn.Turn.TheVariants.{Decide}
+use Rattle.model.specs.Coding.{Coding}
+use Rattle.model.specs.Families.Container.Bounds.{most_steps}
+use Rattle.model.specs.Families.Container.Looks.{state_in, WasCopied, ShowsCopies, IsCurrent, AnswersOfState, MomentsOfState, EndsLook}
+use Rattle.model.specs.Families.Container.Reading.{contents_of, MayReplace, Copies, Sees, acts_of, places, Has}
+use Rattle.model.specs.Families.Container.Spans.{may_stand, HasDone}
+use Rattle.model.specs.Families.Indices.Reading.{is_locked}
+use Rattle.model.specs.Families.Indices.Robust.Dead.{has_died}
+use Rattle.model.specs.Families.Indices.Robust.Promises.{cell_of, IsFilled, IsFilledWith, IsUnlocked, HeldThrough, SetDoes, FreesRight, HoldsRight, IsCount, FilledSinceFreed, StillToFree}
+use Rattle.model.specs.Families.Indices.Robust.Reading.{filled_of, is_dead, Frees, Asks, Yes, deeds, deeds_of, IsOneOf}
+use Rattle.model.specs.Families.Queues.Calls.{read_in}
+use Rattle.model.specs.Moments.{HeldOnce}
+use Rattle.model.specs.Parties.{party_of}
+use Rattle.model.specs.Promise.{Promise}
+use Rattle.model.specs.Reading.{Each, Span, Open, span_of}
+use Rattle.model.specs.World.{Trace, flight_in}
+
+module _ {T : Type 0} where
+  -- ---- a proper run
+
+  -- a replace that has replaced was begun where that might be
+  abbrev pub ReplacesRight : List (Event T) → Event T → Type 0
+  ReplacesRight before (Finished p (Container (Replace index value owner)) Done) =
+      MayReplace p index owner before
+  ReplacesRight before e = Unit {0}
+
+  -- and so was one under way that has taken a step, by which it has found its owner
+  abbrev pub StandsProper : ℕ → Option (Party T) → List (Event T) → Type 0
+  StandsProper p None events = Unit {0}
+  StandsProper p (Some x) events =
+      (index owner : ℕ) (value : T) (wrote : List (Event T))
+      → span_of p events ≡ Open (Container (Replace index value owner)) wrote
+      → 1 ≤ x.steps
+      → MayReplace p index owner events
+
+  -- A remove that frees was begun where its index might be given back for its owner, and a replace that
+  -- has found its owner where it might be replaced.
+  pub record IsProperRun (t : Trace T) : Type 0 where
+    pub frees : Each FreesRight t.events
+    pub replaced : Each ReplacesRight t.events
+    pub replaces : (p : ℕ) → StandsProper p (party_of p t.world.latest) t.events
+
+  -- ---- recovery, in every run
+
+  -- The dead owner is the recovery's. It asks about an index that its owner filled at a moment of the
+  -- call, and nothing if it began after the lock.
+  abbrev pub AsksRight : List (Event T) → Event T → Type 0
+  AsksRight before (Asked p index owner) =
+      HeldOnce p (IsFilledWith owner index) before × HeldOnce p IsUnlocked before
+      × (is_dead owner before ≡ true)
+  AsksRight before (Told p index owner) = is_dead owner before ≡ true
+  AsksRight before e = Unit {0}
+
+  -- the recovery was shown that nothing stood at the index
+  abbrev pub WasShown : ℕ → ℕ → List (Event T) → Type 0
+  WasShown p index events = Has (Sees index) (acts_of p events)
+
+  -- a recovery frees for its own owner, who is dead, what it was told to free or shown
+  abbrev pub FreedRight : ℕ → ℕ → ℕ → List (Event T) → Span T → Type 0
+  FreedRight p index owner before (Open (Container (Recover o mode)) wrote) =
+      (owner ≡ o) × (is_dead owner before ≡ true)
+      × (IsOneOf (Yes index owner) (deeds_of p before) ⊎ WasShown p index before)
+  FreedRight p index owner before span = Unit {0}
+
+  abbrev pub RecoversRight : List (Event T) → Event T → Type 0
+  RecoversRight before (FreedOf p index owner) =
+      FreedRight p index owner before (span_of p before)
+  RecoversRight before e = Unit {0}
+
+  -- No index that it was told to free, or was shown, has that owner. It asked about each that was filled
+  -- with its owner through the whole call, until the call itself freed it, or was shown it.
+  pub record HasRecovered (p owner : ℕ) (events : List (Event T)) : Type 0 where
+    pub gone : (index : ℕ)
+        → IsOneOf (Yes index owner) (deeds_of p events) ⊎ WasShown p index events
+        → filled_of index events ≢ Some owner
+    pub asked : (index : ℕ) → HeldThrough p (StillToFree p owner index) events
+        → IsOneOf (Asks index owner) (deeds_of p events) ⊎ WasShown p index events
+
+  -- ---- answers, in every run
+
+  -- the indices below the bound, which is that of the container unless a no ended the call
+  pub record IsFound (p owner capacity number : ℕ) (events : List (Event T)) : Type 0 where
+    pub bound : ℕ
+    pub within : bound ≤ capacity
+    pub count : IsCount p (IsFilledWith owner) bound number events
+
+  -- how many indices are filled: none once the container is locked
+  pub record IsLength (p capacity number : ℕ) (events : List (Event T)) : Type 0 where
+    pub none : is_locked events ≡ true → number ≡ 0
+    pub some : IsUnlocked events → IsCount p IsFilled capacity number events
+
+  pub record IsLengthTest (p capacity : ℕ) (empty : Bool) (events : List (Event T)) : Type 0 where
+    pub number : ℕ
+    pub is : empty ≡ (number == 0)
+    pub length : IsLength p capacity number events
+
+  -- What an answer says of the container as it was at the last step of the call, and at moments of it.
+  abbrev pub AnswersRight : ℕ → List (Event T) → Event T → Type 0
+  AnswersRight capacity before
+      (Finished p (Container (Add value owner)) (NoPlace failures.IsLocked)) =
+      is_locked before ≡ true
+  AnswersRight capacity before
+      (Finished p (Container (Add value owner)) (NoPlace failures.OutOfSpace)) =
+      IsUnlocked before × ((index : ℕ) → index < capacity → HeldOnce p (IsFilled index) before)
+  AnswersRight capacity before
+      (Finished p (Container (Remove index owner mode)) (NotRemoved failure)) =
+      (capacity ≤ index) ⊎ (filled_of index before ≢ Some owner)
+  AnswersRight capacity before
+      (Finished p (Container (Remove index owner mode)) (State locks.Locked)) =
+      is_locked before ≡ true
+  AnswersRight capacity before
+      (Finished p (Container (Remove index owner LockIfLastIndex)) (State locks.Unlocked)) =
+      HeldOnce p IsUnlocked before × FilledSinceFreed p owner index before
+  AnswersRight capacity before
+      (Finished p (Container (Replace index value owner)) (NotRemoved failure)) =
+      (capacity ≤ index) ⊎ (filled_of index before ≢ Some owner)
+  AnswersRight capacity before
+      (Finished p (Container (Replace index value owner)) Done) =
+      (index < capacity) × HeldOnce p (IsFilledWith owner index) before
+  AnswersRight capacity before (Finished p (Container (Find owner)) (Number number)) =
+      IsFound p owner capacity number before
+  AnswersRight capacity before
+      (Finished p (Container (Recover owner mode)) (State locks.Locked)) =
+      is_locked before ≡ true
+  AnswersRight capacity before
+      (Finished p (Container (Recover owner mode)) (State locks.Unlocked)) =
+      HeldOnce p IsUnlocked before × HasRecovered p owner before
+  AnswersRight capacity before (Finished p (Container Len) (Number number)) =
+      IsLength p capacity number before
+  AnswersRight capacity before (Finished p (Container IsEmpty) (Truth empty)) =
+      IsLengthTest p capacity empty before
+  AnswersRight capacity before (Finished p (Container IsLocked) (Truth locked)) =
+      locked ≡ is_locked before
+  AnswersRight capacity before e = Unit {0}
+
+  -- ---- contents, in a proper run
+
+  -- A value is placed where nothing stands, and hidden where something does. What is copied stands there,
+  -- whole. A recovery is shown that nothing stands.
+  abbrev pub ContainsRight : List (Event T) → Event T → Type 0
+  ContainsRight before (Placed p index value) = contents_of index before ≡ None
+  ContainsRight before (Hidden p index) = contents_of index before ≢ None
+  ContainsRight before (Copied p index value) = contents_of index before ≡ Some value
+  ContainsRight before (Shown p index) = contents_of index before ≡ None
+  ContainsRight before e = Unit {0}
+
+  -- an add or a replace that succeeded placed its argument, once, at its index, and nothing else
+  abbrev pub PlacesRight : List (Event T) → Event T → Type 0
+  PlacesRight before (Finished p (Container (Add value owner)) (Index index)) =
+      places (acts_of p before) ≡ (index, value) ∷ []
+  PlacesRight before (Finished p (Container (Replace index value owner)) Done) =
+      places (acts_of p before) ≡ (index, value) ∷ []
+  PlacesRight before e = Unit {0}
+
+  -- where nothing stands the element's number is even; else it is odd, and the words are the value's
+  abbrev pub HasElement : Coding T → ℕ → List ℕ → ℕ → Option T → Type 0
+  HasElement code capacity words index None =
+      is_even (slice_index words (count_word capacity index)) ≡ true
+  HasElement code capacity words index (Some value) =
+      (is_even (slice_index words (count_word capacity index)) ≡ false)
+      × ((at : ℕ) → at < code.size
+      → slice_index words (element_word capacity code.size index at)
+      ≡ slice_index (code.words_of value) at)
+
+  abbrev pub HasElements : Trace T → Type 0
+  HasElements t =
+      (index : ℕ) → index < t.world.capacity
+      → HasElement t.world.coding t.world.capacity t.world.words index
+      (contents_of index t.events)
+
+  pub record IsContained (t : Trace T) : Type 0 where
+    pub holders : Each HoldsRight t.events
+    pub contents : Each ContainsRight t.events
+    pub placed : Each PlacesRight t.events
+    pub elements : HasElements t
+
+  -- ---- questions
+
+  -- the index and the value that a call asks about
+  abbrev pub find_question : Coding T → find_stages.FindStage → T → Option (ℕ × T)
+  find_question code (find_stages.TheVariants.Asks index found) value = Some (index, value)
+  find_question code stage value = None
+
+  abbrev pub recover_question : Coding T → recover_stages.RecoverStage → T → Option (ℕ × T)
+  recover_question code (recover_stages.TheVariants.Asks index count) value = Some (index, value)
+  recover_question code stage value = None
+
+  abbrev pub question_in : Coding T → Option (Flight T) → Option (ℕ × T)
+  question_in code (Some (flights.Container (calls.Find run))) =
+      find_question code run.call.stage (read_in code run.room)
+  question_in code (Some (flights.Container (calls.Recover run))) =
+      recover_question code run.call.stage (read_in code run.room)
+  question_in code flight = None
+
+  -- each value that is put to a question was copied by its party, from its index
+  abbrev pub AsksCopies : Trace T → Type 0
+  AsksCopies t =
+      (p index : ℕ) (value : T)
+      → question_in t.world.coding (flight_in t.world p) ≡ Some (index, value)
+      → WasCopied p index value t.events
+
+  -- ---- what the words say, and what is kept beside them
+
+  -- the machine refuses as dead whoever has died by the events
+  abbrev pub KeepsDead : Kept T → List (Event T) → Type 0
+  KeepsDead (kepts.TheVariants.Container dead states) events =
+      (owner : ℕ) → has_died owner dead ≡ is_dead owner events
+  KeepsDead kept events = ⊥
+
+  pub record IsContainer (t : Trace T) : Type 0 where
+    pub does : Each (SetDoes t.world.capacity) t.events
+    pub asks : Each AsksRight t.events
+    pub recovers : Each RecoversRight t.events
+    pub answers : Each (AnswersRight t.world.capacity) t.events
+    pub cells : (index : ℕ) → index < t.world.capacity
+        → slice_index t.world.words (cell_word index) ≡ cell_of (filled_of index t.events)
+    pub lock : (slice_index t.world.words 0 == locked) ≡ is_locked t.events
+    pub dead : KeepsDead t.world.kept t.events
+    pub questions : AsksCopies t
+    pub states : ShowsCopies t.world t.events
+    pub proper : IsProperRun t → IsContained t
+
+  -- ---- what a turn tells
+
+  -- The indices below the bound that a find has counted; in a proper run it has copied each counted one
+  -- where a value stood through the call.
+  pub record IsFoundWhole (p owner bound number : ℕ) (events : List (Event T)) : Type 0 where
+    pub count : IsCount p (IsFilledWith owner) bound number events
+    pub copied : (index : ℕ) → index < bound → count.chosen index ≡ true
+        → HeldThrough p (λ part. is_some (contents_of index part) ≡ true) events
+        → (value : T) × Has (Copies index value) (acts_of p events)
+
+  abbrev pub CountsRight : ℕ → ℕ → ℕ → ℕ → Trace T → Trace T → Type 0
+  CountsRight p owner bound number old new =
+      IsCount p (IsFilledWith owner) bound number old.events
+      × (IsProperRun new → IsFoundWhole p owner bound number old.events)
+
+  -- a find that ends in another turn than a no has come to the indices of the whole container
+  abbrev pub FindsAll : Trace T → Turn T → Trace T → Type 0
+  FindsAll old turn new =
+      (p owner number : ℕ)
+      → new.events ≡ old.events ++ Finished p (Container (Find owner)) (Number number) ∷ []
+      → turn ≢ Decide p false
+      → CountsRight p owner old.world.capacity number old new
+
+  -- and one that a no ends, to those up to the index that it asked about
+  abbrev pub FindsUpTo : Trace T → Turn T → Trace T → Type 0
+  FindsUpTo old turn new =
+      (p owner number index : ℕ) (value : T)
+      → new.events ≡ old.events ++ Finished p (Container (Find owner)) (Number number) ∷ []
+      → turn ≡ Decide p false
+      → question_in old.world.coding (flight_in old.world p) ≡ Some (index, value)
+      → CountsRight p owner (index + 1) number old new
+
+  -- a look that ends: its state by its answer, and in a proper run by what stands
+  abbrev pub LooksRight : Trace T → Turn T → Trace T → Type 0
+  LooksRight old turn new =
+      (p : ℕ) (start : ContainerStart T) (answer : Answer T) (state : ContainerState T)
+      → EndsLook p start answer old new
+      → state_in new.world.kept p ≡ Some state
+      → AnswersOfState start answer (state_in old.world.kept p) state
+      × (IsProperRun new
+      → IsCurrent p old.world.capacity state new.events
+      × MomentsOfState p old.world.capacity start answer state new.events)
+
+  -- and it leaves one
+  abbrev pub LeavesState : Trace T → Turn T → Trace T → Type 0
+  LeavesState old turn new =
+      (p : ℕ) (start : ContainerStart T) (answer : Answer T) → EndsLook p start answer old new
+      → is_some (state_in new.world.kept p) ≡ true
+
+  pub record TellsRight (old : Trace T) (turn : Turn T) (new : Trace T) : Type 0 where
+    pub finds : FindsAll old turn new
+    pub finds_up_to : FindsUpTo old turn new
+    pub looks : LooksRight old turn new
+    pub leaves : LeavesState old turn new
+
+  -- ---- the promise
+
+  abbrev pub wrote : ℕ → Start T → Answer T → List (Event T) → Type 0
+  wrote capacity (Container start) answer events = HasDone start answer (deeds events)
+  wrote capacity start answer events = ⊥
+
+  abbrev pub most : ℕ → ℕ → Start T → ℕ → ℕ
+  most capacity size (Container start) backs = most_steps capacity size start backs
+  most capacity size start backs = 0
+
+  -- no call of the container acts
+  abbrev pub ActsRight : Trace T → Option Ask → (ℕ → Type 0) → Event T → Type 0
+  ActsRight old ask IsTurnOf e = ⊥
+
+  abbrev pub promise : Promise T
+  promise =
+      record {
+        may_stand = may_stand;
+        wrote = wrote;
+        most_steps = most;
+        acts_right = ActsRight;
+        tells = TellsRight;
+        holds = IsContainer;
+      }

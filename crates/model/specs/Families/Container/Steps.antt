@@ -1,0 +1,151 @@
+-- What a step of a call of the container writes down.
+use Rattle.std.specs.Prelude.{ℕ, ◌==◌, Option, Some, None, List, [], ◌∷◌, ◌++◌, if◌then◌else◌}
+use Rattle.steps.specs.declared.container.add.AddStage as adds
+use Rattle.steps.specs.declared.container.add.Owned.{Owned}
+use Rattle.steps.specs.declared.container.find.FindStage as finds
+use Rattle.steps.specs.declared.container.look.LookStage as looks
+use Rattle.steps.specs.declared.container.recover.DeadOwner.{DeadOwner}
+use Rattle.steps.specs.declared.container.recover.RecoverStage as recovers
+use Rattle.steps.specs.declared.container.remove.RemoveStage as removes
+use Rattle.steps.specs.declared.container.replace.ReplaceStage as replaces
+use Rattle.steps.specs.declared.container.replace.Replacement.{Replacement}
+use Rattle.steps.specs.declared.container.state.ContainerState.{ContainerState}
+use Rattle.steps.specs.declared.indices.robust.release.GiveBack.{GiveBack}
+use Rattle.steps.specs.Container.Layout.{is_even}
+use Rattle.steps.specs.Copied.{value_in}
+use Rattle.model.specs.declared.event.Event.{Event}
+use Rattle.model.specs.declared.event.Event.TheVariants.{Asked, Told, Placed, Hidden, Copied, Shown}
+use Rattle.model.specs.declared.families.container.calls.ContainerFlight.{ContainerFlight}
+use Rattle.model.specs.declared.families.container.calls.ContainerFlight.TheVariants.{Add, Remove, Replace, Find, Recover, Look}
+use Rattle.model.specs.Coding.{Coding}
+use Rattle.model.specs.Families.Container.Calls.{after, goes_back, states_after}
+use Rattle.model.specs.Families.Container.States.{state_of}
+use Rattle.model.specs.Families.Indices.Robust.Steps as robust
+use Rattle.model.specs.Families.Queues.Calls.{read_in}
+use Rattle.model.specs.Step.{Step}
+
+module _ {T : Type 0} where
+  -- the count of an element was even before 1 was added to it
+  abbrev pub placed : ℕ → ℕ → T → ℕ → List (Event T)
+  placed p index value old = if is_even old then Placed p index value ∷ [] else []
+
+  -- the exchange of an odd count for the next
+  abbrev pub hidden : ℕ → ℕ → ℕ → ℕ → List (Event T)
+  hidden p index count old = if old == count then Hidden p index ∷ [] else []
+
+  -- the exchange of a count for itself
+  abbrev pub copied : ℕ → ℕ → ℕ → T → ℕ → List (Event T)
+  copied p index count value old = if old == count then Copied p index value ∷ [] else []
+
+  -- a recovery finds an even count
+  abbrev pub shown : ℕ → ℕ → ℕ → List (Event T)
+  shown p index old = if is_even old then Shown p index ∷ [] else []
+
+  abbrev pub add_effects : ℕ → Owned T → adds.AddStage → ℕ → List (Event T)
+  add_effects p given (adds.TheVariants.Acquires stage) old =
+      robust.acquire_effects p given.owner stage old
+  add_effects p given (adds.TheVariants.LoadsCount index) old = []
+  add_effects p given (adds.TheVariants.Hides index count) old = hidden p index count old
+  add_effects p given (adds.TheVariants.Stores index at) old = []
+  add_effects p given (adds.TheVariants.AddsCount index) old = placed p index given.value old
+  add_effects p given (adds.TheVariants.AddsChange index) old = []
+
+  abbrev pub remove_effects : ℕ → GiveBack → removes.RemoveStage → ℕ → List (Event T)
+  remove_effects p given removes.TheVariants.Refuses old = []
+  remove_effects p given removes.TheVariants.LoadsCount old = []
+  remove_effects p given (removes.TheVariants.Releases count stage) old =
+      robust.release_effects p given stage old
+  remove_effects p given (removes.TheVariants.Hides count state) old =
+      hidden p given.index count old
+  remove_effects p given (removes.TheVariants.AddsChange state) old = []
+
+  abbrev pub replace_effects : ℕ → Replacement T → replaces.ReplaceStage → ℕ → List (Event T)
+  replace_effects p given replaces.TheVariants.Refuses old = []
+  replace_effects p given replaces.TheVariants.LoadsCell old = []
+  replace_effects p given replaces.TheVariants.LoadsCount old = []
+  replace_effects p given (replaces.TheVariants.Hides count) old = hidden p given.index count old
+  replace_effects p given (replaces.TheVariants.Stores at) old = []
+  replace_effects p given replaces.TheVariants.AddsCount old = placed p given.index given.value old
+  replace_effects p given replaces.TheVariants.AddsChange old = []
+
+  -- the value is that of the room
+  abbrev pub find_effects : ℕ → T → finds.FindStage → ℕ → List (Event T)
+  find_effects p value (finds.TheVariants.LoadsCell index found) old = []
+  find_effects p value (finds.TheVariants.LoadsCount index found) old = []
+  find_effects p value (finds.TheVariants.LoadsWord index found count at) old = []
+  find_effects p value (finds.TheVariants.ChecksCount index found count) old =
+      copied p index count value old
+  find_effects p value (finds.TheVariants.Asks index found) old = []
+
+  -- what a recovery finds at the number of an element: the copy, whole, or that nothing stands there
+  abbrev pub checked : ℕ → ℕ → ℕ → T → ℕ → List (Event T)
+  checked p index count value old =
+      if old == count then Copied p index value ∷ [] else shown p index old
+
+  abbrev pub recover_effects : ℕ → DeadOwner → T → recovers.RecoverStage → ℕ → List (Event T)
+  recover_effects p given value recovers.TheVariants.LoadsCounter old = []
+  recover_effects p given value (recovers.TheVariants.LoadsCell index) old = []
+  recover_effects p given value (recovers.TheVariants.LoadsCount index) old = shown p index old
+  recover_effects p given value (recovers.TheVariants.LoadsWord index count at) old = []
+  recover_effects p given value (recovers.TheVariants.ChecksCount index count) old =
+      checked p index count value old
+  recover_effects p given value (recovers.TheVariants.Asks index count) old =
+      if old == 0 then [] else Told p index given.owner ∷ []
+  recover_effects p given value (recovers.TheVariants.EmptiesCell index count) old =
+      robust.freed p index given.owner old
+  recover_effects p given value (recovers.TheVariants.Hides index count) old =
+      hidden p index count old
+  recover_effects p given value (recovers.TheVariants.Raises index raise) old = []
+  recover_effects p given value (recovers.TheVariants.Locks index lock) old =
+      robust.locked_by p lock old
+  recover_effects p given value recovers.TheVariants.LoadsCounterAgain old = []
+  recover_effects p given value (recovers.TheVariants.AddsChange state) old = []
+
+  abbrev pub look_effects : ℕ → T → looks.LookStage → ℕ → List (Event T)
+  look_effects p value looks.TheVariants.LoadsChange old = []
+  look_effects p value (looks.TheVariants.LoadsCount index) old = []
+  look_effects p value (looks.TheVariants.LoadsWord index count at) old = []
+  look_effects p value (looks.TheVariants.ChecksCount index count) old =
+      copied p index count value old
+
+  -- the value whose words the state's look has read
+  abbrev pub copy_in : Coding T → ContainerState T → T
+  copy_in code state = value_in code.value_of code.size state.shown.copy
+
+  abbrev pub look_effects_of : Coding T → ℕ → looks.LookStage → ℕ → Option (ContainerState T)
+      → List (Event T)
+  look_effects_of code p stage old None = []
+  look_effects_of code p stage old (Some state) = look_effects p (copy_in code state) stage old
+
+  -- what a step of a party does that has this state; counts and the look at the lock do nothing
+  abbrev pub effects : Coding T → ℕ → Option (ContainerState T) → ContainerFlight T → ℕ
+      → List (Event T)
+  effects code p state (Add run) old = add_effects p run.given run.call.stage old
+  effects code p state (Remove run) old = remove_effects p run.given run.call.stage old
+  effects code p state (Replace run) old = replace_effects p run.given run.call.stage old
+  effects code p state (Find run) old = find_effects p (read_in code run.room) run.call.stage old
+  effects code p state (Recover run) old =
+      recover_effects p run.given (read_in code run.room) run.call.stage old
+  effects code p state (Look which call) old = look_effects_of code p call.stage old state
+  effects code p state flight old = []
+
+  -- the question of a recovery, which its copy puts
+  abbrev pub question_of : ℕ → DeadOwner → recovers.RecoverStage → ℕ → List (Event T)
+  question_of p given (recovers.TheVariants.ChecksCount index count) old =
+      if old == count then Asked p index given.owner ∷ [] else []
+  question_of p given stage old = []
+
+  abbrev pub questions : ℕ → ContainerFlight T → ℕ → List (Event T)
+  questions p (Recover run) old = question_of p run.given run.call.stage old
+  questions p flight old = []
+
+  -- all that a step comes to, beside who has died and the parties' states
+  abbrev pub step : Coding T → ℕ → ContainerFlight T → ℕ → List ℕ → List (ℕ × ContainerState T)
+      → Step (ContainerFlight T) (List ℕ × List (ℕ × ContainerState T)) T
+  step code p flight old dead states =
+      record {
+        after = after code (state_of p states) flight old;
+        back = goes_back flight old;
+        wrote = effects code p (state_of p states) flight old ++ questions p flight old;
+        kept = (dead, states_after code p flight old states);
+      }
