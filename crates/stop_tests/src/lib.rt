@@ -1,7 +1,11 @@
 //! Tests of machines by stops: two calls are cut into each other after every turn, and a replay of its own judges what
-//! they wrote down.
+//! they wrote down. Of containers also schedules that are drawn, and a book of its own that judges each turn.
 #![tactic(auto)]
 
+#[cfg(test)]
+mod book;
+#[cfg(test)]
+mod drawn;
 #[cfg(test)]
 mod replay;
 #[cfg(test)]

@@ -6,8 +6,8 @@ use machine::turn::Kind;
 use steps::enums::OwnerId;
 
 mod acts;
-mod calls;
-mod contents;
+pub mod calls;
+pub mod contents;
 mod deeds;
 mod ends;
 mod list;

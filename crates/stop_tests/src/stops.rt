@@ -13,7 +13,7 @@ use steps::enums::{OwnerId, UniqueIndexCreationError};
 
 /// One turn, made once more where memory is refused to it: had it changed something, the replay would tell. No test
 /// needs what its contract says, and each call through it is proved without.
-fn step(machine: &mut Machine<u128>, turn: Turn<u128>) -> Result<(), Refusal> {
+pub fn step(machine: &mut Machine<u128>, turn: Turn<u128>) -> Result<(), Refusal> {
     let again = turn;
     match machine.step(turn) {
         Err(Refusal::NoMemory) => machine.step(again),
@@ -22,19 +22,20 @@ fn step(machine: &mut Machine<u128>, turn: Turn<u128>) -> Result<(), Refusal> {
 }
 
 /// A new machine, likewise.
-fn made(
+pub fn made(
     alloc: Global,
     kind: Kind,
     capacity: usize,
+    parties: u32,
 ) -> Result<Machine<u128>, UniqueIndexCreationError> {
-    match Machine::new(alloc, kind, capacity, PARTIES) {
-        Err(UniqueIndexCreationError::NoMemory) => Machine::new(alloc, kind, capacity, PARTIES),
+    match Machine::new(alloc, kind, capacity, parties) {
+        Err(UniqueIndexCreationError::NoMemory) => Machine::new(alloc, kind, capacity, parties),
         ended => ended,
     }
 }
 
 /// How far the party's call has come, likewise.
-fn under_way(machine: &Machine<u128>, party: u32) -> Option<Progress> {
+pub fn under_way(machine: &Machine<u128>, party: u32) -> Option<Progress> {
     machine.under_way(party)
 }
 
@@ -180,7 +181,7 @@ fn replayed(machine: &Machine<u128>, row: &Row) -> Result<Replay, &'static str> 
 }
 
 fn run(alloc: Global, row: &Row, one: &Cut, other: &Cut, turns: u64, stops: bool) -> Right {
-    let mut machine = match made(alloc, row.kind, row.capacity) {
+    let mut machine = match made(alloc, row.kind, row.capacity, PARTIES) {
         Ok(machine) => machine,
         Err(_) => return Err("a machine is made where there is memory"),
     };

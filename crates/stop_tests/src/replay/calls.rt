@@ -28,6 +28,12 @@ pub enum Name {
     Remove,
     RecoverOf,
     GetState,
+    UpdateState,
+    Replace,
+    FindOf,
+    LenOf,
+    IsEmpty,
+    IsLocked,
     Other,
 }
 
@@ -115,8 +121,15 @@ fn container_call(start: ContainerStart<u128>) -> Called {
             of_owner(Name::Remove, index, owner.value(), mode)
         }
         ContainerStart::Recover(owner, mode) => of_owner(Name::RecoverOf, ANY, owner.value(), mode),
+        ContainerStart::Replace(index, _, owner) => {
+            of_owner(Name::Replace, index, owner.value(), keeps)
+        }
+        ContainerStart::Find(owner) => of_owner(Name::FindOf, ANY, owner.value(), keeps),
         ContainerStart::GetState => of_owner(Name::GetState, ANY, ANY, keeps),
-        _ => named(Name::Other, ANY),
+        ContainerStart::UpdateState => of_owner(Name::UpdateState, ANY, ANY, keeps),
+        ContainerStart::Len => of_owner(Name::LenOf, ANY, ANY, keeps),
+        ContainerStart::IsEmpty => of_owner(Name::IsEmpty, ANY, ANY, keeps),
+        ContainerStart::IsLocked => of_owner(Name::IsLocked, ANY, ANY, keeps),
     }
 }
 

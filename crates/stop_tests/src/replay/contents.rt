@@ -4,11 +4,12 @@ use super::{Replay, Right, bit, want};
 use machine::event::Start;
 use machine::families::container::ContainerStart;
 
-/// The value that an add has for its argument.
-fn given(start: &Start<u128>) -> Option<u128> {
+/// The value that an add or a replace has for its argument.
+pub fn given(start: &Start<u128>) -> Option<u128> {
     match start {
         Start::Container(start) => match start {
             ContainerStart::Add(value, _) => Some(*value),
+            ContainerStart::Replace(_, value, _) => Some(*value),
             _ => None,
         },
         _ => None,
