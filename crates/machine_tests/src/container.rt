@@ -56,6 +56,18 @@ const CALLS: [Row; 32] = [
     Row::Shows(Shows::State(1, &[None, None])),
 ];
 
+/// At capacity 139: a new state, an update without a change, a remove, and an update that sees it.
+const WHOLE: [Row; 8] = [
+    Row::Call(0, "add 1234567 8192", 9, "0"),
+    Row::Call(0, "get_state", 142, "1"),
+    Row::Shows(Shows::Among(0, 0, Some(1234567), 1)),
+    Row::Call(0, "update_state", 1, "false"),
+    Row::Call(0, "remove 0 8192 default", 6, "Unlocked"),
+    Row::Call(0, "update_state", 140, "true"),
+    Row::Shows(Shows::Among(0, 0, None, 0)),
+    Row::Shows(Shows::Among(0, 139, None, 0)),
+];
+
 /// At capacity 1: an add stops between the two words of its value, and its owner dies.
 const DIES_IN_AN_ADD: [Row; 9] = [
     Row::Part(0, "add 18446744073709551618 1", 6),
@@ -145,7 +157,7 @@ const OF_THE_DEAD_TOLD: &str =
     "died 1\n1 begun recover 1 default\n1 copied 0 5\n1 asked 0 1\n1 told 0 1\n1 freed 0 1\n1 hidden 0\n1 copied 1 6\n1 asked 1 1\n1 finished recover 1 default -> Unlocked\n";
 
 /// At capacity 2.
-const REFUSALS: [Row; 10] = [
+const REFUSALS: [Row; 12] = [
     Row::Refused("0 begin recover 1 lock", "OwnerLives"),
     Row::Call(0, "add 1 1", 9, "0"),
     Row::Turn("die 1"),
@@ -155,10 +167,18 @@ const REFUSALS: [Row; 10] = [
     Row::Refused("die 1", "OwnerIsDead"),
     Row::Refused("0 next", "Idle"),
     Row::Refused("2 begin get_state", "NoParty"),
+    // A party that never began a call has a state, and one that there is not has none.
     Row::Shows(Shows::State(1, &[None, None])),
+    Row::Shows(Shows::NoCall(1)),
+    Row::Shows(Shows::NoState(2)),
 ];
 
-const SCRIPTS: [Script; 8] = [
+/// No other kind has states.
+const NO_STATES: [Row; 1] = [Row::Shows(Shows::NoState(0))];
+
+const SCRIPTS: [Script; 10] = [
+    ("container 139 1", &[(1, &WHOLE)]),
+    ("robust 1 1", &[(1, &NO_STATES)]),
     ("container 2 2", &[(1, &CALLS)]),
     ("container 1 2", &[(1, &DIES_IN_AN_ADD)]),
     ("container 1 2", &[(1, &SEEN_LATE)]),

@@ -10,6 +10,8 @@ mod capacities;
 #[cfg(test)]
 mod container;
 #[cfg(test)]
+mod elements;
+#[cfg(test)]
 mod indices;
 #[cfg(test)]
 mod many;
@@ -23,6 +25,8 @@ mod script;
 mod seventy;
 #[cfg(test)]
 mod size;
+#[cfg(test)]
+mod sizes;
 #[cfg(test)]
 mod values;
 #[cfg(test)]

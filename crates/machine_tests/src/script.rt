@@ -57,6 +57,10 @@ pub enum Shows {
     Sizes(usize, usize),
     /// The party's state shows these, and no more.
     State(u32, &'static [Option<u128>]),
+    /// It shows so many values, and this one at this index.
+    Among(u32, usize, Option<u128>, u64),
+    /// The party has no state.
+    NoState(u32),
 }
 
 /// A machine on which rows are played.
@@ -234,7 +238,7 @@ impl Played {
     }
 
     /// Whether the party has a call that has not ended.
-    fn is_under_way(&self, party: u32) -> bool {
+    pub fn is_under_way(&self, party: u32) -> bool {
         match under_way(&self.machine, party) {
             Some(progress) => !progress.finished,
             None => false,
@@ -291,6 +295,10 @@ impl Played {
                 self.machine.words().len() == words && self.machine.events().len() == events
             }
             Shows::State(party, values) => self.state_is(party, values),
+            Shows::Among(party, index, value, number) => {
+                self.state_has(party, index, value) && self.shown(party) == number
+            }
+            Shows::NoState(party) => state(&self.machine, party).is_none(),
         }
     }
 
@@ -304,6 +312,22 @@ impl Played {
             right &= state.get(at).copied() == *value;
         }
         right
+    }
+
+    /// Whether the party's state shows this at this index.
+    pub fn state_has(&self, party: u32, index: usize, value: Option<u128>) -> bool {
+        match state(&self.machine, party) {
+            Some(state) => state.get(index).copied() == value,
+            None => false,
+        }
+    }
+
+    /// How many values the party's state shows.
+    pub fn shown(&self, party: u32) -> u64 {
+        match state(&self.machine, party) {
+            Some(state) => state.number() as u64,
+            None => 0,
+        }
     }
 
     /// Whether the row comes out as it says.

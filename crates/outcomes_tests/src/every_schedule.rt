@@ -1,8 +1,9 @@
 //! The numbers of schedules beside those of a search that runs every one of them, and knows no state again.
 use crate::listed::ENOUGH;
+use outcomes::answers::Answers;
 use outcomes::error::Failure;
 use outcomes::progress::Progress;
-use outcomes::run::{Answers, Choice};
+use outcomes::run::Choice;
 use outcomes::search::{Ahead, Found, Search};
 use outcomes::text;
 use std::alloc::{AllocError, Global};

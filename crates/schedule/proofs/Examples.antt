@@ -3,6 +3,7 @@ use Rattle.std.proofs.Common.{◌≡◌, ℕ, false, List, [], ◌∷◌, Ok, Er
 use Rattle.std.specs.Fmt.{digits}
 use Rattle.schedule.specs.declared.error.Cause.TheVariants as causes
 use Rattle.schedule.specs.Bits.{set, any_set_call, bit_set_call, counting_bit_set_call}
+use Rattle.schedule.specs.Container as container
 use Rattle.schedule.specs.Indices.{mode_at, release, any_index_call, index_call}
 use Rattle.schedule.specs.Indices.Robust as robust
 use Rattle.schedule.specs.Queues.{push_index, push_value, item_call, any_call, queue_call}
@@ -66,6 +67,18 @@ recovers : output [] (codes "robust 1 2\n0 begin acquire 1\n0 next 9\n1 begin re
     ≡ printed_whole (codes "0 begun acquire 1\n0 filled 0 1\n0 granted 0 1\n0 finished acquire 1 -> 0\n1 begun recover default\n1 asked 0 1\nrefused OwnerLives\ndied 1\n1 told 0 1\n1 freed 0 1\n1 finished recover default -> Unlocked\n")
 unfolding output_of_lines machine_of setup_of number_at lines_from command_of turn_of death_of begin_of decision_of robust.robust_call robust.any_robust_call robust.acquire robust.recover mode_at next_of nexts outcome event_text refusal_text digits
 recovers = refl
+
+-- an add stops between the two words of its value, its owner dies, and the index is freed without a question
+dies_in_an_add : output [] (codes "container 1 2\n0 begin add 18446744073709551618 1\n0 next 6\ndie 1\n1 begin recover 1 default\n1 next 20\n1 begin add 7 2\n1 next 20\n1 begin get_state\n1 next 20\n")
+    ≡ printed_whole (codes "0 begun add 18446744073709551618 1\n0 filled 0 1\n0 granted 0 1\ndied 1\n1 begun recover 1 default\n1 shown 0\n1 freed 0 1\n1 finished recover 1 default -> Unlocked\n1 begun add 7 2\n1 filled 0 2\n1 granted 0 2\n1 placed 0 7\n1 finished add 7 2 -> 0\n1 begun get_state\n1 copied 0 7\n1 finished get_state -> 1\n")
+unfolding output_of_lines machine_of setup_of number_at lines_from command_of turn_of death_of begin_of container.container_call container.any_container_call container.add container.recover mode_at next_of nexts outcome event_text digits
+dies_in_an_add = refl
+
+-- a replace, and a state that is brought up to date
+replaced : output [] (codes "container 1 2\n0 begin add 5 1\n0 next 9\n1 begin get_state\n1 next 20\n0 begin replace 0 6 1\n0 next 20\n1 begin update_state\n1 next 20\n")
+    ≡ printed_whole (codes "0 begun add 5 1\n0 filled 0 1\n0 granted 0 1\n0 placed 0 5\n0 finished add 5 1 -> 0\n1 begun get_state\n1 copied 0 5\n1 finished get_state -> 1\n0 begun replace 0 6 1\n0 hidden 0\n0 placed 0 6\n0 finished replace 0 6 1 -> done\n1 begun update_state\n1 copied 0 6\n1 finished update_state -> true\n")
+unfolding output_of_lines machine_of setup_of number_at lines_from command_of turn_of begin_of container.container_call container.any_container_call container.add container.replace next_of nexts outcome event_text digits
+replaced = refl
 
 -- memory refused to the second turn
 short_turn : output (false ∷ true ∷ []) (codes "index_queue 1 1\n0 begin acquire_producer\n0 next\n0 next")

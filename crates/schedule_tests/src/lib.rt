@@ -6,6 +6,8 @@ mod atomic;
 #[cfg(test)]
 mod bits;
 #[cfg(test)]
+mod container;
+#[cfg(test)]
 mod failures;
 #[cfg(test)]
 mod indices;

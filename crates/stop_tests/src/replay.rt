@@ -6,6 +6,7 @@ use machine::turn::Kind;
 use steps::enums::OwnerId;
 
 mod acts;
+mod answers;
 pub mod calls;
 pub mod contents;
 mod deeds;

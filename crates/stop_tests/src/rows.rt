@@ -19,6 +19,7 @@ pub enum Call {
     /// To a container, from it, and of it.
     Add(u128, u64),
     Remove(u64, u64, ReleaseMode),
+    Replace(u64, u128, u64),
     RecoverOf(u64, ReleaseMode),
     GetState,
     /// No call: the owner dies.
@@ -120,6 +121,8 @@ const ADD_FOR_2: Bounded = (Call::Add(SECOND_VALUE, 2), 10, 2);
 const REMOVE: Bounded = (Call::Remove(0, 1, ReleaseMode::Default), 6, 1);
 
 const REMOVE_OR_LOCK: Bounded = (Call::Remove(0, 1, ReleaseMode::LockIfLastIndex), 10, 4);
+
+const REPLACE: Bounded = (Call::Replace(0, SECOND_VALUE, 1), 7, 0);
 
 const RECOVER_OF_1: Bounded = (Call::RecoverOf(1, ReleaseMode::Default), 12, 3);
 
@@ -270,6 +273,8 @@ pub const ROWS: [Row; 15] = [
             ((0, REMOVE, 6), (1, ADD_FOR_2, 3)),
             ((0, REMOVE_OR_LOCK, 10), (1, ADD_FOR_2, 3)),
             ((0, REMOVE, 6), (1, GET_STATE, 5)),
+            ((0, REPLACE, 7), (1, GET_STATE, 5)),
+            ((0, REPLACE, 7), (1, ADD_FOR_2, 3)),
         ],
     },
     Row {

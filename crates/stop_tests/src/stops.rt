@@ -63,6 +63,10 @@ fn turn_of(party: u32, call: &Call) -> Option<Turn<u128>> {
             Ok(owner) => Start::Container(ContainerStart::Remove(index, owner, mode)),
             Err(_) => return None,
         },
+        Call::Replace(index, value, owner) => match OwnerId::new(owner) {
+            Ok(owner) => Start::Container(ContainerStart::Replace(index, value, owner)),
+            Err(_) => return None,
+        },
         Call::RecoverOf(owner, mode) => match OwnerId::new(owner) {
             Ok(owner) => Start::Container(ContainerStart::Recover(owner, mode)),
             Err(_) => return None,
@@ -220,5 +224,5 @@ fn a_stop_after_every_turn(rt: HostRuntime) {
         }
     }
     // Of a call of so many turns one more, twice, both ways round: counted by the table of docs/MODEL.md.
-    assert_eq!(rt; runs, 668);
+    assert_eq!(rt; runs, 720);
 }

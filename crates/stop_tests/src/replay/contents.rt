@@ -45,21 +45,23 @@ impl Replay {
         let Some(span) = self.spans.get_mut(party as usize) else {
             return Err("there is such a party");
         };
-        let is_its = span.call.name == Name::Add && given(&span.start) == Some(value);
-        want(span.is_open && is_its, "an add places its own value")?;
-        want(
-            span.granted == 1 && span.number == index,
-            "it does so where it was granted",
-        )?;
+        let is_its = span.is_open && given(&span.start) == Some(value);
+        want(is_its, "an add or a replace places its own value")?;
+        let is_there = if span.call.name == Name::Replace {
+            span.call.place == index
+        } else {
+            span.granted == 1 && span.number == index
+        };
+        want(is_there, "it does so where it was granted, or at its index")?;
         span.placed = span.placed.wrapping_add(1);
         Ok(())
     }
 
     pub fn hide(&mut self, party: u32, index: u64) -> Right {
-        let hides = [Name::Add, Name::Remove, Name::RecoverOf];
+        let hides = [Name::Add, Name::Remove, Name::Replace, Name::RecoverOf];
         want(
             self.is_named(party, &hides),
-            "an add, a remove or a recovery hides",
+            "an add, a remove, a replace or a recovery hides",
         )?;
         want(
             self.visible & bit(index) != 0,
