@@ -4,6 +4,7 @@ use crate::listed::ENOUGH;
 use machine::event::{Answer, Event, Start};
 use machine::families::atomic::AtomicStart;
 use machine::families::bits::BitsStart;
+use machine::families::container::ContainerStart;
 use machine::families::indices::IndexStart;
 use machine::families::indices::robust::RobustStart;
 use machine::families::queues::QueueStart;
@@ -17,7 +18,8 @@ use std::alloc::{AllocError, Global};
 use std::test::Fail;
 use steps::indices::enums::{ReleaseState, UniqueIndexSetAcquireFailure};
 
-/// A queue's values, the value that stands, the flags that stand, or the free indices, the next one first.
+/// A queue's values, the value that stands, the flags that stand, or the free indices, of a container too, the next one
+/// first.
 #[derive(Drop)]
 struct Object {
     kind: Kind,
@@ -30,7 +32,7 @@ impl Object {
         let mut items = Vec::new(alloc);
         match kind {
             Kind::Atomic => items.push(0)?,
-            Kind::Indices | Kind::Robust => {
+            Kind::Indices | Kind::Robust | Kind::Container => {
                 for index in 0..capacity {
                     items.push(index as u128)?;
                 }
@@ -95,10 +97,10 @@ impl Object {
         }
     }
 
-    // The unique set is a stack; of the robust one the least free index goes first.
+    // The unique set is a stack; of the robust one and the container the least free index goes first.
     fn release(&mut self, index: u64) -> Result<Answer<u128>, AllocError> {
         self.items.insert(0, u128::from(index))?;
-        if matches!(self.kind, Kind::Robust) {
+        if matches!(self.kind, Kind::Robust | Kind::Container) {
             self.items.sort()?;
         }
         Ok(Answer::State(ReleaseState::Unlocked))
@@ -154,6 +156,19 @@ impl Object {
         }
     }
 
+    // A new state shows as many values as there are indices that are not free.
+    fn container_call(&mut self, start: ContainerStart<u128>) -> Result<Answer<u128>, AllocError> {
+        match start {
+            ContainerStart::Add(_, _) => Ok(self.acquire()),
+            ContainerStart::Remove(index, _, _) => self.release(index),
+            ContainerStart::GetState => {
+                let shown = self.capacity.saturating_sub(self.items.len());
+                Ok(Answer::Number(shown as u64))
+            }
+            _ => Ok(Answer::Truth(true)),
+        }
+    }
+
     fn call(&mut self, start: Start<u128>) -> Result<Answer<u128>, AllocError> {
         match start {
             Start::Queues(start) => self.queue_call(start),
@@ -161,6 +176,7 @@ impl Object {
             Start::Bits(start) => self.bits_call(start),
             Start::Indices(start) => self.index_call(start),
             Start::Robust(start) => self.robust_call(start),
+            Start::Container(start) => self.container_call(start),
         }
     }
 }
@@ -328,6 +344,12 @@ const INDICES: [&[u8]; 2] = [
 
 const ROBUST: [&[u8]; 1] = [b"robust 2 2\n0 acquire 3\n1 acquire 4"];
 
+const CONTAINER: [&[u8]; 3] = [
+    b"container 1 2\nopen 0 add 5 1\n0 remove 0 1 default\n1 get_state",
+    b"container 2 2\nopen 0 add 5 1; add 6 1\n0 remove 1 1 default; remove 0 1 default\n1 get_state",
+    b"container 2 2\nopen 0 add 5 1\n0 remove 0 1 default; add 6 1\n1 get_state",
+];
+
 // The place of the first text with other outcomes.
 fn first_wrong(alloc: Global, texts: &[&[u8]]) -> Option<usize> {
     for (at, input) in texts.iter().enumerate() {
@@ -367,4 +389,9 @@ fn unique_indices(rt: HostRuntime) {
 #[test]
 fn robust_indices(rt: HostRuntime) {
     assert_eq!(rt; first_wrong(rt.alloc(), &ROBUST), None);
+}
+
+#[test]
+fn container(rt: HostRuntime) {
+    assert_eq!(rt; first_wrong(rt.alloc(), &CONTAINER), None);
 }
