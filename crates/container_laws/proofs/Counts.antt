@@ -71,9 +71,9 @@ module _ (T : Type 0) where
   answers_count counts.TheVariants.Len c p number events h = h
   answers_count counts.TheVariants.IsEmpty c p number events h = record { number = number; is = refl; length = h }
 
-  does_count : (which : CountOf) (number : ℕ) (deeds : List Deed) → deeds ≡ [] → HasDone (counts_as {T = T} which) (counted which number) deeds
-  does_count counts.TheVariants.Len number deeds none = none
-  does_count counts.TheVariants.IsEmpty number deeds none = none
+  does_count : (which : CountOf) (number : ℕ) (deeds : List Deed) (acts : List (Act T)) → deeds ≡ [] → HasDone (counts_as {T = T} which) (counted which number) deeds acts
+  does_count counts.TheVariants.Len number deeds acts none = none
+  does_count counts.TheVariants.IsEmpty number deeds acts none = none
 
   settles_not : (which : CountOf) (p number i : ℕ) (o : Option ℕ) → settled_after {T = T} i o (Finished p (Container (counts_as which)) (counted which number)) ≡ o
   settles_not counts.TheVariants.Len p number i o = refl
@@ -127,7 +127,7 @@ module _ {T : Type 0} (scene : Scene T) (inv : Inv scene) where
         ends scene start (counted which number) ask false scene.states [] here.span none_lengthens
         (ends_there scene inv start (count_at which c count) tt here y (words_after ws ask) stays (counted which number) (quiet_end (of_set scene) (inv_of_set scene inv) start (counted which number) (settles_not T which p number) (rights_not T which p number)) (announces_not T which p number)
         (answers_count T which c p number events is) proper (λ holds. places_not T which p number events) (still (words_after ws ask) y es proper))
-        ((refl, does_count T which number (all scene) none), tt) (few_count T which c code.size _ (backs_then scene false) few) (omega arith)
+        ((refl, does_count T which number (all scene) (done scene) none), tt) (few_count T which c code.size _ (backs_then scene false) few) (omega arith)
 
     counts_move : counts_to (Some (count_ask count)) (count_goes_back count (old_of ws (Some (count_ask count)))) (count_after c count (old_of ws (Some (count_ask count))))
     counts_move =

@@ -44,7 +44,7 @@ use Rattle.robust_laws.proofs.Knows as set
 use Rattle.robust_laws.proofs.Past.{through_less, through_now}
 use Rattle.robust_laws.proofs.Standing.{acquire_at, release_at, borrowed_at, looking}
 use Rattle.container_laws.proofs.Contents.{writes_on}
-use Rattle.container_laws.proofs.Knows.{View, of_set, now, IsPaid, Dead, Lives, AddOwns, HasFound, ReplaceKnows, Covers, Writes, HasPlaced, Stood, AddKnows, ReplacesKnow, RemoveSays, HasLeft, ReleaseLeft, RemoveKnows, Copying, CheckPaid, HasFoundBelow, Finds, Steady, FindKnows, AskedBelow, GoneBut, Recovers, RecoverSays, RecoverKnows, Looks, LookCopies, LookRests, LookKnows, Knows}
+use Rattle.container_laws.proofs.Knows.{View, of_set, now, IsPaid, Dead, Lives, WasFilled, AddOwns, HasFound, ReplaceKnows, Covers, Writes, HasPlaced, Stood, AddKnows, ReplacesKnow, RemoveSays, HasLeft, ReleaseLeft, RemoveKnows, Copying, CheckPaid, HasFoundBelow, Finds, Steady, FindKnows, AskedBelow, GoneBut, Recovers, RecoverSays, RecoverKnows, Looks, LookCopies, LookRests, LookKnows, Knows}
 use Rattle.container_laws.proofs.Replaces.{ReplaceOwns, replace_later, add_later}
 use Rattle.container_laws.proofs.Sights.{StoodThere, copied_later, rests_later, course_later}
 use Rattle.container_laws.proofs.Turns.{Now, Proper, count_in, Passes, Leaves}
@@ -61,12 +61,12 @@ module _ {T : Type 0} where
   shut_later events es h = fold-append locked_after false events es ∙ shut_on (is_locked events) es h
 
   -- a replace that has taken a step was begun rightly, in a proper run
-  pub may_replace : (index owner : ℕ) (value : T) (v : View T) → HasFound index owner value v → Proper (now v) → MayReplace v.party index owner v.events
-  may_replace index owner value v h proper =
-      subst (λ o. StandsProper v.party o v.events) h.found (proper.replaces v.party) index owner value h.wrote h.span h.steps
+  pub may_replace : (index owner : ℕ) (value : T) (v : View T) → HasFound index owner value v → WasFilled owner index v → Proper (now v) → MayReplace v.party index owner v.events
+  may_replace index owner value v h filled proper =
+      subst (λ o. StandsProper v.party o v.events) h.found (proper.replaces v.party) index owner value h.wrote h.span h.steps filled
 
   pub replacing : (c index owner : ℕ) (value : T) (v : View T) → ReplaceKnows c index owner value v → Proper (now v) → Lives owner v → Replacing v.party index owner v.events
-  replacing c index owner value v h proper alive = h.owns proper.frees alive (may_replace index owner value v h.found proper)
+  replacing c index owner value v h proper alive = h.owns proper.frees alive (may_replace index owner value v h.found h.filled proper)
 
 module _ {T : Type 0} (code : Coding T) (c : ℕ) (v : View T) (words' : List ℕ) (states' : List (ℕ × ContainerState T)) (latest' : List (ℕ × Party T)) (es : List (Event T)) (changes' : ℕ)
     (goes : Goes v.words words' v.events es) (spares : Spares v.party v.events es) (seen : IsSeen v.words words' v.changes changes')

@@ -114,9 +114,9 @@ module _ (T : Type 0) where
   places_look kinds.TheVariants.GetState p s changed events = tt
   places_look kinds.TheVariants.UpdateState p s changed events = tt
 
-  does_look : (which : LookOf) (s : ContainerState T) (changed : Bool) (made : List Deed) → made ≡ [] → HasDone (looks_as which) (looked which s changed) made
-  does_look kinds.TheVariants.GetState s changed made none = none
-  does_look kinds.TheVariants.UpdateState s changed made none = none
+  does_look : (which : LookOf) (s : ContainerState T) (changed : Bool) (made : List Deed) (acts : List (Act T)) → made ≡ [] → HasDone (looks_as which) (looked which s changed) made acts
+  does_look kinds.TheVariants.GetState s changed made acts none = none
+  does_look kinds.TheVariants.UpdateState s changed made acts none = none
 
   copy_stands : (which : LookOf) (p index : ℕ) (value : T) (w : List (Event T)) → AreBelow index (seen_in (acts w)) → may_stand (Copied p index value) (Open (Container (looks_as which)) w)
   copy_stands kinds.TheVariants.GetState p index value w h = h
@@ -230,7 +230,7 @@ module _ {T : Type 0} (scene : Scene T) (inv : Inv scene) (which : LookOf) (stag
         (does words' same y None es (silent_end T which, tt) (refl, tt) tt contents (settled st)
         (record { asks = (tt, tt); recovers = (tt, tt); answers = (answers_look T which c p st true events, tt); contains = λ holds. (tt, tt); places = λ holds. (places_look T which p st true events, tt) })
         (λ idle. rests_settled code c m' p st (course m' (comes words' same y None es (silent_end T which, tt) (refl, tt) tt contents))))
-        ((refl, does_look T which st true (all scene) none), tt) (few_look T which c code.size _ (backs_then scene back) few) (omega arith)
+        ((refl, does_look T which st true (all scene) (done scene) none), tt) (few_look T which c code.size _ (backs_then scene back) few) (omega arith)
     ends_with back (Some copy) st right same none few paid course =
         let answer = looked which st true in
         let y = party_then scene start ask back (Done answer) in
@@ -250,7 +250,7 @@ module _ {T : Type 0} (scene : Scene T) (inv : Inv scene) (which : LookOf) (stag
           places = λ holds. (tt, (places_look T which p st true (events ++ did), tt));
         })
         (λ idle. rests_settled code c m' p st (course m' (comes words' same y (Some copy) finish (tt, (silent_end T which, tt)) (refl, (refl, tt)) tt contents))))
-        (copy_stands T which p copy.0 copy.1 (wrote_of p events) right.0, ((refl, does_look T which st true _ (deeds_one copy none)), tt))
+        (copy_stands T which p copy.0 copy.1 (wrote_of p events) right.0, ((refl, does_look T which st true _ _ (deeds_one copy none)), tt))
         (few_look T which c code.size _ (backs_then scene back) few) (omega arith)
       where
         deeds_one : (copy : ℕ × T) → all scene ≡ [] → deeds (wrote_of p events ++ Copied p copy.0 copy.1 ∷ []) ≡ []
@@ -267,7 +267,7 @@ module _ {T : Type 0} (scene : Scene T) (inv : Inv scene) (which : LookOf) (stag
         (does words' same y None es (silent_end T which, tt) (refl, tt) tt contents s
         (record { asks = (tt, tt); recovers = (tt, tt); answers = (answers_look T which c p s false events, tt); contains = λ holds. (tt, tt); places = λ holds. (places_look T which p s false events, tt) })
         (λ idle. (comes words' same y None es (silent_end T which, tt) (refl, tt) tt contents).rests s rests))
-        ((refl, does_look T which s false (all scene) none), tt) (few_look T which c code.size _ (backs_then scene false) (omega arith)) (omega arith)
+        ((refl, does_look T which s false (all scene) (done scene) none), tt) (few_look T which c code.size _ (backs_then scene false) (omega arith)) (omega arith)
 
     walker : Walker scene inv s ask (Lead ask)
     walker = record { goes = goes_with; ends = ends_with; stays = stays_with }

@@ -84,9 +84,16 @@ total_is c z index owner LockIfLastIndex backs T = omega arith
 
 -- ---- what its answers say, by the mode
 
-refused_done : (T : Type 0) (index owner : ℕ) (mode : ReleaseMode) (deeds : List Deed) → deeds ≡ [] → HasDone {T = T} (Remove index owner mode) (answers.NotRemoved ContainerHandleNotOwnedByContainer) deeds
-refused_done T index owner Default deeds h = h
-refused_done T index owner LockIfLastIndex deeds h = h
+refused_done : (T : Type 0) (index owner : ℕ) (mode : ReleaseMode) (deeds : List Deed) (acts : List (Act T)) → deeds ≡ [] → HasDone {T = T} (Remove index owner mode) (answers.NotRemoved ContainerHandleNotOwnedByContainer) deeds acts
+refused_done T index owner Default deeds acts h = h
+refused_done T index owner LockIfLastIndex deeds acts h = h
+
+-- whatever it has done to elements
+removed_done : {T : Type 0} (index owner : ℕ) (mode : ReleaseMode) (state : ReleaseState) (deeds : List Deed) (acts : List (Act T)) → HasDone {T = T} (Remove index owner mode) (answers.State state) deeds [] → HasDone {T = T} (Remove index owner mode) (answers.State state) deeds acts
+removed_done index owner Default states.TheVariants.Locked deeds acts h = h
+removed_done index owner Default states.TheVariants.Unlocked deeds acts h = h
+removed_done index owner LockIfLastIndex states.TheVariants.Locked deeds acts h = h
+removed_done index owner LockIfLastIndex states.TheVariants.Unlocked deeds acts h = h
 
 refused_right : {T : Type 0} (c p index owner : ℕ) (mode : ReleaseMode) (events : List (Event T)) → (c ≤ index) ⊎ (filled_of index events ≢ Some owner) → AnswersRight c events (Finished p (Container (Remove index owner mode)) (answers.NotRemoved ContainerHandleNotOwnedByContainer))
 refused_right c p index owner Default events h = h
@@ -153,7 +160,7 @@ module _ {T : Type 0} (scene : Scene T) (inv : Inv scene) (index owner : ℕ) (m
       ends scene start (answers.NotRemoved ContainerHandleNotOwnedByContainer) ask false scene.states [] here.span none_lengthens
       (silently scene inv (words_after ws ask) same y es (tt, tt) (refl, tt) start (at_stage stage) tt here (was_proper scene start tt here.span (words_after ws ask) y es (refl, tt)) (owes_none scene start (at_stage stage) y here owes)
       (record { asks = (tt, tt); recovers = (tt, tt); answers = (refused_right c p index owner mode events (inr other), tt); contains = λ h. (tt, tt); places = λ h. (tt, tt) }))
-      ((refl, refused_done T index owner mode (all scene) none), tt) (omega arith) (omega arith)
+      ((refl, refused_done T index owner mode (all scene) (done scene) none), tt) (omega arith) (omega arith)
 
   -- ---- the release
 
@@ -210,7 +217,7 @@ module _ {T : Type 0} (scene : Scene T) (inv : Inv scene) (index owner : ℕ) (m
     says_now LockIfLastIndex is states.TheVariants.Locked why = why
     says_now LockIfLastIndex is states.TheVariants.Unlocked why = (held_now p IsUnlocked events why.0, why.1)
 
-    done_now : (m : ReleaseMode) (state : ReleaseState) → Ends (of_set scene) (inv_of_set scene inv) index owner mode fits below alive lives began 1 m state → all scene ≡ Frees index owner ∷ [] → HasDone {T = T} (Remove index owner m) (answers.State state) (all scene)
+    done_now : (m : ReleaseMode) (state : ReleaseState) → Ends (of_set scene) (inv_of_set scene inv) index owner mode fits below alive lives began 1 m state → all scene ≡ Frees index owner ∷ [] → HasDone {T = T} (Remove index owner m) (answers.State state) (all scene) []
     done_now Default states.TheVariants.Locked why freed = absurd why
     done_now Default states.TheVariants.Unlocked why freed = freed
     done_now LockIfLastIndex states.TheVariants.Locked why freed = inl freed
@@ -250,8 +257,8 @@ module _ {T : Type 0} (scene : Scene T) (inv : Inv scene) (index owner : ℕ) (m
         stands : AllFollow (Stands promise c) (Open (Container (Remove index owner mode)) (wrote_of p events)) (Locked p ∷ [])
         stands = subst (λ m. AllFollow (Stands promise c) (Open (Container (Remove index owner m)) (wrote_of p events)) (Locked p ∷ [])) (sym may_lock) (freed, tt)
 
-        done_then : HasDone {T = T} (Remove index owner mode) (answers.State states.TheVariants.Locked) (all scene ++ Locks ∷ [])
-        done_then = subst (λ m. HasDone {T = T} (Remove index owner m) (answers.State states.TheVariants.Locked) (all scene ++ Locks ∷ [])) (sym may_lock) (inr (ap (λ d. d ++ Locks ∷ []) freed))
+        done_then : HasDone {T = T} (Remove index owner mode) (answers.State states.TheVariants.Locked) (all scene ++ Locks ∷ []) []
+        done_then = subst (λ m. HasDone {T = T} (Remove index owner m) (answers.State states.TheVariants.Locked) (all scene ++ Locks ∷ []) []) (sym may_lock) (inr (ap (λ d. d ++ Locks ∷ []) freed))
 
         says : is_locked (events ++ Locked p ∷ []) ≡ true
         says = fold-append locked_after false events (Locked p ∷ [])
@@ -364,7 +371,7 @@ module _ {T : Type 0} (scene : Scene T) (inv : Inv scene) (index owner : ℕ) (m
             goes_on scene start (at_stage next) hide_it false scene.states es here.span (λ start w. refl)
             (hides scene inv start (at_stage (removes.TheVariants.Hides count state)) tt here y (words_after ws hide_it) index below (hides_count scene inv index count below is) refl odd
             (λ holds q ne o theirs fresh. both_ways (left_of index events) fresh (k.2.left holds is)) (was_proper scene start tt here.span (words_after ws hide_it) y es (refl, tt)))
-            ((refl, stands.2, stands.3), tt) (omega arith) (refl, given_is, fits, (below, subst (λ d. HasDone {T = T} (Remove index owner mode) (answers.State state) d) (sym (append-nil (all scene))) stands.1))
+            ((refl, stands.2, stands.3), tt) (omega arith) (refl, given_is, fits, (below, subst (λ d. HasDone {T = T} (Remove index owner mode) (answers.State state) d []) (sym (append-nil (all scene))) stands.1))
             (let paid = k.0 in omega arith, says_then mode state es tt y k.1)
         go false t =
             let other : count_now ≢ count = grind (arith, nat_tests) in
@@ -372,12 +379,12 @@ module _ {T : Type 0} (scene : Scene T) (inv : Inv scene) (index owner : ℕ) (m
             let total = same_total in
             goes_on scene start (at_stage next) hide_it false scene.states [] here.span none_lengthens
             (loads scene inv start (at_stage (removes.TheVariants.Hides count state)) tt here y (words_after ws hide_it) (fails_same ws (count_word c index) count (one_more count) other) (was_proper scene start tt here.span (words_after ws hide_it) y [] tt) (λ was. refl))
-            tt (omega arith) (refl, given_is, fits, (below, subst (λ d. HasDone {T = T} (Remove index owner mode) (answers.State state) d) (sym (append-nil (all scene))) stands.1))
+            tt (omega arith) (refl, given_is, fits, (below, subst (λ d. HasDone {T = T} (Remove index owner mode) (answers.State state) d []) (sym (append-nil (all scene))) stands.1))
             (let paid = k.0 in omega arith, says_then mode state [] tt y k.1)
 
   -- ---- the change is counted, and the call ends
 
-  module _ (state : ReleaseState) (here : Here (removes.TheVariants.AddsChange state)) (has_done : HasDone {T = T} (Remove index owner mode) (answers.State state) (all scene)) (k : RemoveKnows code c index owner mode (removes.TheVariants.AddsChange state) (sees_now scene))
+  module _ (state : ReleaseState) (here : Here (removes.TheVariants.AddsChange state)) (has_done : HasDone {T = T} (Remove index owner mode) (answers.State state) (all scene) []) (k : RemoveKnows code c index owner mode (removes.TheVariants.AddsChange state) (sees_now scene))
       (s : steps ≤ 2 + release_total c index owner mode backs) where
     abbrev end_it : Option Ask
     end_it = Some (adds_one (change_word c))
@@ -400,7 +407,7 @@ module _ {T : Type 0} (scene : Scene T) (inv : Inv scene) (index owner : ℕ) (m
         (ends_counted scene inv start (at_stage (removes.TheVariants.AddsChange state)) tt here y (words_after ws end_it) (answers.State state)
         (set_effects.quietly (of_set scene) (inv_of_set scene inv) (words_after ws end_it) es (leaves_behind (of_set scene) (inv_of_set scene inv) (words_after ws end_it) (change_word c) _ (omega arith) new) (quiet_end (of_set scene) (inv_of_set scene inv) start (answers.State state) (λ i o. refl) (λ i r. refl)) (refl, tt) (tt, tt) (tt, tt))
         (answers_right mode state k.1) proper (λ holds. tt) new (λ holds i said. inv.elements.announced holds i said))
-        ((refl, has_done), tt) (omega arith) (let paid = k.0 in omega arith)
+        ((refl, removed_done index owner mode state (all scene) (done scene) has_done), tt) (omega arith) (let paid = k.0 in omega arith)
 
 -- ---- any step of a remove
 
@@ -420,7 +427,7 @@ module _ {T : Type 0} (scene : Scene T) (inv : Inv scene) (index owner : ℕ) (m
       ends scene start (answers.NotRemoved ContainerHandleNotOwnedByContainer) None false scene.states [] here.span none_lengthens
       (silently scene inv scene.words refl y es (tt, tt) (refl, tt) start (remove_at c at owner mode removes.TheVariants.Refuses) tt here (was_proper scene start tt here.span scene.words y es (refl, tt)) (owes_none scene start (remove_at c at owner mode removes.TheVariants.Refuses) y here refl)
       (record { asks = (tt, tt); recovers = (tt, tt); answers = (refused_right c p index owner mode events (inl beyond), tt); contains = λ h. (tt, tt); places = λ h. (tt, tt) }))
-      ((refl, refused_done T index owner mode (all scene) none), tt) (let most = total_is c code.size index owner mode (backs + 0) T in omega arith) (omega arith)
+      ((refl, refused_done T index owner mode (all scene) (done scene) none), tt) (let most = total_is c code.size index owner mode (backs + 0) T in omega arith) (omega arith)
 
   pub remove_step : (stage : RemoveStage) → RemoveAt c code.size (all scene) (done scene) index owner mode stage → Moves stage (place_of c index)
   remove_step removes.TheVariants.Refuses at = past (place_of c index) at.0 at.1
