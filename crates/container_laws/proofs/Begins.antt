@@ -111,6 +111,7 @@ module _ {T : Type 0} (scene : Scene T) (g : set.Good scene.capacity scene.words
         announces = λ proper same i below said. (sym (same_announced start i) ∙ said, refl);
         owing = λ same owing. still_owing start owing;
         owed = λ same i below. inl refl;
+        lost = λ proper i o below dead filled. inl refl;
       }
 
   changes_none : (start : ContainerStart T) → Changes scene scene.words (y start) (begun start)

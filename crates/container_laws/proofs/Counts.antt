@@ -21,7 +21,7 @@ use Rattle.model.specs.declared.families.container.calls.CountOf as counts
 use Rattle.model.specs.declared.party.Party.{Party}
 use Rattle.model.specs.Families.Container.Bounds.{most_steps}
 use Rattle.model.specs.Families.Container.Calls.{counted}
-use Rattle.model.specs.Families.Container.Promises.{IsLength, AnswersRight, PlacesRight}
+use Rattle.model.specs.Families.Container.Promises.{IsLength, AnswersRight}
 use Rattle.model.specs.Families.Container.Reading.{Act, announced_after}
 use Rattle.model.specs.Families.Container.Spans.{HasDone}
 use Rattle.model.specs.Families.Indices.Robust.Promises.{IsFilled}
@@ -38,6 +38,7 @@ use Rattle.robust_laws.proofs.Rights.{Right, right_after}
 use Rattle.robust_laws.proofs.Stages as set_stages
 use Rattle.robust_laws.proofs.Standing.{count_number, CountAt}
 use Rattle.container_laws.proofs.Effects.{OwesStill}
+use Rattle.container_laws.proofs.HiddenKnows.{EndsRight}
 use Rattle.container_laws.proofs.Invariant.{Scene, Inv, before, after, of_set, inv_of_set}
 use Rattle.container_laws.proofs.Knows.{Knows}
 use Rattle.container_laws.proofs.Sets.{quiet_end}
@@ -87,7 +88,7 @@ module _ (T : Type 0) where
   announces_not counts.TheVariants.Len p number i b = refl
   announces_not counts.TheVariants.IsEmpty p number i b = refl
 
-  places_not : (which : CountOf) (p number : ℕ) (events : List (Event T)) → PlacesRight events (Finished p (Container (counts_as which)) (counted which number))
+  places_not : (which : CountOf) (p number : ℕ) (events : List (Event T)) → EndsRight events (Finished p (Container (counts_as which)) (counted which number))
   places_not counts.TheVariants.Len p number events = tt
   places_not counts.TheVariants.IsEmpty p number events = tt
 

@@ -27,7 +27,7 @@ use Rattle.model.specs.Families.{ask_of}
 use Rattle.model.specs.Families.Container.Bounds.{most_steps}
 use Rattle.model.specs.Families.Container.Calls.{looked, look_came, look_goes, settled_if, writes_state}
 use Rattle.model.specs.Families.Container.Looks.{is_looking, WasCopied}
-use Rattle.model.specs.Families.Container.Promises.{AnswersRight, PlacesRight}
+use Rattle.model.specs.Families.Container.Promises.{AnswersRight}
 use Rattle.model.specs.Families.Container.Reading.{Act, acts, seen_in, contents_after, contents_of}
 use Rattle.model.specs.Families.Container.Spans.{may_stand, HasDone}
 use Rattle.model.specs.Families.Container.States.{state_of, set_state, settled}
@@ -42,6 +42,7 @@ use Rattle.model.proofs.Readings.{AreOwn}
 use Rattle.container_laws.proofs.Core.{count_at}
 use Rattle.container_laws.proofs.Effects.{OwesStill}
 use Rattle.container_laws.proofs.Glances.{rests_settled}
+use Rattle.container_laws.proofs.HiddenKnows.{EndsRight}
 use Rattle.container_laws.proofs.Invariant.{Scene, Inv, AreAllRight, Does, before, after, wrote_of, view}
 use Rattle.container_laws.proofs.Knows.{LookKnows, Knows}
 use Rattle.container_laws.proofs.LookWalk.{copies_of, Comes, IsRight, call_at, Walker, WalkAt, walks_change, walks_count, walks_word, walks_check}
@@ -110,7 +111,7 @@ module _ (T : Type 0) where
   answers_look kinds.TheVariants.GetState c p s changed events = tt
   answers_look kinds.TheVariants.UpdateState c p s changed events = tt
 
-  places_look : (which : LookOf) (p : ℕ) (s : ContainerState T) (changed : Bool) (events : List (Event T)) → PlacesRight events (Finished p (Container (looks_as which)) (looked which s changed))
+  places_look : (which : LookOf) (p : ℕ) (s : ContainerState T) (changed : Bool) (events : List (Event T)) → EndsRight events (Finished p (Container (looks_as which)) (looked which s changed))
   places_look kinds.TheVariants.GetState p s changed events = tt
   places_look kinds.TheVariants.UpdateState p s changed events = tt
 

@@ -349,7 +349,7 @@ module _ {T : Type 0} (scene : Scene T) (inv : Inv scene) (index : ℕ) (value :
               let es = Placed p i value ∷ [] in
               let proper = was_going replaces.TheVariants.AddsCount here k.filled (words_after ws (Some add_it)) y es (refl, tt) tt (λ start w. refl) (omega arith) in
               goes_on scene start (at_stage replaces.TheVariants.AddsChange) (Some add_it) false scene.states es here.span (λ start w. refl)
-              (places_it scene inv start (at_stage replaces.TheVariants.AddsCount) tt here y (words_after ws (Some add_it)) i below new refl value owner mine (λ holds. w.has holds alive) proper)
+              (places_it scene inv start (at_stage replaces.TheVariants.AddsCount) tt here y (words_after ws (Some add_it)) i below new refl value owner alive mine (λ holds. w.has holds alive) proper)
               ((refl, refl, hidden), tt) (omega arith)
               (refl, given_is, fits, (below, ap (λ (d : List Deed). d ++ []) none_done)) (
                 knows_then es (refl, tt) tt (λ start w. refl) (λ o. refl) (λ o. refl) replaces.TheVariants.AddsCount replaces.TheVariants.AddsChange here add_it,

@@ -29,6 +29,7 @@ use Rattle.model.specs.Coding.{Coding}
 use Rattle.model.specs.Families.Container.Bounds.{most_steps}
 use Rattle.model.specs.Families.Container.Looks.{state_in, WasCopied, ShowsCopies, IsCurrent, AnswersOfState, MomentsOfState, EndsLook}
 use Rattle.model.specs.Families.Container.Reading.{contents_of, MayReplace, Copies, Sees, acts, acts_of, places, Has}
+use Rattle.model.specs.Families.Container.Removals.{HidesRight}
 use Rattle.model.specs.Families.Container.Spans.{may_stand, HasDone}
 use Rattle.model.specs.Families.Indices.Reading.{is_locked}
 use Rattle.model.specs.Families.Indices.Robust.Dead.{has_died}
@@ -199,6 +200,7 @@ module _ {T : Type 0} where
     pub holders : Each HoldsRight t.events
     pub contents : Each ContainsRight t.events
     pub placed : Each PlacesRight t.events
+    pub hidden : Each HidesRight t.events
     pub elements : HasElements t
 
   -- ---- questions
