@@ -81,7 +81,7 @@ module _ {T : Type 0} (scene : Scene T) (inv : Inv scene) (value : T) (owner : �
 
   module _ (k : AddOwns c owner i (sees_now scene)) where
     mine : Proper (before scene) → IsWriter p i owner events
-    mine proper = inl (k.owns proper.frees alive)
+    mine proper = inl (k.owns proper.frees alive).by
 
     nobody_else : {A : Type 0} → Proper (before scene) → (q : ℕ) → q ≢ p → (o : ℕ) → IsWriter q i o events → A
     nobody_else holds q ne o theirs = absurd (ne (one_writer q p i o owner events (inv.good.owned holds.frees) theirs (mine holds)))
@@ -251,7 +251,7 @@ module _ {T : Type 0} (scene : Scene T) (inv : Inv scene) (value : T) (owner : �
               let es = Placed p i value ∷ [] in
               let proper = was_proper scene start tt here.span (words_after ws add_it) y es (refl, tt) in
               goes_on scene start (at_stage (adds.TheVariants.AddsChange i)) add_it false scene.states es here.span (λ start w. refl)
-              (places_it scene inv start (at_stage (adds.TheVariants.AddsCount i)) tt here y (words_after ws add_it) i below new refl value owner mine (λ holds. w.has holds alive) proper)
+              (places_it scene inv start (at_stage (adds.TheVariants.AddsCount i)) tt here y (words_after ws add_it) i below new refl value owner alive mine (λ holds. w.has holds alive) proper)
               ((refl, granted.1, hidden), tt) (omega arith)
               (refl, refl, fits, (below, ap (λ (d : List Deed). d ++ []) granted.1)) (
                 owns_placed add_it y,

@@ -77,7 +77,7 @@ module _ {T : Type 0} (scene : Scene T) (g : set.Good scene.capacity scene.words
 
   stands_shut : (o : Option (Party T)) → StandsProper p o events
   stands_shut None = tt
-  stands_shut (Some x) = λ index owner value wrote span steps. absurd (subst IsShut span shut)
+  stands_shut (Some x) = λ index owner value wrote span steps found. absurd (subst IsShut span shut)
 
   was_proper : (start : ContainerStart T) → Proper (m' start) → Proper m
   was_proper start = proper_before p (y start) latest events (begun start) (refl, tt) (λ proper. stands_shut (party_of p latest))
@@ -111,6 +111,7 @@ module _ {T : Type 0} (scene : Scene T) (g : set.Good scene.capacity scene.words
         announces = λ proper same i below said. (sym (same_announced start i) ∙ said, refl);
         owing = λ same owing. still_owing start owing;
         owed = λ same i below. inl refl;
+        lost = λ proper i o below dead filled. inl refl;
       }
 
   changes_none : (start : ContainerStart T) → Changes scene scene.words (y start) (begun start)
@@ -226,7 +227,7 @@ module _ {T : Type 0} (scene : Scene T) (g : set.Good scene.capacity scene.words
 
     replace_at_first : (b : Bool) → nat_lt index c ≡ b → ReplaceAt {T = T} c code.size [] [] index (if nat_lt (if b then index else c) c then replaces.TheVariants.LoadsCell else replaces.TheVariants.Refuses)
     replace_at_first true t = rw t (grind (arith, nat_tests), refl, refl)
-    replace_at_first false t = let past : nat_lt c c ≡ false = grind (arith, nat_tests) in rw past (grind (arith, nat_tests), refl)
+    replace_at_first false t = let past : nat_lt c c ≡ false = grind (arith, nat_tests) in rw past (grind (arith, nat_tests), refl, refl)
 
     replaces_know : (b : Bool) → nat_lt index c ≡ b → ReplacesKnow code c (if b then index else c) value owner (if nat_lt (if b then index else c) c then replaces.TheVariants.LoadsCell else replaces.TheVariants.Refuses) (v replacing)
     replaces_know true t = rw t (paid replacing, replace_begun p index owner value events)

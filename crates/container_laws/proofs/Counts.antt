@@ -21,7 +21,7 @@ use Rattle.model.specs.declared.families.container.calls.CountOf as counts
 use Rattle.model.specs.declared.party.Party.{Party}
 use Rattle.model.specs.Families.Container.Bounds.{most_steps}
 use Rattle.model.specs.Families.Container.Calls.{counted}
-use Rattle.model.specs.Families.Container.Promises.{IsLength, AnswersRight, PlacesRight}
+use Rattle.model.specs.Families.Container.Promises.{IsLength, AnswersRight}
 use Rattle.model.specs.Families.Container.Reading.{Act, announced_after}
 use Rattle.model.specs.Families.Container.Spans.{HasDone}
 use Rattle.model.specs.Families.Indices.Robust.Promises.{IsFilled}
@@ -38,6 +38,7 @@ use Rattle.robust_laws.proofs.Rights.{Right, right_after}
 use Rattle.robust_laws.proofs.Stages as set_stages
 use Rattle.robust_laws.proofs.Standing.{count_number, CountAt}
 use Rattle.container_laws.proofs.Effects.{OwesStill}
+use Rattle.container_laws.proofs.HiddenKnows.{EndsRight}
 use Rattle.container_laws.proofs.Invariant.{Scene, Inv, before, after, of_set, inv_of_set}
 use Rattle.container_laws.proofs.Knows.{Knows}
 use Rattle.container_laws.proofs.Sets.{quiet_end}
@@ -71,9 +72,9 @@ module _ (T : Type 0) where
   answers_count counts.TheVariants.Len c p number events h = h
   answers_count counts.TheVariants.IsEmpty c p number events h = record { number = number; is = refl; length = h }
 
-  does_count : (which : CountOf) (number : ℕ) (deeds : List Deed) → deeds ≡ [] → HasDone (counts_as {T = T} which) (counted which number) deeds
-  does_count counts.TheVariants.Len number deeds none = none
-  does_count counts.TheVariants.IsEmpty number deeds none = none
+  does_count : (which : CountOf) (number : ℕ) (deeds : List Deed) (acts : List (Act T)) → deeds ≡ [] → HasDone (counts_as {T = T} which) (counted which number) deeds acts
+  does_count counts.TheVariants.Len number deeds acts none = none
+  does_count counts.TheVariants.IsEmpty number deeds acts none = none
 
   settles_not : (which : CountOf) (p number i : ℕ) (o : Option ℕ) → settled_after {T = T} i o (Finished p (Container (counts_as which)) (counted which number)) ≡ o
   settles_not counts.TheVariants.Len p number i o = refl
@@ -87,7 +88,7 @@ module _ (T : Type 0) where
   announces_not counts.TheVariants.Len p number i b = refl
   announces_not counts.TheVariants.IsEmpty p number i b = refl
 
-  places_not : (which : CountOf) (p number : ℕ) (events : List (Event T)) → PlacesRight events (Finished p (Container (counts_as which)) (counted which number))
+  places_not : (which : CountOf) (p number : ℕ) (events : List (Event T)) → EndsRight events (Finished p (Container (counts_as which)) (counted which number))
   places_not counts.TheVariants.Len p number events = tt
   places_not counts.TheVariants.IsEmpty p number events = tt
 
@@ -127,7 +128,7 @@ module _ {T : Type 0} (scene : Scene T) (inv : Inv scene) where
         ends scene start (counted which number) ask false scene.states [] here.span none_lengthens
         (ends_there scene inv start (count_at which c count) tt here y (words_after ws ask) stays (counted which number) (quiet_end (of_set scene) (inv_of_set scene inv) start (counted which number) (settles_not T which p number) (rights_not T which p number)) (announces_not T which p number)
         (answers_count T which c p number events is) proper (λ holds. places_not T which p number events) (still (words_after ws ask) y es proper))
-        ((refl, does_count T which number (all scene) none), tt) (few_count T which c code.size _ (backs_then scene false) few) (omega arith)
+        ((refl, does_count T which number (all scene) (done scene) none), tt) (few_count T which c code.size _ (backs_then scene false) few) (omega arith)
 
     counts_move : counts_to (Some (count_ask count)) (count_goes_back count (old_of ws (Some (count_ask count)))) (count_after c count (old_of ws (Some (count_ask count))))
     counts_move =

@@ -6,7 +6,7 @@ use Rattle.model.specs.declared.event.Event.{Event}
 use Rattle.model.specs.declared.event.Event.TheVariants.{Died}
 use Rattle.model.specs.declared.party.Party.{Party}
 use Rattle.model.specs.Coding.{Coding}
-use Rattle.model.specs.Families.Container.Promises.{AsksRight, RecoversRight, AnswersRight, ContainsRight, PlacesRight, ReplacesRight}
+use Rattle.model.specs.Families.Container.Promises.{AsksRight, RecoversRight, AnswersRight, ContainsRight, ReplacesRight}
 use Rattle.model.specs.Families.Container.Reading.{contents_after, contents_of, announced_after, announced_of}
 use Rattle.model.specs.Families.Indices.Robust.Promises.{FreesRight}
 use Rattle.model.specs.Families.Indices.Robust.Reading.{is_dead}
@@ -14,6 +14,7 @@ use Rattle.model.specs.Parties.{party_of}
 use Rattle.model.proofs.Readings.{Each-append, span_of-death}
 use Rattle.robust_laws.proofs.Deaths.{death_good, death_goes, death_spares}
 use Rattle.robust_laws.proofs.Invariant as set
+use Rattle.container_laws.proofs.HiddenKnows.{EndsRight}
 use Rattle.container_laws.proofs.Invariant.{Elements, moment, view}
 use Rattle.container_laws.proofs.Keeping.{still_knows}
 use Rattle.container_laws.proofs.Left.{left_after, left_of}
@@ -63,6 +64,7 @@ module _ {T : Type 0} (code : Coding T) (c : ℕ) (words dead : List ℕ) (state
         announces = λ proper same i below said. (sym (same_announced i) ∙ said, refl);
         owing = λ same owing. owing;
         owed = λ same i below. inl refl;
+        lost = λ proper i owner below dead filled. inl refl;
       }
 
   leaves : (q : ℕ) → Leaves code c q m m'
@@ -88,7 +90,7 @@ module _ {T : Type 0} (code : Coding T) (c : ℕ) (words dead : List ℕ) (state
         recovers = Each-append RecoversRight events es h.recovers (tt, tt);
         answers = Each-append (AnswersRight c) events es h.answers (tt, tt);
         contains = λ proper. Each-append ContainsRight events es (h.contains (was_proper proper)) (tt, tt);
-        places = λ proper. Each-append PlacesRight events es (h.places (was_proper proper)) (tt, tt);
+        places = λ proper. Each-append EndsRight events es (h.places (was_proper proper)) (tt, tt);
         rests = λ q s idle found. rests_later code c m m' es refl passes q s (h.rests q s idle found);
         fresh = λ q. rests_later code c m m' es refl passes q _ (h.fresh q);
       }

@@ -9,7 +9,7 @@ use Rattle.model.specs.declared.event.Start.{Start}
 use Rattle.model.specs.declared.party.Party.{Party}
 use Rattle.model.specs.Families.Container.Looks.{WasAlone}
 use Rattle.model.specs.Families.Container.Reading.{contents_of, announced_of}
-use Rattle.model.specs.Families.Indices.Robust.Reading.{is_dead}
+use Rattle.model.specs.Families.Indices.Robust.Reading.{is_dead, filled_of}
 use Rattle.model.specs.Parties.{party_of, put, doing_of, flight_of}
 use Rattle.model.specs.Reading.{Open, span_of}
 use Rattle.model.specs.Shape.{IsShut}
@@ -101,6 +101,7 @@ module _ {T : Type 0} (scene : Scene T) (inv : Inv scene) (words' : List ℕ) (y
                 announces = λ holds is i low said. (sym (calm.announced i) ∙ said, same_count i low);
                 owing = λ is o. owing_still still o;
                 owed = λ is i low. inl (same_count i low);
+                lost = λ holds i o low dead filled. inl (same_count i low);
               };
           leaves = λ q ne.
               record {
@@ -148,6 +149,7 @@ module _ {T : Type 0} (scene : Scene T) (inv : Inv scene) (words' : List ℕ) (y
                 announces = λ holds is i low said. let more = raised in absurd (omega arith);
                 owing = λ is o. let more = raised in absurd (omega arith);
                 owed = λ is i low. inl (count_as_it_was i);
+                lost = λ holds i o low dead filled. inl (count_as_it_was i);
               };
           leaves = λ q ne.
               record {
@@ -205,6 +207,7 @@ module _ {T : Type 0} (scene : Scene T) (inv : Inv scene) (words' : List ℕ) (y
                 announces = λ holds is a low said. (sym (calm.announced a) ∙ said, count_kept a low);
                 owing = λ is o. owing_still still o;
                 owed = λ is a low. inl (count_kept a low);
+                lost = λ holds a o low dead filled. inl (count_kept a low);
               };
           leaves = λ q ne.
               record {
@@ -260,6 +263,7 @@ module _ {T : Type 0} (scene : Scene T) (inv : Inv scene) (words' : List ℕ) (y
       pub stood : Proper m' → is_some (contents_of i events) ≡ true → is_some (contents_of i (events ++ es)) ≡ true → ⊥
       pub under : Proper m' → (q : ℕ) → q ≢ p → (a o : ℕ) → IsWriter q a o events → count_in code c m a % 2 ≡ 0 → a ≢ i
       pub over : Proper m' → (q : ℕ) → q ≢ p → (o : ℕ) → IsWriter q i o events → (count_in code c m i + 1) % 2 ≡ 0
+      pub lost : Proper m' → (o : ℕ) → is_dead o events ≡ true → filled_of i events ≡ Some o → count_in code c m i % 2 ≡ 1
       pub whole : Proper m' → IsWhole code c words' (events ++ es)
 
     pub counts_one : IsCounted → Changes scene words' y es
@@ -277,6 +281,7 @@ module _ {T : Type 0} (scene : Scene T) (inv : Inv scene) (words' : List ℕ) (y
                 announces = λ holds is a low said. let k = h.announced holds a said in (k.1, count_there a k.0);
                 owing = λ is o. owing_now owed;
                 owed = λ is a low. inr (owing_now owed);
+                lost = λ holds a o low dead filled. ⊎_elim (λ same. inr (lost_here holds a o same dead filled)) (λ other. inl (count_there a other)) (cases_eq a i);
               };
           leaves = λ q ne.
               record {
@@ -304,3 +309,9 @@ module _ {T : Type 0} (scene : Scene T) (inv : Inv scene) (words' : List ℕ) (y
         over_here holds q ne a o same theirs =
             subst (λ b. count_in code c m' b % 2 ≡ 0) (sym same)
             (ap (λ n. n % 2) count_here ∙ h.over holds q ne o (subst (λ b. IsWriter q b o events) same theirs))
+
+        lost_here : Proper m' → (a o : ℕ) → a ≡ i → is_dead o events ≡ true → filled_of a events ≡ Some o → (count_in code c m a % 2 ≡ 1) × (count_in code c m' a % 2 ≡ 0)
+        lost_here holds a o same dead filled =
+            let odd = h.lost holds o dead (subst (λ b. filled_of b events ≡ Some o) same filled) in
+            let new = count_here in
+            subst (λ b. (count_in code c m b % 2 ≡ 1) × (count_in code c m' b % 2 ≡ 0)) (sym same) (odd, omega arith)

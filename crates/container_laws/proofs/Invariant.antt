@@ -15,7 +15,7 @@ use Rattle.model.specs.declared.party.Party.{Party}
 use Rattle.model.specs.declared.turn.Kind as kinds
 use Rattle.model.specs.Coding.{Coding, IsCoding}
 use Rattle.model.specs.Families.Container.Looks.{is_looking}
-use Rattle.model.specs.Families.Container.Promises.{AsksRight, RecoversRight, AnswersRight, ContainsRight, PlacesRight, promise}
+use Rattle.model.specs.Families.Container.Promises.{AsksRight, RecoversRight, AnswersRight, ContainsRight, promise}
 use Rattle.model.specs.Families.Container.Reading.{Act, acts, contents_of, announced_of, acts_of}
 use Rattle.model.specs.Families.Container.States.{state_of, fresh}
 use Rattle.model.specs.Families.Indices.Robust.Reading.{Deed, deeds, wrote_in, deeds_of}
@@ -30,6 +30,7 @@ use Rattle.robust_laws.proofs.Invariant as set
 use Rattle.robust_laws.proofs.Knows.{IsSeen}
 use Rattle.container_laws.proofs.Contents.{IsWhole}
 use Rattle.container_laws.proofs.Keeping.{still_knows}
+use Rattle.container_laws.proofs.HiddenKnows.{EndsRight}
 use Rattle.container_laws.proofs.Knows.{View, Knows}
 use Rattle.container_laws.proofs.Sights.{Rests, rests_later}
 use Rattle.container_laws.proofs.Standing.{number_of, At}
@@ -101,7 +102,7 @@ module _ {T : Type 0} where
     pub recovers : Each RecoversRight m.events
     pub answers : Each (AnswersRight c) m.events
     pub contains : Proper m → Each ContainsRight m.events
-    pub places : Proper m → Each PlacesRight m.events
+    pub places : Proper m → Each EndsRight m.events
     pub rests : (q : ℕ) (s : ContainerState T) → is_idle q m.latest → state_of q states ≡ Some s → Rests code c m q s
     pub fresh : (q : ℕ) → Rests code c m q (fresh code c)
 
@@ -196,7 +197,7 @@ module _ {T : Type 0} (scene : Scene T) where
     pub recovers : AreRight RecoversRight events es
     pub answers : AreRight (AnswersRight c) events es
     pub contains : Proper (after words' y es) → AreRight ContainsRight events es
-    pub places : Proper (after words' y es) → AreRight PlacesRight events es
+    pub places : Proper (after words' y es) → AreRight EndsRight events es
 
   -- all of it, where it leaves these states
   pub record Does (words' : List ℕ) (states' : List (ℕ × ContainerState T)) (y : Party T) (es : List (Event T)) : Type 0 where
@@ -239,7 +240,7 @@ module _ {T : Type 0} (scene : Scene T) where
           recovers = Each-append RecoversRight events es h.recovers does.right.recovers;
           answers = Each-append (AnswersRight c) events es h.answers does.right.answers;
           contains = λ proper. Each-append ContainsRight events es (h.contains (does.changes.passes.proper proper)) (does.right.contains proper);
-          places = λ proper. Each-append PlacesRight events es (h.places (does.changes.passes.proper proper)) (does.right.places proper);
+          places = λ proper. Each-append EndsRight events es (h.places (does.changes.passes.proper proper)) (does.right.places proper);
           rests = still_rests;
           fresh = λ q. rests_later code c before m' es refl does.changes.passes q (fresh code c) (h.fresh q);
         }

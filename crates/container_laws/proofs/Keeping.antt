@@ -44,7 +44,9 @@ use Rattle.robust_laws.proofs.Knows as set
 use Rattle.robust_laws.proofs.Past.{through_less, through_now}
 use Rattle.robust_laws.proofs.Standing.{acquire_at, release_at, borrowed_at, looking}
 use Rattle.container_laws.proofs.Contents.{writes_on}
-use Rattle.container_laws.proofs.Knows.{View, of_set, now, IsPaid, Dead, Lives, AddOwns, HasFound, ReplaceKnows, Covers, Writes, HasPlaced, Stood, AddKnows, ReplacesKnow, RemoveSays, HasLeft, ReleaseLeft, RemoveKnows, Copying, CheckPaid, HasFoundBelow, Finds, Steady, FindKnows, AskedBelow, GoneBut, Recovers, RecoverSays, RecoverKnows, Looks, LookCopies, LookRests, LookKnows, Knows}
+use Rattle.container_laws.proofs.HiddenKnows.{RecoverCovers, StillStands, HasHidden, no_index}
+use Rattle.container_laws.proofs.HiddenLater.{remove_covers, recover_covers, hidden_stands, hidden_later}
+use Rattle.container_laws.proofs.Knows.{View, of_set, now, IsPaid, Dead, Lives, WasFilled, AddOwns, HasFound, ReplaceKnows, Covers, Writes, HasPlaced, Stood, AddKnows, ReplacesKnow, RemoveSays, HasLeft, ReleaseHides, ReleaseLeft, RemoveKnows, Copying, CheckPaid, HasFoundBelow, Finds, Steady, FindKnows, AskedBelow, GoneBut, Recovers, RecoverSays, RecoverKnows, Looks, LookCopies, LookRests, LookKnows, Knows}
 use Rattle.container_laws.proofs.Replaces.{ReplaceOwns, replace_later, add_later}
 use Rattle.container_laws.proofs.Sights.{StoodThere, copied_later, rests_later, course_later}
 use Rattle.container_laws.proofs.Turns.{Now, Proper, count_in, Passes, Leaves}
@@ -61,12 +63,12 @@ module _ {T : Type 0} where
   shut_later events es h = fold-append locked_after false events es ∙ shut_on (is_locked events) es h
 
   -- a replace that has taken a step was begun rightly, in a proper run
-  pub may_replace : (index owner : ℕ) (value : T) (v : View T) → HasFound index owner value v → Proper (now v) → MayReplace v.party index owner v.events
-  may_replace index owner value v h proper =
-      subst (λ o. StandsProper v.party o v.events) h.found (proper.replaces v.party) index owner value h.wrote h.span h.steps
+  pub may_replace : (index owner : ℕ) (value : T) (v : View T) → HasFound index owner value v → WasFilled owner index v → Proper (now v) → MayReplace v.party index owner v.events
+  may_replace index owner value v h filled proper =
+      subst (λ o. StandsProper v.party o v.events) h.found (proper.replaces v.party) index owner value h.wrote h.span h.steps filled
 
   pub replacing : (c index owner : ℕ) (value : T) (v : View T) → ReplaceKnows c index owner value v → Proper (now v) → Lives owner v → Replacing v.party index owner v.events
-  replacing c index owner value v h proper alive = h.owns proper.frees alive (may_replace index owner value v h.found proper)
+  replacing c index owner value v h proper alive = h.owns proper.frees alive (may_replace index owner value v h.found h.filled proper)
 
 module _ {T : Type 0} (code : Coding T) (c : ℕ) (v : View T) (words' : List ℕ) (states' : List (ℕ × ContainerState T)) (latest' : List (ℕ × Party T)) (es : List (Event T)) (changes' : ℕ)
     (goes : Goes v.words words' v.events es) (spares : Spares v.party v.events es) (seen : IsSeen v.words words' v.changes changes')
@@ -139,7 +141,7 @@ module _ {T : Type 0} (code : Coding T) (c : ℕ) (v : View T) (words' : List �
   IsTheWriter owner index = Proper (now v) → Lives owner v → IsWriter q index owner events
 
   adds_write : (owner index : ℕ) → AddOwns c owner index v → IsTheWriter owner index
-  adds_write owner index h proper alive = inl (h.owns proper.frees alive)
+  adds_write owner index h proper alive = inl (h.owns proper.frees alive).by
 
   replaces_write : (owner index : ℕ) (value : T) → ReplaceKnows c index owner value v → IsTheWriter owner index
   replaces_write owner index value h proper alive = inr (replacing c index owner value v h proper alive)
@@ -220,12 +222,17 @@ module _ {T : Type 0} (code : Coding T) (c : ℕ) (v : View T) (words' : List �
   release_left index count (releases.TheVariants.Raises raise) h = has_left index count h
   release_left index count (releases.TheVariants.Locks lock) h = has_left index count h
 
+  release_hides : (index owner : ℕ) (mode : ReleaseMode) (count : ℕ) (stage : ReleaseStage) → set.Knows c (release_at c index owner mode stage) (of_set v) → ReleaseLeft code c index count stage v → ReleaseHides code c index owner count stage v → ReleaseHides code c index owner count stage later
+  release_hides index owner mode count releases.TheVariants.EmptiesCell k left h = remove_covers code c q owner index count (now v) words' latest' es goes spares passes leaves left.0 k.owns h
+  release_hides index owner mode count (releases.TheVariants.Raises raise) k left h = hidden_stands code c q owner index count (now v) words' latest' es goes spares passes leaves left.within h
+  release_hides index owner mode count (releases.TheVariants.Locks lock) k left h = hidden_stands code c q owner index count (now v) words' latest' es goes spares passes leaves left.within h
+
   remove_knows : (index owner : ℕ) (mode : ReleaseMode) (stage : RemoveStage) → RemoveKnows code c index owner mode stage v → RemoveKnows code c index owner mode stage later
   remove_knows index owner mode removes.TheVariants.Refuses h = paid h
   remove_knows index owner mode removes.TheVariants.LoadsCount h = set_knows (release_at c index owner mode releases.TheVariants.EmptiesCell) h
-  remove_knows index owner mode (removes.TheVariants.Releases count stage) h = (set_knows (release_at c index owner mode stage) h.0, release_left index count stage h.1)
-  remove_knows index owner mode (removes.TheVariants.Hides count state) h = (paid h.0, remove_says index owner mode state h.1, has_left index count h.2)
-  remove_knows index owner mode (removes.TheVariants.AddsChange state) h = (paid h.0, remove_says index owner mode state h.1)
+  remove_knows index owner mode (removes.TheVariants.Releases count stage) h = (set_knows (release_at c index owner mode stage) h.0, release_left index count stage h.1, release_hides index owner mode count stage h.0 h.1 h.2)
+  remove_knows index owner mode (removes.TheVariants.Hides count state) h = (paid h.0, remove_says index owner mode state h.1, has_left index count h.2, hidden_stands code c q owner index count (now v) words' latest' es goes spares passes leaves h.2.within h.3)
+  remove_knows index owner mode (removes.TheVariants.AddsChange state) h = (paid h.0, remove_says index owner mode state h.1, hidden_later code c q owner no_index (now v) words' latest' es spares passes h.2)
 
   -- ---- a copy, and a find
 
@@ -295,9 +302,16 @@ module _ {T : Type 0} (code : Coding T) (c : ℕ) (v : View T) (words' : List �
       ⊎_elim (λ gone. inl (λ e. gone (goes.fills i owner dead e))) (λ here. inr here)
       (h i (⊎_elim (λ yes. inl (subst (IsOneOf (Yes i owner)) deeds_same yes)) (λ shown. inr (shown_same i shown)) told))
 
-  recovers_on : (owner k : ℕ) (Here : ℕ → Type 0) → Recovers code c owner k Here v → Recovers code c owner k Here later
+  recovers_then : (owner k : ℕ) (Here But But' : ℕ → Type 0) → (HasHidden code c q owner But (now v) → HasHidden code c q owner But' (now later)) → Recovers code c owner k Here But v → Recovers code c owner k Here But' later
+  recovers_then owner k Here But But' stays h =
+      record { dead = goes.dead owner h.dead; was_open = once IsUnlocked h.was_open; asked = asked_below owner k h.asked; gone = gone_but owner Here h.dead h.gone; hidden = stays h.hidden }
+
+  recovers_on : (owner k : ℕ) (Here : ℕ → Type 0) → Recovers code c owner k Here no_index v → Recovers code c owner k Here no_index later
   recovers_on owner k Here h =
-      record { dead = goes.dead owner h.dead; was_open = once IsUnlocked h.was_open; asked = asked_below owner k h.asked; gone = gone_but owner Here h.dead h.gone }
+      recovers_then owner k Here no_index no_index (λ g. hidden_later code c q owner no_index (now v) words' latest' es spares passes g) h
+
+  covers_on : (owner index count : ℕ) → index < c → Dead owner v → RecoverCovers code c owner index count (now v) → RecoverCovers code c owner index count (now later)
+  covers_on owner index count below dead h = recover_covers code c q owner index count (now v) words' latest' es goes spares passes leaves below dead h
 
   recovered : (owner : ℕ) → Dead owner v → HasRecovered q owner events → HasRecovered q owner (events ++ es)
   recovered owner dead h =
@@ -321,12 +335,16 @@ module _ {T : Type 0} (code : Coding T) (c : ℕ) (v : View T) (words' : List �
   recover_knows owner mode room (recovers.TheVariants.LoadsCell index) h = (paid h.0, recovers_on owner index none h.1)
   recover_knows owner mode room (recovers.TheVariants.LoadsCount index) h = (paid h.0, recovers_on owner index none h.1, once (IsFilledWith owner index) h.2)
   recover_knows owner mode room (recovers.TheVariants.LoadsWord index count at) h =
-      (check_paid index count h.0, recovers_on owner index none h.1, once (IsFilledWith owner index) h.2, copying index count room.words at h.3)
+      (check_paid index count h.0, recovers_on owner index none h.1, once (IsFilledWith owner index) h.2, copying index count room.words at h.3, covers_on owner index count h.3.within h.1.dead h.4)
   recover_knows owner mode room (recovers.TheVariants.ChecksCount index count) h =
-      (check_paid index count h.0, recovers_on owner index none h.1, once (IsFilledWith owner index) h.2, copying index count room.words code.size h.3)
-  recover_knows owner mode room (recovers.TheVariants.Asks index count) h = (paid h.0, recovers_on owner (index + 1) none h.1, h.2, count_below index count h.2 h.3, copied_later q index (read_in code room) events es h.4)
-  recover_knows owner mode room (recovers.TheVariants.EmptiesCell index count) h = (paid h.0, recovers_on owner (index + 1) (λ i. i ≡ index) h.1, h.2, count_below index count h.2 h.3)
-  recover_knows owner mode room (recovers.TheVariants.Hides index count) h = (paid h.0, recovers_on owner (index + 1) none h.1, has_left index count h.2)
+      (check_paid index count h.0, recovers_on owner index none h.1, once (IsFilledWith owner index) h.2, copying index count room.words code.size h.3, covers_on owner index count h.3.within h.1.dead h.4)
+  recover_knows owner mode room (recovers.TheVariants.Asks index count) h = (paid h.0, recovers_on owner (index + 1) none h.1, h.2, count_below index count h.2 h.3, copied_later q index (read_in code room) events es h.4, covers_on owner index count h.2 h.1.dead h.5)
+  recover_knows owner mode room (recovers.TheVariants.EmptiesCell index count) h = (paid h.0, recovers_on owner (index + 1) (λ i. i ≡ index) h.1, h.2, count_below index count h.2 h.3, covers_on owner index count h.2 h.1.dead h.4)
+  recover_knows owner mode room (recovers.TheVariants.Hides index count) h = (
+    paid h.0,
+    recovers_then owner (index + 1) none (StillStands code c index count (now v)) (StillStands code c index count (now later)) (λ g. hidden_stands code c q owner index count (now v) words' latest' es goes spares passes leaves h.2.within g) h.1,
+    has_left index count h.2,
+  )
   recover_knows owner mode room (recovers.TheVariants.Raises index raise) h =
       (held_paid v.words words' events es q v.since v.changes changes' v.backs goes spares seen (set.raise_holds raise) h.0, recovers_on owner (index + 1) none h.1)
   recover_knows owner mode room (recovers.TheVariants.Locks index lock) h = (
@@ -335,7 +353,7 @@ module _ {T : Type 0} (code : Coding T) (c : ℕ) (v : View T) (words' : List �
     still_scanned v.words words' events es q v.since v.changes changes' v.backs goes spares seen (set.lock_scan c lock) h.2,
   )
   recover_knows owner mode room recovers.TheVariants.LoadsCounterAgain h = (paid h.0, recovers_on owner c none h.1)
-  recover_knows owner mode room (recovers.TheVariants.AddsChange state) h = (paid h.0, recover_says owner state h.1)
+  recover_knows owner mode room (recovers.TheVariants.AddsChange state) h = (paid h.0, recover_says owner state h.1, hidden_later code c q owner no_index (now v) words' latest' es spares passes h.2)
 
   -- ---- a look
 

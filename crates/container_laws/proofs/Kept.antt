@@ -12,11 +12,15 @@ use Rattle.steps.specs.declared.container.recover.RecoverStage as recovers
 use Rattle.steps.specs.declared.container.state.ContainerState.{ContainerState}
 use Rattle.steps.specs.declared.copied.Kept as rooms
 use Rattle.steps.specs.declared.indices.enums.ReleaseMode.{ReleaseMode}
+use Rattle.model.specs.declared.event.Answer.TheVariants.{Done, Index, State}
+use Rattle.model.specs.declared.event.Event.{Event}
+use Rattle.model.specs.declared.event.Event.TheVariants.{Finished}
+use Rattle.model.specs.declared.event.Start.TheVariants.{Container}
 use Rattle.model.specs.declared.families.Flight.{Flight}
 use Rattle.model.specs.declared.families.Flight as flights
 use Rattle.model.specs.declared.families.Kept.{Kept}
 use Rattle.model.specs.declared.families.Kept as kepts
-use Rattle.model.specs.declared.families.container.calls.ContainerFlight.{ContainerFlight}
+use Rattle.model.specs.declared.families.container.ContainerStart.TheVariants.{Add, Remove, Replace, Recover}
 use Rattle.model.specs.declared.families.container.calls.ContainerFlight as calls
 use Rattle.model.specs.declared.party.Doing.{Doing}
 use Rattle.model.specs.declared.party.Doing.TheVariants.{Going, Over}
@@ -24,21 +28,23 @@ use Rattle.model.specs.declared.party.Party.{Party}
 use Rattle.model.specs.declared.turn.Kind as kinds
 use Rattle.model.specs.Coding.{Coding}
 use Rattle.model.specs.Families.Container.Looks.{state_in, shows, WasCopied, ShowsCopies}
-use Rattle.model.specs.Families.Container.Promises.{HasElement, HasElements, IsProperRun, IsContainer, KeepsDead, AsksCopies, question_in, find_question, recover_question, promise}
+use Rattle.model.specs.Families.Container.Promises.{PlacesRight, HasElement, HasElements, IsProperRun, IsContainer, KeepsDead, AsksCopies, question_in, find_question, recover_question, promise}
 use Rattle.model.specs.Families.Container.Reading.{contents_of}
+use Rattle.model.specs.Families.Container.Removals.{HidesRight}
 use Rattle.model.specs.Families.Container.States.{state_of}
 use Rattle.model.specs.Families.Queues.Calls.{read_in}
 use Rattle.model.specs.Parties.{party_of, doing_of, flight_of}
 use Rattle.model.specs.Promises.{IsKeptBy, IsKept}
 use Rattle.model.specs.Promises.Bounds.{Progresses}
 use Rattle.model.specs.Promises.Families.{promise_of}
-use Rattle.model.specs.Reading.{span_of}
+use Rattle.model.specs.Reading.{Each, span_of}
 use Rattle.model.specs.Turns.{IsReached}
 use Rattle.model.specs.World.{Trace, flight_in, progress_in}
 use Rattle.model.proofs.Frame as frame
 use Rattle.robust_laws.proofs.Core.{cell}
 use Rattle.container_laws.proofs.Bounds.{bounds}
 use Rattle.container_laws.proofs.Contents.{Stands}
+use Rattle.container_laws.proofs.HiddenKnows.{EndsRight}
 use Rattle.container_laws.proofs.Invariant.{Knowing, moment, view, family}
 use Rattle.container_laws.proofs.Knows.{View, FindKnows, RecoverKnows}
 use Rattle.container_laws.proofs.Proper.{proper_so_far}
@@ -57,6 +63,19 @@ module _ {T : Type 0} (code : Coding T) (c : ℕ) (words : List ℕ) (i : ℕ) w
     where
       odd_is : (n : ℕ) → n % 2 ≡ 1 → is_even n ≡ false
       odd_is n e = grind (arith, nat_tests)
+
+-- ---- what a finished call has done to elements
+
+module _ {T : Type 0} where
+  ends_placed : (before : List (Event T)) (e : Event T) → EndsRight before e → PlacesRight before e
+  ends_placed before (Finished p (Container (Add value owner)) (Index index)) h = h
+  ends_placed before (Finished p (Container (Replace index value owner)) Done) h = h
+  ends_placed before e h = tt
+
+  ends_hidden : (before : List (Event T)) (e : Event T) → EndsRight before e → HidesRight before e
+  ends_hidden before (Finished p (Container (Remove index owner mode)) (State state)) h = h
+  ends_hidden before (Finished p (Container (Recover owner mode)) (State state)) h = h
+  ends_hidden before e h = tt
 
 -- ---- what is shown was copied
 
@@ -146,6 +165,9 @@ module _ {T : Type 0} (code : Coding T) (t : Trace T) (s : frame.Sound (family c
       (subst (λ ws. HasElement code c ws index (contents_of index t.events)) (sym words_are)
       (element_is code c s.state.words index (contents_of index t.events) (whole index below)))
 
+  ends : IsProperRun t → Each EndsRight t.events
+  ends proper = s.holds.elements.places (proper_so_far t proper)
+
   container_kept : IsContainer t
   container_kept =
       let g = s.holds.good in
@@ -163,7 +185,8 @@ module _ {T : Type 0} (code : Coding T) (t : Trace T) (s : frame.Sound (family c
         proper = λ proper. record {
           holders = g.holds proper.frees;
           contents = e.contains (proper_so_far t proper);
-          placed = e.places (proper_so_far t proper);
+          placed = λ before after e is. ends_placed before e (ends proper before after e is);
+          hidden = λ before after e is. ends_hidden before e (ends proper before after e is);
           elements = elements proper;
         };
       }

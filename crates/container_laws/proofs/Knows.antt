@@ -42,6 +42,7 @@ use Rattle.model.specs.Reading.{Open, span_of}
 use Rattle.robust_laws.proofs.Knows as set
 use Rattle.robust_laws.proofs.Standing.{acquire_at, release_at, borrowed_at, looking}
 use Rattle.container_laws.proofs.Contents.{Writing}
+use Rattle.container_laws.proofs.HiddenKnows.{RemoveCovers, RecoverCovers, StillStands, HasHidden, no_index}
 use Rattle.container_laws.proofs.Left.{left_of}
 use Rattle.container_laws.proofs.Replaces.{ReplaceOwns}
 use Rattle.container_laws.proofs.Sights.{number_at, StoodThere, Rests, Course}
@@ -192,16 +193,26 @@ module _ {T : Type 0} (code : Coding T) (c : ℕ) where
       (index < c) × (count ≤ count_in code c (now v) index)
   ReleaseLeft index count stage v = HasLeft index count v
 
+  -- and of what stood there
+  abbrev pub ReleaseHides : ℕ → ℕ → ℕ → ReleaseStage → View T → Type 0
+  ReleaseHides index owner count releases.TheVariants.EmptiesCell v =
+      RemoveCovers code c v.party owner index count (now v)
+  ReleaseHides index owner count stage v =
+      HasHidden code c v.party owner (StillStands code c index count (now v)) (now v)
+
   abbrev pub RemoveKnows : ℕ → ℕ → ReleaseMode → RemoveStage → View T → Type 0
   RemoveKnows index owner mode removes.TheVariants.Refuses v = IsPaid v
   RemoveKnows index owner mode removes.TheVariants.LoadsCount v =
       set.Knows c (release_at c index owner mode releases.TheVariants.EmptiesCell) (of_set v)
   RemoveKnows index owner mode (removes.TheVariants.Releases count stage) v =
       set.Knows c (release_at c index owner mode stage) (of_set v) × ReleaseLeft index count stage v
+      × ReleaseHides index owner count stage v
   RemoveKnows index owner mode (removes.TheVariants.Hides count state) v =
       IsPaid v × RemoveSays index owner mode state v × HasLeft index count v
+      × HasHidden code c v.party owner (StillStands code c index count (now v)) (now v)
   RemoveKnows index owner mode (removes.TheVariants.AddsChange state) v =
       IsPaid v × RemoveSays index owner mode state v
+      × HasHidden code c v.party owner no_index (now v)
 
   -- ---- a copy
 
@@ -268,11 +279,12 @@ module _ {T : Type 0} (code : Coding T) (c : ℕ) where
   abbrev pub Gone : ℕ → View T → Type 0
   Gone owner v = GoneBut owner (λ i. ⊥) v
 
-  pub record Recovers (owner k : ℕ) (Now : ℕ → Type 0) (v : View T) : Type 0 where
+  pub record Recovers (owner k : ℕ) (Now But : ℕ → Type 0) (v : View T) : Type 0 where
     pub dead : Dead owner v
     pub was_open : WasOpen v
     pub asked : AskedBelow owner k v
     pub gone : GoneBut owner Now v
+    pub hidden : HasHidden code c v.party owner But (now v)
 
   abbrev pub RecoverSays : ℕ → ReleaseState → View T → Type 0
   RecoverSays owner states.TheVariants.Locked v = is_locked v.events ≡ true
@@ -283,33 +295,37 @@ module _ {T : Type 0} (code : Coding T) (c : ℕ) where
   RecoverKnows owner mode room recovers.TheVariants.LoadsCounter v =
       IsPaid v × Dead owner v × Gone owner v
   RecoverKnows owner mode room (recovers.TheVariants.LoadsCell index) v =
-      IsPaid v × Recovers owner index (λ i. ⊥) v
+      IsPaid v × Recovers owner index no_index no_index v
   RecoverKnows owner mode room (recovers.TheVariants.LoadsCount index) v =
-      IsPaid v × Recovers owner index (λ i. ⊥) v × WasFilled owner index v
+      IsPaid v × Recovers owner index no_index no_index v × WasFilled owner index v
   RecoverKnows owner mode room (recovers.TheVariants.LoadsWord index count at) v =
-      CheckPaid index count v × Recovers owner index (λ i. ⊥) v × WasFilled owner index v
+      CheckPaid index count v × Recovers owner index no_index no_index v × WasFilled owner index v
       × Copying index count room.words at v
+      × RecoverCovers code c owner index count (now v)
   RecoverKnows owner mode room (recovers.TheVariants.ChecksCount index count) v =
-      CheckPaid index count v × Recovers owner index (λ i. ⊥) v × WasFilled owner index v
+      CheckPaid index count v × Recovers owner index no_index no_index v × WasFilled owner index v
       × Copying index count room.words code.size v
+      × RecoverCovers code c owner index count (now v)
   RecoverKnows owner mode room (recovers.TheVariants.Asks index count) v =
-      IsPaid v × Recovers owner (index + 1) (λ i. ⊥) v
+      IsPaid v × Recovers owner (index + 1) no_index no_index v
       × (index < c) × (count ≤ count_in code c (now v) index)
       × WasCopied v.party index (read_in code room) v.events
+      × RecoverCovers code c owner index count (now v)
   RecoverKnows owner mode room (recovers.TheVariants.EmptiesCell index count) v =
-      IsPaid v × Recovers owner (index + 1) (λ i. i ≡ index) v
+      IsPaid v × Recovers owner (index + 1) (λ i. i ≡ index) no_index v
       × (index < c) × (count ≤ count_in code c (now v) index)
+      × RecoverCovers code c owner index count (now v)
   RecoverKnows owner mode room (recovers.TheVariants.Hides index count) v =
-      IsPaid v × Recovers owner (index + 1) (λ i. ⊥) v × HasLeft index count v
+      IsPaid v × Recovers owner (index + 1) no_index (StillStands code c index count (now v)) v × HasLeft index count v
   RecoverKnows owner mode room (recovers.TheVariants.Raises index raise) v =
-      set.Paid (set.raise_holds raise) (of_set v) × Recovers owner (index + 1) (λ i. ⊥) v
+      set.Paid (set.raise_holds raise) (of_set v) × Recovers owner (index + 1) no_index no_index v
   RecoverKnows owner mode room (recovers.TheVariants.Locks index lock) v =
-      set.Paid (set.lock_holds lock) (of_set v) × Recovers owner (index + 1) (λ i. ⊥) v
+      set.Paid (set.lock_holds lock) (of_set v) × Recovers owner (index + 1) no_index no_index v
       × set.Scanned (set.lock_scan c lock) (of_set v)
   RecoverKnows owner mode room recovers.TheVariants.LoadsCounterAgain v =
-      IsPaid v × Recovers owner c (λ i. ⊥) v
+      IsPaid v × Recovers owner c no_index no_index v
   RecoverKnows owner mode room (recovers.TheVariants.AddsChange state) v =
-      IsPaid v × RecoverSays owner state v
+      IsPaid v × RecoverSays owner state v × HasHidden code c v.party owner no_index (now v)
 
   -- ---- a look
 

@@ -13,6 +13,10 @@ pub mod Effects
 pub mod Everything
 pub mod Finds
 pub mod Glances
+pub mod HiddenKnows
+pub mod HiddenLater
+pub mod HiddenOn
+pub mod HiddenRemoves
 pub mod Invariant
 pub mod Justified
 pub mod Keeping

@@ -27,7 +27,7 @@ use Rattle.model.specs.Families.{ask_of}
 use Rattle.model.specs.Families.Container.Bounds.{most_steps}
 use Rattle.model.specs.Families.Container.Calls.{looked, look_came, look_goes, settled_if, writes_state}
 use Rattle.model.specs.Families.Container.Looks.{is_looking, WasCopied}
-use Rattle.model.specs.Families.Container.Promises.{AnswersRight, PlacesRight}
+use Rattle.model.specs.Families.Container.Promises.{AnswersRight}
 use Rattle.model.specs.Families.Container.Reading.{Act, acts, seen_in, contents_after, contents_of}
 use Rattle.model.specs.Families.Container.Spans.{may_stand, HasDone}
 use Rattle.model.specs.Families.Container.States.{state_of, set_state, settled}
@@ -42,6 +42,7 @@ use Rattle.model.proofs.Readings.{AreOwn}
 use Rattle.container_laws.proofs.Core.{count_at}
 use Rattle.container_laws.proofs.Effects.{OwesStill}
 use Rattle.container_laws.proofs.Glances.{rests_settled}
+use Rattle.container_laws.proofs.HiddenKnows.{EndsRight}
 use Rattle.container_laws.proofs.Invariant.{Scene, Inv, AreAllRight, Does, before, after, wrote_of, view}
 use Rattle.container_laws.proofs.Knows.{LookKnows, Knows}
 use Rattle.container_laws.proofs.LookWalk.{copies_of, Comes, IsRight, call_at, Walker, WalkAt, walks_change, walks_count, walks_word, walks_check}
@@ -110,13 +111,13 @@ module _ (T : Type 0) where
   answers_look kinds.TheVariants.GetState c p s changed events = tt
   answers_look kinds.TheVariants.UpdateState c p s changed events = tt
 
-  places_look : (which : LookOf) (p : ℕ) (s : ContainerState T) (changed : Bool) (events : List (Event T)) → PlacesRight events (Finished p (Container (looks_as which)) (looked which s changed))
+  places_look : (which : LookOf) (p : ℕ) (s : ContainerState T) (changed : Bool) (events : List (Event T)) → EndsRight events (Finished p (Container (looks_as which)) (looked which s changed))
   places_look kinds.TheVariants.GetState p s changed events = tt
   places_look kinds.TheVariants.UpdateState p s changed events = tt
 
-  does_look : (which : LookOf) (s : ContainerState T) (changed : Bool) (made : List Deed) → made ≡ [] → HasDone (looks_as which) (looked which s changed) made
-  does_look kinds.TheVariants.GetState s changed made none = none
-  does_look kinds.TheVariants.UpdateState s changed made none = none
+  does_look : (which : LookOf) (s : ContainerState T) (changed : Bool) (made : List Deed) (acts : List (Act T)) → made ≡ [] → HasDone (looks_as which) (looked which s changed) made acts
+  does_look kinds.TheVariants.GetState s changed made acts none = none
+  does_look kinds.TheVariants.UpdateState s changed made acts none = none
 
   copy_stands : (which : LookOf) (p index : ℕ) (value : T) (w : List (Event T)) → AreBelow index (seen_in (acts w)) → may_stand (Copied p index value) (Open (Container (looks_as which)) w)
   copy_stands kinds.TheVariants.GetState p index value w h = h
@@ -230,7 +231,7 @@ module _ {T : Type 0} (scene : Scene T) (inv : Inv scene) (which : LookOf) (stag
         (does words' same y None es (silent_end T which, tt) (refl, tt) tt contents (settled st)
         (record { asks = (tt, tt); recovers = (tt, tt); answers = (answers_look T which c p st true events, tt); contains = λ holds. (tt, tt); places = λ holds. (places_look T which p st true events, tt) })
         (λ idle. rests_settled code c m' p st (course m' (comes words' same y None es (silent_end T which, tt) (refl, tt) tt contents))))
-        ((refl, does_look T which st true (all scene) none), tt) (few_look T which c code.size _ (backs_then scene back) few) (omega arith)
+        ((refl, does_look T which st true (all scene) (done scene) none), tt) (few_look T which c code.size _ (backs_then scene back) few) (omega arith)
     ends_with back (Some copy) st right same none few paid course =
         let answer = looked which st true in
         let y = party_then scene start ask back (Done answer) in
@@ -250,7 +251,7 @@ module _ {T : Type 0} (scene : Scene T) (inv : Inv scene) (which : LookOf) (stag
           places = λ holds. (tt, (places_look T which p st true (events ++ did), tt));
         })
         (λ idle. rests_settled code c m' p st (course m' (comes words' same y (Some copy) finish (tt, (silent_end T which, tt)) (refl, (refl, tt)) tt contents))))
-        (copy_stands T which p copy.0 copy.1 (wrote_of p events) right.0, ((refl, does_look T which st true _ (deeds_one copy none)), tt))
+        (copy_stands T which p copy.0 copy.1 (wrote_of p events) right.0, ((refl, does_look T which st true _ _ (deeds_one copy none)), tt))
         (few_look T which c code.size _ (backs_then scene back) few) (omega arith)
       where
         deeds_one : (copy : ℕ × T) → all scene ≡ [] → deeds (wrote_of p events ++ Copied p copy.0 copy.1 ∷ []) ≡ []
@@ -267,7 +268,7 @@ module _ {T : Type 0} (scene : Scene T) (inv : Inv scene) (which : LookOf) (stag
         (does words' same y None es (silent_end T which, tt) (refl, tt) tt contents s
         (record { asks = (tt, tt); recovers = (tt, tt); answers = (answers_look T which c p s false events, tt); contains = λ holds. (tt, tt); places = λ holds. (places_look T which p s false events, tt) })
         (λ idle. (comes words' same y None es (silent_end T which, tt) (refl, tt) tt contents).rests s rests))
-        ((refl, does_look T which s false (all scene) none), tt) (few_look T which c code.size _ (backs_then scene false) (omega arith)) (omega arith)
+        ((refl, does_look T which s false (all scene) (done scene) none), tt) (few_look T which c code.size _ (backs_then scene false) (omega arith)) (omega arith)
 
     walker : Walker scene inv s ask (Lead ask)
     walker = record { goes = goes_with; ends = ends_with; stays = stays_with }

@@ -4,12 +4,12 @@ use Rattle.std.proofs.lemmas.Bool.{cases_eq}
 use Rattle.model.specs.declared.event.Event.{Event}
 use Rattle.model.specs.declared.party.Party.{Party}
 use Rattle.model.specs.Families.Container.Promises.{ReplacesRight, StandsProper, IsProperRun}
-use Rattle.model.specs.Families.Indices.Robust.Promises.{FreesRight, IsProper}
+use Rattle.model.specs.Families.Indices.Robust.Promises.{IsFilledWith, FreesRight, IsProper}
 use Rattle.model.specs.Moments.{BeginsNone}
 use Rattle.model.specs.Parties.{party_of, put}
 use Rattle.model.specs.Reading.{Each, span_of}
 use Rattle.model.specs.World.{Trace}
-use Rattle.model.proofs.Moments.{others_begin_none}
+use Rattle.model.proofs.Moments.{others_begin_none, held_later}
 use Rattle.model.proofs.Parties.{party_put_other}
 use Rattle.model.proofs.Readings.{AreOwn, span_of-other}
 use Rattle.container_laws.proofs.Replaces.{earlier}
@@ -30,7 +30,7 @@ module _ {T : Type 0} where
   pub stands_less : (q : ℕ) (o : Option (Party T)) (events es : List (Event T)) → BeginsNone q es → span_of q (events ++ es) ≡ span_of q events → StandsProper q o (events ++ es) → StandsProper q o events
   stands_less q None events es none same h = tt
   stands_less q (Some x) events es none same h =
-      λ index owner value wrote span steps. (earlier q index owner events es none (h index owner value wrote (same ∙ span) steps)).may
+      λ index owner value wrote span steps found. (earlier q index owner events es none (h index owner value wrote (same ∙ span) steps (held_later q (IsFilledWith owner index) events es none found))).may
 
   module _ (p : ℕ) (y : Party T) (latest : List (ℕ × Party T)) (events es : List (Event T)) (own : AreOwn p es) where
     abbrev pub IsProperThen : Type 0

@@ -8,7 +8,6 @@ use Rattle.steps.specs.declared.container.recover.RecoverStage.{RecoverStage}
 use Rattle.steps.specs.declared.container.recover.RecoverStage as recovers
 use Rattle.steps.specs.declared.copied.Kept as rooms
 use Rattle.steps.specs.declared.indices.enums.ReleaseMode.{ReleaseMode}
-use Rattle.steps.specs.declared.indices.robust.parts.Raise.{Raise}
 use Rattle.steps.specs.declared.indices.robust.parts.Raise as raises
 use Rattle.steps.specs.Container.Layout.{count_word, is_even}
 use Rattle.steps.specs.Container.Recover.{recover_comes_to, recover_raises}
@@ -26,24 +25,26 @@ use Rattle.model.specs.Parties.{flight_of}
 use Rattle.model.specs.Turns.{words_after, step_count}
 use Rattle.robust_laws.proofs.Core.{cell}
 use Rattle.robust_laws.proofs.Deeds.{was_one, by_latest}
-use Rattle.robust_laws.proofs.Effects.{at_same, some_none, one_owner, both_ways, proper_less, filled_by, is_shut, unlocked}
+use Rattle.robust_laws.proofs.Effects.{at_same, some_none, one_owner, both_ways, proper_less, filled_by}
 use Rattle.robust_laws.proofs.Effects as set_effects
 use Rattle.robust_laws.proofs.Frees as set_frees
 use Rattle.robust_laws.proofs.Invariant as set_invariant
 use Rattle.robust_laws.proofs.Stages.{exchanges, exchange_sets, fails_same}
 use Rattle.container_laws.proofs.Core.{count_at}
-use Rattle.container_laws.proofs.Invariant.{Scene, Inv, Does, before, of_set, inv_of_set}
+use Rattle.container_laws.proofs.HiddenKnows.{StillStands}
+use Rattle.container_laws.proofs.HiddenOn.{hidden_even, hidden_other, hidden_freed, hides_it}
+use Rattle.container_laws.proofs.Invariant.{Scene, Inv, Does, before, after, of_set, inv_of_set}
 use Rattle.container_laws.proofs.Knows.{Recovers, RecoverKnows, IsLong, Knows}
 use Rattle.container_laws.proofs.Left.{left_after, left_of}
-use Rattle.container_laws.proofs.RecoverParts.{none, as_recover, first, Few, then_at, stays_does, go_on, recs, asked_on, told_none, comes_to_next}
+use Rattle.container_laws.proofs.RecoverParts.{none, hidden_still, as_recover, first, Few, then_at, stays_does, go_on, recs, asked_on, told_none, comes_to_next}
 use Rattle.container_laws.proofs.RecoverReads.{Here, Becomes, Goes, Course, course_calm, calm_recs, calm_on, index_at_least}
-use Rattle.container_laws.proofs.Recoveries.{one_of_none, has_of_none, has_latest, was_act, course_then}
+use Rattle.container_laws.proofs.Recoveries.{rehidden, one_of_none, has_of_none, has_latest, was_act, course_then}
 use Rattle.container_laws.proofs.SetSteps.{rest_set, wide_set, frees}
 use Rattle.container_laws.proofs.Stages.{all, done, sees_now, then_sees, StepOf, Leads, none_lengthens, backs_then, since_then, changes_then, was_proper}
 use Rattle.container_laws.proofs.Standing.{recover_at, recover_number, for_back, for_index, AskedOrShown, IsInCourse, RecoverAt}
 use Rattle.container_laws.proofs.Steps.{hides}
 use Rattle.container_laws.proofs.Turns.{owes, count_in}
-use Rattle.container_laws.proofs.Writing.{odd_is, hides_count}
+use Rattle.container_laws.proofs.Writing.{even_is, odd_is, hides_count}
 
 module _ {T : Type 0} (scene : Scene T) (inv : Inv scene) (owner : ℕ) (mode : ReleaseMode) (fits : owner < empty) where
   open scene use {coding as code, capacity as c, party as p, steps as steps, backs as backs, since as since, changes as changes, events as events, latest as latest}
@@ -57,11 +58,11 @@ module _ {T : Type 0} (scene : Scene T) (inv : Inv scene) (owner : ℕ) (mode : 
   -- ---- a step on the counter
 
   module _ (room : rooms.Kept 128) (stage : RecoverStage) (here : Here scene inv owner mode fits room stage) (long : IsLong room) (ask : Option Ask) (back : Bool) (stays : set_effects.Stays (of_set scene) (words_after ws ask))
-      (paid : backs_then scene back + since_then scene ask ≤ changes_then scene ask) (index : ℕ) (rec : Recovers code c owner (index + 1) none (sees_now scene)) where
-    pub stays_recs : (y : Party T) → Recovers code c owner (index + 1) none (then_sees scene ask back scene.states y [])
+      (paid : backs_then scene back + since_then scene ask ≤ changes_then scene ask) (index : ℕ) (rec : Recovers code c owner (index + 1) none none (sees_now scene)) where
+    pub stays_recs : (y : Party T) → Recovers code c owner (index + 1) none none (then_sees scene ask back scene.states y [])
     stays_recs y =
         let goes = (set_effects.quietly (of_set scene) (inv_of_set scene inv) (words_after ws ask) [] stays.leaves set_effects.quiet_none tt tt tt).goes in
-        recs scene inv owner mode fits room stage here ask back y [] tt tt none_lengthens goes (index + 1) (index + 1) none none none rec (asked_on scene inv owner mode fits room stage here ask back y [] tt tt none_lengthens goes (index + 1) rec.asked) (told_none scene inv owner mode fits room stage here) (λ i e. absurd e) (λ i e. absurd e)
+        recs scene inv owner mode fits room stage here ask back y [] tt tt none_lengthens goes (index + 1) (index + 1) none none none none none rec (asked_on scene inv owner mode fits room stage here ask back y [] tt tt none_lengthens goes (index + 1) rec.asked) (told_none scene inv owner mode fits room stage here) (λ i e. absurd e) (λ i e. absurd e) (hidden_still scene inv owner mode fits room stage here ask y rec.hidden)
 
     pub stays_on : (next : RecoverStage) → steps + step_count ask ≤ recover_number c z mode next (backs_then scene back) → RecoverAt c z (all scene ++ []) (done scene ++ []) owner mode next
         → Knows code c (recover_at c owner mode room next) (then_sees scene ask back scene.states (then_at scene inv owner mode fits room stage here room next ask back) []) → Goes scene inv owner mode fits ask back [] room next
@@ -99,13 +100,16 @@ module _ {T : Type 0} (scene : Scene T) (inv : Inv scene) (owner : ℕ) (mode : 
         let goes = (set_effects.quietly (of_set scene) (inv_of_set scene inv) (words_after ws empty_it) [] stays.leaves set_effects.quiet_none tt tt tt).goes in
         comes_to_next scene inv owner mode fits room stage here long empty_it false [] none_lengthens tt (λ y owe. stays_does scene inv owner mode fits room stage here (words_after ws empty_it) stays y owe) index (omega arith) stands.0.within
         (λ i low. course_calm scene inv owner mode fits index (index + 1) i (index + 1) stands.0 low (omega arith)) paid_now
-        (λ y. recs scene inv owner mode fits room stage here empty_it false y [] tt tt none_lengthens goes (index + 1) (index + 1) (λ i. i ≡ index) none none k.1
+        (λ y. recs scene inv owner mode fits room stage here empty_it false y [] tt tt none_lengthens goes (index + 1) (index + 1) (λ i. i ≡ index) none none none none k.1
         (asked_on scene inv owner mode fits room stage here empty_it false y [] tt tt none_lengthens goes (index + 1) k.1.asked) (told_none scene inv owner mode fits room stage here)
-        (λ i e. inl (λ filled. other (inv.good.cells index stands.0.within ∙ ap cell_of (subst (λ n. filled_of n events ≡ Some owner) e (subst (λ es. filled_of i es ≡ Some owner) (append-nil events) filled))))) (λ i e. absurd e))
+        (λ i e. inl (λ filled. other (inv.good.cells index stands.0.within ∙ ap cell_of (subst (λ n. filled_of n events ≡ Some owner) e (subst (λ es. filled_of i es ≡ Some owner) (append-nil events) filled))))) (λ i e. absurd e) (hidden_still scene inv owner mode fits room stage here empty_it y k.1.hidden))
 
     module _ (is : cell ws index ≡ owner) where
       new : words_after ws empty_it ≡ set ws (cell_word index) empty
       new = exchange_sets ws (cell_word index) owner empty is
+
+      stays_count : count_at c (words_after ws empty_it) index ≡ count_in code c (before scene) index
+      stays_count = rest_set scene inv (Recover owner mode) (recover_at c owner mode room (recovers.TheVariants.EmptiesCell index count)) tt here (then_at scene inv owner mode fits room (recovers.TheVariants.EmptiesCell index count) here room (recovers.TheVariants.Hides index count) empty_it false) (words_after ws empty_it) (cell_word index) empty (let below = stands.0.within in omega arith) new (count_word c index) (omega arith)
 
       filled : filled_of index events ≡ Some owner
       filled = filled_by (of_set scene) (inv_of_set scene inv) index stands.0.within owner fits is
@@ -131,13 +135,20 @@ module _ {T : Type 0} (scene : Scene T) (inv : Inv scene) (owner : ℕ) (mode : 
           index owner set_does (was_proper scene (Recover owner mode) tt here.span (words_after ws empty_it) y freeing (refl, tt)) (λ was. owe)
           (subst (FreedRight p index owner events) (sym here.span) (refl, k.1.dead, was_known))
 
-      recs_freed : (y : Party T) → Recovers code c owner (index + 1) none (then_sees scene empty_it false scene.states y freeing)
+      recs_freed : (y : Party T) → Recovers code c owner (index + 1) none (StillStands code c index count (after scene (words_after ws empty_it) y freeing)) (then_sees scene empty_it false scene.states y freeing)
       recs_freed y =
-          recs scene inv owner mode fits room (recovers.TheVariants.EmptiesCell index count) here empty_it false y freeing (refl, tt) tt (λ start w. refl) set_does.goes (index + 1) (index + 1) (λ i. i ≡ index) none none k.1
+          recs scene inv owner mode fits room (recovers.TheVariants.EmptiesCell index count) here empty_it false y freeing (refl, tt) tt (λ start w. refl) set_does.goes (index + 1) (index + 1) (λ i. i ≡ index) none none none (StillStands code c index count (after scene (words_after ws empty_it) y freeing)) k.1
           (asked_on scene inv owner mode fits room (recovers.TheVariants.EmptiesCell index count) here empty_it false y freeing (refl, tt) tt (λ start w. refl) set_does.goes (index + 1) k.1.asked)
           (λ i said. inl (⊎_elim (λ yes. ⊎_elim (λ had. inl had) (λ e. absurd (cc)) (was_one (Yes i owner) (Frees index owner) (all scene) yes)) (λ seen. inr (has_of_none (Sees i) (done scene) seen)) said))
           (λ i e. inl (λ now. some_none (filled_of i (events ++ freeing)) owner (fold-append (filled_after i) None events freeing ∙ at_same index i None (filled_of i events) e) now))
           (λ i e. absurd e)
+          (hidden_freed scene (Recover owner mode) tt here.span owner inv index count stands.0.within (words_after ws empty_it) y stays_count k.1.hidden (λ earlier holds. k.4 earlier filled))
+
+      -- nothing stands there under an even number
+      recs_empty : is_even count ≡ true → (y : Party T) → owes (flight_of (Some y.doing)) ≡ true → Recovers code c owner (index + 1) none none (then_sees scene empty_it false scene.states y freeing)
+      recs_empty t y owe =
+          rehidden code c owner (index + 1) none (StillStands code c index count (after scene (words_after ws empty_it) y freeing)) none (then_sees scene empty_it false scene.states y freeing) (recs_freed y)
+          (hidden_even code c p owner index count (after scene (words_after ws empty_it) y freeing) (does y owe).changes.whole stands.0.within (even_is count t) (recs_freed y).hidden)
 
       course_freed : IsInCourse c z (all scene ++ Frees index owner ∷ []) (done scene ++ []) owner index (index + 1)
       course_freed =
@@ -149,10 +160,9 @@ module _ {T : Type 0} (scene : Scene T) (inv : Inv scene) (owner : ℕ) (mode : 
           let y = then_at scene inv owner mode fits room (recovers.TheVariants.EmptiesCell index count) here room (recovers.TheVariants.Raises index raises.TheVariants.LoadsCounter) empty_it false in
           go_on scene inv owner mode fits room (recovers.TheVariants.EmptiesCell index count) here room (recovers.TheVariants.Raises index raises.TheVariants.LoadsCounter) empty_it false freeing (λ start w. refl) (does y refl)
           ((refl, ⊎_elim (λ yes. inl yes.0) (λ shown. inr shown) stands.1), tt) (omega arith) (course_freed, record { index = index; owner = owner; latest = record { before = all scene; is = refl } })
-          (long, (paid_now, recs_freed y))
+          (long, (paid_now, recs_empty t y refl))
       empties false t =
           let y = then_at scene inv owner mode fits room (recovers.TheVariants.EmptiesCell index count) here room (recovers.TheVariants.Hides index count) empty_it false in
-          let stays_count : count_at c (words_after ws empty_it) index ≡ count_in code c (before scene) index = rest_set scene inv (Recover owner mode) (recover_at c owner mode room (recovers.TheVariants.EmptiesCell index count)) tt here y (words_after ws empty_it) (cell_word index) empty (let below = stands.0.within in omega arith) new (count_word c index) (omega arith) in
           go_on scene inv owner mode fits room (recovers.TheVariants.EmptiesCell index count) here room (recovers.TheVariants.Hides index count) empty_it false freeing (λ start w. refl) (does y refl)
           ((refl, ⊎_elim (λ yes. inl yes.0) (λ shown. inr shown) stands.1), tt) (omega arith) (course_freed, odd_is count t, record { before = all scene; is = refl }) (
             long,
@@ -161,7 +171,7 @@ module _ {T : Type 0} (scene : Scene T) (inv : Inv scene) (owner : ℕ) (mode : 
               recs_freed y,
               record {
                 within = stands.0.within;
-                below = let low = k.3 in omega arith;
+                below = let low = k.3 in let same = stays_count in omega arith;
                 left = λ proper eq. fold-append (left_after index) true events freeing ∙ at_same index index true (left_of index events) refl;
               },
             ),
@@ -212,10 +222,10 @@ module _ {T : Type 0} (scene : Scene T) (inv : Inv scene) (owner : ℕ) (mode : 
               long,
               (
                 paid_hide,
-                recs scene inv owner mode fits room (recovers.TheVariants.Hides index count) here hide_it false y hiding (refl, tt) tt (λ start w. refl) does.set.goes (index + 1) (index + 1) none none none k.1
+                recs scene inv owner mode fits room (recovers.TheVariants.Hides index count) here hide_it false y hiding (refl, tt) tt (λ start w. refl) does.set.goes (index + 1) (index + 1) none none none (StillStands code c index count (before scene)) none k.1
                     (asked_on scene inv owner mode fits room (recovers.TheVariants.Hides index count) here hide_it false y hiding (refl, tt) tt (λ start w. refl) does.set.goes (index + 1) k.1.asked)
                     (λ i said. inl (⊎_elim (λ yes. inl (one_of_none (Yes i owner) (all scene) yes)) (λ seen. ⊎_elim (λ had. inr had) (λ e. absurd (cc)) (was_act (Sees i) (HidesOne index) (done scene) seen)) said))
-                    (λ i e. absurd e) (λ i e. absurd e),
+                    (λ i e. absurd e) (λ i e. absurd e) (hides_it scene (Recover owner mode) tt here.span owner (words_after ws hide_it) y index count k.1.hidden),
               ),
             )
         go false t =
@@ -223,4 +233,4 @@ module _ {T : Type 0} (scene : Scene T) (inv : Inv scene) (owner : ℕ) (mode : 
             let same = fails_same ws (count_word c index) count (one_more count) other in
             calm_on scene inv owner mode fits room (recovers.TheVariants.Hides index count) here long hide_it same false paid_hide room next (omega arith)
             (course_calm scene inv owner mode fits index (index + 1) index (index + 1) stands.0 stands.0.within (omega arith), just_on just)
-            (long, (paid_hide, calm_recs scene inv owner mode fits room (recovers.TheVariants.Hides index count) here long hide_it same false paid_hide (then_at scene inv owner mode fits room (recovers.TheVariants.Hides index count) here room next hide_it false) (index + 1) k.1))
+            (long, (paid_hide, calm_recs scene inv owner mode fits room (recovers.TheVariants.Hides index count) here long hide_it same false paid_hide (then_at scene inv owner mode fits room (recovers.TheVariants.Hides index count) here room next hide_it false) (index + 1) (rehidden code c owner (index + 1) none (StillStands code c index count (before scene)) none (sees_now scene) k.1 (hidden_other code c p owner index count (before scene) other k.1.hidden))))

@@ -26,7 +26,7 @@ use Rattle.model.specs.declared.party.Party.{Party}
 use Rattle.model.specs.Families.Container.Promises.{WasShown, promise}
 use Rattle.model.specs.Families.Container.Reading.{Sees, Has, acts, acts_of}
 use Rattle.model.specs.Families.Indices.Robust.Promises.{HeldThrough, StillToFree}
-use Rattle.model.specs.Families.Indices.Robust.Reading.{Asks, Yes, deeds, deeds_of, filled_of, IsOneOf}
+use Rattle.model.specs.Families.Indices.Robust.Reading.{Frees, Asks, Yes, deeds, deeds_of, filled_of, IsOneOf}
 use Rattle.model.specs.Families.Queues.Calls.{as_it_is}
 use Rattle.model.specs.Moments.{BeginsNone}
 use Rattle.model.specs.Parties.{put, flight_of}
@@ -38,12 +38,14 @@ use Rattle.model.proofs.Readings.{AreOwn, AllFollow}
 use Rattle.robust_laws.proofs.Effects as set_effects
 use Rattle.robust_laws.proofs.Knows.{Goes}
 use Rattle.container_laws.proofs.Effects.{calmly}
-use Rattle.container_laws.proofs.Invariant.{Scene, Inv, AreAllRight, Does, of_set, inv_of_set, wrote_of}
+use Rattle.container_laws.proofs.HiddenKnows.{HasHidden}
+use Rattle.container_laws.proofs.HiddenOn.{hidden_on}
+use Rattle.container_laws.proofs.Invariant.{Scene, Inv, before, after, AreAllRight, Does, of_set, inv_of_set, wrote_of}
 use Rattle.container_laws.proofs.Knows.{AskedBelow, Recovers, IsLong, Knows}
-use Rattle.container_laws.proofs.Recoveries.{SplitsTold, one_of_none, has_of_none}
+use Rattle.container_laws.proofs.Recoveries.{one_of_none, has_of_none}
 use Rattle.container_laws.proofs.Recoveries as knowing
 use Rattle.container_laws.proofs.Silent.{Silent, silently}
-use Rattle.container_laws.proofs.Stages.{IsHere, Lengthens, all, done, sees_now, then_sees, ShowsThen, party_then, since_then, changes_then, backs_then, deeds_more, acts_more, goes_on, was_proper, does_with}
+use Rattle.container_laws.proofs.Stages.{IsHere, Lengthens, none_lengthens, all, done, sees_now, then_sees, ShowsThen, party_then, since_then, changes_then, backs_then, deeds_more, acts_more, goes_on, was_proper, does_with}
 use Rattle.container_laws.proofs.Standing.{recover_at, recover_number, for_back, for_index, IsInCourse, RecoverAt}
 use Rattle.container_laws.proofs.Steps.{calm_none, right_none}
 use Rattle.container_laws.proofs.Turns.{owes}
@@ -118,11 +120,11 @@ module _ {T : Type 0} (scene : Scene T) (inv : Inv scene) (owner : ℕ) (mode : 
           (i : ℕ) → IsOneOf (Yes i owner) (deeds_of p events ++ deeds es) ⊎ Has (Sees i) (acts_of p events ++ acts es)
           → (IsOneOf (Yes i owner) (deeds_of p events) ⊎ WasShown p i events) ⊎ New i
 
-      pub recs : (k k' : ℕ) (Was Now New : ℕ → Type 0) → Recovers code c owner k Was (sees_now scene) → AskedBelow code c owner k' (then_sees scene ask back scene.states y es) → Told New → ((i : ℕ) → Was i → (filled_of i (events ++ es) ≢ Some owner) ⊎ Now i)
-          → ((i : ℕ) → New i → (filled_of i (events ++ es) ≢ Some owner) ⊎ Now i) → Recovers code c owner k' Now (then_sees scene ask back scene.states y es)
-      recs k k' Was Now New h asked told was new =
+      pub recs : (k k' : ℕ) (Was Now New But But' : ℕ → Type 0) → Recovers code c owner k Was But (sees_now scene) → AskedBelow code c owner k' (then_sees scene ask back scene.states y es) → Told New → ((i : ℕ) → Was i → (filled_of i (events ++ es) ≢ Some owner) ⊎ Now i)
+          → ((i : ℕ) → New i → (filled_of i (events ++ es) ≢ Some owner) ⊎ Now i) → HasHidden code c p owner But' (after scene (words_after ws ask) y es) → Recovers code c owner k' Now But' (then_sees scene ask back scene.states y es)
+      recs k k' Was Now New But But' h asked told was new hidden =
           knowing.recovers_then code c owner (sees_now scene) (words_after ws ask) scene.states (put p y latest) (since_then scene ask) (changes_then scene ask) (backs_then scene back) es fresh (deeds_more scene start here.span es own longer) (acts_more scene start here.span es own longer) goes
-          k k' Was Now New h asked told was new
+          k k' Was Now New But But' h asked told was new hidden
 
       pub asked_on : (k : ℕ) → AskedBelow code c owner k (sees_now scene) → AskedBelow code c owner k (then_sees scene ask back scene.states y es)
       asked_on k h =
@@ -137,12 +139,19 @@ module _ {T : Type 0} (scene : Scene T) (inv : Inv scene) (owner : ℕ) (mode : 
     pub told_none : (i : ℕ) → IsOneOf (Yes i owner) (deeds_of p events ++ []) ⊎ Has (Sees i) (acts_of p events ++ []) → (IsOneOf (Yes i owner) (deeds_of p events) ⊎ WasShown p i events) ⊎ none i
     told_none i said = inl (⊎_elim (λ yes. inl (one_of_none (Yes i owner) (deeds_of p events) yes)) (λ shown. inr (has_of_none (Sees i) (acts_of p events) shown)) said)
 
+    none_freed : (i : ℕ) → IsOneOf (Frees i owner) (deeds_of p events ++ []) → IsOneOf (Frees i owner) (deeds_of p events)
+    none_freed i was = one_of_none (Frees i owner) (deeds_of p events) was
+
+    -- what it has freed is hidden still, over a step that writes nothing
+    pub hidden_still : (ask : Option Ask) (y : Party T) → HasHidden code c p owner none (before scene) → HasHidden code c p owner none (after scene (words_after ws ask) y [])
+    hidden_still ask y h = hidden_on scene start tt here.span owner (words_after ws ask) y [] tt tt none_lengthens none_freed h
+
     -- ---- it comes to the next index, or to the counter
 
     module _ (long : IsLong room) (ask : Option Ask) (back : Bool) (es : List (Event T)) (longer : Lengthens es) (stands : AllFollow (Stands promise c) (Open (Container (Recover owner mode)) (wrote_of p events)) es)
         (does : (y : Party T) → owes (flight_of (Some y.doing)) ≡ true → Does scene (words_after ws ask) scene.states y es) (index : ℕ) (few : Few ask back 1 (index + 1)) (below : index < c)
         (course : (i : ℕ) → i < c → IsInCourse c z (all scene ++ deeds es) (done scene ++ acts es) owner i (index + 1)) (paid : backs_then scene back + since_then scene ask ≤ changes_then scene ask)
-        (rec : (y : Party T) → Recovers code c owner (index + 1) none (then_sees scene ask back scene.states y es)) where
+        (rec : (y : Party T) → Recovers code c owner (index + 1) none none (then_sees scene ask back scene.states y es)) where
       pub comes_to_next : ShowsThen scene start ask back scene.states es (as_recover room (recover_comes_to first (index + 1)))
       comes_to_next = go (nat_lt (index + 1) c) refl
         where
@@ -156,4 +165,4 @@ module _ {T : Type 0} (scene : Scene T) (inv : Inv scene) (owner : ℕ) (mode : 
               let is : index + 1 ≡ c = omega arith in
               let times : (index + 1) * for_index c z mode ≡ c * for_index c z mode = ap (λ n. n * for_index c z mode) is in
               let y = then_at room recovers.TheVariants.LoadsCounterAgain ask back in
-              go_on room recovers.TheVariants.LoadsCounterAgain ask back es longer (does y refl) stands (omega arith) ((course index below).freed) (long, (paid, subst (λ n. Recovers code c owner n none (then_sees scene ask back scene.states y es)) is (rec y)))
+              go_on room recovers.TheVariants.LoadsCounterAgain ask back es longer (does y refl) stands (omega arith) ((course index below).freed) (long, (paid, subst (λ n. Recovers code c owner n none none (then_sees scene ask back scene.states y es)) is (rec y)))

@@ -27,7 +27,7 @@ use Rattle.model.specs.declared.party.Party.{Party}
 use Rattle.model.specs.Families.Container.Promises.{WasShown}
 use Rattle.model.specs.Families.Container.Reading.{Act, Copies, Sees, Has, act, acts, acts_of, seen_in, contents_of}
 use Rattle.model.specs.Families.Indices.Robust.Promises.{cell_of, IsFilledWith, IsUnlocked, HeldThrough, StillToFree}
-use Rattle.model.specs.Families.Indices.Robust.Reading.{Deed, Frees, Asks, Yes, deed, deeds, deeds_of, dead_after, IsOneOf, asked_in}
+use Rattle.model.specs.Families.Indices.Robust.Reading.{Deed, Frees, Asks, Yes, deed, deeds, deeds_of, dead_after, filled_after, IsOneOf, asked_in}
 use Rattle.model.specs.Families.Queues.Calls.{read_in, kept_at}
 use Rattle.model.specs.Reading.{Open, own_after}
 use Rattle.model.specs.Turns.{words_after, step_count}
@@ -42,10 +42,12 @@ use Rattle.robust_laws.proofs.Stages as set_stages
 use Rattle.container_laws.proofs.Copies.{copying_first, copying_more, copied_value}
 use Rattle.container_laws.proofs.Core.{count_at}
 use Rattle.container_laws.proofs.Finds.{has_last, nothing_stands}
-use Rattle.container_laws.proofs.Invariant.{Scene, Inv, AreAllRight, before, of_set, inv_of_set, wrote_of}
+use Rattle.container_laws.proofs.HiddenKnows.{RecoverCovers, HasHidden}
+use Rattle.container_laws.proofs.HiddenOn.{hidden_on, covers_on}
+use Rattle.container_laws.proofs.Invariant.{Scene, Inv, AreAllRight, before, after, of_set, inv_of_set, wrote_of}
 use Rattle.container_laws.proofs.Keeping.{shut_later}
 use Rattle.container_laws.proofs.Knows.{WasFilled, Copying, CheckPaid, Recovers, RecoverKnows, IsLong, Knows}
-use Rattle.container_laws.proofs.RecoverParts.{none, as_recover, first, then_at, reads_does, go_on, recs, asked_on, asked_more, told_none, comes_to_next}
+use Rattle.container_laws.proofs.RecoverParts.{none, hidden_still, as_recover, first, then_at, reads_does, go_on, recs, asked_on, asked_more, told_none, comes_to_next}
 use Rattle.container_laws.proofs.Recoveries.{one_more_of, one_of_none, has_of_none, was_act, course_then}
 use Rattle.container_laws.proofs.Silent.{silent_set}
 use Rattle.container_laws.proofs.Stages.{IsHere, all, done, sees_now, then_sees, ShowsThen, StepOf, AnswerOf, Leads, none_lengthens, backs_then, since_then, changes_then, deeds_more, acts_more, was_proper}
@@ -100,15 +102,15 @@ module _ {T : Type 0} (scene : Scene T) (inv : Inv scene) (owner : ℕ) (mode : 
 
   module _ (room : rooms.Kept 128) (stage : RecoverStage) (here : Here room stage) (long : IsLong room) (ask : Option Ask) (same : words_after ws ask ≡ ws) (back : Bool) (paid : backs_then scene back + since_then scene ask ≤ changes_then scene ask) where
     -- what it knows of what it has lost and asked about
-    pub calm_recs : (y : Party T) (k : ℕ) → Recovers code c owner k none (sees_now scene) → Recovers code c owner k none (then_sees scene ask back scene.states y [])
+    pub calm_recs : (y : Party T) (k : ℕ) → Recovers code c owner k none none (sees_now scene) → Recovers code c owner k none none (then_sees scene ask back scene.states y [])
     calm_recs y k h =
         let goes = (silent_set scene inv (words_after ws ask) same y [] tt tt).goes in
-        recs scene inv owner mode fits room stage here ask back y [] tt tt none_lengthens goes k k none none none h (asked_on scene inv owner mode fits room stage here ask back y [] tt tt none_lengthens goes k h.asked) (told_none scene inv owner mode fits room stage here) (λ i e. absurd e) (λ i e. absurd e)
+        recs scene inv owner mode fits room stage here ask back y [] tt tt none_lengthens goes k k none none none none none h (asked_on scene inv owner mode fits room stage here ask back y [] tt tt none_lengthens goes k h.asked) (told_none scene inv owner mode fits room stage here) (λ i e. absurd e) (λ i e. absurd e) (hidden_still scene inv owner mode fits room stage here ask y h.hidden)
 
-    calm_recs_more : (y : Party T) (k : ℕ) → Recovers code c owner k none (sees_now scene) → (HeldThrough p (StillToFree p owner k) (events ++ []) → IsOneOf (Asks k owner) (deeds_of p (events ++ [])) ⊎ WasShown p k (events ++ [])) → Recovers code c owner (k + 1) none (then_sees scene ask back scene.states y [])
+    calm_recs_more : (y : Party T) (k : ℕ) → Recovers code c owner k none none (sees_now scene) → (HeldThrough p (StillToFree p owner k) (events ++ []) → IsOneOf (Asks k owner) (deeds_of p (events ++ [])) ⊎ WasShown p k (events ++ [])) → Recovers code c owner (k + 1) none none (then_sees scene ask back scene.states y [])
     calm_recs_more y k h now =
         let goes = (silent_set scene inv (words_after ws ask) same y [] tt tt).goes in
-        recs scene inv owner mode fits room stage here ask back y [] tt tt none_lengthens goes k (k + 1) none none none h (asked_more scene inv owner mode fits room stage here ask back y [] tt tt none_lengthens goes k h.asked now) (told_none scene inv owner mode fits room stage here) (λ i e. absurd e) (λ i e. absurd e)
+        recs scene inv owner mode fits room stage here ask back y [] tt tt none_lengthens goes k (k + 1) none none none none none h (asked_more scene inv owner mode fits room stage here ask back y [] tt tt none_lengthens goes k h.asked now) (told_none scene inv owner mode fits room stage here) (λ i e. absurd e) (λ i e. absurd e) (hidden_still scene inv owner mode fits room stage here ask y h.hidden)
 
     pub calm_on : (room' : rooms.Kept 128) (next : RecoverStage) → steps + step_count ask ≤ recover_number c z mode next (backs_then scene back) → RecoverAt c z (all scene ++ []) (done scene ++ []) owner mode next → Knows code c (recover_at c owner mode room' next) (then_sees scene ask back scene.states (then_at scene inv owner mode fits room stage here room' next ask back) [])
         → Goes ask back [] room' next
@@ -116,7 +118,7 @@ module _ {T : Type 0} (scene : Scene T) (inv : Inv scene) (owner : ℕ) (mode : 
         let y = then_at scene inv owner mode fits room stage here room' next ask back in
         go_on scene inv owner mode fits room stage here room' next ask back [] none_lengthens (reads_does scene inv owner mode fits room stage here (words_after ws ask) same y [] tt tt (right_none (words_after ws ask) y) refl) tt few at known
 
-    pub calm_next : (index : ℕ) → steps + step_count ask ≤ 1 + (index + 1) * for_index c z mode + backs_then scene back * for_back c z mode → Course index index ⊎ Course index (index + 1) → ((y : Party T) → Recovers code c owner (index + 1) none (then_sees scene ask back scene.states y []))
+    pub calm_next : (index : ℕ) → steps + step_count ask ≤ 1 + (index + 1) * for_index c z mode + backs_then scene back * for_back c z mode → Course index index ⊎ Course index (index + 1) → ((y : Party T) → Recovers code c owner (index + 1) none none (then_sees scene ask back scene.states y []))
         → Becomes ask back [] room (recover_comes_to (first scene inv owner mode fits) (index + 1))
     calm_next index few course rec =
         comes_to_next scene inv owner mode fits room stage here long ask back [] none_lengthens tt
@@ -129,6 +131,10 @@ module _ {T : Type 0} (scene : Scene T) (inv : Inv scene) (owner : ℕ) (mode : 
   module _ (room : rooms.Kept 128) (here : Here room recovers.TheVariants.LoadsCounter) (long : IsLong room) (at : RecoverAt c z (all scene) (done scene) owner mode recovers.TheVariants.LoadsCounter) (k : RecoverKnows code c owner mode room recovers.TheVariants.LoadsCounter (sees_now scene)) (s : steps ≤ 0) where
     abbrev load_counter : Option Ask
     load_counter = Some (set_stages.loads 0)
+
+    -- it has freed nothing yet
+    nothing_freed : HasHidden code c p owner none (before scene)
+    nothing_freed holds i was = absurd (no_more was.before (Frees i owner) was.after (sym at.0 ∙ was.is))
 
     abbrev same_counter : words_after ws load_counter ≡ ws
     same_counter = loads_same ws 0
@@ -143,7 +149,7 @@ module _ {T : Type 0} (scene : Scene T) (inv : Inv scene) (owner : ℕ) (mode : 
         next open_now true t =
             let some = inv.good.some in
             let y = then_at scene inv owner mode fits room recovers.TheVariants.LoadsCounter here room (recovers.TheVariants.LoadsCell 0) load_counter false in
-            let now : Recovers code c owner 0 none (sees_now scene) = record { dead = k.1; was_open = held_now p IsUnlocked events (unlocked (of_set scene) (inv_of_set scene inv) open_now); asked = λ i below. absurd (omega arith); gone = k.2 } in
+            let now : Recovers code c owner 0 none none (sees_now scene) = record { dead = k.1; was_open = held_now p IsUnlocked events (unlocked (of_set scene) (inv_of_set scene inv) open_now); asked = λ i below. absurd (omega arith); gone = k.2; hidden = nothing_freed } in
             calm_on room recovers.TheVariants.LoadsCounter here long load_counter (loads_same ws 0) false paid_on room (recovers.TheVariants.LoadsCell 0) (omega arith)
             (record {
               within = omega arith;
@@ -157,8 +163,14 @@ module _ {T : Type 0} (scene : Scene T) (inv : Inv scene) (owner : ℕ) (mode : 
         go : (b : Bool) → (counter_of ws == locked) ≡ b → Leads scene (Recover owner mode) (Some (set_stages.loads 0)) false scene.states [] (as_recover scene inv owner mode fits room (if b then recover_ends (first scene inv owner mode fits) states.TheVariants.Locked else recover_comes_to (first scene inv owner mode fits) 0))
         go true t =
             let shut : counter_of ws ≡ locked = grind (arith, nat_tests) in
-            calm_on room recovers.TheVariants.LoadsCounter here long load_counter (loads_same ws 0) false paid_on room (recovers.TheVariants.AddsChange states.TheVariants.Locked) (omega arith) tt
-            (long, (paid_on, shut_later events [] (is_shut (of_set scene) (inv_of_set scene inv) shut)))
+            calm_on room recovers.TheVariants.LoadsCounter here long load_counter (loads_same ws 0) false paid_on room (recovers.TheVariants.AddsChange states.TheVariants.Locked) (omega arith) tt (
+              long,
+              (
+                paid_on,
+                shut_later events [] (is_shut (of_set scene) (inv_of_set scene inv) shut),
+                hidden_still scene inv owner mode fits room recovers.TheVariants.LoadsCounter here load_counter (then_at scene inv owner mode fits room recovers.TheVariants.LoadsCounter here room (recovers.TheVariants.AddsChange states.TheVariants.Locked) load_counter false) nothing_freed,
+              ),
+            )
         go false t =
             let open_now : counter_of ws ≢ locked = grind (arith, nat_tests) in
             next open_now (nat_lt 0 c) refl
@@ -204,7 +216,7 @@ module _ {T : Type 0} (scene : Scene T) (inv : Inv scene) (owner : ℕ) (mode : 
 
   -- ---- the number of an element, loaded or found at a check
 
-  module _ (room : rooms.Kept 128) (stage : RecoverStage) (index : ℕ) (here : Here room stage) (long : IsLong room) (course : Course index index) (rec : Recovers code c owner index none (sees_now scene)) (filled : WasFilled owner index (sees_now scene))
+  module _ (room : rooms.Kept 128) (stage : RecoverStage) (index : ℕ) (here : Here room stage) (long : IsLong room) (course : Course index index) (rec : Recovers code c owner index none none (sees_now scene)) (filled : WasFilled owner index (sees_now scene))
       (ask : Option Ask) (same : words_after ws ask ≡ ws) (back : Bool) (paid : backs_then scene back + since_then scene ask ≤ changes_then scene ask) (few : steps + step_count ask ≤ 3 + index * for_index c z mode + backs_then scene back * for_back c z mode) where
     abbrev number : ℕ
     number = count_in code c (before scene) index
@@ -238,12 +250,13 @@ module _ {T : Type 0} (scene : Scene T) (inv : Inv scene) (owner : ℕ) (mode : 
           long,
           (
             paid,
-            recs scene inv owner mode fits room stage here ask back y showing (refl, tt) tt (λ start w. refl) goes index (index + 1) none (λ i. i ≡ index) (λ i. i ≡ index) rec
+            recs scene inv owner mode fits room stage here ask back y showing (refl, tt) tt (λ start w. refl) goes index (index + 1) none (λ i. i ≡ index) (λ i. i ≡ index) none none rec
                 (asked_more scene inv owner mode fits room stage here ask back y showing (refl, tt) tt (λ start w. refl) goes index rec.asked (λ through. inr (subst (Has (Sees index)) (sym acts_then) (has_last (Sees index) (done scene)))))
                 (λ i said. ⊎_elim (λ yes. inl (inl (one_of_none (Yes i owner) (all scene) yes))) (λ seen. ⊎_elim (λ had. inl (inr had)) (λ e. let is : index ≡ i = cc in inr (sym is)) (was_act (Sees i) (Sees index) (done scene) seen)) said)
-                (λ i e. absurd e) (λ i e. inr e),
+                (λ i e. absurd e) (λ i e. inr e) (hidden_on scene (Recover owner mode) tt here.span owner (words_after ws ask) y showing (refl, tt) tt (λ start w. refl) (λ i was. one_of_none (Frees i owner) (all scene) was) rec.hidden),
             course.within,
             let eq = same_number in omega arith,
+            λ holds filled. inl same_number,
           ),
         )
 
@@ -259,6 +272,7 @@ module _ {T : Type 0} (scene : Scene T) (inv : Inv scene) (owner : ℕ) (mode : 
             calm_recs room stage here long ask same back paid y index rec,
             held_later p (IsFilledWith owner index) events [] tt filled,
             copying_first code c (then_sees scene ask back scene.states y []) index number room.words course.within long (odd_is number odd) (let eq = same_number in omega arith),
+            λ holds filled. inl same_number,
           ),
         )
 
@@ -300,9 +314,10 @@ module _ {T : Type 0} (scene : Scene T) (inv : Inv scene) (owner : ℕ) (mode : 
 
     -- what it knows of the copy and of the number
     knows_word : (next : RecoverStage) (n : ℕ) → n ≡ at + 1 → CheckPaid code c index count (then_sees scene load_word false scene.states (then_at scene inv owner mode fits room (recovers.TheVariants.LoadsWord index count at) here room' next load_word false) [])
-        × Recovers code c owner index none (then_sees scene load_word false scene.states (then_at scene inv owner mode fits room (recovers.TheVariants.LoadsWord index count at) here room' next load_word false) [])
+        × Recovers code c owner index none none (then_sees scene load_word false scene.states (then_at scene inv owner mode fits room (recovers.TheVariants.LoadsWord index count at) here room' next load_word false) [])
         × WasFilled owner index (then_sees scene load_word false scene.states (then_at scene inv owner mode fits room (recovers.TheVariants.LoadsWord index count at) here room' next load_word false) [])
         × Copying code c index count room'.words n (then_sees scene load_word false scene.states (then_at scene inv owner mode fits room (recovers.TheVariants.LoadsWord index count at) here room' next load_word false) [])
+        × RecoverCovers code c owner index count (after scene (words_after ws load_word) (then_at scene inv owner mode fits room (recovers.TheVariants.LoadsWord index count at) here room' next load_word false) [])
     knows_word next n is =
         let y = then_at scene inv owner mode fits room (recovers.TheVariants.LoadsWord index count at) here room' next load_word false in
         let v' = then_sees scene load_word false scene.states y [] in (
@@ -310,6 +325,7 @@ module _ {T : Type 0} (scene : Scene T) (inv : Inv scene) (owner : ℕ) (mode : 
           calm_recs room (recovers.TheVariants.LoadsWord index count at) here long load_word same_words false paid_word y index k.1,
           held_later p (IsFilledWith owner index) events [] tt k.2,
           subst (λ m. Copying code c index count room'.words m v') (sym is) (copying_more code c (sees_now scene) v' index count room.words at stands.2 inv.elements.coded.few same_words (was_proper scene (Recover owner mode) tt here.span (words_after ws load_word) y [] tt) k.3),
+          covers_on scene (Recover owner mode) tt here.span owner (words_after ws load_word) y [] tt index count (ap (λ w. count_at c w index) same_words) (fold-append (filled_after index) None events []) k.4,
         )
 
     pub word_step : StepOf scene (Recover owner mode) (recover_at c owner mode room (recovers.TheVariants.LoadsWord index count at))
@@ -386,13 +402,15 @@ module _ {T : Type 0} (scene : Scene T) (inv : Inv scene) (owner : ℕ) (mode : 
           long,
           (
             ⊎_elim (λ h. let paid = h.1 in omega arith) (λ h. omega arith) k.0,
-            recs scene inv owner mode fits room (recovers.TheVariants.ChecksCount index count) here check_it false y asking (refl, (refl, tt)) tt asking_longer goes index (index + 1) none none none k.1
+            recs scene inv owner mode fits room (recovers.TheVariants.ChecksCount index count) here check_it false y asking (refl, (refl, tt)) tt asking_longer goes index (index + 1) none none none none none k.1
                 (asked_more scene inv owner mode fits room (recovers.TheVariants.ChecksCount index count) here check_it false y asking (refl, (refl, tt)) tt asking_longer goes index k.1.asked (λ through. inl (subst (IsOneOf (Asks index owner)) (sym deeds_then) (last_one (Asks index owner) (all scene)))))
                 (λ i said. inl (⊎_elim (λ yes. ⊎_elim (λ had. inl had) (λ e. absurd (cc)) (was_one (Yes i owner) (Asks index owner) (all scene) yes)) (λ seen. ⊎_elim (λ had. inr had) (λ e. absurd (cc)) (was_act (Sees i) (Copies index value) (done scene) seen)) said))
-                (λ i e. absurd e) (λ i e. absurd e),
+                (λ i e. absurd e) (λ i e. absurd e)
+                (hidden_on scene (Recover owner mode) tt here.span owner (words_after ws check_it) y asking (refl, (refl, tt)) tt asking_longer (λ i was. ⊎_elim (λ had. had) (λ e. absurd (cc)) (was_one (Frees i owner) (Asks index owner) (all scene) was)) k.1.hidden),
             stands.0.within,
             let eq = ap (λ w. count_at c w index) same in let low = k.3.below in omega arith,
             record { before = events; after = Asked p index owner ∷ []; is = refl },
+            covers_on scene (Recover owner mode) tt here.span owner (words_after ws check_it) y asking (refl, (refl, tt)) index count (ap (λ w. count_at c w index) same) (fold-append (filled_after index) None events asking) k.4,
           ),
         )
 
@@ -433,12 +451,14 @@ module _ {T : Type 0} (scene : Scene T) (inv : Inv scene) (owner : ℕ) (mode : 
           long,
           (
             paid_now,
-            recs scene inv owner mode fits room (recovers.TheVariants.Asks index count) here None false y telling (refl, tt) tt (λ start w. refl) goes (index + 1) (index + 1) none (λ i. i ≡ index) (λ i. i ≡ index) k.1
+            recs scene inv owner mode fits room (recovers.TheVariants.Asks index count) here None false y telling (refl, tt) tt (λ start w. refl) goes (index + 1) (index + 1) none (λ i. i ≡ index) (λ i. i ≡ index) none none k.1
                 (asked_on scene inv owner mode fits room (recovers.TheVariants.Asks index count) here None false y telling (refl, tt) tt (λ start w. refl) goes (index + 1) k.1.asked)
                 (λ i said. ⊎_elim (λ yes. ⊎_elim (λ had. inl (inl had)) (λ e. let is : index ≡ i = cc in inr (sym is)) (was_one (Yes i owner) (Yes index owner) (all scene) yes)) (λ seen. inl (inr (has_of_none (Sees i) (done scene) seen))) said)
-                (λ i e. absurd e) (λ i e. inr e),
+                (λ i e. absurd e) (λ i e. inr e)
+                (hidden_on scene (Recover owner mode) tt here.span owner ws y telling (refl, tt) tt (λ start w. refl) (λ i was. ⊎_elim (λ had. had) (λ e. absurd (cc)) (was_one (Frees i owner) (Yes index owner) (all scene) was)) k.1.hidden),
             k.2,
             k.3,
+            covers_on scene (Recover owner mode) tt here.span owner ws y telling (refl, tt) index count refl (fold-append (filled_after index) None events telling) k.5,
           ),
         )
 

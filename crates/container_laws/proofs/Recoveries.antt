@@ -16,7 +16,8 @@ use Rattle.model.proofs.Readings.{SplitAt, Last, Earlier, split_last}
 use Rattle.robust_laws.proofs.Knows.{Goes}
 use Rattle.robust_laws.proofs.Past.{through_less}
 use Rattle.container_laws.proofs.Finds.{all_both, below_more, has_more}
-use Rattle.container_laws.proofs.Knows.{View, Dead, AskedBelow, GoneBut, Recovers}
+use Rattle.container_laws.proofs.HiddenKnows.{HasHidden}
+use Rattle.container_laws.proofs.Knows.{View, now, Dead, AskedBelow, GoneBut, Recovers}
 use Rattle.container_laws.proofs.Standing.{AreBelow, AskedOrShown, IsInCourse}
 
 -- ---- what it has done
@@ -106,11 +107,17 @@ module _ {T : Type 0} (code : Coding T) (c owner : ℕ) (v : View T) (words' : L
       (λ fresh. new i fresh)
       (told i (⊎_elim (λ yes. inl (subst (IsOneOf (Yes i owner)) deeds_more yes)) (λ shown. inr (subst (Has (Sees i)) acts_more shown)) said))
 
-  pub recovers_then : (k k' : ℕ) (Was Now New : ℕ → Type 0) → Recovers code c owner k Was v → AskedBelow code c owner k' then_view → SplitsTold New → ((i : ℕ) → Was i → (filled_of i (v.events ++ es) ≢ Some owner) ⊎ Now i) → ((i : ℕ) → New i → (filled_of i (v.events ++ es) ≢ Some owner) ⊎ Now i) → Recovers code c owner k' Now then_view
-  recovers_then k k' Was Now New h asked told was new =
+  pub recovers_then : (k k' : ℕ) (Was Now New But But' : ℕ → Type 0) → Recovers code c owner k Was But v → AskedBelow code c owner k' then_view → SplitsTold New → ((i : ℕ) → Was i → (filled_of i (v.events ++ es) ≢ Some owner) ⊎ Now i) → ((i : ℕ) → New i → (filled_of i (v.events ++ es) ≢ Some owner) ⊎ Now i) → HasHidden code c v.party owner But' (now then_view) → Recovers code c owner k' Now But' then_view
+  recovers_then k k' Was Now New But But' h asked told was new hidden =
       record {
         dead = goes.dead owner h.dead;
         was_open = held_later p IsUnlocked events es none h.was_open;
         asked = asked;
         gone = gone_then Was Now New h.dead h.gone told was new;
+        hidden = hidden;
       }
+
+-- the same, once other indices are exempt
+pub rehidden : {T : Type 0} (code : Coding T) (c owner k : ℕ) (Now But But' : ℕ → Type 0) (v : View T) → Recovers code c owner k Now But v → HasHidden code c v.party owner But' (now v) → Recovers code c owner k Now But' v
+rehidden code c owner k Now But But' v h hidden =
+    record { dead = h.dead; was_open = h.was_open; asked = h.asked; gone = h.gone; hidden = hidden }

@@ -40,20 +40,22 @@ use Rattle.model.proofs.Readings.{AllFollow}
 use Rattle.robust_laws.proofs.Core.{counter_of}
 use Rattle.robust_laws.proofs.Counting.{times_below}
 use Rattle.robust_laws.proofs.Deeds.{was_one}
-use Rattle.robust_laws.proofs.Effects.{at_same, some_none, one_owner, both_ways, proper_less, filled_by, is_shut, unlocked}
+use Rattle.robust_laws.proofs.Effects.{some_none, is_shut}
 use Rattle.robust_laws.proofs.Effects as set_effects
 use Rattle.robust_laws.proofs.Knows as set_knows
 use Rattle.robust_laws.proofs.Locks as set_locks
 use Rattle.robust_laws.proofs.Parts.{raise_ask, lock_ask, raise_step, lock_step, IsSaid, none_beyond}
 use Rattle.robust_laws.proofs.Past.{through_now}
 use Rattle.robust_laws.proofs.Recovers.{nothing_said}
-use Rattle.robust_laws.proofs.Stages.{loads_same, exchanges, exchange_sets, fails_same}
+use Rattle.robust_laws.proofs.Stages.{loads_same}
 use Rattle.robust_laws.proofs.Stages as set_stages
 use Rattle.robust_laws.proofs.Standing.{raise_number, lock_number, LockAt}
-use Rattle.container_laws.proofs.Invariant.{Scene, Inv, of_set, inv_of_set, wrote_of}
+use Rattle.container_laws.proofs.HiddenKnows.{HasHidden}
+use Rattle.container_laws.proofs.HiddenOn.{hidden_on}
+use Rattle.container_laws.proofs.Invariant.{Scene, Inv, after, of_set, inv_of_set, wrote_of}
 use Rattle.container_laws.proofs.Keeping.{shut_later}
 use Rattle.container_laws.proofs.Knows.{RecoverSays, RecoverKnows, IsLong, Knows}
-use Rattle.container_laws.proofs.RecoverParts.{none, as_recover, first, Few, then_at, recs, asked_on, comes_to_next}
+use Rattle.container_laws.proofs.RecoverParts.{none, hidden_still, as_recover, first, Few, then_at, recs, asked_on, comes_to_next}
 use Rattle.container_laws.proofs.RecoverEnds.{stays_recs, stays_on, stays_next, just_on, empties_step, hides_step}
 use Rattle.container_laws.proofs.RecoverReads.{Here, Becomes, Course, course_calm, calm_on, back_at_least, index_at_least, counter_step, cell_step, count_step, word_step, check_step, decided}
 use Rattle.container_laws.proofs.Recoveries.{has_of_none, course_then}
@@ -117,8 +119,14 @@ module _ {T : Type 0} (scene : Scene T) (inv : Inv scene) (owner : ℕ) (mode : 
         let wide = index_at_least c z mode in
         let times = times_below c index (for_index c z mode) course.within in
         let stays = set_effects.stays_same (of_set scene) (inv_of_set scene inv) (words_after ws ask) same in
-        stays_on scene inv owner mode fits room this here long ask back stays paid index k.1 (recovers.TheVariants.AddsChange states.TheVariants.Locked) (omega arith) tt
-        (long, (paid, shut_later events [] (is_shut (of_set scene) (inv_of_set scene inv) shut))))
+        stays_on scene inv owner mode fits room this here long ask back stays paid index k.1 (recovers.TheVariants.AddsChange states.TheVariants.Locked) (omega arith) tt (
+          long,
+          (
+            paid,
+            shut_later events [] (is_shut (of_set scene) (inv_of_set scene inv) shut),
+            hidden_still scene inv owner mode fits room this here ask (then_at scene inv owner mode fits room this here room (recovers.TheVariants.AddsChange states.TheVariants.Locked) ask back) k.1.hidden,
+          ),
+        ))
         (λ ask open_now new paid few.
         let low = few (6 + z + index * for_index c z mode) (for_back c z mode) (omega arith) (omega arith) in
         by_mode mode refl ask (set_effects.stays_raised (of_set scene) (inv_of_set scene inv) (words_after ws ask) open_now new) paid (omega arith))
@@ -161,10 +169,11 @@ module _ {T : Type 0} (scene : Scene T) (inv : Inv scene) (owner : ℕ) (mode : 
         index few course.within
         (λ i low. course_then c z (all scene) (Locks ∷ []) (done scene) [] owner index (index + 1) i (index + 1) course low (omega arith) tt tt (λ j was. ⊎_elim (λ had. inl had) (λ e. absurd (cc)) (was_one (Frees j owner) Locks (all scene) was)))
         paid
-        (λ y. recs scene inv owner mode fits room locks_at here ask false y locking (refl, tt) tt (λ start w. refl) set_does.goes (index + 1) (index + 1) none none none k.1
+        (λ y. recs scene inv owner mode fits room locks_at here ask false y locking (refl, tt) tt (λ start w. refl) set_does.goes (index + 1) (index + 1) none none none none none k.1
         (asked_on scene inv owner mode fits room locks_at here ask false y locking (refl, tt) tt (λ start w. refl) set_does.goes (index + 1) k.1.asked)
         (λ i said. inl (⊎_elim (λ yes. ⊎_elim (λ had. inl had) (λ e. absurd (cc)) (was_one (Yes i owner) Locks (all scene) yes)) (λ seen. inr (has_of_none (Sees i) (done scene) seen)) said))
-        (λ i e. absurd e) (λ i e. absurd e))
+        (λ i e. absurd e) (λ i e. absurd e)
+        (hidden_on scene (Recover owner mode) tt here.span owner (words_after ws ask) y locking (refl, tt) tt (λ start w. refl) (λ i was. ⊎_elim (λ had. had) (λ e. absurd (cc)) (was_one (Frees i owner) Locks (all scene) was)) k.1.hidden))
 
     locks_step : locks_to (Some (lock_ask lock)) (lock_goes_back lock (old_of ws (Some (lock_ask lock)))) (locked_by p lock (old_of ws (Some (lock_ask lock)))) (lock_after c lock (old_of ws (Some (lock_ask lock))))
     locks_step =
@@ -222,6 +231,9 @@ module _ {T : Type 0} (scene : Scene T) (inv : Inv scene) (owner : ℕ) (mode : 
               (cases_lt i c);
         }
 
+    hidden_again : (state : ReleaseState) → HasHidden code c p owner none (after scene (words_after ws load_again) (then_at scene inv owner mode fits room recovers.TheVariants.LoadsCounterAgain here room (recovers.TheVariants.AddsChange state) load_again false) [])
+    hidden_again state = hidden_still scene inv owner mode fits room recovers.TheVariants.LoadsCounterAgain here load_again (then_at scene inv owner mode fits room recovers.TheVariants.LoadsCounterAgain here room (recovers.TheVariants.AddsChange state) load_again false) k.1.hidden
+
     again_step : StepOf scene (Recover owner mode) (recover_at c owner mode room recovers.TheVariants.LoadsCounterAgain)
     again_step = go (counter_of ws == locked) refl
       where
@@ -229,10 +241,10 @@ module _ {T : Type 0} (scene : Scene T) (inv : Inv scene) (owner : ℕ) (mode : 
         go true t =
             let shut : counter_of ws ≡ locked = grind (arith, nat_tests) in
             calm_on scene inv owner mode fits room recovers.TheVariants.LoadsCounterAgain here long load_again (loads_same ws 0) false paid_again room (recovers.TheVariants.AddsChange states.TheVariants.Locked) (omega arith) tt
-            (long, (paid_again, shut_later events [] (is_shut (of_set scene) (inv_of_set scene inv) shut)))
+            (long, (paid_again, shut_later events [] (is_shut (of_set scene) (inv_of_set scene inv) shut), hidden_again states.TheVariants.Locked))
         go false t =
             calm_on scene inv owner mode fits room recovers.TheVariants.LoadsCounterAgain here long load_again (loads_same ws 0) false paid_again room (recovers.TheVariants.AddsChange states.TheVariants.Unlocked) (omega arith) tt
-            (long, (paid_again, subst (λ es. (is_dead owner es ≡ true) × HeldOnce p IsUnlocked es × HasRecovered p owner es) (sym (append-nil events)) (k.1.dead, k.1.was_open, recovered)))
+            (long, (paid_again, subst (λ es. (is_dead owner es ≡ true) × HeldOnce p IsUnlocked es × HasRecovered p owner es) (sym (append-nil events)) (k.1.dead, k.1.was_open, recovered), hidden_again states.TheVariants.Unlocked))
 
   -- ---- the change is counted, and the call ends
 
@@ -255,7 +267,7 @@ module _ {T : Type 0} (scene : Scene T) (inv : Inv scene) (owner : ℕ) (mode : 
         ends scene (Recover owner mode) (answers.State state) end_it false scene.states [] here.span none_lengthens
         (ends_counted scene inv (Recover owner mode) (recover_at c owner mode room (recovers.TheVariants.AddsChange state)) tt here y (words_after ws end_it) (answers.State state)
         (set_effects.quietly (of_set scene) (inv_of_set scene inv) (words_after ws end_it) es (leaves_behind (of_set scene) (inv_of_set scene inv) (words_after ws end_it) (change_word c) _ (omega arith) new) (quiet_end (of_set scene) (inv_of_set scene inv) (Recover owner mode) (answers.State state) (λ i o. refl) (λ i r. refl)) (refl, tt) (tt, tt) (tt, tt))
-        (answers_right state k.1) proper (λ holds. tt) new (λ holds i said. inv.elements.announced holds i said))
+        (answers_right state k.1) proper (λ holds i was. ⊎_elim (λ empty. empty) (λ never. absurd never) (k.2 (proper holds) i was)) new (λ holds i said. inv.elements.announced holds i said))
         ((refl, tt), tt) (omega arith) (let paid = k.0 in omega arith)
 
   -- ---- any step

@@ -1,8 +1,7 @@
 -- The steps of a remove: what the release of the set leads to, in a call that goes on; then it hides what stood there, unless that
 -- has changed, and counts its change.
-use Rattle.std.proofs.Common.{◌≡◌, ◌≢◌, ◌⊎◌, inl, inr, ℕ, ◌+◌, ◌%◌, ◌<◌, ◌≤◌, ◌==◌, if◌then◌else◌, Bool, false, true, Option, Some, None, List, [], ◌∷◌, ◌++◌, set, refl, sym, ap, subst, ◌∙◌, append-nil, arith}
+use Rattle.std.proofs.Common.{◌≡◌, ◌≢◌, ◌⊎◌, ⊎_elim, inl, inr, ℕ, ◌+◌, ◌%◌, ◌<◌, ◌≤◌, if◌then◌else◌, Bool, false, true, Option, Some, None, List, [], ◌∷◌, ◌++◌, set, refl, sym, ap, subst, ◌∙◌, arith}
 use Rattle.std.specs.Prelude.{Ok}
-use Rattle.std.proofs.lemmas.Bool.Decides.{nat_tests}
 use Rattle.std.proofs.lemmas.List.Sums.{fold-append}
 use Rattle.steps.specs.declared.ask.Ask.{Ask}
 use Rattle.steps.specs.declared.ask.After.{After}
@@ -20,73 +19,68 @@ use Rattle.steps.specs.declared.indices.robust.release.GiveBack.{GiveBack}
 use Rattle.steps.specs.declared.indices.robust.release.Release as set_calls
 use Rattle.steps.specs.declared.indices.robust.release.ReleaseStage.{ReleaseStage}
 use Rattle.steps.specs.declared.indices.robust.release.ReleaseStage as releases
-use Rattle.steps.specs.Container.Layout.{change_word, count_word, is_even}
+use Rattle.steps.specs.Container.Layout.{count_word, is_even}
 use Rattle.steps.specs.Container.Remove.{Removed, at_remove, remove_released}
-use Rattle.steps.specs.Indices.Robust.Parts.{cell_word, empty, locked, one_more}
+use Rattle.steps.specs.Indices.Robust.Parts.{cell_word, empty, locked}
 use Rattle.steps.specs.Indices.Robust.Release.{Released}
 use Rattle.steps.specs.Routine.{went_on}
 use Rattle.model.specs.declared.event.Answer.{Answer}
 use Rattle.model.specs.declared.event.Answer.TheVariants as answers
 use Rattle.model.specs.declared.event.Event.{Event}
-use Rattle.model.specs.declared.event.Event.TheVariants.{FreedOf, Hidden, Locked, Finished}
+use Rattle.model.specs.declared.event.Event.TheVariants.{FreedOf, Locked, Finished}
 use Rattle.model.specs.declared.event.Start.TheVariants.{Container}
 use Rattle.model.specs.declared.families.container.ContainerStart.{ContainerStart}
 use Rattle.model.specs.declared.families.container.ContainerStart.TheVariants.{Remove}
 use Rattle.model.specs.declared.families.container.calls.ContainerFlight.{ContainerFlight}
 use Rattle.model.specs.declared.families.container.calls.ContainerFlight as calls
 use Rattle.model.specs.declared.party.Party.{Party}
-use Rattle.model.specs.Families.Container.Bounds.{most_steps}
 use Rattle.model.specs.Families.Container.Calls.{place_of, removed}
 use Rattle.model.specs.Families.Container.Promises.{FreedRight, AnswersRight, promise}
-use Rattle.model.specs.Families.Container.Reading.{Act}
+use Rattle.model.specs.Families.Container.Reading.{Act, contents_after}
 use Rattle.model.specs.Families.Container.Spans.{HasDone}
 use Rattle.model.specs.Families.Indices.Reading.{locked_after, is_locked}
 use Rattle.model.specs.Families.Indices.Robust.Promises.{IsUnlocked, IsProper, LivesToRelease, MayGiveBack}
 use Rattle.model.specs.Families.Indices.Robust.Reading.{Deed, Frees, Locks, deeds, filled_of, holder_of, settled_of, is_dead, IsOneOf}
 use Rattle.model.specs.Families.Queues.Calls.{as_it_is}
-use Rattle.model.specs.Moments.{BeginsNone, SinceBegin}
+use Rattle.model.specs.Moments.{SinceBegin}
 use Rattle.model.specs.Parties.{put}
 use Rattle.model.specs.Promises.Spans.{Stands}
 use Rattle.model.specs.Reading.{Open, span_of}
 use Rattle.model.specs.Step.{as_call}
 use Rattle.model.specs.Turns.{words_after, step_count}
-use Rattle.model.proofs.Moments.{held_now, held_later}
-use Rattle.model.proofs.Readings.{AllFollow}
+use Rattle.model.proofs.Moments.{held_now}
+use Rattle.model.proofs.Readings.{AllFollow, no_more}
 use Rattle.robust_laws.proofs.Core.{counter_of}
-use Rattle.robust_laws.proofs.Effects.{both_ways}
+use Rattle.robust_laws.proofs.Deeds.{was_one}
 use Rattle.robust_laws.proofs.Effects as set_effects
 use Rattle.robust_laws.proofs.HeldRelease.{Caller, Ends, held_step}
 use Rattle.robust_laws.proofs.Invariant as set_invariant
 use Rattle.robust_laws.proofs.Knows as set_knows
 use Rattle.robust_laws.proofs.Locks as set_locks
-use Rattle.robust_laws.proofs.Stages.{loads_same, exchanges, fails_same}
+use Rattle.robust_laws.proofs.Stages.{loads_same}
 use Rattle.robust_laws.proofs.Stages as set_stages
 use Rattle.robust_laws.proofs.Standing.{release_at, release_number, ReleaseAt}
 use Rattle.container_laws.proofs.Core.{count_at}
 use Rattle.container_laws.proofs.Effects.{calmly}
-use Rattle.container_laws.proofs.Invariant.{Scene, Inv, Does, before, of_set, inv_of_set, wrote_of, view}
-use Rattle.container_laws.proofs.Keeping.{shut_later}
-use Rattle.container_laws.proofs.Knows.{View, HasLeft, ReleaseLeft, RemoveSays, RemoveKnows, IsPaid, Knows}
+use Rattle.container_laws.proofs.HiddenKnows.{RemoveCovers, StillStands, HasHidden, no_index}
+use Rattle.container_laws.proofs.HiddenRemoves.{total_is, hides_step, end_step}
+use Rattle.container_laws.proofs.HiddenOn.{hidden_even, hidden_calm, stands_calm, hidden_on, stands_on, hidden_freed}
+use Rattle.container_laws.proofs.Invariant.{Scene, Inv, Does, before, after, of_set, inv_of_set, wrote_of, view}
+use Rattle.container_laws.proofs.Knows.{View, HasLeft, ReleaseHides, ReleaseLeft, RemoveSays, RemoveKnows, IsPaid, Knows}
 use Rattle.container_laws.proofs.Left.{left_after, left_of}
-use Rattle.container_laws.proofs.Sets.{leaves_behind, quiet_end}
 use Rattle.container_laws.proofs.SetSteps.{rest_set, wide_set, frees, locks}
 use Rattle.container_laws.proofs.Silent.{silently}
 use Rattle.container_laws.proofs.Stages.{IsHere, all, done, sees_now, then_sees, StepOf, Leads, none_lengthens, party_then, since_then, changes_then, backs_then, goes_on, goes_calmly, ends, owes_none, was_proper, was_proper_calmly, does_with}
 use Rattle.container_laws.proofs.Standing.{remove_at, remove_number, release_total, RemoveAt, place_is}
-use Rattle.container_laws.proofs.Steps.{loads, hides, ends_counted, calm_none, right_none}
+use Rattle.container_laws.proofs.Steps.{loads, calm_none, right_none}
 use Rattle.container_laws.proofs.Turns.{remove_owes, count_in}
-use Rattle.container_laws.proofs.Writing.{odd_is, adds_one, adds_to_change, hides_count}
-
--- a release and 3 steps
-total_is : (c z index owner : ℕ) (mode : ReleaseMode) (backs : ℕ) (T : Type 0) → 3 + release_total c index owner mode backs ≡ most_steps {T = T} c z (Remove index owner mode) backs
-total_is c z index owner Default backs T = omega arith
-total_is c z index owner LockIfLastIndex backs T = omega arith
+use Rattle.container_laws.proofs.Writing.{even_is, odd_is}
 
 -- ---- what its answers say, by the mode
 
-refused_done : (T : Type 0) (index owner : ℕ) (mode : ReleaseMode) (deeds : List Deed) → deeds ≡ [] → HasDone {T = T} (Remove index owner mode) (answers.NotRemoved ContainerHandleNotOwnedByContainer) deeds
-refused_done T index owner Default deeds h = h
-refused_done T index owner LockIfLastIndex deeds h = h
+refused_done : (T : Type 0) (index owner : ℕ) (mode : ReleaseMode) (deeds : List Deed) (acts : List (Act T)) → deeds ≡ [] → HasDone {T = T} (Remove index owner mode) (answers.NotRemoved ContainerHandleNotOwnedByContainer) deeds acts
+refused_done T index owner Default deeds acts h = h
+refused_done T index owner LockIfLastIndex deeds acts h = h
 
 refused_right : {T : Type 0} (c p index owner : ℕ) (mode : ReleaseMode) (events : List (Event T)) → (c ≤ index) ⊎ (filled_of index events ≢ Some owner) → AnswersRight c events (Finished p (Container (Remove index owner mode)) (answers.NotRemoved ContainerHandleNotOwnedByContainer))
 refused_right c p index owner Default events h = h
@@ -153,11 +147,11 @@ module _ {T : Type 0} (scene : Scene T) (inv : Inv scene) (index owner : ℕ) (m
       ends scene start (answers.NotRemoved ContainerHandleNotOwnedByContainer) ask false scene.states [] here.span none_lengthens
       (silently scene inv (words_after ws ask) same y es (tt, tt) (refl, tt) start (at_stage stage) tt here (was_proper scene start tt here.span (words_after ws ask) y es (refl, tt)) (owes_none scene start (at_stage stage) y here owes)
       (record { asks = (tt, tt); recovers = (tt, tt); answers = (refused_right c p index owner mode events (inr other), tt); contains = λ h. (tt, tt); places = λ h. (tt, tt) }))
-      ((refl, refused_done T index owner mode (all scene) none), tt) (omega arith) (omega arith)
+      ((refl, refused_done T index owner mode (all scene) (done scene) none), tt) (omega arith) (omega arith)
 
   -- ---- the release
 
-  module _ (count : ℕ) (stage : ReleaseStage) (here : Here (removes.TheVariants.Releases count stage)) (now_at : ReleaseAt c index owner mode (all scene) stage) (nothing : done scene ≡ []) (left : ReleaseLeft code c index count stage (sees_now scene)) where
+  module _ (count : ℕ) (stage : ReleaseStage) (here : Here (removes.TheVariants.Releases count stage)) (now_at : ReleaseAt c index owner mode (all scene) stage) (nothing : done scene ≡ []) (left : ReleaseLeft code c index count stage (sees_now scene)) (hiding : ReleaseHides code c index owner count stage (sees_now scene)) where
     lives : LivesToRelease owner events (span_of p events)
     lives = subst (LivesToRelease owner events) (sym here.span) alive
 
@@ -203,6 +197,37 @@ module _ {T : Type 0} (scene : Scene T) (inv : Inv scene) (index owner : ℕ) (m
     left_next (releases.TheVariants.Raises raise) ask back stays at = left_calm (removes.TheVariants.Releases count (releases.TheVariants.Raises raise)) ask back stays (has_left at)
     left_next (releases.TheVariants.Locks lock) ask back stays at = left_calm (removes.TheVariants.Releases count (releases.TheVariants.Locks lock)) ask back stays (has_left at.2)
 
+    -- before it frees, its number is covered
+    covers : all scene ≡ [] → RemoveCovers code c p owner index count (before scene)
+    covers none = go stage now_at hiding
+      where
+        go : (s : ReleaseStage) → ReleaseAt c index owner mode (all scene) s → ReleaseHides code c index owner count s (sees_now scene) → RemoveCovers code c p owner index count (before scene)
+        go releases.TheVariants.EmptiesCell at h = h
+        go (releases.TheVariants.Raises raise) at h = let one : [] ≡ Frees index owner ∷ [] = sym none ∙ at in absurd (cc)
+        go (releases.TheVariants.Locks lock) at h = let one : [] ≡ Frees index owner ∷ [] = sym none ∙ at.2 in absurd (cc)
+
+    -- and then what stood there stands under it, or has been hidden
+    stands_still : all scene ≡ Frees index owner ∷ [] → HasHidden code c p owner (StillStands code c index count (before scene)) (before scene)
+    stands_still freed = go stage now_at hiding
+      where
+        go : (s : ReleaseStage) → ReleaseAt c index owner mode (all scene) s → ReleaseHides code c index owner count s (sees_now scene) → HasHidden code c p owner (StillStands code c index count (before scene)) (before scene)
+        go releases.TheVariants.EmptiesCell at h = let none : [] ≡ Frees index owner ∷ [] = sym at ∙ freed in absurd (cc)
+        go (releases.TheVariants.Raises raise) at h = h
+        go (releases.TheVariants.Locks lock) at h = h
+
+    hides_next : (next : ReleaseStage) (ask : Option Ask) (back : Bool) → set_effects.Stays (of_set scene) (words_after ws ask) → ReleaseAt c index owner mode (all scene) next → ReleaseHides code c index owner count next (SeesCalmly (removes.TheVariants.Releases count next) ask back)
+    hides_next releases.TheVariants.EmptiesCell ask back stays at =
+        let same : count_at c (words_after ws ask) index ≡ count_in code c (before scene) index = stays.others (count_word c index) (omega arith) in
+        λ proper lives since. ⊎_elim (λ is. inl (same ∙ is)) (λ even. inr (ap (λ n. n % 2) same ∙ even)) (covers at (was_proper_calmly scene start tt here.span (then_at (removes.TheVariants.Releases count releases.TheVariants.EmptiesCell) ask back) proper) lives since)
+    hides_next (releases.TheVariants.Raises raise) ask back stays at =
+        stands_calm scene start tt here.span owner (words_after ws ask) (then_at (removes.TheVariants.Releases count (releases.TheVariants.Raises raise)) ask back) index count (stays.others (count_word c index) (omega arith)) (stands_still at)
+    hides_next (releases.TheVariants.Locks lock) ask back stays at =
+        stands_calm scene start tt here.span owner (words_after ws ask) (then_at (removes.TheVariants.Releases count (releases.TheVariants.Locks lock)) ask back) index count (stays.others (count_word c index) (omega arith)) (stands_still at.2)
+
+    -- nothing stands there under an even number
+    none_stands : all scene ≡ Frees index owner ∷ [] → is_even count ≡ true → HasHidden code c p owner no_index (before scene)
+    none_stands freed t = hidden_even code c p owner index count (before scene) inv.elements.whole below (even_is count t) (stands_still freed)
+
     -- what the end of the release says
     says_now : (m : ReleaseMode) → mode ≡ m → (state : ReleaseState) → Ends (of_set scene) (inv_of_set scene inv) index owner mode fits below alive lives began 1 m state → RemoveSays code c index owner m state (sees_now scene)
     says_now Default is states.TheVariants.Locked why = absurd why
@@ -210,7 +235,7 @@ module _ {T : Type 0} (scene : Scene T) (inv : Inv scene) (index owner : ℕ) (m
     says_now LockIfLastIndex is states.TheVariants.Locked why = why
     says_now LockIfLastIndex is states.TheVariants.Unlocked why = (held_now p IsUnlocked events why.0, why.1)
 
-    done_now : (m : ReleaseMode) (state : ReleaseState) → Ends (of_set scene) (inv_of_set scene inv) index owner mode fits below alive lives began 1 m state → all scene ≡ Frees index owner ∷ [] → HasDone {T = T} (Remove index owner m) (answers.State state) (all scene)
+    done_now : (m : ReleaseMode) (state : ReleaseState) → Ends (of_set scene) (inv_of_set scene inv) index owner mode fits below alive lives began 1 m state → all scene ≡ Frees index owner ∷ [] → HasDone {T = T} (Remove index owner m) (answers.State state) (all scene) []
     done_now Default states.TheVariants.Locked why freed = absurd why
     done_now Default states.TheVariants.Unlocked why freed = freed
     done_now LockIfLastIndex states.TheVariants.Locked why freed = inl freed
@@ -229,10 +254,10 @@ module _ {T : Type 0} (scene : Scene T) (inv : Inv scene) (index owner : ℕ) (m
         go : (b : Bool) → is_even count ≡ b → Leads scene start ask back scene.states [] (as_remove (if b then GoOn (at_remove first (removes.TheVariants.AddsChange state)) else GoOn (at_remove first (removes.TheVariants.Hides count state))))
         go true t =
             stays_on this (removes.TheVariants.AddsChange state) here refl ask back stays (omega arith) (below, done_now mode state why freed)
-            (paid, says_calm mode state (SeesCalmly (removes.TheVariants.AddsChange state) ask back) refl refl (says_now mode refl state why))
+            (paid, says_calm mode state (SeesCalmly (removes.TheVariants.AddsChange state) ask back) refl refl (says_now mode refl state why), hidden_calm scene start tt here.span owner (words_after ws ask) (then_at (removes.TheVariants.AddsChange state) ask back) (none_stands freed t))
         go false t =
             stays_on this (removes.TheVariants.Hides count state) here refl ask back stays (omega arith) (below, done_now mode state why freed, subst (IsOneOf (Frees index owner)) (sym freed) (record { before = []; after = []; is = refl }), nothing, odd_is count t)
-            (paid, says_calm mode state (SeesCalmly (removes.TheVariants.Hides count state) ask back) refl refl (says_now mode refl state why), left_calm (removes.TheVariants.Hides count state) ask back stays (has_left freed))
+            (paid, says_calm mode state (SeesCalmly (removes.TheVariants.Hides count state) ask back) refl refl (says_now mode refl state why), left_calm (removes.TheVariants.Hides count state) ask back stays (has_left freed), stands_calm scene start tt here.span owner (words_after ws ask) (then_at (removes.TheVariants.Hides count state) ask back) index count (stays.others (count_word c index) (omega arith)) (stands_still freed))
 
     -- and with the lock
     locked_by : (ask : Option Ask) → mode ≡ LockIfLastIndex → (IsProper events → (i : ℕ) → holder_of i events ≡ None) → counter_of ws ≢ locked → words_after ws ask ≡ set ws 0 locked → all scene ≡ Frees index owner ∷ [] → backs_then scene false + since_then scene ask ≤ changes_then scene ask
@@ -250,8 +275,8 @@ module _ {T : Type 0} (scene : Scene T) (inv : Inv scene) (index owner : ℕ) (m
         stands : AllFollow (Stands promise c) (Open (Container (Remove index owner mode)) (wrote_of p events)) (Locked p ∷ [])
         stands = subst (λ m. AllFollow (Stands promise c) (Open (Container (Remove index owner m)) (wrote_of p events)) (Locked p ∷ [])) (sym may_lock) (freed, tt)
 
-        done_then : HasDone {T = T} (Remove index owner mode) (answers.State states.TheVariants.Locked) (all scene ++ Locks ∷ [])
-        done_then = subst (λ m. HasDone {T = T} (Remove index owner m) (answers.State states.TheVariants.Locked) (all scene ++ Locks ∷ [])) (sym may_lock) (inr (ap (λ d. d ++ Locks ∷ []) freed))
+        done_then : HasDone {T = T} (Remove index owner mode) (answers.State states.TheVariants.Locked) (all scene ++ Locks ∷ []) []
+        done_then = subst (λ m. HasDone {T = T} (Remove index owner m) (answers.State states.TheVariants.Locked) (all scene ++ Locks ∷ []) []) (sym may_lock) (inr (ap (λ d. d ++ Locks ∷ []) freed))
 
         says : is_locked (events ++ Locked p ∷ []) ≡ true
         says = fold-append locked_after false events (Locked p ∷ [])
@@ -266,20 +291,30 @@ module _ {T : Type 0} (scene : Scene T) (inv : Inv scene) (index owner : ℕ) (m
               left = λ holds is. fold-append (left_after index) true events (Locked p ∷ []) ∙ h.left (was_proper scene start tt here.span (words_after ws ask) y (Locked p ∷ []) (refl, tt) holds) (sym same ∙ is);
             }
 
+        -- the lock frees nothing
+        frees_none : (i : ℕ) → IsOneOf (Frees i owner) (all scene ++ Locks ∷ []) → IsOneOf (Frees i owner) (all scene)
+        frees_none i was = ⊎_elim (λ had. had) (λ e. absurd (cc)) (was_one (Frees i owner) Locks (all scene) was)
+
+        stands_then : (y : Party T) → HasHidden code c p owner (StillStands code c index count (after scene (words_after ws ask) y (Locked p ∷ []))) (after scene (words_after ws ask) y (Locked p ∷ []))
+        stands_then y =
+            stands_on scene start tt here.span owner (words_after ws ask) y (Locked p ∷ []) (refl, tt) tt (λ start w. refl) frees_none index count
+            (rest_set scene inv start (at_stage this) tt here y (words_after ws ask) 0 locked (omega arith) new (count_word c index) (omega arith))
+            (fold-append (contents_after index) None events (Locked p ∷ [])) (stands_still freed)
+
         go : (b : Bool) → is_even count ≡ b → Leads scene start ask false scene.states (Locked p ∷ []) (as_remove (if b then GoOn (at_remove first (removes.TheVariants.AddsChange states.TheVariants.Locked)) else GoOn (at_remove first (removes.TheVariants.Hides count states.TheVariants.Locked))))
         go true t =
             goes_on scene start (at_stage (removes.TheVariants.AddsChange states.TheVariants.Locked)) ask false scene.states (Locked p ∷ []) here.span (λ start w. refl) (does (then_at (removes.TheVariants.AddsChange states.TheVariants.Locked) ask false)) stands (omega arith)
-            (refl, given_is, fits, (below, done_then)) (paid, says)
+            (refl, given_is, fits, (below, done_then)) (paid, says, hidden_on scene start tt here.span owner (words_after ws ask) (then_at (removes.TheVariants.AddsChange states.TheVariants.Locked) ask false) (Locked p ∷ []) (refl, tt) tt (λ start w. refl) frees_none (none_stands freed t))
         go false t =
             goes_on scene start (at_stage (removes.TheVariants.Hides count states.TheVariants.Locked)) ask false scene.states (Locked p ∷ []) here.span (λ start w. refl) (does (then_at (removes.TheVariants.Hides count states.TheVariants.Locked) ask false)) stands (omega arith)
             (refl, given_is, fits, (below, done_then, subst (λ d. IsOneOf (Frees index owner) (d ++ Locks ∷ [])) (sym freed) (record { before = []; after = Locks ∷ []; is = refl }), ap (λ (d : List (Act T)). d ++ []) nothing, odd_is count t))
-            (paid, says, left_then (then_at (removes.TheVariants.Hides count states.TheVariants.Locked) ask false))
+            (paid, says, left_then (then_at (removes.TheVariants.Hides count states.TheVariants.Locked) ask false), stands_then (then_at (removes.TheVariants.Hides count states.TheVariants.Locked) ask false))
 
     caller : Caller (of_set scene) (inv_of_set scene inv) index owner mode fits below alive lives began 1 Lead
     caller =
         record {
           quiet = λ next ask back stays at known few.
-              stays_on this (removes.TheVariants.Releases count next) here refl ask back stays (omega arith) (below, at, nothing) (known, left_next next ask back stays at);
+              stays_on this (removes.TheVariants.Releases count next) here refl ask back stays (omega arith) (below, at, nothing) (known, left_next next ask back stays at, hides_next next ask back stays at);
           freed = λ ask new does none known few.
               let next = removes.TheVariants.Releases count (releases.TheVariants.Raises raises.TheVariants.LoadsCounter) in
               let y = then_at next ask false in
@@ -296,6 +331,7 @@ module _ {T : Type 0} (scene : Scene T) (inv : Inv scene) (index owner : ℕ) (m
                   below = low same;
                   left = λ holds is. fold-append (left_after index) true events es ∙ set_effects.at_same index index true (left_of index events) refl;
                 },
+                hidden_freed scene start tt here.span owner inv index count below (words_after ws ask) y same (λ holds i was. absurd (no_more was.before (Frees i owner) was.after (sym none ∙ was.is))) (λ earlier holds. covers none earlier alive (began holds.frees)),
               );
           refused = λ ask same other none paid few. refuses this here refl ask same other none (omega arith) few;
           ended = λ state ask back stays why freed paid few. released state ask back stays why freed paid few;
@@ -313,10 +349,6 @@ module _ {T : Type 0} (scene : Scene T) (inv : Inv scene) (index owner : ℕ) (m
     release_step : set_knows.Knows c (release_at c index owner mode stage) (set_stages.now (of_set scene)) → steps ≤ 1 + release_number c mode stage backs → StepOf scene start (at_stage (removes.TheVariants.Releases count stage))
     release_step k s = held_step (of_set scene) (inv_of_set scene inv) index owner mode fits below alive lives began 1 Lead caller stage now_at k s
 
-  -- no turn back was counted
-  same_total : release_total c index owner mode (backs_then scene false) ≡ release_total c index owner mode backs
-  same_total = let same : backs + 0 ≡ backs = omega arith in ap (λ n. release_total c index owner mode n) same
-
   -- ---- the number is loaded
 
   module _ (here : Here removes.TheVariants.LoadsCount) (none : all scene ≡ []) (nothing : done scene ≡ []) (k : set_knows.Knows c (release_at c index owner mode releases.TheVariants.EmptiesCell) (set_stages.now (of_set scene))) (s : steps ≤ 0) where
@@ -331,76 +363,7 @@ module _ {T : Type 0} (scene : Scene T) (inv : Inv scene) (index owner : ℕ) (m
         let next = removes.TheVariants.Releases number releases.TheVariants.EmptiesCell in
         let same = loads_same ws (count_word c index) in
         stays_on removes.TheVariants.LoadsCount next here refl load_it false (set_effects.stays_same (of_set scene) (inv_of_set scene inv) (words_after ws load_it) same) (omega arith) (below, none, nothing)
-        (record { paid = let paid = k.paid in omega arith; scanned = tt; owns = k.owns; says = tt; gone = tt }, (below, let eq : count_at c (words_after ws load_it) index ≡ number = ap (λ w. count_at c w index) same in omega arith))
-
-  -- ---- what stands there is hidden
-
-  module _ (count : ℕ) (state : ReleaseState) (here : Here (removes.TheVariants.Hides count state)) (stands : RemoveAt c z (all scene) (done scene) index owner mode (removes.TheVariants.Hides count state)) (k : RemoveKnows code c index owner mode (removes.TheVariants.Hides count state) (sees_now scene))
-      (s : steps ≤ 1 + release_total c index owner mode backs) where
-    abbrev hide_it : Option Ask
-    hide_it = Some (exchanges (count_word c index) count (one_more count))
-
-    abbrev count_now : ℕ
-    count_now = count_in code c (before scene) index
-
-    abbrev next : RemoveStage
-    next = removes.TheVariants.AddsChange state
-
-    says_then : (m : ReleaseMode) (t : ReleaseState) (es : List (Event T)) → BeginsNone p es → (y : Party T) → RemoveSays code c index owner m t (sees_now scene) → RemoveSays code c index owner m t (then_sees scene hide_it false scene.states y es)
-    says_then m states.TheVariants.Locked es fresh y h = shut_later events es h
-    says_then Default states.TheVariants.Unlocked es fresh y h = tt
-    says_then LockIfLastIndex states.TheVariants.Unlocked es fresh y h = (held_later p IsUnlocked events es fresh h.0, record { other = h.1.other; once = held_later p _ events es fresh h.1.once })
-
-    hides_step : StepOf scene start (at_stage (removes.TheVariants.Hides count state))
-    hides_step = go (count_now == count) refl
-      where
-        go : (b : Bool) → (count_now == count) ≡ b → Leads scene start (Some (exchanges (count_word c index) count (one_more count))) false scene.states ((if b then Hidden p index ∷ [] else []) ++ []) (GoOn (at_stage (removes.TheVariants.AddsChange state)))
-        go true t =
-            let is : count_now ≡ count = grind (arith, nat_tests) in
-            let y = then_at next hide_it false in
-            let es = Hidden p index ∷ [] in
-            let odd : count_now % 2 ≡ 1 = ap (λ n. n % 2) is ∙ stands.4 in
-            let total = same_total in
-            goes_on scene start (at_stage next) hide_it false scene.states es here.span (λ start w. refl)
-            (hides scene inv start (at_stage (removes.TheVariants.Hides count state)) tt here y (words_after ws hide_it) index below (hides_count scene inv index count below is) refl odd
-            (λ holds q ne o theirs fresh. both_ways (left_of index events) fresh (k.2.left holds is)) (was_proper scene start tt here.span (words_after ws hide_it) y es (refl, tt)))
-            ((refl, stands.2, stands.3), tt) (omega arith) (refl, given_is, fits, (below, subst (λ d. HasDone {T = T} (Remove index owner mode) (answers.State state) d) (sym (append-nil (all scene))) stands.1))
-            (let paid = k.0 in omega arith, says_then mode state es tt y k.1)
-        go false t =
-            let other : count_now ≢ count = grind (arith, nat_tests) in
-            let y = then_at next hide_it false in
-            let total = same_total in
-            goes_on scene start (at_stage next) hide_it false scene.states [] here.span none_lengthens
-            (loads scene inv start (at_stage (removes.TheVariants.Hides count state)) tt here y (words_after ws hide_it) (fails_same ws (count_word c index) count (one_more count) other) (was_proper scene start tt here.span (words_after ws hide_it) y [] tt) (λ was. refl))
-            tt (omega arith) (refl, given_is, fits, (below, subst (λ d. HasDone {T = T} (Remove index owner mode) (answers.State state) d) (sym (append-nil (all scene))) stands.1))
-            (let paid = k.0 in omega arith, says_then mode state [] tt y k.1)
-
-  -- ---- the change is counted, and the call ends
-
-  module _ (state : ReleaseState) (here : Here (removes.TheVariants.AddsChange state)) (has_done : HasDone {T = T} (Remove index owner mode) (answers.State state) (all scene)) (k : RemoveKnows code c index owner mode (removes.TheVariants.AddsChange state) (sees_now scene))
-      (s : steps ≤ 2 + release_total c index owner mode backs) where
-    abbrev end_it : Option Ask
-    end_it = Some (adds_one (change_word c))
-
-    answers_right : (m : ReleaseMode) (t : ReleaseState) → RemoveSays code c index owner m t (sees_now scene) → AnswersRight c events (Finished p (Container (Remove index owner m)) (answers.State t))
-    answers_right Default states.TheVariants.Locked h = h
-    answers_right Default states.TheVariants.Unlocked h = tt
-    answers_right LockIfLastIndex states.TheVariants.Locked h = h
-    answers_right LockIfLastIndex states.TheVariants.Unlocked h = h
-
-    end_step : StepOf scene start (at_stage (removes.TheVariants.AddsChange state))
-    end_step =
-        let y = party_then scene start end_it false (Done (answers.State state)) in
-        let es = Finished p (Container start) (answers.State state) ∷ [] in
-        let proper = was_proper scene start tt here.span (words_after ws end_it) y es (refl, tt) in
-        let new = adds_to_change scene inv in
-        let most = total_is c z index owner mode (backs_then scene false) T in
-        let total = same_total in
-        ends scene start (answers.State state) end_it false scene.states [] here.span none_lengthens
-        (ends_counted scene inv start (at_stage (removes.TheVariants.AddsChange state)) tt here y (words_after ws end_it) (answers.State state)
-        (set_effects.quietly (of_set scene) (inv_of_set scene inv) (words_after ws end_it) es (leaves_behind (of_set scene) (inv_of_set scene inv) (words_after ws end_it) (change_word c) _ (omega arith) new) (quiet_end (of_set scene) (inv_of_set scene inv) start (answers.State state) (λ i o. refl) (λ i r. refl)) (refl, tt) (tt, tt) (tt, tt))
-        (answers_right mode state k.1) proper (λ holds. tt) new (λ holds i said. inv.elements.announced holds i said))
-        ((refl, has_done), tt) (omega arith) (let paid = k.0 in omega arith)
+        (record { paid = let paid = k.paid in omega arith; scanned = tt; owns = k.owns; says = tt; gone = tt }, (below, let eq : count_at c (words_after ws load_it) index ≡ number = ap (λ w. count_at c w index) same in omega arith), λ holds lives since. inl (ap (λ w. count_at c w index) same))
 
 -- ---- any step of a remove
 
@@ -420,14 +383,14 @@ module _ {T : Type 0} (scene : Scene T) (inv : Inv scene) (index owner : ℕ) (m
       ends scene start (answers.NotRemoved ContainerHandleNotOwnedByContainer) None false scene.states [] here.span none_lengthens
       (silently scene inv scene.words refl y es (tt, tt) (refl, tt) start (remove_at c at owner mode removes.TheVariants.Refuses) tt here (was_proper scene start tt here.span scene.words y es (refl, tt)) (owes_none scene start (remove_at c at owner mode removes.TheVariants.Refuses) y here refl)
       (record { asks = (tt, tt); recovers = (tt, tt); answers = (refused_right c p index owner mode events (inl beyond), tt); contains = λ h. (tt, tt); places = λ h. (tt, tt) }))
-      ((refl, refused_done T index owner mode (all scene) none), tt) (let most = total_is c code.size index owner mode (backs + 0) T in omega arith) (omega arith)
+      ((refl, refused_done T index owner mode (all scene) (done scene) none), tt) (let most = total_is c code.size index owner mode (backs + 0) T in omega arith) (omega arith)
 
   pub remove_step : (stage : RemoveStage) → RemoveAt c code.size (all scene) (done scene) index owner mode stage → Moves stage (place_of c index)
   remove_step removes.TheVariants.Refuses at = past (place_of c index) at.0 at.1
   remove_step removes.TheVariants.LoadsCount at =
       subst (Moves removes.TheVariants.LoadsCount) (sym (place_is c index at.0)) (λ here k s. loads_step scene inv index owner mode fits alive at.0 here at.1 at.2 k s)
   remove_step (removes.TheVariants.Releases count stage) at =
-      subst (Moves (removes.TheVariants.Releases count stage)) (sym (place_is c index at.0)) (λ here k s. release_step scene inv index owner mode fits alive at.0 count stage here at.1 at.2 k.1 k.0 s)
+      subst (Moves (removes.TheVariants.Releases count stage)) (sym (place_is c index at.0)) (λ here k s. release_step scene inv index owner mode fits alive at.0 count stage here at.1 at.2 k.1 k.2 k.0 s)
   remove_step (removes.TheVariants.Hides count state) at =
       subst (Moves (removes.TheVariants.Hides count state)) (sym (place_is c index at.0)) (λ here k s. hides_step scene inv index owner mode fits alive at.0 count state here at k s)
   remove_step (removes.TheVariants.AddsChange state) at =

@@ -32,7 +32,7 @@ use Rattle.model.specs.Families.Container.Reading.{Hides, places, contents_after
 use Rattle.model.specs.Families.Indices.Robust.Promises.{cell_of, IsFilledWith}
 use Rattle.model.specs.Families.Indices.Robust.Reading.{Deed, settled_after, is_dead}
 use Rattle.model.specs.Families.Queues.Calls.{as_it_is}
-use Rattle.model.specs.Moments.{BeginsNone}
+use Rattle.model.specs.Moments.{BeginsNone, HeldOnce}
 use Rattle.model.specs.Parties.{party_of, put}
 use Rattle.model.specs.Reading.{Open, own_after, span_of}
 use Rattle.model.specs.Step.{as_call}
@@ -103,7 +103,7 @@ module _ {T : Type 0} (scene : Scene T) (inv : Inv scene) (index : ℕ) (value :
   stands_if stage here may = subst (λ o. StandsProper p o events) (sym here.found) stands
     where
       stands : StandsProper p (Some here.party) events
-      stands index' owner' value' wrote' span few =
+      stands index' owner' value' wrote' span few found =
           let same : Open (Container (Replace index value owner)) (wrote_of p events) ≡ Open (Container (Replace index' value' owner')) wrote' = sym here.span ∙ span in
           let a : index ≡ index' = cc in
           let b : owner ≡ owner' = cc in
@@ -111,19 +111,19 @@ module _ {T : Type 0} (scene : Scene T) (inv : Inv scene) (index : ℕ) (value :
           subst (λ n. MayReplace p n owner' events) a (subst (λ n. MayReplace p index n events) b (may (omega arith)))
 
   -- a turn that goes on, in a proper run, was of a replace that had been begun rightly
-  may_before : (stage : ReplaceStage) → Here stage → (y : Party T) (es : List (Event T)) → AreOwn p es → BeginsNone p es → Lengthens es → 1 ≤ y.steps → IsProperSoFar (put p y latest) (events ++ es) → MayReplace p index owner events
-  may_before stage here y es own none longer few h =
+  may_before : (stage : ReplaceStage) → Here stage → HeldOnce p (IsFilledWith owner index) events → (y : Party T) (es : List (Event T)) → AreOwn p es → BeginsNone p es → Lengthens es → 1 ≤ y.steps → IsProperSoFar (put p y latest) (events ++ es) → MayReplace p index owner events
+  may_before stage here filled y es own none longer few h =
       let span : span_of p (events ++ es) ≡ Open (Container (Replace index value owner)) (wrote_of p events ++ es) = span_of-own p events es own ∙ (ap (λ s. fold own_after s es) here.span ∙ longer start (wrote_of p events)) in
       let stands : StandsProper p (Some y) (events ++ es) = subst (λ o. StandsProper p o (events ++ es)) (party_put_same p y latest) (h.replaces p) in
-      (earlier p index owner events es none (stands index owner value (wrote_of p events ++ es) span few)).may
+      (earlier p index owner events es none (stands index owner value (wrote_of p events ++ es) span few (held_later p (IsFilledWith owner index) events es none filled))).may
 
-  was_going : (stage : ReplaceStage) → Here stage → (words' : List ℕ) (y : Party T) (es : List (Event T)) → AreOwn p es → BeginsNone p es → Lengthens es → 1 ≤ y.steps → Proper (after scene words' y es) → Proper (before scene)
-  was_going stage here words' y es own none longer few =
-      proper_before p y latest events es own (λ h. stands_if stage here (λ s. may_before stage here y es own none longer few h))
+  was_going : (stage : ReplaceStage) → Here stage → HeldOnce p (IsFilledWith owner index) events → (words' : List ℕ) (y : Party T) (es : List (Event T)) → AreOwn p es → BeginsNone p es → Lengthens es → 1 ≤ y.steps → Proper (after scene words' y es) → Proper (before scene)
+  was_going stage here filled words' y es own none longer few =
+      proper_before p y latest events es own (λ h. stands_if stage here (λ s. may_before stage here filled y es own none longer few h))
 
-  was_calm : (stage : ReplaceStage) → Here stage → (y : Party T) → 1 ≤ y.steps → IsProperSoFar (put p y latest) events → Proper (before scene)
-  was_calm stage here y few h =
-      was_going stage here ws y [] tt tt none_lengthens few (subst (λ es. IsProperSoFar (put p y latest) es) (sym (append-nil events)) h)
+  was_calm : (stage : ReplaceStage) → Here stage → HeldOnce p (IsFilledWith owner index) events → (y : Party T) → 1 ≤ y.steps → IsProperSoFar (put p y latest) events → Proper (before scene)
+  was_calm stage here filled y few h =
+      was_going stage here filled ws y [] tt tt none_lengthens few (subst (λ es. IsProperSoFar (put p y latest) es) (sym (append-nil events)) h)
 
   -- it is there still, one step further
   found_then : (stage next : ReplaceStage) → Here stage → (ask : Ask) (es : List (Event T)) → AreOwn p es → Lengthens es → HasFound index owner value (then_sees scene (Some ask) false scene.states (then_at next (Some ask)) es)
@@ -152,11 +152,11 @@ module _ {T : Type 0} (scene : Scene T) (inv : Inv scene) (index : ℕ) (value :
   SeesCalmly next ask =
       view (words_after ws (Some ask)) scene.states (put p (then_at next (Some ask)) latest) events p (since_then scene (Some ask)) (changes_then scene (Some ask)) (backs_then scene false)
 
-  calm_step : (stage next : ReplaceStage) (ask : Ask) → words_after ws (Some ask) ≡ ws → Here stage → replace_owes next ≡ true → steps + 1 ≤ replace_number code.size next → ReplaceAt c code.size (all scene) (done scene) index next → Knows code c (at_stage next) (SeesCalmly next ask)
+  calm_step : (stage next : ReplaceStage) (ask : Ask) → words_after ws (Some ask) ≡ ws → Here stage → HeldOnce p (IsFilledWith owner index) events → replace_owes next ≡ true → steps + 1 ≤ replace_number code.size next → ReplaceAt c code.size (all scene) (done scene) index next → Knows code c (at_stage next) (SeesCalmly next ask)
       → Leads scene start (Some ask) false scene.states [] (GoOn (at_stage next))
-  calm_step stage next ask same here owe few at known =
+  calm_step stage next ask same here filled owe few at known =
       goes_calmly scene start (at_stage next) (Some ask) false scene.states here.span
-      (loads scene inv start (at_stage stage) tt here (then_at next (Some ask)) (words_after ws (Some ask)) same (was_going stage here (words_after ws (Some ask)) (then_at next (Some ask)) [] tt tt none_lengthens (omega arith)) (λ was. owe))
+      (loads scene inv start (at_stage stage) tt here (then_at next (Some ask)) (words_after ws (Some ask)) same (was_going stage here filled (words_after ws (Some ask)) (then_at next (Some ask)) [] tt tt none_lengthens (omega arith)) (λ was. owe))
       few (refl, given_is, fits, at) known
 
   -- ---- its owner is looked for
@@ -175,17 +175,20 @@ module _ {T : Type 0} (scene : Scene T) (inv : Inv scene) (index : ℕ) (value :
         (ends_calmly scene inv start (at_stage replaces.TheVariants.LoadsCell) tt here y (words_after ws (Some load_cell)) (answers.NotRemoved ContainerHandleNotOwnedByContainer)
         (set_effects.quietly (of_set scene) (inv_of_set scene inv) (words_after ws (Some load_cell)) es (set_effects.stays_same (of_set scene) (inv_of_set scene inv) (words_after ws (Some load_cell)) same).leaves (quiet_end (of_set scene) (inv_of_set scene inv) start (answers.NotRemoved ContainerHandleNotOwnedByContainer) (λ i o. refl) (λ i r. refl)) (refl, tt) (tt, tt) (tt, tt))
         (inr (λ filled. other (inv.good.cells index below ∙ ap cell_of filled))) proper (λ holds. tt) same (λ i b. refl) (owes_none scene start (at_stage replaces.TheVariants.LoadsCell) y here refl))
-        ((refl, none_done), tt) (omega arith) (omega arith)
+        ((refl, (none_done, nothing)), tt) (omega arith) (omega arith)
+
+    found_now : cell ws index ≡ owner → HeldOnce p (IsFilledWith owner index) events
+    found_now is = held_now p (IsFilledWith owner index) events (filled_by (of_set scene) (inv_of_set scene inv) index below owner fits is)
 
     finds : cell ws index ≡ owner → Leads scene start (Some load_cell) false scene.states [] (GoOn (at_stage replaces.TheVariants.LoadsCount))
     finds is =
-        calm_step replaces.TheVariants.LoadsCell replaces.TheVariants.LoadsCount load_cell (loads_same ws (cell_word index)) here refl (omega arith) (below, none_done, nothing)
+        calm_step replaces.TheVariants.LoadsCell replaces.TheVariants.LoadsCount load_cell (loads_same ws (cell_word index)) here (found_now is) refl (omega arith) (below, none_done, nothing)
         (record {
           paid = omega arith;
           within = below;
           owns = owns;
           found = found_calm replaces.TheVariants.LoadsCell replaces.TheVariants.LoadsCount here load_cell;
-          filled = held_now p (IsFilledWith owner index) events (filled_by (of_set scene) (inv_of_set scene inv) index below owner fits is);
+          filled = found_now is;
         })
 
     cell_step : StepOf scene start (at_stage replaces.TheVariants.LoadsCell)
@@ -227,7 +230,7 @@ module _ {T : Type 0} (scene : Scene T) (inv : Inv scene) (index : ℕ) (value :
     first_word stage next here ask same even =
         record {
           few = omega arith;
-          has = λ holds lives. record { even = ap (λ w. count_at c w i % 2) same ∙ even (was_calm stage here (then_at next (Some ask)) (omega arith) holds); written = λ j js. absurd (omega arith) };
+          has = λ holds lives. record { even = ap (λ w. count_at c w i % 2) same ∙ even (was_calm stage here k.filled (then_at next (Some ask)) (omega arith) holds); written = λ j js. absurd (omega arith) };
         }
 
     -- ---- the number is loaded
@@ -246,10 +249,10 @@ module _ {T : Type 0} (scene : Scene T) (inv : Inv scene) (index : ℕ) (value :
               (as_replace (if b then GoOn (at_replace first (replaces.TheVariants.Stores 0)) else GoOn (at_replace first (replaces.TheVariants.Hides number))))
           go true t =
               let some = inv.elements.coded.some in
-              calm_step replaces.TheVariants.LoadsCount (replaces.TheVariants.Stores 0) load_it (loads_same ws (count_word c i)) here refl (omega arith) (below, none_done, inl nothing, omega arith)
+              calm_step replaces.TheVariants.LoadsCount (replaces.TheVariants.Stores 0) load_it (loads_same ws (count_word c i)) here k.filled refl (omega arith) (below, none_done, inl nothing, omega arith)
               (knows_calm replaces.TheVariants.LoadsCount (replaces.TheVariants.Stores 0) here load_it, first_word replaces.TheVariants.LoadsCount (replaces.TheVariants.Stores 0) here load_it (loads_same ws (count_word c i)) (λ holds. even_is number t))
           go false t =
-              calm_step replaces.TheVariants.LoadsCount (replaces.TheVariants.Hides number) load_it (loads_same ws (count_word c i)) here refl (omega arith) (below, none_done, nothing, odd_is number t)
+              calm_step replaces.TheVariants.LoadsCount (replaces.TheVariants.Hides number) load_it (loads_same ws (count_word c i)) here k.filled refl (omega arith) (below, none_done, nothing, odd_is number t)
               (knows_calm replaces.TheVariants.LoadsCount (replaces.TheVariants.Hides number) here load_it, (λ holds lives. inl (ap (λ w. count_at c w i) (loads_same ws (count_word c i)))))
 
     -- ---- what stands there is hidden
@@ -273,7 +276,7 @@ module _ {T : Type 0} (scene : Scene T) (inv : Inv scene) (index : ℕ) (value :
               let es = Hidden p i ∷ [] in
               let new = hides_count scene inv i count below is in
               let now_odd : now_at % 2 ≡ 1 = ap (λ n. n % 2) is ∙ odd in
-              let proper = was_going (replaces.TheVariants.Hides count) here (words_after ws (Some hide_it)) y es (refl, tt) tt (λ start w. refl) (omega arith) in
+              let proper = was_going (replaces.TheVariants.Hides count) here k.filled (words_after ws (Some hide_it)) y es (refl, tt) tt (λ start w. refl) (omega arith) in
               let after : count_at c (words_after ws (Some hide_it)) i ≡ now_at + 1 = ap (λ w. count_at c w i) new ∙ count_set c code.size ws i (now_at + 1) (omega arith) in
               goes_on scene start (at_stage (replaces.TheVariants.Stores 0)) (Some hide_it) false scene.states es here.span (λ start w. refl)
               (hides scene inv start (at_stage (replaces.TheVariants.Hides count)) tt here y (words_after ws (Some hide_it)) i below new refl now_odd (λ holds q ne o theirs fresh. nobody_else holds q ne o theirs) proper)
@@ -284,7 +287,7 @@ module _ {T : Type 0} (scene : Scene T) (inv : Inv scene) (index : ℕ) (value :
               let other : now_at ≢ count = grind (arith, nat_tests) in
               let some = inv.elements.coded.some in
               let same = fails_same ws (count_word c i) count (one_more count) other in
-              calm_step (replaces.TheVariants.Hides count) (replaces.TheVariants.Stores 0) hide_it same here refl (omega arith) (below, none_done, inl nothing, omega arith)
+              calm_step (replaces.TheVariants.Hides count) (replaces.TheVariants.Stores 0) hide_it same here k.filled refl (omega arith) (below, none_done, inl nothing, omega arith)
               (knows_calm (replaces.TheVariants.Hides count) (replaces.TheVariants.Stores 0) here hide_it, first_word (replaces.TheVariants.Hides count) (replaces.TheVariants.Stores 0) here hide_it same (λ holds. ⊎_elim (λ e. absurd (other e)) (λ even. even) (covers holds alive)))
 
     -- ---- a word is stored
@@ -297,7 +300,7 @@ module _ {T : Type 0} (scene : Scene T) (inv : Inv scene) (index : ℕ) (value :
       store_to next owe few stands known =
           goes_calmly scene start (at_stage next) (Some store_it) false scene.states here.span
           (stores_word scene inv start (at_stage (replaces.TheVariants.Stores at)) tt here (then_at next (Some store_it)) (words_after ws (Some store_it)) i below at ats value owner alive mine (λ holds. w.has holds alive) refl
-          (was_going (replaces.TheVariants.Stores at) here (words_after ws (Some store_it)) (then_at next (Some store_it)) [] tt tt none_lengthens (omega arith)) (λ was. owe))
+          (was_going (replaces.TheVariants.Stores at) here k.filled (words_after ws (Some store_it)) (then_at next (Some store_it)) [] tt tt none_lengthens (omega arith)) (λ was. owe))
           few (refl, given_is, fits, stands) known
 
       one_more_word : (next : ReplaceStage) → Writes code c owner i value (at + 1) (SeesCalmly next store_it)
@@ -305,7 +308,7 @@ module _ {T : Type 0} (scene : Scene T) (inv : Inv scene) (index : ℕ) (value :
           record {
             few = omega arith;
             has = λ holds lives.
-                let before_it = was_calm (replaces.TheVariants.Stores at) here (then_at next (Some store_it)) (omega arith) holds in
+                let before_it = was_calm (replaces.TheVariants.Stores at) here k.filled (then_at next (Some store_it)) (omega arith) holds in
                 store_writes code c ws events (inv.elements.whole before_it) inv.elements.wide i below value at ats (w.has before_it alive);
           }
 
@@ -344,9 +347,9 @@ module _ {T : Type 0} (scene : Scene T) (inv : Inv scene) (index : ℕ) (value :
           go : (b : Bool) → is_even count_now ≡ b → Leads scene start (Some (adds_one (count_word c i))) false scene.states ((if b then Placed p i value ∷ [] else []) ++ []) (GoOn (at_stage replaces.TheVariants.AddsChange))
           go true t =
               let es = Placed p i value ∷ [] in
-              let proper = was_going replaces.TheVariants.AddsCount here (words_after ws (Some add_it)) y es (refl, tt) tt (λ start w. refl) (omega arith) in
+              let proper = was_going replaces.TheVariants.AddsCount here k.filled (words_after ws (Some add_it)) y es (refl, tt) tt (λ start w. refl) (omega arith) in
               goes_on scene start (at_stage replaces.TheVariants.AddsChange) (Some add_it) false scene.states es here.span (λ start w. refl)
-              (places_it scene inv start (at_stage replaces.TheVariants.AddsCount) tt here y (words_after ws (Some add_it)) i below new refl value owner mine (λ holds. w.has holds alive) proper)
+              (places_it scene inv start (at_stage replaces.TheVariants.AddsCount) tt here y (words_after ws (Some add_it)) i below new refl value owner alive mine (λ holds. w.has holds alive) proper)
               ((refl, refl, hidden), tt) (omega arith)
               (refl, given_is, fits, (below, ap (λ (d : List Deed). d ++ []) none_done)) (
                 knows_then es (refl, tt) tt (λ start w. refl) (λ o. refl) (λ o. refl) replaces.TheVariants.AddsCount replaces.TheVariants.AddsChange here add_it,
@@ -357,7 +360,7 @@ module _ {T : Type 0} (scene : Scene T) (inv : Inv scene) (index : ℕ) (value :
                 )),
               )
           go false t =
-              let proper = was_going replaces.TheVariants.AddsCount here (words_after ws (Some add_it)) y [] tt tt none_lengthens (omega arith) in
+              let proper = was_going replaces.TheVariants.AddsCount here k.filled (words_after ws (Some add_it)) y [] tt tt none_lengthens (omega arith) in
               let improper = λ (holds : Proper (after scene (words_after ws (Some add_it)) y [])). let even = (w.has (proper holds) alive).even in let odd = odd_is count_now t in absurd {A = ⊥} (omega arith) in
               goes_calmly scene start (at_stage replaces.TheVariants.AddsChange) (Some add_it) false scene.states here.span
               (misplaces scene inv start (at_stage replaces.TheVariants.AddsCount) tt here y (words_after ws (Some add_it)) i below new refl proper improper)
@@ -396,20 +399,20 @@ module _ {T : Type 0} (scene : Scene T) (inv : Inv scene) (index : ℕ) (value :
       → StepOf scene (Replace index value owner) (replace_at c at value owner stage)
 
   -- an index that is none of the container
-  refuses : (at : ℕ) → c ≤ index → all scene ≡ [] → Moves replaces.TheVariants.Refuses at
-  refuses at past none_done here paid s =
+  refuses : (at : ℕ) → c ≤ index → all scene ≡ [] → done scene ≡ [] → Moves replaces.TheVariants.Refuses at
+  refuses at past none_done nothing here paid s =
       let start = Replace index value owner in
       let y = party_then scene start None false (Done (answers.NotRemoved ContainerHandleNotOwnedByContainer)) in
       let es = Finished p (Container start) (answers.NotRemoved ContainerHandleNotOwnedByContainer) ∷ [] in
-      let proper = proper_before p y latest events es (refl, tt) (λ h. subst (λ o. StandsProper p o events) (sym here.found) (λ index' owner' value' wrote' span few. let taken = here.taken in absurd (omega arith))) in
+      let proper = proper_before p y latest events es (refl, tt) (λ h. subst (λ o. StandsProper p o events) (sym here.found) (λ index' owner' value' wrote' span few found. let taken = here.taken in absurd (omega arith))) in
       ends scene start (answers.NotRemoved ContainerHandleNotOwnedByContainer) None false scene.states [] here.span none_lengthens
       (ends_calmly scene inv start (replace_at c at value owner replaces.TheVariants.Refuses) tt here y scene.words (answers.NotRemoved ContainerHandleNotOwnedByContainer)
       (set_effects.quietly (of_set scene) (inv_of_set scene inv) scene.words es (set_effects.stays_same (of_set scene) (inv_of_set scene inv) scene.words refl).leaves (quiet_end (of_set scene) (inv_of_set scene inv) start (answers.NotRemoved ContainerHandleNotOwnedByContainer) (λ i o. refl) (λ i r. refl)) (refl, tt) (tt, tt) (tt, tt))
       (inl past) proper (λ holds. tt) refl (λ i b. refl) (owes_none scene start (replace_at c at value owner replaces.TheVariants.Refuses) y here refl))
-      ((refl, none_done), tt) (omega arith) (omega arith)
+      ((refl, (none_done, nothing)), tt) (omega arith) (omega arith)
 
   pub replace_step : (stage : ReplaceStage) → ReplaceAt c code.size (all scene) (done scene) index stage → Moves stage (place_of c index)
-  replace_step replaces.TheVariants.Refuses at = refuses (place_of c index) at.0 at.1
+  replace_step replaces.TheVariants.Refuses at = refuses (place_of c index) at.0 at.1 at.2
   replace_step replaces.TheVariants.LoadsCell at =
       subst (Moves replaces.TheVariants.LoadsCell) (sym (place_is c index at.0)) (λ here k s. cell_step scene inv index value owner fits alive at.0 at.1 here at.2 k.0 k.1 s)
   replace_step replaces.TheVariants.LoadsCount at =

@@ -14,12 +14,13 @@ use Rattle.model.specs.Families.Container.Reading.{contents_after, announced_aft
 use Rattle.model.specs.Families.Indices.Robust.Reading.{filled_after, filled_of, settled_after, settled_of, is_dead}
 use Rattle.robust_laws.proofs.Effects.{at_same, at_other, some_none}
 use Rattle.robust_laws.proofs.Invariant as set_invariant
+use Rattle.robust_laws.proofs.Rights.{IsBy}
 use Rattle.container_laws.proofs.Effects.{OwesStill, calmly}
 use Rattle.container_laws.proofs.Invariant.{Scene, Inv, Does, before, after, of_set}
 use Rattle.container_laws.proofs.Left.{left_after, left_of}
 use Rattle.container_laws.proofs.Stages.{NoLook, IsHere, does_with}
 use Rattle.container_laws.proofs.Turns.{Proper}
-use Rattle.container_laws.proofs.Writers.{IsWriter, Adds, Replacing}
+use Rattle.container_laws.proofs.Writers.{IsWriter, Replacing}
 
 module _ {T : Type 0} (scene : Scene T) (inv : Inv scene) (start : ContainerStart T) (flight : ContainerFlight T) (none : NoLook flight) (here : IsHere scene start flight) (y : Party T) where
   open scene use {coding as code, capacity as c, party as p, turns as turns, latest as latest, events as events}
@@ -97,8 +98,8 @@ module _ {T : Type 0} (scene : Scene T) (inv : Inv scene) (start : ContainerStar
       not_here : {A : Type 0} → Proper (after scene words' y free) → (q : ℕ) → q ≢ p → (o : ℕ) → is_dead o events ≡ false → IsWriter q i o events → A
       not_here holds q ne o lives theirs =
           ⊎_elim
-          (λ (h : Adds q i o events).
-          let k = (does.spares q ne).owned holds.frees i o lives h.by in
+          (λ (h : IsBy q i o events).
+          let k = (does.spares q ne).owned holds.frees i o lives h in
           some_none (filled_of i (events ++ free)) o (fold-append (filled_after i) None events free ∙ at_same i i None (filled_of i events) refl) k.filled)
           (λ (h : Replacing q i o events).
           let k = (does.spares q ne).settled holds.frees i o lives h.settled (tt, tt) in

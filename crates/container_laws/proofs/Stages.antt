@@ -229,7 +229,7 @@ module _ {T : Type 0} (scene : Scene T) where
   -- a call that is no replace says nothing of a proper run
   no_replace : (start : ContainerStart T) → NoReplace start → span_of p events ≡ Open (Container start) (wrote_of p events) → (o : Option (Party T)) → StandsProper p o events
   no_replace start none span None = tt
-  no_replace start none span (Some x) = λ index owner value w is few. go start none (sym span ∙ is)
+  no_replace start none span (Some x) = λ index owner value w is few found. go start none (sym span ∙ is)
     where
       go : (s : ContainerStart T) → NoReplace s → {A : Type 0} → {index owner : ℕ} → {value : T} → {u w : List (Event T)} → Open (Container s) u ≡ Open (Container (starts.TheVariants.Replace index value owner)) w → A
       go (starts.TheVariants.Add value owner) none e = absurd (cc)

@@ -221,13 +221,13 @@ module _ {T : Type 0} (c z : ℕ) (all : List Deed) (done : List (Act T)) where
   RemoveAt index owner mode (removes.TheVariants.Releases count stage) =
       (index < c) × ReleaseAt c index owner mode all stage × (done ≡ [])
   RemoveAt index owner mode (removes.TheVariants.Hides count state) =
-      (index < c) × HasDone {T = T} (starts.TheVariants.Remove index owner mode) (State state) all
+      (index < c) × HasDone {T = T} (starts.TheVariants.Remove index owner mode) (State state) all []
       × IsOneOf (Frees index owner) all × (done ≡ []) × (count % 2 ≡ 1)
   RemoveAt index owner mode (removes.TheVariants.AddsChange state) =
-      (index < c) × HasDone {T = T} (starts.TheVariants.Remove index owner mode) (State state) all
+      (index < c) × HasDone {T = T} (starts.TheVariants.Remove index owner mode) (State state) all []
 
   abbrev pub ReplaceAt : ℕ → ReplaceStage → Type 0
-  ReplaceAt index replaces.TheVariants.Refuses = (c ≤ index) × (all ≡ [])
+  ReplaceAt index replaces.TheVariants.Refuses = (c ≤ index) × (all ≡ []) × (done ≡ [])
   ReplaceAt index replaces.TheVariants.LoadsCell = (index < c) × (all ≡ []) × (done ≡ [])
   ReplaceAt index replaces.TheVariants.LoadsCount = (index < c) × (all ≡ []) × (done ≡ [])
   ReplaceAt index (replaces.TheVariants.Hides count) =

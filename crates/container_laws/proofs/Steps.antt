@@ -10,15 +10,16 @@ use Rattle.model.specs.declared.event.Start.TheVariants.{Container}
 use Rattle.model.specs.declared.families.container.ContainerStart.{ContainerStart}
 use Rattle.model.specs.declared.families.container.calls.ContainerFlight.{ContainerFlight}
 use Rattle.model.specs.declared.party.Party.{Party}
-use Rattle.model.specs.Families.Container.Promises.{AnswersRight, PlacesRight}
+use Rattle.model.specs.Families.Container.Promises.{AnswersRight}
 use Rattle.model.specs.Families.Container.Reading.{contents_after, contents_of, announced_after, announced_of}
-use Rattle.model.specs.Families.Indices.Robust.Reading.{is_dead}
+use Rattle.model.specs.Families.Indices.Robust.Reading.{is_dead, filled_of}
 use Rattle.model.specs.Parties.{flight_of}
 use Rattle.robust_laws.proofs.Effects as set_effects
-use Rattle.robust_laws.proofs.Effects.{at_same, at_other, both_ways}
+use Rattle.robust_laws.proofs.Effects.{at_same, at_other, both_ways, one_owner}
 use Rattle.robust_laws.proofs.Invariant as set_invariant
 use Rattle.container_laws.proofs.Contents.{IsWhole, Writing, place_none, place_whole, hide_some, hide_whole}
 use Rattle.container_laws.proofs.Effects.{OwesStill, IsCalm, calmly, counts_change, stores, IsCounted, counts_one}
+use Rattle.container_laws.proofs.HiddenKnows.{EndsRight}
 use Rattle.container_laws.proofs.Invariant.{Scene, Inv, Elements, AreAllRight, Does, before, after, of_set, inv_of_set, wrote_of}
 use Rattle.container_laws.proofs.Left.{left_after, left_of}
 use Rattle.container_laws.proofs.Sets.{leaves_behind, quiet_placed, quiet_hidden}
@@ -96,6 +97,7 @@ module _ {T : Type 0} (scene : Scene T) (inv : Inv scene) (start : ContainerStar
             stood = λ holds was now. both_ways (is_some (contents_of i (events ++ Hidden p i ∷ []))) (ap is_some hidden_here) now;
             under = λ holds q ne a o theirs even same. let is : count_in code c (before scene) a ≡ n = ap (count_in code c (before scene)) same in absurd (omega arith);
             over = λ holds q ne o theirs. omega arith;
+            lost = λ holds o dead filled. odd;
             whole = λ holds. subst (λ w. IsWhole code c w (events ++ Hidden p i ∷ [])) (sym new) (hide_whole code c ws events (e.whole (proper holds)) e.wide i below p (n + 1) (omega arith));
           }
         where
@@ -117,12 +119,19 @@ module _ {T : Type 0} (scene : Scene T) (inv : Inv scene) (start : ContainerStar
           })
 
     -- a writer places its value
-    module _ (value : T) (owner : ℕ) (mine : Proper (before scene) → IsWriter p i owner events) (writing : Proper (before scene) → Writing code c ws i value code.size) (proper : ProperBefore words' (Placed p i value ∷ [])) where
+    module _ (value : T) (owner : ℕ) (alive : is_dead owner events ≡ false) (mine : Proper (before scene) → IsWriter p i owner events) (writing : Proper (before scene) → Writing code c ws i value code.size) (proper : ProperBefore words' (Placed p i value ∷ [])) where
       nothing : Proper (before scene) → contents_of i events ≡ None
       nothing holds = place_none code c ws events (e.whole holds) e.wide i below value (writing holds)
 
       no_other : {A : Type 0} → Proper (before scene) → (q : ℕ) → q ≢ p → (o : ℕ) → IsWriter q i o events → A
       no_other holds q ne o theirs = absurd (ne (one_writer q p i o owner events (inv.good.owned holds.frees) theirs (mine holds)))
+
+      -- its owner, who lives, fills the index
+      fills_it : {A : Type 0} → Proper (before scene) → (o : ℕ) → is_dead o events ≡ true → filled_of i events ≡ Some o → A
+      fills_it holds o dead filled =
+          let its : filled_of i events ≡ Some owner = ⊎_elim (λ by. by.filled) (λ replacing. ((inv.good.owned holds.frees).settled i owner replacing.settled).0) (mine holds) in
+          let same : owner ≡ o = one_owner (filled_of i events) owner o its filled in
+          both_ways (is_dead owner events) alive (subst (λ n. is_dead n events ≡ true) (sym same) dead)
 
       placed_one : IsCounted scene inv words' y (Placed p i value ∷ []) proper i below new (refl, tt) (Container start) (wrote_of p events) here.span owed
       placed_one =
@@ -134,6 +143,7 @@ module _ {T : Type 0} (scene : Scene T) (inv : Inv scene) (start : ContainerStar
             stood = λ holds was now. both_ways (is_some (contents_of i events)) (ap is_some (nothing (proper holds))) was;
             under = λ holds q ne a o theirs even same. no_other (proper holds) q ne o (subst (λ b. IsWriter q b o events) same theirs);
             over = λ holds q ne o theirs. no_other (proper holds) q ne o theirs;
+            lost = λ holds o dead filled. fills_it (proper holds) o dead filled;
             whole = λ holds.
                 let w = writing (proper holds) in
                 let even = w.even in
@@ -169,6 +179,7 @@ module _ {T : Type 0} (scene : Scene T) (inv : Inv scene) (start : ContainerStar
             stood = λ holds was now. improper holds;
             under = λ holds q ne a o theirs even same. improper holds;
             over = λ holds q ne o theirs. absurd (improper holds);
+            lost = λ holds o dead filled. absurd (improper holds);
             whole = λ holds. absurd (improper holds);
           }
 
@@ -186,7 +197,7 @@ module _ {T : Type 0} (scene : Scene T) (inv : Inv scene) (start : ContainerStar
   changed_words = set ws (change_word c) (change_in code c (before scene) + 1)
 
   module _ (words' : List ℕ) (answer : Answer T) (set_does : set_invariant.Does (of_set scene) words' (Finished p (Container start) answer ∷ [])) (answers : AnswersRight c events (Finished p (Container start) answer))
-      (proper : ProperBefore words' (Finished p (Container start) answer ∷ [])) (placed : Proper (after scene words' y (Finished p (Container start) answer ∷ [])) → PlacesRight events (Finished p (Container start) answer)) where
+      (proper : ProperBefore words' (Finished p (Container start) answer ∷ [])) (placed : Proper (after scene words' y (Finished p (Container start) answer ∷ [])) → EndsRight events (Finished p (Container start) answer)) where
     abbrev finish : List (Event T)
     finish = Finished p (Container start) answer ∷ []
 

@@ -15,7 +15,7 @@ use Rattle.steps.specs.declared.container.replace.ReplaceStage as replaces
 use Rattle.model.specs.Coding.{Coding}
 use Rattle.model.specs.Families.Container.Looks.{WasAlone}
 use Rattle.model.specs.Families.Container.Reading.{contents_of, announced_of}
-use Rattle.model.specs.Families.Indices.Robust.Reading.{is_dead}
+use Rattle.model.specs.Families.Indices.Robust.Reading.{is_dead, filled_of}
 use Rattle.model.specs.Parties.{party_of, doing_of, flight_of}
 use Rattle.container_laws.proofs.Core.{change_at, count_at, datum_at}
 use Rattle.container_laws.proofs.Left.{left_of}
@@ -92,6 +92,9 @@ module _ {T : Type 0} (code : Coding T) (c : ℕ) where
     -- who changes an element owes the changes a raise, until he has made it
     pub owing : change_in m' ≡ change_in m → Owing m.latest → Owing m'.latest
     pub owed : change_in m' ≡ change_in m → (i : ℕ) → i < c → (count_in m' i ≡ count_in m i) ⊎ Owing m'.latest
+    -- where a dead owner fills an index nothing is placed
+    pub lost : Proper m' → (i o : ℕ) → i < c → is_dead o m.events ≡ true → filled_of i m.events ≡ Some o
+        → (count_in m' i ≡ count_in m i) ⊎ ((count_in m i % 2 ≡ 1) × (count_in m' i % 2 ≡ 0))
 
   -- and to another party
   pub record Leaves (q : ℕ) (m m' : Now T) : Type 0 where

@@ -18,12 +18,13 @@ module _ {T : Type 0} where
     pub settled : settled_of i events ≡ Some o
     pub latest : replacer_of i o events ≡ Some p
 
+  -- and a remove that has the right to the index; it writes nothing there
   abbrev pub IsWriter : ℕ → ℕ → ℕ → List (Event T) → Type 0
-  IsWriter p i o events = Adds p i o events ⊎ Replacing p i o events
+  IsWriter p i o events = IsBy p i o events ⊎ Replacing p i o events
 
   module _ (p q i o u : ℕ) (events : List (Event T)) (owned : AreOwned events) where
-    both_add : Adds p i o events → Adds q i u events → p ≡ q
-    both_add a b = one_party (right_of i events) q p b.by.right a.by.right
+    both_by : IsBy p i o events → IsBy q i u events → p ≡ q
+    both_by a b = one_party (right_of i events) q p b.right a.right
 
     not_both : {A : Type 0} → (r s a : ℕ) → right_of i events ≡ By r → settled_of i events ≡ Some a → A
     not_both r s a mine settled =
@@ -38,6 +39,6 @@ module _ {T : Type 0} where
     pub one_writer : IsWriter p i o events → IsWriter q i u events → p ≡ q
     one_writer a b =
         ⊎_elim
-        (λ x. ⊎_elim (λ y. both_add x y) (λ y. not_both p q u x.by.right y.settled) b)
-        (λ x. ⊎_elim (λ y. not_both q p o y.by.right x.settled) (λ y. both_replace x y) b)
+        (λ x. ⊎_elim (λ y. both_by x y) (λ y. not_both p q u x.right y.settled) b)
+        (λ x. ⊎_elim (λ y. not_both q p o y.right x.settled) (λ y. both_replace x y) b)
         a

@@ -17,6 +17,8 @@ use Rattle.model.specs.declared.turn.Turn.{Turn}
 use Rattle.model.specs.declared.turn.Turn.TheVariants.{Begin, Next, Decide, Die}
 use Rattle.model.specs.Families.Container.Looks.{state_in, shows}
 use Rattle.model.specs.Families.Container.Promises.{ContainsRight, question_in}
+use Rattle.model.specs.Families.Container.Reading.{Hides}
+use Rattle.model.specs.Families.Container.Spans.{HasDone}
 use Rattle.model.specs.Refusals.{refusal_of}
 use Rattle.model.specs.World.{Trace, flight_in, progress_in}
 use Rattle.model.proofs.Runs.{two_words, nexts, begins, ran}
@@ -347,6 +349,10 @@ copies_again_shows = refl
 
 abbrev stands : List (Event ℕ)
 stands = Filled 1 0 7 ∷ Granted 1 0 7 ∷ Placed 1 0 5 ∷ []
+
+-- a replace that hides what stands and then refuses
+no_refusal_that_hides : HasDone {T = ℕ} (Replace 0 7 2) (NotRemoved ContainerHandleNotOwnedByContainer) [] (Hides 0 ∷ []) → ⊥
+no_refusal_that_hides done = let nothing = done.1 in cc
 
 -- a copy of another value than the one that stands
 no_torn_copy : ContainsRight stands (Copied 0 0 6) → ⊥

@@ -6,6 +6,7 @@ pub mod Looks
 pub mod Opening
 pub mod Promises
 pub mod Reading
+pub mod Removals
 pub mod Spans
 pub mod States
 pub mod Steps

@@ -28,7 +28,8 @@ use Rattle.model.specs.declared.turn.Turn.TheVariants.{Decide}
 use Rattle.model.specs.Coding.{Coding}
 use Rattle.model.specs.Families.Container.Bounds.{most_steps}
 use Rattle.model.specs.Families.Container.Looks.{state_in, WasCopied, ShowsCopies, IsCurrent, AnswersOfState, MomentsOfState, EndsLook}
-use Rattle.model.specs.Families.Container.Reading.{contents_of, MayReplace, Copies, Sees, acts_of, places, Has}
+use Rattle.model.specs.Families.Container.Reading.{contents_of, MayReplace, Copies, Sees, acts, acts_of, places, Has}
+use Rattle.model.specs.Families.Container.Removals.{HidesRight}
 use Rattle.model.specs.Families.Container.Spans.{may_stand, HasDone}
 use Rattle.model.specs.Families.Indices.Reading.{is_locked}
 use Rattle.model.specs.Families.Indices.Robust.Dead.{has_died}
@@ -50,13 +51,14 @@ module _ {T : Type 0} where
       MayReplace p index owner before
   ReplacesRight before e = Unit {0}
 
-  -- and so was one under way that has taken a step, by which it has found its owner
+  -- and so was one under way that has taken a step, at whose index its owner was at a moment of the call
   abbrev pub StandsProper : ℕ → Option (Party T) → List (Event T) → Type 0
   StandsProper p None events = Unit {0}
   StandsProper p (Some x) events =
       (index owner : ℕ) (value : T) (wrote : List (Event T))
       → span_of p events ≡ Open (Container (Replace index value owner)) wrote
       → 1 ≤ x.steps
+      → HeldOnce p (IsFilledWith owner index) events
       → MayReplace p index owner events
 
   -- A remove that frees was begun where its index might be given back for its owner, and a replace that
@@ -198,6 +200,7 @@ module _ {T : Type 0} where
     pub holders : Each HoldsRight t.events
     pub contents : Each ContainsRight t.events
     pub placed : Each PlacesRight t.events
+    pub hidden : Each HidesRight t.events
     pub elements : HasElements t
 
   -- ---- questions
@@ -304,7 +307,7 @@ module _ {T : Type 0} where
   -- ---- the promise
 
   abbrev pub wrote : ℕ → Start T → Answer T → List (Event T) → Type 0
-  wrote capacity (Container start) answer events = HasDone start answer (deeds events)
+  wrote capacity (Container start) answer events = HasDone start answer (deeds events) (acts events)
   wrote capacity start answer events = ⊥
 
   abbrev pub most : ℕ → ℕ → Start T → ℕ → ℕ

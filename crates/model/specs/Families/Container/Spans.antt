@@ -76,23 +76,24 @@ module _ {T : Type 0} where
       HasJustFreed (deeds wrote)
   may_stand e span = ⊥
 
-  -- what a finished call has done to the set, by its answer; any other answer is none of that call
-  abbrev pub HasDone : ContainerStart T → Answer T → List Deed → Type 0
-  HasDone (Add value owner) (Index index) all =
+  -- What a finished call has done to the set, by its answer; and a replace that was refused has done
+  -- nothing to elements either. Any other answer is none of that call.
+  abbrev pub HasDone : ContainerStart T → Answer T → List Deed → List (Act T) → Type 0
+  HasDone (Add value owner) (Index index) all done =
       all ≡ Fills index owner ∷ Grants index owner ∷ []
-  HasDone (Add value owner) (NoPlace failures.IsLocked) all = (all ≡ []) ⊎ FilledLate owner all
-  HasDone (Add value owner) (NoPlace failures.OutOfSpace) all = all ≡ []
-  HasDone (Remove index owner mode) (State states.Unlocked) all = all ≡ Frees index owner ∷ []
-  HasDone (Remove index owner LockIfLastIndex) (State states.Locked) all =
+  HasDone (Add value owner) (NoPlace failures.IsLocked) all done = (all ≡ []) ⊎ FilledLate owner all
+  HasDone (Add value owner) (NoPlace failures.OutOfSpace) all done = all ≡ []
+  HasDone (Remove index owner mode) (State states.Unlocked) all done = all ≡ Frees index owner ∷ []
+  HasDone (Remove index owner LockIfLastIndex) (State states.Locked) all done =
       (all ≡ Frees index owner ∷ []) ⊎ (all ≡ Frees index owner ∷ Locks ∷ [])
-  HasDone (Remove index owner mode) (NotRemoved failure) all = all ≡ []
-  HasDone (Replace index value owner) Done all = all ≡ []
-  HasDone (Replace index value owner) (NotRemoved failure) all = all ≡ []
-  HasDone (Find owner) (Number number) all = all ≡ []
-  HasDone (Recover owner mode) (State state) all = Unit {0}
-  HasDone GetState (Number number) all = all ≡ []
-  HasDone UpdateState (Truth changed) all = all ≡ []
-  HasDone Len (Number number) all = all ≡ []
-  HasDone IsEmpty (Truth empty) all = all ≡ []
-  HasDone IsLocked (Truth locked) all = all ≡ []
-  HasDone start answer all = ⊥
+  HasDone (Remove index owner mode) (NotRemoved failure) all done = all ≡ []
+  HasDone (Replace index value owner) Done all done = all ≡ []
+  HasDone (Replace index value owner) (NotRemoved failure) all done = (all ≡ []) × (done ≡ [])
+  HasDone (Find owner) (Number number) all done = all ≡ []
+  HasDone (Recover owner mode) (State state) all done = Unit {0}
+  HasDone GetState (Number number) all done = all ≡ []
+  HasDone UpdateState (Truth changed) all done = all ≡ []
+  HasDone Len (Number number) all done = all ≡ []
+  HasDone IsEmpty (Truth empty) all done = all ≡ []
+  HasDone IsLocked (Truth locked) all done = all ≡ []
+  HasDone start answer all done = ⊥
