@@ -88,12 +88,9 @@ module _ {T : Type 0} (code : Coding T) where
     find_left : (c : ℕ) (room : rooms.Kept 128) (stage : FindStage) (old : ℕ) (o : Option (ContainerState T)) → left (after code o (find_at c owner room stage) old) ≡ made (find_at c owner room stage) old
     find_left c room (finds.TheVariants.LoadsCell k found) old o = go (old == owner)
       where
-        call : find_calls.Find T (rooms.Kept 128)
-        call = record { capacity = c; stage = finds.TheVariants.LoadsCell k found; of = record {} }
-
         go : (b : Bool) → left_find room (if b then GoOn (record { capacity = c; stage = finds.TheVariants.LoadsCount k (one_more found); of = record {} }) else find_comes_to (record { capacity = c; stage = finds.TheVariants.LoadsCell k found; of = record {} }) (k + 1) found) ≡ None
         go true = refl
-        go false = find_next room call (k + 1) found
+        go false = find_next room (record { capacity = c; stage = finds.TheVariants.LoadsCell k found; of = record {} }) (k + 1) found
     find_left c room (finds.TheVariants.LoadsCount k found) old o = go (is_even old)
       where
         go : (b : Bool) → left_find room (if b then find_comes_to (record { capacity = c; stage = finds.TheVariants.LoadsCount k found; of = record {} }) (k + 1) found else GoOn (record { capacity = c; stage = finds.TheVariants.LoadsWord k found old 0; of = record {} })) ≡ None
