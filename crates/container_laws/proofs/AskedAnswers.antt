@@ -1,6 +1,6 @@
 -- What becomes of the answer to a question: a no ends a find, a yes tells a recovery to free the index that it asked about, and
 -- no question is left.
-use Rattle.std.proofs.Common.{◌≡◌, ◌≢◌, ℕ, ◌+◌, ◌-◌, ◌^◌, ◌==◌, ◌<◌, ⊎_elim, if◌then◌else◌, nat_lt, Bool, true, false, Option, Some, None, List, [], ◌∷◌, ◌++◌, refl, sym, ap, subst, ◌∙◌, append-nil}
+use Rattle.std.proofs.Common.{◌≡◌, ℕ, ◌==◌, ⊎_elim, if◌then◌else◌, Bool, true, false, Option, Some, None, List, [], ◌∷◌, ◌++◌, refl, sym, ap, subst, ◌∙◌, append-nil}
 use Rattle.std.proofs.lemmas.Bool.{cases_eq}
 use Rattle.steps.specs.declared.container.find.FindStage.{FindStage}
 use Rattle.steps.specs.declared.container.find.FindStage as finds
@@ -10,13 +10,10 @@ use Rattle.steps.specs.declared.container.recover.RecoverStage as recovers
 use Rattle.steps.specs.declared.container.state.ContainerState.{ContainerState}
 use Rattle.steps.specs.declared.copied.Kept as rooms
 use Rattle.steps.specs.declared.indices.enums.ReleaseMode.{ReleaseMode}
-use Rattle.steps.specs.declared.indices.robust.parts.Lock as locks
 use Rattle.steps.specs.Indices.Robust.Parts.{raise_want, lock_want}
-use Rattle.model.specs.declared.event.Answer.{Answer}
 use Rattle.model.specs.declared.event.Answer.TheVariants.{Number}
 use Rattle.model.specs.declared.event.Event.{Event}
 use Rattle.model.specs.declared.event.Event.TheVariants.{Asked, Told, Copied, Finished}
-use Rattle.model.specs.declared.event.Start.{Start}
 use Rattle.model.specs.declared.event.Start.TheVariants.{Container}
 use Rattle.model.specs.declared.families.Flight as flights
 use Rattle.model.specs.declared.families.container.ContainerStart.{ContainerStart}
@@ -28,8 +25,8 @@ use Rattle.model.specs.declared.turn.Turn.TheVariants.{Decide}
 use Rattle.model.specs.Coding.{Coding}
 use Rattle.model.specs.Families.{is_question}
 use Rattle.model.specs.Families.Container.Calls.{want, after}
-use Rattle.model.specs.Families.Container.Promises.{CountsRight, FindsAll, IsStopped, FindsUpTo}
-use Rattle.model.specs.Families.Container.Questions.{question_in, question_at, WritesRight, AllRight, HasWritten, AsksOnce, IsAnswered, IsTold, YesTells, NoTells, QuestionsRight, EndsFind}
+use Rattle.model.specs.Families.Container.Promises.{IsStopped, FindsUpTo}
+use Rattle.model.specs.Families.Container.Questions.{question_in, question_at, AllRight, HasWritten, AsksOnce, IsAnswered, IsTold, YesTells, NoTells, QuestionsRight}
 use Rattle.model.specs.Families.Container.Reading.{acts_of}
 use Rattle.model.specs.Families.Container.States.{state_of}
 use Rattle.model.specs.Families.Container.Steps.{shown as shown_there, effects, questions}
@@ -42,11 +39,10 @@ use Rattle.model.specs.Step.{answer_in}
 use Rattle.model.specs.Turns.{number_of, ending_of, events_of, after_turn}
 use Rattle.model.specs.World.{Trace}
 use Rattle.model.proofs.Frame as frame
-use Rattle.model.proofs.Readings.{no_more}
 use Rattle.model.proofs.Rows.{passes}
 use Rattle.robust_laws.proofs.Effects.{both_ways}
 use Rattle.container_laws.proofs.AskedLeft.{made}
-use Rattle.container_laws.proofs.AskedTurn.{GoesOn, IsDecided, IsCalm, IsGoing, any_turn, decided}
+use Rattle.container_laws.proofs.AskedTurn.{IsCalm, IsGoing, any_turn, decided}
 use Rattle.container_laws.proofs.AskedWrites.{goes_right}
 use Rattle.container_laws.proofs.Invariant.{family}
 use Rattle.container_laws.proofs.LooksTell.{container_is}

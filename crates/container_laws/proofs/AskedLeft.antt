@@ -20,10 +20,10 @@ use Rattle.steps.specs.declared.indices.enums.ReleaseState.TheVariants.{Locked, 
 use Rattle.steps.specs.declared.indices.robust.parts.Lock as locks
 use Rattle.steps.specs.declared.indices.robust.parts.Raise as raises
 use Rattle.steps.specs.Container.Add.{add_after}
-use Rattle.steps.specs.Container.Find.{find_comes_to, find_after, find_kept}
+use Rattle.steps.specs.Container.Find.{find_comes_to}
 use Rattle.steps.specs.Container.Layout.{is_even}
 use Rattle.steps.specs.Container.Look.{look_after}
-use Rattle.steps.specs.Container.Recover.{recover_comes_to, recover_sees, recover_raised, recover_locked, recover_after, recover_kept}
+use Rattle.steps.specs.Container.Recover.{recover_comes_to, recover_sees, recover_raised, recover_locked}
 use Rattle.steps.specs.Container.Remove.{remove_after}
 use Rattle.steps.specs.Container.Replace.{replace_after}
 use Rattle.steps.specs.Indices.Robust.Looks.{borrowed_after, locked_after}

@@ -30,7 +30,7 @@ use Rattle.model.specs.Families.Container.Reading.{acts_of}
 use Rattle.model.specs.Families.Container.States.{state_of}
 use Rattle.model.specs.Families.Container.Steps.{effects, questions}
 use Rattle.model.specs.Families.Indices.Robust.Reading.{deeds_of}
-use Rattle.model.specs.Parties.{party_of, put, doing_of, flight_of}
+use Rattle.model.specs.Parties.{party_of, doing_of, flight_of}
 use Rattle.model.specs.Promises.Turns.{IsParty}
 use Rattle.model.specs.Reading.{Open, span_of}
 use Rattle.model.specs.Refusals.{refusal_of, is_due, call_refusal}

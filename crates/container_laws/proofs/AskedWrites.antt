@@ -36,10 +36,10 @@ use Rattle.model.specs.declared.turn.Turn.TheVariants.{Decide}
 use Rattle.model.specs.Coding.{Coding}
 use Rattle.model.specs.Families.{is_question}
 use Rattle.model.specs.Families.Container.Calls.{want}
-use Rattle.model.specs.Families.Container.Questions.{question_at, WasOwners, AsksAtOnce, WritesRight, AllRight}
+use Rattle.model.specs.Families.Container.Questions.{question_at, WasOwners, AsksAtOnce, WritesRight}
 use Rattle.model.specs.Families.Container.Reading.{acts_of}
 use Rattle.model.specs.Families.Container.States.{state_of}
-use Rattle.model.specs.Families.Container.Steps.{placed, hidden, copied, shown, add_effects, remove_effects, replace_effects, find_effects, recover_effects, look_effects, look_effects_of, copy_in, effects, question_of, questions}
+use Rattle.model.specs.Families.Container.Steps.{placed, hidden, shown, add_effects, remove_effects, replace_effects, find_effects, recover_effects, look_effects, look_effects_of, copy_in, effects, question_of, questions}
 use Rattle.model.specs.Families.Indices.Robust.Promises.{IsFilledWith}
 use Rattle.model.specs.Families.Indices.Robust.Reading.{deeds_of}
 use Rattle.model.specs.Families.Queues.Calls.{read_in}

@@ -29,7 +29,7 @@ use Rattle.model.specs.Families.Container.Spans.{may_stand, HasDone}
 use Rattle.model.specs.Families.Indices.Reading.{is_locked}
 use Rattle.model.specs.Families.Indices.Robust.Dead.{has_died}
 use Rattle.model.specs.Families.Indices.Robust.Promises.{cell_of, IsFilled, IsFilledWith, IsUnlocked, HeldThrough, SetDoes, FreesRight, HoldsRight, IsCount, FilledSinceFreed, StillToFree, IsIn}
-use Rattle.model.specs.Families.Indices.Robust.Reading.{filled_of, is_dead, Frees, Asks, Yes, deeds, deeds_of, IsOneOf}
+use Rattle.model.specs.Families.Indices.Robust.Reading.{filled_of, is_dead, Asks, Yes, deeds, deeds_of, IsOneOf}
 use Rattle.model.specs.Moments.{HeldOnce}
 use Rattle.model.specs.Parties.{party_of}
 use Rattle.model.specs.Promise.{Promise}

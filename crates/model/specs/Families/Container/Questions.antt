@@ -45,7 +45,7 @@ module _ {T : Type 0} where
   abbrev pub question_at : Trace T → ℕ → Option (ℕ × T)
   question_at t p = question_in t.world.coding (flight_in t.world p)
 
-  -- it is about what the very call has copied, and has done last
+  -- it is about a value that the very call has copied, and nothing since
   abbrev pub AsksCopies : Trace T → Type 0
   AsksCopies t =
       (p index : ℕ) (value : T) → question_at t p ≡ Some (index, value)
@@ -69,7 +69,7 @@ module _ {T : Type 0} where
       question_at new p ≡ Some (index, value)
   AsksAtOnce p index value new span = Unit {0}
 
-  -- a recovery is told by a yes alone
+  -- what it is told, it is told by a yes
   abbrev pub WritesRight : Trace T → Turn T → Trace T → Event T → Type 0
   WritesRight old turn new (Copied p index value) =
       WasOwners p index old.events (span_of p old.events)
@@ -105,7 +105,7 @@ module _ {T : Type 0} where
   IsAnswered turn new =
       (p : ℕ) (said : Bool) → turn ≡ Decide p said → question_at new p ≡ None
 
-  -- a yes tells a recovery to free the index that it asked about, and writes nothing else
+  -- a yes tells a recovery to free the index that it asked about, and the turn writes nothing else
   pub record IsTold (p owner : ℕ) (old new : Trace T) : Type 0 where
     pub index : ℕ
     pub value : T
@@ -118,7 +118,7 @@ module _ {T : Type 0} where
       → IsIn p (Container (Recover owner mode)) old
       → IsTold p owner old new
 
-  -- a no tells it nothing
+  -- and a no writes nothing
   abbrev pub NoTells : Trace T → Turn T → Trace T → Type 0
   NoTells old turn new =
       (p owner : ℕ) (mode : ReleaseMode) → turn ≡ Decide p false
