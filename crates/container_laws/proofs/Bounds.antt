@@ -164,7 +164,7 @@ module _ {T : Type 0} where
 
     find_pays : (owner : ℕ) (room : rooms.Kept 128) (stage : FindStage) → FindKnows code c owner room stage v → Pays v
     find_pays owner room (finds.TheVariants.LoadsCell index found) h = plain v h.0
-    find_pays owner room (finds.TheVariants.LoadsCount index found) h = plain v h.0
+    find_pays owner room (finds.TheVariants.LoadsCount index found) h = plain v h.0.0
     find_pays owner room (finds.TheVariants.LoadsWord index found count at) h = plain v h.0.0
     find_pays owner room (finds.TheVariants.ChecksCount index found count) h = plain v h.0.0
     find_pays owner room (finds.TheVariants.Asks index found) h = plain v h.0.0

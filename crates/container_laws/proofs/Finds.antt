@@ -34,7 +34,7 @@ use Rattle.model.specs.Families.Queues.Calls.{as_it_is, read_in, kept_at}
 use Rattle.model.specs.Parties.{put}
 use Rattle.model.specs.Step.{as_call}
 use Rattle.model.specs.Turns.{words_after, step_count}
-use Rattle.model.proofs.Moments.{held_later}
+use Rattle.model.proofs.Moments.{held_now, held_later}
 use Rattle.robust_laws.proofs.Core.{cell}
 use Rattle.robust_laws.proofs.Counting.{times_below, count_next, count_within, count_later, chosen_with, with_here, with_there, count_with, still_once, still_through}
 use Rattle.robust_laws.proofs.Deeds.{all_so}
@@ -231,7 +231,7 @@ module _ {T : Type 0} (scene : Scene T) (inv : Inv scene) (owner : ℕ) (fits : 
         go true t =
             let is : cell ws k ≡ owner = grind (arith, nat_tests) in
             calm_step room (finds.TheVariants.LoadsCell k found) here at.0 room (finds.TheVariants.LoadsCount k (one_more found)) (Some (set_stages.loads (cell_word k))) (loads_same ws (cell_word k)) (omega arith) at
-            (long, counts_calm room (finds.TheVariants.LoadsCell k found) here at.0 room (finds.TheVariants.LoadsCount k (one_more found)) (Some (set_stages.loads (cell_word k))) (k + 1) k (one_more found) h.0 (one_counts k found at.1 is h.1) (found_one k found at.1 is h.2 h.1))
+            (long, (counts_calm room (finds.TheVariants.LoadsCell k found) here at.0 room (finds.TheVariants.LoadsCount k (one_more found)) (Some (set_stages.loads (cell_word k))) (k + 1) k (one_more found) h.0 (one_counts k found at.1 is h.1) (found_one k found at.1 is h.2 h.1), held_now p (IsFilledWith owner k) events (filled_by (of_set scene) (inv_of_set scene inv) k at.1 owner fits is)))
         go false t =
             let other : cell ws k ≢ owner = grind (arith, nat_tests) in
             comes_to_next room (finds.TheVariants.LoadsCell k found) here at.0 (Some (set_stages.loads (cell_word k))) (loads_same ws (cell_word k)) k found at.1 h.0 (omega arith) (below_more k (k + 1) _ (omega arith) at.2)
@@ -240,7 +240,7 @@ module _ {T : Type 0} (scene : Scene T) (inv : Inv scene) (owner : ℕ) (fits : 
   -- ---- the number of the element is loaded
 
   module _ (room : rooms.Kept 128) (long : IsLong room) (k found : ℕ) (here : IsHere scene (Find owner) (find_at c owner room (finds.TheVariants.LoadsCount k found))) (at : FindAt c z (all scene) (done scene) (finds.TheVariants.LoadsCount k found))
-      (h : Finds code c owner (k + 1) k found v) (s : steps ≤ 1 + k * (z + 3)) where
+      (h : FindKnows code c owner room (finds.TheVariants.LoadsCount k found) v) (s : steps ≤ 1 + k * (z + 3)) where
     abbrev number : ℕ
     number = count_in code c (before scene) k
 
@@ -253,19 +253,20 @@ module _ {T : Type 0} (scene : Scene T) (inv : Inv scene) (owner : ℕ) (fits : 
         go : (b : Bool) → is_even number ≡ b → Leads scene start (Some (set_stages.loads (count_word c k))) false scene.states []
             (as_find room (if b then find_comes_to first (k + 1) found else GoOn (at_find first (finds.TheVariants.LoadsWord k found number 0))))
         go true t =
-            comes_to_next room (finds.TheVariants.LoadsCount k found) here at.0 load_it (loads_same ws (count_word c k)) k found at.1 h.0 (omega arith) (below_more k (k + 1) _ (omega arith) at.2) h.1
+            comes_to_next room (finds.TheVariants.LoadsCount k found) here at.0 load_it (loads_same ws (count_word c k)) k found at.1 h.0.0 (omega arith) (below_more k (k + 1) _ (omega arith) at.2) h.0.1
             (found_past k found
             (λ holds through. both_ways (is_some (contents_of k events)) (nothing_stands code c ws k (contents_of k events) (inv.elements.whole holds k at.1) (even_is number t)) (through_now p (λ part. is_some (contents_of k part) ≡ true) events through))
-            h.2) long
+            h.0.2) long
         go false t =
             let some = inv.elements.coded.some in
             let same = loads_same ws (count_word c k) in
             calm_step room (finds.TheVariants.LoadsCount k found) here at.0 room (finds.TheVariants.LoadsWord k found number 0) load_it same (omega arith) (at.0, (at.1, at.2, odd_is number t), omega arith) (
               long,
               (
-                counts_calm room (finds.TheVariants.LoadsCount k found) here at.0 room (finds.TheVariants.LoadsWord k found number 0) load_it (k + 1) k found h.0 h.1 h.2,
+                counts_calm room (finds.TheVariants.LoadsCount k found) here at.0 room (finds.TheVariants.LoadsWord k found number 0) load_it (k + 1) k found h.0.0 h.0.1 h.0.2,
                 (λ holds through. ap (λ w. count_at c w k) same),
                 copying_first code c (SeesCalmly room (finds.TheVariants.LoadsCount k found) here at.0 room (finds.TheVariants.LoadsWord k found number 0) load_it) k number room.words at.1 long (odd_is number t) (let eq = ap (λ w. count_at c w k) same in omega arith),
+                h.1,
               ),
             )
 
@@ -310,13 +311,13 @@ module _ {T : Type 0} (scene : Scene T) (inv : Inv scene) (owner : ℕ) (fits : 
         go true t =
             let more : at + 1 < z = grind (arith, nat_tests) in
             calm_step room (finds.TheVariants.LoadsWord k found count at) here stands.0 room' (finds.TheVariants.LoadsWord k found count (at + 1)) load_word same_words (omega arith) (stands.0, stands.1, more)
-            (long_on, (counted_on (finds.TheVariants.LoadsWord k found count (at + 1)), steady_on (finds.TheVariants.LoadsWord k found count (at + 1)), copied_on (finds.TheVariants.LoadsWord k found count (at + 1))))
+            (long_on, (counted_on (finds.TheVariants.LoadsWord k found count (at + 1)), steady_on (finds.TheVariants.LoadsWord k found count (at + 1)), copied_on (finds.TheVariants.LoadsWord k found count (at + 1)), h.3))
         go false t =
             let last : z ≤ at + 1 = grind (arith, nat_tests) in
             let ats = stands.2 in
             let is : at + 1 ≡ z = omega arith in
             calm_step room (finds.TheVariants.LoadsWord k found count at) here stands.0 room' (finds.TheVariants.ChecksCount k found count) load_word same_words (omega arith) (stands.0, stands.1)
-            (long_on, (counted_on (finds.TheVariants.ChecksCount k found count), steady_on (finds.TheVariants.ChecksCount k found count), subst (λ n. Copying code c k count room'.words n (SeesCalmly room (finds.TheVariants.LoadsWord k found count at) here stands.0 room' (finds.TheVariants.ChecksCount k found count) load_word)) is (copied_on (finds.TheVariants.ChecksCount k found count))))
+            (long_on, (counted_on (finds.TheVariants.ChecksCount k found count), steady_on (finds.TheVariants.ChecksCount k found count), subst (λ n. Copying code c k count room'.words n (SeesCalmly room (finds.TheVariants.LoadsWord k found count at) here stands.0 room' (finds.TheVariants.ChecksCount k found count) load_word)) is (copied_on (finds.TheVariants.ChecksCount k found count)), h.3))
 
   -- ---- its number is checked
 
@@ -369,7 +370,7 @@ module _ {T : Type 0} (scene : Scene T) (inv : Inv scene) (owner : ℕ) (fits : 
                         (cases_eq i k);
                   },
             ),
-            record { before = events; after = []; is = refl },
+            record { before = done scene; is = acts_then },
           ),
         )
 

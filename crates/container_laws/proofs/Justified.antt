@@ -30,11 +30,12 @@ use Rattle.model.specs.World.{Trace}
 use Rattle.model.proofs.Frame as frame
 use Rattle.model.proofs.Orders.{Orders, Keeps, ends_end, turn_is}
 use Rattle.model.proofs.Scenes.{stands_there}
+use Rattle.container_laws.proofs.AskedAnswers.{finds_up_to, questions_right}
+use Rattle.container_laws.proofs.AskedFinds.{finds_all}
 use Rattle.container_laws.proofs.Invariant.{ContainerNow, Fit, family}
 use Rattle.container_laws.proofs.Kept.{kept}
 use Rattle.container_laws.proofs.Sound.{Shown, kept_is, kept_now, reached_sound}
 use Rattle.container_laws.proofs.Stages.{any_call}
-use Rattle.container_laws.proofs.Tells.{finds_all, finds_up_to}
 use Rattle.container_laws.proofs.Written.{all_effects}
 
 -- ---- every turn
@@ -100,6 +101,7 @@ module _ {T : Type 0} (shown : Shown T) (looks : LooksShown T) where
               record {
                 finds = finds_all shown code t h turn e;
                 finds_up_to = finds_up_to shown code t h turn e;
+                questions = questions_right shown code t h turn e;
                 looks = looks.right code t turn e h;
                 leaves = looks.leaves code t turn e h;
               }

@@ -28,7 +28,7 @@ use Rattle.model.specs.declared.families.container.calls.ContainerFlight.TheVari
 use Rattle.model.specs.declared.party.Party.{Party}
 use Rattle.model.specs.Coding.{Coding}
 use Rattle.model.specs.Families.Container.Promises.{StandsProper, WasShown, HasRecovered}
-use Rattle.model.specs.Families.Container.Reading.{MayReplace, Sees, Has, acts, acts_of, places, contents_of}
+use Rattle.model.specs.Families.Container.Reading.{MayReplace, Copies, Sees, Has, HasLatest, acts, acts_of, places, contents_of}
 use Rattle.model.specs.Families.Container.States.{state_of}
 use Rattle.model.specs.Families.Indices.Reading.{locked_after, is_locked}
 use Rattle.model.specs.Families.Indices.Robust.Promises.{IsFilledWith, IsUnlocked, FilledSinceFreed, StillToFree}
@@ -46,9 +46,9 @@ use Rattle.robust_laws.proofs.Standing.{acquire_at, release_at, borrowed_at, loo
 use Rattle.container_laws.proofs.Contents.{writes_on}
 use Rattle.container_laws.proofs.HiddenKnows.{RecoverCovers, StillStands, HasHidden, no_index}
 use Rattle.container_laws.proofs.HiddenLater.{remove_covers, recover_covers, hidden_stands, hidden_later}
-use Rattle.container_laws.proofs.Knows.{View, of_set, now, IsPaid, Dead, Lives, WasFilled, AddOwns, HasFound, ReplaceKnows, Covers, Writes, HasPlaced, Stood, AddKnows, ReplacesKnow, RemoveSays, HasLeft, ReleaseHides, ReleaseLeft, RemoveKnows, Copying, CheckPaid, HasFoundBelow, Finds, Steady, FindKnows, AskedBelow, GoneBut, Recovers, RecoverSays, RecoverKnows, Looks, LookCopies, LookRests, LookKnows, Knows}
+use Rattle.container_laws.proofs.Knows.{View, of_set, now, IsPaid, Dead, Lives, WasFilled, AddOwns, HasFound, ReplaceKnows, Covers, Writes, HasPlaced, Stood, AddKnows, ReplacesKnow, RemoveSays, HasLeft, ReleaseHides, ReleaseLeft, RemoveKnows, Copying, HasCopied, CheckPaid, HasFoundBelow, Finds, Steady, FindKnows, AskedBelow, GoneBut, Recovers, RecoverSays, RecoverKnows, Looks, LookCopies, LookRests, LookKnows, Knows}
 use Rattle.container_laws.proofs.Replaces.{ReplaceOwns, replace_later, add_later}
-use Rattle.container_laws.proofs.Sights.{StoodThere, copied_later, rests_later, course_later}
+use Rattle.container_laws.proofs.Sights.{StoodThere, rests_later, course_later}
 use Rattle.container_laws.proofs.Turns.{Now, Proper, count_in, Passes, Leaves}
 use Rattle.container_laws.proofs.Writers.{Replacing, IsWriter}
 
@@ -251,6 +251,9 @@ module _ {T : Type 0} (code : Coding T) (c : ℕ) (v : View T) (words' : List �
             h.same (passes.proper proper) was j js ∙ sym (passes.words proper index h.within (is ∙ sym was) (ap (λ n. n % 2) was ∙ h.odd) j (let few = h.few in omega arith));
       }
 
+  has_copied : (index : ℕ) (room : rooms.Kept 128) → HasCopied code c index room v → HasCopied code c index room later
+  has_copied index room h = subst (HasLatest (Copies index (read_in code room))) (sym acts_same) h
+
   through_before : (i : ℕ) → StoodThere q i (events ++ es) → StoodThere q i events
   through_before i through = through_less q (λ part. is_some (contents_of i part) ≡ true) events es spares.none through
 
@@ -281,10 +284,10 @@ module _ {T : Type 0} (code : Coding T) (c : ℕ) (v : View T) (words' : List �
 
   find_knows : (owner : ℕ) (room : rooms.Kept 128) (stage : FindStage) → FindKnows code c owner room stage v → FindKnows code c owner room stage later
   find_knows owner room (finds.TheVariants.LoadsCell index number) h = finds_on owner index index number h
-  find_knows owner room (finds.TheVariants.LoadsCount index number) h = finds_on owner (index + 1) index number h
-  find_knows owner room (finds.TheVariants.LoadsWord index number count at) h = (finds_on owner (index + 1) index number h.0, steady index count h.2.within h.1, copying index count room.words at h.2)
-  find_knows owner room (finds.TheVariants.ChecksCount index number count) h = (finds_on owner (index + 1) index number h.0, steady index count h.2.within h.1, copying index count room.words code.size h.2)
-  find_knows owner room (finds.TheVariants.Asks index number) h = (finds_on owner (index + 1) (index + 1) number h.0, copied_later q index (read_in code room) events es h.1)
+  find_knows owner room (finds.TheVariants.LoadsCount index number) h = (finds_on owner (index + 1) index number h.0, once (IsFilledWith owner index) h.1)
+  find_knows owner room (finds.TheVariants.LoadsWord index number count at) h = (finds_on owner (index + 1) index number h.0, steady index count h.2.within h.1, copying index count room.words at h.2, once (IsFilledWith owner index) h.3)
+  find_knows owner room (finds.TheVariants.ChecksCount index number count) h = (finds_on owner (index + 1) index number h.0, steady index count h.2.within h.1, copying index count room.words code.size h.2, once (IsFilledWith owner index) h.3)
+  find_knows owner room (finds.TheVariants.Asks index number) h = (finds_on owner (index + 1) (index + 1) number h.0, has_copied index room h.1)
 
   -- ---- a recovery
 
@@ -338,7 +341,7 @@ module _ {T : Type 0} (code : Coding T) (c : ℕ) (v : View T) (words' : List �
       (check_paid index count h.0, recovers_on owner index none h.1, once (IsFilledWith owner index) h.2, copying index count room.words at h.3, covers_on owner index count h.3.within h.1.dead h.4)
   recover_knows owner mode room (recovers.TheVariants.ChecksCount index count) h =
       (check_paid index count h.0, recovers_on owner index none h.1, once (IsFilledWith owner index) h.2, copying index count room.words code.size h.3, covers_on owner index count h.3.within h.1.dead h.4)
-  recover_knows owner mode room (recovers.TheVariants.Asks index count) h = (paid h.0, recovers_on owner (index + 1) none h.1, h.2, count_below index count h.2 h.3, copied_later q index (read_in code room) events es h.4, covers_on owner index count h.2 h.1.dead h.5)
+  recover_knows owner mode room (recovers.TheVariants.Asks index count) h = (paid h.0, recovers_on owner (index + 1) none h.1, h.2, count_below index count h.2 h.3, has_copied index room h.4, covers_on owner index count h.2 h.1.dead h.5)
   recover_knows owner mode room (recovers.TheVariants.EmptiesCell index count) h = (paid h.0, recovers_on owner (index + 1) (λ i. i ≡ index) h.1, h.2, count_below index count h.2 h.3, covers_on owner index count h.2 h.1.dead h.4)
   recover_knows owner mode room (recovers.TheVariants.Hides index count) h = (
     paid h.0,

@@ -28,8 +28,9 @@ use Rattle.model.specs.declared.party.Party.{Party}
 use Rattle.model.specs.declared.turn.Kind as kinds
 use Rattle.model.specs.Coding.{Coding}
 use Rattle.model.specs.Families.Container.Looks.{state_in, shows, WasCopied, ShowsCopies}
-use Rattle.model.specs.Families.Container.Promises.{PlacesRight, HasElement, HasElements, IsProperRun, IsContainer, KeepsDead, AsksCopies, question_in, find_question, recover_question, promise}
-use Rattle.model.specs.Families.Container.Reading.{contents_of}
+use Rattle.model.specs.Families.Container.Promises.{PlacesRight, HasElement, HasElements, IsProperRun, IsContainer, KeepsDead, promise}
+use Rattle.model.specs.Families.Container.Questions.{AsksCopies, question_in, find_question, recover_question}
+use Rattle.model.specs.Families.Container.Reading.{Copies, HasLatest, acts_of, contents_of}
 use Rattle.model.specs.Families.Container.Removals.{HidesRight}
 use Rattle.model.specs.Families.Container.States.{state_of}
 use Rattle.model.specs.Families.Queues.Calls.{read_in}
@@ -98,19 +99,19 @@ module _ {T : Type 0} where
 
   -- ---- what is asked was copied
 
-  find_asked : (code : Coding T) (c owner : ℕ) (room : rooms.Kept 128) (stage : FindStage) (v : View T) (index : ℕ) (value : T) → FindKnows code c owner room stage v → find_question code stage (read_in code room) ≡ Some (index, value) → WasCopied v.party index value v.events
+  find_asked : (code : Coding T) (c owner : ℕ) (room : rooms.Kept 128) (stage : FindStage) (v : View T) (index : ℕ) (value : T) → FindKnows code c owner room stage v → find_question code stage (read_in code room) ≡ Some (index, value) → HasLatest (Copies index value) (acts_of v.party v.events)
   find_asked code c owner room (finds.TheVariants.LoadsCell i found) v index value k e = absurd (cc)
   find_asked code c owner room (finds.TheVariants.LoadsCount i found) v index value k e = absurd (cc)
   find_asked code c owner room (finds.TheVariants.LoadsWord i found count at) v index value k e = absurd (cc)
   find_asked code c owner room (finds.TheVariants.ChecksCount i found count) v index value k e = absurd (cc)
   find_asked code c owner room (finds.TheVariants.Asks i found) v index value k e =
       let pair : ◌≡◌ {A = ℕ × T} (i, read_in code room) (index, value) = cc in
-      subst (λ (one : ℕ × T). WasCopied v.party one.0 one.1 v.events) pair k.1
+      subst (λ (one : ℕ × T). HasLatest (Copies one.0 one.1) (acts_of v.party v.events)) pair k.1
 
-  recover_asked : (code : Coding T) (c owner : ℕ) (mode : ReleaseMode) (room : rooms.Kept 128) (stage : RecoverStage) (v : View T) (index : ℕ) (value : T) → RecoverKnows code c owner mode room stage v → recover_question code stage (read_in code room) ≡ Some (index, value) → WasCopied v.party index value v.events
+  recover_asked : (code : Coding T) (c owner : ℕ) (mode : ReleaseMode) (room : rooms.Kept 128) (stage : RecoverStage) (v : View T) (index : ℕ) (value : T) → RecoverKnows code c owner mode room stage v → recover_question code stage (read_in code room) ≡ Some (index, value) → HasLatest (Copies index value) (acts_of v.party v.events)
   recover_asked code c owner mode room (recovers.TheVariants.Asks i count) v index value k e =
       let pair : ◌≡◌ {A = ℕ × T} (i, read_in code room) (index, value) = cc in
-      subst (λ (one : ℕ × T). WasCopied v.party one.0 one.1 v.events) pair k.4
+      subst (λ (one : ℕ × T). HasLatest (Copies one.0 one.1) (acts_of v.party v.events)) pair k.4
   recover_asked code c owner mode room recovers.TheVariants.LoadsCounter v index value k e = absurd (cc)
   recover_asked code c owner mode room (recovers.TheVariants.LoadsCell i) v index value k e = absurd (cc)
   recover_asked code c owner mode room (recovers.TheVariants.LoadsCount i) v index value k e = absurd (cc)
@@ -123,7 +124,7 @@ module _ {T : Type 0} where
   recover_asked code c owner mode room recovers.TheVariants.LoadsCounterAgain v index value k e = absurd (cc)
   recover_asked code c owner mode room (recovers.TheVariants.AddsChange state) v index value k e = absurd (cc)
 
-  flight_asked : (code : Coding T) (c : ℕ) (flight : Flight T) (v : View T) (index : ℕ) (value : T) → Knowing code c flight v → question_in code (Some flight) ≡ Some (index, value) → WasCopied v.party index value v.events
+  flight_asked : (code : Coding T) (c : ℕ) (flight : Flight T) (v : View T) (index : ℕ) (value : T) → Knowing code c flight v → question_in code (Some flight) ≡ Some (index, value) → HasLatest (Copies index value) (acts_of v.party v.events)
   flight_asked code c (flights.TheVariants.Container (calls.TheVariants.Find run)) v index value k e = find_asked code c run.given run.room run.call.stage v index value k.1 e
   flight_asked code c (flights.TheVariants.Container (calls.TheVariants.Recover run)) v index value k e = recover_asked code c run.given.owner run.given.mode run.room run.call.stage v index value k.1 e
   flight_asked code c flight v index value k e = absurd (cc)
@@ -141,11 +142,11 @@ module _ {T : Type 0} (code : Coding T) (t : Trace T) (s : frame.Sound (family c
   kept_are = (kept_is t.world.kept t.world.words s.state s.fit).0
 
   -- what a party's call under way knows
-  asked_by : (p index : ℕ) (value : T) (o : Option (Party T)) → frame.KnowsParty (family code c) s.state p t.events t.world.changes o → question_in code (flight_of (doing_of o)) ≡ Some (index, value) → WasCopied p index value t.events
+  asked_by : (p index : ℕ) (value : T) (o : Option (Party T)) → frame.KnowsParty (family code c) s.state p t.events t.world.changes o → question_in code (flight_of (doing_of o)) ≡ Some (index, value) → HasLatest (Copies index value) (acts_of p t.events)
   asked_by p index value None k e = absurd (cc)
   asked_by p index value (Some x) k e = go x.doing k e
     where
-      go : (doing : Doing T) → frame.KnowsDoing (family code c) s.state p t.events t.world.changes x.backs doing → question_in code (flight_of (Some doing)) ≡ Some (index, value) → WasCopied p index value t.events
+      go : (doing : Doing T) → frame.KnowsDoing (family code c) s.state p t.events t.world.changes x.backs doing → question_in code (flight_of (Some doing)) ≡ Some (index, value) → HasLatest (Copies index value) (acts_of p t.events)
       go (Going flight since) k e = flight_asked code c flight (view s.state.words s.state.states s.state.latest t.events p since t.world.changes x.backs) index value k e
       go (Over others) k e = absurd (cc)
 

@@ -28,9 +28,8 @@ use Rattle.model.specs.declared.families.container.calls.ContainerFlight.{Contai
 use Rattle.model.specs.declared.families.container.calls.ContainerFlight.TheVariants.{Add, Remove, Replace, Find, Recover, Look, Count, IsLocked}
 use Rattle.model.specs.declared.party.Party.{Party}
 use Rattle.model.specs.Coding.{Coding}
-use Rattle.model.specs.Families.Container.Looks.{WasCopied}
 use Rattle.model.specs.Families.Container.Promises.{WasShown, HasRecovered}
-use Rattle.model.specs.Families.Container.Reading.{Copies, Has, acts_of, places, contents_of}
+use Rattle.model.specs.Families.Container.Reading.{Copies, Has, HasLatest, acts_of, places, contents_of}
 use Rattle.model.specs.Families.Container.States.{state_of}
 use Rattle.model.specs.Families.Indices.Reading.{is_locked}
 use Rattle.model.specs.Families.Indices.Robust.Promises.{IsFilledWith, IsUnlocked, IsCount, HeldThrough, FilledSinceFreed, StillToFree, IsProper}
@@ -225,6 +224,11 @@ module _ {T : Type 0} (code : Coding T) (c : ℕ) where
     pub below : count ≤ count_in code c (now v) index
     pub same : Proper (now v) → count_in code c (now v) index ≡ count → (j : ℕ) → j < k → get_or copy j 0 ≡ datum_in code c (now v) index j
 
+  -- the copy is made, as the last that it has done to an element
+  abbrev pub HasCopied : ℕ → rooms.Kept 128 → View T → Type 0
+  HasCopied index room v =
+      HasLatest (Copies index (read_in code room)) (acts_of v.party v.events)
+
   -- a failed check is paid by a change of another party
   abbrev pub CheckPaid : ℕ → ℕ → View T → Type 0
   CheckPaid index count v =
@@ -251,16 +255,15 @@ module _ {T : Type 0} (code : Coding T) (c : ℕ) where
   FindKnows owner room (finds.TheVariants.LoadsCell index found) v =
       Finds owner index index found v
   FindKnows owner room (finds.TheVariants.LoadsCount index found) v =
-      Finds owner (index + 1) index found v
+      Finds owner (index + 1) index found v × WasFilled owner index v
   FindKnows owner room (finds.TheVariants.LoadsWord index found count at) v =
       Finds owner (index + 1) index found v × Steady index count v
-      × Copying index count room.words at v
+      × Copying index count room.words at v × WasFilled owner index v
   FindKnows owner room (finds.TheVariants.ChecksCount index found count) v =
       Finds owner (index + 1) index found v × Steady index count v
-      × Copying index count room.words code.size v
+      × Copying index count room.words code.size v × WasFilled owner index v
   FindKnows owner room (finds.TheVariants.Asks index found) v =
-      Finds owner (index + 1) (index + 1) found v
-      × WasCopied v.party index (read_in code room) v.events
+      Finds owner (index + 1) (index + 1) found v × HasCopied index room v
 
   -- ---- a recovery
 
@@ -309,7 +312,7 @@ module _ {T : Type 0} (code : Coding T) (c : ℕ) where
   RecoverKnows owner mode room (recovers.TheVariants.Asks index count) v =
       IsPaid v × Recovers owner (index + 1) no_index no_index v
       × (index < c) × (count ≤ count_in code c (now v) index)
-      × WasCopied v.party index (read_in code room) v.events
+      × HasCopied index room v
       × RecoverCovers code c owner index count (now v)
   RecoverKnows owner mode room (recovers.TheVariants.EmptiesCell index count) v =
       IsPaid v × Recovers owner (index + 1) (λ i. i ≡ index) no_index v

@@ -2,6 +2,11 @@ pub mod AddWrites
 pub mod Adds
 pub mod Alone
 pub mod Announced
+pub mod AskedAnswers
+pub mod AskedFinds
+pub mod AskedLeft
+pub mod AskedTurn
+pub mod AskedWrites
 pub mod Begins
 pub mod Bounds
 pub mod Contents

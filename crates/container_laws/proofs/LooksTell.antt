@@ -61,12 +61,12 @@ use Rattle.container_laws.proofs.Written.{all_effects}
 -- ---- a turn that ends a call writes its end last
 
 module _ {T : Type 0} where
-  record IsLast (q p : ℕ) (a b : Start T) (outcome : Option (Answer T)) (answer : Answer T) : Type 0 where
+  pub record IsLast (q p : ℕ) (a b : Start T) (outcome : Option (Answer T)) (answer : Answer T) : Type 0 where
     pub party : q ≡ p
     pub name : a ≡ b
     pub done : outcome ≡ Some answer
 
-  ends_last : (turn : Turn T) (q p : ℕ) (es : List (Event T)) (a b : Start T) (outcome : Option (Answer T)) (answer : Answer T) (wrote : List (Event T)) → AllByRecursion (IsEffectOf turn) es
+  pub ends_last : (turn : Turn T) (q p : ℕ) (es : List (Event T)) (a b : Start T) (outcome : Option (Answer T)) (answer : Answer T) (wrote : List (Event T)) → AllByRecursion (IsEffectOf turn) es
       → es ++ ending_of q a outcome ≡ wrote ++ Finished p b answer ∷ [] → IsLast q p a b outcome answer
   ends_last turn q p [] a b None answer wrote are e = absurd (no_more wrote (Finished p b answer) [] e)
   ends_last turn q p [] a b (Some one) answer [] are e =
@@ -85,11 +85,11 @@ module _ {T : Type 0} where
       ends_last turn q p xs a b outcome answer ws are.1 behind
 
   -- no look has this event alone
-  no_end : (e : Event T) (p : ℕ) (b : Start T) (answer : Answer T) (wrote : List (Event T)) → e ≢ Finished p b answer → e ∷ [] ≡ wrote ++ Finished p b answer ∷ [] → ⊥
+  pub no_end : (e : Event T) (p : ℕ) (b : Start T) (answer : Answer T) (wrote : List (Event T)) → e ≢ Finished p b answer → e ∷ [] ≡ wrote ++ Finished p b answer ∷ [] → ⊥
   no_end e p b answer [] other is = let same : e ≡ Finished p b answer = cc in other same
   no_end e p b answer (w ∷ ws) other is = let none : [] ≡ ws ++ Finished p b answer ∷ [] = cc in no_more ws (Finished p b answer) [] none
 
-  container_is : (a b : ContainerStart T) → ◌≡◌ {A = Start T} (Container a) (Container b) → a ≡ b
+  pub container_is : (a b : ContainerStart T) → ◌≡◌ {A = Start T} (Container a) (Container b) → a ≡ b
   container_is a b e = cc
 
   -- ---- the call that stands there is a look

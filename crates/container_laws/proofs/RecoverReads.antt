@@ -371,6 +371,7 @@ module _ {T : Type 0} (scene : Scene T) (inv : Inv scene) (owner : ℕ) (mode : 
         let y = then_at scene inv owner mode fits room (recovers.TheVariants.ChecksCount index count) here room (recovers.TheVariants.Asks index count) check_it false in
         let goes = (silent_set scene inv (words_after ws check_it) same y asking (tt, (tt, tt)) (refl, (refl, tt))).goes in
         let deeds_then : deeds_of p (events ++ asking) ≡ all scene ++ Asks index owner ∷ [] = deeds_more scene (Recover owner mode) here.span asking (refl, (refl, tt)) asking_longer in
+        let acts_then : acts_of p (events ++ asking) ≡ done scene ++ Copies index value ∷ [] = acts_more scene (Recover owner mode) here.span asking (refl, (refl, tt)) asking_longer in
         let copy_acts : acts (wrote_of p events ++ Copied p index value ∷ []) ≡ done scene ++ Copies index value ∷ [] = flat_map-append act (wrote_of p events) (Copied p index value ∷ []) in
         let copy_deeds : deeds (wrote_of p events ++ Copied p index value ∷ []) ≡ all scene = flat_map-append deed (wrote_of p events) (Copied p index value ∷ []) ∙ append-nil (all scene) in
         go_on scene inv owner mode fits room (recovers.TheVariants.ChecksCount index count) here room (recovers.TheVariants.Asks index count) check_it false asking asking_longer
@@ -409,7 +410,7 @@ module _ {T : Type 0} (scene : Scene T) (inv : Inv scene) (owner : ℕ) (mode : 
                 (hidden_on scene (Recover owner mode) tt here.span owner (words_after ws check_it) y asking (refl, (refl, tt)) tt asking_longer (λ i was. ⊎_elim (λ had. had) (λ e. absurd (cc)) (was_one (Frees i owner) (Asks index owner) (all scene) was)) k.1.hidden),
             stands.0.within,
             let eq = ap (λ w. count_at c w index) same in let low = k.3.below in omega arith,
-            record { before = events; after = Asked p index owner ∷ []; is = refl },
+            record { before = done scene; is = acts_then },
             covers_on scene (Recover owner mode) tt here.span owner (words_after ws check_it) y asking (refl, (refl, tt)) index count (ap (λ w. count_at c w index) same) (fold-append (filled_after index) None events asking) k.4,
           ),
         )

@@ -81,7 +81,7 @@ module _ {T : Type 0} where
   kept_is kept words s fit = absurd fit
 
   -- a call that begins on the container is one of its own, for an owner that is none of an empty cell
-  abbrev IsOwn : ℕ → Start T → Flight T → Type 0
+  abbrev pub IsOwn : ℕ → Start T → Flight T → Type 0
   IsOwn c (Container start) (flights.TheVariants.Container flight) = (first c start ≡ flight) × (names_owner start ≡ true)
   IsOwn c start flight = ⊥
 
@@ -90,7 +90,7 @@ module _ {T : Type 0} where
   named_own c start flight true t e = absurd (cc)
   named_own c start flight false t e = absurd (cc)
 
-  begins_own : (c : ℕ) (start : Start T) (flight : Flight T) → first_of kinds.TheVariants.Container c start ≡ Some flight → IsOwn c start flight
+  pub begins_own : (c : ℕ) (start : Start T) (flight : Flight T) → first_of kinds.TheVariants.Container c start ≡ Some flight → IsOwn c start flight
   begins_own c (Container start) flight e = named_own c start flight (names_owner start) refl e
   begins_own c start flight e = absurd (cc)
 

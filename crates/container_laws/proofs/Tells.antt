@@ -35,7 +35,8 @@ use Rattle.model.specs.declared.turn.Turn.TheVariants.{Begin, Next, Decide, Die}
 use Rattle.model.specs.Coding.{Coding}
 use Rattle.model.specs.Families.{want_of, ask_of, is_question, beside_of, step_of}
 use Rattle.model.specs.Families.Container.Calls.{want, after}
-use Rattle.model.specs.Families.Container.Promises.{IsFoundWhole, CountsRight, FindsAll, FindsUpTo, question_in}
+use Rattle.model.specs.Families.Container.Promises.{IsFoundWhole, CountsRight}
+use Rattle.model.specs.Families.Container.Questions.{question_in, question_at}
 use Rattle.model.specs.Families.Container.Reading.{contents_of}
 use Rattle.model.specs.Families.Container.States.{state_of}
 use Rattle.model.specs.Families.Container.Steps.{effects, questions}
@@ -128,12 +129,12 @@ module _ {T : Type 0} (scene : Scene T) (inv : Inv scene) (owner : ℕ) (fits : 
           let even : is_even (count_in code c (before scene) k) ≡ true = subst (λ n. is_even n ≡ true) is t in
           ended k found number at.1 (comes_is (finds.TheVariants.LoadsCount k found) k found number r)
           (record {
-            count = h.1.1;
+            count = h.1.0.1;
             whole = λ proper. whole_of (k + 1) found
                 (found_past scene inv owner fits k found
                 (λ holds through. both_ways (is_some (contents_of k events)) (nothing_stands code c scene.words k (contents_of k events) (inv.elements.whole holds k at.1) (even_is (count_in code c (before scene) k) even))
                 (through_now p (λ part. is_some (contents_of k part) ≡ true) events through))
-                h.1.2 proper);
+                h.1.0.2 proper);
           })
       go false t r = absurd (cc)
   stage_tells number due room (finds.TheVariants.LoadsWord k found count word) at here h asks answer loads told e = go (nat_lt (word + 1) code.size) (done_is _ number _ e)
@@ -348,16 +349,16 @@ module _ {T : Type 0} (shown : Shown T) (code : Coding T) (c : ℕ) (t : Trace T
 
 module _ {T : Type 0} (shown : Shown T) (code : Coding T) (t : Trace T) (s : frame.Sound (family code t.world.capacity) t) (turn : Turn T) (r : refusal_of t.world turn ≡ None) where
   -- as the promise says it of the machine after the turn
-  right : (p owner number bound : ℕ) → (after_turn t turn).events ≡ t.events ++ Finished p (Container (Find owner)) (Number number) ∷ [] → Told shown code t.world.capacity t s p owner number bound (after_turn t turn).world.latest → CountsRight p owner bound number t (after_turn t turn)
+  right : (p owner number bound : ℕ) → (after_turn t turn).events ≡ t.events ++ Finished p (Container (Find owner)) (Number number) ∷ [] → Told shown code t.world.capacity t s p owner number bound (after_turn t turn).world.latest → CountsRight p owner bound number t.events (after_turn t turn)
   right p owner number bound is told =
       (told.0, λ proper. told.1 (subst (IsProperSoFar (after_turn t turn).world.latest) is (proper_so_far (after_turn t turn) proper)))
 
-  pub finds_all : FindsAll t turn (after_turn t turn)
-  finds_all p owner number is ne =
+  pub counts_all : (p owner number : ℕ) → (after_turn t turn).events ≡ t.events ++ Finished p (Container (Find owner)) (Number number) ∷ [] → turn ≢ Decide p false → CountsRight p owner t.world.capacity number t.events (after_turn t turn)
+  counts_all p owner number is ne =
       right p owner number t.world.capacity is (tells shown code t.world.capacity t s p owner number turn r (append_cancel_left t.events (events_of t.world turn) _ is) ne)
 
-  pub finds_up_to : FindsUpTo t turn (after_turn t turn)
-  finds_up_to p owner number index value is stops asks =
+  pub counts_up_to : (p owner number index : ℕ) (value : T) → (after_turn t turn).events ≡ t.events ++ Finished p (Container (Find owner)) (Number number) ∷ [] → turn ≡ Decide p false → question_at t p ≡ Some (index, value) → CountsRight p owner (index + 1) number t.events (after_turn t turn)
+  counts_up_to p owner number index value is stops asks =
       right p owner number (index + 1) is
       (subst (λ u. Told shown code t.world.capacity t s p owner number (index + 1) (after_turn t u).world.latest) (sym stops)
       (stop_tells shown code t.world.capacity t s p owner number index value (passes t.world turn r).turns (party_of p t.world.latest) refl asks

@@ -1,5 +1,5 @@
 -- The definitions of the container at worked runs, of values of two words.
-use Rattle.std.proofs.Common.{◌≡◌, ℕ, ◌+◌, ◌-◌, ◌^◌, true, false, Option, Some, None, List, [], ◌∷◌, ◌++◌, refl}
+use Rattle.std.proofs.Common.{◌≡◌, ℕ, ◌+◌, ◌-◌, ◌^◌, true, false, Option, Some, None, List, [], ◌∷◌, ◌++◌, length, refl, ap, arith}
 use Rattle.steps.specs.declared.container.enums.ContainerRemoveError.TheVariants.{ContainerHandleNotOwnedByContainer}
 use Rattle.steps.specs.declared.container.state.ContainerState.{ContainerState}
 use Rattle.steps.specs.declared.indices.enums.ReleaseMode.{ReleaseMode}
@@ -16,11 +16,12 @@ use Rattle.model.specs.declared.turn.Refusal.TheVariants.{OwnerIsDead, OwnerLive
 use Rattle.model.specs.declared.turn.Turn.{Turn}
 use Rattle.model.specs.declared.turn.Turn.TheVariants.{Begin, Next, Decide, Die}
 use Rattle.model.specs.Families.Container.Looks.{state_in, shows}
-use Rattle.model.specs.Families.Container.Promises.{ContainsRight, question_in}
+use Rattle.model.specs.Families.Container.Promises.{ContainsRight, FindsUpTo}
+use Rattle.model.specs.Families.Container.Questions.{question_at, WritesRight, YesTells}
 use Rattle.model.specs.Families.Container.Reading.{Hides}
 use Rattle.model.specs.Families.Container.Spans.{HasDone}
 use Rattle.model.specs.Refusals.{refusal_of}
-use Rattle.model.specs.World.{Trace, flight_in, progress_in}
+use Rattle.model.specs.World.{Trace, progress_in}
 use Rattle.model.proofs.Runs.{two_words, nexts, begins, ran}
 
 abbrev add : ℕ → ℕ → Start ℕ
@@ -281,7 +282,7 @@ question = begins 0 (add 5 1) 9 ++ begins 1 (find 1) 5
 pub question_is_due : refusal_of (ran_on 1 question).world (Next 1) ≡ Some Undecided
 question_is_due = refl
 
-pub question_is : question_in two_words (flight_in (ran_on 1 question).world 1) ≡ Some (0, 5)
+pub question_is : question_at (ran_on 1 question) 1 ≡ Some (0, 5)
 question_is = refl
 
 pub question_answered : (ran_on 1 (question ++ Decide 1 false ∷ [])).events
@@ -295,6 +296,33 @@ pub question_answered : (ran_on 1 (question ++ Decide 1 false ∷ [])).events
     ∷ Finished 1 (find 1) (Number 1)
     ∷ []
 question_answered = refl
+
+-- ---- turns of a find and of a recovery that the definitions refuse
+
+same_is_more : (n : ℕ) → n ≡ n + 1 → ⊥
+same_is_more n e = absurd (omega arith)
+
+-- a find that a no does not end
+pub no_deaf_find : FindsUpTo (ran_on 1 question) (Decide 1 false) (ran_on 1 question) → ⊥
+no_deaf_find h = same_is_more 7 (ap length (h 1 1 refl (refl, tt)).ends)
+
+abbrev copying : Trace ℕ
+copying = ran_on 1 (begins 0 (add 5 1) 9 ++ begins 1 (find 1) 4)
+
+-- one that copies a value and does not ask about it
+pub no_silent_find : WritesRight copying (Next 1) copying (Copied 1 0 5) → ⊥
+no_silent_find h = let asks = h.1 in absurd (cc)
+
+abbrev asking : Trace ℕ
+asking = ran_on 1 (begins 0 (add 5 1) 9 ++ Die 1 ∷ begins 1 (recover 1) 6)
+
+-- a recovery that is told nothing by a yes
+pub no_deaf_recovery : YesTells asking (Decide 1 true) asking → ⊥
+no_deaf_recovery h = same_is_more 9 (ap length (h 1 1 Default refl (refl, tt)).is)
+
+-- and one that is told by its next step
+pub no_late_told : WritesRight asking (Next 1) asking (Told 1 0 1) → ⊥
+no_late_told h = absurd (cc)
 
 -- ---- refusals, and what is none
 

@@ -5,6 +5,7 @@ pub mod Calls
 pub mod Looks
 pub mod Opening
 pub mod Promises
+pub mod Questions
 pub mod Reading
 pub mod Removals
 pub mod Spans

@@ -3,8 +3,6 @@ use Rattle.std.specs.Prelude.{◌≡◌, ◌≢◌, ◌⊎◌, ℕ, ◌+◌, ◌
 use Rattle.steps.specs.Container.Layout.{count_word, element_word, is_even}
 use Rattle.steps.specs.declared.ask.Ask.{Ask}
 use Rattle.steps.specs.declared.container.enums.ContainerAddFailure.TheVariants as failures
-use Rattle.steps.specs.declared.container.find.FindStage as find_stages
-use Rattle.steps.specs.declared.container.recover.RecoverStage as recover_stages
 use Rattle.steps.specs.declared.container.state.ContainerState.{ContainerState}
 use Rattle.steps.specs.declared.indices.enums.ReleaseMode.TheVariants.{LockIfLastIndex}
 use Rattle.steps.specs.declared.indices.enums.ReleaseState.TheVariants as locks
@@ -15,32 +13,29 @@ use Rattle.model.specs.declared.event.Event.{Event}
 use Rattle.model.specs.declared.event.Event.TheVariants.{FreedOf, Asked, Told, Placed, Hidden, Copied, Shown, Finished}
 use Rattle.model.specs.declared.event.Start.{Start}
 use Rattle.model.specs.declared.event.Start.TheVariants.{Container}
-use Rattle.model.specs.declared.families.Flight.{Flight}
-use Rattle.model.specs.declared.families.Flight.TheVariants as flights
 use Rattle.model.specs.declared.families.Kept.{Kept}
 use Rattle.model.specs.declared.families.Kept as kepts
 use Rattle.model.specs.declared.families.container.ContainerStart.{ContainerStart}
 use Rattle.model.specs.declared.families.container.ContainerStart.TheVariants.{Add, Remove, Replace, Find, Recover, Len, IsEmpty, IsLocked}
-use Rattle.model.specs.declared.families.container.calls.ContainerFlight.TheVariants as calls
 use Rattle.model.specs.declared.party.Party.{Party}
 use Rattle.model.specs.declared.turn.Turn.{Turn}
 use Rattle.model.specs.declared.turn.Turn.TheVariants.{Decide}
 use Rattle.model.specs.Coding.{Coding}
 use Rattle.model.specs.Families.Container.Bounds.{most_steps}
-use Rattle.model.specs.Families.Container.Looks.{state_in, WasCopied, ShowsCopies, IsCurrent, AnswersOfState, MomentsOfState, EndsLook}
+use Rattle.model.specs.Families.Container.Looks.{state_in, ShowsCopies, IsCurrent, AnswersOfState, MomentsOfState, EndsLook}
+use Rattle.model.specs.Families.Container.Questions.{question_at, AsksCopies, QuestionsRight, EndsFind}
 use Rattle.model.specs.Families.Container.Reading.{contents_of, MayReplace, Copies, Sees, acts, acts_of, places, Has}
 use Rattle.model.specs.Families.Container.Removals.{HidesRight}
 use Rattle.model.specs.Families.Container.Spans.{may_stand, HasDone}
 use Rattle.model.specs.Families.Indices.Reading.{is_locked}
 use Rattle.model.specs.Families.Indices.Robust.Dead.{has_died}
-use Rattle.model.specs.Families.Indices.Robust.Promises.{cell_of, IsFilled, IsFilledWith, IsUnlocked, HeldThrough, SetDoes, FreesRight, HoldsRight, IsCount, FilledSinceFreed, StillToFree}
-use Rattle.model.specs.Families.Indices.Robust.Reading.{filled_of, is_dead, Frees, Asks, Yes, deeds, deeds_of, IsOneOf}
-use Rattle.model.specs.Families.Queues.Calls.{read_in}
+use Rattle.model.specs.Families.Indices.Robust.Promises.{cell_of, IsFilled, IsFilledWith, IsUnlocked, HeldThrough, SetDoes, FreesRight, HoldsRight, IsCount, FilledSinceFreed, StillToFree, IsIn}
+use Rattle.model.specs.Families.Indices.Robust.Reading.{filled_of, is_dead, Asks, Yes, deeds, deeds_of, IsOneOf}
 use Rattle.model.specs.Moments.{HeldOnce}
 use Rattle.model.specs.Parties.{party_of}
 use Rattle.model.specs.Promise.{Promise}
 use Rattle.model.specs.Reading.{Each, Span, Open, span_of}
-use Rattle.model.specs.World.{Trace, flight_in}
+use Rattle.model.specs.World.{Trace}
 
 module _ {T : Type 0} where
   -- ---- a proper run
@@ -203,31 +198,6 @@ module _ {T : Type 0} where
     pub hidden : Each HidesRight t.events
     pub elements : HasElements t
 
-  -- ---- questions
-
-  -- the index and the value that a call asks about
-  abbrev pub find_question : Coding T → find_stages.FindStage → T → Option (ℕ × T)
-  find_question code (find_stages.TheVariants.Asks index found) value = Some (index, value)
-  find_question code stage value = None
-
-  abbrev pub recover_question : Coding T → recover_stages.RecoverStage → T → Option (ℕ × T)
-  recover_question code (recover_stages.TheVariants.Asks index count) value = Some (index, value)
-  recover_question code stage value = None
-
-  abbrev pub question_in : Coding T → Option (Flight T) → Option (ℕ × T)
-  question_in code (Some (flights.Container (calls.Find run))) =
-      find_question code run.call.stage (read_in code run.room)
-  question_in code (Some (flights.Container (calls.Recover run))) =
-      recover_question code run.call.stage (read_in code run.room)
-  question_in code flight = None
-
-  -- each value that is put to a question was copied by its party, from its index
-  abbrev pub AsksCopies : Trace T → Type 0
-  AsksCopies t =
-      (p index : ℕ) (value : T)
-      → question_in t.world.coding (flight_in t.world p) ≡ Some (index, value)
-      → WasCopied p index value t.events
-
   -- ---- what the words say, and what is kept beside them
 
   -- the machine refuses as dead whoever has died by the events
@@ -259,27 +229,33 @@ module _ {T : Type 0} where
         → HeldThrough p (λ part. is_some (contents_of index part) ≡ true) events
         → (value : T) × Has (Copies index value) (acts_of p events)
 
-  abbrev pub CountsRight : ℕ → ℕ → ℕ → ℕ → Trace T → Trace T → Type 0
-  CountsRight p owner bound number old new =
-      IsCount p (IsFilledWith owner) bound number old.events
-      × (IsProperRun new → IsFoundWhole p owner bound number old.events)
+  abbrev pub CountsRight : ℕ → ℕ → ℕ → ℕ → List (Event T) → Trace T → Type 0
+  CountsRight p owner bound number events new =
+      IsCount p (IsFilledWith owner) bound number events
+      × (IsProperRun new → IsFoundWhole p owner bound number events)
 
   -- a find that ends in another turn than a no has come to the indices of the whole container
   abbrev pub FindsAll : Trace T → Turn T → Trace T → Type 0
   FindsAll old turn new =
-      (p owner number : ℕ)
-      → new.events ≡ old.events ++ Finished p (Container (Find owner)) (Number number) ∷ []
+      (p owner number : ℕ) (ends : EndsFind p owner number old new)
       → turn ≢ Decide p false
-      → CountsRight p owner old.world.capacity number old new
+      → CountsRight p owner old.world.capacity number (old.events ++ ends.wrote) new
 
-  -- and one that a no ends, to those up to the index that it asked about
+  -- a find that a no has ended has come to those up to the one that it asked about
+  pub record IsStopped (p owner : ℕ) (old new : Trace T) : Type 0 where
+    pub index : ℕ
+    pub value : T
+    pub number : ℕ
+    pub asked : question_at old p ≡ Some (index, value)
+    pub ends : new.events
+        ≡ old.events ++ Finished p (Container (Find owner)) (Number number) ∷ []
+    pub counts : CountsRight p owner (index + 1) number old.events new
+
+  -- a no ends a find so
   abbrev pub FindsUpTo : Trace T → Turn T → Trace T → Type 0
   FindsUpTo old turn new =
-      (p owner number index : ℕ) (value : T)
-      → new.events ≡ old.events ++ Finished p (Container (Find owner)) (Number number) ∷ []
-      → turn ≡ Decide p false
-      → question_in old.world.coding (flight_in old.world p) ≡ Some (index, value)
-      → CountsRight p owner (index + 1) number old new
+      (p owner : ℕ) → turn ≡ Decide p false → IsIn p (Container (Find owner)) old
+      → IsStopped p owner old new
 
   -- a look that ends: its state by its answer, and in a proper run by what stands
   abbrev pub LooksRight : Trace T → Turn T → Trace T → Type 0
@@ -301,6 +277,7 @@ module _ {T : Type 0} where
   pub record TellsRight (old : Trace T) (turn : Turn T) (new : Trace T) : Type 0 where
     pub finds : FindsAll old turn new
     pub finds_up_to : FindsUpTo old turn new
+    pub questions : QuestionsRight old turn new
     pub looks : LooksRight old turn new
     pub leaves : LeavesState old turn new
 

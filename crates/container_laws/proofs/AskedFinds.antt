@@ -1,0 +1,110 @@
+-- A find that ends writes nothing else in that turn, and where no no ends it, it has come to the indices of the whole container.
+use Rattle.std.proofs.Common.{◌≡◌, ℕ, ◌+◌, ◌==◌, ⊎_elim, if◌then◌else◌, Bool, true, false, Option, Some, None, List, [], ◌∷◌, ◌++◌, refl, sym, ap, subst, ◌∙◌, append-nil}
+use Rattle.std.proofs.lemmas.List.{append_cancel_left}
+use Rattle.steps.specs.declared.ask.After.TheVariants.{GoOn}
+use Rattle.steps.specs.declared.container.find.FindStage.{FindStage}
+use Rattle.steps.specs.declared.container.find.FindStage as finds
+use Rattle.steps.specs.declared.container.state.ContainerState.{ContainerState}
+use Rattle.steps.specs.declared.copied.Kept as rooms
+use Rattle.steps.specs.Container.Find.{find_comes_to}
+use Rattle.steps.specs.Routine.{went_on}
+use Rattle.model.specs.declared.event.Answer.{Answer}
+use Rattle.model.specs.declared.event.Answer.TheVariants.{Number}
+use Rattle.model.specs.declared.event.Event.{Event}
+use Rattle.model.specs.declared.event.Event.TheVariants.{Copied, Finished}
+use Rattle.model.specs.declared.event.Start.TheVariants.{Container}
+use Rattle.model.specs.declared.families.container.ContainerStart.TheVariants as starts
+use Rattle.model.specs.declared.families.container.calls.ContainerFlight.{ContainerFlight}
+use Rattle.model.specs.declared.families.container.calls.ContainerFlight.TheVariants.{Find}
+use Rattle.model.specs.declared.turn.Turn.{Turn}
+use Rattle.model.specs.Coding.{Coding}
+use Rattle.model.specs.Families.Container.Calls.{after}
+use Rattle.model.specs.Families.Container.Promises.{CountsRight, FindsAll}
+use Rattle.model.specs.Families.Container.Reading.{acts_of}
+use Rattle.model.specs.Families.Container.States.{state_of}
+use Rattle.model.specs.Families.Container.Steps.{effects, questions}
+use Rattle.model.specs.Families.Indices.Robust.Reading.{deeds_of}
+use Rattle.model.specs.Families.Queues.Calls.{as_it_is, read_in}
+use Rattle.model.specs.Refusals.{refusal_of}
+use Rattle.model.specs.Step.{as_call, answer_in}
+use Rattle.model.specs.Turns.{ending_of, events_of, after_turn}
+use Rattle.model.specs.World.{Trace}
+use Rattle.model.proofs.Frame as frame
+use Rattle.model.proofs.Readings.{no_more}
+use Rattle.model.proofs.Rows.{passes}
+use Rattle.container_laws.proofs.AskedTurn.{GoesOn, IsCalm, IsGoing, any_turn}
+use Rattle.container_laws.proofs.Invariant.{family}
+use Rattle.container_laws.proofs.LooksTell.{container_is, ends_last}
+use Rattle.container_laws.proofs.Sound.{Shown}
+use Rattle.container_laws.proofs.Stages.{any_call}
+use Rattle.container_laws.proofs.Standing.{find_at, At}
+use Rattle.container_laws.proofs.Tells.{counts_all}
+use Rattle.container_laws.proofs.Written.{all_effects}
+
+-- ---- the step that ends a find
+
+module _ {T : Type 0} (code : Coding T) (q : ℕ) (state : Option (ContainerState T)) (answer : Answer T) where
+  abbrev Silent : ContainerFlight T → ℕ → Type 0
+  Silent flight old = answer_in (any_call (after code state flight old)) ≡ Some answer → effects code q state flight old ++ questions q flight old ≡ []
+
+  stage_silent : (c owner : ℕ) (room : rooms.Kept 128) (stage : FindStage) (old : ℕ) → Silent (find_at c owner room stage) old
+  stage_silent c owner room (finds.TheVariants.LoadsCell k found) old e = refl
+  stage_silent c owner room (finds.TheVariants.LoadsCount k found) old e = refl
+  stage_silent c owner room (finds.TheVariants.LoadsWord k found count at) old e = refl
+  stage_silent c owner room (finds.TheVariants.ChecksCount k found count) old e = go (old == count) e
+    where
+      go : (b : Bool)
+          → answer_in
+          (any_call
+          (as_call Find Number
+          (went_on as_it_is owner room
+          (if b then GoOn (record { capacity = c; stage = finds.TheVariants.Asks k found; of = record {} }) else find_comes_to (record { capacity = c; stage = finds.TheVariants.ChecksCount k found count; of = record {} }) (k + 1) found))))
+          ≡ Some answer
+          → (if b then Copied q k (read_in code room) ∷ [] else []) ++ [] ≡ []
+      go true e = absurd (cc)
+      go false e = refl
+  stage_silent c owner room (finds.TheVariants.Asks k found) old e = refl
+
+-- a list that is one event and ends with one has no other
+only_one : {A : Type 0} → (x y : A) (before : List A) → x ∷ [] ≡ before ++ y ∷ [] → before ≡ []
+only_one x y [] e = refl
+only_one x y (z ∷ zs) e = let none : [] ≡ zs ++ y ∷ [] = cc in absurd (no_more zs y [] none)
+
+module _ {T : Type 0} (shown : Shown T) (code : Coding T) (t : Trace T) (s : frame.Sound (family code t.world.capacity) t) (turn : Turn T) (r : refusal_of t.world turn ≡ None) (p owner number : ℕ) where
+  abbrev c : ℕ
+  c = t.world.capacity
+
+  abbrev last : Event T
+  last = Finished p (Container (starts.Find owner)) (Number number)
+
+  silent_there : (q old : ℕ) (flight : ContainerFlight T) → At c code.size (deeds_of q t.events) (acts_of q t.events) (starts.Find owner) flight → Silent code q (state_of q s.state.states) (Number number) flight old
+  silent_there q old (Find run) at = stage_silent code q (state_of q s.state.states) (Number number) run.call.capacity run.given run.room run.call.stage old
+  silent_there q old flight at = absurd at
+
+  ends_alone : (wrote : List (Event T)) → events_of t.world turn ≡ wrote ++ Finished p (Container (starts.Find owner)) (Number number) ∷ [] → wrote ≡ []
+  ends_alone wrote e =
+      ⊎_elim
+      (λ (calm : IsCalm shown code c t s (passes t.world turn r).turns turn). absurd (calm.ends_none p (Container (starts.Find owner)) (Number number) wrote e))
+      (λ (going : IsGoing shown code c t s (passes t.world turn r).turns turn). by going.party going.goes)
+      (any_turn shown code c t s (passes t.world turn r).turns turn r)
+    where
+      by : (q : ℕ) → GoesOn shown code c t s (passes t.world turn r).turns turn q → wrote ≡ []
+      by q g =
+          let state = state_of q s.state.states in
+          let did = effects code q state g.flight g.answer ++ questions q g.flight g.answer in
+          let outcome = answer_in (any_call (after code state g.flight g.answer)) in
+          let whole : did ++ ending_of q (Container g.start) outcome ≡ wrote ++ last ∷ [] = sym g.wrote ∙ e in
+          let end = ends_last turn q p did (Container g.start) (Container (starts.Find owner)) outcome (Number number) wrote (all_effects turn q g.mine code state g.flight g.answer) whole in
+          let name = container_is g.start (starts.Find owner) end.name in
+          let at = subst (λ a. At c code.size (deeds_of q t.events) (acts_of q t.events) a g.flight) name g.at in
+          let nothing : did ≡ [] = silent_there q g.answer g.flight at end.done in
+          only_one (Finished q (Container g.start) (Number number)) last wrote
+          (sym (ap (λ es. es ++ ending_of q (Container g.start) outcome) nothing ∙ ap (λ o. ending_of q (Container g.start) o) end.done) ∙ whole)
+
+module _ {T : Type 0} (shown : Shown T) (code : Coding T) (t : Trace T) (s : frame.Sound (family code t.world.capacity) t) (turn : Turn T) (r : refusal_of t.world turn ≡ None) where
+  pub finds_all : FindsAll t turn (after_turn t turn)
+  finds_all p owner number ends ne =
+      let none = ends_alone shown code t s turn r p owner number ends.wrote (append_cancel_left t.events (events_of t.world turn) _ ends.is) in
+      let alone = subst (λ w. (after_turn t turn).events ≡ t.events ++ (w ++ Finished p (Container (starts.Find owner)) (Number number) ∷ [])) none ends.is in
+      subst (λ w. CountsRight p owner t.world.capacity number (t.events ++ w) (after_turn t turn)) (sym none)
+      (subst (λ es. CountsRight p owner t.world.capacity number es (after_turn t turn)) (sym (append-nil t.events)) (counts_all shown code t s turn r p owner number alone ne))

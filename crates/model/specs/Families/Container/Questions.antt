@@ -1,0 +1,141 @@
+-- What a find and a recovery ask about, and what becomes of the answer.
+use Rattle.std.specs.Prelude.{◌≡◌, ◌≢◌, ℕ, Bool, true, false, Option, Some, None, List, [], ◌∷◌, ◌++◌}
+use Rattle.std.specs.List.{AllByRecursion}
+use Rattle.steps.specs.declared.container.find.FindStage as find_stages
+use Rattle.steps.specs.declared.container.recover.RecoverStage as recover_stages
+use Rattle.steps.specs.declared.indices.enums.ReleaseMode.{ReleaseMode}
+use Rattle.model.specs.declared.event.Answer.TheVariants.{Number}
+use Rattle.model.specs.declared.event.Event.{Event}
+use Rattle.model.specs.declared.event.Event.TheVariants.{Told, Copied, Shown, Finished}
+use Rattle.model.specs.declared.event.Start.TheVariants.{Container}
+use Rattle.model.specs.declared.families.Flight.{Flight}
+use Rattle.model.specs.declared.families.Flight.TheVariants as flights
+use Rattle.model.specs.declared.families.container.ContainerStart.TheVariants.{Find, Recover}
+use Rattle.model.specs.declared.families.container.calls.ContainerFlight.TheVariants as calls
+use Rattle.model.specs.declared.turn.Turn.{Turn}
+use Rattle.model.specs.declared.turn.Turn.TheVariants.{Decide}
+use Rattle.model.specs.Coding.{Coding}
+use Rattle.model.specs.Families.Container.Reading.{Copies, acts_of, HasLatest}
+use Rattle.model.specs.Families.Indices.Robust.Promises.{IsFilledWith, IsIn}
+use Rattle.model.specs.Families.Queues.Calls.{read_in}
+use Rattle.model.specs.Moments.{HeldOnce}
+use Rattle.model.specs.Reading.{Span, Open, span_of}
+use Rattle.model.specs.World.{Trace, flight_in}
+
+module _ {T : Type 0} where
+  -- ---- the question that is put
+
+  -- the index and the value that a call asks about
+  abbrev pub find_question : Coding T → find_stages.FindStage → T → Option (ℕ × T)
+  find_question code (find_stages.TheVariants.Asks index found) value = Some (index, value)
+  find_question code stage value = None
+
+  abbrev pub recover_question : Coding T → recover_stages.RecoverStage → T → Option (ℕ × T)
+  recover_question code (recover_stages.TheVariants.Asks index count) value = Some (index, value)
+  recover_question code stage value = None
+
+  abbrev pub question_in : Coding T → Option (Flight T) → Option (ℕ × T)
+  question_in code (Some (flights.Container (calls.Find run))) =
+      find_question code run.call.stage (read_in code run.room)
+  question_in code (Some (flights.Container (calls.Recover run))) =
+      recover_question code run.call.stage (read_in code run.room)
+  question_in code flight = None
+
+  -- the question on whose answer the party's call waits
+  abbrev pub question_at : Trace T → ℕ → Option (ℕ × T)
+  question_at t p = question_in t.world.coding (flight_in t.world p)
+
+  -- it is about a value that the very call has copied, and nothing since
+  abbrev pub AsksCopies : Trace T → Type 0
+  AsksCopies t =
+      (p index : ℕ) (value : T) → question_at t p ≡ Some (index, value)
+      → HasLatest (Copies index value) (acts_of p t.events)
+
+  -- ---- what a turn writes of it
+
+  -- a find and a recovery come to indices that were their owner's at a moment of the call
+  abbrev pub WasOwners : ℕ → ℕ → List (Event T) → Span T → Type 0
+  WasOwners p index before (Open (Container (Find owner)) wrote) =
+      HeldOnce p (IsFilledWith owner index) before
+  WasOwners p index before (Open (Container (Recover owner mode)) wrote) =
+      HeldOnce p (IsFilledWith owner index) before
+  WasOwners p index before span = Unit {0}
+
+  -- and ask at once about what they copy there
+  abbrev pub AsksAtOnce : ℕ → ℕ → T → Trace T → Span T → Type 0
+  AsksAtOnce p index value new (Open (Container (Find owner)) wrote) =
+      question_at new p ≡ Some (index, value)
+  AsksAtOnce p index value new (Open (Container (Recover owner mode)) wrote) =
+      question_at new p ≡ Some (index, value)
+  AsksAtOnce p index value new span = Unit {0}
+
+  -- what it is told, it is told by a yes
+  abbrev pub WritesRight : Trace T → Turn T → Trace T → Event T → Type 0
+  WritesRight old turn new (Copied p index value) =
+      WasOwners p index old.events (span_of p old.events)
+      × AsksAtOnce p index value new (span_of p old.events)
+  WritesRight old turn new (Shown p index) =
+      WasOwners p index old.events (span_of p old.events)
+  WritesRight old turn new (Told p index owner) = turn ≡ Decide p true
+  WritesRight old turn new e = Unit {0}
+
+  -- so it is with all that the turn has written
+  pub record AllRight (old : Trace T) (turn : Turn T) (new : Trace T) : Type 0 where
+    pub wrote : List (Event T)
+    pub is : new.events ≡ old.events ++ wrote
+    pub right : AllByRecursion (WritesRight old turn new) wrote
+
+  -- the turn has written this
+  pub record HasWritten (e : Event T) (old new : Trace T) : Type 0 where
+    pub before : List (Event T)
+    pub after : List (Event T)
+    pub is : new.events ≡ old.events ++ (before ++ e ∷ after)
+
+  -- a question comes in the turn that copies its value, and in no other
+  abbrev pub AsksOnce : Trace T → Trace T → Type 0
+  AsksOnce old new =
+      (p index : ℕ) (value : T) → question_at new p ≡ Some (index, value)
+      → question_at old p ≢ Some (index, value)
+      → HasWritten (Copied p index value) old new
+
+  -- ---- what becomes of the answer
+
+  -- no question is left after it
+  abbrev pub IsAnswered : Turn T → Trace T → Type 0
+  IsAnswered turn new =
+      (p : ℕ) (said : Bool) → turn ≡ Decide p said → question_at new p ≡ None
+
+  -- a yes tells a recovery to free the index that it asked about, and the turn writes nothing else
+  pub record IsTold (p owner : ℕ) (old new : Trace T) : Type 0 where
+    pub index : ℕ
+    pub value : T
+    pub asked : question_at old p ≡ Some (index, value)
+    pub is : new.events ≡ old.events ++ Told p index owner ∷ []
+
+  abbrev pub YesTells : Trace T → Turn T → Trace T → Type 0
+  YesTells old turn new =
+      (p owner : ℕ) (mode : ReleaseMode) → turn ≡ Decide p true
+      → IsIn p (Container (Recover owner mode)) old
+      → IsTold p owner old new
+
+  -- and a no writes nothing
+  abbrev pub NoTells : Trace T → Turn T → Trace T → Type 0
+  NoTells old turn new =
+      (p owner : ℕ) (mode : ReleaseMode) → turn ≡ Decide p false
+      → IsIn p (Container (Recover owner mode)) old
+      → new.events ≡ old.events
+
+  pub record QuestionsRight (old : Trace T) (turn : Turn T) (new : Trace T) : Type 0 where
+    pub writes : AllRight old turn new
+    pub once : AsksOnce old new
+    pub answered : IsAnswered turn new
+    pub yes : YesTells old turn new
+    pub no : NoTells old turn new
+
+  -- ---- the end of a find
+
+  -- the turn in which a party's find ends
+  pub record EndsFind (p owner number : ℕ) (old new : Trace T) : Type 0 where
+    pub wrote : List (Event T)
+    pub is : new.events
+        ≡ old.events ++ (wrote ++ Finished p (Container (Find owner)) (Number number) ∷ [])
