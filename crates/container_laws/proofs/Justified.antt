@@ -32,6 +32,8 @@ use Rattle.model.proofs.Orders.{Orders, Keeps, ends_end, turn_is}
 use Rattle.model.proofs.Scenes.{stands_there}
 use Rattle.container_laws.proofs.Invariant.{ContainerNow, Fit, family}
 use Rattle.container_laws.proofs.Kept.{kept}
+use Rattle.container_laws.proofs.KeptStates.{keeps_states}
+use Rattle.container_laws.proofs.KeptVisits.{visits_unlocked}
 use Rattle.container_laws.proofs.Sound.{Shown, kept_is, kept_now, reached_sound}
 use Rattle.container_laws.proofs.Stages.{any_call}
 use Rattle.container_laws.proofs.Tells.{finds_all, finds_up_to}
@@ -102,6 +104,8 @@ module _ {T : Type 0} (shown : Shown T) (looks : LooksShown T) where
                 finds_up_to = finds_up_to shown code t h turn e;
                 looks = looks.right code t turn e h;
                 leaves = looks.leaves code t turn e h;
+                states = keeps_states shown code t turn e h;
+                visits = visits_unlocked shown code t turn e h;
               }
 
   -- what is proved of every run of the container

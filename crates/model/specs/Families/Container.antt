@@ -2,10 +2,12 @@
 -- its steps write down, and what it promises.
 pub mod Bounds
 pub mod Calls
+pub mod Keeping
 pub mod Looks
 pub mod Opening
 pub mod Promises
 pub mod Reading
+pub mod Recoveries
 pub mod Spans
 pub mod States
 pub mod Steps
