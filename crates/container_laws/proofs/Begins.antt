@@ -38,11 +38,13 @@ use Rattle.robust_laws.proofs.Invariant as set
 use Rattle.robust_laws.proofs.Past.{since_begun}
 use Rattle.robust_laws.proofs.Rights.{IsBy, AreOwned}
 use Rattle.container_laws.proofs.Invariant.{Scene, Elements, Changes, Does, before, after, of_set, view}
+use Rattle.container_laws.proofs.KeptCopies.{name_of}
 use Rattle.container_laws.proofs.Knows.{View, Knows, IsPaid, RemoveKnows, ReplacesKnow, LookRests}
 use Rattle.container_laws.proofs.Left.{left_after, left_of}
 use Rattle.container_laws.proofs.Proper.{proper_before}
 use Rattle.container_laws.proofs.Replaces.{replace_begun}
 use Rattle.container_laws.proofs.SetBegins.{begins, takes_right}
+use Rattle.container_laws.proofs.Opening.{shows_same}
 use Rattle.container_laws.proofs.Sights.{Rests, rests_later}
 use Rattle.container_laws.proofs.Sound.{first_party, Begins}
 use Rattle.container_laws.proofs.Standing.{At, RemoveAt, ReplaceAt}
@@ -235,11 +237,12 @@ module _ {T : Type 0} (scene : Scene T) (g : set.Good scene.capacity scene.words
 
   -- a look's state
   new_state : (start : ContainerStart T) → LookRests code c (view scene.words (with_state p (fresh code c) scene.states) (put p (y start) latest) (events ++ begun start) p changes changes 0)
-  new_state start = record { state = fresh code c; found = found_put_same p (fresh code c) scene.states; rests = rests_later code c m (m' start) (begun start) refl (passes start) p (fresh code c) (h.fresh p) }
+  new_state start = record { state = fresh code c; found = found_put_same p (fresh code c) scene.states; rests = rests_later code c m (m' start) (begun start) refl (passes start) p (fresh code c) (h.fresh p); own = λ getting i value ne is. let none : None ≡ Some value = sym (shows_same _ c i) ∙ is in absurd (cc) }
 
-  old_state : (start : ContainerStart T) (o : Option (ContainerState T)) → state_of p scene.states ≡ o → LookRests code c (view scene.words (if is_some o then scene.states else with_state p (fresh code c) scene.states) (put p (y start) latest) (events ++ begun start) p changes changes 0)
-  old_state start None e = new_state start
-  old_state start (Some s) e = record { state = s; found = e; rests = still_rests start s e }
+  old_state : (start : ContainerStart T) → start ≢ starts.TheVariants.GetState → (o : Option (ContainerState T)) → state_of p scene.states ≡ o → LookRests code c (view scene.words (if is_some o then scene.states else with_state p (fresh code c) scene.states) (put p (y start) latest) (events ++ begun start) p changes changes 0)
+  old_state start other None e = new_state start
+  old_state start other (Some s) e =
+      record { state = s; found = e; rests = still_rests start s e; own = λ getting. let name : Some (Container start) ≡ Some (Container starts.TheVariants.GetState) = sym (ap name_of (span_begun start)) ∙ getting in absurd (other (cc)) }
 
   at_first : (start : ContainerStart T) → names_owner start ≡ true → At c code.size [] [] start (first c start)
   at_first (starts.TheVariants.Add value owner) named = (refl, refl, is_below owner named, (refl, refl))
@@ -273,13 +276,14 @@ module _ {T : Type 0} (scene : Scene T) (g : set.Good scene.capacity scene.words
               (λ (told : IsOneOf (Yes i owner) (deeds_of p (events ++ begun start))). none_of (Yes i owner) (deeds_of p (events ++ begun start)) told.before told.after (no_deeds start) told.is)
               (λ (seen : WasShown p i (events ++ begun start)). none_of (Sees i) (acts_of p (events ++ begun start)) seen.before seen.after (no_acts start) seen.is),
         ),
+        tt,
       )
     where
       is_dead_by : (b : Bool) → not b ≡ false → b ≡ true
       is_dead_by true e = refl
       is_dead_by false e = absurd (cc)
   knows_first starts.TheVariants.GetState r = (paid starts.TheVariants.GetState, new_state starts.TheVariants.GetState)
-  knows_first starts.TheVariants.UpdateState r = (paid starts.TheVariants.UpdateState, old_state starts.TheVariants.UpdateState (state_of p scene.states) refl)
+  knows_first starts.TheVariants.UpdateState r = (paid starts.TheVariants.UpdateState, old_state starts.TheVariants.UpdateState (λ e. cc) (state_of p scene.states) refl)
   knows_first starts.TheVariants.Len r = record { paid = paid starts.TheVariants.Len; scanned = tt; owns = tt; says = tt; gone = tt }
   knows_first starts.TheVariants.IsEmpty r = record { paid = paid starts.TheVariants.IsEmpty; scanned = tt; owns = tt; says = tt; gone = tt }
   knows_first starts.TheVariants.IsLocked r = record { paid = paid starts.TheVariants.IsLocked; scanned = tt; owns = tt; says = tt; gone = tt }

@@ -15,6 +15,7 @@ use Rattle.model.specs.Families.Container.Reading.{contents_of}
 use Rattle.model.specs.Families.Container.States.{settled}
 use Rattle.model.proofs.Moments.{held_now, held_so}
 use Rattle.robust_laws.proofs.Effects.{some_none}
+use Rattle.container_laws.proofs.KeptCopies.{IsGetting, HasCopied, ShowsOwn}
 use Rattle.container_laws.proofs.Sights.{number_in, number_at, Rests, Course}
 use Rattle.container_laws.proofs.Turns.{Owing, Now, Proper, count_in, change_in}
 
@@ -123,8 +124,8 @@ module _ {T : Type 0} where
 module _ {T : Type 0} (code : Coding T) (c : ℕ) (m : Now T) (p : ℕ) where
   -- ---- the look begins to go over the indices
 
-  pub course_first : (s : ContainerState T) (change : ℕ) → change ≡ change_in code c m → Rests code c m p s → Course code c m p (record s { shown = with_change s.shown change }) 0 c
-  course_first s change is h =
+  pub course_first : (s : ContainerState T) (change : ℕ) → change ≡ change_in code c m → Rests code c m p s → ShowsOwn p s c m.events → Course code c m p (record s { shown = with_change s.shown change }) 0 c
+  course_first s change is h own =
       record {
         sight =
             record {
@@ -142,6 +143,7 @@ module _ {T : Type 0} (code : Coding T) (c : ℕ) (m : Now T) (p : ℕ) where
         fresh = λ proper i low. absurd (omega arith);
         once = λ proper i low. absurd (omega arith);
         alone = λ was i low. absurd (omega arith);
+        own = own;
       }
 
   -- ---- at an index
@@ -201,10 +203,11 @@ module _ {T : Type 0} (code : Coding T) (c : ℕ) (m : Now T) (p : ℕ) where
             fresh = λ proper i less low stood. number_there i (λ e. absurd (omega arith)) ∙ h.fresh proper i less low stood;
             once = λ proper i less low. held_so p (λ part. shows s i ≡ contents_of i part) (λ part. shows s' i ≡ contents_of i part) m.events (λ part was. shown_there i (λ e. absurd (omega arith)) ∙ was) (h.once proper i less low);
             alone = λ was i less low. number_there i (λ e. absurd (omega arith)) ∙ h.alone was i less low;
+            own = λ getting i value ne is. let was = sym (shown_there i ne) ∙ is in h.own getting i value (apart i (within i value was) ne) was;
           }
 
     -- it is done with
-    module _ (apart : (i : ℕ) → i ≢ k → i ≢ c → i ≢ x) (copied : (value : T) → shows s' k ≡ Some value → WasCopied p k value m.events) (stands : Proper m → shows s' k ≡ contents_of k m.events) where
+    module _ (apart : (i : ℕ) → i ≢ k → i ≢ c → i ≢ x) (copied : (value : T) → shows s' k ≡ Some value → WasCopied p k value m.events) (stands : Proper m → shows s' k ≡ contents_of k m.events) (mine : IsGetting p m.events → (value : T) → shows s' k ≡ Some value → HasCopied p k value m.events) where
       abbrev Both : (ℕ → Type 0) → ℕ → Type 0
       Both P i = (i ≢ k → P i) → P k → P i
 
@@ -247,6 +250,9 @@ module _ {T : Type 0} (code : Coding T) (c : ℕ) (m : Now T) (p : ℕ) where
                 (cases_eq i k);
             alone = λ was i less low.
                 both (λ n. number_at s' n ≡ count_in code c m n) i (λ other. number_there i other ∙ h.alone was i (before_or i less other) low) number;
+            own = λ getting i value ne is.
+                both (λ n. shows s' n ≡ Some value → HasCopied p n value m.events) i
+                (λ other shown. h.own getting i value (apart i other ne) (sym (shown_there i other) ∙ shown)) (mine getting value) is;
           }
 
   -- ---- a word is read
@@ -270,6 +276,7 @@ module _ {T : Type 0} (code : Coding T) (c : ℕ) (m : Now T) (p : ℕ) where
         fresh = h.fresh;
         once = h.once;
         alone = h.alone;
+        own = h.own;
       }
 
   -- ---- the look has gone over all of them

@@ -34,6 +34,8 @@ use Rattle.container_laws.proofs.AskedAnswers.{finds_up_to, questions_right}
 use Rattle.container_laws.proofs.AskedFinds.{finds_all}
 use Rattle.container_laws.proofs.Invariant.{ContainerNow, Fit, family}
 use Rattle.container_laws.proofs.Kept.{kept}
+use Rattle.container_laws.proofs.KeptStates.{keeps_states}
+use Rattle.container_laws.proofs.KeptVisits.{visits_unlocked}
 use Rattle.container_laws.proofs.Sound.{Shown, kept_is, kept_now, reached_sound}
 use Rattle.container_laws.proofs.Stages.{any_call}
 use Rattle.container_laws.proofs.Written.{all_effects}
@@ -104,6 +106,8 @@ module _ {T : Type 0} (shown : Shown T) (looks : LooksShown T) where
                 questions = questions_right shown code t h turn e;
                 looks = looks.right code t turn e h;
                 leaves = looks.leaves code t turn e h;
+                states = keeps_states shown code t turn e h;
+                visits = visits_unlocked shown code t turn e h;
               }
 
   -- what is proved of every run of the container

@@ -1,5 +1,5 @@
 -- What a call of the container knows it knows still after any turn of another party.
-use Rattle.std.proofs.Common.{◌≡◌, ⊎_elim, inl, inr, ℕ, ◌+◌, ◌%◌, ◌<◌, ◌≤◌, Bool, false, true, is_some, List, [], ◌∷◌, ◌++◌, fold, refl, sym, ap, subst, ◌∙◌, arith}
+use Rattle.std.proofs.Common.{◌≡◌, ⊎_elim, inl, inr, ℕ, ◌+◌, ◌%◌, ◌<◌, ◌≤◌, Bool, false, true, is_some, None, List, [], ◌∷◌, ◌++◌, fold, refl, sym, ap, subst, ◌∙◌, arith}
 use Rattle.std.proofs.lemmas.List.Sums.{fold-append}
 use Rattle.steps.specs.declared.container.add.AddStage.{AddStage}
 use Rattle.steps.specs.declared.container.add.AddStage as adds
@@ -29,15 +29,16 @@ use Rattle.model.specs.declared.party.Party.{Party}
 use Rattle.model.specs.Coding.{Coding}
 use Rattle.model.specs.Families.Container.Promises.{StandsProper, WasShown, HasRecovered}
 use Rattle.model.specs.Families.Container.Reading.{MayReplace, Copies, Sees, Has, HasLatest, acts, acts_of, places, contents_of}
+use Rattle.model.specs.Families.Container.Recoveries.{UnlockedAtLast}
 use Rattle.model.specs.Families.Container.States.{state_of}
 use Rattle.model.specs.Families.Indices.Reading.{locked_after, is_locked}
 use Rattle.model.specs.Families.Indices.Robust.Promises.{IsFilledWith, IsUnlocked, FilledSinceFreed, StillToFree}
-use Rattle.model.specs.Families.Indices.Robust.Reading.{Asks, Yes, deeds_of, wrote_in, IsOneOf}
+use Rattle.model.specs.Families.Indices.Robust.Reading.{Frees, Asks, Yes, deeds_of, wrote_in, IsOneOf}
 use Rattle.model.specs.Families.Queues.Calls.{read_in}
 use Rattle.model.specs.Moments.{HeldOnce}
 use Rattle.model.specs.Parties.{party_of}
 use Rattle.model.specs.Reading.{span_of}
-use Rattle.model.proofs.Moments.{held_later}
+use Rattle.model.proofs.Moments.{held_later, held_so}
 use Rattle.robust_laws.proofs.Counting.{count_later}
 use Rattle.robust_laws.proofs.Knows.{Goes, Spares, IsSeen, knows_later, held_paid, still_scanned}
 use Rattle.robust_laws.proofs.Knows as set
@@ -46,8 +47,10 @@ use Rattle.robust_laws.proofs.Standing.{acquire_at, release_at, borrowed_at, loo
 use Rattle.container_laws.proofs.Contents.{writes_on}
 use Rattle.container_laws.proofs.HiddenKnows.{RecoverCovers, StillStands, HasHidden, no_index}
 use Rattle.container_laws.proofs.HiddenLater.{remove_covers, recover_covers, hidden_stands, hidden_later}
-use Rattle.container_laws.proofs.Knows.{View, of_set, now, IsPaid, Dead, Lives, WasFilled, AddOwns, HasFound, ReplaceKnows, Covers, Writes, HasPlaced, Stood, AddKnows, ReplacesKnow, RemoveSays, HasLeft, ReleaseHides, ReleaseLeft, RemoveKnows, Copying, HasCopied, CheckPaid, HasFoundBelow, Finds, Steady, FindKnows, AskedBelow, GoneBut, Recovers, RecoverSays, RecoverKnows, Looks, LookCopies, LookRests, LookKnows, Knows}
+use Rattle.container_laws.proofs.Knows.{View, of_set, now, IsPaid, Dead, Lives, WasFilled, AddOwns, HasFound, ReplaceKnows, Covers, Writes, HasPlaced, Stood, AddKnows, ReplacesKnow, RemoveSays, HasLeft, ReleaseHides, ReleaseLeft, RemoveKnows, Copying, HasCopied, CheckPaid, HasFoundBelow, Finds, Steady, FindKnows, AskedBelow, GoneBut, Recovers, RecoverSays, RecoverKnows, RecoverFills, Looks, LookCopies, LookRests, LookKnows, Knows}
 use Rattle.container_laws.proofs.Replaces.{ReplaceOwns, replace_later, add_later}
+use Rattle.container_laws.proofs.KeptCopies.{CallsOn, own_later, calls_same}
+use Rattle.container_laws.proofs.KeptLocks.{NoIndex, FilledBut, filled_then, each_later, says_later}
 use Rattle.container_laws.proofs.Sights.{StoodThere, rests_later, course_later}
 use Rattle.container_laws.proofs.Turns.{Now, Proper, count_in, Passes, Leaves}
 use Rattle.container_laws.proofs.Writers.{Replacing, IsWriter}
@@ -326,9 +329,31 @@ module _ {T : Type 0} (code : Coding T) (c : ℕ) (v : View T) (words' : List �
             (h.asked i (through_less q (StillToFree q owner i) events es spares.none through));
       }
 
-  recover_says : (owner : ℕ) (state : ReleaseState) → RecoverSays code c owner state v → RecoverSays code c owner state later
-  recover_says owner states.TheVariants.Locked h = shut_later events es h
-  recover_says owner states.TheVariants.Unlocked h = (goes.dead owner h.0, once IsUnlocked h.1, recovered owner h.0 h.2)
+  unlocked_at_last : UnlockedAtLast q events → UnlockedAtLast q (events ++ es)
+  unlocked_at_last h =
+      held_so q (λ part. IsUnlocked part × (deeds_of q part ≡ deeds_of q events)) (λ part. IsUnlocked part × (deeds_of q part ≡ deeds_of q (events ++ es))) (events ++ es) (λ part was. (was.0, was.1 ∙ sym deeds_same))
+      (once (λ part. IsUnlocked part × (deeds_of q part ≡ deeds_of q events)) h)
+
+  recover_says : (owner : ℕ) (mode : ReleaseMode) (state : ReleaseState) → RecoverSays code c owner mode state v → RecoverSays code c owner mode state later
+  recover_says owner mode states.TheVariants.Locked h = shut_later events es h
+  recover_says owner mode states.TheVariants.Unlocked h = (goes.dead owner h.0, unlocked_at_last h.1, recovered owner h.0 h.2, each_later q owner mode events es spares.none deeds_same h.3)
+
+  fills : (owner : ℕ) (mode : ReleaseMode) (But : ℕ → Type 0) → FilledBut mode q owner But events → FilledBut mode q owner But (events ++ es)
+  fills owner mode But h = filled_then q owner mode But But events es spares.none (λ i was. inl (subst (IsOneOf (Frees i owner)) deeds_same was)) (λ i e. e) (shut_later events es) h
+
+  recover_fills : (owner : ℕ) (mode : ReleaseMode) (stage : RecoverStage) → RecoverFills code c owner mode stage v → RecoverFills code c owner mode stage later
+  recover_fills owner mode recovers.TheVariants.LoadsCounter h = tt
+  recover_fills owner mode (recovers.TheVariants.LoadsCell index) h = fills owner mode NoIndex h
+  recover_fills owner mode (recovers.TheVariants.LoadsCount index) h = fills owner mode NoIndex h
+  recover_fills owner mode (recovers.TheVariants.LoadsWord index count at) h = fills owner mode NoIndex h
+  recover_fills owner mode (recovers.TheVariants.ChecksCount index count) h = fills owner mode NoIndex h
+  recover_fills owner mode (recovers.TheVariants.Asks index count) h = fills owner mode NoIndex h
+  recover_fills owner mode (recovers.TheVariants.EmptiesCell index count) h = fills owner mode NoIndex h
+  recover_fills owner mode (recovers.TheVariants.Hides index count) h = fills owner mode (λ i. i ≡ index) h
+  recover_fills owner mode (recovers.TheVariants.Raises index raise) h = fills owner mode (λ i. i ≡ index) h
+  recover_fills owner mode (recovers.TheVariants.Locks index lock) h = (fills owner mode (λ i. i ≡ index) h.0, says_later q owner c events es spares.none deeds_same lock h.1)
+  recover_fills owner mode recovers.TheVariants.LoadsCounterAgain h = fills owner mode NoIndex h
+  recover_fills owner mode (recovers.TheVariants.AddsChange state) h = tt
 
   abbrev none : ℕ → Type 0
   none i = ⊥
@@ -356,16 +381,19 @@ module _ {T : Type 0} (code : Coding T) (c : ℕ) (v : View T) (words' : List �
     still_scanned v.words words' events es q v.since v.changes changes' v.backs goes spares seen (set.lock_scan c lock) h.2,
   )
   recover_knows owner mode room recovers.TheVariants.LoadsCounterAgain h = (paid h.0, recovers_on owner c none h.1)
-  recover_knows owner mode room (recovers.TheVariants.AddsChange state) h = (paid h.0, recover_says owner state h.1, hidden_later code c q owner no_index (now v) words' latest' es spares passes h.2)
+  recover_knows owner mode room (recovers.TheVariants.AddsChange state) h = (paid h.0, recover_says owner mode state h.1, hidden_later code c q owner no_index (now v) words' latest' es spares passes h.2)
 
   -- ---- a look
 
   abbrev m' : Now T
   m' = record { words = words'; latest = latest'; events = events ++ es }
 
+  calls_on : CallsOn q None events (events ++ es)
+  calls_on = calls_same q events (events ++ es) span
+
   looks_on : (k x : ℕ) → Looks code c k x v → Looks code c k x later
   looks_on k x h =
-      record { state = h.state; found = same_state ∙ h.found; course = course_later code c (now v) m' es refl passes q h.state spares.none leaves.alone k x h.course }
+      record { state = h.state; found = same_state ∙ h.found; course = course_later code c (now v) m' es refl passes q h.state calls_on spares.none leaves.alone k x h.course }
 
   look_copies : (index count k : ℕ) → LookCopies code c index count k v → LookCopies code c index count k later
   unfolding looks_on
@@ -373,7 +401,7 @@ module _ {T : Type 0} (code : Coding T) (c : ℕ) (v : View T) (words' : List �
       record { looks = looks_on index index h.looks; number = h.number; copying = copying index count h.looks.state.shown.copy k h.copying }
 
   look_rests : LookRests code c v → LookRests code c later
-  look_rests h = record { state = h.state; found = same_state ∙ h.found; rests = rests_later code c (now v) m' es refl passes q h.state h.rests }
+  look_rests h = record { state = h.state; found = same_state ∙ h.found; rests = rests_later code c (now v) m' es refl passes q h.state h.rests; own = own_later q None events (events ++ es) calls_on h.state c h.own }
 
   look_knows : (stage : LookStage) → LookKnows code c stage v → LookKnows code c stage later
   look_knows looks.TheVariants.LoadsChange h = (paid h.0, look_rests h.1)
@@ -388,7 +416,7 @@ module _ {T : Type 0} (code : Coding T) (c : ℕ) (v : View T) (words' : List �
   still_knows (Remove run) h = remove_knows run.given.index run.given.owner run.given.mode run.call.stage h
   still_knows (Replace run) h = replaces_know run.given.index run.given.value run.given.owner run.call.stage h
   still_knows (Find run) h = (h.0, find_knows run.given run.room run.call.stage h.1)
-  still_knows (Recover run) h = (h.0, recover_knows run.given.owner run.given.mode run.room run.call.stage h.1)
+  still_knows (Recover run) h = (h.0, recover_knows run.given.owner run.given.mode run.room run.call.stage h.1, recover_fills run.given.owner run.given.mode run.call.stage h.2)
   still_knows (Look which call) h = look_knows call.stage h
   still_knows (Count which run) h = set_knows (borrowed_at c run.call.count) h
   still_knows (IsLocked run) h = set_knows looking h

@@ -30,6 +30,7 @@ use Rattle.model.specs.declared.party.Party.{Party}
 use Rattle.model.specs.Coding.{Coding}
 use Rattle.model.specs.Families.Container.Promises.{WasShown, HasRecovered}
 use Rattle.model.specs.Families.Container.Reading.{Copies, Has, HasLatest, acts_of, places, contents_of}
+use Rattle.model.specs.Families.Container.Recoveries.{UnlockedAtLast, FilledSinceEach}
 use Rattle.model.specs.Families.Container.States.{state_of}
 use Rattle.model.specs.Families.Indices.Reading.{is_locked}
 use Rattle.model.specs.Families.Indices.Robust.Promises.{IsFilledWith, IsUnlocked, IsCount, HeldThrough, FilledSinceFreed, StillToFree, IsProper}
@@ -44,6 +45,8 @@ use Rattle.container_laws.proofs.Contents.{Writing}
 use Rattle.container_laws.proofs.HiddenKnows.{RemoveCovers, RecoverCovers, StillStands, HasHidden, no_index}
 use Rattle.container_laws.proofs.Left.{left_of}
 use Rattle.container_laws.proofs.Replaces.{ReplaceOwns}
+use Rattle.container_laws.proofs.KeptCopies.{ShowsOwn}
+use Rattle.container_laws.proofs.KeptLocks.{NoIndex, FilledBut, FoundFilled}
 use Rattle.container_laws.proofs.Sights.{number_at, StoodThere, Rests, Course}
 use Rattle.container_laws.proofs.Turns.{Now, Proper, count_in, datum_in}
 use Rattle.container_laws.proofs.Writers.{Adds}
@@ -289,10 +292,11 @@ module _ {T : Type 0} (code : Coding T) (c : ℕ) where
     pub gone : GoneBut owner Now v
     pub hidden : HasHidden code c v.party owner But (now v)
 
-  abbrev pub RecoverSays : ℕ → ReleaseState → View T → Type 0
-  RecoverSays owner states.TheVariants.Locked v = is_locked v.events ≡ true
-  RecoverSays owner states.TheVariants.Unlocked v =
-      Dead owner v × WasOpen v × HasRecovered v.party owner v.events
+  abbrev pub RecoverSays : ℕ → ReleaseMode → ReleaseState → View T → Type 0
+  RecoverSays owner mode states.TheVariants.Locked v = is_locked v.events ≡ true
+  RecoverSays owner mode states.TheVariants.Unlocked v =
+      Dead owner v × UnlockedAtLast v.party v.events × HasRecovered v.party owner v.events
+      × FilledSinceEach mode v.party owner v.events
 
   abbrev pub RecoverKnows : ℕ → ReleaseMode → rooms.Kept 128 → RecoverStage → View T → Type 0
   RecoverKnows owner mode room recovers.TheVariants.LoadsCounter v =
@@ -328,7 +332,33 @@ module _ {T : Type 0} (code : Coding T) (c : ℕ) where
   RecoverKnows owner mode room recovers.TheVariants.LoadsCounterAgain v =
       IsPaid v × Recovers owner c no_index no_index v
   RecoverKnows owner mode room (recovers.TheVariants.AddsChange state) v =
-      IsPaid v × RecoverSays owner state v × HasHidden code c v.party owner no_index (now v)
+      IsPaid v × RecoverSays owner mode state v × HasHidden code c v.party owner no_index (now v)
+
+  -- and what it knows of its locks, where it is at an index that it has freed from its Hides on
+  abbrev pub RecoverFills : ℕ → ReleaseMode → RecoverStage → View T → Type 0
+  RecoverFills owner mode recovers.TheVariants.LoadsCounter v = Unit {0}
+  RecoverFills owner mode (recovers.TheVariants.LoadsCell index) v =
+      FilledBut mode v.party owner NoIndex v.events
+  RecoverFills owner mode (recovers.TheVariants.LoadsCount index) v =
+      FilledBut mode v.party owner NoIndex v.events
+  RecoverFills owner mode (recovers.TheVariants.LoadsWord index count at) v =
+      FilledBut mode v.party owner NoIndex v.events
+  RecoverFills owner mode (recovers.TheVariants.ChecksCount index count) v =
+      FilledBut mode v.party owner NoIndex v.events
+  RecoverFills owner mode (recovers.TheVariants.Asks index count) v =
+      FilledBut mode v.party owner NoIndex v.events
+  RecoverFills owner mode (recovers.TheVariants.EmptiesCell index count) v =
+      FilledBut mode v.party owner NoIndex v.events
+  RecoverFills owner mode (recovers.TheVariants.Hides index count) v =
+      FilledBut mode v.party owner (λ i. i ≡ index) v.events
+  RecoverFills owner mode (recovers.TheVariants.Raises index raise) v =
+      FilledBut mode v.party owner (λ i. i ≡ index) v.events
+  RecoverFills owner mode (recovers.TheVariants.Locks index lock) v =
+      FilledBut mode v.party owner (λ i. i ≡ index) v.events
+      × set.LockSays c (FoundFilled v.party v.events) lock
+  RecoverFills owner mode recovers.TheVariants.LoadsCounterAgain v =
+      FilledBut mode v.party owner NoIndex v.events
+  RecoverFills owner mode (recovers.TheVariants.AddsChange state) v = Unit {0}
 
   -- ---- a look
 
@@ -348,6 +378,7 @@ module _ {T : Type 0} (code : Coding T) (c : ℕ) where
     pub state : ContainerState T
     pub found : state_of v.party v.states ≡ Some state
     pub rests : Rests code c (now v) v.party state
+    pub own : ShowsOwn v.party state c v.events
 
   abbrev pub LookKnows : LookStage → View T → Type 0
   LookKnows looks.TheVariants.LoadsChange v = IsPaid v × LookRests v
@@ -366,6 +397,7 @@ module _ {T : Type 0} (code : Coding T) (c : ℕ) where
   Knows (Find run) v = IsLong run.room × FindKnows run.given run.room run.call.stage v
   Knows (Recover run) v =
       IsLong run.room × RecoverKnows run.given.owner run.given.mode run.room run.call.stage v
+      × RecoverFills run.given.owner run.given.mode run.call.stage v
   Knows (Look which call) v = LookKnows call.stage v
   Knows (Count which run) v = set.Knows c (borrowed_at c run.call.count) (of_set v)
   Knows (IsLocked run) v = set.Knows c looking (of_set v)

@@ -26,6 +26,10 @@ pub mod Invariant
 pub mod Justified
 pub mod Keeping
 pub mod Kept
+pub mod KeptCopies
+pub mod KeptLocks
+pub mod KeptStates
+pub mod KeptVisits
 pub mod Knows
 pub mod Left
 pub mod LookWalk

@@ -34,6 +34,7 @@ use Rattle.container_laws.proofs.Copies.{copying_first, copying_more, copied_val
 use Rattle.container_laws.proofs.Core.{count_at, change_at}
 use Rattle.container_laws.proofs.Glances.{counting, count_put, counted_number, counted_none, counted_same, showing, value_put, value_number, value_here, course_first, course_copying, course_passed, course_word}
 use Rattle.container_laws.proofs.Invariant.{Scene, Inv, before, view}
+use Rattle.container_laws.proofs.KeptCopies.{HasCopied, ShowsOwn, copies_of, CallsOn, own_later}
 use Rattle.container_laws.proofs.Knows.{IsPaid, Copying, CheckPaid, LookKnows}
 use Rattle.container_laws.proofs.Sights.{number_at, Rests, Course}
 use Rattle.container_laws.proofs.Stages.{all, done, sees_now, since_then, changes_then, backs_then}
@@ -66,11 +67,6 @@ module _ {T : Type 0} where
   pub seen_still : (index : ℕ) (did : List (Act T)) → AreBelow index (seen_in did) → AreBelow index (seen_in (did ++ []))
   seen_still index did h = subst (λ a. AreBelow index (seen_in a)) (sym (append-nil did)) h
 
-  -- what a step writes: a copy, or nothing
-  abbrev pub copies_of : ℕ → Option (ℕ × T) → List (Event T)
-  copies_of p None = []
-  copies_of p (Some copy) = Copied p copy.0 copy.1 ∷ []
-
   -- under an even number nothing stands
   pub nothing_stands : (code : Coding T) (c : ℕ) (words : List ℕ) (i : ℕ) (o : Option T) → Stands code c words i o → count_at c words i % 2 ≡ 0 → o ≡ None
   nothing_stands code c words i None h even = refl
@@ -93,6 +89,7 @@ module _ {T : Type 0} (scene : Scene T) (inv : Inv scene) where
     pub later : (s : ContainerState T) (k x : ℕ) → Course code c m p s k x → Course code c m' p s k x
     pub rests : (s : ContainerState T) → Rests code c m p s → Rests code c m' p s
     pub copied : (i : ℕ) (value : T) → what ≡ Some (i, value) → WasCopied p i value m'.events
+    pub on : CallsOn p what events m'.events
 
   -- what it writes is right
   abbrev pub IsRight : Option (ℕ × T) → Type 0
@@ -119,7 +116,7 @@ module _ {T : Type 0} (scene : Scene T) (inv : Inv scene) where
         → ((m' : Now T) → Comes m' what → Course code c m' p s' c c)
         → Lead back (copies_of p what) s' (Done true)
     -- nothing has changed
-    pub stays : words_after ws ask ≡ ws → all scene ≡ [] → steps + step_count ask ≤ 1 → backs_then scene false + since_then scene ask ≤ changes_then scene ask → Rests code c m p s → s.shown.change ≡ change_in code c m → Lead false [] s (Done false)
+    pub stays : words_after ws ask ≡ ws → all scene ≡ [] → steps + step_count ask ≤ 1 → backs_then scene false + since_then scene ask ≤ changes_then scene ask → Rests code c m p s → ShowsOwn p s c events → s.shown.change ≡ change_in code c m → Lead false [] s (Done false)
 
   module _ (s : ContainerState T) (Lead : Bool → List (Event T) → ContainerState T → After (Look T) Bool → Type 0) where
     -- the step of a look that stands there
@@ -177,6 +174,7 @@ module _ {T : Type 0} (scene : Scene T) (inv : Inv scene) where
               (λ proper.
               counted_none s index low n even
               ∙ sym (comes.contents index ∙ nothing_stands code c ws index (contents_of index events) (inv.elements.whole (comes.proper proper) index below) (even_is n even)))
+              (λ getting value is. some_none (shows s' index) value (counted_none s index low n even) is)
 
           finds : Lead back [] s' (look_finds (call_at stage) index n)
           finds = go (is_even n) refl
@@ -212,18 +210,19 @@ module _ {T : Type 0} (scene : Scene T) (inv : Inv scene) where
                 course_passed code c m' p s s' index x below h (count_put s index low n) (number_is m' None comes) apart
                 (λ value is. h.sight.copied index value other (sym (counted_same s index low n was) ∙ is))
                 (λ proper. counted_same s index low n was ∙ h.sight.same proper index below other (sym was ∙ sym (count_same m' None comes)))
+                (λ getting value is. h.own getting index value other (sym (counted_same s index low n was) ∙ is))
 
             passes : Lead back [] s' (look_comes_to (call_at stage) (index + 1))
             passes = comes_to None s' tt (seen_passed index (done scene) seen) (omega arith) passed_same
 
       -- ---- the number of changes is loaded
 
-      pub walks_change : Walker s (Some (loads (change_word c))) Lead → steps ≤ 0 → IsPaid (sees_now scene) → done scene ≡ [] → Rests code c m p s → WalkAt stages.TheVariants.LoadsChange
-      walks_change walker few paid nothing rests =
+      pub walks_change : Walker s (Some (loads (change_word c))) Lead → steps ≤ 0 → IsPaid (sees_now scene) → done scene ≡ [] → Rests code c m p s → ShowsOwn p s c events → WalkAt stages.TheVariants.LoadsChange
+      walks_change walker few paid nothing rests own =
           by_eq (Lead false [] (record s { shown = with_change s.shown (change_in code c m) })) (change_in code c m) s.seen.change (Done false) (look_comes_to (call_at stages.TheVariants.LoadsChange) 0)
           (λ is.
           let same : change_in code c m ≡ s.shown.change = is ∙ rests.seen in
-          subst (λ n. Lead false [] (record s { shown = with_change s.shown n }) (Done false)) (sym same) (walker.stays (loads_same ws (change_word c)) none (omega arith) (omega arith) rests (sym same)))
+          subst (λ n. Lead false [] (record s { shown = with_change s.shown n }) (Done false)) (sym same) (walker.stays (loads_same ws (change_word c)) none (omega arith) (omega arith) rests own (sym same)))
           (λ other.
           by_test (Lead false [] (record s { shown = with_change s.shown (change_in code c m) })) (nat_lt 0 c) (GoOn (call_at (stages.TheVariants.LoadsCount 0))) (Done true)
           (λ t.
@@ -235,7 +234,7 @@ module _ {T : Type 0} (scene : Scene T) (inv : Inv scene) where
             record {
               state = record s { shown = with_change s.shown (change_in code c m) };
               found = found;
-              course = course_first code c (record { words = words'; latest = latest'; events = es' }) p s (change_in code c m) (sym (ap (change_at c) comes.words)) (comes.rests s rests);
+              course = course_first code c (record { words = words'; latest = latest'; events = es' }) p s (change_in code c m) (sym (ap (change_at c) comes.words)) (comes.rests s rests) (own_later p None events es' comes.on s c own);
             },
           )))
           (λ t. let some = inv.good.some in let less : c ≤ 0 = grind (arith, nat_tests) in absurd (omega arith)))
@@ -331,6 +330,7 @@ module _ {T : Type 0} (scene : Scene T) (inv : Inv scene) where
               (value_number s index within code.value_of code.size count ∙ sym (ap (λ w. count_at c w index) comes.words ∙ is)) (λ i ne other. ne)
               (λ shown e. let same : Some value ≡ Some shown = sym (value_here s index within code.value_of code.size count (not_even count odd)) ∙ e in let eq : value ≡ shown = cc in subst (λ v. WasCopied p index v m'.events) eq (comes.copied index value refl))
               (λ proper. value_here s index within code.value_of code.size count (not_even count odd) ∙ sym (comes.contents index ∙ stands_now (comes.proper proper)))
+              (λ getting shown e. let same : Some value ≡ Some shown = sym (value_here s index within code.value_of code.size count (not_even count odd)) ∙ e in let eq : value ≡ shown = cc in subst (λ v. HasCopied p index v m'.events) eq (comes.on.now index value refl))
 
         pub walks_check : Walker s (Some (exchanges (count_word c index) count count)) Lead → WalkAt (stages.TheVariants.ChecksCount index count)
         walks_check walker = go (count_in code c m index == count) refl

@@ -15,6 +15,7 @@ use Rattle.steps.specs.declared.container.look.LookStage.{LookStage}
 use Rattle.steps.specs.declared.container.look.LookStage as stages
 use Rattle.steps.specs.declared.container.state.ContainerState.{ContainerState}
 use Rattle.steps.specs.Container.Look.{look_asks, look_goes_back}
+use Rattle.model.specs.declared.event.Answer.{Answer}
 use Rattle.model.specs.declared.event.Event.{Event}
 use Rattle.model.specs.declared.event.Event.TheVariants.{Copied, Finished}
 use Rattle.model.specs.declared.event.Start.TheVariants.{Container}
@@ -36,7 +37,7 @@ use Rattle.model.specs.Families.Indices.Robust.Reading.{Deed, deed, deeds}
 use Rattle.model.specs.Moments.{BeginsNone}
 use Rattle.model.specs.Parties.{put, flight_of}
 use Rattle.model.specs.Reading.{Open}
-use Rattle.model.specs.Turns.{old_of, words_after, step_count}
+use Rattle.model.specs.Turns.{old_of, words_after, step_count, ending_of}
 use Rattle.model.proofs.Parties.{apart, itself}
 use Rattle.model.proofs.Readings.{AreOwn}
 use Rattle.container_laws.proofs.Core.{count_at}
@@ -44,8 +45,9 @@ use Rattle.container_laws.proofs.Effects.{OwesStill}
 use Rattle.container_laws.proofs.Glances.{rests_settled}
 use Rattle.container_laws.proofs.HiddenKnows.{EndsRight}
 use Rattle.container_laws.proofs.Invariant.{Scene, Inv, AreAllRight, Does, before, after, wrote_of, view}
+use Rattle.container_laws.proofs.KeptCopies.{ShowsOwn, copies_of, CallsOn, calls_on}
 use Rattle.container_laws.proofs.Knows.{LookKnows, Knows}
-use Rattle.container_laws.proofs.LookWalk.{copies_of, Comes, IsRight, call_at, Walker, WalkAt, walks_change, walks_count, walks_word, walks_check}
+use Rattle.container_laws.proofs.LookWalk.{Comes, IsRight, call_at, Walker, WalkAt, walks_change, walks_count, walks_word, walks_check}
 use Rattle.container_laws.proofs.Sights.{Rests, Course, rests_later, course_later}
 use Rattle.container_laws.proofs.Silent.{Silent, EndsSilently, silent_set, silent_changes}
 use Rattle.container_laws.proofs.Stages.{NoReplace, IsHere, none_lengthens, all, done, sees_now, StepOf, Leads, party_then, backs_then, since_then, changes_then, goes_on, ends, owes_none, was_proper}
@@ -145,7 +147,7 @@ module _ {T : Type 0} (scene : Scene T) (inv : Inv scene) (which : LookOf) (stag
 
   -- the machine after a step that writes this, and then that
   module _ (words' : List ℕ) (same : words' ≡ ws) (y : Party T) (what : Option (ℕ × T)) (rest : List (Event T)) (silent : AllByRecursion Silent (copies_of p what ++ rest)) (own : AreOwn p (copies_of p what ++ rest)) (none : BeginsNone p (copies_of p what ++ rest))
-      (contents : (i : ℕ) → contents_of i (events ++ (copies_of p what ++ rest)) ≡ contents_of i events) where
+      (contents : (i : ℕ) → contents_of i (events ++ (copies_of p what ++ rest)) ≡ contents_of i events) (on : CallsOn p what events (events ++ (copies_of p what ++ rest))) where
     abbrev es : List (Event T)
     es = copies_of p what ++ rest
 
@@ -164,9 +166,10 @@ module _ {T : Type 0} (scene : Scene T) (inv : Inv scene) (which : LookOf) (stag
           proper = proper_of words' y es own;
           words = same;
           contents = contents;
-          later = λ st k x h. course_later code c m (after scene words' y es) es refl passes p st none (λ alone i low. ap (λ w. count_at c w i) same) k x h;
+          later = λ st k x h. course_later code c m (after scene words' y es) es refl passes p st on none (λ alone i low. ap (λ w. count_at c w i) same) k x h;
           rests = λ st h. rests_later code c m (after scene words' y es) es refl passes p st h;
           copied = λ i value e. copied_now what i value e;
+          on = on;
         }
 
     -- what the turn does, that leaves this state
@@ -182,6 +185,9 @@ module _ {T : Type 0} (scene : Scene T) (inv : Inv scene) (which : LookOf) (stag
               let one : st ≡ other = cc in
               subst (Rests code c (after scene words' y es) p) one (rests idle);
         }
+
+  on_now : (what : Option (ℕ × T)) (outcome : Option (Answer T)) → CallsOn p what events (events ++ (copies_of p what ++ ending_of p (Container start) outcome))
+  on_now what outcome = calls_on p events (Container start) (wrote_of p events) here.span what outcome
 
   -- ---- it goes on, or ends
 
@@ -201,19 +207,19 @@ module _ {T : Type 0} (scene : Scene T) (inv : Inv scene) (which : LookOf) (stag
         let words' = words_after ws ask in
         let contents : (i : ℕ) → contents_of i (events ++ []) ≡ contents_of i events = λ i. fold-append (contents_after i) None events [] in
         goes_on scene start (look_at which c next) ask back (set_state p st scene.states) [] here.span none_lengthens
-        (does words' same y None [] tt tt tt contents st (record { asks = tt; recovers = tt; answers = tt; contains = λ holds. tt; places = λ holds. tt }) (λ idle. absurd (cc)))
+        (does words' same y None [] tt tt tt contents (on_now None None) st (record { asks = tt; recovers = tt; answers = tt; contains = λ holds. tt; places = λ holds. tt }) (λ idle. absurd (cc)))
         tt few (at_look T which c code.size _ _ next at)
-        (known words' (set_state p st scene.states) (put p y latest) (events ++ []) (comes words' same y None [] tt tt tt contents) (written_same p st s scene.states found))
+        (known words' (set_state p st scene.states) (put p y latest) (events ++ []) (comes words' same y None [] tt tt tt contents (on_now None None)) (written_same p st s scene.states found))
     goes_with next back (Some copy) st right same at few known =
         let y = party_then scene start ask back (GoOn (look_at which c next)) in
         let words' = words_after ws ask in
         let es = Copied p copy.0 copy.1 ∷ [] in
         let contents : (i : ℕ) → contents_of i (events ++ es) ≡ contents_of i events = λ i. fold-append (contents_after i) None events es in
         goes_on scene start (look_at which c next) ask back (set_state p st scene.states) es here.span (λ start w. refl)
-        (does words' same y (Some copy) [] (tt, tt) (refl, tt) tt contents st
+        (does words' same y (Some copy) [] (tt, tt) (refl, tt) tt contents (on_now (Some copy) None) st
         (record { asks = (tt, tt); recovers = (tt, tt); answers = (tt, tt); contains = λ holds. (right.1 (proper_of words' y es (refl, tt) holds), tt); places = λ holds. (tt, tt) }) (λ idle. absurd (cc)))
         (copy_stands T which p copy.0 copy.1 (wrote_of p events) right.0, tt) few (at_look T which c code.size _ _ next at)
-        (known words' (set_state p st scene.states) (put p y latest) (events ++ es) (comes words' same y (Some copy) [] (tt, tt) (refl, tt) tt contents) (written_same p st s scene.states found))
+        (known words' (set_state p st scene.states) (put p y latest) (events ++ es) (comes words' same y (Some copy) [] (tt, tt) (refl, tt) tt contents (on_now (Some copy) None)) (written_same p st s scene.states found))
 
     ends_with : (back : Bool) (what : Option (ℕ × T)) (st : ContainerState T) → IsRight scene inv what → words_after ws ask ≡ ws → all scene ≡ []
         → steps + step_count ask ≤ 1 + c * (code.size + 2) + backs_then scene back * (code.size + 1)
@@ -228,9 +234,9 @@ module _ {T : Type 0} (scene : Scene T) (inv : Inv scene) (which : LookOf) (stag
         let contents : (i : ℕ) → contents_of i (events ++ es) ≡ contents_of i events = λ i. fold-append (contents_after i) None events es in
         let m' = after scene words' y es in
         ends scene start answer ask back (set_state p (settled st) scene.states) [] here.span none_lengthens
-        (does words' same y None es (silent_end T which, tt) (refl, tt) tt contents (settled st)
+        (does words' same y None es (silent_end T which, tt) (refl, tt) tt contents (on_now None (Some answer)) (settled st)
         (record { asks = (tt, tt); recovers = (tt, tt); answers = (answers_look T which c p st true events, tt); contains = λ holds. (tt, tt); places = λ holds. (places_look T which p st true events, tt) })
-        (λ idle. rests_settled code c m' p st (course m' (comes words' same y None es (silent_end T which, tt) (refl, tt) tt contents))))
+        (λ idle. rests_settled code c m' p st (course m' (comes words' same y None es (silent_end T which, tt) (refl, tt) tt contents (on_now None (Some answer))))))
         ((refl, does_look T which st true (all scene) (done scene) none), tt) (few_look T which c code.size _ (backs_then scene back) few) (omega arith)
     ends_with back (Some copy) st right same none few paid course =
         let answer = looked which st true in
@@ -242,7 +248,7 @@ module _ {T : Type 0} (scene : Scene T) (inv : Inv scene) (which : LookOf) (stag
         let contents : (i : ℕ) → contents_of i (events ++ es) ≡ contents_of i events = λ i. fold-append (contents_after i) None events es in
         let m' = after scene words' y es in
         ends scene start answer ask back (set_state p (settled st) scene.states) did here.span (λ start w. refl)
-        (does words' same y (Some copy) finish (tt, (silent_end T which, tt)) (refl, (refl, tt)) tt contents (settled st)
+        (does words' same y (Some copy) finish (tt, (silent_end T which, tt)) (refl, (refl, tt)) tt contents (on_now (Some copy) (Some answer)) (settled st)
         (record {
           asks = (tt, (tt, tt));
           recovers = (tt, (tt, tt));
@@ -250,24 +256,24 @@ module _ {T : Type 0} (scene : Scene T) (inv : Inv scene) (which : LookOf) (stag
           contains = λ holds. (right.1 (proper_of words' y es (refl, (refl, tt)) holds), (tt, tt));
           places = λ holds. (tt, (places_look T which p st true (events ++ did), tt));
         })
-        (λ idle. rests_settled code c m' p st (course m' (comes words' same y (Some copy) finish (tt, (silent_end T which, tt)) (refl, (refl, tt)) tt contents))))
+        (λ idle. rests_settled code c m' p st (course m' (comes words' same y (Some copy) finish (tt, (silent_end T which, tt)) (refl, (refl, tt)) tt contents (on_now (Some copy) (Some answer))))))
         (copy_stands T which p copy.0 copy.1 (wrote_of p events) right.0, ((refl, does_look T which st true _ _ (deeds_one copy none)), tt))
         (few_look T which c code.size _ (backs_then scene back) few) (omega arith)
       where
         deeds_one : (copy : ℕ × T) → all scene ≡ [] → deeds (wrote_of p events ++ Copied p copy.0 copy.1 ∷ []) ≡ []
         deeds_one copy none = flat_map-append deed (wrote_of p events) (Copied p copy.0 copy.1 ∷ []) ∙ ap (λ (d : List Deed). d ++ []) none
 
-    stays_with : words_after ws ask ≡ ws → all scene ≡ [] → steps + step_count ask ≤ 1 → backs_then scene false + since_then scene ask ≤ changes_then scene ask → Rests code c m p s → s.shown.change ≡ change_in code c m → Lead ask false [] s (Done false)
-    stays_with same none few paid rests is =
+    stays_with : words_after ws ask ≡ ws → all scene ≡ [] → steps + step_count ask ≤ 1 → backs_then scene false + since_then scene ask ≤ changes_then scene ask → Rests code c m p s → ShowsOwn p s c events → s.shown.change ≡ change_in code c m → Lead ask false [] s (Done false)
+    stays_with same none few paid rests own is =
         let answer = looked which s false in
         let y = party_then scene start ask false (Done answer) in
         let words' = words_after ws ask in
         let es = Finished p (Container start) answer ∷ [] in
         let contents : (i : ℕ) → contents_of i (events ++ es) ≡ contents_of i events = λ i. fold-append (contents_after i) None events es in
         ends scene start answer ask false (set_state p s scene.states) [] here.span none_lengthens
-        (does words' same y None es (silent_end T which, tt) (refl, tt) tt contents s
+        (does words' same y None es (silent_end T which, tt) (refl, tt) tt contents (on_now None (Some answer)) s
         (record { asks = (tt, tt); recovers = (tt, tt); answers = (answers_look T which c p s false events, tt); contains = λ holds. (tt, tt); places = λ holds. (places_look T which p s false events, tt) })
-        (λ idle. (comes words' same y None es (silent_end T which, tt) (refl, tt) tt contents).rests s rests))
+        (λ idle. (comes words' same y None es (silent_end T which, tt) (refl, tt) tt contents (on_now None (Some answer))).rests s rests))
         ((refl, does_look T which s false (all scene) (done scene) none), tt) (few_look T which c code.size _ (backs_then scene false) (omega arith)) (omega arith)
 
     walker : Walker scene inv s ask (Lead ask)
@@ -304,7 +310,7 @@ module _ {T : Type 0} (scene : Scene T) (inv : Inv scene) where
       → (Leads_to : Option Ask → Bool → List (Event T) → ContainerState T → After (Look T) Bool → Type 0) → ((ask : Option Ask) → Walker scene inv (state_known stage k).state ask (Leads_to ask))
       → WalkAt scene inv (state_known stage k).state (Leads_to (ask_of (look_asks code.size c stage))) stage
   unfolding state_known
-  walks stages.TheVariants.LoadsChange at k few Leads_to walks_to = let h = k.1 in walks_change scene inv h.state _ at.0 (walks_to _) few k.0 at.1 h.rests
+  walks stages.TheVariants.LoadsChange at k few Leads_to walks_to = let h = k.1 in walks_change scene inv h.state _ at.0 (walks_to _) few k.0 at.1 h.rests h.own
   walks (stages.TheVariants.LoadsCount index) at k few Leads_to walks_to = let h = k.1 in walks_count scene inv h.state _ at.0 index at.1 (walks_to _) few k.0 at.2 h.course
   walks (stages.TheVariants.LoadsWord index count word) at k few Leads_to walks_to =
       let h = k.1 in

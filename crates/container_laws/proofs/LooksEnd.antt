@@ -32,9 +32,10 @@ use Rattle.robust_laws.proofs.Effects.{both_ways}
 use Rattle.robust_laws.proofs.Past.{through_less, through_now, through_so, since_less}
 use Rattle.container_laws.proofs.Alone.{alone_less, others_shut}
 use Rattle.container_laws.proofs.Announced.{announced_through}
-use Rattle.container_laws.proofs.Invariant.{Scene, Inv, before, after}
+use Rattle.container_laws.proofs.Invariant.{Scene, Inv, before, after, wrote_of}
+use Rattle.container_laws.proofs.KeptCopies.{ShowsOwn, ShowsCopied, copies_of, own_later, own_then, calls_on}
 use Rattle.container_laws.proofs.Knows.{LookKnows}
-use Rattle.container_laws.proofs.LookWalk.{copies_of, Comes, call_at}
+use Rattle.container_laws.proofs.LookWalk.{Comes, call_at}
 use Rattle.container_laws.proofs.Looks.{looks_as, no_replace, silent_end, written_same, comes, HasState, state_known, walks}
 use Rattle.container_laws.proofs.Proper.{IsProperSoFar}
 use Rattle.container_laws.proofs.Sights.{StoodThere, Rests, Course}
@@ -98,6 +99,7 @@ module _ {T : Type 0} (scene : Scene T) (inv : Inv scene) (which : LookOf) (stag
     pub is : st ≡ h.state
     pub rests : Rests code c m p st
     pub change : st.shown.change ≡ change_in code c m
+    pub own : ShowsOwn p st c events
 
   abbrev EndsSo : Option Ask → Bool → List (Event T) → ContainerState T → After (Look T) Bool → Type 0
   EndsSo ask back did st (GoOn call) = Unit {0}
@@ -111,7 +113,7 @@ module _ {T : Type 0} (scene : Scene T) (inv : Inv scene) (which : LookOf) (stag
       record {
         goes = λ next back what st right same stands low known. tt;
         ends = λ back what st right same none low paid course. record { what = what; is = refl; same = same; course = course };
-        stays = λ same none low paid rests change. record { nothing = refl; is = refl; rests = rests; change = change };
+        stays = λ same none low paid rests own change. record { nothing = refl; is = refl; rests = rests; change = change; own = own };
       })
 
   -- ---- what it shows then
@@ -143,10 +145,10 @@ module _ {T : Type 0} (scene : Scene T) (inv : Inv scene) (which : LookOf) (stag
       comes_end : (what : Option (ℕ × T)) → Comes scene inv (after scene (words_after ws ask_now) y (copies_of p what ++ Finished p (Container start) answer ∷ [])) what
       comes_end None =
           let es : List (Event T) = Finished p (Container start) answer ∷ [] in
-          comes scene inv which stage here h.state h.found (words_after ws ask_now) passed.same y None es (silent_end T which, tt) (refl, tt) tt (λ i. fold-append (contents_after i) None events es)
+          comes scene inv which stage here h.state h.found (words_after ws ask_now) passed.same y None es (silent_end T which, tt) (refl, tt) tt (λ i. fold-append (contents_after i) None events es) (calls_on p events (Container start) (wrote_of p events) here.span None (Some answer))
       comes_end (Some copy) =
           let es : List (Event T) = Copied p copy.0 copy.1 ∷ Finished p (Container start) answer ∷ [] in
-          comes scene inv which stage here h.state h.found (words_after ws ask_now) passed.same y (Some copy) (Finished p (Container start) answer ∷ []) (tt, (silent_end T which, tt)) (refl, (refl, tt)) tt (λ i. fold-append (contents_after i) None events es)
+          comes scene inv which stage here h.state h.found (words_after ws ask_now) passed.same y (Some copy) (Finished p (Container start) answer ∷ []) (tt, (silent_end T which, tt)) (refl, (refl, tt)) tt (λ i. fold-append (contents_after i) None events es) (calls_on p events (Container start) (wrote_of p events) here.span (Some copy) (Some answer))
 
       abbrev Current : List (Event T) → Type 0
       Current es = IsProperSoFar (put p y latest) (events ++ es) → IsCurrent p c (settled st) (events ++ es) × ShowsMoments p c (settled st) (events ++ es)
@@ -159,7 +161,24 @@ module _ {T : Type 0} (scene : Scene T) (inv : Inv scene) (which : LookOf) (stag
           let comes' = comes_end passed.what in
           (all_current m' comes' holds, all_moments m' comes' holds))
 
+      abbrev Own : List (Event T) → Type 0
+      Own es = ShowsCopied p (settled st) events (events ++ es)
+
+      passed_own : Own (did ++ Finished p (Container start) answer ∷ [])
+      passed_own =
+          subst (λ d. Own (d ++ Finished p (Container start) answer ∷ [])) (sym passed.is)
+          (let m' : Now T = after scene (words_after ws ask_now) y (copies_of p passed.what ++ Finished p (Container start) answer ∷ []) in
+          let comes' = comes_end passed.what in
+          let course' = passed.course m' comes' in
+          own_then p c passed.what events m'.events comes'.on (settled st) course'.sight.wide course'.own)
+
     -- nothing had changed
+    same_own : (answer : Answer T) → IsSame did st → ShowsCopied p st events (events ++ (did ++ Finished p (Container start) answer ∷ []))
+    same_own answer same =
+        let on = calls_on p events (Container start) (wrote_of p events) here.span None (Some answer) in
+        subst (λ d. ShowsCopied p st events (events ++ (d ++ Finished p (Container start) answer ∷ []))) (sym same.nothing)
+        (own_then p c None events _ on st same.rests.sight.wide (own_later p None events _ on st c same.own))
+
     module _ (answer : Answer T) (same : IsSame did st) (was : IsProperSoFar (put p y latest) (events ++ (did ++ Finished p (Container start) answer ∷ [])) → Proper m) where
       abbrev Right : List (Event T) → Type 0
       Right es = (IsProperSoFar (put p y latest) (events ++ es) → Proper m) → IsProperSoFar (put p y latest) (events ++ es) → IsCurrent p c st (events ++ es)
@@ -205,6 +224,7 @@ module _ {T : Type 0} (scene : Scene T) (inv : Inv scene) (which : LookOf) (stag
     pub current : (y : Party T) → IsProperSoFar (put p y latest) (events ++ (did ++ Finished p (Container (looks_as which)) answer ∷ []))
         → IsCurrent p c left (events ++ (did ++ Finished p (Container (looks_as which)) answer ∷ []))
         × MomentsOfState p c (looks_as which) answer left (events ++ (did ++ Finished p (Container (looks_as which)) answer ∷ []))
+    pub own : ShowsCopied p left events (events ++ (did ++ Finished p (Container (looks_as which)) answer ∷ []))
 
   module _ (did : List (Event T)) (st : ContainerState T) (answer : Answer T) (left : ContainerState T) where
     -- the state that it wrote
@@ -219,6 +239,7 @@ module _ {T : Type 0} (scene : Scene T) (inv : Inv scene) (which : LookOf) (stag
         (subst (λ l. Tells (looked which st true) did l (Some h.state)) (is_left (settled st) found)
         (record {
           answers = answers_passed which st (Some h.state);
+          own = passed_own did st here.party (looked which st true) so;
           current = λ y holds.
               let now = passed_current did st y (looked which st true) so holds in
               (now.0, moments_passed which p c st (events ++ (did ++ Finished p (Container start) (looked which st true) ∷ [])) now.1);
@@ -229,6 +250,7 @@ module _ {T : Type 0} (scene : Scene T) (inv : Inv scene) (which : LookOf) (stag
         (subst (λ l. Tells (looked which st false) did l (Some h.state)) (is_left st found)
         (record {
           answers = answers_same which st h.state so.is;
+          own = same_own did st here.party (looked which st false) so;
           current = λ y holds. (
             unchanged_current did st y (looked which st false) so (was y) holds,
             moments_same which p c st (events ++ (did ++ Finished p (Container start) (looked which st false) ∷ [])),

@@ -1,5 +1,5 @@
 -- A look that ends leaves a state, as its answer says; and in a proper run the state shows what stands.
-use Rattle.std.proofs.Common.{◌≡◌, ◌≢◌, ℕ, ◌-◌, ◌^◌, ◌<◌, Bool, true, false, Option, Some, None, is_some, List, [], ◌∷◌, ◌++◌, refl, sym, ap, subst, ◌∙◌}
+use Rattle.std.proofs.Common.{◌≡◌, ◌≢◌, ℕ, ◌+◌, ◌-◌, ◌^◌, ◌<◌, Bool, true, false, Option, Some, None, is_some, List, [], ◌∷◌, ◌++◌, refl, sym, ap, subst, ◌∙◌}
 use Rattle.std.proofs.lemmas.List.{append_cancel_left}
 use Rattle.std.specs.List.{AllByRecursion}
 use Rattle.steps.specs.declared.container.look.LookStage.{LookStage}
@@ -29,7 +29,8 @@ use Rattle.model.specs.declared.turn.Turn.TheVariants.{Begin, Next, Decide, Die}
 use Rattle.model.specs.Coding.{Coding}
 use Rattle.model.specs.Families.{want_of, ask_of, is_question, beside_of, step_of}
 use Rattle.model.specs.Families.Container.Calls.{after as goes_after, states_after}
-use Rattle.model.specs.Families.Container.Looks.{state_in, IsLook, EndsLook, IsCurrent, AnswersOfState, MomentsOfState}
+use Rattle.model.specs.Families.Container.Keeping.{ShowsOwnCopies}
+use Rattle.model.specs.Families.Container.Looks.{state_in, shows, IsLook, EndsLook, IsCurrent, AnswersOfState, MomentsOfState}
 use Rattle.model.specs.Families.Container.Promises.{IsProperRun, LooksRight, LeavesState}
 use Rattle.model.specs.Families.Container.Reading.{Act}
 use Rattle.model.specs.Families.Container.States.{state_of}
@@ -41,7 +42,7 @@ use Rattle.model.specs.Reading.{Span, span_of}
 use Rattle.model.specs.Refusals.{refusal_of, is_due}
 use Rattle.model.specs.Shape.{IsShut}
 use Rattle.model.specs.Step.{Step, answer_in}
-use Rattle.model.specs.Turns.{old_of, number_of, after_next, after_decision, after_answer, events_of_step, events_of_answer, events_of_next, events_of_decision, events_of, ending_of, ask_of_doing, after_turn}
+use Rattle.model.specs.Turns.{old_of, number_of, step_count, after_next, after_decision, after_answer, events_of_step, events_of_answer, events_of_next, events_of_decision, events_of, ending_of, ask_of_doing, after_turn}
 use Rattle.model.specs.World.{Trace, flight_in}
 use Rattle.model.proofs.Frame as frame
 use Rattle.model.proofs.Readings.{no_more}
@@ -49,6 +50,7 @@ use Rattle.model.proofs.Rows.{passes, must_be_due}
 use Rattle.model.proofs.Scenes.{StandsThere, stands_there}
 use Rattle.robust_laws.proofs.Effects.{both_ways}
 use Rattle.container_laws.proofs.Invariant.{Scene, Inv, family}
+use Rattle.container_laws.proofs.KeptCopies.{name_of, IsGetting, HasCopied}
 use Rattle.container_laws.proofs.Looks.{looks_as}
 use Rattle.container_laws.proofs.LooksEnd.{look_tells, look_leaves}
 use Rattle.container_laws.proofs.Proper.{IsProperSoFar, proper_so_far}
@@ -123,11 +125,17 @@ module _ {T : Type 0} where
   look_stands kinds.TheVariants.GetState c z made did stage at = at.2
   look_stands kinds.TheVariants.UpdateState c z made did stage at = at.2
 
-look_asks_none : (size c : ℕ) (stage : LookStage) → is_question (look_asks size c stage) ≡ false
+pub look_asks_none : (size c : ℕ) (stage : LookStage) → is_question (look_asks size c stage) ≡ false
 look_asks_none size c stages.TheVariants.LoadsChange = refl
 look_asks_none size c (stages.TheVariants.LoadsCount index) = refl
 look_asks_none size c (stages.TheVariants.LoadsWord index count word) = refl
 look_asks_none size c (stages.TheVariants.ChecksCount index count) = refl
+
+look_counts : (size c : ℕ) (stage : LookStage) → step_count (ask_of (look_asks size c stage)) ≡ 1
+look_counts size c stages.TheVariants.LoadsChange = refl
+look_counts size c (stages.TheVariants.LoadsCount index) = refl
+look_counts size c (stages.TheVariants.LoadsWord index count word) = refl
+look_counts size c (stages.TheVariants.ChecksCount index count) = refl
 
 -- ---- a step in which a look ends
 
@@ -149,6 +157,7 @@ module _ {T : Type 0} (shown : Shown T) (code : Coding T) (c : ℕ) (t : Trace T
     pub there : IsThere shown code c t s q party since small found (looks_as which) (look_at which c stage)
     pub next : Party T
     pub latest_is : latest ≡ put q next t.world.latest
+    pub steps_then : next.steps ≡ party.steps + 1
     pub kept_then : kept ≡ kepts.TheVariants.Container s.state.dead (states_after code q (look_at which c stage) (old stage) s.state.states)
     pub events_are : es ≡ (effects code q (state_of q s.state.states) (look_at which c stage) (old stage) ++ questions q (look_at which c stage) (old stage)) ++ Finished q (Container (looks_as which)) answer ∷ []
     pub done : answer_in (any_call (goes_after code (state_of q s.state.states) (look_at which c stage) (old stage))) ≡ Some answer
@@ -159,7 +168,7 @@ module _ {T : Type 0} (shown : Shown T) (code : Coding T) (c : ℕ) (t : Trace T
 
     abbrev StepFrom : ℕ → Coding T → Kept T → Start T → Flight T → Type 0
     StepFrom n y kept a flight =
-        (next : Party T) → Ended (events_of_step q a (stepping n y kept a flight)) → LookTurn q (stepping n y kept a flight).kept (put q next t.world.latest) (events_of_step q a (stepping n y kept a flight))
+        (next : Party T) → (is_question (want_of y flight) ≡ false → next.steps ≡ x.steps + step_count (ask_of (want_of y flight))) → Ended (events_of_step q a (stepping n y kept a flight)) → LookTurn q (stepping n y kept a flight).kept (put q next t.world.latest) (events_of_step q a (stepping n y kept a flight))
 
     abbrev Case : ContainerStart T → ContainerFlight T → Type 0
     Case a flight =
@@ -176,7 +185,7 @@ module _ {T : Type 0} (shown : Shown T) (code : Coding T) (c : ℕ) (t : Trace T
     look_case : (which : LookOf) (stage : LookStage) → Case (looks_as which) (look_at which c stage)
     look_case which stage n stands is =
         subst (λ k. StepFrom k code (kept_now shown code c t s) (Container (looks_as which)) (flights.TheVariants.Container (look_at which c stage))) (sym (is (look_asks_none code.size c stage)))
-        (λ next e.
+        (λ next counts e.
         let end = last_of (old stage) (looks_as which) (look_at which c stage) e in
         record {
           same = end.party;
@@ -189,6 +198,7 @@ module _ {T : Type 0} (shown : Shown T) (code : Coding T) (c : ℕ) (t : Trace T
           there = is_there shown code c t s q x since small found (looks_as which) (look_at which c stage) stands;
           next = next;
           latest_is = refl;
+          steps_then = counts (look_asks_none code.size c stage) ∙ ap (λ n. x.steps + n) (look_counts code.size c stage);
           kept_then = refl;
           events_are =
               ap (λ o. (effects code q (state_of q s.state.states) (look_at which c stage) (old stage) ++ questions q (look_at which c stage) (old stage)) ++ ending_of q (Container (looks_as which)) o) end.done;
@@ -196,13 +206,13 @@ module _ {T : Type 0} (shown : Shown T) (code : Coding T) (c : ℕ) (t : Trace T
         })
 
     step_look : (n : ℕ) (a : Start T) (flight : Flight T) → StandsThere (family code c) t s q x since a flight → (is_question (want_of code flight) ≡ false → n ≡ old_of s.state.words (ask_of (want_of code flight))) → StepFrom n code (kept_now shown code c t s) a flight
-    step_look n (Container a) (flights.TheVariants.Container flight) stands is next e =
+    step_look n (Container a) (flights.TheVariants.Container flight) stands is next counts e =
         let end = last_of n a flight e in
         let name = container_is a start end.name in
         let there = is_there shown code c t s q x since small found a flight stands in
         let one = look_flight c code.size (all (scene_of shown code c t s q x since)) (done (scene_of shown code c t s q x since)) a flight (subst IsLook (sym name) look) there.at in
-        subst (λ b. Case b flight) (sym one.name) (subst (λ f. Case (looks_as one.which) f) (sym one.is) (look_case one.which one.stage)) n stands is next e
-    step_look n a flight stands is next e = absurd stands.at
+        subst (λ b. Case b flight) (sym one.name) (subst (λ f. Case (looks_as one.which) f) (sym one.is) (look_case one.which one.stage)) n stands is next counts e
+    step_look n a flight stands is next counts e = absurd stands.at
 
     -- by the words, and what is kept beside them
     pub any_look : (n : ℕ) (flight : Flight T) → x.doing ≡ Going flight since → (is_question (want_of t.world.coding flight) ≡ false → n ≡ old_of t.world.words (ask_of (want_of t.world.coding flight)))
@@ -227,7 +237,7 @@ module _ {T : Type 0} (shown : Shown T) (code : Coding T) (c : ℕ) (t : Trace T
           (after_answer t.world q x (ask_of_doing t.world.coding doing) (old_of t.world.words (ask_of_doing t.world.coding doing)) doing).latest
           (events_of_answer t.world q x (old_of t.world.words (ask_of_doing t.world.coding doing)) doing)
       go (Over others) d e = absurd (no_more wrote (Finished p (Container start) answer) [] e)
-      go (Going flight since) d e = any_look q x since found (Next q) refl (old_of t.world.words (ask_of (want_of t.world.coding flight))) flight d (λ no. refl) _ e
+      go (Going flight since) d e = any_look q x since found (Next q) refl (old_of t.world.words (ask_of (want_of t.world.coding flight))) flight d (λ no. refl) _ (λ no. refl) e
 
   decision_look : (q : ℕ) (said : Bool) → is_due t.world.coding (flight_in t.world q) ≡ true → (o : Option (Party T)) → party_of q t.world.latest ≡ o → Ended (events_of_decision t.world q said o)
       → LookTurn q (after_decision t.world q said o).kept (after_decision t.world q said o).latest (events_of_decision t.world q said o)
@@ -240,7 +250,7 @@ module _ {T : Type 0} (shown : Shown T) (code : Coding T) (c : ℕ) (t : Trace T
       go (Going flight since) d e =
           let here : flight_in t.world q ≡ Some flight = ap (λ o. flight_of (doing_of o)) found ∙ ap (λ d. flight_of (Some d)) d in
           let asks : is_question (want_of t.world.coding flight) ≡ true = rw here at due in
-          any_look q x since found (Decide q said) refl (number_of said) flight d (λ no. both_ways (is_question (want_of t.world.coding flight)) no asks) _ e
+          any_look q x since found (Decide q said) refl (number_of said) flight d (λ no. both_ways (is_question (want_of t.world.coding flight)) no asks) _ (λ no. both_ways (is_question (want_of t.world.coding flight)) no asks) e
 
   -- the turn of a look that ends
   pub record LookEnd (new : Trace T) : Type 0 where
@@ -308,6 +318,21 @@ module _ {T : Type 0} (shown : Shown T) (code : Coding T) (c : ℕ) (t : Trace T
               (told.current l.next (subst (λ es. IsProperSoFar (put end.party l.next t.world.latest) es) events_new (subst (λ ps. IsProperSoFar ps new.events) l.latest_is (proper_so_far new proper)))),
         )
 
+    -- what a get_state shows it has copied itself
+    abbrev Own : ℕ → ContainerStart T → Type 0
+    Own n a =
+        (state : ContainerState T) → state_in new.world.kept n ≡ Some state → a ≡ starts.TheVariants.GetState → (i : ℕ) (value : T) → shows state i ≡ Some value → HasCopied n i value new.events
+
+    here_own : Own end.party (looks_as l.which)
+    here_own state is gets i value shown_there =
+        let left : state_of end.party (states_after code end.party (look_at l.which c l.stage) (old l.stage) s.state.states) ≡ Some state = ap (λ kept. state_in kept end.party) (sym l.kept_then) ∙ is in
+        let told = look_tells scene inv l.which l.stage l.there.here stands l.there.knows l.there.steps alone_now answer state l.done left in
+        let name : IsGetting end.party t.events = ap name_of l.there.here.span ∙ ap (λ (a : ContainerStart T). Some (Container a)) gets in
+        subst (HasCopied end.party i value) (sym (end.is ∙ ap (λ es. t.events ++ es) l.events_are)) (told.own name i value shown_there)
+
+    pub told_own : Own p start
+    told_own = subst (λ n. Own n start) l.same (subst (Own end.party) (sym l.name) here_own)
+
     pub told_right : Right p start
     told_right = subst (λ n. Right n start) l.same (subst (Right end.party) (sym l.name) here_right)
 
@@ -319,14 +344,18 @@ module _ {T : Type 0} (shown : Shown T) (code : Coding T) (c : ℕ) (t : Trace T
 -- ---- as the promise says it
 
 module _ {T : Type 0} (shown : Shown T) (code : Coding T) (t : Trace T) (turn : Turn T) (r : refusal_of t.world turn ≡ None) (s : frame.Sound (family code t.world.capacity) t) where
-  small : t.world.turns < 2 ^ 64 - 2
+  pub small : t.world.turns < 2 ^ 64 - 2
   small = (passes t.world turn r).turns
 
-  ended : (p : ℕ) (start : ContainerStart T) (answer : Answer T) (ends : EndsLook p start answer t (after_turn t turn)) → LookEnd shown code t.world.capacity t s small p start answer ends.is_look ends.wrote (after_turn t turn)
+  pub ended : (p : ℕ) (start : ContainerStart T) (answer : Answer T) (ends : EndsLook p start answer t (after_turn t turn)) → LookEnd shown code t.world.capacity t s small p start answer ends.is_look ends.wrote (after_turn t turn)
   ended p start answer ends = look_end shown code t.world.capacity t s small p start answer ends.is_look ends.wrote turn r (append_cancel_left t.events (events_of t.world turn) _ ends.is)
 
   pub looks_right : LooksRight t turn (after_turn t turn)
   looks_right p start answer state ends found = told_right shown code t.world.capacity t s small p start answer ends.is_look ends.wrote (after_turn t turn) (ended p start answer ends) state found
+
+  pub looks_own : ShowsOwnCopies t (after_turn t turn)
+  looks_own p i answer state value ends found shown_there =
+      told_own shown code t.world.capacity t s small p starts.TheVariants.GetState answer ends.is_look ends.wrote (after_turn t turn) (ended p starts.TheVariants.GetState answer ends) state found refl i value shown_there
 
   pub looks_leave : LeavesState t turn (after_turn t turn)
   looks_leave p start answer ends = told_leaves shown code t.world.capacity t s small p start answer ends.is_look ends.wrote (after_turn t turn) (ended p start answer ends)

@@ -84,7 +84,7 @@ module _ {T : Type 0} (e : Element T) (zero_is : e.count ≡ 0) where
   number_same (suc n) (suc i) = number_same n i
 
 module _ {T : Type 0} (value : T) where
-  shows_same : (n i : ℕ) → value_if (slice_get (replicate n (record { count = 0; value = value })) i) ≡ None
+  pub shows_same : (n i : ℕ) → value_if (slice_get (replicate n (record { count = 0; value = value })) i) ≡ None
   shows_same zero i = refl
   shows_same (suc n) zero = refl
   shows_same (suc n) (suc i) = shows_same n i

@@ -34,9 +34,10 @@ use Rattle.container_laws.proofs.Core.{count_at}
 use Rattle.container_laws.proofs.HiddenKnows.{StillStands}
 use Rattle.container_laws.proofs.HiddenOn.{hidden_even, hidden_other, hidden_freed, hides_it}
 use Rattle.container_laws.proofs.Invariant.{Scene, Inv, Does, before, after, of_set, inv_of_set}
+use Rattle.container_laws.proofs.KeptLocks.{NoIndex, FilledBut, filled_calm}
 use Rattle.container_laws.proofs.Knows.{Recovers, RecoverKnows, IsLong, Knows}
 use Rattle.container_laws.proofs.Left.{left_after, left_of}
-use Rattle.container_laws.proofs.RecoverParts.{none, hidden_still, as_recover, first, Few, then_at, stays_does, go_on, recs, asked_on, told_none, comes_to_next}
+use Rattle.container_laws.proofs.RecoverParts.{none, hidden_still, as_recover, first, Few, then_at, stays_does, go_on, recs, fills_on, asked_on, told_none, comes_to_next}
 use Rattle.container_laws.proofs.RecoverReads.{Here, Becomes, Goes, Course, course_calm, calm_recs, calm_on, index_at_least}
 use Rattle.container_laws.proofs.Recoveries.{rehidden, one_of_none, has_of_none, has_latest, was_act, course_then}
 use Rattle.container_laws.proofs.SetSteps.{rest_set, wide_set, frees}
@@ -69,10 +70,10 @@ module _ {T : Type 0} (scene : Scene T) (inv : Inv scene) (owner : ℕ) (mode : 
     stays_on next few at known =
         go_on scene inv owner mode fits room stage here room next ask back [] none_lengthens (stays_does scene inv owner mode fits room stage here (words_after ws ask) stays (then_at scene inv owner mode fits room stage here room next ask back) refl) tt few at known
 
-    pub stays_next : Few scene inv owner mode fits ask back 1 (index + 1) → Course scene inv owner mode fits index (index + 1) → Becomes scene inv owner mode fits ask back [] room (recover_comes_to (first scene inv owner mode fits) (index + 1))
-    stays_next few course =
+    pub stays_next : Few scene inv owner mode fits ask back 1 (index + 1) → Course scene inv owner mode fits index (index + 1) → FilledBut mode p owner NoIndex (events ++ []) → Becomes scene inv owner mode fits ask back [] room (recover_comes_to (first scene inv owner mode fits) (index + 1))
+    stays_next few course fill =
         comes_to_next scene inv owner mode fits room stage here long ask back [] none_lengthens tt (λ y owe. stays_does scene inv owner mode fits room stage here (words_after ws ask) stays y owe) index few course.within
-        (λ i low. course_calm scene inv owner mode fits index (index + 1) i (index + 1) course low (omega arith)) paid stays_recs
+        (λ i low. course_calm scene inv owner mode fits index (index + 1) i (index + 1) course low (omega arith)) paid stays_recs fill
 
   pub just_on : HasJustFreed (all scene) → HasJustFreed (all scene ++ [])
   just_on h = subst HasJustFreed (sym (append-nil (all scene))) h
@@ -80,7 +81,7 @@ module _ {T : Type 0} (scene : Scene T) (inv : Inv scene) (owner : ℕ) (mode : 
   -- ---- the exchange of a cell
 
   module _ (room : rooms.Kept 128) (index count : ℕ) (here : Here scene inv owner mode fits room (recovers.TheVariants.EmptiesCell index count)) (long : IsLong room) (stands : RecoverAt c z (all scene) (done scene) owner mode (recovers.TheVariants.EmptiesCell index count))
-      (k : RecoverKnows code c owner mode room (recovers.TheVariants.EmptiesCell index count) (sees_now scene)) (s : steps ≤ 4 + z + index * for_index c z mode + backs * for_back c z mode) where
+      (k : RecoverKnows code c owner mode room (recovers.TheVariants.EmptiesCell index count) (sees_now scene)) (s : steps ≤ 4 + z + index * for_index c z mode + backs * for_back c z mode) (f : FilledBut mode p owner NoIndex events) where
     abbrev empty_it : Option Ask
     empty_it = Some (exchanges (cell_word index) owner empty)
 
@@ -102,7 +103,7 @@ module _ {T : Type 0} (scene : Scene T) (inv : Inv scene) (owner : ℕ) (mode : 
         (λ i low. course_calm scene inv owner mode fits index (index + 1) i (index + 1) stands.0 low (omega arith)) paid_now
         (λ y. recs scene inv owner mode fits room stage here empty_it false y [] tt tt none_lengthens goes (index + 1) (index + 1) (λ i. i ≡ index) none none none none k.1
         (asked_on scene inv owner mode fits room stage here empty_it false y [] tt tt none_lengthens goes (index + 1) k.1.asked) (told_none scene inv owner mode fits room stage here)
-        (λ i e. inl (λ filled. other (inv.good.cells index stands.0.within ∙ ap cell_of (subst (λ n. filled_of n events ≡ Some owner) e (subst (λ es. filled_of i es ≡ Some owner) (append-nil events) filled))))) (λ i e. absurd e) (hidden_still scene inv owner mode fits room stage here empty_it y k.1.hidden))
+        (λ i e. inl (λ filled. other (inv.good.cells index stands.0.within ∙ ap cell_of (subst (λ n. filled_of n events ≡ Some owner) e (subst (λ es. filled_of i es ≡ Some owner) (append-nil events) filled))))) (λ i e. absurd e) (hidden_still scene inv owner mode fits room stage here empty_it y k.1.hidden)) (filled_calm p owner mode NoIndex events f)
 
     module _ (is : cell ws index ≡ owner) where
       new : words_after ws empty_it ≡ set ws (cell_word index) empty
@@ -150,6 +151,11 @@ module _ {T : Type 0} (scene : Scene T) (inv : Inv scene) (owner : ℕ) (mode : 
           rehidden code c owner (index + 1) none (StillStands code c index count (after scene (words_after ws empty_it) y freeing)) none (then_sees scene empty_it false scene.states y freeing) (recs_freed y)
           (hidden_even code c p owner index count (after scene (words_after ws empty_it) y freeing) (does y owe).changes.whole stands.0.within (even_is count t) (recs_freed y).hidden)
 
+      fills_freed : (y : Party T) → FilledBut mode p owner (λ i. i ≡ index) (events ++ freeing)
+      fills_freed y =
+          fills_on scene inv owner mode fits room (recovers.TheVariants.EmptiesCell index count) here empty_it false y freeing (refl, tt) tt (λ start w. refl) set_does.goes NoIndex (λ i. i ≡ index)
+          (λ i was. ⊎_elim (λ had. inl had) (λ e. let same : index ≡ i = cc in inr (sym same)) (was_one (Frees i owner) (Frees index owner) (all scene) was)) (λ i e. absurd e) f
+
       course_freed : IsInCourse c z (all scene ++ Frees index owner ∷ []) (done scene ++ []) owner index (index + 1)
       course_freed =
           course_then c z (all scene) (Frees index owner ∷ []) (done scene) [] owner index (index + 1) index (index + 1) stands.0 stands.0.within (omega arith) tt tt
@@ -160,7 +166,7 @@ module _ {T : Type 0} (scene : Scene T) (inv : Inv scene) (owner : ℕ) (mode : 
           let y = then_at scene inv owner mode fits room (recovers.TheVariants.EmptiesCell index count) here room (recovers.TheVariants.Raises index raises.TheVariants.LoadsCounter) empty_it false in
           go_on scene inv owner mode fits room (recovers.TheVariants.EmptiesCell index count) here room (recovers.TheVariants.Raises index raises.TheVariants.LoadsCounter) empty_it false freeing (λ start w. refl) (does y refl)
           ((refl, ⊎_elim (λ yes. inl yes.0) (λ shown. inr shown) stands.1), tt) (omega arith) (course_freed, record { index = index; owner = owner; latest = record { before = all scene; is = refl } })
-          (long, (paid_now, recs_empty t y refl))
+          (long, (paid_now, recs_empty t y refl), fills_freed y)
       empties false t =
           let y = then_at scene inv owner mode fits room (recovers.TheVariants.EmptiesCell index count) here room (recovers.TheVariants.Hides index count) empty_it false in
           go_on scene inv owner mode fits room (recovers.TheVariants.EmptiesCell index count) here room (recovers.TheVariants.Hides index count) empty_it false freeing (λ start w. refl) (does y refl)
@@ -175,6 +181,7 @@ module _ {T : Type 0} (scene : Scene T) (inv : Inv scene) (owner : ℕ) (mode : 
                 left = λ proper eq. fold-append (left_after index) true events freeing ∙ at_same index index true (left_of index events) refl;
               },
             ),
+            fills_freed y,
           )
 
     pub empties_step : StepOf scene (Recover owner mode) (recover_at c owner mode room (recovers.TheVariants.EmptiesCell index count))
@@ -188,7 +195,7 @@ module _ {T : Type 0} (scene : Scene T) (inv : Inv scene) (owner : ℕ) (mode : 
   -- ---- what stands there is hidden
 
   module _ (room : rooms.Kept 128) (index count : ℕ) (here : Here scene inv owner mode fits room (recovers.TheVariants.Hides index count)) (long : IsLong room) (stands : RecoverAt c z (all scene) (done scene) owner mode (recovers.TheVariants.Hides index count))
-      (k : RecoverKnows code c owner mode room (recovers.TheVariants.Hides index count) (sees_now scene)) (s : steps ≤ 5 + z + index * for_index c z mode + backs * for_back c z mode) where
+      (k : RecoverKnows code c owner mode room (recovers.TheVariants.Hides index count) (sees_now scene)) (s : steps ≤ 5 + z + index * for_index c z mode + backs * for_back c z mode) (f : FilledBut mode p owner (λ i. i ≡ index) events) where
     abbrev hide_it : Option Ask
     hide_it = Some (exchanges (count_word c index) count (one_more count))
 
@@ -227,10 +234,11 @@ module _ {T : Type 0} (scene : Scene T) (inv : Inv scene) (owner : ℕ) (mode : 
                     (λ i said. inl (⊎_elim (λ yes. inl (one_of_none (Yes i owner) (all scene) yes)) (λ seen. ⊎_elim (λ had. inr had) (λ e. absurd (cc)) (was_act (Sees i) (HidesOne index) (done scene) seen)) said))
                     (λ i e. absurd e) (λ i e. absurd e) (hides_it scene (Recover owner mode) tt here.span owner (words_after ws hide_it) y index count k.1.hidden),
               ),
+              fills_on scene inv owner mode fits room (recovers.TheVariants.Hides index count) here hide_it false y hiding (refl, tt) tt (λ start w. refl) does.set.goes (λ i. i ≡ index) (λ i. i ≡ index) (λ i was. inl (one_of_none (Frees i owner) (all scene) was)) (λ i e. e) f,
             )
         go false t =
             let other : count_now ≢ count = grind (arith, nat_tests) in
             let same = fails_same ws (count_word c index) count (one_more count) other in
             calm_on scene inv owner mode fits room (recovers.TheVariants.Hides index count) here long hide_it same false paid_hide room next (omega arith)
             (course_calm scene inv owner mode fits index (index + 1) index (index + 1) stands.0 stands.0.within (omega arith), just_on just)
-            (long, (paid_hide, calm_recs scene inv owner mode fits room (recovers.TheVariants.Hides index count) here long hide_it same false paid_hide (then_at scene inv owner mode fits room (recovers.TheVariants.Hides index count) here room next hide_it false) (index + 1) (rehidden code c owner (index + 1) none (StillStands code c index count (before scene)) none (sees_now scene) k.1 (hidden_other code c p owner index count (before scene) other k.1.hidden))))
+            (long, (paid_hide, calm_recs scene inv owner mode fits room (recovers.TheVariants.Hides index count) here long hide_it same false paid_hide (then_at scene inv owner mode fits room (recovers.TheVariants.Hides index count) here room next hide_it false) (index + 1) (rehidden code c owner (index + 1) none (StillStands code c index count (before scene)) none (sees_now scene) k.1 (hidden_other code c p owner index count (before scene) other k.1.hidden))), filled_calm p owner mode (λ i. i ≡ index) events f)

@@ -41,6 +41,8 @@ use Rattle.container_laws.proofs.Effects.{calmly}
 use Rattle.container_laws.proofs.HiddenKnows.{HasHidden}
 use Rattle.container_laws.proofs.HiddenOn.{hidden_on}
 use Rattle.container_laws.proofs.Invariant.{Scene, Inv, before, after, AreAllRight, Does, of_set, inv_of_set, wrote_of}
+use Rattle.container_laws.proofs.Keeping.{shut_later}
+use Rattle.container_laws.proofs.KeptLocks.{NoIndex, FilledBut, filled_then}
 use Rattle.container_laws.proofs.Knows.{AskedBelow, Recovers, IsLong, Knows}
 use Rattle.container_laws.proofs.Recoveries.{one_of_none, has_of_none}
 use Rattle.container_laws.proofs.Recoveries as knowing
@@ -126,6 +128,11 @@ module _ {T : Type 0} (scene : Scene T) (inv : Inv scene) (owner : ℕ) (mode : 
           knowing.recovers_then code c owner (sees_now scene) (words_after ws ask) scene.states (put p y latest) (since_then scene ask) (changes_then scene ask) (backs_then scene back) es fresh (deeds_more scene start here.span es own longer) (acts_more scene start here.span es own longer) goes
           k k' Was Now New But But' h asked told was new hidden
 
+      -- of its locks
+      pub fills_on : (Was But : ℕ → Type 0) → ((i : ℕ) → IsOneOf (Frees i owner) (deeds_of p events ++ deeds es) → IsOneOf (Frees i owner) (deeds_of p events) ⊎ But i) → ((i : ℕ) → Was i → But i) → FilledBut mode p owner Was events → FilledBut mode p owner But (events ++ es)
+      fills_on Was But split more h =
+          filled_then p owner mode Was But events es fresh (λ i was. split i (subst (IsOneOf (Frees i owner)) (deeds_more scene start here.span es own longer) was)) more (shut_later events es) h
+
       pub asked_on : (k : ℕ) → AskedBelow code c owner k (sees_now scene) → AskedBelow code c owner k (then_sees scene ask back scene.states y es)
       asked_on k h =
           knowing.asked_then code c owner (sees_now scene) (words_after ws ask) scene.states (put p y latest) (since_then scene ask) (changes_then scene ask) (backs_then scene back) es fresh (deeds_more scene start here.span es own longer) (acts_more scene start here.span es own longer) goes k h
@@ -151,7 +158,7 @@ module _ {T : Type 0} (scene : Scene T) (inv : Inv scene) (owner : ℕ) (mode : 
     module _ (long : IsLong room) (ask : Option Ask) (back : Bool) (es : List (Event T)) (longer : Lengthens es) (stands : AllFollow (Stands promise c) (Open (Container (Recover owner mode)) (wrote_of p events)) es)
         (does : (y : Party T) → owes (flight_of (Some y.doing)) ≡ true → Does scene (words_after ws ask) scene.states y es) (index : ℕ) (few : Few ask back 1 (index + 1)) (below : index < c)
         (course : (i : ℕ) → i < c → IsInCourse c z (all scene ++ deeds es) (done scene ++ acts es) owner i (index + 1)) (paid : backs_then scene back + since_then scene ask ≤ changes_then scene ask)
-        (rec : (y : Party T) → Recovers code c owner (index + 1) none none (then_sees scene ask back scene.states y es)) where
+        (rec : (y : Party T) → Recovers code c owner (index + 1) none none (then_sees scene ask back scene.states y es)) (fill : FilledBut mode p owner NoIndex (events ++ es)) where
       pub comes_to_next : ShowsThen scene start ask back scene.states es (as_recover room (recover_comes_to first (index + 1)))
       comes_to_next = go (nat_lt (index + 1) c) refl
         where
@@ -159,10 +166,10 @@ module _ {T : Type 0} (scene : Scene T) (inv : Inv scene) (owner : ℕ) (mode : 
           go true t =
               let more : index + 1 < c = grind (arith, nat_tests) in
               let y = then_at room (recovers.TheVariants.LoadsCell (index + 1)) ask back in
-              go_on room (recovers.TheVariants.LoadsCell (index + 1)) ask back es longer (does y refl) stands few (course (index + 1) more) (long, (paid, rec y))
+              go_on room (recovers.TheVariants.LoadsCell (index + 1)) ask back es longer (does y refl) stands few (course (index + 1) more) (long, (paid, rec y), fill)
           go false t =
               let last : c ≤ index + 1 = grind (arith, nat_tests) in
               let is : index + 1 ≡ c = omega arith in
               let times : (index + 1) * for_index c z mode ≡ c * for_index c z mode = ap (λ n. n * for_index c z mode) is in
               let y = then_at room recovers.TheVariants.LoadsCounterAgain ask back in
-              go_on room recovers.TheVariants.LoadsCounterAgain ask back es longer (does y refl) stands (omega arith) ((course index below).freed) (long, (paid, subst (λ n. Recovers code c owner n none none (then_sees scene ask back scene.states y es)) is (rec y)))
+              go_on room recovers.TheVariants.LoadsCounterAgain ask back es longer (does y refl) stands (omega arith) ((course index below).freed) (long, (paid, subst (λ n. Recovers code c owner n none none (then_sees scene ask back scene.states y es)) is (rec y)), fill)

@@ -1,7 +1,8 @@
 -- The last steps of a recovery: it raises the counter, locks, looks at the counter again, and counts its change.
-use Rattle.std.proofs.Common.{◌≡◌, ◌≢◌, ⊎_elim, inl, inr, ℕ, ◌+◌, ◌*◌, ◌<◌, ◌≤◌, ◌==◌, if◌then◌else◌, Bool, false, true, Option, Some, None, List, [], ◌∷◌, ◌++◌, set, refl, sym, ap, subst, append-nil, arith}
+use Rattle.std.proofs.Common.{◌≡◌, ◌≢◌, ⊎_elim, inl, inr, ℕ, ◌+◌, ◌*◌, ◌<◌, ◌≤◌, ◌==◌, if◌then◌else◌, Bool, false, true, Option, Some, None, is_some, List, [], ◌∷◌, ◌++◌, set, refl, sym, ap, subst, append-nil, arith}
 use Rattle.std.proofs.lemmas.Bool.{cases_lt}
 use Rattle.std.proofs.lemmas.Bool.Decides.{nat_tests}
+use Rattle.std.proofs.lemmas.List.Sums.{fold-append}
 use Rattle.steps.specs.declared.ask.Ask.{Ask}
 use Rattle.steps.specs.declared.ask.After.{After}
 use Rattle.steps.specs.declared.ask.After.TheVariants.{Done}
@@ -28,14 +29,16 @@ use Rattle.model.specs.declared.families.container.ContainerStart.TheVariants.{R
 use Rattle.model.specs.Families.Container.Bounds.{most_steps}
 use Rattle.model.specs.Families.Container.Promises.{HasRecovered, AnswersRight, promise}
 use Rattle.model.specs.Families.Container.Reading.{Sees}
-use Rattle.model.specs.Families.Indices.Robust.Promises.{IsProper, IsUnlocked, StillToFree}
-use Rattle.model.specs.Families.Indices.Robust.Reading.{Frees, Yes, Locks, filled_of, holder_of, is_dead}
+use Rattle.model.specs.Families.Container.Recoveries.{UnlockedAtLast, FilledSinceEach}
+use Rattle.model.specs.Families.Indices.Reading.{locked_after, is_locked}
+use Rattle.model.specs.Families.Indices.Robust.Promises.{IsProper, IsFilled, IsUnlocked, StillToFree}
+use Rattle.model.specs.Families.Indices.Robust.Reading.{Frees, Yes, Locks, filled_of, holder_of, is_dead, deeds_of}
 use Rattle.model.specs.Families.Indices.Robust.Spans.{HasJustFreed}
 use Rattle.model.specs.Families.Indices.Robust.Steps.{locked_by}
-use Rattle.model.specs.Moments.{HeldOnce}
 use Rattle.model.specs.Promises.Spans.{Stands}
 use Rattle.model.specs.Reading.{Open}
 use Rattle.model.specs.Turns.{old_of, words_after}
+use Rattle.model.proofs.Moments.{held_now}
 use Rattle.model.proofs.Readings.{AllFollow}
 use Rattle.robust_laws.proofs.Core.{counter_of}
 use Rattle.robust_laws.proofs.Counting.{times_below}
@@ -47,13 +50,14 @@ use Rattle.robust_laws.proofs.Locks as set_locks
 use Rattle.robust_laws.proofs.Parts.{raise_ask, lock_ask, raise_step, lock_step, IsSaid, none_beyond}
 use Rattle.robust_laws.proofs.Past.{through_now}
 use Rattle.robust_laws.proofs.Recovers.{nothing_said}
-use Rattle.robust_laws.proofs.Stages.{loads_same}
+use Rattle.robust_laws.proofs.Stages.{loads_same, exchanges, exchange_sets, fails_same}
 use Rattle.robust_laws.proofs.Stages as set_stages
 use Rattle.robust_laws.proofs.Standing.{raise_number, lock_number, LockAt}
 use Rattle.container_laws.proofs.HiddenKnows.{HasHidden}
 use Rattle.container_laws.proofs.HiddenOn.{hidden_on}
 use Rattle.container_laws.proofs.Invariant.{Scene, Inv, after, of_set, inv_of_set, wrote_of}
 use Rattle.container_laws.proofs.Keeping.{shut_later}
+use Rattle.container_laws.proofs.KeptLocks.{NoIndex, FilledBut, FoundFilled, filled_calm, filled_locked, filled_last, filled_each}
 use Rattle.container_laws.proofs.Knows.{RecoverSays, RecoverKnows, IsLong, Knows}
 use Rattle.container_laws.proofs.RecoverParts.{none, hidden_still, as_recover, first, Few, then_at, recs, asked_on, comes_to_next}
 use Rattle.container_laws.proofs.RecoverEnds.{stays_recs, stays_on, stays_next, just_on, empties_step, hides_step}
@@ -82,7 +86,7 @@ module _ {T : Type 0} (scene : Scene T) (inv : Inv scene) (owner : ℕ) (mode : 
   -- ---- the raise of the counter
 
   module _ (room : rooms.Kept 128) (index : ℕ) (raise : Raise) (here : Here scene inv owner mode fits room (recovers.TheVariants.Raises index raise)) (long : IsLong room) (course : Course scene inv owner mode fits index (index + 1)) (just : HasJustFreed (all scene))
-      (k : RecoverKnows code c owner mode room (recovers.TheVariants.Raises index raise) (sees_now scene)) (s : steps ≤ 6 + z + raise_number raise + index * for_index c z mode + backs * for_back c z mode) where
+      (k : RecoverKnows code c owner mode room (recovers.TheVariants.Raises index raise) (sees_now scene)) (s : steps ≤ 6 + z + raise_number raise + index * for_index c z mode + backs * for_back c z mode) (f : FilledBut mode p owner (λ i. i ≡ index) events) where
     abbrev raises_to : Option Ask → Bool → After Raise ReleaseState → Type 0
     raises_to ask back r =
         Leads scene (Recover owner mode) ask back scene.states [] (as_recover scene inv owner mode fits room (recover_raised (first scene inv owner mode fits) index mode r))
@@ -95,12 +99,12 @@ module _ {T : Type 0} (scene : Scene T) (inv : Inv scene) (owner : ℕ) (mode : 
         → Leads scene (Recover owner mode) ask false scene.states [] (as_recover scene inv owner mode fits room (recover_raised (first scene inv owner mode fits) index m (Done states.TheVariants.Unlocked)))
     by_mode Default is ask stays paid few =
         let wide = index_at_least c z mode in
-        stays_next scene inv owner mode fits room this here long ask false stays paid index k.1 (omega arith) course
+        stays_next scene inv owner mode fits room this here long ask false stays paid index k.1 (omega arith) course (subst (λ m. FilledBut m p owner NoIndex (events ++ [])) (sym is) tt)
     by_mode LockIfLastIndex is ask stays paid few =
         let y = then_at scene inv owner mode fits room this here room (recovers.TheVariants.Locks index first_lock) ask false in
         stays_on scene inv owner mode fits room this here long ask false stays paid index k.1 (recovers.TheVariants.Locks index first_lock) (omega arith)
         (course_calm scene inv owner mode fits index (index + 1) index (index + 1) course course.within (omega arith), just_on scene inv owner mode fits just, is, tt)
-        (long, (paid, stays_recs scene inv owner mode fits room this here long ask false stays paid index k.1 y, tt))
+        (long, (paid, stays_recs scene inv owner mode fits room this here long ask false stays paid index k.1 y, tt), (filled_calm p owner mode (λ i. i ≡ index) events f, tt))
 
     raises_step : raises_to (Some (raise_ask raise)) (raise_goes_back raise (counter_of ws)) (raise_after raise (counter_of ws))
     raises_step =
@@ -113,7 +117,7 @@ module _ {T : Type 0} (scene : Scene T) (inv : Inv scene) (owner : ℕ) (mode : 
         let y = then_at scene inv owner mode fits room this here room (recovers.TheVariants.Raises index (raises.TheVariants.ExchangesCounter number)) ask back in
         stays_on scene inv owner mode fits room this here long ask back stays paid index k.1 (recovers.TheVariants.Raises index (raises.TheVariants.ExchangesCounter number)) (omega arith)
         (course_calm scene inv owner mode fits index (index + 1) index (index + 1) course course.within (omega arith), just_on scene inv owner mode fits just)
-        (long, (subst (λ es. set_knows.Holding number (set_stages.seen (of_set scene) ask back es)) (sym (append-nil events)) held, stays_recs scene inv owner mode fits room this here long ask back stays paid index k.1 y)))
+        (long, (subst (λ es. set_knows.Holding number (set_stages.seen (of_set scene) ask back es)) (sym (append-nil events)) held, stays_recs scene inv owner mode fits room this here long ask back stays paid index k.1 y), filled_calm p owner mode (λ i. i ≡ index) events f))
         (λ ask back same shut paid few.
         let low = few (6 + z + index * for_index c z mode) (for_back c z mode) (omega arith) (omega arith) in
         let wide = index_at_least c z mode in
@@ -126,6 +130,7 @@ module _ {T : Type 0} (scene : Scene T) (inv : Inv scene) (owner : ℕ) (mode : 
             shut_later events [] (is_shut (of_set scene) (inv_of_set scene inv) shut),
             hidden_still scene inv owner mode fits room this here ask (then_at scene inv owner mode fits room this here room (recovers.TheVariants.AddsChange states.TheVariants.Locked) ask back) k.1.hidden,
           ),
+          tt,
         ))
         (λ ask open_now new paid few.
         let low = few (6 + z + index * for_index c z mode) (for_back c z mode) (omega arith) (omega arith) in
@@ -137,7 +142,7 @@ module _ {T : Type 0} (scene : Scene T) (inv : Inv scene) (owner : ℕ) (mode : 
   -- ---- the lock
 
   module _ (room : rooms.Kept 128) (index : ℕ) (lock : Lock) (here : Here scene inv owner mode fits room (recovers.TheVariants.Locks index lock)) (long : IsLong room) (course : Course scene inv owner mode fits index (index + 1)) (just : HasJustFreed (all scene)) (may_lock : mode ≡ LockIfLastIndex) (at : LockAt c lock)
-      (k : RecoverKnows code c owner mode room (recovers.TheVariants.Locks index lock) (sees_now scene)) (s : steps ≤ 8 + z + lock_number c lock + index * for_index c z mode + backs * for_back c z mode) where
+      (k : RecoverKnows code c owner mode room (recovers.TheVariants.Locks index lock) (sees_now scene)) (s : steps ≤ 8 + z + lock_number c lock + index * for_index c z mode + backs * for_back c z mode) (f : FilledBut mode p owner (λ i. i ≡ index) events × set_knows.LockSays c (FoundFilled p events) lock) where
     abbrev locks_to : Option Ask → Bool → List (Event T) → After Lock ReleaseState → Type 0
     locks_to ask back did r =
         Leads scene (Recover owner mode) ask back scene.states (did ++ []) (as_recover scene inv owner mode fits room (recover_locked (first scene inv owner mode fits) index r))
@@ -151,8 +156,16 @@ module _ {T : Type 0} (scene : Scene T) (inv : Inv scene) (owner : ℕ) (mode : 
     for_an_index : for_index c z mode ≡ z + c + 10
     for_an_index = ap (for_index c z) may_lock
 
-    said : IsSaid (of_set scene) (inv_of_set scene inv) (λ j filled. Unit {0})
-    said = record { none = tt; empty_next = λ j filled low none h. tt; filled_next = λ j filled o low is h. tt }
+    abbrev Says : ℕ → ℕ → Type 0
+    Says = FoundFilled p events
+
+    said : IsSaid (of_set scene) (inv_of_set scene inv) Says
+    said =
+        record {
+          none = λ some. absurd (omega arith);
+          empty_next = λ j filled low none h. h;
+          filled_next = λ j filled o low is h some. record { other = j; once = held_now p (λ part. IsFilled j part × (deeds_of p part ≡ deeds_of p events)) events (ap is_some is, refl) };
+        }
 
     abbrev locking : List (Event T)
     locking = Locked p ∷ []
@@ -174,25 +187,26 @@ module _ {T : Type 0} (scene : Scene T) (inv : Inv scene) (owner : ℕ) (mode : 
         (λ i said. inl (⊎_elim (λ yes. ⊎_elim (λ had. inl had) (λ e. absurd (cc)) (was_one (Yes i owner) Locks (all scene) yes)) (λ seen. inr (has_of_none (Sees i) (done scene) seen)) said))
         (λ i e. absurd e) (λ i e. absurd e)
         (hidden_on scene (Recover owner mode) tt here.span owner (words_after ws ask) y locking (refl, tt) tt (λ start w. refl) (λ i was. ⊎_elim (λ had. had) (λ e. absurd (cc)) (was_one (Frees i owner) Locks (all scene) was)) k.1.hidden))
+        (filled_locked p owner mode NoIndex (events ++ locking) (fold-append locked_after false events locking))
 
     locks_step : locks_to (Some (lock_ask lock)) (lock_goes_back lock (old_of ws (Some (lock_ask lock)))) (locked_by p lock (old_of ws (Some (lock_ask lock)))) (lock_after c lock (old_of ws (Some (lock_ask lock))))
     locks_step =
         let wide = for_a_back in
         let each = for_an_index in
-        lock_step (of_set scene) (inv_of_set scene inv) (λ j filled. Unit {0}) said locks_to lock at k.0 k.2 (nothing_said c lock)
+        lock_step (of_set scene) (inv_of_set scene inv) Says said locks_to lock at k.0 k.2 f.1
         (λ next ask back stays next_at held scanned says few.
         let low = few (8 + z + index * for_index c z mode) (for_back c z mode) (omega arith) (omega arith) in
         let paid = lock_paid next ask back held in
         let y = then_at scene inv owner mode fits room locks_at here room (recovers.TheVariants.Locks index next) ask back in
         stays_on scene inv owner mode fits room locks_at here long ask back stays paid index k.1 (recovers.TheVariants.Locks index next) (omega arith)
         (course_calm scene inv owner mode fits index (index + 1) index (index + 1) course course.within (omega arith), just_on scene inv owner mode fits just, may_lock, next_at)
-        (long, (paid_calm next ask back held, stays_recs scene inv owner mode fits room locks_at here long ask back stays paid index k.1 y, scanned_calm next ask back scanned)))
+        (long, (paid_calm next ask back held, stays_recs scene inv owner mode fits room locks_at here long ask back stays paid index k.1 y, scanned_calm next ask back scanned), (filled_calm p owner mode (λ i. i ≡ index) events f.0, subst (λ es. set_knows.LockSays c (FoundFilled p es) next) (sym (append-nil events)) says)))
         (λ ask same shut paid few.
         let low = few (8 + z + index * for_index c z mode) (for_back c z mode) (omega arith) (omega arith) in
-        stays_next scene inv owner mode fits room locks_at here long ask false (set_effects.stays_same (of_set scene) (inv_of_set scene inv) (words_after ws ask) same) paid index k.1 (omega arith) course)
+        stays_next scene inv owner mode fits room locks_at here long ask false (set_effects.stays_same (of_set scene) (inv_of_set scene inv) (words_after ws ask) same) paid index k.1 (omega arith) course (filled_calm p owner mode NoIndex events (filled_locked p owner mode NoIndex events (is_shut (of_set scene) (inv_of_set scene inv) shut))))
         (λ filled ask stays open_now more says paid few.
         let low = few (8 + z + index * for_index c z mode) (for_back c z mode) (omega arith) (omega arith) in
-        stays_next scene inv owner mode fits room locks_at here long ask false stays paid index k.1 (omega arith) course)
+        stays_next scene inv owner mode fits room locks_at here long ask false stays paid index k.1 (omega arith) course (filled_calm p owner mode NoIndex events (filled_last p owner mode NoIndex events (says more))))
         (λ ask nobody open_now new paid few.
         let low = few (8 + z + index * for_index c z mode) (for_back c z mode) (omega arith) (omega arith) in
         locks_set ask nobody open_now new paid (omega arith))
@@ -214,7 +228,7 @@ module _ {T : Type 0} (scene : Scene T) (inv : Inv scene) (owner : ℕ) (mode : 
   -- ---- the second look at the counter
 
   module _ (room : rooms.Kept 128) (here : Here scene inv owner mode fits room recovers.TheVariants.LoadsCounterAgain) (long : IsLong room) (freed : RecoverAt c z (all scene) (done scene) owner mode recovers.TheVariants.LoadsCounterAgain)
-      (k : RecoverKnows code c owner mode room recovers.TheVariants.LoadsCounterAgain (sees_now scene)) (s : steps ≤ 1 + c * for_index c z mode + backs * for_back c z mode) where
+      (k : RecoverKnows code c owner mode room recovers.TheVariants.LoadsCounterAgain (sees_now scene)) (s : steps ≤ 1 + c * for_index c z mode + backs * for_back c z mode) (f : FilledBut mode p owner NoIndex events) where
     abbrev load_again : Option Ask
     load_again = Some (set_stages.loads 0)
 
@@ -241,10 +255,13 @@ module _ {T : Type 0} (scene : Scene T) (inv : Inv scene) (owner : ℕ) (mode : 
         go true t =
             let shut : counter_of ws ≡ locked = grind (arith, nat_tests) in
             calm_on scene inv owner mode fits room recovers.TheVariants.LoadsCounterAgain here long load_again (loads_same ws 0) false paid_again room (recovers.TheVariants.AddsChange states.TheVariants.Locked) (omega arith) tt
-            (long, (paid_again, shut_later events [] (is_shut (of_set scene) (inv_of_set scene inv) shut), hidden_again states.TheVariants.Locked))
+            (long, (paid_again, shut_later events [] (is_shut (of_set scene) (inv_of_set scene inv) shut), hidden_again states.TheVariants.Locked), tt)
         go false t =
+            let open_now : counter_of ws ≢ locked = grind (arith, nat_tests) in
+            let free : is_locked events ≡ false = unlocked (of_set scene) (inv_of_set scene inv) open_now in
+            let now : UnlockedAtLast p events = held_now p (λ part. IsUnlocked part × (deeds_of p part ≡ deeds_of p events)) events (free, refl) in
             calm_on scene inv owner mode fits room recovers.TheVariants.LoadsCounterAgain here long load_again (loads_same ws 0) false paid_again room (recovers.TheVariants.AddsChange states.TheVariants.Unlocked) (omega arith) tt
-            (long, (paid_again, subst (λ es. (is_dead owner es ≡ true) × HeldOnce p IsUnlocked es × HasRecovered p owner es) (sym (append-nil events)) (k.1.dead, k.1.was_open, recovered), hidden_again states.TheVariants.Unlocked))
+            (long, (paid_again, subst (λ es. (is_dead owner es ≡ true) × UnlockedAtLast p es × HasRecovered p owner es × FilledSinceEach mode p owner es) (sym (append-nil events)) (k.1.dead, now, recovered, filled_each p owner mode events free f), hidden_again states.TheVariants.Unlocked), tt)
 
   -- ---- the change is counted, and the call ends
 
@@ -253,9 +270,9 @@ module _ {T : Type 0} (scene : Scene T) (inv : Inv scene) (owner : ℕ) (mode : 
     abbrev end_it : Option Ask
     end_it = Some (adds_one (change_word c))
 
-    answers_right : (state : ReleaseState) → RecoverSays code c owner state (sees_now scene) → AnswersRight c events (Finished p (Container (Recover owner mode)) (answers.State state))
+    answers_right : (state : ReleaseState) → RecoverSays code c owner mode state (sees_now scene) → AnswersRight c events (Finished p (Container (Recover owner mode)) (answers.State state))
     answers_right states.TheVariants.Locked h = h
-    answers_right states.TheVariants.Unlocked h = (h.1, h.2)
+    answers_right states.TheVariants.Unlocked h = (h.1, h.2, h.3)
 
     end_step : StepOf scene (Recover owner mode) (recover_at c owner mode room (recovers.TheVariants.AddsChange state))
     end_step =
@@ -278,22 +295,22 @@ module _ {T : Type 0} (scene : Scene T) (inv : Inv scene) (owner : ℕ) (mode : 
 
   pub recover_step : (room : rooms.Kept 128) (stage : RecoverStage) → Moves room stage
   recover_step room recovers.TheVariants.LoadsCounter at here k s = counter_step scene inv owner mode fits room here k.0 at k.1 s
-  recover_step room (recovers.TheVariants.LoadsCell index) at here k s = cell_step scene inv owner mode fits room index here k.0 at k.1 s
-  recover_step room (recovers.TheVariants.LoadsCount index) at here k s = count_step scene inv owner mode fits room index here k.0 at k.1 s
-  recover_step room (recovers.TheVariants.LoadsWord index count word) at here k s = word_step scene inv owner mode fits room index count word here k.0 at k.1 s
-  recover_step room (recovers.TheVariants.ChecksCount index count) at here k s = check_step scene inv owner mode fits room index count here k.0 at k.1 s
-  recover_step room (recovers.TheVariants.Asks index count) at here k s = decided scene inv owner mode fits room index count at here k.0 k.1 s 0
-  recover_step room (recovers.TheVariants.EmptiesCell index count) at here k s = empties_step scene inv owner mode fits room index count here k.0 at k.1 s
-  recover_step room (recovers.TheVariants.Hides index count) at here k s = hides_step scene inv owner mode fits room index count here k.0 at k.1 s
-  recover_step room (recovers.TheVariants.Raises index raises.TheVariants.LoadsCounter) at here k s = raises_step room index raises.TheVariants.LoadsCounter here k.0 at.0 at.1 k.1 s
-  recover_step room (recovers.TheVariants.Raises index (raises.TheVariants.ExchangesCounter number)) at here k s = raises_step room index (raises.TheVariants.ExchangesCounter number) here k.0 at.0 at.1 k.1 s
-  recover_step room (recovers.TheVariants.Locks index (parts.TheVariants.Counts counts.TheVariants.LoadsCounter)) at here k s = locks_step room index (parts.TheVariants.Counts counts.TheVariants.LoadsCounter) here k.0 at.0 at.1 at.2 at.3 k.1 s
-  recover_step room (recovers.TheVariants.Locks index (parts.TheVariants.Counts (counts.TheVariants.LoadsCell number i filled))) at here k s = locks_step room index (parts.TheVariants.Counts (counts.TheVariants.LoadsCell number i filled)) here k.0 at.0 at.1 at.2 at.3 k.1 s
-  recover_step room (recovers.TheVariants.Locks index (parts.TheVariants.Counts (counts.TheVariants.ExchangesCounter number filled))) at here k s = locks_step room index (parts.TheVariants.Counts (counts.TheVariants.ExchangesCounter number filled)) here k.0 at.0 at.1 at.2 at.3 k.1 s
-  recover_step room (recovers.TheVariants.Locks index (parts.TheVariants.ExchangesCounter number)) at here k s = locks_step room index (parts.TheVariants.ExchangesCounter number) here k.0 at.0 at.1 at.2 at.3 k.1 s
-  recover_step room recovers.TheVariants.LoadsCounterAgain at here k s = again_step room here k.0 at k.1 s
+  recover_step room (recovers.TheVariants.LoadsCell index) at here k s = cell_step scene inv owner mode fits room index here k.0 at k.1 s k.2
+  recover_step room (recovers.TheVariants.LoadsCount index) at here k s = count_step scene inv owner mode fits room index here k.0 at k.1 s k.2
+  recover_step room (recovers.TheVariants.LoadsWord index count word) at here k s = word_step scene inv owner mode fits room index count word here k.0 at k.1 s k.2
+  recover_step room (recovers.TheVariants.ChecksCount index count) at here k s = check_step scene inv owner mode fits room index count here k.0 at k.1 s k.2
+  recover_step room (recovers.TheVariants.Asks index count) at here k s = decided scene inv owner mode fits room index count at here k.0 k.1 s k.2 0
+  recover_step room (recovers.TheVariants.EmptiesCell index count) at here k s = empties_step scene inv owner mode fits room index count here k.0 at k.1 s k.2
+  recover_step room (recovers.TheVariants.Hides index count) at here k s = hides_step scene inv owner mode fits room index count here k.0 at k.1 s k.2
+  recover_step room (recovers.TheVariants.Raises index raises.TheVariants.LoadsCounter) at here k s = raises_step room index raises.TheVariants.LoadsCounter here k.0 at.0 at.1 k.1 s k.2
+  recover_step room (recovers.TheVariants.Raises index (raises.TheVariants.ExchangesCounter number)) at here k s = raises_step room index (raises.TheVariants.ExchangesCounter number) here k.0 at.0 at.1 k.1 s k.2
+  recover_step room (recovers.TheVariants.Locks index (parts.TheVariants.Counts counts.TheVariants.LoadsCounter)) at here k s = locks_step room index (parts.TheVariants.Counts counts.TheVariants.LoadsCounter) here k.0 at.0 at.1 at.2 at.3 k.1 s k.2
+  recover_step room (recovers.TheVariants.Locks index (parts.TheVariants.Counts (counts.TheVariants.LoadsCell number i filled))) at here k s = locks_step room index (parts.TheVariants.Counts (counts.TheVariants.LoadsCell number i filled)) here k.0 at.0 at.1 at.2 at.3 k.1 s k.2
+  recover_step room (recovers.TheVariants.Locks index (parts.TheVariants.Counts (counts.TheVariants.ExchangesCounter number filled))) at here k s = locks_step room index (parts.TheVariants.Counts (counts.TheVariants.ExchangesCounter number filled)) here k.0 at.0 at.1 at.2 at.3 k.1 s k.2
+  recover_step room (recovers.TheVariants.Locks index (parts.TheVariants.ExchangesCounter number)) at here k s = locks_step room index (parts.TheVariants.ExchangesCounter number) here k.0 at.0 at.1 at.2 at.3 k.1 s k.2
+  recover_step room recovers.TheVariants.LoadsCounterAgain at here k s = again_step room here k.0 at k.1 s k.2
   recover_step room (recovers.TheVariants.AddsChange state) at here k s = end_step room state here k.1 s
 
   pub recover_decided : (room : rooms.Kept 128) (index count : ℕ) → RecoverAt c z (all scene) (done scene) owner mode (recovers.TheVariants.Asks index count) → Here scene inv owner mode fits room (recovers.TheVariants.Asks index count) → Knows code c (recover_at c owner mode room (recovers.TheVariants.Asks index count)) (sees_now scene)
       → steps ≤ recover_number c z mode (recovers.TheVariants.Asks index count) backs → (answer : ℕ) → AnswerOf scene (Recover owner mode) (recover_at c owner mode room (recovers.TheVariants.Asks index count)) None answer
-  recover_decided room index count at here k s answer = decided scene inv owner mode fits room index count at here k.0 k.1 s answer
+  recover_decided room index count at here k s answer = decided scene inv owner mode fits room index count at here k.0 k.1 s k.2 answer

@@ -11,6 +11,7 @@ use Rattle.model.specs.Moments.{BeginsNone, HeldOnce}
 use Rattle.model.proofs.Moments.{held_later}
 use Rattle.robust_laws.proofs.Past.{through_less, through_now}
 use Rattle.container_laws.proofs.Alone.{alone_less}
+use Rattle.container_laws.proofs.KeptCopies.{ShowsOwn, CallsOn, own_later}
 use Rattle.container_laws.proofs.Turns.{Owing, Now, Proper, count_in, change_in, Passes}
 
 module _ {T : Type 0} where
@@ -62,6 +63,7 @@ module _ {T : Type 0} (code : Coding T) (c : ℕ) where
     pub fresh : Proper m → (i : ℕ) → i < k → i < c → StoodThere p i m.events → number_at s i ≡ count_in code c m i
     pub once : Proper m → (i : ℕ) → i < k → i < c → HeldOnce p (λ part. shows s i ≡ contents_of i part) m.events
     pub alone : WasAlone p m.events → (i : ℕ) → i < k → i < c → number_at s i ≡ count_in code c m i
+    pub own : ShowsOwn p s copying m.events
 
   -- ---- any turn
 
@@ -96,8 +98,8 @@ module _ {T : Type 0} (code : Coding T) (c : ℕ) where
     rests_later h = record { sight = sight_later c c h.sight; known = h.known; seen = h.seen; counts = h.counts; room = h.room }
 
     -- of a look of a party that begins no call, nor is alone with another's step
-    pub course_later : BeginsNone q es → (WasAlone q m'.events → (i : ℕ) → i < c → count_in code c m' i ≡ count_in code c m i) → (k x : ℕ) → Course m q s k x → Course m' q s k x
-    course_later none steady k x h =
+    pub course_later : {what : Option (ℕ × T)} → CallsOn q what m.events m'.events → BeginsNone q es → (WasAlone q m'.events → (i : ℕ) → i < c → count_in code c m' i ≡ count_in code c m i) → (k x : ℕ) → Course m q s k x → Course m' q s k x
+    course_later {what} on none steady k x h =
         record {
           sight = sight_later k x h.sight;
           known = h.known;
@@ -113,4 +115,5 @@ module _ {T : Type 0} (code : Coding T) (c : ℕ) where
               (held_later q (λ part. shows s i ≡ contents_of i part) m.events es none (h.once (passes.proper proper) i ks low));
           alone = λ was i ks low.
               h.alone (alone_less q m.events es none (subst (WasAlone q) more was)) i ks low ∙ sym (steady was i low);
+          own = own_later q what m.events m'.events on s x h.own;
         }

@@ -22,9 +22,11 @@ use Rattle.model.specs.declared.turn.Turn.{Turn}
 use Rattle.model.specs.declared.turn.Turn.TheVariants.{Decide}
 use Rattle.model.specs.Coding.{Coding}
 use Rattle.model.specs.Families.Container.Bounds.{most_steps}
+use Rattle.model.specs.Families.Container.Keeping.{KeepsStates}
 use Rattle.model.specs.Families.Container.Looks.{state_in, ShowsCopies, IsCurrent, AnswersOfState, MomentsOfState, EndsLook}
 use Rattle.model.specs.Families.Container.Questions.{question_at, AsksCopies, QuestionsRight, EndsFind}
 use Rattle.model.specs.Families.Container.Reading.{contents_of, MayReplace, Copies, Sees, acts, acts_of, places, Has}
+use Rattle.model.specs.Families.Container.Recoveries.{VisitsUnlocked, UnlockedAtLast, FilledSinceEach}
 use Rattle.model.specs.Families.Container.Removals.{HidesRight}
 use Rattle.model.specs.Families.Container.Spans.{may_stand, HasDone}
 use Rattle.model.specs.Families.Indices.Reading.{is_locked}
@@ -147,7 +149,7 @@ module _ {T : Type 0} where
       is_locked before ≡ true
   AnswersRight capacity before
       (Finished p (Container (Recover owner mode)) (State locks.Unlocked)) =
-      HeldOnce p IsUnlocked before × HasRecovered p owner before
+      UnlockedAtLast p before × HasRecovered p owner before × FilledSinceEach mode p owner before
   AnswersRight capacity before (Finished p (Container Len) (Number number)) =
       IsLength p capacity number before
   AnswersRight capacity before (Finished p (Container IsEmpty) (Truth empty)) =
@@ -280,6 +282,8 @@ module _ {T : Type 0} where
     pub questions : QuestionsRight old turn new
     pub looks : LooksRight old turn new
     pub leaves : LeavesState old turn new
+    pub states : KeepsStates old turn new
+    pub visits : VisitsUnlocked old new
 
   -- ---- the promise
 

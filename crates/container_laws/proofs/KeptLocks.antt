@@ -1,0 +1,98 @@
+-- In mode LockIfLastIndex a recovery finds some index filled after each that it frees, or the container locked.
+use Rattle.std.proofs.Common.{◌≡◌, ◌⊎◌, ⊎_elim, inl, inr, ℕ, ◌+◌, ◌<◌, true, false, Some, List, [], ◌++◌, sym, ap, subst, ◌∙◌, append-nil}
+use Rattle.steps.specs.declared.indices.enums.ReleaseMode.{ReleaseMode}
+use Rattle.steps.specs.declared.indices.enums.ReleaseMode.TheVariants.{LockIfLastIndex, Default}
+use Rattle.steps.specs.declared.indices.robust.parts.Count as counts
+use Rattle.steps.specs.declared.indices.robust.parts.Lock.{Lock}
+use Rattle.steps.specs.declared.indices.robust.parts.Lock as locks
+use Rattle.model.specs.declared.event.Event.{Event}
+use Rattle.model.specs.Families.Container.Recoveries.{FilledSinceEach}
+use Rattle.model.specs.Families.Indices.Reading.{is_locked}
+use Rattle.model.specs.Families.Indices.Robust.Promises.{IsFilled, FilledSinceFreed}
+use Rattle.model.specs.Families.Indices.Robust.Reading.{Deed, Frees, deeds_of, IsOneOf}
+use Rattle.model.specs.Moments.{BeginsNone, HeldOnce}
+use Rattle.model.proofs.Moments.{held_later, held_so}
+use Rattle.model.proofs.Readings.{no_more}
+use Rattle.robust_laws.proofs.Effects.{both_ways}
+use Rattle.robust_laws.proofs.Knows.{LockSays}
+
+abbrev pub NoIndex : ℕ → Type 0
+NoIndex i = ⊥
+
+module _ {T : Type 0} where
+  -- some index was filled at a moment of the call after all that it did to the set
+  pub record FilledAtLast (p : ℕ) (events : List (Event T)) : Type 0 where
+    pub other : ℕ
+    pub once : HeldOnce p (λ part. IsFilled other part × (deeds_of p part ≡ deeds_of p events)) events
+
+  -- so it was after each index that it has freed, but these, or the container is locked
+  abbrev pub FilledBut : ReleaseMode → ℕ → ℕ → (ℕ → Type 0) → List (Event T) → Type 0
+  FilledBut LockIfLastIndex p owner But events =
+      (i : ℕ) → IsOneOf (Frees i owner) (deeds_of p events)
+      → (FilledSinceFreed p owner i events ⊎ (is_locked events ≡ true)) ⊎ But i
+  FilledBut Default p owner But events = Unit {0}
+
+  -- a lock that has found some index filled
+  abbrev pub FoundFilled : ℕ → List (Event T) → ℕ → ℕ → Type 0
+  FoundFilled p events k filled = 0 < filled → FilledAtLast p events
+
+  module _ (p owner : ℕ) where
+    -- once more events are there
+    pub filled_then : (mode : ReleaseMode) (Was But : ℕ → Type 0) (events es : List (Event T)) → BeginsNone p es → ((i : ℕ) → IsOneOf (Frees i owner) (deeds_of p (events ++ es)) → IsOneOf (Frees i owner) (deeds_of p events) ⊎ But i) → ((i : ℕ) → Was i → But i)
+        → (is_locked events ≡ true → is_locked (events ++ es) ≡ true) → FilledBut mode p owner Was events → FilledBut mode p owner But (events ++ es)
+    filled_then Default Was But events es none split more shut h = tt
+    filled_then LockIfLastIndex Was But events es none split more shut h =
+        λ i was. ⊎_elim (λ had. ⊎_elim (λ settled. inl (⊎_elim (λ f. inl (later i f)) (λ l. inr (shut l)) settled)) (λ exempt. inr (more i exempt)) (h i had)) (λ now. inr now) (split i was)
+      where
+        later : (i : ℕ) → FilledSinceFreed p owner i events → FilledSinceFreed p owner i (events ++ es)
+        later i f = record { other = f.other; once = held_later p _ events es none f.once }
+
+    pub filled_calm : (mode : ReleaseMode) (But : ℕ → Type 0) (events : List (Event T)) → FilledBut mode p owner But events → FilledBut mode p owner But (events ++ [])
+    filled_calm mode But events h = subst (FilledBut mode p owner But) (sym (append-nil events)) h
+
+    -- it has freed nothing
+    pub filled_none : (mode : ReleaseMode) (But : ℕ → Type 0) (events : List (Event T)) → deeds_of p events ≡ [] → FilledBut mode p owner But events
+    filled_none Default But events none = tt
+    filled_none LockIfLastIndex But events none = λ i was. absurd (no_more was.before (Frees i owner) was.after (sym none ∙ was.is))
+
+    pub filled_locked : (mode : ReleaseMode) (But : ℕ → Type 0) (events : List (Event T)) → is_locked events ≡ true → FilledBut mode p owner But events
+    filled_locked Default But events shut = tt
+    filled_locked LockIfLastIndex But events shut = λ i was. inl (inr shut)
+
+    pub filled_last : (mode : ReleaseMode) (But : ℕ → Type 0) (events : List (Event T)) → FilledAtLast p events → FilledBut mode p owner But events
+    filled_last Default But events h = tt
+    filled_last LockIfLastIndex But events h = λ i was.
+        inl
+        (inl
+        (record {
+          other = h.other;
+          once = held_so p (λ part. IsFilled h.other part × (deeds_of p part ≡ deeds_of p events)) (λ part. IsOneOf (Frees i owner) (deeds_of p part) × IsFilled h.other part) events (λ part k. (subst (IsOneOf (Frees i owner)) (sym k.1) was, k.0)) h.once;
+        }))
+
+    -- where the container is not locked
+    pub filled_each : (mode : ReleaseMode) (events : List (Event T)) → is_locked events ≡ false → FilledBut mode p owner NoIndex events → FilledSinceEach mode p owner events
+    filled_each Default events free h = tt
+    filled_each LockIfLastIndex events free h = λ i was.
+        ⊎_elim (λ settled. ⊎_elim (λ f. f) (λ shut. both_ways (is_locked events) free shut) settled) (λ never. absurd never) (h i was)
+
+    pub each_later : (mode : ReleaseMode) (events es : List (Event T)) → BeginsNone p es → deeds_of p (events ++ es) ≡ deeds_of p events → FilledSinceEach mode p owner events → FilledSinceEach mode p owner (events ++ es)
+    each_later Default events es none same h = tt
+    each_later LockIfLastIndex events es none same h = λ i was.
+        let f = h i (subst (IsOneOf (Frees i owner)) same was) in
+        record { other = f.other; once = held_later p _ events es none f.once }
+
+    -- ---- a lock
+
+    last_later : (events es : List (Event T)) → BeginsNone p es → deeds_of p (events ++ es) ≡ deeds_of p events → FilledAtLast p events → FilledAtLast p (events ++ es)
+    last_later events es none same h =
+        record {
+          other = h.other;
+          once = held_so p (λ part. IsFilled h.other part × (deeds_of p part ≡ deeds_of p events)) (λ part. IsFilled h.other part × (deeds_of p part ≡ deeds_of p (events ++ es))) (events ++ es) (λ part k. (k.0, k.1 ∙ sym same))
+              (held_later p (λ part. IsFilled h.other part × (deeds_of p part ≡ deeds_of p events)) events es none h.once);
+        }
+
+    pub says_later : (c : ℕ) (events es : List (Event T)) → BeginsNone p es → deeds_of p (events ++ es) ≡ deeds_of p events → (lock : Lock) → LockSays c (FoundFilled p events) lock → LockSays c (FoundFilled p (events ++ es)) lock
+    says_later c events es none same (locks.TheVariants.Counts counts.TheVariants.LoadsCounter) h = tt
+    says_later c events es none same (locks.TheVariants.Counts (counts.TheVariants.LoadsCell number index filled)) h = λ some. last_later events es none same (h some)
+    says_later c events es none same (locks.TheVariants.Counts (counts.TheVariants.ExchangesCounter number filled)) h = λ some. last_later events es none same (h some)
+    says_later c events es none same (locks.TheVariants.ExchangesCounter number) h = tt

@@ -1,0 +1,257 @@
+-- A turn moves a party's state in a look of its own alone, and an update that answers false has taken one step.
+use Rattle.std.proofs.Common.{◌≡◌, ◌≢◌, ◌⊎◌, ⊎_elim, inl, inr, ℕ, ◌+◌, ◌==◌, ◌&&◌, ◌≤◌, if◌then◌else◌, nat_lt, slice_index_or, Bool, true, false, Option, Some, None, is_some, List, refl, sym, ap, subst, ◌∙◌, arith}
+use Rattle.std.proofs.lemmas.Bool.{cases_eq}
+use Rattle.std.proofs.lemmas.Bool.Decides.{nat_tests}
+use Rattle.steps.specs.declared.ask.After.{After}
+use Rattle.steps.specs.declared.ask.After.TheVariants.{GoOn, Done}
+use Rattle.steps.specs.declared.container.look.Look.{Look}
+use Rattle.steps.specs.declared.container.look.LookStage.{LookStage}
+use Rattle.steps.specs.declared.container.look.LookStage as stages
+use Rattle.steps.specs.declared.container.state.ContainerState.{ContainerState}
+use Rattle.steps.specs.Container.Layout.{is_even}
+use Rattle.steps.specs.Container.Look.{look_comes_to, look_finds, look_takes}
+use Rattle.steps.specs.Container.State.{Numbers}
+use Rattle.steps.specs.Picks.{by_test, by_eq}
+use Rattle.model.specs.declared.event.Answer.TheVariants.{Truth}
+use Rattle.model.specs.declared.event.Start.{Start}
+use Rattle.model.specs.declared.event.Start.TheVariants.{Container}
+use Rattle.model.specs.declared.families.Flight.{Flight}
+use Rattle.model.specs.declared.families.Flight as flights
+use Rattle.model.specs.declared.families.Kept.{Kept}
+use Rattle.model.specs.declared.families.Kept as kepts
+use Rattle.model.specs.declared.families.container.ContainerStart.{ContainerStart}
+use Rattle.model.specs.declared.families.container.ContainerStart.TheVariants.{GetState, UpdateState}
+use Rattle.model.specs.declared.families.container.calls.ContainerFlight.{ContainerFlight}
+use Rattle.model.specs.declared.families.container.calls.ContainerFlight as calls
+use Rattle.model.specs.declared.families.container.calls.LookOf.{LookOf}
+use Rattle.model.specs.declared.families.container.calls.LookOf as kinds
+use Rattle.model.specs.declared.party.Doing.{Doing}
+use Rattle.model.specs.declared.party.Doing.TheVariants.{Going, Over}
+use Rattle.model.specs.declared.party.Party.{Party}
+use Rattle.model.specs.declared.turn.Turn.{Turn}
+use Rattle.model.specs.declared.turn.Turn.TheVariants.{Begin, Next, Decide, Die}
+use Rattle.model.specs.Coding.{Coding}
+use Rattle.model.specs.Families.{first_of, want_of, is_question, beside_of, step_of, kept_after_begin, kept_after_death}
+use Rattle.model.specs.Families.Container.Calls.{after as goes_after, look_shows, look_came, states_after, writes_state}
+use Rattle.model.specs.Families.Container.Keeping.{is_look_of, MovesInLooks, BeginsWithState, FalseAtOnce, KeepsStates, steps_of}
+use Rattle.model.specs.Families.Container.Looks.{state_in, is_looking, EndsLook}
+use Rattle.model.specs.Families.Container.Opening.{keeps}
+use Rattle.model.specs.Families.Container.States.{state_of, with_state, fresh}
+use Rattle.model.specs.Parties.{party_of, put, doing_of, flight_of, progress_after}
+use Rattle.model.specs.Refusals.{refusal_of, is_due}
+use Rattle.model.specs.Step.{answer_in}
+use Rattle.model.specs.Turns.{old_of, number_of, after_begin, after_next, after_decision, after_answer, ask_of_doing, after_turn}
+use Rattle.model.specs.World.{World, Trace, flight_in, progress_in}
+use Rattle.model.proofs.Frame as frame
+use Rattle.model.proofs.Parties.{party_put_same, found_put_other}
+use Rattle.model.proofs.Rows.{passes, must_be_due}
+use Rattle.model.proofs.Scenes.{StandsThere, stands_there}
+use Rattle.robust_laws.proofs.Effects.{both_ways}
+use Rattle.container_laws.proofs.Invariant.{family}
+use Rattle.container_laws.proofs.Looks.{looks_as, written_other}
+use Rattle.container_laws.proofs.LooksTell.{look_asks_none, LookEnd, LookTurn, ended, small, looks_right, looks_own, looks_leave}
+use Rattle.container_laws.proofs.Sound.{Shown, kept_is, kept_now}
+use Rattle.container_laws.proofs.Stages.{any_call}
+use Rattle.container_laws.proofs.Standing.{look_at, look_number}
+
+differ : (p q : ℕ) → (p == q) ≡ false → q ≢ p
+differ p q none = grind (arith, nat_tests)
+
+-- ---- what a step makes of the states
+
+module _ {T : Type 0} where
+  -- the step is another party's, or none of a look
+  abbrev IsApart : ℕ → ℕ → Flight T → Type 0
+  IsApart p q flight = (p ≢ q) ⊎ (is_looking (Some flight) ≡ false)
+
+  written : (code : Coding T) (q : ℕ) (call : Look T) (old p : ℕ) → p ≢ q → (states : List (ℕ × ContainerState T)) (o : Option (ContainerState T)) → state_of p (writes_state code q call old o states) ≡ state_of p states
+  written code q call old p ne states None = refl
+  written code q call old p ne states (Some state) = written_other p q _ states ne
+
+  stays : (code : Coding T) (q : ℕ) (flight : ContainerFlight T) (n : ℕ) (states : List (ℕ × ContainerState T)) (p : ℕ) → IsApart p q (flights.TheVariants.Container flight) → state_of p (states_after code q flight n states) ≡ state_of p states
+  stays code q (calls.TheVariants.Look which call) n states p apart = ⊎_elim (λ ne. written code q call n p ne states (state_of q states)) (λ none. absurd (cc)) apart
+  stays code q flight n states p apart = refl
+
+  apart_is : (p q : ℕ) (flight : Flight T) → ((q == p) && is_looking (Some flight)) ≡ false → IsApart p q flight
+  apart_is p q flight none = ⊎_elim (λ e. inr (own (is_looking (Some flight)) e none)) (λ ne. inl ne) (cases_eq p q)
+    where
+      own : (b : Bool) → p ≡ q → ((q == p) && b) ≡ false → b ≡ false
+      own b e none = let t : (q == p) ≡ true = grind (arith, nat_tests) in rw t at none
+
+  -- a look is not decided
+  no_look : (code : Coding T) (flight : Flight T) → is_question (want_of code flight) ≡ true → is_looking (Some flight) ≡ false
+  no_look code (flights.TheVariants.Container (calls.TheVariants.Look which call)) asks =
+      both_ways (is_question (want_of code (flights.TheVariants.Container (calls.TheVariants.Look which call)))) (look_asks_none code.size call.capacity call.stage) asks
+  no_look code flight asks = refl
+
+  -- ---- what a begin and a death make of them
+
+  held_stays : (code : Coding T) (capacity p q : ℕ) (start : ContainerStart T) (kept : Kept T) (w : World T) → is_look_of w q (Begin p (Container start)) ≡ false → state_in (keeps code capacity start p kept) q ≡ state_in kept q
+  held_stays code capacity p q GetState (kepts.TheVariants.Container dead states) w none = found_put_other q p (fresh code capacity) states (differ p q none)
+  held_stays code capacity p q UpdateState (kepts.TheVariants.Container dead states) w none = go (is_some (state_of p states))
+    where
+      go : (b : Bool) → state_of q (if b then states else with_state p (fresh code capacity) states) ≡ state_of q states
+      go true = refl
+      go false = found_put_other q p (fresh code capacity) states (differ p q none)
+  held_stays code capacity p q start (kepts.TheVariants.Container dead states) w none = refl
+  held_stays code capacity p q start kept w none = refl
+
+  begun_stays : (code : Coding T) (capacity p q : ℕ) (start : Start T) (kept : Kept T) (w : World T) → is_look_of w q (Begin p start) ≡ false → state_in (kept_after_begin code capacity start p kept) q ≡ state_in kept q
+  begun_stays code capacity p q (Container start) kept w none = held_stays code capacity p q start kept w none
+  begun_stays code capacity p q start kept w none = refl
+
+  died_stays : (kept : Kept T) (owner q : ℕ) → state_in (kept_after_death kept owner) q ≡ state_in kept q
+  died_stays kept owner q = by kept
+    where
+      by : (kept : Kept T) → state_in (kept_after_death kept owner) q ≡ state_in kept q
+      by (kepts.TheVariants.Container dead states) = refl
+      by kept = refl
+
+  update_keeps : (code : Coding T) (capacity p : ℕ) (kept : Kept T) (state : ContainerState T) → state_in kept p ≡ Some state → state_in (kept_after_begin code capacity (Container UpdateState) p kept) p ≡ Some state
+  update_keeps code capacity p (kepts.TheVariants.Container dead states) state found =
+      subst (λ o. state_of p (if is_some o then states else with_state p (fresh code capacity) states) ≡ Some state) (sym found) found
+  update_keeps code capacity p kept state found = found
+
+-- ---- a step of a party's call
+
+module _ {T : Type 0} (shown : Shown T) (code : Coding T) (c : ℕ) (t : Trace T) (s : frame.Sound (family code c) t) (q : ℕ) (x : Party T) (since : ℕ) (found : party_of q t.world.latest ≡ Some x) where
+  abbrev Stays : ℕ → Coding T → Kept T → Start T → Flight T → Type 0
+  Stays n y kept a flight =
+      (p : ℕ) → IsApart p q flight → state_in (step_of y t.world.words (beside_of t.world.words kept t.world.latest q) q a flight n kept).kept p ≡ state_in kept p
+
+  step_stays : (n : ℕ) (a : Start T) (flight : Flight T) → StandsThere (family code c) t s q x since a flight → Stays n code (kept_now shown code c t s) a flight
+  step_stays n (Container a) (flights.TheVariants.Container flight) stands p apart = stays code q flight n s.state.states p apart
+  step_stays n a flight stands p apart = absurd stands.at
+
+  any_stays : (n : ℕ) (flight : Flight T) → x.doing ≡ Going flight since → Stays n t.world.coding t.world.kept x.start flight
+  any_stays n flight doing =
+      let same = kept_is t.world.kept t.world.words s.state s.fit in
+      subst (λ y. Stays n y t.world.kept x.start flight) (sym s.coding)
+      (subst (λ kept. Stays n code kept x.start flight) (sym same.0) (step_stays n x.start flight (stands_there (family code c) t s q x since flight found doing)))
+
+-- ---- any turn
+
+module _ {T : Type 0} (shown : Shown T) (code : Coding T) (t : Trace T) (s : frame.Sound (family code t.world.capacity) t) where
+  flies : (q : ℕ) (x : Party T) (flight : Flight T) (since : ℕ) → party_of q t.world.latest ≡ Some x → x.doing ≡ Going flight since → flight_in t.world q ≡ Some flight
+  flies q x flight since found d = ap (λ o. flight_of (doing_of o)) found ∙ ap (λ d. flight_of (Some d)) d
+
+  next_moves : (q p : ℕ) → ((q == p) && is_looking (flight_in t.world q)) ≡ false → (o : Option (Party T)) → party_of q t.world.latest ≡ o → state_in (after_next t.world q o).kept p ≡ state_in t.world.kept p
+  next_moves q p none None found = refl
+  next_moves q p none (Some x) found = go x.doing refl
+    where
+      go : (doing : Doing T) → x.doing ≡ doing → state_in (after_answer t.world q x (ask_of_doing t.world.coding doing) (old_of t.world.words (ask_of_doing t.world.coding doing)) doing).kept p ≡ state_in t.world.kept p
+      go (Over others) d = refl
+      go (Going flight since) d =
+          let here = flies q x flight since found d in
+          any_stays shown code t.world.capacity t s q x since found _ flight d p (apart_is p q flight (subst (λ o. ((q == p) && is_looking o) ≡ false) here none))
+
+  decision_moves : (q p : ℕ) (said : Bool) → is_due t.world.coding (flight_in t.world q) ≡ true → (o : Option (Party T)) → party_of q t.world.latest ≡ o → state_in (after_decision t.world q said o).kept p ≡ state_in t.world.kept p
+  decision_moves q p said due None found = refl
+  decision_moves q p said due (Some x) found = go x.doing refl
+    where
+      go : (doing : Doing T) → x.doing ≡ doing → state_in (after_answer t.world q x None (number_of said) doing).kept p ≡ state_in t.world.kept p
+      go (Over others) d = refl
+      go (Going flight since) d =
+          let here = flies q x flight since found d in
+          let asks : is_question (want_of t.world.coding flight) ≡ true = subst (λ o. is_due t.world.coding o ≡ true) here due in
+          any_stays shown code t.world.capacity t s q x since found _ flight d p (inr (no_look t.world.coding flight asks))
+
+  begin_moves : (p q : ℕ) (start : Start T) → is_look_of t.world q (Begin p start) ≡ false → (o : Option (Flight T)) → state_in (after_begin t.world p start o).kept q ≡ state_in t.world.kept q
+  begin_moves p q start none None = refl
+  begin_moves p q start none (Some flight) = begun_stays t.world.coding t.world.capacity p q start t.world.kept t.world none
+
+  update_begins : (p : ℕ) (state : ContainerState T) → state_in t.world.kept p ≡ Some state → (o : Option (Flight T)) → state_in (after_begin t.world p (Container UpdateState) o).kept p ≡ Some state
+  update_begins p state found None = found
+  update_begins p state found (Some flight) = update_keeps t.world.coding t.world.capacity p t.world.kept state found
+
+  module _ (turn : Turn T) (r : refusal_of t.world turn ≡ None) where
+    moves : MovesInLooks t turn (after_turn t turn)
+    moves q none = by turn r none
+      where
+        by : (u : Turn T) → refusal_of t.world u ≡ None → is_look_of t.world q u ≡ false → state_in (after_turn t u).world.kept q ≡ state_in t.world.kept q
+        by (Begin p start) r none = begin_moves p q start none (first_of t.world.kind t.world.capacity start)
+        by (Next p) r none = next_moves p q none (party_of p t.world.latest) refl
+        by (Decide p said) r none = decision_moves p q said (frame.is_true (is_due t.world.coding (flight_in t.world p)) (must_be_due t.world p said (passes t.world (Decide p said) r).on)) (party_of p t.world.latest) refl
+        by (Die owner) r none = died_stays t.world.kept owner q
+
+    begins : BeginsWithState t turn (after_turn t turn)
+    begins p state is found =
+        subst (λ u. state_in (after_turn t u).world.kept p ≡ Some state) (sym is) (update_begins p state found (first_of t.world.kind t.world.capacity (Container UpdateState)))
+
+-- ---- an update that answers false
+
+module _ {T : Type 0} where
+  -- it goes on, or says true
+  abbrev IsNotFalse : After (Look T) Bool → Type 0
+  IsNotFalse (GoOn call) = Unit {0}
+  IsNotFalse (Done true) = Unit {0}
+  IsNotFalse (Done false) = ⊥
+
+  comes_on : (call : Look T) (index : ℕ) → IsNotFalse (look_comes_to call index)
+  comes_on call index = by_test IsNotFalse (nat_lt index call.capacity) (GoOn (record call { stage = stages.TheVariants.LoadsCount index })) (Done true) (λ t. tt) (λ t. tt)
+
+  finds_on : (call : Look T) (index count : ℕ) → IsNotFalse (look_finds call index count)
+  finds_on call index count = by_test IsNotFalse (is_even count) (look_comes_to call (index + 1)) (GoOn (record call { stage = stages.TheVariants.LoadsWord index count 0 })) (λ t. comes_on call (index + 1)) (λ t. tt)
+
+  takes_on : (size : ℕ) (call : Look T) (stage : LookStage) (seen : Numbers) (n : ℕ) → stage ≢ stages.TheVariants.LoadsChange → IsNotFalse (look_takes size call stage seen n)
+  takes_on size call stages.TheVariants.LoadsChange seen n other = absurd (other refl)
+  takes_on size call (stages.TheVariants.LoadsCount index) seen n other =
+      by_eq IsNotFalse n (slice_index_or seen.counts index 0) (look_comes_to call (index + 1)) (look_finds call index n) (λ t. comes_on call (index + 1)) (λ t. finds_on call index n)
+  takes_on size call (stages.TheVariants.LoadsWord index count word) seen n other =
+      by_test IsNotFalse (nat_lt (word + 1) size) (GoOn (record call { stage = stages.TheVariants.LoadsWord index count (word + 1) })) (GoOn (record call { stage = stages.TheVariants.ChecksCount index count })) (λ t. tt) (λ t. tt)
+  takes_on size call (stages.TheVariants.ChecksCount index count) seen n other =
+      by_eq IsNotFalse n count (look_comes_to call (index + 1)) (look_finds call index n) (λ t. comes_on call (index + 1)) (λ t. finds_on call index n)
+
+  never_false : (which : LookOf) (state : ContainerState T) (r : After (Look T) Bool) → UpdateState ≡ looks_as {T = T} which → IsNotFalse r → answer_in (any_call (look_came which state r)) ≡ Some (Truth false) → ⊥
+  never_false which state (GoOn call) name on e = absurd (cc)
+  never_false kinds.TheVariants.UpdateState state (Done true) name on e = absurd (cc)
+  never_false kinds.TheVariants.GetState state (Done true) name on e = absurd (cc)
+  never_false which state (Done false) name on e = on
+
+  abbrev at : ℕ → LookStage → Look T
+  at c stage = record { capacity = c; stage = stage; of = record {} }
+
+  later_step : (code : Coding T) (c : ℕ) (which : LookOf) (stage : LookStage) (state : ContainerState T) (n : ℕ) → UpdateState ≡ looks_as {T = T} which → stage ≢ stages.TheVariants.LoadsChange → answer_in (any_call (goes_after code (Some state) (look_at which c stage) n)) ≡ Some (Truth false) → ⊥
+  later_step code c which stage state n name other e =
+      never_false which (look_shows code (at c stage) state n) (look_takes code.size (at c stage) stage state.seen n) name (takes_on code.size (at c stage) stage state.seen n other) e
+
+  -- it has loaded the number of changes, and nothing else
+  first_step : (code : Coding T) (c : ℕ) (which : LookOf) (stage : LookStage) (o : Option (ContainerState T)) (n : ℕ) → UpdateState ≡ looks_as {T = T} which → answer_in (any_call (goes_after code o (look_at which c stage) n)) ≡ Some (Truth false) → stage ≡ stages.TheVariants.LoadsChange
+  first_step code c which stage None n name e = absurd (cc)
+  first_step code c which stages.TheVariants.LoadsChange (Some state) n name e = refl
+  first_step code c which (stages.TheVariants.LoadsCount index) (Some state) n name e = absurd (later_step code c which (stages.TheVariants.LoadsCount index) state n name (λ is. cc) e)
+  first_step code c which (stages.TheVariants.LoadsWord index count word) (Some state) n name e = absurd (later_step code c which (stages.TheVariants.LoadsWord index count word) state n name (λ is. cc) e)
+  first_step code c which (stages.TheVariants.ChecksCount index count) (Some state) n name e = absurd (later_step code c which (stages.TheVariants.ChecksCount index count) state n name (λ is. cc) e)
+
+module _ {T : Type 0} (shown : Shown T) (code : Coding T) (t : Trace T) (turn : Turn T) (r : refusal_of t.world turn ≡ None) (s : frame.Sound (family code t.world.capacity) t) (p : ℕ) (ends : EndsLook p UpdateState (Truth false) t (after_turn t turn)) where
+  abbrev end : LookEnd shown code t.world.capacity t s (small shown code t turn r s) p UpdateState (Truth false) ends.is_look ends.wrote (after_turn t turn)
+  end = ended shown code t turn r s p UpdateState (Truth false) ends
+
+  one_step : steps_of (progress_in (after_turn t turn).world p) ≡ 1
+  one_step =
+      let l = end.turn in
+      let first = first_step code t.world.capacity l.which l.stage _ _ l.name l.done in
+      let few : l.party.steps ≤ 0 = subst (λ stage. l.party.steps ≤ look_number code.size stage l.party.backs) first l.there.steps in
+      let counted = l.steps_then in
+      let latest : party_of p (after_turn t turn).world.latest ≡ Some l.next = ap (party_of p) l.latest_is ∙ (ap (λ n. party_of p (put n l.next t.world.latest)) l.same ∙ party_put_same p l.next t.world.latest) in
+      let one : l.next.steps ≡ 1 = omega arith in
+      ap (λ o. steps_of (progress_after (after_turn t turn).world.changes o)) latest ∙ one
+
+  state_left : state_in (after_turn t turn).world.kept p ≡ state_in t.world.kept p
+  state_left = by (state_in (after_turn t turn).world.kept p) refl (looks_leave shown code t turn r s p UpdateState (Truth false) ends)
+    where
+      by : (o : Option (ContainerState T)) → state_in (after_turn t turn).world.kept p ≡ o → is_some (state_in (after_turn t turn).world.kept p) ≡ true → state_in (after_turn t turn).world.kept p ≡ state_in t.world.kept p
+      by None is some = let none : is_some (state_in (after_turn t turn).world.kept p) ≡ false = ap is_some is in both_ways _ none some
+      by (Some state) is some = is ∙ sym (looks_right shown code t turn r s p UpdateState (Truth false) state ends is).0
+
+-- ---- as the promise says it
+
+module _ {T : Type 0} (shown : Shown T) (code : Coding T) (t : Trace T) (turn : Turn T) (r : refusal_of t.world turn ≡ None) (s : frame.Sound (family code t.world.capacity) t) where
+  pub keeps_states : KeepsStates t turn (after_turn t turn)
+  keeps_states =
+      record {
+        moves = moves shown code t s turn r;
+        begins = begins shown code t s turn r;
+        at_once = λ p ends. (one_step shown code t turn r s p ends, state_left shown code t turn r s p ends);
+        own = looks_own shown code t turn r s;
+      }

@@ -1,0 +1,156 @@
+-- A recovery that began after the lock comes to no index.
+use Rattle.std.proofs.Common.{◌≡◌, ◌⊎◌, ⊎_elim, inl, inr, ℕ, ◌-◌, ◌^◌, ◌<◌, Bool, Option, Some, None, List, [], ◌∷◌, ◌++◌, refl, sym, ap, subst}
+use Rattle.std.proofs.lemmas.List.{append_cancel_left}
+use Rattle.std.specs.List.{AllByRecursion}
+use Rattle.steps.specs.declared.container.recover.RecoverStage.{RecoverStage}
+use Rattle.steps.specs.declared.container.recover.RecoverStage as recovers
+use Rattle.steps.specs.declared.container.recover.DeadOwner.{DeadOwner}
+use Rattle.steps.specs.declared.copied.Kept as rooms
+use Rattle.steps.specs.declared.indices.enums.ReleaseMode.{ReleaseMode}
+use Rattle.model.specs.declared.event.Answer.{Answer}
+use Rattle.model.specs.declared.event.Event.{Event}
+use Rattle.model.specs.declared.event.Event.TheVariants.{FreedOf, Copied, Shown}
+use Rattle.model.specs.declared.event.Start.{Start}
+use Rattle.model.specs.declared.event.Start.TheVariants.{Container}
+use Rattle.model.specs.declared.families.Flight.{Flight}
+use Rattle.model.specs.declared.families.Flight as flights
+use Rattle.model.specs.declared.families.Kept.{Kept}
+use Rattle.model.specs.declared.families.container.ContainerStart.{ContainerStart}
+use Rattle.model.specs.declared.families.container.ContainerStart.TheVariants.{Recover}
+use Rattle.model.specs.declared.families.container.calls.ContainerFlight.{ContainerFlight}
+use Rattle.model.specs.declared.families.container.calls.ContainerFlight as calls
+use Rattle.model.specs.declared.party.Doing.{Doing}
+use Rattle.model.specs.declared.party.Doing.TheVariants.{Going, Over}
+use Rattle.model.specs.declared.party.Party.{Party}
+use Rattle.model.specs.declared.turn.Turn.{Turn}
+use Rattle.model.specs.declared.turn.Turn.TheVariants.{Begin, Next, Decide, Die}
+use Rattle.model.specs.Coding.{Coding}
+use Rattle.model.specs.Families.{beside_of, step_of}
+use Rattle.model.specs.Families.Container.Calls.{after}
+use Rattle.model.specs.Families.Container.Recoveries.{IsRecovery, BeganUnlocked, VisitsRight, VisitsUnlocked}
+use Rattle.model.specs.Families.Container.States.{state_of}
+use Rattle.model.specs.Families.Container.Steps.{recover_effects, question_of, effects, questions}
+use Rattle.model.specs.Families.Indices.Robust.Promises.{IsUnlocked}
+use Rattle.model.specs.Families.Queues.Calls.{read_in}
+use Rattle.model.specs.Moments.{HeldOnce}
+use Rattle.model.specs.Parties.{party_of}
+use Rattle.model.specs.Promises.Turns.{IsParty, IsEffectOf}
+use Rattle.model.specs.Refusals.{refusal_of}
+use Rattle.model.specs.Step.{answer_in}
+use Rattle.model.specs.Turns.{old_of, number_of, ask_of_doing, events_of_step, events_of_answer, events_of_next, events_of_decision, events_of, ending_of, after_turn}
+use Rattle.model.specs.World.{Trace}
+use Rattle.model.proofs.Frame as frame
+use Rattle.model.proofs.Rows.{passes}
+use Rattle.model.proofs.Scenes.{StandsThere, stands_there}
+use Rattle.container_laws.proofs.Invariant.{family}
+use Rattle.container_laws.proofs.Knows.{View, RecoverKnows}
+use Rattle.container_laws.proofs.Sound.{Shown as AllShown, kept_is, kept_now, scene_of, IsThere, is_there}
+use Rattle.container_laws.proofs.Stages.{sees_now, any_call}
+use Rattle.container_laws.proofs.Written.{all_effects}
+
+-- ---- what a party writes
+
+module _ {T : Type 0} (q : ℕ) (events : List (Event T)) where
+  abbrev All : List (Event T) → Type 0
+  All es = AllByRecursion (VisitsRight events) es
+
+  abbrev Began : Type 0
+  Began = BeganUnlocked q events
+
+  one_visits : Began → (e : Event T) → IsEffectOf (Next q) e → VisitsRight events e
+  one_visits began (Copied p index value) is = subst (λ n. BeganUnlocked n events) (sym is) began
+  one_visits began (Shown p index) is = subst (λ n. BeganUnlocked n events) (sym is) began
+  one_visits began (FreedOf p index owner) is = subst (λ n. BeganUnlocked n events) (sym is) began
+  one_visits began e is = tt
+
+  all_visit : Began → (es : List (Event T)) → AllByRecursion (IsEffectOf (Next q)) es → All es
+  all_visit began [] are = tt
+  all_visit began (e ∷ es) are = (one_visits began e are.0, all_visit began es are.1)
+
+  with_end : (start : Start T) (outcome : Option (Answer T)) (es : List (Event T)) → All es → All (es ++ ending_of q start outcome)
+  with_end start None [] all = tt
+  with_end start (Some answer) [] all = (tt, tt)
+  with_end start outcome (e ∷ es) all = (all.0, with_end start outcome es all.1)
+
+-- ---- a recovery comes to an index at none of its first and last steps
+
+module _ {T : Type 0} (code : Coding T) (c owner : ℕ) (mode : ReleaseMode) (room : rooms.Kept 128) (v : View T) where
+  abbrev IsQuiet : RecoverStage → Type 0
+  IsQuiet stage = (q : ℕ) (given : DeadOwner) (value : T) (n : ℕ) → recover_effects q given value stage n ++ question_of q given stage n ≡ []
+
+  recover_began : (stage : RecoverStage) → RecoverKnows code c owner mode room stage v → IsQuiet stage ⊎ HeldOnce v.party IsUnlocked v.events
+  recover_began recovers.TheVariants.LoadsCounter k = inl (λ q given value n. refl)
+  recover_began (recovers.TheVariants.LoadsCell index) k = inr k.1.was_open
+  recover_began (recovers.TheVariants.LoadsCount index) k = inr k.1.was_open
+  recover_began (recovers.TheVariants.LoadsWord index count at) k = inr k.1.was_open
+  recover_began (recovers.TheVariants.ChecksCount index count) k = inr k.1.was_open
+  recover_began (recovers.TheVariants.Asks index count) k = inr k.1.was_open
+  recover_began (recovers.TheVariants.EmptiesCell index count) k = inr k.1.was_open
+  recover_began (recovers.TheVariants.Hides index count) k = inr k.1.was_open
+  recover_began (recovers.TheVariants.Raises index raise) k = inr k.1.was_open
+  recover_began (recovers.TheVariants.Locks index lock) k = inr k.1.was_open
+  recover_began recovers.TheVariants.LoadsCounterAgain k = inr k.1.was_open
+  recover_began (recovers.TheVariants.AddsChange state) k = inl (λ q given value n. refl)
+
+-- ---- a step of a party's call
+
+module _ {T : Type 0} (shown : AllShown T) (code : Coding T) (c : ℕ) (t : Trace T) (s : frame.Sound (family code c) t) (small : t.world.turns < 2 ^ 64 - 2) (q : ℕ) (x : Party T) (since : ℕ) (found : party_of q t.world.latest ≡ Some x) where
+  abbrev wrote : ContainerFlight T → ℕ → List (Event T)
+  wrote flight n = effects code q (state_of q s.state.states) flight n ++ questions q flight n
+
+  -- it writes nothing, or began before the lock if it is a recovery
+  began_by : (start : ContainerStart T) (flight : ContainerFlight T) → IsThere shown code c t s q x since small found start flight → (n : ℕ) → (wrote flight n ≡ []) ⊎ BeganUnlocked q t.events
+  began_by (Recover owner mode) (calls.TheVariants.Recover run) there n =
+      ⊎_elim (λ quiet. inl (quiet q run.given (read_in code run.room) n)) (λ held. inr (λ recovery. held))
+      (recover_began code c run.given.owner run.given.mode run.room (sees_now (scene_of shown code c t s q x since)) run.call.stage there.knows.1)
+  began_by (Recover owner mode) flight there n = absurd there.at
+  began_by start flight there n = inr (λ recovery. absurd (subst IsRecovery there.here.span recovery))
+
+  abbrev Visits : ℕ → Coding T → Kept T → Start T → Flight T → Type 0
+  Visits n y kept a flight =
+      All q t.events (events_of_step q a (step_of y t.world.words (beside_of t.world.words kept t.world.latest q) q a flight n kept))
+
+  step_visits : (n : ℕ) (a : Start T) (flight : Flight T) → StandsThere (family code c) t s q x since a flight → Visits n code (kept_now shown code c t s) a flight
+  step_visits n (Container a) (flights.TheVariants.Container flight) stands =
+      with_end q t.events (Container a) (answer_in (any_call (after code (state_of q s.state.states) flight n))) (wrote flight n)
+      (⊎_elim (λ quiet. subst (All q t.events) (sym quiet) tt) (λ began. all_visit q t.events began (wrote flight n) (all_effects (Next q) q refl code (state_of q s.state.states) flight n))
+      (began_by a flight (is_there shown code c t s q x since small found a flight stands) n))
+  step_visits n a flight stands = absurd stands.at
+
+  any_visits : (n : ℕ) (flight : Flight T) → x.doing ≡ Going flight since → Visits n t.world.coding t.world.kept x.start flight
+  any_visits n flight doing =
+      let same = kept_is t.world.kept t.world.words s.state s.fit in
+      subst (λ y. Visits n y t.world.kept x.start flight) (sym s.coding)
+      (subst (λ kept. Visits n code kept x.start flight) (sym same.0) (step_visits n x.start flight (stands_there (family code c) t s q x since flight found doing)))
+
+-- ---- any turn
+
+module _ {T : Type 0} (shown : AllShown T) (code : Coding T) (t : Trace T) (turn : Turn T) (r : refusal_of t.world turn ≡ None) (s : frame.Sound (family code t.world.capacity) t) where
+  small : t.world.turns < 2 ^ 64 - 2
+  small = (passes t.world turn r).turns
+
+  next_visits : (q : ℕ) (o : Option (Party T)) → party_of q t.world.latest ≡ o → All q t.events (events_of_next t.world q o)
+  next_visits q None found = tt
+  next_visits q (Some x) found = go x.doing refl
+    where
+      go : (doing : Doing T) → x.doing ≡ doing → All q t.events (events_of_answer t.world q x (old_of t.world.words (ask_of_doing t.world.coding doing)) doing)
+      go (Over others) d = tt
+      go (Going flight since) d = any_visits shown code t.world.capacity t s small q x since found _ flight d
+
+  decision_visits : (q : ℕ) (said : Bool) (o : Option (Party T)) → party_of q t.world.latest ≡ o → All q t.events (events_of_decision t.world q said o)
+  decision_visits q said None found = tt
+  decision_visits q said (Some x) found = go x.doing refl
+    where
+      go : (doing : Doing T) → x.doing ≡ doing → All q t.events (events_of_answer t.world q x (number_of said) doing)
+      go (Over others) d = tt
+      go (Going flight since) d = any_visits shown code t.world.capacity t s small q x since found _ flight d
+
+  visits : (u : Turn T) → AllByRecursion (VisitsRight t.events) (events_of t.world u)
+  visits (Begin p start) = (tt, tt)
+  visits (Next p) = next_visits p (party_of p t.world.latest) refl
+  visits (Decide p said) = decision_visits p said (party_of p t.world.latest) refl
+  visits (Die owner) = (tt, tt)
+
+  -- as the promise says it
+  pub visits_unlocked : VisitsUnlocked t (after_turn t turn)
+  visits_unlocked wrote is = subst (AllByRecursion (VisitsRight t.events)) (append_cancel_left t.events (events_of t.world turn) wrote is) (visits turn)
