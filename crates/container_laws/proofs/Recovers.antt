@@ -43,7 +43,7 @@ use Rattle.model.proofs.Readings.{AllFollow}
 use Rattle.robust_laws.proofs.Core.{counter_of}
 use Rattle.robust_laws.proofs.Counting.{times_below}
 use Rattle.robust_laws.proofs.Deeds.{was_one}
-use Rattle.robust_laws.proofs.Effects.{some_none, is_shut}
+use Rattle.robust_laws.proofs.Effects.{some_none, is_shut, unlocked}
 use Rattle.robust_laws.proofs.Effects as set_effects
 use Rattle.robust_laws.proofs.Knows as set_knows
 use Rattle.robust_laws.proofs.Locks as set_locks
