@@ -144,6 +144,21 @@ fn dead_owners(rt: HostRuntime) -> Result<(), Fail> {
     Ok(())
 }
 
+/// In mode `Default` a recovery that frees the last index leaves the container open.
+#[test]
+fn a_recovery_that_does_not_lock(rt: HostRuntime) -> Result<(), Fail> {
+    let (container, pass) = Container::new(rt.alloc(), 1, 5)?;
+    let mut user = User::new(&container, pass);
+    let one = OwnerId::new(1).map_err(|_| "no owner")?;
+    user.adds(&rt, 5u32, one).map_err(|_| "no place")?;
+    assert_eq!(rt;
+        recover(&rt, &mut user, one, 1, KEEP),
+        (5, ReleaseState::Unlocked)
+    );
+    assert!(rt; user.adds(&rt, 6, one).is_ok());
+    Ok(())
+}
+
 /// A state of a container that is gone.
 fn left_over(rt: &impl Wait, alloc: Global, owner: OwnerId) -> Option<ContainerState<u32>> {
     let (container, pass) = Container::new(alloc, 3, 5).ok()?;

@@ -59,6 +59,23 @@ fn one_value(rt: HostRuntime) -> Result<(), Fail> {
     Ok(())
 }
 
+/// Where memory is refused to a second state the test fails by that alone: the first one tells that nothing has changed.
+#[test]
+fn a_refused_state(rt: HostRuntime) -> Result<(), Fail> {
+    let (container, pass) = Container::new(rt.alloc(), 3, 5)?;
+    let mut user = User::new(&container, pass);
+    let owner = OwnerId::new(1).map_err(|_| "no owner")?;
+    for value in [5u32, 6] {
+        user.adds(&rt, value, owner).map_err(|_| "no place")?;
+    }
+    let mut first = user.state(&rt).ok_or("no memory")?;
+    let second = user.state(&rt);
+    assert_eq!(rt; user.updates(&rt, &mut first), Some(false));
+    assert_eq!(rt; user.says(&rt), (2, false, false));
+    assert_eq!(rt; shown(&second.ok_or("no memory")?), (2, 11));
+    Ok(())
+}
+
 /// Whether neither a remove nor a replace takes the handle.
 fn refuses(rt: &impl Wait, user: &mut User<'_, u32>, wrong: &ContainerHandle) -> bool {
     let removed = user.removes(rt, wrong, ReleaseMode::LockIfLastIndex);

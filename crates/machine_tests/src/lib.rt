@@ -16,6 +16,8 @@ mod indices;
 #[cfg(test)]
 mod many;
 #[cfg(test)]
+mod misuse;
+#[cfg(test)]
 mod queues;
 #[cfg(test)]
 mod robust;

@@ -16,11 +16,16 @@ fn runs_so(alloc: Global, input: &[u8], output: &[u8], told: &[u8], exit: u8) ->
 /// A text that prints nothing, and what is told of it.
 type Broken = (&'static [u8], &'static [u8]);
 
-const BROKEN: [Broken; 19] = [
+const BROKEN: [Broken; 21] = [
     (b"", b"line 1: missing value\n"),
     (b"ring 1 1", b"line 1: unknown kind\n"),
     (b"robust 0 1", b"line 1: ProvidedCapacityIsZero\n"),
     (b"atomic 0 1", b"line 1: ProvidedCapacityIsZero\n"),
+    (b"container 0 1", b"line 1: ProvidedCapacityIsZero\n"),
+    (
+        b"container 4294967296 1",
+        b"line 1: ProvidedCapacityGreaterThanMaxCapacity\n",
+    ),
     (
         b"bits 4294967296 1",
         b"line 1: ProvidedCapacityGreaterThanMaxCapacity\n",

@@ -1,4 +1,4 @@
-//! A text a kind, cut in the middle of one call, and what it prints. `bin/try-memory` reads them here.
+//! A text or more a kind, cut in the middle of one call, and what it prints. `bin/try-memory` reads them here.
 
 /// A pop has read its cell as a push finds the queue full.
 const INDEX_QUEUE: &[u8] =
@@ -56,10 +56,31 @@ const ROBUST: &[u8] =
 const ROBUST_OUTPUT: &[u8] =
     b"0 begun acquire 1\n0 filled 0 1\n0 granted 0 1\n0 finished acquire 1 -> 0\ndied 1\n1 begun recover default\n1 asked 0 1\n1 told 0 1\n1 freed 0 1\n0 begun acquire 2\n0 filled 0 2\n0 granted 0 2\n0 finished acquire 2 -> 0\n1 finished recover default -> Unlocked\n";
 
+/// A remove has freed its index and not yet hidden its value as that is copied to a first state.
+const CONTAINER: &[u8] =
+    b"container 1 2\n0 begin add 18446744073709551618 1\n0 next 9\n0 begin remove 0 1 default\n0 next 4\n1 begin get_state\n1 next 9\n0 next 9\n1 begin update_state\n1 next 9\n";
+
+const CONTAINER_OUTPUT: &[u8] =
+    b"0 begun add 18446744073709551618 1\n0 filled 0 1\n0 granted 0 1\n0 placed 0 18446744073709551618\n0 finished add 18446744073709551618 1 -> 0\n0 begun remove 0 1 default\n0 freed 0 1\n1 begun get_state\n1 copied 0 18446744073709551618\n1 finished get_state -> 1\n0 hidden 0\n0 finished remove 0 1 default -> Unlocked\n1 begun update_state\n1 finished update_state -> true\n";
+
+/// A remove has freed its index as an add of another owner takes it, which hides the value that stands there.
+const CONTAINER_TAKEN: &[u8] =
+    b"container 1 2\n0 begin add 5 1\n0 next 9\n0 begin remove 0 1 default\n0 next 4\n1 begin add 6 2\n1 next 10\n0 next 9\n0 begin get_state\n0 next 9\n";
+
+const CONTAINER_TAKEN_OUTPUT: &[u8] =
+    b"0 begun add 5 1\n0 filled 0 1\n0 granted 0 1\n0 placed 0 5\n0 finished add 5 1 -> 0\n0 begun remove 0 1 default\n0 freed 0 1\n1 begun add 6 2\n1 filled 0 2\n1 granted 0 2\n1 hidden 0\n1 placed 0 6\n1 finished add 6 2 -> 0\n0 finished remove 0 1 default -> Unlocked\n0 begun get_state\n0 copied 0 6\n0 finished get_state -> 1\n";
+
+/// A recovery has freed the index of a dead owner and not yet hidden its value as that is copied.
+const CONTAINER_RECOVERED: &[u8] =
+    b"container 1 2\n0 begin add 5 1\n0 next 9\ndie 1\n0 begin recover 1 default\n0 next 9\n0 yes\n0 next\n1 begin get_state\n1 next 9\n0 next 9\n";
+
+const CONTAINER_RECOVERED_OUTPUT: &[u8] =
+    b"0 begun add 5 1\n0 filled 0 1\n0 granted 0 1\n0 placed 0 5\n0 finished add 5 1 -> 0\ndied 1\n0 begun recover 1 default\n0 copied 0 5\n0 asked 0 1\n0 told 0 1\n0 freed 0 1\n1 begun get_state\n1 copied 0 5\n1 finished get_state -> 1\n0 hidden 0\n0 finished recover 1 default -> Unlocked\n";
+
 /// A text and its output.
 pub type Text = (&'static [u8], &'static [u8]);
 
-pub const TEXTS: [Text; 8] = [
+pub const TEXTS: [Text; 11] = [
     (INDEX_QUEUE, INDEX_QUEUE_OUTPUT),
     (OVERFLOW, OVERFLOW_OUTPUT),
     (QUEUE, QUEUE_OUTPUT),
@@ -68,4 +89,7 @@ pub const TEXTS: [Text; 8] = [
     (COUNTS, COUNTS_OUTPUT),
     (INDICES, INDICES_OUTPUT),
     (ROBUST, ROBUST_OUTPUT),
+    (CONTAINER, CONTAINER_OUTPUT),
+    (CONTAINER_TAKEN, CONTAINER_TAKEN_OUTPUT),
+    (CONTAINER_RECOVERED, CONTAINER_RECOVERED_OUTPUT),
 ];

@@ -2,7 +2,7 @@
 use crate::greatest::Greatest;
 use plain::Container;
 use std::test::Fail;
-use steps::container::enums::ContainerAddFailure;
+use steps::container::enums::{ContainerAddFailure, ContainerStateError};
 use steps::enums::{CallbackProgression, OwnerId};
 use steps::indices::enums::{ReleaseMode, ReleaseState};
 
@@ -55,18 +55,17 @@ fn recovers(
 }
 
 /// The values that a new state shows, as digits, 0 for none.
-fn shown(container: &mut Container<u64>) -> u64 {
+fn shown(container: &mut Container<u64>) -> Result<u64, ContainerStateError> {
+    let state = container.get_state()?;
     let mut digits: u64 = 0;
-    if let Ok(state) = container.get_state() {
-        for index in 0..4 {
-            let value = match state.get(index) {
-                Some(value) => *value,
-                None => 0,
-            };
-            digits = digits.wrapping_mul(10).wrapping_add(value);
-        }
+    for index in 0..4 {
+        let value = match state.get(index) {
+            Some(value) => *value,
+            None => 0,
+        };
+        digits = digits.wrapping_mul(10).wrapping_add(value);
     }
-    digits
+    Ok(digits)
 }
 
 #[test]
@@ -85,7 +84,7 @@ fn finds_of_a_container(rt: HostRuntime) -> Result<(), Fail> {
     ] {
         assert_eq!(rt; finds(&mut container, owner, last), found);
     }
-    assert_eq!(rt; shown(&mut container), 5687);
+    assert_eq!(rt; shown(&mut container)?, 5687);
     Ok(())
 }
 
@@ -106,7 +105,7 @@ fn recoveries_of_a_container(rt: HostRuntime) -> Result<(), Fail> {
         (two, 0, LOCK, (SHUT, 0), 0),
     ] {
         assert_eq!(rt; recovers(&mut container, owner, kept, mode), recovered);
-        assert_eq!(rt; shown(&mut container), left);
+        assert_eq!(rt; shown(&mut container)?, left);
     }
     assert_eq!(rt; container.add(5, one), Err(ContainerAddFailure::IsLocked));
     Ok(())
@@ -120,7 +119,7 @@ fn a_recovery_in_default_mode(rt: HostRuntime) -> Result<(), Fail> {
         assert!(rt; container.add(value, one).is_ok());
     }
     assert_eq!(rt; recovers(&mut container, one, 6, KEEP), (OPEN, 567));
-    assert_eq!(rt; shown(&mut container), 600);
+    assert_eq!(rt; shown(&mut container)?, 600);
     assert_eq!(rt; finds(&mut container, one, 0), (1, 619));
     assert_eq!(rt; recovers(&mut container, one, 0, KEEP), (OPEN, 6));
     assert_eq!(rt; (container.len(), container.is_locked()), (0, false));

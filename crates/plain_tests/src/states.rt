@@ -71,6 +71,23 @@ fn a_new_state_shows_all(rt: HostRuntime) -> Result<(), Fail> {
     Ok(())
 }
 
+/// Where memory is refused to a second state the test fails by that alone: the first one tells that nothing has changed.
+#[test]
+fn a_refused_state(rt: HostRuntime) -> Result<(), Fail> {
+    let owner = OwnerId::new(1)?;
+    let mut container = Container::<u64>::new(rt.alloc(), 3, 5)?;
+    for value in [5, 6] {
+        assert!(rt; container.add(value, owner).is_ok());
+    }
+    let mut first = container.get_state()?;
+    let second = container.get_state();
+    assert_eq!(rt; updates(&mut container, &mut first), Some(false));
+    assert_eq!(rt; (container.len(), container.is_locked()), (2, false));
+    let second = second?;
+    assert_eq!(rt; (shown(&second, 0), shown(&second, 1)), (5, 6));
+    Ok(())
+}
+
 #[test]
 fn states_of_other_containers(rt: HostRuntime) -> Result<(), Fail> {
     let mut mine = Container::<u64>::new(rt.alloc(), 2, 5)?;

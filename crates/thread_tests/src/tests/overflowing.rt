@@ -48,7 +48,7 @@ fn calls_in_turn(rt: HostRuntime) -> Result<(), Fail> {
         let (queue, pass) = SafelyOverflowingIndexQueue::new(rt.alloc(), capacity)?;
         play(&rt, &queue, pass, name, calls);
     }
-    let (queue, pass) = SafelyOverflowingIndexQueue::new_at(rt.alloc(), 2, u64::MAX - 1)?;
+    let (queue, pass) = SafelyOverflowingIndexQueue::new_at(rt.alloc(), 1, u64::MAX - 1)?;
     play(&rt, &queue, pass, "LAST_POSITION", &LAST_POSITION);
     Ok(())
 }

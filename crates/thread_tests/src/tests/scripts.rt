@@ -28,7 +28,8 @@ const ROLES: [Call<u64>; 13] = [
     Call::DropConsumer,
 ];
 
-/// At capacity 2, from the position below the last one: the last write position takes nothing.
+/// From the position below the last one, at capacity 2, and at 1 where the queue overflows: the last write position takes
+/// nothing.
 pub const LAST_POSITION: [Call<u64>; 7] = [
     Call::AskProducer(true),
     Call::Push(1, None),
