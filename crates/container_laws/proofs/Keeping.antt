@@ -29,7 +29,6 @@ use Rattle.model.specs.declared.party.Party.{Party}
 use Rattle.model.specs.Coding.{Coding}
 use Rattle.model.specs.Families.Container.Promises.{StandsProper, WasShown, HasRecovered}
 use Rattle.model.specs.Families.Container.Reading.{MayReplace, Copies, Sees, Has, HasLatest, acts, acts_of, places, contents_of}
-use Rattle.model.specs.Families.Container.Recoveries.{UnlockedAtLast}
 use Rattle.model.specs.Families.Container.States.{state_of}
 use Rattle.model.specs.Families.Indices.Reading.{locked_after, is_locked}
 use Rattle.model.specs.Families.Indices.Robust.Promises.{IsFilledWith, IsUnlocked, FilledSinceFreed, StillToFree}
@@ -38,7 +37,7 @@ use Rattle.model.specs.Families.Queues.Calls.{read_in}
 use Rattle.model.specs.Moments.{HeldOnce}
 use Rattle.model.specs.Parties.{party_of}
 use Rattle.model.specs.Reading.{span_of}
-use Rattle.model.proofs.Moments.{held_later, held_so}
+use Rattle.model.proofs.Moments.{held_later}
 use Rattle.robust_laws.proofs.Counting.{count_later}
 use Rattle.robust_laws.proofs.Knows.{Goes, Spares, IsSeen, knows_later, held_paid, still_scanned}
 use Rattle.robust_laws.proofs.Knows as set
@@ -50,7 +49,7 @@ use Rattle.container_laws.proofs.HiddenLater.{remove_covers, recover_covers, hid
 use Rattle.container_laws.proofs.Knows.{View, of_set, now, IsPaid, Dead, Lives, WasFilled, AddOwns, HasFound, ReplaceKnows, Covers, Writes, HasPlaced, Stood, AddKnows, ReplacesKnow, RemoveSays, HasLeft, ReleaseHides, ReleaseLeft, RemoveKnows, Copying, HasCopied, CheckPaid, HasFoundBelow, Finds, Steady, FindKnows, AskedBelow, GoneBut, Recovers, RecoverSays, RecoverKnows, RecoverFills, Looks, LookCopies, LookRests, LookKnows, Knows}
 use Rattle.container_laws.proofs.Replaces.{ReplaceOwns, replace_later, add_later}
 use Rattle.container_laws.proofs.KeptCopies.{CallsOn, own_later, calls_same}
-use Rattle.container_laws.proofs.KeptLocks.{NoIndex, FilledBut, filled_then, each_later, says_later}
+use Rattle.container_laws.proofs.KeptLocks.{NoIndex, FilledBut, filled_then, each_later, says_later, unlocked_later}
 use Rattle.container_laws.proofs.Sights.{StoodThere, rests_later, course_later}
 use Rattle.container_laws.proofs.Turns.{Now, Proper, count_in, Passes, Leaves}
 use Rattle.container_laws.proofs.Writers.{Replacing, IsWriter}
@@ -329,14 +328,9 @@ module _ {T : Type 0} (code : Coding T) (c : ℕ) (v : View T) (words' : List �
             (h.asked i (through_less q (StillToFree q owner i) events es spares.none through));
       }
 
-  unlocked_at_last : UnlockedAtLast q events → UnlockedAtLast q (events ++ es)
-  unlocked_at_last h =
-      held_so q (λ part. IsUnlocked part × (deeds_of q part ≡ deeds_of q events)) (λ part. IsUnlocked part × (deeds_of q part ≡ deeds_of q (events ++ es))) (events ++ es) (λ part was. (was.0, was.1 ∙ sym deeds_same))
-      (once (λ part. IsUnlocked part × (deeds_of q part ≡ deeds_of q events)) h)
-
   recover_says : (owner : ℕ) (mode : ReleaseMode) (state : ReleaseState) → RecoverSays code c owner mode state v → RecoverSays code c owner mode state later
   recover_says owner mode states.TheVariants.Locked h = shut_later events es h
-  recover_says owner mode states.TheVariants.Unlocked h = (goes.dead owner h.0, unlocked_at_last h.1, recovered owner h.0 h.2, each_later q owner mode events es spares.none deeds_same h.3)
+  recover_says owner mode states.TheVariants.Unlocked h = (goes.dead owner h.0, unlocked_later q owner events es spares.none deeds_same h.1, recovered owner h.0 h.2, each_later q owner mode events es spares.none deeds_same h.3)
 
   fills : (owner : ℕ) (mode : ReleaseMode) (But : ℕ → Type 0) → FilledBut mode q owner But events → FilledBut mode q owner But (events ++ es)
   fills owner mode But h = filled_then q owner mode But But events es spares.none (λ i was. inl (subst (IsOneOf (Frees i owner)) deeds_same was)) (λ i e. e) (shut_later events es) h

@@ -9,7 +9,6 @@ use Rattle.model.specs.declared.event.Event.{Event}
 use Rattle.model.specs.declared.event.Event.TheVariants.{Copied, Finished}
 use Rattle.model.specs.declared.event.Start.{Start}
 use Rattle.model.specs.declared.event.Start.TheVariants.{Container}
-use Rattle.model.specs.declared.families.container.ContainerStart.{ContainerStart}
 use Rattle.model.specs.declared.families.container.ContainerStart.TheVariants.{GetState}
 use Rattle.model.specs.Families.Container.Looks.{shows}
 use Rattle.model.specs.Families.Container.Reading.{Act, Copies, act, acts, acts_of, Has}

@@ -1,15 +1,15 @@
 -- In mode LockIfLastIndex a recovery finds some index filled after each that it frees, or the container locked.
-use Rattle.std.proofs.Common.{◌≡◌, ◌⊎◌, ⊎_elim, inl, inr, ℕ, ◌+◌, ◌<◌, true, false, Some, List, [], ◌++◌, sym, ap, subst, ◌∙◌, append-nil}
+use Rattle.std.proofs.Common.{◌≡◌, ◌⊎◌, ⊎_elim, inl, inr, ℕ, ◌<◌, true, false, List, [], ◌++◌, sym, subst, ◌∙◌, append-nil}
 use Rattle.steps.specs.declared.indices.enums.ReleaseMode.{ReleaseMode}
 use Rattle.steps.specs.declared.indices.enums.ReleaseMode.TheVariants.{LockIfLastIndex, Default}
 use Rattle.steps.specs.declared.indices.robust.parts.Count as counts
 use Rattle.steps.specs.declared.indices.robust.parts.Lock.{Lock}
 use Rattle.steps.specs.declared.indices.robust.parts.Lock as locks
 use Rattle.model.specs.declared.event.Event.{Event}
-use Rattle.model.specs.Families.Container.Recoveries.{FilledSinceEach}
+use Rattle.model.specs.Families.Container.Recoveries.{UnlockedAtLast, FilledSinceEach}
 use Rattle.model.specs.Families.Indices.Reading.{is_locked}
-use Rattle.model.specs.Families.Indices.Robust.Promises.{IsFilled, FilledSinceFreed}
-use Rattle.model.specs.Families.Indices.Robust.Reading.{Deed, Frees, deeds_of, IsOneOf}
+use Rattle.model.specs.Families.Indices.Robust.Promises.{IsFilled, IsUnlocked, FilledSinceFreed}
+use Rattle.model.specs.Families.Indices.Robust.Reading.{Frees, deeds_of, IsOneOf}
 use Rattle.model.specs.Moments.{BeginsNone, HeldOnce}
 use Rattle.model.proofs.Moments.{held_later, held_so}
 use Rattle.model.proofs.Readings.{no_more}
@@ -80,6 +80,11 @@ module _ {T : Type 0} where
     each_later LockIfLastIndex events es none same h = λ i was.
         let f = h i (subst (IsOneOf (Frees i owner)) same was) in
         record { other = f.other; once = held_later p _ events es none f.once }
+
+    pub unlocked_later : (events es : List (Event T)) → BeginsNone p es → deeds_of p (events ++ es) ≡ deeds_of p events → UnlockedAtLast p events → UnlockedAtLast p (events ++ es)
+    unlocked_later events es none same h =
+        held_so p (λ part. IsUnlocked part × (deeds_of p part ≡ deeds_of p events)) (λ part. IsUnlocked part × (deeds_of p part ≡ deeds_of p (events ++ es))) (events ++ es) (λ part was. (was.0, was.1 ∙ sym same))
+        (held_later p (λ part. IsUnlocked part × (deeds_of p part ≡ deeds_of p events)) events es none h)
 
     -- ---- a lock
 

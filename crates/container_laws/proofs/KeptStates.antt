@@ -33,7 +33,7 @@ use Rattle.model.specs.declared.turn.Turn.TheVariants.{Begin, Next, Decide, Die}
 use Rattle.model.specs.Coding.{Coding}
 use Rattle.model.specs.Families.{first_of, want_of, is_question, beside_of, step_of, kept_after_begin, kept_after_death}
 use Rattle.model.specs.Families.Container.Calls.{after as goes_after, look_shows, look_came, states_after, writes_state}
-use Rattle.model.specs.Families.Container.Keeping.{is_look_of, MovesInLooks, BeginsWithState, FalseAtOnce, KeepsStates, steps_of}
+use Rattle.model.specs.Families.Container.Keeping.{is_look_of, MovesInLooks, BeginsWithState, KeepsStates, steps_of}
 use Rattle.model.specs.Families.Container.Looks.{state_in, is_looking, EndsLook}
 use Rattle.model.specs.Families.Container.Opening.{keeps}
 use Rattle.model.specs.Families.Container.States.{state_of, with_state, fresh}
@@ -49,7 +49,7 @@ use Rattle.model.proofs.Scenes.{StandsThere, stands_there}
 use Rattle.robust_laws.proofs.Effects.{both_ways}
 use Rattle.container_laws.proofs.Invariant.{family}
 use Rattle.container_laws.proofs.Looks.{looks_as, written_other}
-use Rattle.container_laws.proofs.LooksTell.{look_asks_none, LookEnd, LookTurn, ended, small, looks_right, looks_own, looks_leave}
+use Rattle.container_laws.proofs.LooksTell.{look_asks_none, LookEnd, ended, small, looks_right, looks_own, looks_leave}
 use Rattle.container_laws.proofs.Sound.{Shown, kept_is, kept_now}
 use Rattle.container_laws.proofs.Stages.{any_call}
 use Rattle.container_laws.proofs.Standing.{look_at, look_number}

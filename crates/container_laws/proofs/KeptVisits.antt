@@ -1,5 +1,5 @@
 -- A recovery that began after the lock comes to no index.
-use Rattle.std.proofs.Common.{◌≡◌, ◌⊎◌, ⊎_elim, inl, inr, ℕ, ◌-◌, ◌^◌, ◌<◌, Bool, Option, Some, None, List, [], ◌∷◌, ◌++◌, refl, sym, ap, subst}
+use Rattle.std.proofs.Common.{◌≡◌, ◌⊎◌, ⊎_elim, inl, inr, ℕ, ◌-◌, ◌^◌, ◌<◌, Bool, Option, Some, None, List, [], ◌∷◌, ◌++◌, refl, sym, subst}
 use Rattle.std.proofs.lemmas.List.{append_cancel_left}
 use Rattle.std.specs.List.{AllByRecursion}
 use Rattle.steps.specs.declared.container.recover.RecoverStage.{RecoverStage}
@@ -34,7 +34,7 @@ use Rattle.model.specs.Families.Indices.Robust.Promises.{IsUnlocked}
 use Rattle.model.specs.Families.Queues.Calls.{read_in}
 use Rattle.model.specs.Moments.{HeldOnce}
 use Rattle.model.specs.Parties.{party_of}
-use Rattle.model.specs.Promises.Turns.{IsParty, IsEffectOf}
+use Rattle.model.specs.Promises.Turns.{IsEffectOf}
 use Rattle.model.specs.Refusals.{refusal_of}
 use Rattle.model.specs.Step.{answer_in}
 use Rattle.model.specs.Turns.{old_of, number_of, ask_of_doing, events_of_step, events_of_answer, events_of_next, events_of_decision, events_of, ending_of, after_turn}

@@ -10,11 +10,12 @@ use Rattle.model.specs.declared.event.Event.{Event}
 use Rattle.model.specs.declared.event.Event.TheVariants.{Begun, Filled, Granted, FreedOf, Asked, Told, Placed, Hidden, Copied, Shown, Died, Finished}
 use Rattle.model.specs.declared.event.Start.{Start}
 use Rattle.model.specs.declared.event.Start.TheVariants.{Container}
-use Rattle.model.specs.declared.families.container.ContainerStart.TheVariants.{Add, Remove, Replace, Find, Recover, GetState, UpdateState}
+use Rattle.model.specs.declared.families.container.ContainerStart.TheVariants.{Add, Remove, Replace, Find, Recover, GetState, UpdateState, IsLocked}
 use Rattle.model.specs.declared.turn.Kind as kinds
 use Rattle.model.specs.declared.turn.Refusal.TheVariants.{OwnerIsDead, OwnerLives, Undecided, WrongCall}
 use Rattle.model.specs.declared.turn.Turn.{Turn}
 use Rattle.model.specs.declared.turn.Turn.TheVariants.{Begin, Next, Decide, Die}
+use Rattle.model.specs.Families.Container.Keeping.{steps_of, is_look_of}
 use Rattle.model.specs.Families.Container.Looks.{state_in, shows}
 use Rattle.model.specs.Families.Container.Promises.{ContainsRight, FindsUpTo}
 use Rattle.model.specs.Families.Container.Questions.{question_at, WritesRight, YesTells}
@@ -44,6 +45,9 @@ get_state = Container GetState
 
 abbrev update_state : Start ℕ
 update_state = Container UpdateState
+
+abbrev is_locked : Start ℕ
+is_locked = Container IsLocked
 
 abbrev ran_on : ℕ → List (Turn ℕ) → Trace ℕ
 ran_on capacity turns = ran two_words kinds.TheVariants.Container capacity 2 turns
@@ -179,6 +183,10 @@ half_replaced_update = refl
 pub half_replaced_shows : shown_in (ran_on 1 (half_replaced ++ begins 1 update_state 1)) 1 0 ≡ Some 5
 half_replaced_shows = refl
 
+-- the update that says so has taken one step
+pub half_replaced_steps : steps_of (progress_in (ran_on 1 (half_replaced ++ begins 1 update_state 1)).world 1) ≡ 1
+half_replaced_steps = refl
+
 pub half_replaced_state : (ran_on 1 (half_replaced ++ begins 1 get_state 2)).events
     ≡ Begun 0 (add 5 1)
     ∷ Filled 0 0 1
@@ -242,6 +250,18 @@ looked_again_events = refl
 
 pub looked_again_shows : shown_in (ran_on 2 looked_again) 0 0 ≡ None
 looked_again_shows = refl
+
+-- another call of the party leaves its state, and so does a look of another party
+abbrev looked_on : List (Turn ℕ)
+looked_on =
+    begins 0 (add 5 1) 9
+    ++ (begins 1 get_state 5 ++ (begins 1 is_locked 1 ++ begins 0 get_state 5))
+
+pub looked_on_shows : shown_in (ran_on 1 looked_on) 1 0 ≡ Some 5
+looked_on_shows = refl
+
+pub looked_on_is_no_look : is_look_of (ran_on 1 looked_on).world 1 (Begin 1 is_locked) ≡ false
+looked_on_is_no_look = refl
 
 -- ---- a recovery that asks: yes to the first value of the owner, no to the second
 
