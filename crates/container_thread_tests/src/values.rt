@@ -206,6 +206,7 @@ fn whole_pairs(rt: HostRuntime) -> Result<(), Fail> {
         OwnerId::new(2).map_err(|_| "no owner")?,
     );
     let user = User::new(&container, pass);
-    assert!(rt; between(&rt, user, owners) == Some((true, 0)));
+    let comes = between(&rt, user, owners).ok_or("no state")?;
+    assert_eq!(rt; comes, (true, 0));
     Ok(())
 }
