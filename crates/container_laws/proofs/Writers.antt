@@ -18,7 +18,7 @@ module _ {T : Type 0} where
     pub settled : settled_of i events ≡ Some o
     pub latest : replacer_of i o events ≡ Some p
 
-  -- and a remove that has the right to the index; it writes nothing there
+  -- who may write; and a remove that has the right to the index, where it places nothing
   abbrev pub IsWriter : ℕ → ℕ → ℕ → List (Event T) → Type 0
   IsWriter p i o events = IsBy p i o events ⊎ Replacing p i o events
 

@@ -48,7 +48,7 @@ module _ {T : Type 0} where
       MayReplace p index owner before
   ReplacesRight before e = Unit {0}
 
-  -- and so was one under way that has taken a step, at whose index its owner was at a moment of the call
+  -- and so was one under way that has taken a step, and at whose index its owner was meanwhile
   abbrev pub StandsProper : ℕ → Option (Party T) → List (Event T) → Type 0
   StandsProper p None events = Unit {0}
   StandsProper p (Some x) events =
