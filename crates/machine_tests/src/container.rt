@@ -59,7 +59,7 @@ const CALLS: [Row; 32] = [
 /// At capacity 139: a new state, an update without a change, a remove, and an update that sees it.
 const WHOLE: [Row; 8] = [
     Row::Call(0, "add 1234567 8192", 9, "0"),
-    Row::Call(0, "get_state", 142, "1"),
+    Row::Call(0, "get_state", 143, "1"),
     Row::Shows(Shows::Among(0, 0, Some(1234567), 1)),
     Row::Call(0, "update_state", 1, "false"),
     Row::Call(0, "remove 0 8192 default", 6, "Unlocked"),

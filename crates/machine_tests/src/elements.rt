@@ -1,8 +1,9 @@
-//! A container of 5,000 values, and the recovery of an owner of seventy that stops after each turn.
+//! A container of 5,000 elements, and recoveries of an owner of seventy, of which one stops after each turn.
 use crate::many::with;
 use crate::script::{Played, opened};
 use machine::event::Event;
-use schedule::bare::is_going;
+use machine::turn::Turn;
+use schedule::bare::{is_going, step};
 use schedule::pen::Pen;
 use std::alloc::{AllocError, Global};
 use std::test::Fail;
@@ -38,36 +39,30 @@ impl Played {
     }
 
     /// Whether so many turns of the party's call are taken, of which each decision is this one.
-    fn decides(&mut self, party: u32, decision: &str, turns: u64) -> bool {
+    fn decides(&mut self, party: u32, decision: bool, turns: u64) -> bool {
         let mut taken = true;
         for _ in 0..turns {
-            taken &= if is_going(&self.machine, party) {
-                self.goes(party, 1)
+            let turn = if is_going(&self.machine, party) {
+                Turn::Next(party)
             } else {
-                self.is_taken(decision)
+                Turn::Decide(party, decision)
             };
+            taken &= step(&mut self.machine, turn).is_ok();
         }
         taken
     }
 
-    /// Whether the party begins the call, and these turns of it end it like this.
-    fn ends(
-        &mut self,
-        party: u32,
-        call: &str,
-        decision: &str,
-        turns: u64,
-        event: &str,
-    ) -> Result<bool, AllocError> {
-        let taken = self.begins(party, call, 0)? & self.decides(party, decision, turns);
+    /// Whether party 0 begins the call, and so many turns of it, with a yes to each question, end it like this.
+    fn ends(&mut self, call: &str, turns: u64, event: &str) -> Result<bool, AllocError> {
+        let taken = self.begins(0, call, 0)? & self.decides(0, true, turns);
         Ok(taken && self.last_is(event))
     }
 
-    /// Whether the state of party 1 shows each value, but every third where these are gone.
+    /// Whether the state of party 1 shows each of 300 values, but every third where these are gone, and no more.
     fn shows_all(&self, are_gone: bool) -> bool {
         let mut right = true;
         for index in 0..5000u64 {
-            let value = if are_gone && index % 3 == 2 {
+            let value = if index >= 300 || (are_gone && index % 3 == 2) {
                 None
             } else {
                 Some(value_of(index) as u128)
@@ -77,26 +72,23 @@ impl Played {
         right
     }
 
-    /// Whether 5,000 values of three owners are shown, and those of one of them recovered: 1,666, each in 10 turns.
+    /// Whether 300 values of three owners are shown, and those of one of them recovered, each in 10 turns.
     fn goes_through_all(&mut self) -> Result<bool, AllocError> {
         Ok(
-            self.adds_all(5000, 3)?
-                && self.answers(0, "add 1 1", 5002, "OutOfSpace")?
-                && self.answers(1, "get_state", 20_001, "5000")?
+            self.adds_all(300, 3)?
+                && self.answers(1, "get_state", 5901, "300")?
                 && self.shows_all(false)
                 && self.answers(1, "update_state", 1, "false")?
                 && self.is_taken("die 3")
                 && self.ends(
-                    0,
                     "recover 3 default",
-                    "0 yes",
-                    19_997,
+                    5903,
                     "0 finished recover 3 default -> Unlocked\n",
                 )?
                 && self.answers(1, "update_state", 5001, "true")?
                 && self.shows_all(true)
-                && self.answers(0, "len", 5002, "3334")?
-                && self.ends(0, "find 1", "0 yes", 13_335, "0 finished find 1 -> 1667\n")?,
+                && self.answers(0, "len", 5002, "200")?
+                && self.ends("find 1", 5500, "0 finished find 1 -> 100\n")?,
         )
     }
 }
@@ -111,13 +103,13 @@ fn five_thousand_elements(rt: HostRuntime) -> Result<(), Fail> {
     Ok(())
 }
 
-/// How many values party 1 has freed and not hidden.
+/// How many values were freed and not hidden.
 fn seen_late(events: &[Event<u128>]) -> u64 {
     let mut count = 0u64;
     for event in events {
         match event {
-            Event::FreedOf(1, _, _) => count = count.wrapping_add(1),
-            Event::Hidden(1, _) => count = count.wrapping_sub(1),
+            Event::FreedOf(_, _, _) => count = count.wrapping_add(1),
+            Event::Hidden(_, _) => count = count.wrapping_sub(1),
             _ => {}
         }
     }
@@ -125,55 +117,70 @@ fn seen_late(events: &[Event<u128>]) -> u64 {
 }
 
 impl Played {
-    /// Whether party 2 goes on to the end of its call, saying yes.
+    /// Whether a party begins a recovery, says no below its own index, and stops after so many turns there.
+    fn stops_at(&mut self, index: u64, turns: u64) -> Result<bool, AllocError> {
+        let party = (index as u32).saturating_add(1);
+        Ok(
+            self.begins(party, "recover 1 default", 1)?
+                & self.decides(party, false, index.saturating_mul(6))
+                & self.decides(party, true, turns),
+        )
+    }
+
+    /// Whether one does so at each index, the last one first.
+    fn all_stop(&mut self, round: u64) -> Result<bool, AllocError> {
+        let mut right = true;
+        for index in 0..70u64 {
+            let index = 69u64.saturating_sub(index);
+            right &= self.stops_at(index, index.saturating_add(round) % 10)?;
+        }
+        Ok(right)
+    }
+
+    /// Whether party 71 goes on to the end of its call, saying yes.
     fn agrees(&mut self) -> bool {
         for _ in 0..1000u64 {
-            if !self.is_under_way(2) {
+            if !self.is_under_way(71) {
                 return true;
             }
-            if !self.decides(2, "2 yes", 1) {
+            if !self.decides(71, true, 1) {
                 return false;
             }
         }
         false
     }
 
-    /// Whether party 2 recovers what party 1, which stops after so many turns, has not: then nothing is filled, and nothing
-    /// shown but what party 1 has freed and not hidden.
-    fn recovers_after(&mut self, turns: u64) -> Result<bool, AllocError> {
-        let is_begun = self.adds_all(70, 1)?
-            && self.is_taken("die 1")
-            && self.begins(1, "recover 1 default", 0)?
-            && self.decides(1, "1 yes", turns);
-        let late = seen_late(self.machine.events());
-        let shown = with(self.alloc, "", late)?;
-        let looks = late.saturating_mul(3).saturating_add(71);
+    /// Whether party 71 recovers what those that stopped have not: then nothing is filled, and nothing shown but the
+    /// seven values that they have freed and not hidden.
+    fn recovers_the_rest(&mut self, round: u64) -> Result<bool, AllocError> {
         Ok(
-            is_begun
-                && late <= 1
-                && self.begins(2, "recover 1 default", 0)?
+            self.adds_all(70, 1)?
+                && self.is_taken("die 1")
+                && self.all_stop(round)?
+                && seen_late(self.machine.events()) == 7
+                && self.begins(71, "recover 1 default", 0)?
                 && self.agrees()
-                && self.last_is("2 finished recover 1 default -> Unlocked\n")
-                && self.answers(2, "find 1", 70, "0")?
-                && self.answers(2, "len", 72, "0")?
-                && self.answers(2, "get_state", looks, &shown)?
-                && self.shown(2) == late,
+                && self.last_is("71 finished recover 1 default -> Unlocked\n")
+                && self.answers(71, "find 1", 70, "0")?
+                && self.answers(71, "len", 72, "0")?
+                && self.answers(71, "get_state", 92, "7")?
+                && self.shown(71) == 7,
         )
     }
 }
 
-fn is_recovered(alloc: Global, turns: u64) -> Result<bool, AllocError> {
-    match opened(alloc, "container 70 3") {
-        Some(mut played) => played.recovers_after(turns),
+fn are_recovered(alloc: Global, round: u64) -> Result<bool, AllocError> {
+    match opened(alloc, "container 70 72") {
+        Some(mut played) => played.recovers_the_rest(round),
         None => Ok(false),
     }
 }
 
 #[test]
 fn a_recovery_stopped_at_each_step(rt: HostRuntime) -> Result<(), Fail> {
-    // 10 turns an index, of which the fifth asks, and 3 for all.
-    for turns in 0..704 {
-        assert!(rt; is_recovered(rt.alloc(), turns)?, "{turns}");
+    // At each index 10 turns, of which the fifth asks: in ten rounds one stops before each of them.
+    for round in 0..10 {
+        assert!(rt; are_recovered(rt.alloc(), round)?, "{round}");
     }
     Ok(())
 }

@@ -1,7 +1,8 @@
-//! Rows that stand for many, and what they come to.
+//! Rows that stand for many, what they come to, and what a state shows among many.
 use crate::script::{Played, are_told};
 use machine::event::Event;
 use machine::party::Progress;
+use schedule::bare::state;
 use schedule::pen::Pen;
 use std::alloc::{AllocError, Global};
 
@@ -182,6 +183,22 @@ impl Played {
             right &= self.all_go(parties);
         }
         Ok(right & self.all_have_ended(parties))
+    }
+
+    /// Whether the party's state shows this at this index.
+    pub fn state_has(&self, party: u32, index: usize, value: Option<u128>) -> bool {
+        match state(&self.machine, party) {
+            Some(state) => state.get(index).copied() == value,
+            None => false,
+        }
+    }
+
+    /// How many values the party's state shows.
+    pub fn shown(&self, party: u32) -> u64 {
+        match state(&self.machine, party) {
+            Some(state) => state.number() as u64,
+            None => 0,
+        }
     }
 
     /// Whether it comes out as the row says.

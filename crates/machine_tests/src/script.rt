@@ -314,22 +314,6 @@ impl Played {
         right
     }
 
-    /// Whether the party's state shows this at this index.
-    pub fn state_has(&self, party: u32, index: usize, value: Option<u128>) -> bool {
-        match state(&self.machine, party) {
-            Some(state) => state.get(index).copied() == value,
-            None => false,
-        }
-    }
-
-    /// How many values the party's state shows.
-    pub fn shown(&self, party: u32) -> u64 {
-        match state(&self.machine, party) {
-            Some(state) => state.number() as u64,
-            None => 0,
-        }
-    }
-
     /// Whether the row comes out as it says.
     fn does(&mut self, row: &Row) -> Result<bool, AllocError> {
         match *row {

@@ -220,8 +220,8 @@ pub struct Book {
     /// No index was given back or its value replaced by two calls at once.
     pub is_proper: bool,
     pub spans: [Span; 4],
-    /// What the state of each party showed when no look of it was under way.
-    pub states: [Shown; 4],
+    /// What the state of each party showed when no look of it was under way, four indices a party.
+    pub states: [Option<u128>; 16],
     pub stays: Vec<Stay>,
     pub copies: Vec<Copying>,
     /// The decision that the turn makes, if it does.
@@ -241,7 +241,7 @@ impl Book {
             dead: [0; 4],
             is_proper: true,
             spans: [no_span(), no_span(), no_span(), no_span()],
-            states: [NOTHING; 4],
+            states: [None; 16],
             stays: Vec::new(alloc),
             copies: Vec::new(alloc),
             said: None,
@@ -373,9 +373,7 @@ impl Book {
         if let Some(span) = self.spans.get_mut(party as usize) {
             span.is_open = false;
         }
-        if let Some(state) = self.states.get_mut(party as usize) {
-            *state = *shown;
-        }
+        self.keep_state(party, shown);
     }
 
     /// What the call has placed is settled, and so is the index that an add answers.

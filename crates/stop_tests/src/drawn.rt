@@ -217,6 +217,9 @@ impl Run {
             return self.dies();
         }
         let number = self.draws.below(self.parties);
+        if number >= 4 {
+            return Ok(());
+        }
         if at(&self.stopped, number) != 0 {
             return Ok(());
         }

@@ -11,7 +11,30 @@ fn shown_at(shown: &Shown, index: u64) -> Option<u128> {
     }
 }
 
+/// Where the book keeps what is shown to the party at this index.
+fn place_of(party: u32, index: usize) -> usize {
+    (party as usize).wrapping_mul(4).wrapping_add(index)
+}
+
 impl Book {
+    /// The state of the party shows this from here on.
+    pub fn keep_state(&mut self, party: u32, shown: &Shown) {
+        for (index, value) in shown.iter().enumerate() {
+            if let Some(kept) = self.states.get_mut(place_of(party, index)) {
+                *kept = *value;
+            }
+        }
+    }
+
+    /// Whether it has shown this.
+    pub fn has_state(&self, party: u32, shown: &Shown) -> bool {
+        let mut is_same = party < 4;
+        for (index, value) in shown.iter().enumerate() {
+            is_same &= self.states.get(place_of(party, index)) == Some(value);
+        }
+        is_same
+    }
+
     /// Whether its party has copied each value that it shows from there.
     fn are_copies(&self, party: u32, shown: &Shown) -> bool {
         let mut are = true;
@@ -78,7 +101,7 @@ impl Book {
     /// One that was brought up to date, or was so.
     pub fn updated(&self, party: u32, span: &Span, said: Said, shown: &Shown) -> Right {
         if said == Said::False {
-            let is_same = self.states.get(party as usize) == Some(shown);
+            let is_same = self.has_state(party, shown);
             want(
                 is_same && span.done.copied == 0,
                 "false leaves a state as it was",

@@ -148,7 +148,7 @@ impl Book {
         }
         let shown = shown_by(machine, party);
         want(
-            self.states.get(party as usize) == Some(&shown),
+            self.has_state(party, &shown),
             "a state changes by looks of its party alone",
         )
     }
