@@ -1,4 +1,5 @@
-//! Two threads ring bells, a third hears them, and what was heard is, bell by bell, what was rung.
+//! Two threads ring bells and a third hears them, once with flags that wake it and once with counts. Proved: bell by bell,
+//! what was heard and what stands at the end is what was set or counted, and of flags no bell that was rung is missing.
 #![tactic(auto)]
 
 mod counts;

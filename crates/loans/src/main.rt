@@ -1,4 +1,5 @@
-//! Passes records from one thread to another by their slots, and prints what was read.
+//! Passes records from one thread to another by the number of their slot alone, and prints what was read in place. Proved:
+//! each record was read as one call wrote it, whole, and as many came as were asked for.
 #![tactic(auto)]
 
 mod channel;
