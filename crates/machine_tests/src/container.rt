@@ -156,6 +156,33 @@ const OF_THE_DEAD: [Row; 16] = [
 const OF_THE_DEAD_TOLD: &str =
     "died 1\n1 begun recover 1 default\n1 copied 0 5\n1 asked 0 1\n1 told 0 1\n1 freed 0 1\n1 hidden 0\n1 copied 1 6\n1 asked 1 1\n1 finished recover 1 default -> Unlocked\n";
 
+/// At capacity 2: another locks behind what a recovery has done, which says so at its end.
+const MEETS_THE_LOCK: [Row; 9] = [
+    Row::Call(0, "add 5 1", 9, "0"),
+    Row::Call(0, "add 6 2", 10, "1"),
+    Row::Turn("die 1"),
+    Row::Part(0, "recover 1 default", 6),
+    Row::Turn("0 yes"),
+    Row::Goes(0, 4),
+    Row::Call(1, "remove 1 2 lock", 11, "Locked"),
+    Row::Goes(0, 3),
+    Row::Shows(Shows::Last("0 finished recover 1 default -> Locked\n")),
+];
+
+/// At capacity 2: a recovery has hidden what it has freed before it meets the lock.
+const HIDES_BEFORE_THE_LOCK: [Row; 10] = [
+    Row::Call(0, "add 5 1", 9, "0"),
+    Row::Call(0, "add 6 2", 10, "1"),
+    Row::Turn("die 1"),
+    Row::Part(0, "recover 1 default", 6),
+    Row::Turn("0 yes"),
+    Row::Goes(0, 2),
+    Row::Call(1, "remove 1 2 lock", 11, "Locked"),
+    Row::Goes(0, 2),
+    Row::Shows(Shows::Last("0 finished recover 1 default -> Locked\n")),
+    Row::Call(1, "get_state", 3, "0"),
+];
+
 /// At capacity 2.
 const REFUSALS: [Row; 12] = [
     Row::Refused("0 begin recover 1 lock", "OwnerLives"),
@@ -176,7 +203,7 @@ const REFUSALS: [Row; 12] = [
 /// No other kind has states.
 const NO_STATES: [Row; 1] = [Row::Shows(Shows::NoState(0))];
 
-const SCRIPTS: [Script; 10] = [
+const SCRIPTS: [Script; 12] = [
     ("container 139 1", &[(1, &WHOLE)]),
     ("robust 1 1", &[(1, &NO_STATES)]),
     ("container 2 2", &[(1, &CALLS)]),
@@ -186,6 +213,8 @@ const SCRIPTS: [Script; 10] = [
     ("container 1 2", &[(1, &HALF_REPLACED)]),
     ("container 1 2", &[(1, &TURNED_BACK)]),
     ("container 2 2", &[(1, &OF_THE_DEAD)]),
+    ("container 2 2", &[(1, &MEETS_THE_LOCK)]),
+    ("container 2 2", &[(1, &HIDES_BEFORE_THE_LOCK)]),
     ("container 2 2", &[(1, &REFUSALS)]),
 ];
 

@@ -86,6 +86,8 @@ pub struct Moments {
     pub empty_once: u64,
     /// What was filled at a moment since the call freed its own.
     pub since_freed: u64,
+    /// Where nothing stood at a moment since the call freed it.
+    pub gone: u64,
     pub unlocked_once: bool,
 }
 
@@ -99,6 +101,7 @@ fn no_moments() -> Moments {
         stood_always: u64::MAX,
         empty_once: 0,
         since_freed: 0,
+        gone: 0,
         unlocked_once: false,
     }
 }
@@ -331,6 +334,7 @@ impl Book {
             moments.stood_always &= stands;
             moments.empty_once |= !stands;
             moments.since_freed |= filled;
+            moments.gone |= span.done.freed & !stands;
             moments.unlocked_once |= !self.is_locked;
         }
     }

@@ -249,13 +249,17 @@ impl Run {
 
 fn opened(alloc: Global, capacity: u64, seed: u64) -> Option<Run> {
     let mut draws = Draws { state: seed };
-    let parties = draws.below(3).wrapping_add(2);
-    match made(alloc, Kind::Container, capacity as usize, parties as u32) {
+    let parties = match draws.below(3) {
+        0 => 2u32,
+        1 => 3,
+        _ => 4,
+    };
+    match made(alloc, Kind::Container, capacity as usize, parties) {
         Ok(machine) => Some(Run {
             machine,
             book: Book::new(alloc, capacity),
             draws,
-            parties,
+            parties: u64::from(parties),
             stopped: [0; 4],
         }),
         Err(_) => None,

@@ -223,6 +223,6 @@ fn a_stop_after_every_turn(rt: HostRuntime) {
             runs = runs.wrapping_add(cuts(&rt, rt.alloc(), row, other, one));
         }
     }
-    // Of a call of so many turns one more, twice, both ways round: counted by the table of docs/MODEL.md.
+    // Of a call of so many turns one more, twice, both ways round: counted by the turns in `rows.rt`.
     assert_eq!(rt; runs, 720);
 }

@@ -114,6 +114,11 @@ impl Book {
             "a recovery answers Unlocked where it was so",
         )?;
         let done = span.done;
+        let is_shared = done.freed == 0 || span.moments.since_freed != 0;
+        want(
+            is_shared || !span.call.may_lock,
+            "Unlocked where another was filled since",
+        )?;
         let left = owned(&self.filled, span.call.owner) & (done.told | done.shown);
         want(left == 0, "nothing that it was told of or shown is left")?;
         let missed = span.moments.still_its & !(done.asked | done.shown);
@@ -157,6 +162,8 @@ impl Book {
         shown: &Shown,
     ) -> Right {
         let (said, number) = said_by(answer);
+        let left = span.done.freed & !span.moments.gone;
+        self.want_proper(left == 0, "what stood where it freed is hidden")?;
         match span.call.name {
             Name::Add => self.added(span, said, number),
             Name::Remove => self.removed(span, said),
