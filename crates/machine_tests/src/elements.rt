@@ -118,11 +118,11 @@ fn seen_late(events: &[Event<u128>]) -> u64 {
 
 impl Played {
     /// Whether a party begins a recovery, says no below its own index, and stops after so many turns there.
-    fn stops_at(&mut self, index: u64, turns: u64) -> Result<bool, AllocError> {
-        let party = (index as u32).saturating_add(1);
+    fn stops_at(&mut self, index: u32, turns: u64) -> Result<bool, AllocError> {
+        let party = index.saturating_add(1);
         Ok(
             self.begins(party, "recover 1 default", 1)?
-                & self.decides(party, false, index.saturating_mul(6))
+                & self.decides(party, false, u64::from(index).saturating_mul(6))
                 & self.decides(party, true, turns),
         )
     }
@@ -130,9 +130,9 @@ impl Played {
     /// Whether one does so at each index, the last one first.
     fn all_stop(&mut self, round: u64) -> Result<bool, AllocError> {
         let mut right = true;
-        for index in 0..70u64 {
-            let index = 69u64.saturating_sub(index);
-            right &= self.stops_at(index, index.saturating_add(round) % 10)?;
+        for passed in 0..70u32 {
+            let index = 69u32.saturating_sub(passed);
+            right &= self.stops_at(index, u64::from(index).saturating_add(round) % 10)?;
         }
         Ok(right)
     }
