@@ -2,7 +2,7 @@
 use crate::user::User;
 use lock_free::mpmc::container::{
     CallbackProgression, Container, ContainerAddFailure, ContainerHandle, ContainerRemoveError,
-    ContainerState, FixedSizeContainer, OwnerId,
+    ContainerState, FixedSizeContainer, OwnerId, Pass,
 };
 use lock_free::mpmc::unique_index_set_enums::{
     ReleaseMode, ReleaseState, UniqueIndexCreationError,
@@ -15,14 +15,16 @@ use std::thread::Threads;
 
 const FOREIGN: ContainerRemoveError = ContainerRemoveError::ContainerHandleNotOwnedByContainer;
 
-/// How many values a state shows, and their sum.
+/// How many values a state hands to a closure, and their sum.
 fn shown(state: &ContainerState<u32>) -> (usize, u64) {
+    let mut calls = 0usize;
     let mut sum = 0u64;
     state.for_each(|_, value| {
+        calls = calls.wrapping_add(1);
         sum = sum.wrapping_add(*value as u64);
         CallbackProgression::Continue
     });
-    (state.number(), sum)
+    (calls, sum)
 }
 
 /// A value at a time, and states of it.
@@ -36,13 +38,10 @@ fn one_value(rt: HostRuntime) -> Result<(), Fail> {
     assert_eq!(rt; (handle.index(), handle.owner.value()), (0, 8192));
     let mut state = user.state(&rt).ok_or("no memory")?;
     assert_eq!(rt;
-        (shown(&state), state.get(0)),
-        ((1, 1234567), Some(&1234567))
+        (shown(&state), state.get(0), state.number()),
+        ((1, 1234567), Some(&1234567), 1)
     );
     assert_eq!(rt; user.updates(&rt, &mut state), Some(false));
-    assert_eq!(rt; user.replaces(&handle, 6), Ok(()));
-    assert_eq!(rt; user.updates(&rt, &mut state), Some(true));
-    assert_eq!(rt; shown(&state), (1, 6));
     assert_eq!(rt;
         user.removes(&rt, &handle, ReleaseMode::Default),
         Ok(ReleaseState::Unlocked)
@@ -57,6 +56,42 @@ fn one_value(rt: HostRuntime) -> Result<(), Fail> {
     assert_eq!(rt; user.updates(&rt, &mut state), Some(false));
     assert_eq!(rt; user.says(&rt), (0, true, false));
     Ok(())
+}
+
+/// A value in the place of another, as a state that is brought up to date and a new one show it.
+#[test]
+fn one_replaced(rt: HostRuntime) -> Result<(), Fail> {
+    let (container, pass) = Container::new(rt.alloc(), 3, 5)?;
+    let mut user = User::new(&container, pass);
+    let owner = OwnerId::new(1).map_err(|_| "no owner")?;
+    let handle = user.adds(&rt, 5, owner).map_err(|_| "no place")?;
+    let mut state = user.state(&rt).ok_or("no memory")?;
+    assert_eq!(rt; user.replaces(&handle, 6), Ok(()));
+    assert_eq!(rt; shown(&state), (1, 5));
+    assert_eq!(rt; user.updates(&rt, &mut state), Some(true));
+    assert_eq!(rt; (shown(&state), state.get(0)), ((1, 6), Some(&6)));
+    let second = user.state(&rt).ok_or("no memory")?;
+    assert_eq!(rt; (shown(&second), second.get(0)), ((1, 6), Some(&6)));
+    let removed = user.removes(&rt, &handle, ReleaseMode::Default);
+    assert_eq!(rt; removed, Ok(ReleaseState::Unlocked));
+    assert_eq!(rt; user.replaces(&handle, 7), Err(FOREIGN));
+    Ok(())
+}
+
+fn may_be_sent<T: Send>() {}
+
+fn may_be_shared<T: Sync>() {}
+
+#[test]
+fn what_of_containers_crosses_threads(rt: HostRuntime) {
+    may_be_sent::<Container<u32>>();
+    may_be_shared::<Container<u32>>();
+    may_be_sent::<FixedSizeContainer<u32, 8>>();
+    may_be_shared::<FixedSizeContainer<u32, 8>>();
+    may_be_sent::<Pass<u32>>();
+    may_be_sent::<ContainerState<u32>>();
+    may_be_sent::<ContainerHandle>();
+    may_be_shared::<ContainerHandle>();
 }
 
 /// Where memory is refused to a second state the test fails by that alone: the first one tells that nothing has changed.

@@ -69,7 +69,9 @@ impl<T: Words> Machine<T> {
     /// parties, numbered from 0. Of a set of indices or a container no index is held, and no owner is dead. Room for a
     /// party is made as it first begins a call, and room for its state of a container as it first looks.
     ///
-    /// Refused are, in this order, a capacity above the greatest of the kind, one below the least, and memory.
+    /// Refused are, in this order, a capacity above the greatest of the kind (`ProvidedCapacityGreaterThanMaxCapacity`:
+    /// 1 for a value, 2^24 - 2 for unique indices, else 2^32 - 1), one below the least (`ProvidedCapacityIsZero`: 1, for
+    /// queues, bits and counts 0), and memory (`NoMemory`).
     pub fn new(
         alloc: Global,
         kind: Kind,

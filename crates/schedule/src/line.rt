@@ -58,6 +58,7 @@ impl Line {
         self.len = end;
     }
 
+    /// Appends the text, for which there must be room.
     pub fn push(&mut self, text: &str)
         requires { length self.old + length text.now ≤ ROOM }
         ensures { self.new ≡ self.old ++ text.now }
@@ -65,6 +66,7 @@ impl Line {
         self.push_bytes(text.as_bytes());
     }
 
+    /// Appends the number in decimal digits, of which it has 39 at most.
     pub fn push_number(&mut self, number: u128)
         requires { length self.old + 39 ≤ ROOM }
         ensures text { self.new ≡ self.old ++ decimal number }

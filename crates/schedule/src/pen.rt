@@ -1,6 +1,7 @@
 //! A text that grows. Where memory fails it stays as it is from then on, and that is told once, in the end.
 use std::alloc::{AllocError, Global};
 
+/// What is written so far.
 #[derive(Drop)]
 pub struct Pen {
     text: String,
@@ -8,6 +9,7 @@ pub struct Pen {
 }
 
 impl Pen {
+    /// An empty text, which takes no memory yet.
     pub fn new(alloc: Global) -> Pen {
         Pen {
             text: String::new(alloc),
@@ -15,10 +17,12 @@ impl Pen {
         }
     }
 
+    /// How many bytes it has.
     pub fn len(&self) -> usize {
         self.text.len()
     }
 
+    /// The text, behind what is written.
     pub fn put(&mut self, text: &str) {
         if !self.has_failed {
             self.has_failed = self.text.push_str(text).is_err();
@@ -45,7 +49,7 @@ impl Pen {
         }
     }
 
-    /// The whole text.
+    /// The whole text, or that memory was refused somewhere.
     pub fn done(self) -> Result<String, AllocError> {
         if self.has_failed {
             return Err(AllocError);

@@ -22,9 +22,9 @@ impl<T: Words> Container<T> {
     /// clause says so); then nothing has changed. `IsLocked` where the container is locked, which leaves the lock seen.
     ///
     /// A pass that has seen the lock gets `IsLocked`. A call that meets the lock only after it has given the index its
-    /// owner answers `IsLocked` too, and the index keeps that owner, without a value. At most 7 + `T::WORDS` atomic steps
-    /// more than the capacity where nobody else steps in between; else it may try again for as long as others step. After
-    /// `add` of the Rust crate.
+    /// owner answers `IsLocked` too: the index keeps that owner, and `value` is placed nowhere; what an earlier owner's
+    /// remove has not hidden yet stands there still. At most 7 + `T::WORDS` atomic steps more than the capacity where
+    /// nobody else steps in between; else it may try again for as long as others step. After `add` of the Rust crate.
     pub fn add(
         &self,
         rt: &impl Wait,
@@ -95,7 +95,8 @@ impl<T: Words> Container<T> {
     /// of another container, where its index is not below the capacity (both without an atomic step), or where its owner
     /// does not have the index (no clause says so); then nothing has changed.
     ///
-    /// While it is under way the index shows no value. At most 5 + `T::WORDS` atomic steps. This project's own.
+    /// From its third step, which hides the value that stood there, to the last but one, behind the new value's words,
+    /// the index shows no value. At most 5 + `T::WORDS` atomic steps. This project's own.
     pub fn replace(
         &self,
         handle: ContainerHandle,

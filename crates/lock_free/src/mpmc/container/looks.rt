@@ -13,10 +13,11 @@ impl<T: Words> Container<T> {
     /// A state that shows the values that stand in the container: each whole, as it stood when the call came to it
     /// (tests say so, no clause does). It shows nothing while the number of changes is 0: so until the first add,
     /// replace, remove or recovery has counted its change, which is its last step. `NoMemory` where a state has no
-    /// memory; then nothing was asked of the container.
+    /// memory; then the container is as it was (a test finds its values and its number of changes so).
     ///
-    /// It asks for memory twice, before its first atomic step: at most 1 and for each index 2 + `T::WORDS` where nobody
-    /// else steps in between; else it may try again for as long as others step. After `get_state` of the Rust crate.
+    /// It asks for memory twice, before its first atomic step (no clause says so). At most 1 and for each index 2 +
+    /// `T::WORDS` atomic steps where nobody else steps in between; else it may try again for as long as others step. After
+    /// `get_state` of the Rust crate.
     pub fn get_state(
         &self,
         rt: &impl Wait,
@@ -35,7 +36,7 @@ impl<T: Words> Container<T> {
     /// Brings a state of this container up to date. False where no add, replace, remove or recovery has counted a
     /// change since the state was brought up to date last (no clause says so); the state then stays as it is. True
     /// where one has, also where all values are the same as before: the state then shows at each index what stood there
-    /// when the call came to it. A change that is counted while it goes on is told by the next call as well, though
+    /// when the call came to it (tests say so, no clause does). A change that is counted while it goes on is told by the next call as well, though
     /// its value may be shown by then.
     ///
     /// The number of changes has 64 bits and wraps, as that of each value does: where it has come round to the one that

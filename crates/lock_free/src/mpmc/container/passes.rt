@@ -13,7 +13,8 @@ use steps::words::Words;
 
 impl<T: Words> Pass<T> {
     /// A new pass of the same container that has not seen the lock; this one keeps what it has seen. None, and nothing
-    /// changes, where no further pass can be counted (no clause says when). This project's own.
+    /// changes, where no further pass can be counted (no clause says when). No step on a word of the container. This
+    /// project's own.
     pub fn split(&mut self) -> Option<Pass<T>>
         ensures container { container_of self.new ≡ container_of self.old }
         ensures view { view self.new ≡ view self.old }
@@ -34,7 +35,7 @@ impl<T: Words> Pass<T> {
         })
     }
 
-    /// Takes in what the other pass of the container has seen. This project's own.
+    /// Takes in what the other pass of the container has seen. No step on a word of the container. This project's own.
     pub fn join(&mut self, other: Pass<T>)
         requires { container_of other ≡ container_of self.old }
         ensures container { container_of self.new ≡ container_of self.old }

@@ -10,7 +10,7 @@ use std::sync::Arc;
 
 impl Pass {
     /// A new pass of the same set that has not seen the lock; this one keeps what it has seen. None, and nothing changes,
-    /// where no further pass can be counted (no clause says when). This project's own.
+    /// where no further pass can be counted (no clause says when). No step on a word of the set. This project's own.
     pub fn split(&mut self) -> Option<Pass>
         ensures set { set_of self.new ≡ set_of self.old }
         ensures view { view self.new ≡ view self.old }
@@ -28,7 +28,7 @@ impl Pass {
         })
     }
 
-    /// Takes in what the other pass of the set has seen. This project's own.
+    /// Takes in what the other pass of the set has seen. No step on a word of the set. This project's own.
     pub fn join(&mut self, other: Pass)
         requires { set_of other ≡ set_of self.old }
         ensures set { set_of self.new ≡ set_of self.old }
