@@ -1,33 +1,22 @@
 //! A plain book of a container, kept from the events of a run: who fills, holds and has settled at each index, what
 //! stands there and stood there when, who is dead, and what each party's latest call has done. It uses no definition of
-//! the machine's own: arrays, masks of indices and lists.
-use crate::replay::calls::{Called, Name, call_of};
-use crate::replay::contents::given;
-use crate::replay::{Right, bit, want};
-use machine::event::{Answer, Event, Start};
-use machine::families::queues::QueueStart;
-use std::alloc::Global;
+//! the machine's own: arrays, masks of indices, lists, and tables of promises.
+ghost use Rattle.std.specs.Prelude.{◌≡◌, ⊤};
 
-mod deeds;
+use crate::replay::{Right, bit, want};
+use crate::told::{Call, NO_CALL, Name, Said, Told, What};
+use std::alloc::{AllocError, Global};
+
 mod ends;
 mod looks;
-mod order;
+mod promises;
 pub mod turns;
 
-/// At each index a value or none.
-pub type Shown = [Option<u128>; 4];
-
-pub const NOTHING: Shown = [None; 4];
-
-/// Those indices at which there is a value.
-pub fn indices_of(shown: &Shown) -> u64 {
-    let mut mask = 0u64;
-    for (index, value) in shown.iter().enumerate() {
-        if value.is_some() {
-            mask |= bit(index as u64);
-        }
-    }
-    mask
+/// Values at those indices that are in the mask, and 0 elsewhere.
+#[derive(Drop)]
+pub struct Shown {
+    pub stands: u64,
+    pub values: [u128; 4],
 }
 
 /// The number at this index, 0 past the last.
@@ -44,6 +33,19 @@ pub fn put(numbers: &mut [u64; 4], index: u64, number: u64) {
     }
 }
 
+pub fn value_at(values: &[u128; 4], index: u64) -> u128 {
+    match values.get(index as usize) {
+        Some(value) => *value,
+        None => 0,
+    }
+}
+
+pub fn put_value(values: &mut [u128; 4], index: u64, value: u128) {
+    if let Some(place) = values.get_mut(index as usize) {
+        *place = value;
+    }
+}
+
 /// Those indices that have this owner, or any where he is 0.
 fn owned(owners: &[u64; 4], owner: u64) -> u64 {
     let mut mask = 0u64;
@@ -55,25 +57,31 @@ fn owned(owners: &[u64; 4], owner: u64) -> u64 {
     mask
 }
 
-/// What a call writes of an index.
-#[derive(Clone, Copy, PartialEq)]
-pub enum Wrote {
-    Nothing,
-    Filled,
-    Granted,
-    Freed,
-    Locked,
-    Asked,
-    Told,
-    Placed,
-    Hidden,
-    Copied,
-    Shown,
-}
-
-/// What was so at a moment of a call, and all along: masks of indices.
-#[derive(Clone, Copy)]
-pub struct Moments {
+/// A party's latest call. What it has done and what was so at moments of it are masks of indices.
+#[derive(Copy)]
+pub struct Span {
+    pub call: Call,
+    pub is_open: bool,
+    /// No other call was under way in it.
+    pub is_alone: bool,
+    /// A remove or a replace began where its index was settled, and a replace was left alone there since.
+    pub is_proper: bool,
+    /// It waits for a yes or a no.
+    pub asks: bool,
+    /// The number of the event by which it began.
+    pub begun: u64,
+    /// What it wrote last, and of which index.
+    pub latest: What,
+    pub index: u64,
+    pub filled: u64,
+    pub granted: u64,
+    pub freed: u64,
+    pub asked: u64,
+    pub told: u64,
+    pub shown: u64,
+    pub placed: u64,
+    pub copied: u64,
+    pub locks: bool,
     pub filled_once: u64,
     pub filled_always: u64,
     /// The same of the call's own owner.
@@ -91,8 +99,35 @@ pub struct Moments {
     pub unlocked_once: bool,
 }
 
-fn no_moments() -> Moments {
-    Moments {
+impl Clone for Span {
+    ghost is_clone = { λ x y. y ≡ x };
+
+    ghost is_infallible = { λ _. ⊤ };
+
+    fn clone(&self) -> Result<Span, AllocError> {
+        Ok(*self)
+    }
+}
+
+fn span_of(call: Call, begun: u64) -> Span {
+    Span {
+        call,
+        is_open: true,
+        is_alone: true,
+        is_proper: true,
+        asks: false,
+        begun,
+        latest: What::Nothing,
+        index: 0,
+        filled: 0,
+        granted: 0,
+        freed: 0,
+        asked: 0,
+        told: 0,
+        shown: 0,
+        placed: 0,
+        copied: 0,
+        locks: false,
         filled_once: 0,
         filled_always: u64::MAX,
         its_once: 0,
@@ -106,92 +141,47 @@ fn no_moments() -> Moments {
     }
 }
 
-/// The indices of which a call has written something.
-#[derive(Clone, Copy)]
-pub struct Done {
-    pub filled: u64,
-    pub granted: u64,
-    pub freed: u64,
-    pub asked: u64,
-    pub told: u64,
-    pub shown: u64,
-    pub placed: u64,
-    pub copied: u64,
-    pub locks: bool,
-}
-
-fn nothing_done() -> Done {
-    Done {
-        filled: 0,
-        granted: 0,
-        freed: 0,
-        asked: 0,
-        told: 0,
-        shown: 0,
-        placed: 0,
-        copied: 0,
-        locks: false,
-    }
-}
-
-/// A party's latest call.
-#[derive(Drop)]
-pub struct Span {
-    pub start: Start<u128>,
-    pub call: Called,
-    pub given: Option<u128>,
-    pub is_open: bool,
-    /// No other call was under way in it.
-    pub is_alone: bool,
-    /// A remove or a replace began where its index was settled, and a replace was left alone there since.
-    pub is_proper: bool,
-    /// It waits for a yes or a no.
-    pub asks: bool,
-    /// The number of the event by which it began.
-    pub begun: u64,
-    pub latest: (Wrote, u64),
-    pub done: Done,
-    pub moments: Moments,
-}
-
-fn span_of(start: &Start<u128>, begun: u64) -> Span {
-    Span {
-        start: *start,
-        call: call_of(start),
-        given: given(start),
-        is_open: true,
-        is_alone: true,
-        is_proper: true,
-        asks: false,
-        begun,
-        latest: (Wrote::Nothing, 0),
-        done: nothing_done(),
-        moments: no_moments(),
-    }
-}
-
 /// No call yet.
 fn no_span() -> Span {
-    let mut span = span_of(&Start::Queues(QueueStart::Len), 0);
+    let mut span = span_of(NO_CALL, 0);
     span.is_open = false;
     span
 }
 
-impl Span {
-    pub fn is_look(&self) -> bool {
-        self.call.name == Name::GetState || self.call.name == Name::UpdateState
+/// The span behind an event that its call has written.
+fn after(span: &Span, told: &Told) -> Span {
+    let mut next = *span;
+    let place = bit(told.place);
+    next.latest = told.what;
+    next.index = told.place;
+    match told.what {
+        What::Filled => next.filled |= place,
+        What::Granted => next.granted |= place,
+        What::FreedOf => {
+            next.freed |= place;
+            next.since_freed = 0;
+        }
+        What::Locked => next.locks = true,
+        What::Asked => {
+            next.asked |= place;
+            next.asks = true;
+        }
+        What::Told => next.told |= place,
+        What::Placed => next.placed |= place,
+        What::Copied => {
+            next.copied |= place;
+            next.asks = span.call.name == Name::FindOf;
+        }
+        What::Shown => next.shown |= place,
+        _ => {}
     }
-
-    /// Whether it is a call that its owner's death stops.
-    pub fn is_owners(&self) -> bool {
-        [Name::Add, Name::Remove, Name::Replace].contains(&self.call.name)
-    }
+    next
 }
 
 /// Where a value stood, by numbers of events, up to MAX while it stands.
 #[derive(Clone, Copy)]
 pub struct Stay {
-    pub party: u32,
+    pub party: u64,
     pub index: u64,
     pub value: u128,
     /// Where the call that placed it came to its end, and where the value was hidden.
@@ -202,9 +192,14 @@ pub struct Stay {
 /// A value that a party has copied from an index.
 #[derive(Clone, Copy, PartialEq)]
 pub struct Copying {
-    pub party: u32,
+    pub party: u64,
     pub index: u64,
     pub value: u128,
+}
+
+/// Whether there is memory for one more, asked for once more where it is refused.
+fn keeps<T: Copy>(list: &mut Vec<T>, one: T) -> bool {
+    list.push(one).is_ok() || list.push(one).is_ok()
 }
 
 #[derive(Drop)]
@@ -216,19 +211,23 @@ pub struct Book {
     pub filled: [u64; 4],
     pub held: [u64; 4],
     pub settled: [u64; 4],
-    pub contents: Shown,
+    /// What stands at each index, as it is shown.
+    pub stands: u64,
+    pub values: [u128; 4],
     pub is_locked: bool,
-    /// Whether the owner with this number is dead.
-    pub dead: [u64; 4],
+    /// The owners who are dead.
+    pub dead: u64,
     /// No index was given back or its value replaced by two calls at once.
     pub is_proper: bool,
     pub spans: [Span; 4],
     /// What the state of each party showed when no look of it was under way, four indices a party.
-    pub states: [Option<u128>; 16],
+    pub state_stands: [u64; 4],
+    pub state_values: [u128; 16],
     pub stays: Vec<Stay>,
     pub copies: Vec<Copying>,
     /// The decision that the turn makes, if it does.
-    pub said: Option<bool>,
+    pub said: Said,
+    pub has_memory: bool,
 }
 
 impl Book {
@@ -239,158 +238,186 @@ impl Book {
             filled: [0; 4],
             held: [0; 4],
             settled: [0; 4],
-            contents: NOTHING,
+            stands: 0,
+            values: [0; 4],
             is_locked: false,
-            dead: [0; 4],
+            dead: 0,
             is_proper: true,
-            spans: [no_span(), no_span(), no_span(), no_span()],
-            states: [None; 16],
+            spans: [no_span(); 4],
+            state_stands: [0; 4],
+            state_values: [0; 16],
             stays: Vec::new(alloc),
             copies: Vec::new(alloc),
-            said: None,
+            said: Said::Nothing,
+            has_memory: true,
         }
+    }
+
+    /// All indices.
+    pub fn all(&self) -> u64 {
+        bit(self.capacity).wrapping_sub(1)
     }
 
     pub fn is_dead(&self, owner: u64) -> bool {
-        at(&self.dead, owner) != 0
+        self.dead & bit(owner) != 0
     }
 
-    /// A remove or a replace begins: another replace there is no longer alone.
-    fn disturb(&mut self, place: u64, owner: u64) {
-        for span in &mut self.spans {
-            let is_there = span.call.place == place && span.call.owner == owner;
-            if span.is_open && span.call.name == Name::Replace && is_there {
-                span.is_proper = false;
-            }
+    /// The latest call of the party.
+    pub fn span(&self, party: u64) -> Span {
+        match self.spans.get(party as usize) {
+            Some(span) => *span,
+            None => no_span(),
         }
     }
 
-    /// Whether no call is under way; those that are do not stay alone.
-    fn joins(&mut self) -> bool {
+    fn keep(&mut self, party: u64, span: Span) {
+        if let Some(latest) = self.spans.get_mut(party as usize) {
+            *latest = span;
+        }
+    }
+
+    /// A call begins: those under way are no longer alone, and a replace is not where a remove or a replace begins.
+    fn joins(&mut self, call: &Call, gives_back: bool) -> bool {
         let mut is_alone = true;
         for span in &mut self.spans {
-            if span.is_open {
-                is_alone = false;
-                span.is_alone = false;
-            }
+            let is_there = span.call.place == call.place && span.call.owner == call.owner;
+            let is_replace = span.is_open && span.call.name == Name::Replace;
+            span.is_proper &= !(gives_back && is_replace && is_there);
+            span.is_alone &= !span.is_open;
+            is_alone &= !span.is_open;
         }
         is_alone
     }
 
-    fn begin(&mut self, party: u32, start: &Start<u128>) -> Right {
-        let mut span = span_of(start, self.now);
-        span.is_alone = self.joins();
-        let place = span.call.place;
-        let owner = span.call.owner;
-        if span.call.name == Name::Remove || span.call.name == Name::Replace {
-            span.is_proper = at(&self.settled, place) == owner;
-            self.disturb(place, owner);
+    fn begin(&mut self, told: &Told) {
+        let call = told.call;
+        let gives_back = call.name == Name::Remove || call.name == Name::Replace;
+        let is_settled = at(&self.settled, call.place) == call.owner;
+        let mut span = span_of(call, self.now);
+        span.is_alone = self.joins(&call, gives_back);
+        span.is_proper = is_settled || !gives_back;
+        if call.name == Name::Remove && is_settled {
+            put(&mut self.settled, call.place, 0);
         }
-        if span.call.name == Name::Remove && span.is_proper {
-            put(&mut self.settled, place, 0);
-        }
-        match self.spans.get_mut(party as usize) {
-            Some(latest) => {
-                want(!latest.is_open, "calls of a party do not overlap")?;
-                *latest = span;
-                Ok(())
+        self.keep(told.party, span);
+    }
+
+    fn stand(&mut self, told: &Told) {
+        let stay = Stay {
+            party: told.party,
+            index: told.place,
+            value: told.value,
+            settled: u64::MAX,
+            hidden: u64::MAX,
+        };
+        self.stands |= bit(told.place);
+        put_value(&mut self.values, told.place, told.value);
+        let is_kept = keeps(&mut self.stays, stay);
+        self.has_memory &= is_kept;
+    }
+
+    fn hide(&mut self, index: u64) {
+        self.stands &= !bit(index);
+        put_value(&mut self.values, index, 0);
+        let now = self.now;
+        for stay in &mut self.stays {
+            if stay.index == index && stay.hidden == u64::MAX {
+                stay.hidden = now;
             }
-            None => Err("there is such a party"),
         }
     }
 
-    /// The one event, and what the state of its party shows behind its turn.
-    fn take(&mut self, event: &Event<u128>, shown: &Shown) -> Right {
-        match event {
-            Event::Begun(party, start) => self.begin(*party, start),
-            Event::Locked(party) => self.lock(*party),
-            Event::Filled(party, index, owner) => self.fill(*party, *index as u64, owner.value()),
-            Event::Granted(party, index, owner) => self.grant(*party, *index as u64, owner.value()),
-            Event::FreedOf(party, index, owner) => self.free(*party, *index as u64, owner.value()),
-            Event::Asked(party, index, owner) => self.ask(*party, *index as u64, owner.value()),
-            Event::Told(party, index, owner) => self.tell(*party, *index as u64, owner.value()),
-            Event::Placed(party, index, value) => self.place(*party, *index as u64, *value),
-            Event::Hidden(party, index) => self.hide(*party, *index as u64),
-            Event::Copied(party, index, value) => self.copy(*party, *index as u64, *value),
-            Event::Shown(party, index) => self.show(*party, *index as u64),
-            Event::Died(owner) => self.die(owner.value()),
-            Event::Finished(party, start, answer) => self.finish(*party, start, answer, shown),
-            _ => Err("a container writes such events"),
+    /// What the call has placed is settled, and so is the index that an add answers.
+    fn settle(&mut self, told: &Told) {
+        let now = self.now;
+        for stay in &mut self.stays {
+            if stay.party == told.party && stay.settled == u64::MAX {
+                stay.settled = now;
+            }
+        }
+        if told.said == Said::Place {
+            let owner = at(&self.filled, told.place);
+            put(&mut self.settled, told.place, owner);
+        }
+    }
+
+    /// What the event of a call has made of the container.
+    fn change(&mut self, span: &Span, told: &Told) {
+        match told.what {
+            What::Filled => put(&mut self.filled, told.place, told.owner),
+            What::Granted => put(&mut self.held, told.place, told.owner),
+            What::FreedOf => {
+                put(&mut self.filled, told.place, 0);
+                put(&mut self.held, told.place, 0);
+                put(&mut self.settled, told.place, 0);
+                self.is_proper &= span.is_proper;
+            }
+            What::Locked => self.is_locked = true,
+            What::Placed => self.stand(told),
+            What::Hidden => self.hide(told.place),
+            What::Copied => {
+                let copy = Copying {
+                    party: told.party,
+                    index: told.place,
+                    value: told.value,
+                };
+                let is_kept = keeps(&mut self.copies, copy);
+                self.has_memory &= is_kept;
+            }
+            _ => {}
+        }
+    }
+
+    /// What the event has made of the book, where the state of its party shows this.
+    fn write(&mut self, span: &Span, told: &Told, shown: &Shown) {
+        match told.what {
+            What::Begun => self.begin(told),
+            What::Died => self.dead |= bit(told.owner),
+            What::Finished => {
+                self.settle(told);
+                self.keep_state(told.party, shown);
+                let mut closed = *span;
+                closed.is_open = false;
+                self.keep(told.party, closed);
+            }
+            _ => {
+                self.keep(told.party, after(span, told));
+                self.change(span, told);
+            }
         }
     }
 
     /// What is so now belongs to the moments of each call.
     fn mark(&mut self) {
         let filled = owned(&self.filled, 0);
-        let stands = indices_of(&self.contents);
+        let stands = self.stands;
+        let is_unlocked = !self.is_locked;
         for span in &mut self.spans {
             let its = owned(&self.filled, span.call.owner);
-            let moments = &mut span.moments;
-            moments.filled_once |= filled;
-            moments.filled_always &= filled;
-            moments.its_once |= its;
-            moments.its_always &= its;
-            moments.still_its &= its | span.done.freed;
-            moments.stood_always &= stands;
-            moments.empty_once |= !stands;
-            moments.since_freed |= filled;
-            moments.gone |= span.done.freed & !stands;
-            moments.unlocked_once |= !self.is_locked;
+            span.filled_once |= filled;
+            span.filled_always &= filled;
+            span.its_once |= its;
+            span.its_always &= its;
+            span.still_its &= its | span.freed;
+            span.stood_always &= stands;
+            span.empty_once |= !stands;
+            span.since_freed |= filled;
+            span.gone |= span.freed & !stands;
+            span.unlocked_once |= is_unlocked;
         }
     }
 
-    /// The events of a turn from this one on, which are few: how many there are now.
-    pub fn read(&mut self, events: &[Event<u128>], shown: &Shown) -> Right {
-        for _ in 0..4 {
-            match events.get(self.now as usize) {
-                Some(event) => {
-                    self.take(event, shown)?;
-                    self.mark();
-                    self.now = self.now.wrapping_add(1);
-                }
-                None => return Ok(()),
-            }
+    /// The one event, and what the state of its party shows behind its turn.
+    pub fn take(&mut self, told: &Told, shown: &Shown) -> Right {
+        let span = self.span(told.party);
+        let mut told = *told;
+        if told.what == What::Locked {
+            told.place = span.index;
         }
-        Err("a turn writes at most three events")
-    }
-
-    fn finish(
-        &mut self,
-        party: u32,
-        start: &Start<u128>,
-        answer: &Answer<u128>,
-        shown: &Shown,
-    ) -> Right {
-        match self.spans.get(party as usize) {
-            Some(span) => {
-                want(span.is_open && span.start == *start, "a call ends once")?;
-                self.ends_right(party, span, answer, shown)?;
-            }
-            None => return Err("there is such a party"),
-        }
-        self.settle(party, answer);
-        self.close(party, shown);
-        Ok(())
-    }
-
-    fn close(&mut self, party: u32, shown: &Shown) {
-        if let Some(span) = self.spans.get_mut(party as usize) {
-            span.is_open = false;
-        }
-        self.keep_state(party, shown);
-    }
-
-    /// What the call has placed is settled, and so is the index that an add answers.
-    fn settle(&mut self, party: u32, answer: &Answer<u128>) {
-        let now = self.now;
-        for stay in &mut self.stays {
-            if stay.party == party && stay.settled == u64::MAX {
-                stay.settled = now;
-            }
-        }
-        if let Answer::Index(index) = answer {
-            let owner = at(&self.filled, *index as u64);
-            put(&mut self.settled, *index as u64, owner);
-        }
+        self.promised(&span, &told, shown)?;
+        self.write(&span, &told, shown);
+        self.mark();
+        self.now = self.now.wrapping_add(1);
+        want(self.has_memory, "there is memory")
     }
 }

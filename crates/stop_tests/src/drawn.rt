@@ -1,16 +1,13 @@
 //! Schedules of a container that are drawn from a seed, and judged by the book at each turn.
 use crate::book::turns::shown_by;
-use crate::book::{Book, at};
-use crate::replay::calls::{Name, Said, call_of, said_by};
+use crate::book::{Book, at, put};
 use crate::replay::{Right, want};
 use crate::stops::{made, step};
+use crate::told::{ANY, Call, Name, Said, Told, What, told_of, turn_of};
 use machine::Machine;
-use machine::event::{Event, Start};
-use machine::families::container::ContainerStart;
 use machine::turn::{Kind, Turn};
+use schedule::bare;
 use std::alloc::Global;
-use steps::enums::OwnerId;
-use steps::indices::enums::ReleaseMode;
 
 /// How many schedules are drawn at each of four capacities, and what their seeds are made of.
 const SCHEDULES: u64 = 2_500;
@@ -50,20 +47,8 @@ impl Draws {
         (high << 64) | low
     }
 
-    fn owner_number(&mut self) -> u64 {
+    fn owner(&mut self) -> u64 {
         self.below(3).wrapping_add(1)
-    }
-
-    fn owner(&mut self) -> Option<OwnerId> {
-        owner_of(self.owner_number())
-    }
-
-    fn mode(&mut self) -> ReleaseMode {
-        if self.once_in(6) {
-            ReleaseMode::LockIfLastIndex
-        } else {
-            ReleaseMode::Default
-        }
     }
 
     /// How many turns a party takes at once.
@@ -74,13 +59,6 @@ impl Draws {
             2 => 2,
             _ => 1,
         }
-    }
-}
-
-fn owner_of(number: u64) -> Option<OwnerId> {
-    match OwnerId::new(number) {
-        Ok(owner) => Some(owner),
-        Err(_) => None,
     }
 }
 
@@ -95,126 +73,162 @@ struct Run {
     stopped: [u64; 4],
 }
 
+/// An index and its owner.
+type Handle = (u64, u64);
+
+/// The first settled index from this one on that no replace goes on at, or none.
+fn settled(book: &Book, first: u64) -> Option<Handle> {
+    for next in 0..4 {
+        let index = first.wrapping_add(next) % 4;
+        let owner = at(&book.settled, index);
+        if owner != 0 && !book.is_replaced(index) {
+            return Some((index, owner));
+        }
+    }
+    None
+}
+
+/// Mostly one that is settled, else any, at times past the last.
+fn handle(draws: &mut Draws, book: &Book) -> Handle {
+    if !draws.once_in(16) {
+        let first = draws.below(book.capacity);
+        if let Some(handle) = settled(book, first) {
+            return handle;
+        }
+    }
+    let index = draws.below(book.capacity.wrapping_add(1));
+    (index, draws.owner())
+}
+
+/// A question of a container as a whole.
+fn question(draws: &mut Draws) -> Name {
+    match draws.below(3) {
+        0 => Name::LenOf,
+        1 => Name::IsEmptyOf,
+        _ => Name::IsLockedOf,
+    }
+}
+
+fn drawn_name(draws: &mut Draws) -> Name {
+    match draws.below(10) {
+        0 | 1 => Name::Remove,
+        2 => Name::Replace,
+        3 => Name::FindOf,
+        4 => Name::RecoverOf,
+        5 => Name::GetState,
+        6 => Name::UpdateState,
+        7 => question(draws),
+        _ => Name::Add,
+    }
+}
+
+/// A call of this name, with what it names.
+fn drawn_call(draws: &mut Draws, book: &Book, name: Name) -> Call {
+    let has_handle = name == Name::Remove || name == Name::Replace;
+    let has_value = name == Name::Add || name == Name::Replace;
+    let has_owner = name == Name::Add || name == Name::FindOf || name == Name::RecoverOf;
+    let has_mode = name == Name::Remove || name == Name::RecoverOf;
+    let (place, of_handle) = if has_handle {
+        handle(draws, book)
+    } else {
+        (ANY, ANY)
+    };
+    let value = if has_value { draws.value() } else { 0 };
+    let owner = if has_owner { draws.owner() } else { of_handle };
+    let may_lock = has_mode && draws.once_in(6);
+    Call {
+        name,
+        place,
+        owner,
+        may_lock,
+        value,
+    }
+}
+
+/// The death of an owner.
+fn death(owner: u64) -> Call {
+    Call {
+        name: Name::Dies,
+        place: ANY,
+        owner,
+        may_lock: false,
+        value: 0,
+    }
+}
+
 impl Run {
-    /// An index and its owner: mostly one that is settled, else any, at times past the last.
-    fn handle(&mut self) -> (u64, u64) {
-        let capacity = self.book.capacity;
-        if !self.draws.once_in(16) {
-            let first = self.draws.below(capacity);
-            for next in 0..4 {
-                let index = first.wrapping_add(next) % 4;
-                let owner = at(&self.book.settled, index);
-                if owner != 0 && !self.book.is_replaced(index) {
-                    return (index, owner);
-                }
-            }
-        }
-        let index = self.draws.below(capacity.wrapping_add(1));
-        (index, self.draws.owner_number())
-    }
-
-    fn drawn_remove(&mut self) -> Option<ContainerStart<u128>> {
-        let (index, owner) = self.handle();
-        let mode = self.draws.mode();
-        Some(ContainerStart::Remove(index, owner_of(owner)?, mode))
-    }
-
-    fn drawn_replace(&mut self) -> Option<ContainerStart<u128>> {
-        let (index, owner) = self.handle();
-        let value = self.draws.value();
-        Some(ContainerStart::Replace(index, value, owner_of(owner)?))
-    }
-
-    fn drawn_add(&mut self) -> Option<ContainerStart<u128>> {
-        let value = self.draws.value();
-        Some(ContainerStart::Add(value, self.draws.owner()?))
-    }
-
-    fn drawn_recovery(&mut self) -> Option<ContainerStart<u128>> {
-        let owner = self.draws.owner()?;
-        Some(ContainerStart::Recover(owner, self.draws.mode()))
-    }
-
-    fn drawn_question(&mut self) -> Option<ContainerStart<u128>> {
-        Some(match self.draws.below(3) {
-            0 => ContainerStart::Len,
-            1 => ContainerStart::IsEmpty,
-            _ => ContainerStart::IsLocked,
-        })
-    }
-
-    fn drawn_call(&mut self) -> Option<ContainerStart<u128>> {
-        match self.draws.below(10) {
-            0 => self.drawn_remove(),
-            1 => self.drawn_remove(),
-            2 => self.drawn_replace(),
-            3 => Some(ContainerStart::Find(self.draws.owner()?)),
-            4 => self.drawn_recovery(),
-            5 => Some(ContainerStart::GetState),
-            6 => Some(ContainerStart::UpdateState),
-            7 => self.drawn_question(),
-            _ => self.drawn_add(),
-        }
-    }
-
     /// One turn, and what it has left.
-    fn turn(&mut self, party: u32, turn: Turn<u128>) -> Right {
-        let is_allowed = self.book.allows(&turn);
+    fn turn(&mut self, party: u32, turn: Turn<u128>, is_allowed: bool, said: Said) -> Right {
         if is_allowed {
-            self.book.hear(&turn);
+            self.book.hear(party, said);
         }
         want(
-            step(&mut self.machine, turn).is_ok() == is_allowed,
+            step(&mut self.machine, turn) == is_allowed,
             "a turn is refused just where an owner is dead, or lives",
         )?;
         let shown = shown_by(&self.machine, party);
         self.book.read(self.machine.events(), &shown)?;
-        if is_allowed {
-            self.book.heeds(party)?;
+        let heeds = !is_allowed || self.book.heeds(party);
+        want(heeds, "a no ends a find, and a yes is told")?;
+        want(
+            self.book.parties_right(&self.machine),
+            "calls and states of the parties are as the events say, and within their steps",
+        )?;
+        self.book.words_right(self.machine.words())
+    }
+
+    /// The party begins this call, or its owner dies.
+    fn begins(&mut self, party: u32, call: &Call) -> Right {
+        let is_allowed = self.book.may_begin(call);
+        match turn_of(party, call) {
+            Some(turn) => self.turn(party, turn, is_allowed, Said::Nothing),
+            None => Err("a call names an owner"),
         }
-        self.book.judge(&self.machine);
-        self.book.words_right(self.machine.words())?;
-        self.book.parties_right(&self.machine)
     }
 
     /// The next turn of a call that is under way.
     fn goes(&mut self, party: u32) -> Right {
-        let turn = if self.machine.is_going(party) {
-            Turn::Next(party)
-        } else {
-            Turn::Decide(party, !self.draws.once_in(3))
-        };
-        self.turn(party, turn)
+        if bare::is_going(&self.machine, party) {
+            let is_allowed = self.book.may_go(party, false);
+            return self.turn(party, Turn::Next(party), is_allowed, Said::Nothing);
+        }
+        let is_allowed = self.book.may_go(party, true);
+        let is_no = self.draws.once_in(3);
+        let said = if is_no { Said::False } else { Said::True };
+        self.turn(party, Turn::Decide(party, !is_no), is_allowed, said)
     }
 
     fn goes_on(&mut self, party: u32) -> Right {
         for _ in 0..self.draws.turns() {
-            if !self.book.is_open(party) {
-                return Ok(());
+            if self.book.is_open(party) {
+                self.goes(party)?;
             }
-            self.goes(party)?;
         }
         Ok(())
     }
 
-    fn dies(&mut self) -> Right {
-        match self.draws.owner() {
-            Some(owner) => self.turn(0, Turn::Die(owner)),
-            None => Ok(()),
-        }
+    fn begins_one(&mut self, party: u32) -> Right {
+        let name = drawn_name(&mut self.draws);
+        let call = drawn_call(&mut self.draws, &self.book, name);
+        self.begins(party, &call)
     }
 
-    fn begins(&mut self, party: u32) -> Right {
-        match self.drawn_call() {
-            Some(start) => self.turn(party, Turn::Begin(party, Start::Container(start))),
-            None => Ok(()),
+    /// The party begins a call or stops for good, and goes on.
+    fn plays(&mut self, party: u32) -> Right {
+        if !self.book.is_open(party) {
+            self.begins_one(party)?;
+        } else if self.draws.once_in(64) {
+            put(&mut self.stopped, party as u64, 1);
+            return Ok(());
         }
+        self.goes_on(party)
     }
 
-    /// A drawn row: an owner dies, or a party stops for good, begins a call or goes on.
+    /// A drawn row: an owner dies, or a party that has not stopped plays.
     fn row(&mut self) -> Right {
         if self.draws.once_in(32) {
-            return self.dies();
+            let owner = self.draws.owner();
+            return self.begins(0, &death(owner));
         }
         let number = self.draws.below(self.parties);
         if number >= 4 {
@@ -223,20 +237,7 @@ impl Run {
         if at(&self.stopped, number) != 0 {
             return Ok(());
         }
-        let party = number as u32;
-        if !self.book.is_open(party) {
-            self.begins(party)?;
-        } else if self.draws.once_in(64) {
-            self.stops(number);
-            return Ok(());
-        }
-        self.goes_on(party)
-    }
-
-    fn stops(&mut self, number: u64) {
-        if let Some(stopped) = self.stopped.get_mut(number as usize) {
-            *stopped = 1;
-        }
+        self.plays(number as u32)
     }
 
     fn rows(&mut self) -> Right {
@@ -255,14 +256,14 @@ fn opened(alloc: Global, capacity: u64, seed: u64) -> Option<Run> {
         _ => 4,
     };
     match made(alloc, Kind::Container, capacity as usize, parties) {
-        Ok(machine) => Some(Run {
+        Some(machine) => Some(Run {
             machine,
             book: Book::new(alloc, capacity),
             draws,
             parties: u64::from(parties),
             stopped: [0; 4],
         }),
-        Err(_) => None,
+        None => None,
     }
 }
 
@@ -290,16 +291,16 @@ const ANSWERS: [(Name, Said); 19] = [
     (Name::UpdateState, Said::True),
     (Name::UpdateState, Said::False),
     (Name::LenOf, Said::Number),
-    (Name::IsEmpty, Said::True),
-    (Name::IsEmpty, Said::False),
-    (Name::IsLocked, Said::True),
-    (Name::IsLocked, Said::False),
+    (Name::IsEmptyOf, Said::True),
+    (Name::IsEmptyOf, Said::False),
+    (Name::IsLockedOf, Said::True),
+    (Name::IsLockedOf, Said::False),
 ];
 
 impl Tally {
-    fn count(&mut self, name: &Name, said: &Said) {
+    fn count(&mut self, told: &Told) {
         for (row, count) in ANSWERS.iter().zip(self.answers.iter_mut()) {
-            if row.0 == *name && row.1 == *said {
+            if row.0 == told.call.name && row.1 == told.said {
                 *count = count.wrapping_add(1);
             }
         }
@@ -307,8 +308,9 @@ impl Tally {
 
     fn take(&mut self, run: &Run) {
         for event in run.machine.events() {
-            if let Event::Finished(_, start, answer) = event {
-                self.count(&call_of(start).name, &said_by(answer).0);
+            let told = told_of(event);
+            if told.what == What::Finished {
+                self.count(&told);
             }
         }
         self.proper = self.proper.wrapping_add(run.book.is_proper as u64);

@@ -12,3 +12,5 @@ mod replay;
 mod rows;
 #[cfg(test)]
 mod stops;
+#[cfg(test)]
+mod told;

@@ -1,20 +1,16 @@
 //! A plain replay of what a run has written down, against what is promised of it. It uses no definition of the
-//! machine's own: lists, masks of places, numbers, and a span for each party.
-use machine::event::{Answer, Event, Item, Start};
-use machine::families::queues::QueueStart;
-use machine::turn::Kind;
-use steps::enums::OwnerId;
+//! machine's own: a table of promises, lists, masks of places, numbers, and a span for each party.
+ghost use Rattle.std.specs.Prelude.{◌≡◌, ⊤};
 
-mod acts;
-mod answers;
-pub mod calls;
-pub mod contents;
-mod deeds;
+use crate::told::{ANY, Call, NO_CALL, Name, Said, Told, What};
+use machine::turn::Kind;
+use std::alloc::AllocError;
+
 mod ends;
 mod list;
+mod promises;
 mod words;
 
-use calls::{ANY, Called, Name, call_of};
 use list::List;
 
 /// Whether all is as promised, or else the promise that is broken.
@@ -56,12 +52,13 @@ pub fn places_in(mask: u64) -> u64 {
 pub const PARTIES: u32 = 3;
 
 /// A party's latest call, as its events tell it.
-#[derive(Drop)]
+#[derive(Copy)]
 pub struct Span {
-    pub start: Start<u128>,
-    pub call: Called,
+    pub call: Call,
     pub is_open: bool,
-    pub acted: Option<Answer<u128>>,
+    /// What it acted with, and the value of that.
+    pub acted: Said,
+    pub acted_value: u128,
     /// How many values, flags, counts, claims or cells it has put there, and how many it has taken away.
     pub gave: u64,
     pub took: u64,
@@ -70,7 +67,7 @@ pub struct Span {
     /// The last number that it dealt with: a place, an index, or the count before it.
     pub number: u64,
     /// The last value that it handed out.
-    pub item: Item<u128>,
+    pub item: u128,
     /// The indices that a recovery asked about, and those of the dead that it was told to free.
     pub asked: u64,
     pub told: u64,
@@ -84,19 +81,29 @@ pub struct Span {
     pub stayed: u64,
 }
 
+impl Clone for Span {
+    ghost is_clone = { λ x y. y ≡ x };
+
+    ghost is_infallible = { λ _. ⊤ };
+
+    fn clone(&self) -> Result<Span, AllocError> {
+        Ok(*self)
+    }
+}
+
 /// The span of a call that has just begun.
-fn begun(start: &Start<u128>, is_open: bool) -> Span {
+fn begun(call: Call, is_open: bool) -> Span {
     Span {
-        start: *start,
-        call: call_of(start),
+        call,
         is_open,
-        acted: None,
+        acted: Said::Nothing,
+        acted_value: 0,
         gave: 0,
         took: 0,
         granted: 0,
         locks: 0,
         number: 0,
-        item: Item::Index(0),
+        item: 0,
         asked: 0,
         told: 0,
         owner: 0,
@@ -108,9 +115,76 @@ fn begun(start: &Start<u128>, is_open: bool) -> Span {
     }
 }
 
-/// No call yet.
-fn none() -> Span {
-    begun(&Start::Queues(QueueStart::Len), false)
+/// The span behind an event of its party, where its place had this number before.
+fn after(span: &Span, told: &Told, before: u64) -> Span {
+    let mut next = *span;
+    let place = bit(told.place);
+    match told.what {
+        What::Begun => next = begun(told.call, true),
+        What::Published | What::Set | What::Claimed | What::Filled => {
+            next.gave = span.gave.wrapping_add(1);
+            next.number = told.place;
+        }
+        What::Counted => {
+            next.gave = span.gave.wrapping_add(1);
+            next.number = before;
+        }
+        // What it looks for stands from here on.
+        What::HandedOut | What::Cleared | What::TakenOut | What::Freed | What::FreedOf => {
+            next.took = span.took.wrapping_add(1);
+            next.number = told.place;
+            next.item = told.value;
+            next.ever = 0;
+        }
+        What::Locked => next.locks = span.locks.wrapping_add(1),
+        What::Granted => next.granted = span.granted.wrapping_add(1),
+        What::Asked => {
+            next.asked = span.asked | place;
+            next.owner = told.owner;
+        }
+        What::Told => next.told = span.told | place,
+        What::Placed => next.placed = span.placed.wrapping_add(1),
+        What::Copied => next.copied = span.copied | place,
+        What::Shown => {
+            next.asked = span.asked | place;
+            next.told = span.told | place;
+            next.owner = span.call.owner;
+        }
+        What::Acted => {
+            next.acted = told.said;
+            next.acted_value = told.value;
+        }
+        What::Finished => next.is_open = false,
+        What::Hidden | What::Died | What::Nothing => {}
+    }
+    next
+}
+
+/// The number at this place, 0 past the last.
+fn at(numbers: &[u64; 16], place: u64) -> u64 {
+    match numbers.get(place as usize) {
+        Some(number) => *number,
+        None => 0,
+    }
+}
+
+fn put(numbers: &mut [u64; 16], place: u64, number: u64) {
+    if let Some(stands) = numbers.get_mut(place as usize) {
+        *stands = number;
+    }
+}
+
+fn value_at(values: &[u128; 16], place: u64) -> u128 {
+    match values.get(place as usize) {
+        Some(value) => *value,
+        None => 0,
+    }
+}
+
+fn put_value(values: &mut [u128; 16], place: u64, value: u128) {
+    if let Some(stands) = values.get_mut(place as usize) {
+        *stands = value;
+    }
 }
 
 /// A structure as the events tell it.
@@ -130,92 +204,55 @@ pub struct Replay {
     pub waits: List,
     /// The one value.
     pub value: u128,
+    /// What the call that acts is to answer by the acts.
+    pub wanted: Said,
+    pub wanted_value: u128,
     /// The count of each place, or the owner of each index.
     pub numbers: [u64; 16],
     /// Of a container, the values of those indices at which one stands.
     pub values: [u128; 16],
     pub visible: u64,
-    pub dead: Option<OwnerId>,
+    /// The owner who is dead, or `ANY`.
+    pub dead: u64,
 }
 
 impl Replay {
     /// Before any event.
     pub fn new(kind: Kind, capacity: u64) -> Replay {
         let stands = match kind {
-            Kind::IndexQueue => 1,
-            Kind::Overflow => 1,
-            Kind::Queue => 1,
+            Kind::IndexQueue | Kind::Overflow | Kind::Queue => 1,
             _ => 0,
         };
         Replay {
             kind,
             capacity,
-            spans: [none(), none(), none()],
+            spans: [begun(NO_CALL, false); 3],
             stands,
             held: 0,
             is_locked: false,
             list: List::new(),
             waits: List::new(),
             value: 0,
+            wanted: Said::Nothing,
+            wanted_value: 0,
             numbers: [0; 16],
             values: [0; 16],
             visible: 0,
-            dead: None,
+            dead: ANY,
         }
     }
 
-    /// Whether this call of the party is under way.
-    pub fn is_in(&self, party: u32, start: &Start<u128>) -> bool {
+    /// The latest call of the party.
+    pub fn span(&self, party: u64) -> Span {
         match self.spans.get(party as usize) {
-            Some(span) => span.is_open && span.start == *start,
-            None => false,
+            Some(span) => *span,
+            None => begun(NO_CALL, false),
         }
     }
 
-    /// Whether any call of the party is under way.
-    pub fn is_open(&self, party: u32) -> bool {
-        match self.spans.get(party as usize) {
-            Some(span) => span.is_open,
-            None => false,
-        }
-    }
-
-    fn begin(&mut self, party: u32, start: &Start<u128>) -> Right {
-        want(!self.is_open(party), "calls of a party do not overlap")?;
-        match self.spans.get_mut(party as usize) {
-            Some(span) => *span = begun(start, true),
-            None => return Err("there is such a party"),
-        }
-        Ok(())
-    }
-
-    /// The one event.
-    fn take(&mut self, event: &Event<u128>) -> Right {
-        match event {
-            Event::Begun(party, start) => self.begin(*party, start),
-            Event::Published(party, item) => self.publish(*party, *item),
-            Event::HandedOut(party, item) => self.hand_out(*party, *item),
-            Event::Set(party, place) => self.gives(*party, &[Name::Set], *place, 0),
-            Event::Cleared(party, place) => {
-                self.takes(*party, &[Name::ResetNext, Name::ResetAll], *place, 0)
-            }
-            Event::Counted(party, place) => self.count(*party, *place),
-            Event::TakenOut(party, place, number) => self.take_out(*party, *place, *number),
-            Event::Claimed(party, index) => self.claim(*party, *index as u64),
-            Event::Freed(party, index) => self.takes(*party, &[Name::Release], *index as u64, 0),
-            Event::Locked(party) => self.lock(*party),
-            Event::Filled(party, index, owner) => self.fill(*party, *index as u64, *owner),
-            Event::Granted(party, index, owner) => self.grant(*party, *index as u64, *owner),
-            Event::FreedOf(party, index, owner) => self.free_of(*party, *index as u64, *owner),
-            Event::Asked(party, index, owner) => self.ask(*party, *index as u64, *owner),
-            Event::Told(party, index, owner) => self.tell(*party, *index as u64, *owner),
-            Event::Placed(party, index, value) => self.place(*party, *index as u64, *value),
-            Event::Hidden(party, index) => self.hide(*party, *index as u64),
-            Event::Copied(party, index, value) => self.copy(*party, *index as u64, *value),
-            Event::Shown(party, index) => self.show(*party, *index as u64),
-            Event::Died(owner) => self.die(*owner),
-            Event::Acted(party, start, answer) => self.act(*party, start, answer),
-            Event::Finished(party, start, answer) => self.finish(*party, start, answer),
+    fn keep(&mut self, party: u64, span: Span) {
+        if let Some(latest) = self.spans.get_mut(party as usize) {
+            *latest = span;
         }
     }
 
@@ -230,24 +267,102 @@ impl Replay {
         }
     }
 
-    /// The events in their order.
-    pub fn replay(&mut self, events: &[Event<u128>]) -> Right {
-        for event in events {
-            self.take(event)?;
-            self.mark();
-        }
-        Ok(())
+    fn answers(&mut self, said: Said, value: u128) {
+        self.wanted = said;
+        self.wanted_value = value;
     }
 
-    fn finish(&mut self, party: u32, start: &Start<u128>, answer: &Answer<u128>) -> Right {
-        want(self.is_in(party, start), "a call ends that is under way")?;
-        match self.spans.get(party as usize) {
-            Some(span) => self.ends_right(span, answer)?,
-            None => return Err("there is such a party"),
+    fn push_acts(&mut self, value: u128) {
+        let has_room = self.list.len() < self.capacity;
+        if self.kind == Kind::Overflow {
+            self.list.push(value);
+            if has_room {
+                self.answers(Said::NoValue, 0);
+            } else {
+                let oldest = self.list.pop();
+                self.answers(Said::Value, oldest);
+            }
+        } else if has_room {
+            self.list.push(value);
+            self.answers(Said::True, 0);
+        } else {
+            self.answers(Said::False, 0);
         }
-        if let Some(span) = self.spans.get_mut(party as usize) {
-            span.is_open = false;
+    }
+
+    /// The acts in their order: what the list or the value answers to this call, where the kind has such.
+    fn acts(&mut self, call: &Call) {
+        match call.name {
+            Name::Push => self.push_acts(call.value),
+            Name::Pop if self.list.len() == 0 => self.answers(Said::NoValue, 0),
+            Name::Pop => {
+                let oldest = self.list.pop();
+                self.answers(Said::Value, oldest);
+            }
+            Name::Store => {
+                self.value = call.value;
+                self.answers(Said::True, 0);
+            }
+            Name::Load => {
+                let value = self.value;
+                self.answers(Said::Loaded, value);
+            }
+            _ => self.answers(Said::Nothing, 0),
         }
+    }
+
+    /// What the event has made of the structure.
+    fn change(&mut self, told: &Told) {
+        let place = bit(told.place);
+        match told.what {
+            What::Published => {
+                self.waits.push(told.value);
+                self.stands = bit(self.waits.len());
+            }
+            What::HandedOut => {
+                self.waits.pop();
+                self.stands = bit(self.waits.len());
+            }
+            What::Set | What::Claimed | What::Filled => {
+                put(&mut self.numbers, told.place, told.owner);
+                self.stands |= place;
+            }
+            What::Counted => {
+                let number = at(&self.numbers, told.place).wrapping_add(1);
+                put(&mut self.numbers, told.place, number);
+                self.stands |= place;
+            }
+            What::TakenOut => {
+                put(&mut self.numbers, told.place, 0);
+                self.stands &= !place;
+            }
+            What::Cleared | What::Freed | What::FreedOf => {
+                self.stands &= !place;
+                self.held &= !place;
+            }
+            What::Locked => self.is_locked = true,
+            What::Granted => self.held |= place,
+            What::Placed => {
+                put_value(&mut self.values, told.place, told.value);
+                self.visible |= place;
+            }
+            What::Hidden => self.visible &= !place,
+            What::Died => self.dead = told.owner,
+            _ => {}
+        }
+    }
+
+    /// The one event.
+    pub fn take(&mut self, told: &Told) -> Right {
+        let span = self.span(told.party);
+        let before = at(&self.numbers, told.place);
+        if told.what == What::Acted {
+            self.acts(&told.call);
+        }
+        self.promised(&span, told)?;
+        self.keep(told.party, after(&span, told, before));
+        self.change(told);
+        self.mark();
         Ok(())
     }
 }

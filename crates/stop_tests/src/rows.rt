@@ -1,36 +1,27 @@
 //! The table: a structure, calls made whole on it, and pairs of calls of which each is cut into the other. The bounds
 //! of calls are those of docs/FIELD.md.
-use machine::families::atomic::AtomicStart;
-use machine::families::bits::BitsStart;
-use machine::families::indices::IndexStart;
-use machine::families::queues::QueueStart;
+use crate::told::{ANY, Call, Name, OF_INDEX};
 use machine::turn::Kind;
-use steps::indices::enums::ReleaseMode;
 
-/// A call, in a form that a constant can have: owners are numbers.
-pub enum Call {
-    Queue(QueueStart<u128>),
-    Value(AtomicStart<u128>),
-    Bits(BitsStart),
-    Index(IndexStart),
-    AcquireFor(u64),
-    ReleaseOf(u64, u64, ReleaseMode),
-    Recover(ReleaseMode),
-    /// To a container, from it, and of it.
-    Add(u128, u64),
-    Remove(u64, u64, ReleaseMode),
-    Replace(u64, u128, u64),
-    RecoverOf(u64, ReleaseMode),
-    GetState,
-    /// No call: the owner dies.
-    Dies(u64),
+/// A call: its name, its place, its owner, whether it may lock, and its value.
+pub type Entry = (Name, u64, u64, bool, u128);
+
+pub fn call_of(entry: &Entry) -> Call {
+    let (name, place, owner, may_lock, value) = *entry;
+    Call {
+        name,
+        place,
+        owner,
+        may_lock,
+        value,
+    }
 }
 
 /// A party and its call.
-pub type Begin = (u32, Call);
+pub type Begin = (u32, Entry);
 
 /// A call, the most steps that it takes, and how many more for each turn back.
-pub type Bounded = (Call, u64, u64);
+pub type Bounded = (Entry, u64, u64);
 
 /// A party, its call, and the turns that it takes where no other call comes between.
 pub type Cut = (u32, Bounded, u64);
@@ -44,91 +35,106 @@ pub struct Row {
     pub pairs: &'static [(Cut, Cut)],
 }
 
-const PRODUCER: Begin = (0, Call::Queue(QueueStart::AcquireProducer));
+const PRODUCER: Begin = (0, (Name::AcquireProducer, ANY, 0, false, 0));
 
-const CONSUMER: Begin = (1, Call::Queue(QueueStart::AcquireConsumer));
+const CONSUMER: Begin = (1, (Name::AcquireConsumer, ANY, 0, false, 0));
 
-const FIRST: Begin = (0, Call::Queue(QueueStart::PushIndex(1)));
+const FIRST: Begin = (0, (Name::Push, ANY, 0, false, OF_INDEX | 1));
 
-const PUSH: Bounded = (Call::Queue(QueueStart::PushIndex(2)), 4, 0);
+const PUSH_2: Entry = (Name::Push, ANY, 0, false, OF_INDEX | 2);
 
-const POP: Bounded = (Call::Queue(QueueStart::Pop), 4, 0);
+const POP_ONE: Entry = (Name::Pop, ANY, 0, false, 0);
 
-const LEN: Bounded = (Call::Queue(QueueStart::Len), 4, 4);
+const PUSH: Bounded = (PUSH_2, 4, 0);
 
-const PUSH_OVER: Bounded = (Call::Queue(QueueStart::PushIndex(2)), 6, 0);
+const POP: Bounded = (POP_ONE, 4, 0);
 
-const POP_AGAIN: Bounded = (Call::Queue(QueueStart::Pop), 4, 2);
+const LEN: Bounded = ((Name::Len, ANY, 0, false, 0), 4, 4);
+
+const PUSH_OVER: Bounded = (PUSH_2, 6, 0);
+
+const POP_AGAIN: Bounded = (POP_ONE, 4, 2);
 
 /// Values of two words that differ.
 const FIRST_VALUE: u128 = 36893488147419103233;
 
 const SECOND_VALUE: u128 = 18446744073709551618;
 
-const PUSH_VALUE: Bounded = (Call::Queue(QueueStart::Push(SECOND_VALUE)), 5, 0);
+const PUSH_VALUE: Bounded = ((Name::Push, ANY, 0, false, SECOND_VALUE), 5, 0);
 
-const POP_VALUE: Bounded = (Call::Queue(QueueStart::Pop), 5, 0);
+const POP_VALUE: Bounded = (POP_ONE, 5, 0);
 
-const STORE: Bounded = (Call::Value(AtomicStart::Store(SECOND_VALUE)), 4, 0);
+const STORE: Bounded = ((Name::Store, ANY, 0, false, SECOND_VALUE), 4, 0);
 
-const LOAD: Bounded = (Call::Value(AtomicStart::Load), 4, 3);
+const LOAD: Bounded = ((Name::Load, ANY, 0, false, 0), 4, 3);
 
-const SET_1: Bounded = (Call::Bits(BitsStart::Set(1)), 2, 1);
+const SETS_0: Entry = (Name::Set, 0, 0, false, 0);
 
-const SET_2: Bounded = (Call::Bits(BitsStart::Set(2)), 2, 1);
+const SETS_1: Entry = (Name::Set, 1, 0, false, 0);
 
-const SET_64: Bounded = (Call::Bits(BitsStart::Set(64)), 2, 1);
+const SETS_64: Entry = (Name::Set, 64, 0, false, 0);
+
+const SET_1: Bounded = (SETS_1, 2, 1);
+
+const SET_2: Bounded = ((Name::Set, 2, 0, false, 0), 2, 1);
+
+const SET_64: Bounded = (SETS_64, 2, 1);
+
+const RESETS_NEXT: Entry = (Name::ResetNext, ANY, 0, false, 0);
+
+const RESETS_ALL: Entry = (Name::ResetAll, ANY, 0, false, 0);
 
 /// Of 9 places, and of 65.
-const RESET_NEXT_9: Bounded = (Call::Bits(BitsStart::ResetNext), 12, 1);
+const RESET_NEXT_9: Bounded = (RESETS_NEXT, 12, 1);
 
-const RESET_NEXT_65: Bounded = (Call::Bits(BitsStart::ResetNext), 68, 1);
+const RESET_NEXT_65: Bounded = (RESETS_NEXT, 68, 1);
 
 /// Of one word, and of two.
-const RESET_WORD: Bounded = (Call::Bits(BitsStart::ResetAll), 1, 0);
+const RESET_WORD: Bounded = (RESETS_ALL, 1, 0);
 
-const RESET_WORDS: Bounded = (Call::Bits(BitsStart::ResetAll), 2, 0);
+const RESET_WORDS: Bounded = (RESETS_ALL, 2, 0);
 
-const COUNT: Bounded = (Call::Bits(BitsStart::Set(0)), 1, 0);
+const COUNT: Bounded = (SETS_0, 1, 0);
 
 /// Of two indices.
-const ACQUIRE: Bounded = (Call::Index(IndexStart::Acquire), 6, 2);
+const ACQUIRES: Entry = (Name::Acquire, ANY, 0, false, 0);
 
-const RELEASE: Bounded = (
-    Call::Index(IndexStart::Release(0, ReleaseMode::Default)),
-    5,
-    0,
-);
+const ACQUIRE: Bounded = (ACQUIRES, 6, 2);
 
-const RELEASE_OR_LOCK: Bounded = (
-    Call::Index(IndexStart::Release(0, ReleaseMode::LockIfLastIndex)),
-    4,
-    2,
-);
+const RELEASE: Bounded = ((Name::Release, 0, 0, false, 0), 5, 0);
+
+const RELEASE_OR_LOCK: Bounded = ((Name::Release, 0, 0, true, 0), 4, 2);
 
 /// Of one index.
-const FOR_2: Bounded = (Call::AcquireFor(2), 4, 2);
+const FOR_1: Entry = (Name::AcquireFor, ANY, 1, false, 0);
 
-const GIVE_BACK: Bounded = (Call::ReleaseOf(0, 1, ReleaseMode::LockIfLastIndex), 7, 4);
+const FOR_2: Bounded = ((Name::AcquireFor, ANY, 2, false, 0), 4, 2);
 
-const RECOVER: Bounded = (Call::Recover(ReleaseMode::Default), 6, 1);
+const GIVE_BACK: Bounded = ((Name::ReleaseOf, 0, 1, true, 0), 7, 4);
 
-const RECOVER_AND_LOCK: Bounded = (Call::Recover(ReleaseMode::LockIfLastIndex), 10, 4);
+const RECOVER: Bounded = ((Name::Recover, ANY, ANY, false, 0), 6, 1);
+
+const RECOVER_AND_LOCK: Bounded = ((Name::Recover, ANY, ANY, true, 0), 10, 4);
+
+/// No call: owner 1 dies.
+const DIES: Begin = (0, (Name::Dies, ANY, 1, false, 0));
 
 /// Of a container of one value of two words.
-const ADD_FOR_2: Bounded = (Call::Add(SECOND_VALUE, 2), 10, 2);
+const ADD_FOR_1: Begin = (0, (Name::Add, ANY, 1, false, 5));
 
-const REMOVE: Bounded = (Call::Remove(0, 1, ReleaseMode::Default), 6, 1);
+const ADD_FOR_2: Bounded = ((Name::Add, ANY, 2, false, SECOND_VALUE), 10, 2);
 
-const REMOVE_OR_LOCK: Bounded = (Call::Remove(0, 1, ReleaseMode::LockIfLastIndex), 10, 4);
+const REMOVE: Bounded = ((Name::Remove, 0, 1, false, 0), 6, 1);
 
-const REPLACE: Bounded = (Call::Replace(0, SECOND_VALUE, 1), 7, 0);
+const REMOVE_OR_LOCK: Bounded = ((Name::Remove, 0, 1, true, 0), 10, 4);
 
-const RECOVER_OF_1: Bounded = (Call::RecoverOf(1, ReleaseMode::Default), 12, 3);
+const REPLACE: Bounded = ((Name::Replace, 0, 1, false, SECOND_VALUE), 7, 0);
 
-const RECOVER_OR_LOCK: Bounded = (Call::RecoverOf(1, ReleaseMode::LockIfLastIndex), 16, 7);
+const RECOVER_OF_1: Bounded = ((Name::RecoverOf, ANY, 1, false, 0), 12, 3);
 
-const GET_STATE: Bounded = (Call::GetState, 5, 3);
+const RECOVER_OR_LOCK: Bounded = ((Name::RecoverOf, ANY, 1, true, 0), 16, 7);
+
+const GET_STATE: Bounded = ((Name::GetState, ANY, ANY, false, 0), 5, 3);
 
 pub const ROWS: [Row; 15] = [
     Row {
@@ -189,7 +195,7 @@ pub const ROWS: [Row; 15] = [
         opening: &[
             PRODUCER,
             CONSUMER,
-            (0, Call::Queue(QueueStart::Push(FIRST_VALUE))),
+            (0, (Name::Push, ANY, 0, false, FIRST_VALUE)),
         ],
         pairs: &[((0, PUSH_VALUE, 2), (1, POP_VALUE, 5))],
     },
@@ -198,8 +204,8 @@ pub const ROWS: [Row; 15] = [
         kind: Kind::Atomic,
         capacity: 1,
         opening: &[
-            (0, Call::Value(AtomicStart::AcquireProducer)),
-            (0, Call::Value(AtomicStart::Store(FIRST_VALUE))),
+            (0, (Name::AcquireStoring, ANY, 0, false, 0)),
+            (0, (Name::Store, ANY, 0, false, FIRST_VALUE)),
         ],
         pairs: &[((0, STORE, 4), (1, LOAD, 4))],
     },
@@ -207,7 +213,7 @@ pub const ROWS: [Row; 15] = [
         name: "bits, 1 stands",
         kind: Kind::Bits,
         capacity: 9,
-        opening: &[(0, Call::Bits(BitsStart::Set(1)))],
+        opening: &[(0, SETS_1)],
         pairs: &[
             ((0, SET_1, 1), (1, SET_1, 1)),
             ((0, SET_2, 2), (1, RESET_NEXT_9, 5)),
@@ -218,10 +224,7 @@ pub const ROWS: [Row; 15] = [
         name: "bits of two words, 1 and 64 stand",
         kind: Kind::Bits,
         capacity: 65,
-        opening: &[
-            (0, Call::Bits(BitsStart::Set(1))),
-            (0, Call::Bits(BitsStart::Set(64))),
-        ],
+        opening: &[(0, SETS_1), (0, SETS_64)],
         pairs: &[
             ((0, SET_64, 1), (1, RESET_WORDS, 2)),
             ((0, SET_2, 2), (1, RESET_WORDS, 2)),
@@ -232,14 +235,14 @@ pub const ROWS: [Row; 15] = [
         name: "a count of 1",
         kind: Kind::Counts,
         capacity: 1,
-        opening: &[(0, Call::Bits(BitsStart::Set(0)))],
+        opening: &[(0, SETS_0)],
         pairs: &[((0, COUNT, 1), (1, RESET_WORD, 1))],
     },
     Row {
         name: "unique indices, 0 held",
         kind: Kind::Indices,
         capacity: 2,
-        opening: &[(0, Call::Index(IndexStart::Acquire))],
+        opening: &[(0, ACQUIRES)],
         pairs: &[
             ((1, ACQUIRE, 4), (2, ACQUIRE, 4)),
             ((0, RELEASE, 4), (1, ACQUIRE, 4)),
@@ -250,14 +253,14 @@ pub const ROWS: [Row; 15] = [
         name: "index of an owner",
         kind: Kind::Robust,
         capacity: 1,
-        opening: &[(0, Call::AcquireFor(1))],
+        opening: &[(0, FOR_1)],
         pairs: &[((0, GIVE_BACK, 7), (1, FOR_2, 3))],
     },
     Row {
         name: "index of a dead owner",
         kind: Kind::Robust,
         capacity: 1,
-        opening: &[(0, Call::AcquireFor(1)), (0, Call::Dies(1))],
+        opening: &[(0, FOR_1), DIES],
         // The answer to the one question is a turn too.
         pairs: &[
             ((0, RECOVER, 7), (1, FOR_2, 3)),
@@ -268,7 +271,7 @@ pub const ROWS: [Row; 15] = [
         name: "container, a value of owner 1",
         kind: Kind::Container,
         capacity: 1,
-        opening: &[(0, Call::Add(5, 1))],
+        opening: &[ADD_FOR_1],
         pairs: &[
             ((0, REMOVE, 6), (1, ADD_FOR_2, 3)),
             ((0, REMOVE_OR_LOCK, 10), (1, ADD_FOR_2, 3)),
@@ -281,7 +284,7 @@ pub const ROWS: [Row; 15] = [
         name: "container, a value of a dead owner",
         kind: Kind::Container,
         capacity: 1,
-        opening: &[(0, Call::Add(5, 1)), (0, Call::Dies(1))],
+        opening: &[ADD_FOR_1, DIES],
         pairs: &[
             ((0, RECOVER_OF_1, 13), (1, GET_STATE, 5)),
             ((0, RECOVER_OR_LOCK, 17), (1, GET_STATE, 5)),

@@ -1,199 +1,151 @@
 //! The runs: so many turns of one call, another call whole, and then the first goes on or has stopped for good.
 use crate::replay::{PARTIES, Replay, Right, want};
-use crate::rows::{Begin, Call, Cut, ROWS, Row};
+use crate::rows::{Begin, Cut, Entry, ROWS, Row, call_of};
+use crate::told::{told_of, turn_of};
 use machine::Machine;
-use machine::event::Start;
-use machine::families::container::ContainerStart;
-use machine::families::indices::robust::RobustStart;
 use machine::party::Progress;
 use machine::turn::{Kind, Refusal, Turn};
+use schedule::bare;
 use std::alloc::Global;
 use std::process::Abort;
-use steps::enums::{OwnerId, UniqueIndexCreationError};
 
-/// One turn, made once more where memory is refused to it: had it changed something, the replay would tell. No test
-/// needs what its contract says, and each call through it is proved without.
-pub fn step(machine: &mut Machine<u128>, turn: Turn<u128>) -> Result<(), Refusal> {
+/// One turn, made once more where memory is refused to it: had it changed something, a judge would tell.
+pub fn step(machine: &mut Machine<u128>, turn: Turn<u128>) -> bool {
     let again = turn;
-    match machine.step(turn) {
-        Err(Refusal::NoMemory) => machine.step(again),
-        ended => ended,
+    match bare::step(machine, turn) {
+        Err(Refusal::NoMemory) => bare::step(machine, again).is_ok(),
+        ended => ended.is_ok(),
     }
 }
 
-/// A new machine, likewise.
-pub fn made(
-    alloc: Global,
-    kind: Kind,
-    capacity: usize,
-    parties: u32,
-) -> Result<Machine<u128>, UniqueIndexCreationError> {
-    match Machine::new(alloc, kind, capacity, parties) {
-        Err(UniqueIndexCreationError::NoMemory) => Machine::new(alloc, kind, capacity, parties),
-        ended => ended,
+/// A new machine, likewise, or None.
+pub fn made(alloc: Global, kind: Kind, capacity: usize, parties: u32) -> Option<Machine<u128>> {
+    match bare::made_of(alloc, kind, capacity, parties) {
+        Ok(machine) => Some(machine),
+        Err(_) => match bare::made_of(alloc, kind, capacity, parties) {
+            Ok(machine) => Some(machine),
+            Err(_) => None,
+        },
     }
 }
 
-/// How far the party's call has come, likewise.
-pub fn under_way(machine: &Machine<u128>, party: u32) -> Option<Progress> {
-    machine.under_way(party)
+/// How far the party's latest call has come: as one that has ended where it has begun none.
+pub fn under_way(machine: &Machine<u128>, party: u32) -> Progress {
+    match bare::under_way(machine, party) {
+        Some(progress) => progress,
+        None => Progress {
+            steps: 0,
+            backs: 0,
+            others: 0,
+            finished: true,
+        },
+    }
 }
 
-/// The turn by which the party begins the call, or its owner dies.
-fn turn_of(party: u32, call: &Call) -> Option<Turn<u128>> {
-    let start = match *call {
-        Call::Queue(start) => Start::Queues(start),
-        Call::Value(start) => Start::Atomic(start),
-        Call::Bits(start) => Start::Bits(start),
-        Call::Index(start) => Start::Indices(start),
-        Call::AcquireFor(owner) => match OwnerId::new(owner) {
-            Ok(owner) => Start::Robust(RobustStart::Acquire(owner)),
-            Err(_) => return None,
-        },
-        Call::ReleaseOf(index, owner, mode) => match OwnerId::new(owner) {
-            Ok(owner) => Start::Robust(RobustStart::Release(index, owner, mode)),
-            Err(_) => return None,
-        },
-        Call::Recover(mode) => Start::Robust(RobustStart::Recover(mode)),
-        Call::Add(value, owner) => match OwnerId::new(owner) {
-            Ok(owner) => Start::Container(ContainerStart::Add(value, owner)),
-            Err(_) => return None,
-        },
-        Call::Remove(index, owner, mode) => match OwnerId::new(owner) {
-            Ok(owner) => Start::Container(ContainerStart::Remove(index, owner, mode)),
-            Err(_) => return None,
-        },
-        Call::Replace(index, value, owner) => match OwnerId::new(owner) {
-            Ok(owner) => Start::Container(ContainerStart::Replace(index, value, owner)),
-            Err(_) => return None,
-        },
-        Call::RecoverOf(owner, mode) => match OwnerId::new(owner) {
-            Ok(owner) => Start::Container(ContainerStart::Recover(owner, mode)),
-            Err(_) => return None,
-        },
-        Call::GetState => Start::Container(ContainerStart::GetState),
-        Call::Dies(owner) => match OwnerId::new(owner) {
-            Ok(owner) => return Some(Turn::Die(owner)),
-            Err(_) => return None,
-        },
-    };
-    Some(Turn::Begin(party, start))
-}
-
-fn begins(machine: &mut Machine<u128>, party: u32, call: &Call) -> Right {
-    let is_taken = match turn_of(party, call) {
-        Some(turn) => step(machine, turn).is_ok(),
+fn begins(machine: &mut Machine<u128>, party: u32, entry: &Entry) -> bool {
+    match turn_of(party, &call_of(entry)) {
+        Some(turn) => step(machine, turn),
         None => false,
-    };
-    want(is_taken, "a call begins where nothing forbids it")
-}
-
-fn has_ended(machine: &Machine<u128>, party: u32) -> bool {
-    match under_way(machine, party) {
-        Some(progress) => progress.finished,
-        None => true,
     }
 }
 
 /// The next turn of the party's call: a question is answered by yes.
-fn goes(machine: &mut Machine<u128>, party: u32) -> Right {
-    let turn = if machine.is_going(party) {
+fn goes(machine: &mut Machine<u128>, party: u32) -> bool {
+    let turn = if bare::is_going(machine, party) {
         Turn::Next(party)
     } else {
         Turn::Decide(party, true)
     };
-    want(
-        step(machine, turn).is_ok(),
-        "a call goes on while it is under way",
-    )
+    step(machine, turn)
 }
 
-/// At most so many turns of the party's call, up to its end.
-fn goes_on(machine: &mut Machine<u128>, party: u32, turns: u64) -> Right {
+/// At most so many turns of the party's call, up to its end: whether each is taken.
+fn goes_on(machine: &mut Machine<u128>, party: u32, turns: u64) -> bool {
+    let mut are_taken = true;
     for _ in 0..turns {
-        if has_ended(machine, party) {
-            return Ok(());
+        if !under_way(machine, party).finished {
+            are_taken &= goes(machine, party);
         }
-        goes(machine, party)?;
     }
-    Ok(())
+    are_taken
 }
 
 /// More turns than a call of the table takes.
 const MANY: u64 = 100;
 
-fn ends(machine: &mut Machine<u128>, party: u32) -> Right {
-    goes_on(machine, party, MANY)?;
-    want(
-        has_ended(machine, party),
-        "a call ends where no other goes on",
-    )
+/// All turns of the party's call: whether it ends.
+fn ends(machine: &mut Machine<u128>, party: u32) -> bool {
+    goes_on(machine, party, MANY) && under_way(machine, party).finished
 }
 
-fn opens(machine: &mut Machine<u128>, opening: &[Begin]) -> Right {
-    for (party, call) in opening {
-        begins(machine, *party, call)?;
-        ends(machine, *party)?;
+fn opens(machine: &mut Machine<u128>, opening: &[Begin]) -> bool {
+    let mut are_whole = true;
+    for (party, entry) in opening {
+        are_whole &= begins(machine, *party, entry) && ends(machine, *party);
     }
-    Ok(())
+    are_whole
 }
 
-/// So many turns of one call, all of the other, and all of the first unless it stops.
-fn interleaves(
-    machine: &mut Machine<u128>,
-    one: &Cut,
-    other: &Cut,
-    turns: u64,
-    stops: bool,
-) -> Right {
-    begins(machine, one.0, &one.1.0)?;
-    goes_on(machine, one.0, turns)?;
-    let is_whole = has_ended(machine, one.0) == (turns >= one.2);
-    want(is_whole, "a call takes as many turns as its table says")?;
-    begins(machine, other.0, &other.1.0)?;
-    ends(machine, other.0)?;
-    if stops {
-        return Ok(());
-    }
-    ends(machine, one.0)
+/// So many turns of one call: whether it ends where its table says.
+fn is_cut(machine: &mut Machine<u128>, one: &Cut, turns: u64) -> bool {
+    let is_begun = begins(machine, one.0, &one.1.0) && goes_on(machine, one.0, turns);
+    is_begun && under_way(machine, one.0).finished == (turns >= one.2)
+}
+
+/// All of the other, and all of the first unless it stops.
+fn is_ended(machine: &mut Machine<u128>, one: &Cut, other: &Cut, stops: bool) -> bool {
+    let is_whole = begins(machine, other.0, &other.1.0) && ends(machine, other.0);
+    is_whole && (stops || ends(machine, one.0))
 }
 
 /// Whether the party's call keeps within its bounds, and is under way where the events leave it so.
 fn is_bounded(machine: &Machine<u128>, replay: &Replay, cut: &Cut) -> Right {
-    let Some(progress) = under_way(machine, cut.0) else {
-        return Err("a call has begun");
-    };
-    let backs = progress.backs;
-    let most = cut.1.1.saturating_add(cut.1.2.saturating_mul(backs));
+    let progress = under_way(machine, cut.0);
+    let span = replay.span(cut.0 as u64);
+    let most = cut
+        .1
+        .1
+        .saturating_add(cut.1.2.saturating_mul(progress.backs));
     want(progress.steps <= most, "a call takes at most its steps")?;
     want(
-        backs <= progress.others,
+        progress.backs <= progress.others,
         "a turn back is paid by a change of another",
     )?;
     want(
-        progress.finished != replay.is_open(cut.0),
+        progress.finished != span.is_open,
         "a call is under way up to its end",
     )
 }
 
 /// What has come of it, as the events tell it.
-fn replayed(machine: &Machine<u128>, row: &Row) -> Result<Replay, &'static str> {
+fn replayed(machine: &Machine<u128>, replay: &mut Replay) -> Right {
+    for event in machine.events() {
+        replay.take(&told_of(event))?;
+    }
+    replay.words_right(machine.words())
+}
+
+fn judged(machine: &Machine<u128>, row: &Row, one: &Cut, other: &Cut) -> Right {
     let mut replay = Replay::new(row.kind, row.capacity as u64);
-    replay.replay(machine.events())?;
-    replay.words_right(machine.words())?;
-    Ok(replay)
+    replayed(machine, &mut replay)?;
+    is_bounded(machine, &replay, one)?;
+    is_bounded(machine, &replay, other)
 }
 
 fn run(alloc: Global, row: &Row, one: &Cut, other: &Cut, turns: u64, stops: bool) -> Right {
-    let mut machine = match made(alloc, row.kind, row.capacity, PARTIES) {
-        Ok(machine) => machine,
-        Err(_) => return Err("a machine is made where there is memory"),
+    let Some(mut machine) = made(alloc, row.kind, row.capacity, PARTIES) else {
+        return Err("a machine is made where there is memory");
     };
-    opens(&mut machine, row.opening)?;
-    interleaves(&mut machine, one, other, turns, stops)?;
-    let replay = replayed(&machine, row)?;
-    is_bounded(&machine, &replay, one)?;
-    is_bounded(&machine, &replay, other)
+    if !opens(&mut machine, row.opening) {
+        return Err("a call begins where nothing forbids it, goes on and ends");
+    }
+    if !is_cut(&mut machine, one, turns) {
+        return Err("a call takes as many turns as its table says");
+    }
+    if !is_ended(&mut machine, one, other, stops) {
+        return Err("a call ends where no other goes on");
+    }
+    judged(&machine, row, one, other)
 }
 
 /// Each run of one call into which the other is cut: how many.

@@ -1,20 +1,26 @@
 //! Which turns are taken, and what the machine shows behind each.
-use super::{Book, NOTHING, Shown, Span, at, span_of};
-use crate::replay::calls::{Called, Name};
+use super::{Book, Shown, Span, at, put_value, value_at};
 use crate::replay::{Right, bit, want};
 use crate::stops::under_way;
+use crate::told::{Call, Name, Said, told_of};
 use machine::Machine;
-use machine::event::Start;
+use machine::event::Event;
 use machine::party::Progress;
-use machine::turn::Turn;
+use schedule::bare;
 use steps::words::Words;
 
 /// What the state of the party shows.
 pub fn shown_by(machine: &Machine<u128>, party: u32) -> Shown {
-    let mut shown = NOTHING;
-    if let Some(state) = machine.state(party) {
-        for (index, value) in shown.iter_mut().enumerate() {
-            *value = state.get(index).copied();
+    let mut shown = Shown {
+        stands: 0,
+        values: [0; 4],
+    };
+    if let Some(state) = bare::state(machine, party) {
+        for index in 0..4usize {
+            if let Some(value) = state.get(index) {
+                shown.stands |= bit(index as u64);
+                put_value(&mut shown.values, index as u64, *value);
+            }
         }
     }
     shown
@@ -29,7 +35,7 @@ fn word(words: &[u64], place: u64) -> u64 {
 }
 
 /// The most steps of a call, and how many more for each turn back: those of docs/FIELD.md, for values of two words.
-fn bounds(call: &Called, capacity: u64) -> (u64, u64) {
+fn bounds(call: &Call, capacity: u64) -> (u64, u64) {
     let each = capacity.wrapping_mul(capacity.wrapping_add(12));
     match call.name {
         Name::Add => (capacity.wrapping_add(9), capacity.wrapping_add(1)),
@@ -39,34 +45,28 @@ fn bounds(call: &Called, capacity: u64) -> (u64, u64) {
         Name::FindOf => (capacity.wrapping_mul(5), 0),
         Name::RecoverOf if call.may_lock => (each.wrapping_add(3), capacity.wrapping_add(6)),
         Name::RecoverOf => (capacity.wrapping_mul(9).wrapping_add(3), 3),
-        Name::GetState => (capacity.wrapping_mul(4).wrapping_add(1), 3),
-        Name::UpdateState => (capacity.wrapping_mul(4).wrapping_add(1), 3),
-        Name::LenOf => (capacity.wrapping_add(2), capacity.wrapping_add(2)),
-        Name::IsEmpty => (capacity.wrapping_add(2), capacity.wrapping_add(2)),
+        Name::GetState | Name::UpdateState => (capacity.wrapping_mul(4).wrapping_add(1), 3),
+        Name::LenOf | Name::IsEmptyOf => (capacity.wrapping_add(2), capacity.wrapping_add(2)),
         _ => (1, 0),
     }
 }
 
-fn is_bounded(call: &Called, capacity: u64, progress: &Progress) -> Right {
+fn is_bounded(call: &Call, capacity: u64, progress: &Progress) -> bool {
     let (most, more) = bounds(call, capacity);
     let most = most.saturating_add(more.saturating_mul(progress.backs));
-    want(progress.steps <= most, "a call takes at most its steps")?;
-    want(
-        progress.backs <= progress.others,
-        "a turn back is paid by a change of another",
-    )
+    progress.steps <= most && progress.backs <= progress.others
 }
 
 impl Book {
-    fn is_stopped(&self, span: &Span) -> bool {
-        span.is_owners() && self.is_dead(span.call.owner)
+    /// Whether its owner's death stops the call.
+    fn is_stopped(&self, call: &Call) -> bool {
+        let is_owners = [Name::Add, Name::Remove, Name::Replace].contains(&call.name);
+        is_owners && self.is_dead(call.owner)
     }
 
     pub fn is_open(&self, party: u32) -> bool {
-        match self.spans.get(party as usize) {
-            Some(span) => span.is_open,
-            None => false,
-        }
+        let span = self.span(party as u64);
+        span.is_open
     }
 
     /// Whether a replace of this index is under way.
@@ -79,129 +79,112 @@ impl Book {
         is_replaced
     }
 
-    fn may_begin(&self, start: &Start<u128>) -> bool {
-        let span = span_of(start, 0);
-        let is_recovery = span.call.name == Name::RecoverOf;
-        !self.is_stopped(&span) && (!is_recovery || self.is_dead(span.call.owner))
-    }
-
-    fn may_go(&self, party: u32, decides: bool) -> bool {
-        match self.spans.get(party as usize) {
-            Some(span) => span.is_open && span.asks == decides && !self.is_stopped(span),
-            None => false,
+    /// Whether the call may begin, or its owner die.
+    pub fn may_begin(&self, call: &Call) -> bool {
+        let is_dead = self.is_dead(call.owner);
+        match call.name {
+            Name::Dies => !is_dead,
+            Name::RecoverOf => is_dead,
+            _ => !self.is_stopped(call),
         }
     }
 
-    /// Whether the turn is one that is taken.
-    pub fn allows(&self, turn: &Turn<u128>) -> bool {
-        match turn {
-            Turn::Begin(_, start) => self.may_begin(start),
-            Turn::Next(party) => self.may_go(*party, false),
-            Turn::Decide(party, _) => self.may_go(*party, true),
-            Turn::Die(owner) => !self.is_dead(owner.value()),
-        }
+    /// Whether the call of the party may go on, by a decision or without.
+    pub fn may_go(&self, party: u32, decides: bool) -> bool {
+        let span = self.span(party as u64);
+        span.is_open && span.asks == decides && !self.is_stopped(&span.call)
     }
 
-    /// The turn comes now.
-    pub fn hear(&mut self, turn: &Turn<u128>) {
-        self.said = None;
-        if let Turn::Decide(party, said) = turn {
-            self.said = Some(*said);
-            if let Some(span) = self.spans.get_mut(*party as usize) {
-                span.asks = false;
-            }
+    /// The turn comes now, with this decision.
+    pub fn hear(&mut self, party: u32, said: Said) {
+        self.said = said;
+        if let Some(span) = self.spans.get_mut(party as usize) {
+            span.asks &= said == Said::Nothing;
         }
     }
 
     /// A no ends a find, and a yes is told.
-    pub fn heeds(&self, party: u32) -> Right {
-        let Some(span) = self.spans.get(party as usize) else {
-            return Err("there is such a party");
-        };
+    pub fn heeds(&self, party: u32) -> bool {
+        let span = self.span(party as u64);
         let is_find = span.call.name == Name::FindOf;
         match self.said {
-            Some(false) => want(!is_find || !span.is_open, "a no ends a find"),
-            Some(true) => want(
-                is_find || span.done.told & bit(span.latest.1) != 0,
-                "a recovery is told what was said yes to",
-            ),
-            None => Ok(()),
+            Said::False => !is_find || !span.is_open,
+            Said::True => is_find || span.told & bit(span.index) != 0,
+            _ => true,
         }
     }
 
-    fn party_right(&self, machine: &Machine<u128>, party: u32, span: &Span) -> Right {
-        let Some(progress) = under_way(machine, party) else {
-            return want(!span.is_open, "a call that has begun is under way");
-        };
-        want(
-            progress.finished != span.is_open,
-            "a call is under way up to its end",
-        )?;
-        let goes = span.is_open && !span.asks;
-        want(
-            machine.is_going(party) == goes,
-            "a call asks where it is to",
-        )?;
-        is_bounded(&span.call, self.capacity, &progress)?;
-        if span.is_open && span.is_look() {
-            return Ok(());
-        }
-        let shown = shown_by(machine, party);
-        want(
-            self.has_state(party, &shown),
-            "a state changes by looks of its party alone",
-        )
-    }
-
-    /// Whether all parties are as the book has them.
-    pub fn parties_right(&self, machine: &Machine<u128>) -> Right {
-        for (party, span) in self.spans.iter().enumerate() {
-            if party < 4 {
-                self.party_right(machine, party as u32, span)?;
+    /// The events of a turn, which are few.
+    pub fn read(&mut self, events: &[Event<u128>], shown: &Shown) -> Right {
+        for _ in 0..4 {
+            match events.get(self.now as usize) {
+                Some(event) => self.take(&told_of(event), shown)?,
+                None => return Ok(()),
             }
         }
-        Ok(())
+        Err("a turn writes at most three events")
+    }
+
+    /// Whether the party is as the book has it: a state changes by looks of its party alone.
+    fn is_party_right(&self, machine: &Machine<u128>, party: u32, span: &Span) -> bool {
+        let progress = under_way(machine, party);
+        let goes = span.is_open && !span.asks;
+        let is_under_way = progress.finished != span.is_open;
+        let is_asking_right = bare::is_going(machine, party) == goes;
+        let is_look = span.call.name == Name::GetState || span.call.name == Name::UpdateState;
+        let is_same = (span.is_open && is_look)
+            || self.has_state(party as u64, &shown_by(machine, party));
+        let is_in_bounds = is_bounded(&span.call, self.capacity, &progress);
+        is_under_way && is_asking_right && is_in_bounds && is_same
     }
 
     /// A replace that has found its owner, where it was not to replace, makes the run improper.
-    pub fn judge(&mut self, machine: &Machine<u128>) {
-        for (party, span) in self.spans.iter().enumerate() {
-            if span.is_open && span.call.name == Name::Replace && !span.is_proper && party < 4 {
-                if let Some(progress) = under_way(machine, party as u32) {
-                    self.is_proper &= progress.steps == 0;
-                }
-            }
-        }
+    fn is_still_proper(&self, machine: &Machine<u128>, party: u32, span: &Span) -> bool {
+        let is_replace = span.is_open && span.call.name == Name::Replace;
+        !is_replace || span.is_proper || under_way(machine, party).steps == 0
     }
 
-    fn element_right(&self, words: &[u64], index: u64, stands: &Option<u128>) -> bool {
+    /// Whether all parties are as the book has them, and whether the run is still proper.
+    pub fn parties_right(&mut self, machine: &Machine<u128>) -> bool {
+        let mut are_right = true;
+        for party in 0..4u32 {
+            let span = self.span(party as u64);
+            are_right &= self.is_party_right(machine, party, &span);
+            let is_proper = self.is_still_proper(machine, party, &span);
+            self.is_proper &= is_proper;
+        }
+        are_right
+    }
+
+    /// Whether the element holds what stands there.
+    fn is_element_right(&self, words: &[u64], index: u64) -> bool {
         let count = self.capacity.wrapping_add(2).wrapping_add(index);
         let first = self.capacity.wrapping_add(count).wrapping_add(index);
         let is_odd = word(words, count) & 1 == 1;
-        match stands {
-            Some(value) => {
-                let second = word(words, first.wrapping_add(1));
-                is_odd && word(words, first) == value.word(0) && second == value.word(1)
-            }
-            None => !is_odd,
-        }
+        let stands = self.stands & bit(index) != 0;
+        let value = value_at(&self.values, index);
+        let is_whole = word(words, first) == value.word(0)
+            && word(words, first.wrapping_add(1)) == value.word(1);
+        is_odd == stands && (!stands || is_whole)
+    }
+
+    fn is_cell_right(&self, words: &[u64], index: u64) -> bool {
+        let owner = at(&self.filled, index);
+        let cell = if owner == 0 { u64::MAX } else { owner };
+        word(words, index.wrapping_add(1)) == cell
     }
 
     /// Whether the words hold what the events say.
     pub fn words_right(&self, words: &[u64]) -> Right {
         let is_locked = word(words, 0) == u64::MAX;
-        want(is_locked == self.is_locked, "the counter says the lock")?;
-        for (index, stands) in self.contents.iter().enumerate() {
-            let index = index as u64;
-            if index < self.capacity {
-                let owner = at(&self.filled, index);
-                let cell = if owner == 0 { u64::MAX } else { owner };
-                let is_so = word(words, index.wrapping_add(1)) == cell;
-                want(is_so, "a cell has its owner")?;
-                let is_so = self.element_right(words, index, stands);
-                self.want_proper(is_so, "an element has its value")?;
-            }
+        let mut are_owners = true;
+        let mut are_values = true;
+        for index in 0..self.capacity {
+            are_owners &= self.is_cell_right(words, index);
+            are_values &= self.is_element_right(words, index);
         }
-        Ok(())
+        want(is_locked == self.is_locked, "the counter says the lock")?;
+        want(are_owners, "a cell has its owner")?;
+        want(are_values || !self.is_proper, "an element has its value")
     }
 }

@@ -1,14 +1,414 @@
-//! Whether a call may end with its answer, by the table.
-use super::acts::popped;
-use super::answers::{ENDS, Needs};
-use super::calls::{Name, said_by};
-use super::{Replay, Right, Span, bit, fits, places_in, want};
-use machine::event::Answer;
+//! What an answer says of what its call has done, and of what stood at moments of it: a table.
+use super::{Replay, Right, Span, at, bit, fits, places_in, want};
+use crate::told::{ANY, Name, Said, Told};
+
+/// What else has to be so.
+#[derive(Clone, Copy)]
+enum Needs {
+    Nothing,
+    /// It answers the value that it handed out.
+    SameValue,
+    /// It answers the place, the index or the count before.
+    SameNumber,
+    /// So many waited at a moment of it.
+    Waited,
+    /// Its place stood at a moment of it.
+    Stood,
+    /// Nothing stood through all of it.
+    NothingStayed,
+    /// As many indices are in use as there are.
+    AreOut,
+    /// Each index was filled at a moment of it.
+    WereFilled,
+    IsLocked,
+    /// It has not locked, and where it might have, another index is in use.
+    IsInUse,
+    /// The same, where another was filled at a moment since it freed its own.
+    WasFilled,
+    /// It was granted what it answers.
+    IsGranted,
+    /// The index is not its owner's.
+    IsNotIts,
+    /// It was granted what it answers, and has placed its value there.
+    IsPlaced,
+    /// It has placed its value.
+    HasReplaced,
+    /// As many as it copied at most, and at least those whose value stood through all of it.
+    HasCopied,
+    /// It has freed what it was told to, and asked about what stood through all of it.
+    HasRecovered,
+}
+
+/// A call and its answer: how much it has put and taken, what else has to be so, and how that is told.
+type End = (Name, Said, u64, u64, Needs, &'static str);
+
+const ENDS: [End; 45] = [
+    (
+        Name::Push,
+        Said::True,
+        1,
+        0,
+        Needs::Nothing,
+        "a push that is taken",
+    ),
+    (
+        Name::Push,
+        Said::False,
+        0,
+        0,
+        Needs::Nothing,
+        "a push that is not taken",
+    ),
+    (
+        Name::Push,
+        Said::NoValue,
+        1,
+        0,
+        Needs::Nothing,
+        "a push that replaces nothing",
+    ),
+    (
+        Name::Push,
+        Said::Value,
+        1,
+        1,
+        Needs::SameValue,
+        "a push answers what it handed out",
+    ),
+    (
+        Name::Pop,
+        Said::Value,
+        0,
+        1,
+        Needs::SameValue,
+        "a pop answers what it handed out",
+    ),
+    (
+        Name::Pop,
+        Said::NoValue,
+        0,
+        0,
+        Needs::Nothing,
+        "a pop of nothing",
+    ),
+    (
+        Name::Len,
+        Said::Number,
+        0,
+        0,
+        Needs::Waited,
+        "so many waited at a moment of the call",
+    ),
+    (Name::Store, Said::True, 0, 0, Needs::Nothing, "a store"),
+    (Name::Load, Said::Loaded, 0, 0, Needs::Nothing, "a load"),
+    (
+        Name::Set,
+        Said::True,
+        1,
+        0,
+        Needs::Nothing,
+        "a set answers true where it set",
+    ),
+    (
+        Name::Set,
+        Said::False,
+        0,
+        0,
+        Needs::Stood,
+        "a set answers false where the bit stood",
+    ),
+    (
+        Name::Set,
+        Said::Number,
+        1,
+        0,
+        Needs::SameNumber,
+        "a set answers the count just before it",
+    ),
+    (
+        Name::ResetNext,
+        Said::Place,
+        0,
+        1,
+        Needs::SameNumber,
+        "a reset answers what it cleared",
+    ),
+    (
+        Name::ResetNext,
+        Said::NoPlace,
+        0,
+        0,
+        Needs::NothingStayed,
+        "None where each bit was clear once",
+    ),
+    (
+        Name::ResetAll,
+        Said::Done,
+        0,
+        ANY,
+        Needs::NothingStayed,
+        "what stood as a reset began was taken since",
+    ),
+    (
+        Name::Acquire,
+        Said::Place,
+        1,
+        0,
+        Needs::SameNumber,
+        "an acquire answers what it claimed",
+    ),
+    (
+        Name::Acquire,
+        Said::OutOfIndices,
+        0,
+        0,
+        Needs::AreOut,
+        "as many are in use as there are",
+    ),
+    (
+        Name::Acquire,
+        Said::IsLocked,
+        0,
+        0,
+        Needs::IsLocked,
+        "IsLocked once it is locked",
+    ),
+    (
+        Name::Release,
+        Said::Locked,
+        0,
+        1,
+        Needs::IsLocked,
+        "Locked once it is locked",
+    ),
+    (
+        Name::Release,
+        Said::Unlocked,
+        0,
+        1,
+        Needs::IsInUse,
+        "Unlocked where another is in use",
+    ),
+    (
+        Name::AcquireFor,
+        Said::Place,
+        1,
+        0,
+        Needs::IsGranted,
+        "an acquire answers what it was granted",
+    ),
+    (
+        Name::AcquireFor,
+        Said::OutOfIndices,
+        0,
+        0,
+        Needs::WereFilled,
+        "each was filled at a moment of the call",
+    ),
+    (
+        Name::AcquireFor,
+        Said::IsLocked,
+        ANY,
+        0,
+        Needs::IsLocked,
+        "IsLocked once it is locked",
+    ),
+    (
+        Name::ReleaseOf,
+        Said::Locked,
+        0,
+        1,
+        Needs::IsLocked,
+        "Locked once it is locked",
+    ),
+    (
+        Name::ReleaseOf,
+        Said::Unlocked,
+        0,
+        1,
+        Needs::WasFilled,
+        "Unlocked where another was filled since",
+    ),
+    (
+        Name::ReleaseOf,
+        Said::NotOwned,
+        0,
+        0,
+        Needs::IsNotIts,
+        "a release fails where the index is not its owner's",
+    ),
+    (
+        Name::Recover,
+        Said::Locked,
+        0,
+        ANY,
+        Needs::IsLocked,
+        "Locked once it is locked",
+    ),
+    (
+        Name::Recover,
+        Said::Unlocked,
+        0,
+        ANY,
+        Needs::HasRecovered,
+        "a recovery asks about all, and frees what it was told to",
+    ),
+    (
+        Name::Add,
+        Said::Place,
+        1,
+        0,
+        Needs::IsPlaced,
+        "an add answers where it placed its value",
+    ),
+    (
+        Name::Add,
+        Said::OutOfIndices,
+        0,
+        0,
+        Needs::WereFilled,
+        "each was filled at a moment of the call",
+    ),
+    (
+        Name::Add,
+        Said::IsLocked,
+        ANY,
+        0,
+        Needs::IsLocked,
+        "IsLocked once it is locked",
+    ),
+    (
+        Name::Remove,
+        Said::Locked,
+        0,
+        1,
+        Needs::IsLocked,
+        "Locked once it is locked",
+    ),
+    (
+        Name::Remove,
+        Said::Unlocked,
+        0,
+        1,
+        Needs::WasFilled,
+        "Unlocked where another was filled since",
+    ),
+    (
+        Name::Remove,
+        Said::NotOwned,
+        0,
+        0,
+        Needs::IsNotIts,
+        "a remove fails where the index is not its owner's",
+    ),
+    (
+        Name::Replace,
+        Said::Done,
+        0,
+        0,
+        Needs::HasReplaced,
+        "a replace has placed its value",
+    ),
+    (
+        Name::Replace,
+        Said::NotOwned,
+        0,
+        0,
+        Needs::IsNotIts,
+        "a replace fails where the index is not its owner's",
+    ),
+    (
+        Name::RecoverOf,
+        Said::Locked,
+        0,
+        ANY,
+        Needs::IsLocked,
+        "Locked once it is locked",
+    ),
+    (
+        Name::RecoverOf,
+        Said::Unlocked,
+        0,
+        ANY,
+        Needs::HasRecovered,
+        "a recovery asks about all, and frees what it was told to",
+    ),
+    (
+        Name::GetState,
+        Said::Number,
+        0,
+        0,
+        Needs::HasCopied,
+        "a state shows what stood throughout, and what was copied",
+    ),
+    (
+        Name::AcquireProducer,
+        Said::True,
+        0,
+        0,
+        Needs::Nothing,
+        "a role that is granted",
+    ),
+    (
+        Name::AcquireProducer,
+        Said::False,
+        0,
+        0,
+        Needs::Nothing,
+        "a role that is not granted",
+    ),
+    (
+        Name::AcquireConsumer,
+        Said::True,
+        0,
+        0,
+        Needs::Nothing,
+        "a role that is granted",
+    ),
+    (
+        Name::AcquireConsumer,
+        Said::False,
+        0,
+        0,
+        Needs::Nothing,
+        "a role that is not granted",
+    ),
+    (
+        Name::AcquireStoring,
+        Said::True,
+        0,
+        0,
+        Needs::Nothing,
+        "a role that is granted",
+    ),
+    (
+        Name::AcquireStoring,
+        Said::False,
+        0,
+        0,
+        Needs::Nothing,
+        "a role that is not granted",
+    ),
+];
 
 /// The calls that act.
 const ACTING: [Name; 4] = [Name::Push, Name::Pop, Name::Store, Name::Load];
 
+/// Whether a push, a pop, a store or a load acted with this answer, and no other call did.
+fn has_acted(span: &Span, told: &Told) -> bool {
+    if ACTING.contains(&span.call.name) {
+        span.acted == told.said && span.acted_value == told.value
+    } else {
+        span.acted == Said::Nothing
+    }
+}
+
 impl Replay {
+    /// Whether the place has this owner, or is that of no owner.
+    fn is_filled(&self, place: u64, owner: u64) -> bool {
+        at(&self.numbers, place) == owner && self.stands & bit(place) != 0
+    }
+
     /// The indices that are held, being taken or given back.
     fn in_use(&self) -> u64 {
         let mut count = places_in(self.stands);
@@ -31,11 +431,12 @@ impl Replay {
         has_freed && !self.is_locked && span.always & !span.asked == 0
     }
 
-    fn is_so(&self, span: &Span, needs: &Needs, answer: &Answer<u128>, number: u64) -> bool {
+    fn is_so(&self, needs: Needs, span: &Span, told: &Told) -> bool {
         let is_kept = !span.call.may_lock;
-        match *needs {
+        let number = told.place;
+        match needs {
             Needs::Nothing => true,
-            Needs::SameValue => popped(Some(span.item)) == *answer,
+            Needs::SameValue => span.item == told.value,
             Needs::SameNumber => span.number == number,
             Needs::Waited => span.ever & bit(number) != 0,
             Needs::Stood => span.ever & bit(span.call.place) != 0,
@@ -58,21 +459,15 @@ impl Replay {
     }
 
     /// Whether the call of this span may end with this answer.
-    pub fn ends_right(&self, span: &Span, answer: &Answer<u128>) -> Right {
-        let acted = if ACTING.contains(&span.call.name) {
-            Some(*answer)
-        } else {
-            None
-        };
+    pub fn ends_right(&self, span: &Span, told: &Told) -> Right {
         want(
-            span.acted == acted,
+            has_acted(span, told),
             "pushes, pops, stores and loads act with what they answer",
         )?;
-        let (said, number) = said_by(answer);
-        for (name, wanted, gave, took, needs, promise) in &ENDS {
-            if *name == span.call.name && *wanted == said {
+        for (name, said, gave, took, needs, promise) in &ENDS {
+            if *name == span.call.name && *said == told.said {
                 let has_done = fits(*gave, span.gave) && fits(*took, span.took);
-                return want(has_done && self.is_so(span, needs, answer, number), promise);
+                return want(has_done && self.is_so(*needs, span, told), promise);
             }
         }
         Err("a call answers as calls of its name do")

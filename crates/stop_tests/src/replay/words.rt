@@ -1,11 +1,11 @@
 //! What the words hold where the events have come to their end.
-use super::{Replay, Right, bit, want};
+use super::{Replay, Right, at, bit, want};
 use machine::turn::Kind;
 use steps::words::Words;
 
 /// The word at this place, or a number that none has here.
-fn word(words: &[u64], at: usize) -> u64 {
-    match words.get(at) {
+fn word(words: &[u64], place: usize) -> u64 {
+    match words.get(place) {
         Some(word) => *word,
         None => 77,
     }
@@ -72,7 +72,9 @@ impl Replay {
 
     /// Whether the list by the acts is what waits, as far as the capacity.
     fn is_list(&self) -> bool {
-        let mut is_list = self.list.len() <= self.capacity;
+        let length = self.list.len();
+        let waiting = self.waits.len();
+        let mut is_list = length <= self.capacity && length == waiting.min(self.capacity);
         for place in 0..8usize {
             let is_within = (place as u64) < self.capacity;
             is_list &= !is_within || self.list.at(place) == self.waits.at(place);
@@ -89,12 +91,10 @@ impl Replay {
     pub fn words_right(&self, words: &[u64]) -> Right {
         want(self.is_list(), "the list by the acts is what waits")?;
         let stand = match self.kind {
-            Kind::IndexQueue => self.waits_stand(words),
-            Kind::Overflow => self.waits_stand(words),
-            Kind::Queue => self.waits_stand(words),
+            Kind::IndexQueue | Kind::Overflow | Kind::Queue => self.waits_stand(words),
             Kind::Atomic => self.value_stands(words),
             Kind::Bits => self.flags_stand(words),
-            Kind::Counts => Some(&word(words, 0)) == self.numbers.first(),
+            Kind::Counts => word(words, 0) == at(&self.numbers, 0),
             Kind::Indices => self.claims_stand(words),
             Kind::Container => self.values_stand(words),
             Kind::Robust => {
