@@ -37,116 +37,81 @@ struct Plain {
     next: u64,
 }
 
-impl Shared {
-    #[inline(never)]
-    fn load(&mut self) -> u64 {
-        self.words.load(0)
-    }
-
-    #[inline(never)]
-    fn store(&mut self, new: u64) {
-        self.words.store(0, new);
-    }
-
-    #[inline(never)]
-    fn swap(&mut self, new: u64) -> u64 {
-        self.words.swap(0, new)
-    }
-
-    #[inline(never)]
-    fn add(&mut self, by: u64) -> u64 {
-        self.words.add(0, by)
-    }
-
-    #[inline(never)]
-    fn or(&mut self, bits: u64) -> u64 {
-        self.words.or(0, bits)
-    }
-
-    #[inline(never)]
-    fn exchange(&mut self, from: u64, to: u64) -> u64 {
-        self.words.exchange(0, from, to)
-    }
-}
-
-impl Plain {
-    #[inline(never)]
-    fn load(&mut self) -> u64 {
-        self.number
-    }
-
-    #[inline(never)]
-    fn store(&mut self, new: u64) {
-        self.number = new;
-    }
-
-    #[inline(never)]
-    fn swap(&mut self, new: u64) -> u64 {
-        let old = self.number;
-        self.number = new;
-        old
-    }
-
-    #[inline(never)]
-    fn add(&mut self, by: u64) -> u64 {
-        let old = self.number;
-        self.number = old.wrapping_add(by);
-        old
-    }
-
-    #[inline(never)]
-    fn or(&mut self, bits: u64) -> u64 {
-        let old = self.number;
-        self.number = old | bits;
-        old
-    }
-
-    #[inline(never)]
-    fn exchange(&mut self, from: u64, to: u64) -> u64 {
-        let old = self.number;
-        if old == from {
-            self.number = to;
-        }
-        old
-    }
-}
-
 impl Timed for Shared {
+    #[inline(never)]
     fn call<R: Wait>(&mut self, _rt: &R) -> u64 {
         let last = self.next;
         let next = last.wrapping_add(1);
         self.next = next;
         match self.step {
-            Step::Load => self.load(),
+            Step::Load => self.words.load(0),
             Step::Store => {
-                self.store(next);
+                self.words.store(0, next);
                 0
             }
-            Step::Swap => self.swap(next),
-            Step::Add => self.add(next),
-            Step::Or => self.or(next),
-            Step::Exchange => self.exchange(last, next),
+            Step::Swap => self.words.swap(0, next),
+            Step::Add => self.words.add(0, next),
+            Step::Or => self.words.or(0, next),
+            Step::Exchange => self.words.exchange(0, last, next),
         }
     }
 }
 
 impl Timed for Plain {
+    #[inline(never)]
     fn call<R: Wait>(&mut self, _rt: &R) -> u64 {
         let last = self.next;
         let next = last.wrapping_add(1);
         self.next = next;
+        let old = self.number;
         match self.step {
-            Step::Load => self.load(),
+            Step::Load => old,
             Step::Store => {
-                self.store(next);
+                self.number = next;
                 0
             }
-            Step::Swap => self.swap(next),
-            Step::Add => self.add(next),
-            Step::Or => self.or(next),
-            Step::Exchange => self.exchange(last, next),
+            Step::Swap => {
+                self.number = next;
+                old
+            }
+            Step::Add => {
+                self.number = old.wrapping_add(next);
+                old
+            }
+            Step::Or => {
+                self.number = old | next;
+                old
+            }
+            Step::Exchange => {
+                if old == last {
+                    self.number = next;
+                }
+                old
+            }
         }
     }
+}
+
+/// Prints the row of a step.
+fn step_row<R: Wait + CpuClock + Print>(
+    rt: &R,
+    alloc: Global,
+    row: &Row<'_>,
+    step: Step,
+) -> Result<(), BenchError> {
+    let words = Words::new(alloc, &[0])?;
+    let mut shared = Shared {
+        words,
+        step,
+        next: 0,
+    };
+    let mut plain = Plain {
+        number: 0,
+        step,
+        next: 0,
+    };
+    print_row(rt, row, &mut shared, &mut plain)?;
+    Ok(())
 }
 
 /// The rows whose names begin so.
@@ -164,23 +129,13 @@ pub fn rows<R: Wait + CpuClock + Print>(
         ("step: exchange", Step::Exchange),
     ];
     for (name, step) in all {
-        let about = Row {
+        let row = Row {
             name,
             capacity: 1,
             steps: 1,
         };
-        if about.is_wanted(wanted) {
-            let mut shared = Shared {
-                words: Words::new(alloc, &[0])?,
-                step,
-                next: 0,
-            };
-            let mut plain = Plain {
-                number: 0,
-                step,
-                next: 0,
-            };
-            print_row(rt, &about, &mut shared, &mut plain)?;
+        if row.is_wanted(wanted) {
+            step_row(rt, alloc, &row, step)?;
         }
     }
     Ok(())

@@ -4,6 +4,7 @@ ghost use Rattle.lock_free.specs.Counts.Calls as of_counts;
 
 use crate::error::BenchError;
 use crate::hand::bits as by_hand;
+use crate::hand::bits::Calls;
 use crate::timing::{Row, Timed, print_row};
 use lock_free::mpmc::bit_set::{BitSet, Pass};
 use lock_free::mpmc::counting_bit_set;
@@ -18,6 +19,7 @@ struct Bits {
     set: BitSet,
     pass: Pass,
     next: usize,
+    calls: Calls,
     ghost of: { of_bits.IsPassOf set pass },
 }
 
@@ -46,51 +48,29 @@ impl Bits {
     }
 }
 
-/// Sets a place, and resets the next one that stands, which it is.
-#[derive(Drop)]
-struct SetsAndResets {
-    set: Bits,
-}
-
-impl Timed for SetsAndResets {
+impl Timed for Bits {
     fn call<R: Wait>(&mut self, rt: &R) -> u64 {
-        let next = self.set.next;
-        let following = next.wrapping_add(1);
-        self.set.next = if following < self.set.set.capacity() {
-            following
-        } else {
-            0
-        };
-        let set = self.set.set(rt, next);
-        match self.set.reset_next(rt) {
-            Some(place) if set => place as u64,
-            _ => 0,
+        match self.calls {
+            Calls::SetAndResetNext => {
+                let next = self.next;
+                let following = next.wrapping_add(1);
+                self.next = if following < self.set.capacity() {
+                    following
+                } else {
+                    0
+                };
+                let set = self.set(rt, next);
+                match self.reset_next(rt) {
+                    Some(place) if set => place as u64,
+                    _ => 0,
+                }
+            }
+            Calls::ResetNext => self.reset_next(rt).is_some() as u64,
+            Calls::SetAndResetAll => {
+                self.set(rt, 5);
+                self.reset_all()
+            }
         }
-    }
-}
-
-/// Looks in vain for a place that stands.
-#[derive(Drop)]
-struct ResetsNone {
-    set: Bits,
-}
-
-impl Timed for ResetsNone {
-    fn call<R: Wait>(&mut self, rt: &R) -> u64 {
-        self.set.reset_next(rt).is_some() as u64
-    }
-}
-
-/// Sets a place, and resets all.
-#[derive(Drop)]
-struct ResetsAll {
-    set: Bits,
-}
-
-impl Timed for ResetsAll {
-    fn call<R: Wait>(&mut self, rt: &R) -> u64 {
-        self.set.set(rt, 5);
-        self.set.reset_all()
     }
 }
 
@@ -99,6 +79,7 @@ impl Timed for ResetsAll {
 struct Counts {
     set: CountingBitSet,
     pass: counting_bit_set::Pass,
+    takes_all: bool,
     ghost of: { of_counts.IsPassOf set pass },
 }
 
@@ -124,41 +105,54 @@ impl Counts {
     }
 }
 
-/// Counts a place.
-#[derive(Drop)]
-struct CountsOne {
-    set: Counts,
-}
-
-impl Timed for CountsOne {
+impl Timed for Counts {
     fn call<R: Wait>(&mut self, _rt: &R) -> u64 {
-        self.set.set(5)
+        let before = self.set(5);
+        if self.takes_all {
+            self.reset_all()
+        } else {
+            before
+        }
     }
 }
 
-/// Counts a place, and takes all counts out.
-#[derive(Drop)]
-struct TakesAll {
-    set: Counts,
-}
-
-impl Timed for TakesAll {
-    fn call<R: Wait>(&mut self, _rt: &R) -> u64 {
-        self.set.set(5);
-        self.set.reset_all()
-    }
-}
-
-/// A bit set of which no place stands.
-fn new_bits(alloc: Global, capacity: u32) -> Result<Bits, BenchError> {
+/// Prints a row of the bit set, of which no place stands.
+fn bits_row<R: Wait + CpuClock + Print>(
+    rt: &R,
+    alloc: Global,
+    row: &Row<'_>,
+    capacity: u32,
+    calls: Calls,
+) -> Result<(), BenchError> {
     let (set, pass) = BitSet::new(alloc, capacity as usize)?;
-    Ok(Bits { set, pass, next: 0 })
+    let mut driven = Bits {
+        set,
+        pass,
+        next: 0,
+        calls,
+    };
+    let mut hand = by_hand::Bits::new(alloc, capacity, calls)?;
+    print_row(rt, row, &mut driven, &mut hand)?;
+    Ok(())
 }
 
-/// Counts in which no place counts.
-fn new_counts(alloc: Global, capacity: u32) -> Result<Counts, BenchError> {
+/// Prints a row of the counts, in which no place counts.
+fn counts_row<R: Wait + CpuClock + Print>(
+    rt: &R,
+    alloc: Global,
+    row: &Row<'_>,
+    capacity: u32,
+    takes_all: bool,
+) -> Result<(), BenchError> {
     let (set, pass) = CountingBitSet::new(alloc, capacity as usize)?;
-    Ok(Counts { set, pass })
+    let mut driven = Counts {
+        set,
+        pass,
+        takes_all,
+    };
+    let mut hand = by_hand::Counts::new(alloc, capacity, takes_all)?;
+    print_row(rt, row, &mut driven, &mut hand)?;
+    Ok(())
 }
 
 /// The rows whose names begin so.
@@ -168,77 +162,44 @@ pub fn rows<R: Wait + CpuClock + Print>(
     wanted: &str,
 ) -> Result<(), BenchError> {
     for capacity in [64u32, 1024, 65536] {
-        let about = Row {
-            name: "bit set: set and reset_next",
-            capacity: capacity as u64,
-            steps: 6,
-        };
-        if about.is_wanted(wanted) {
-            let mut driven = SetsAndResets {
-                set: new_bits(alloc, capacity)?,
+        let all = [
+            ("bit set: set and reset_next", Calls::SetAndResetNext, 6),
+            (
+                "bit set: reset_next, no place stands",
+                Calls::ResetNext,
+                1 + capacity as u64,
+            ),
+            (
+                "bit set: set and reset_all",
+                Calls::SetAndResetAll,
+                2 + capacity as u64 / 64,
+            ),
+        ];
+        for (name, calls, steps) in all {
+            let row = Row {
+                name,
+                capacity: capacity as u64,
+                steps,
             };
-            let mut hand = by_hand::SetsAndResets {
-                set: by_hand::Bits::new(alloc, capacity)?,
-            };
-            print_row(rt, &about, &mut driven, &mut hand)?;
+            if row.is_wanted(wanted) {
+                bits_row(rt, alloc, &row, capacity, calls)?;
+            }
         }
-        let about = Row {
-            name: "bit set: reset_next, no place stands",
-            capacity: capacity as u64,
-            steps: 1 + capacity as u64,
-        };
-        if about.is_wanted(wanted) {
-            let mut driven = ResetsNone {
-                set: new_bits(alloc, capacity)?,
-            };
-            let mut hand = by_hand::ResetsNone {
-                set: by_hand::Bits::new(alloc, capacity)?,
-            };
-            print_row(rt, &about, &mut driven, &mut hand)?;
-        }
-        let about = Row {
-            name: "bit set: set and reset_all",
-            capacity: capacity as u64,
-            steps: 2 + capacity as u64 / 64,
-        };
-        if about.is_wanted(wanted) {
-            let mut driven = ResetsAll {
-                set: new_bits(alloc, capacity)?,
-            };
-            let mut hand = by_hand::ResetsAll {
-                set: by_hand::Bits::new(alloc, capacity)?,
-            };
-            print_row(rt, &about, &mut driven, &mut hand)?;
-        }
-    }
-    let about = Row {
-        name: "counts: set",
-        capacity: 64,
-        steps: 1,
-    };
-    if about.is_wanted(wanted) {
-        let mut driven = CountsOne {
-            set: new_counts(alloc, 64)?,
-        };
-        let mut hand = by_hand::CountsOne {
-            set: by_hand::Counts::new(alloc, 64)?,
-        };
-        print_row(rt, &about, &mut driven, &mut hand)?;
     }
     for capacity in [64u32, 1024] {
-        let about = Row {
-            name: "counts: set and reset_all",
-            capacity: capacity as u64,
-            steps: 1 + capacity as u64,
-        };
-        if about.is_wanted(wanted) {
-            let mut driven = TakesAll {
-                set: new_counts(alloc, capacity)?,
+        let all = [
+            ("counts: set", false, 1),
+            ("counts: set and reset_all", true, 1 + capacity as u64),
+        ];
+        for (name, takes_all, steps) in all {
+            let row = Row {
+                name,
+                capacity: capacity as u64,
+                steps,
             };
-            let mut hand = by_hand::TakesAll {
-                set: by_hand::Counts::new(alloc, capacity)?,
-            };
-            print_row(rt, &about, &mut driven, &mut hand)?;
+            if row.is_wanted(wanted) {
+                counts_row(rt, alloc, &row, capacity, takes_all)?;
+            }
         }
     }
     Ok(())

@@ -7,6 +7,7 @@ use std::alloc::{AllocError, Global};
 use std::sync::Arc;
 
 pub mod bits;
+pub mod container;
 pub mod pairs;
 pub mod queues;
 pub mod robust;

@@ -4,7 +4,7 @@ ghost use Rattle.lock_free.specs.UniqueIndexSet as of_unique;
 ghost use Rattle.lock_free.specs.RobustUniqueIndexSet as of_robust;
 
 use crate::error::BenchError;
-use crate::hand;
+use crate::hand::{robust, unique};
 use crate::timing::{Row, Timed, print_row};
 use lock_free::mpmc::robust_unique_index_set;
 use lock_free::mpmc::robust_unique_index_set::{
@@ -21,6 +21,7 @@ use std::time::CpuClock;
 struct Unique {
     set: UniqueIndexSet,
     pass: Pass,
+    calls: unique::Calls,
     ghost of: { of_unique.IsPassOf set pass },
 }
 
@@ -45,36 +46,29 @@ fn release_unique(set: &UniqueIndexSet, index: u32, pass: &mut Pass)
     set.release_raw_index(index, pass);
 }
 
-/// Takes an index, and gives it back.
-impl Timed for Unique {
-    fn call<R: Wait>(&mut self, rt: &R) -> u64 {
-        match acquire_unique(rt, &self.set, &mut self.pass) {
-            Some(index) => {
-                release_unique(&self.set, index, &mut self.pass);
-                index as u64
-            }
-            None => 1 << 32,
-        }
-    }
-}
-
-/// Asks how many are out.
-#[derive(Drop)]
-struct UniqueBorrowed {
-    of: Unique,
-}
-
-impl UniqueBorrowed {
+impl Unique {
     #[inline(never)]
     fn borrowed_indices(&mut self) -> usize {
-        let of = &mut self.of;
-        of.set.borrowed_indices(&mut of.pass)
+        self.set.borrowed_indices(&mut self.pass)
     }
 }
 
-impl Timed for UniqueBorrowed {
-    fn call<R: Wait>(&mut self, _rt: &R) -> u64 {
-        self.borrowed_indices() as u64
+impl Timed for Unique {
+    fn call<R: Wait>(&mut self, rt: &R) -> u64 {
+        match self.calls {
+            unique::Calls::AcquireAndRelease => match acquire_unique(
+                rt,
+                &self.set,
+                &mut self.pass,
+            ) {
+                Some(index) => {
+                    release_unique(&self.set, index, &mut self.pass);
+                    index as u64
+                }
+                None => 1 << 32,
+            },
+            unique::Calls::BorrowedIndices => self.borrowed_indices() as u64,
+        }
     }
 }
 
@@ -85,6 +79,7 @@ struct Robust {
     pass: robust_unique_index_set::Pass,
     owner: OwnerId,
     dead: OwnerId,
+    calls: robust::Calls,
     ghost of: { of_robust.IsPassOf set pass },
 }
 
@@ -140,149 +135,71 @@ impl Robust {
     }
 }
 
-/// Takes an index, and gives it back.
 impl Timed for Robust {
     fn call<R: Wait>(&mut self, rt: &R) -> u64 {
-        match self.acquire(rt) {
-            Some(index) => self.release(rt, index) as u64,
-            None => 2,
+        match self.calls {
+            robust::Calls::AcquireAndRelease => match self.acquire(rt) {
+                Some(index) => self.release(rt, index) as u64,
+                None => 2,
+            },
+            robust::Calls::BorrowedIndices => self.borrowed_indices(rt) as u64,
+            robust::Calls::Find => self.find(),
+            robust::Calls::Recover => self.recover(rt) as u64,
         }
     }
 }
 
-/// Asks how many are out.
-#[derive(Drop)]
-struct RobustBorrowed {
-    of: Robust,
-}
-
-impl Timed for RobustBorrowed {
-    fn call<R: Wait>(&mut self, rt: &R) -> u64 {
-        self.of.borrowed_indices(rt) as u64
-    }
-}
-
-/// Finds what an owner has.
-#[derive(Drop)]
-struct Finds {
-    of: Robust,
-}
-
-impl Timed for Finds {
-    fn call<R: Wait>(&mut self, _rt: &R) -> u64 {
-        self.of.find()
-    }
-}
-
-/// Frees what a dead owner has.
-#[derive(Drop)]
-struct Recovers {
-    of: Robust,
-}
-
-impl Timed for Recovers {
-    fn call<R: Wait>(&mut self, rt: &R) -> u64 {
-        self.of.recover(rt) as u64
-    }
-}
-
-/// A unique index set of which no index is out.
-fn new_unique(alloc: Global, capacity: u32) -> Result<Unique, BenchError> {
+/// Prints a row of the unique index set, of which no index is out.
+fn unique_row<R: Wait + CpuClock + Print>(
+    rt: &R,
+    alloc: Global,
+    row: &Row<'_>,
+    capacity: u32,
+    calls: unique::Calls,
+) -> Result<(), BenchError> {
     let (set, pass) = UniqueIndexSet::new(alloc, capacity as usize)?;
-    Ok(Unique { set, pass })
+    let mut driven = Unique { set, pass, calls };
+    let mut hand = unique::Unique::new(alloc, capacity, calls)?;
+    print_row(rt, row, &mut driven, &mut hand)?;
+    Ok(())
 }
 
 /// A robust set of which no index is out.
-fn new_robust(alloc: Global, capacity: u32) -> Result<Robust, BenchError> {
-    let (set, pass) = RobustUniqueIndexSet::new(alloc, capacity as usize)?;
+fn new_robust(alloc: Global, capacity: u32, calls: robust::Calls) -> Result<Robust, BenchError> {
     let Ok(owner) = OwnerId::new(7) else {
         return Err(BenchError::Taken);
     };
     let Ok(dead) = OwnerId::new(9) else {
         return Err(BenchError::Taken);
     };
+    let (set, pass) = RobustUniqueIndexSet::new(alloc, capacity as usize)?;
     Ok(Robust {
         set,
         pass,
         owner,
         dead,
+        calls,
     })
 }
 
-/// The rows of the robust set at this capacity.
-fn robust_rows<R: Wait + CpuClock + Print>(
+/// Prints a row of the robust set, of which no index is out, or each.
+fn robust_row<R: Wait + CpuClock + Print>(
     rt: &R,
     alloc: Global,
-    wanted: &str,
+    row: &Row<'_>,
     capacity: u32,
+    is_full: bool,
+    calls: robust::Calls,
 ) -> Result<(), BenchError> {
-    let cells = capacity as u64;
-    let empty = u64::MAX;
-    let about = Row {
-        name: "robust index set: acquire and release",
-        capacity: cells,
-        steps: 7,
-    };
-    if about.is_wanted(wanted) {
-        let mut driven = new_robust(alloc, capacity)?;
-        let mut by_hand = hand::robust::Robust::new(alloc, capacity, empty)?;
-        print_row(rt, &about, &mut driven, &mut by_hand)?;
-    }
-    let about = Row {
-        name: "robust index set: acquire, none is left",
-        capacity: cells,
-        steps: cells + 2,
-    };
-    if about.is_wanted(wanted) {
-        let mut driven = new_robust(alloc, capacity)?;
+    let mut driven = new_robust(alloc, capacity, calls)?;
+    let in_each = if is_full { 7 } else { robust::EMPTY };
+    let mut hand = robust::Robust::new(alloc, capacity, in_each, calls)?;
+    if is_full {
         for _ in 0..capacity {
             driven.acquire(rt);
         }
-        let mut by_hand = hand::robust::Robust::new(alloc, capacity, 7)?;
-        print_row(rt, &about, &mut driven, &mut by_hand)?;
     }
-    let about = Row {
-        name: "robust index set: borrowed_indices",
-        capacity: cells,
-        steps: cells + 2,
-    };
-    if about.is_wanted(wanted) {
-        let mut driven = RobustBorrowed {
-            of: new_robust(alloc, capacity)?,
-        };
-        let mut by_hand = hand::robust::Borrowed {
-            set: hand::robust::Robust::new(alloc, capacity, empty)?,
-        };
-        print_row(rt, &about, &mut driven, &mut by_hand)?;
-    }
-    let about = Row {
-        name: "robust index set: find, of nothing",
-        capacity: cells,
-        steps: cells,
-    };
-    if about.is_wanted(wanted) {
-        let mut driven = Finds {
-            of: new_robust(alloc, capacity)?,
-        };
-        let mut by_hand = hand::robust::Finds {
-            set: hand::robust::Robust::new(alloc, capacity, empty)?,
-        };
-        print_row(rt, &about, &mut driven, &mut by_hand)?;
-    }
-    let about = Row {
-        name: "robust index set: recover, of nothing",
-        capacity: cells,
-        steps: cells + 2,
-    };
-    if about.is_wanted(wanted) {
-        let mut driven = Recovers {
-            of: new_robust(alloc, capacity)?,
-        };
-        let mut by_hand = hand::robust::Recovers {
-            set: hand::robust::Robust::new(alloc, capacity, empty)?,
-        };
-        print_row(rt, &about, &mut driven, &mut by_hand)?;
-    }
+    print_row(rt, row, &mut driven, &mut hand)?;
     Ok(())
 }
 
@@ -292,34 +209,83 @@ pub fn rows<R: Wait + CpuClock + Print>(
     alloc: Global,
     wanted: &str,
 ) -> Result<(), BenchError> {
-    for capacity in [64u32, 65536] {
-        let about = Row {
-            name: "unique index set: acquire and release",
-            capacity: capacity as u64,
-            steps: 8,
-        };
-        if about.is_wanted(wanted) {
-            let mut driven = new_unique(alloc, capacity)?;
-            let mut by_hand = hand::unique::Unique::new(alloc, capacity)?;
-            print_row(rt, &about, &mut driven, &mut by_hand)?;
+    let all = [
+        (
+            "unique index set: acquire and release",
+            unique::Calls::AcquireAndRelease,
+            8,
+        ),
+        (
+            "unique index set: borrowed_indices",
+            unique::Calls::BorrowedIndices,
+            1,
+        ),
+    ];
+    for (name, calls, steps) in all {
+        for capacity in [64u32, 65536] {
+            let row = Row {
+                name,
+                capacity: capacity as u64,
+                steps,
+            };
+            if row.is_wanted(wanted) {
+                unique_row(rt, alloc, &row, capacity, calls)?;
+            }
         }
     }
-    let about = Row {
-        name: "unique index set: borrowed_indices",
-        capacity: 64,
-        steps: 1,
-    };
-    if about.is_wanted(wanted) {
-        let mut driven = UniqueBorrowed {
-            of: new_unique(alloc, 64)?,
-        };
-        let mut by_hand = hand::unique::Borrowed {
-            set: hand::unique::Unique::new(alloc, 64)?,
-        };
-        print_row(rt, &about, &mut driven, &mut by_hand)?;
-    }
+    robust_rows(rt, alloc, wanted)
+}
+
+/// The rows of the robust set.
+fn robust_rows<R: Wait + CpuClock + Print>(
+    rt: &R,
+    alloc: Global,
+    wanted: &str,
+) -> Result<(), BenchError> {
     for capacity in [8u32, 64, 1024] {
-        robust_rows(rt, alloc, wanted, capacity)?;
+        let cells = capacity as u64;
+        let all = [
+            (
+                "robust index set: acquire and release",
+                false,
+                robust::Calls::AcquireAndRelease,
+                7,
+            ),
+            (
+                "robust index set: acquire, none is left",
+                true,
+                robust::Calls::AcquireAndRelease,
+                cells + 2,
+            ),
+            (
+                "robust index set: borrowed_indices",
+                false,
+                robust::Calls::BorrowedIndices,
+                cells + 2,
+            ),
+            (
+                "robust index set: find, of nothing",
+                false,
+                robust::Calls::Find,
+                cells,
+            ),
+            (
+                "robust index set: recover, of nothing",
+                false,
+                robust::Calls::Recover,
+                cells + 2,
+            ),
+        ];
+        for (name, is_full, calls, steps) in all {
+            let row = Row {
+                name,
+                capacity: cells,
+                steps,
+            };
+            if row.is_wanted(wanted) {
+                robust_row(rt, alloc, &row, capacity, is_full, calls)?;
+            }
+        }
     }
     Ok(())
 }

@@ -4,6 +4,7 @@
 
 mod alone;
 mod bits;
+mod container;
 mod error;
 mod hand;
 mod indices;
@@ -23,7 +24,8 @@ fn rows<R: Wait + CpuClock + Print>(rt: &R, alloc: Global, wanted: &str) -> Resu
     queues::rows(rt, alloc, wanted)?;
     value::rows(rt, alloc, wanted)?;
     bits::rows(rt, alloc, wanted)?;
-    indices::rows(rt, alloc, wanted)
+    indices::rows(rt, alloc, wanted)?;
+    container::rows(rt, alloc, wanted)
 }
 
 fn main(rt: HostRuntime) -> io::Result<()> {

@@ -123,6 +123,106 @@ impl Timed for Length {
     }
 }
 
+/// Prints the row of a push and a pop of the index queue.
+fn numbers_row<R: Wait + CpuClock + Print>(
+    rt: &R,
+    alloc: Global,
+    row: &Row<'_>,
+    capacity: u32,
+) -> Result<(), BenchError> {
+    let (queue, mut mine) = IndexQueue::new(alloc, capacity as usize)?;
+    let other = mine.split().ok_or(BenchError::Taken)?;
+    let Ok(producer) = queue.acquire_producer(mine) else {
+        return Err(BenchError::Taken);
+    };
+    let Ok(consumer) = queue.acquire_consumer(other) else {
+        return Err(BenchError::Taken);
+    };
+    let mut driven = Numbers {
+        producer,
+        consumer,
+        next: 0,
+    };
+    let mut by_hand = hand::queues::Numbers::new(alloc, capacity, false)?;
+    print_row(rt, row, &mut driven, &mut by_hand)?;
+    Ok(())
+}
+
+/// Prints the row of the length of the index queue.
+fn length_row<R: Wait + CpuClock + Print>(
+    rt: &R,
+    alloc: Global,
+    row: &Row<'_>,
+) -> Result<(), BenchError> {
+    let (queue, pass) = IndexQueue::new(alloc, 64)?;
+    let mut driven = Length { queue, pass };
+    let mut by_hand = hand::queues::Numbers::new(alloc, 64, true)?;
+    print_row(rt, row, &mut driven, &mut by_hand)?;
+    Ok(())
+}
+
+/// Prints the row of a queue of pairs.
+fn pairs_row<const CAPACITY: usize, R: Wait + CpuClock + Print>(
+    rt: &R,
+    alloc: Global,
+    wanted: &str,
+) -> Result<(), BenchError>
+    requires { CAPACITY < 2 ^ 32 }
+{
+    let row = Row {
+        name: "queue of pairs: push and pop",
+        capacity: CAPACITY as u64,
+        steps: 10,
+    };
+    if !row.is_wanted(wanted) {
+        return Ok(());
+    }
+    let (queue, mut mine) = Queue::<(u64, u64), CAPACITY>::new(alloc)?;
+    let other = mine.split().ok_or(BenchError::Taken)?;
+    let Ok(producer) = queue.acquire_producer(mine) else {
+        return Err(BenchError::Taken);
+    };
+    let Ok(consumer) = queue.acquire_consumer(other) else {
+        return Err(BenchError::Taken);
+    };
+    let mut driven = Pairs {
+        producer,
+        consumer,
+        next: 0,
+    };
+    let mut by_hand = hand::pairs::Pairs::new(alloc, CAPACITY as u32)?;
+    print_row(rt, &row, &mut driven, &mut by_hand)?;
+    Ok(())
+}
+
+/// Prints the row of an overflowing queue, which is full before the first call.
+fn overflowing_row<R: Wait + CpuClock + Print>(
+    rt: &R,
+    alloc: Global,
+    row: &Row<'_>,
+    capacity: u32,
+) -> Result<(), BenchError> {
+    let (queue, mut mine) = overflow::SafelyOverflowingIndexQueue::new(alloc, capacity as usize)?;
+    let other = mine.split().ok_or(BenchError::Taken)?;
+    let Ok(producer) = queue.acquire_producer(mine) else {
+        return Err(BenchError::Taken);
+    };
+    let Ok(consumer) = queue.acquire_consumer(other) else {
+        return Err(BenchError::Taken);
+    };
+    let mut driven = Overflowing {
+        producer,
+        consumer,
+        next: 0,
+    };
+    for _ in 0..capacity {
+        driven.producer.push(0);
+    }
+    let mut by_hand = hand::pairs::Overflowing::full(alloc, capacity)?;
+    print_row(rt, row, &mut driven, &mut by_hand)?;
+    Ok(())
+}
+
 /// The rows whose names begin so.
 pub fn rows<R: Wait + CpuClock + Print>(
     rt: &R,
@@ -130,112 +230,33 @@ pub fn rows<R: Wait + CpuClock + Print>(
     wanted: &str,
 ) -> Result<(), BenchError> {
     for capacity in [8u32, 64, 1024, 65536] {
-        let about = Row {
+        let row = Row {
             name: "index queue: push and pop",
             capacity: capacity as u64,
             steps: 8,
         };
-        if about.is_wanted(wanted) {
-            let (queue, mut mine) = IndexQueue::new(alloc, capacity as usize)?;
-            let other = mine.split().ok_or(BenchError::Taken)?;
-            let Ok(producer) = queue.acquire_producer(mine) else {
-                return Err(BenchError::Taken);
-            };
-            let Ok(consumer) = queue.acquire_consumer(other) else {
-                return Err(BenchError::Taken);
-            };
-            let mut driven = Numbers {
-                producer,
-                consumer,
-                next: 0,
-            };
-            let mut by_hand = hand::queues::Numbers::new(alloc, capacity)?;
-            print_row(rt, &about, &mut driven, &mut by_hand)?;
+        if row.is_wanted(wanted) {
+            numbers_row(rt, alloc, &row, capacity)?;
         }
     }
-    let about = Row {
+    let row = Row {
         name: "index queue: len",
         capacity: 64,
         steps: 4,
     };
-    if about.is_wanted(wanted) {
-        let (queue, pass) = IndexQueue::new(alloc, 64)?;
-        let mut driven = Length { queue, pass };
-        let mut by_hand = hand::queues::Length {
-            queue: hand::queues::Numbers::new(alloc, 64)?,
-        };
-        print_row(rt, &about, &mut driven, &mut by_hand)?;
+    if row.is_wanted(wanted) {
+        length_row(rt, alloc, &row)?;
     }
-    pair_rows::<64, R>(rt, alloc, wanted)?;
-    pair_rows::<65536, R>(rt, alloc, wanted)?;
-    overflowing_rows(rt, alloc, wanted)
-}
-
-fn pair_rows<const CAPACITY: usize, R: Wait + CpuClock + Print>(
-    rt: &R,
-    alloc: Global,
-    wanted: &str,
-) -> Result<(), BenchError>
-    requires { CAPACITY < 2 ^ 32 }
-{
-    let about = Row {
-        name: "queue of pairs: push and pop",
-        capacity: CAPACITY as u64,
-        steps: 10,
-    };
-    if about.is_wanted(wanted) {
-        let (queue, mut mine) = Queue::<(u64, u64), CAPACITY>::new(alloc)?;
-        let other = mine.split().ok_or(BenchError::Taken)?;
-        let Ok(producer) = queue.acquire_producer(mine) else {
-            return Err(BenchError::Taken);
-        };
-        let Ok(consumer) = queue.acquire_consumer(other) else {
-            return Err(BenchError::Taken);
-        };
-        let mut driven = Pairs {
-            producer,
-            consumer,
-            next: 0,
-        };
-        let mut by_hand = hand::pairs::Pairs::new(alloc, CAPACITY as u32)?;
-        print_row(rt, &about, &mut driven, &mut by_hand)?;
-    }
-    Ok(())
-}
-
-fn overflowing_rows<R: Wait + CpuClock + Print>(
-    rt: &R,
-    alloc: Global,
-    wanted: &str,
-) -> Result<(), BenchError> {
+    pairs_row::<64, R>(rt, alloc, wanted)?;
+    pairs_row::<65536, R>(rt, alloc, wanted)?;
     for capacity in [8u32, 64, 1024, 65536] {
-        let about = Row {
+        let row = Row {
             name: "overflowing queue: push into the full one, pop, push",
             capacity: capacity as u64,
             steps: 14,
         };
-        if about.is_wanted(wanted) {
-            let (queue, mut mine) = overflow::SafelyOverflowingIndexQueue::new(
-                alloc,
-                capacity as usize,
-            )?;
-            let other = mine.split().ok_or(BenchError::Taken)?;
-            let Ok(mut producer) = queue.acquire_producer(mine) else {
-                return Err(BenchError::Taken);
-            };
-            let Ok(consumer) = queue.acquire_consumer(other) else {
-                return Err(BenchError::Taken);
-            };
-            for _ in 0..capacity {
-                producer.push(0);
-            }
-            let mut driven = Overflowing {
-                producer,
-                consumer,
-                next: 0,
-            };
-            let mut by_hand = hand::pairs::Overflowing::full(alloc, capacity)?;
-            print_row(rt, &about, &mut driven, &mut by_hand)?;
+        if row.is_wanted(wanted) {
+            overflowing_row(rt, alloc, &row, capacity)?;
         }
     }
     Ok(())

@@ -140,6 +140,35 @@ impl<T: Numbered> Timed for Loads<T> {
     }
 }
 
+/// Prints the row of a store.
+fn store_row<T: Numbered + Drop, const N: usize, R: Wait + CpuClock + Print>(
+    rt: &R,
+    alloc: Global,
+    row: &Row<'_>,
+) -> Result<(), BenchError> {
+    let (value, pass) = UnrestrictedAtomic::new(alloc, T::of(0))?;
+    let Ok(producer) = value.acquire_producer(pass) else {
+        return Err(BenchError::Taken);
+    };
+    let mut driven = Stores { producer, next: 0 };
+    let mut hand = by_hand::Value::<N>::new(alloc, true)?;
+    print_row(rt, row, &mut driven, &mut hand)?;
+    Ok(())
+}
+
+/// Prints the row of a load.
+fn load_row<T: Numbered + Drop, const N: usize, R: Wait + CpuClock + Print>(
+    rt: &R,
+    alloc: Global,
+    row: &Row<'_>,
+) -> Result<(), BenchError> {
+    let (value, pass) = UnrestrictedAtomic::new(alloc, T::of(0))?;
+    let mut driven = Loads { value, pass };
+    let mut hand = by_hand::Value::<N>::new(alloc, false)?;
+    print_row(rt, row, &mut driven, &mut hand)?;
+    Ok(())
+}
+
 /// The rows of a value of so many words.
 fn of_words<T: Numbered + Drop, const N: usize, R: Wait + CpuClock + Print>(
     rt: &R,
@@ -150,35 +179,21 @@ fn of_words<T: Numbered + Drop, const N: usize, R: Wait + CpuClock + Print>(
 ) -> Result<(), BenchError>
     requires { N < 1000 }
 {
-    let about = Row {
+    let row = Row {
         name: stored,
         capacity: 1,
         steps: 2 + N as u64,
     };
-    if about.is_wanted(wanted) {
-        let (value, pass) = UnrestrictedAtomic::new(alloc, T::of(0))?;
-        let Ok(producer) = value.acquire_producer(pass) else {
-            return Err(BenchError::Taken);
-        };
-        let mut driven = Stores { producer, next: 0 };
-        let mut hand = by_hand::Stores {
-            value: by_hand::Value::<N>::new(alloc)?,
-            next: 0,
-        };
-        print_row(rt, &about, &mut driven, &mut hand)?;
+    if row.is_wanted(wanted) {
+        store_row::<T, N, R>(rt, alloc, &row)?;
     }
-    let about = Row {
+    let row = Row {
         name: loaded,
         capacity: 1,
         steps: 2 + N as u64,
     };
-    if about.is_wanted(wanted) {
-        let (value, pass) = UnrestrictedAtomic::new(alloc, T::of(0))?;
-        let mut driven = Loads { value, pass };
-        let mut hand = by_hand::Loads {
-            value: by_hand::Value::<N>::new(alloc)?,
-        };
-        print_row(rt, &about, &mut driven, &mut hand)?;
+    if row.is_wanted(wanted) {
+        load_row::<T, N, R>(rt, alloc, &row)?;
     }
     Ok(())
 }

@@ -6,6 +6,17 @@ use crate::timing::Timed;
 use std::alloc::{AllocError, Global};
 use std::sync::Wait;
 
+/// The calls on a bit set that are timed.
+#[derive(Clone, Copy)]
+pub enum Calls {
+    /// Sets a place, and resets the next one that stands, which it is.
+    SetAndResetNext,
+    /// Looks in vain for a place that stands.
+    ResetNext,
+    /// Sets a place, and resets all.
+    SetAndResetAll,
+}
+
 /// A bit set: the reset position, and 64 flags to a word.
 #[derive(Drop)]
 pub struct Bits {
@@ -13,6 +24,7 @@ pub struct Bits {
     capacity: u32,
     elements: u32,
     next: u32,
+    calls: Calls,
     ghost some: { 0 < capacity },
     ghost all: { capacity ≤ 64 * elements },
     ghost sized: { words.size ≡ 1 + elements },
@@ -20,7 +32,7 @@ pub struct Bits {
 
 impl Bits {
     /// One of which no place stands.
-    pub fn new(alloc: Global, capacity: u32) -> Result<Bits, AllocError> {
+    pub fn new(alloc: Global, capacity: u32, calls: Calls) -> Result<Bits, AllocError> {
         if capacity == 0 {
             return Err(AllocError);
         }
@@ -32,11 +44,12 @@ impl Bits {
             capacity,
             elements,
             next: 0,
+            calls,
         })
     }
 
     #[inline(never)]
-    pub fn set<R: Wait>(&mut self, rt: &R, place: u32) -> bool {
+    fn set<R: Wait>(&mut self, rt: &R, place: u32) -> bool {
         if place >= self.capacity {
             return false;
         }
@@ -122,50 +135,28 @@ impl Bits {
     }
 }
 
-/// Sets a place, and resets the next one that stands, which it is.
-#[derive(Drop)]
-pub struct SetsAndResets {
-    pub set: Bits,
-}
-
-impl Timed for SetsAndResets {
+impl Timed for Bits {
     fn call<R: Wait>(&mut self, rt: &R) -> u64 {
-        let next = self.set.next;
-        self.set.next = if (next as u64) + 1 < self.set.capacity as u64 {
-            next + 1
-        } else {
-            0
-        };
-        let set = self.set.set(rt, next);
-        match self.set.reset_next(rt) {
-            Some(place) if set => place as u64,
-            _ => 0,
+        match self.calls {
+            Calls::SetAndResetNext => {
+                let next = self.next;
+                self.next = if (next as u64) + 1 < self.capacity as u64 {
+                    next + 1
+                } else {
+                    0
+                };
+                let set = self.set(rt, next);
+                match self.reset_next(rt) {
+                    Some(place) if set => place as u64,
+                    _ => 0,
+                }
+            }
+            Calls::ResetNext => self.reset_next(rt).is_some() as u64,
+            Calls::SetAndResetAll => {
+                self.set(rt, 5);
+                self.reset_all()
+            }
         }
-    }
-}
-
-/// Looks in vain for a place that stands.
-#[derive(Drop)]
-pub struct ResetsNone {
-    pub set: Bits,
-}
-
-impl Timed for ResetsNone {
-    fn call<R: Wait>(&mut self, rt: &R) -> u64 {
-        self.set.reset_next(rt).is_some() as u64
-    }
-}
-
-/// Sets a place, and resets all.
-#[derive(Drop)]
-pub struct ResetsAll {
-    pub set: Bits,
-}
-
-impl Timed for ResetsAll {
-    fn call<R: Wait>(&mut self, rt: &R) -> u64 {
-        self.set.set(rt, 5);
-        self.set.reset_all()
     }
 }
 
@@ -174,15 +165,20 @@ impl Timed for ResetsAll {
 pub struct Counts {
     words: Words,
     capacity: u32,
+    takes_all: bool,
     ghost sized: { words.size ≡ capacity },
 }
 
 impl Counts {
-    /// One in which no place counts.
-    pub fn new(alloc: Global, capacity: u32) -> Result<Counts, AllocError> {
+    /// One in which no place counts. A call counts a place, and may then take all counts out.
+    pub fn new(alloc: Global, capacity: u32, takes_all: bool) -> Result<Counts, AllocError> {
         let numbers = Vec::from_elem(alloc, 0u64, capacity as usize)?;
         let words = Words::new(alloc, numbers.as_slice())?;
-        Ok(Counts { words, capacity })
+        Ok(Counts {
+            words,
+            capacity,
+            takes_all,
+        })
     }
 
     #[inline(never)]
@@ -207,27 +203,13 @@ impl Counts {
     }
 }
 
-/// Counts a place.
-#[derive(Drop)]
-pub struct CountsOne {
-    pub set: Counts,
-}
-
-impl Timed for CountsOne {
+impl Timed for Counts {
     fn call<R: Wait>(&mut self, _rt: &R) -> u64 {
-        self.set.set(5)
-    }
-}
-
-/// Counts a place, and takes all counts out.
-#[derive(Drop)]
-pub struct TakesAll {
-    pub set: Counts,
-}
-
-impl Timed for TakesAll {
-    fn call<R: Wait>(&mut self, _rt: &R) -> u64 {
-        self.set.set(5);
-        self.set.reset_all()
+        let before = self.set(5);
+        if self.takes_all {
+            self.reset_all()
+        } else {
+            before
+        }
     }
 }

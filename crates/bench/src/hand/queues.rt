@@ -15,19 +15,20 @@ pub fn slot(slots: u32, position: u64) -> usize
     (position % slots as u64) as usize
 }
 
-/// A queue of numbers.
+/// A queue of numbers. A call asks for its length, or pushes a number and pops it.
 #[derive(Drop)]
 pub struct Numbers {
     words: Words,
     capacity: u32,
     next: u64,
+    is_measured: bool,
     ghost some: { 0 < capacity },
     ghost sized: { words.size ≡ 4 + capacity },
 }
 
 impl Numbers {
     /// An empty one.
-    pub fn new(alloc: Global, capacity: u32) -> Result<Numbers, AllocError> {
+    pub fn new(alloc: Global, capacity: u32, is_measured: bool) -> Result<Numbers, AllocError> {
         if capacity == 0 {
             return Err(AllocError);
         }
@@ -37,6 +38,7 @@ impl Numbers {
             words,
             capacity,
             next: 0,
+            is_measured,
         })
     }
 
@@ -80,9 +82,11 @@ impl Numbers {
     }
 }
 
-/// A push and a pop.
 impl Timed for Numbers {
-    fn call<R: Wait>(&mut self, _rt: &R) -> u64 {
+    fn call<R: Wait>(&mut self, rt: &R) -> u64 {
+        if self.is_measured {
+            return self.len(rt);
+        }
         self.next = self.next.wrapping_add(1);
         let next = self.next;
         let pushed = self.push(next);
@@ -90,17 +94,5 @@ impl Timed for Numbers {
             Some(value) if pushed => value,
             _ => 0,
         }
-    }
-}
-
-/// A queue of which the length is asked.
-#[derive(Drop)]
-pub struct Length {
-    pub queue: Numbers,
-}
-
-impl Timed for Length {
-    fn call<R: Wait>(&mut self, rt: &R) -> u64 {
-        self.queue.len(rt)
     }
 }

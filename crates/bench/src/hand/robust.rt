@@ -6,27 +6,50 @@ use crate::timing::Timed;
 use std::alloc::{AllocError, Global};
 use std::sync::Wait;
 
-const EMPTY: u64 = u64::MAX;
+pub const EMPTY: u64 = u64::MAX;
 
-const LOCKED: u64 = u64::MAX;
+pub const LOCKED: u64 = u64::MAX;
 
-const GREATEST: u64 = u64::MAX - 1;
+pub const GREATEST: u64 = u64::MAX - 1;
+
+/// The calls on a set that are timed.
+#[derive(Clone, Copy)]
+pub enum Calls {
+    /// Takes an index, and gives it back where there was one.
+    AcquireAndRelease,
+    /// Asks how many are out.
+    BorrowedIndices,
+    /// Finds what an owner has.
+    Find,
+    /// Frees what a dead owner has.
+    Recover,
+}
 
 /// A set of indices: the counter, and the owner of each.
 #[derive(Drop)]
 pub struct Robust {
     words: Words,
     capacity: u32,
+    calls: Calls,
     ghost sized: { words.size ≡ 1 + capacity },
 }
 
 impl Robust {
     /// One in which each index has this owner, or `EMPTY`.
-    pub fn new(alloc: Global, capacity: u32, owner: u64) -> Result<Robust, AllocError> {
+    pub fn new(
+        alloc: Global,
+        capacity: u32,
+        owner: u64,
+        calls: Calls,
+    ) -> Result<Robust, AllocError> {
         let mut numbers = Vec::from_elem(alloc, owner, 1 + capacity as usize)?;
         numbers[0] = 0;
         let words = Words::new(alloc, numbers.as_slice())?;
-        Ok(Robust { words, capacity })
+        Ok(Robust {
+            words,
+            capacity,
+            calls,
+        })
     }
 
     /// Raises the counter: false where the set is locked.
@@ -135,48 +158,16 @@ impl Robust {
     }
 }
 
-/// Takes an index, and gives it back.
 impl Timed for Robust {
     fn call<R: Wait>(&mut self, rt: &R) -> u64 {
-        match self.acquire(rt, 7) {
-            Some(index) => self.release(rt, index, 7) as u64,
-            None => 2,
+        match self.calls {
+            Calls::AcquireAndRelease => match self.acquire(rt, 7) {
+                Some(index) => self.release(rt, index, 7) as u64,
+                None => 2,
+            },
+            Calls::BorrowedIndices => self.borrowed_indices(rt),
+            Calls::Find => self.find(7),
+            Calls::Recover => self.recover(rt, 9) as u64,
         }
-    }
-}
-
-/// Asks how many are out.
-#[derive(Drop)]
-pub struct Borrowed {
-    pub set: Robust,
-}
-
-impl Timed for Borrowed {
-    fn call<R: Wait>(&mut self, rt: &R) -> u64 {
-        self.set.borrowed_indices(rt)
-    }
-}
-
-/// Finds what an owner has.
-#[derive(Drop)]
-pub struct Finds {
-    pub set: Robust,
-}
-
-impl Timed for Finds {
-    fn call<R: Wait>(&mut self, _rt: &R) -> u64 {
-        self.set.find(7)
-    }
-}
-
-/// Frees what a dead owner has.
-#[derive(Drop)]
-pub struct Recovers {
-    pub set: Robust,
-}
-
-impl Timed for Recovers {
-    fn call<R: Wait>(&mut self, rt: &R) -> u64 {
-        self.set.recover(rt, 9) as u64
     }
 }

@@ -6,12 +6,22 @@ use crate::timing::Timed;
 use std::alloc::{AllocError, Global};
 use std::sync::Wait;
 
+/// The calls on a set that are timed.
+#[derive(Clone, Copy)]
+pub enum Calls {
+    /// Takes an index, and gives it back.
+    AcquireAndRelease,
+    /// Asks how many are out.
+    BorrowedIndices,
+}
+
 /// A set of indices: the head, a next index for each, and 64 claim flags to a word.
 #[derive(Drop)]
 pub struct Unique {
     words: Words,
     capacity: u32,
     flags: u32,
+    calls: Calls,
     ghost few: { capacity < 2 ^ 24 },
     ghost all: { capacity ≤ 64 * flags },
     ghost sized: { words.size ≡ 1 + capacity + flags },
@@ -19,7 +29,7 @@ pub struct Unique {
 
 impl Unique {
     /// One of which no index is out.
-    pub fn new(alloc: Global, capacity: u32) -> Result<Unique, AllocError> {
+    pub fn new(alloc: Global, capacity: u32, calls: Calls) -> Result<Unique, AllocError> {
         if capacity >= 0x100_0000 {
             return Err(AllocError);
         }
@@ -33,6 +43,7 @@ impl Unique {
             words,
             capacity,
             flags,
+            calls,
         })
     }
 
@@ -107,27 +118,17 @@ impl Unique {
     }
 }
 
-/// Takes an index, and gives it back.
 impl Timed for Unique {
     fn call<R: Wait>(&mut self, rt: &R) -> u64 {
-        match self.acquire(rt) {
-            Some(index) => {
-                self.release(index);
-                index as u64
-            }
-            None => 1 << 32,
+        match self.calls {
+            Calls::AcquireAndRelease => match self.acquire(rt) {
+                Some(index) => {
+                    self.release(index);
+                    index as u64
+                }
+                None => 1 << 32,
+            },
+            Calls::BorrowedIndices => self.borrowed_indices(),
         }
-    }
-}
-
-/// Asks how many are out.
-#[derive(Drop)]
-pub struct Borrowed {
-    pub set: Unique,
-}
-
-impl Timed for Borrowed {
-    fn call<R: Wait>(&mut self, _rt: &R) -> u64 {
-        self.set.borrowed_indices()
     }
 }

@@ -6,24 +6,30 @@ use crate::timing::Timed;
 use std::alloc::{AllocError, Global};
 use std::sync::Wait;
 
-/// A value of so many words.
+/// A value of so many words. A call stores it or loads it.
 #[derive(Drop)]
 pub struct Value<const N: usize> {
     words: Words,
+    next: u64,
+    stores: bool,
     ghost some: { (0 < N) × (N < 1000) },
     ghost sized: { words.size ≡ 2 + (N + N) },
 }
 
 impl<const N: usize> Value<N> {
     /// One of zeros, at version 1.
-    pub fn new(alloc: Global) -> Result<Value<N>, AllocError> {
+    pub fn new(alloc: Global, stores: bool) -> Result<Value<N>, AllocError> {
         if N == 0 || N >= 1000 {
             return Err(AllocError);
         }
         let mut numbers = Vec::from_elem(alloc, 0u64, 2 + (N + N))?;
         numbers[0] = 1;
         let words = Words::new(alloc, numbers.as_slice())?;
-        Ok(Value { words })
+        Ok(Value {
+            words,
+            next: 0,
+            stores,
+        })
     }
 
     /// The first word of the cell in which the value of this version stands.
@@ -68,30 +74,14 @@ impl<const N: usize> Value<N> {
     }
 }
 
-/// Stores a value.
-#[derive(Drop)]
-pub struct Stores<const N: usize> {
-    pub value: Value<N>,
-    pub next: u64,
-}
-
-impl<const N: usize> Timed for Stores<N> {
-    fn call<R: Wait>(&mut self, _rt: &R) -> u64 {
-        self.next = self.next.wrapping_add(1);
-        let words = [self.next; N];
-        self.value.store(&words) as u64
-    }
-}
-
-/// Loads the value.
-#[derive(Drop)]
-pub struct Loads<const N: usize> {
-    pub value: Value<N>,
-}
-
-impl<const N: usize> Timed for Loads<N> {
+impl<const N: usize> Timed for Value<N> {
     fn call<R: Wait>(&mut self, rt: &R) -> u64 {
-        let value = self.value.load(rt);
+        if self.stores {
+            self.next = self.next.wrapping_add(1);
+            let words = [self.next; N];
+            return self.store(&words) as u64;
+        }
+        let value = self.load(rt);
         if N > 0 { value[0] } else { 0 }
     }
 }
