@@ -1,16 +1,15 @@
 //! Rows of the bit set and of the counting bit set of one caller.
+use crate::rows::{Does, NO, NONE, REFUSED, YES, perhaps, play};
 use plain::{BitSet, CountingBitSet};
-use std::process::Abort;
 use std::test::Fail;
 use steps::enums::UniqueIndexCreationError;
 
-/// A call on a bit set, and what it answers.
-#[derive(Clone, Copy)]
-enum Row {
-    Set(usize, bool),
-    Next(Option<usize>),
+/// A call on a bit set.
+pub enum BitCall {
+    Set(usize),
+    Next,
     /// The places that the closure is called with, each as three digits.
-    All(u64),
+    All,
 }
 
 /// The places that an emptying hands out, each as three digits.
@@ -21,79 +20,112 @@ fn empties(set: &mut BitSet) -> u64 {
     digits
 }
 
-/// Makes these calls.
-fn plays(rt: &impl Abort, mut set: BitSet, rows: &[Row]) {
-    for (at, row) in rows.iter().enumerate() {
-        let right = match *row {
-            Row::Set(place, new) => place < set.capacity() && set.set(place) == new,
-            Row::Next(place) => set.reset_next() == place,
-            Row::All(digits) => empties(&mut set) == digits,
-        };
-        assert!(rt; right, "row {at}");
+fn sets(set: &mut BitSet, place: usize) -> u64 {
+    if place < set.capacity() {
+        set.set(place) as u64
+    } else {
+        REFUSED
     }
 }
+
+impl Does<BitCall> for BitSet {
+    fn does(&mut self, call: &BitCall) -> u64 {
+        match *call {
+            BitCall::Set(place) => sets(self, place),
+            BitCall::Next => perhaps(self.reset_next()),
+            BitCall::All => empties(self),
+        }
+    }
+}
+
+const BIT_ROWS: [(BitCall, u64); 18] = [
+    (BitCall::Set(1), YES),
+    (BitCall::Set(3), YES),
+    (BitCall::Next, 1),
+    (BitCall::Set(1), YES),
+    (BitCall::Next, 3),
+    (BitCall::Next, 1),
+    (BitCall::Next, NONE),
+    (BitCall::Set(122), YES),
+    (BitCall::Set(122), NO),
+    (BitCall::Set(123), REFUSED),
+    (BitCall::Set(64), YES),
+    (BitCall::Set(63), YES),
+    (BitCall::Set(1), YES),
+    (BitCall::All, 1_063_064_122),
+    (BitCall::All, 0),
+    (BitCall::Set(1), YES),
+    (BitCall::Set(2), YES),
+    // the search goes on where it was before the emptying
+    (BitCall::Next, 2),
+];
+
+const NO_BIT: [(BitCall, u64); 1] = [(BitCall::Next, NONE)];
 
 #[test]
 fn bit_sets(rt: HostRuntime) -> Result<(), Fail> {
-    let set = BitSet::new(rt.alloc(), 123)?;
-    let rows = [
-        Row::Set(1, true),
-        Row::Set(3, true),
-        Row::Next(Some(1)),
-        Row::Set(1, true),
-        Row::Next(Some(3)),
-        Row::Next(Some(1)),
-        Row::Next(None),
-        Row::Set(122, true),
-        Row::Set(122, false),
-        Row::Set(64, true),
-        Row::Set(63, true),
-        Row::Set(1, true),
-        Row::All(1_063_064_122),
-        Row::All(0),
-        Row::Set(1, true),
-        Row::Set(2, true),
-        // the search goes on where it was before the emptying
-        Row::Next(Some(2)),
-    ];
-    plays(&rt, set, &rows);
-    assert_eq!(rt; BitSet::new(rt.alloc(), 0)?.reset_next(), None);
+    for (capacity, rows) in [(123, &BIT_ROWS[..]), (0, &NO_BIT[..])] {
+        let mut set = BitSet::new(rt.alloc(), capacity)?;
+        play(&rt, &mut set, rows);
+    }
     Ok(())
 }
 
-/// What an emptying hands out: how many places with a count, the sum of these places, and that of their counts.
-#[tactic(auto, using(plain::proofs::Visits::takes_any))]
-fn takes_out(set: &mut CountingBitSet) -> (u64, u64, u64) {
-    let (mut number, mut places, mut counts) = (0u64, 0u64, 0u64);
-    set.reset_all(|state| {
-        number = number.wrapping_add(1);
-        places = places.wrapping_add(state.bit() as u64);
-        counts = counts.wrapping_add(state.count());
-    });
-    (number, places, counts)
+/// A call on a counting bit set.
+pub enum CountCall {
+    Set(usize),
+    /// How many places with a count are handed out, the sum of these places, and that of their counts: each as six
+    /// digits.
+    All,
 }
 
-/// The count that the place had; None past the capacity.
-fn counts(set: &mut CountingBitSet, place: usize) -> Option<u64> {
+/// What an emptying hands out.
+#[tactic(auto, using(plain::proofs::Visits::takes_any))]
+fn takes_out(set: &mut CountingBitSet) -> u64 {
+    let mut digits = 0u64;
+    set.reset_all(|state| {
+        digits = digits
+            .wrapping_add(1_000_000_000_000)
+            .wrapping_add((state.bit() as u64).wrapping_mul(1_000_000))
+            .wrapping_add(state.count());
+    });
+    digits
+}
+
+fn counts(set: &mut CountingBitSet, place: usize) -> u64 {
     if place < set.capacity() {
-        Some(set.set(place))
+        set.set(place)
     } else {
-        None
+        REFUSED
     }
 }
+
+impl Does<CountCall> for CountingBitSet {
+    fn does(&mut self, call: &CountCall) -> u64 {
+        match *call {
+            CountCall::Set(place) => counts(self, place),
+            CountCall::All => takes_out(self),
+        }
+    }
+}
+
+const COUNT_ROWS: [(CountCall, u64); 10] = [
+    (CountCall::Set(5), 0),
+    (CountCall::Set(5), 1),
+    (CountCall::Set(123), REFUSED),
+    (CountCall::All, 1_000_005_000_002),
+    (CountCall::All, 0),
+    (CountCall::Set(122), 0),
+    (CountCall::Set(0), 0),
+    (CountCall::Set(122), 1),
+    (CountCall::Set(122), 2),
+    (CountCall::All, 2_000_122_000_004),
+];
 
 #[test]
 fn counting_bit_sets(rt: HostRuntime) -> Result<(), Fail> {
     let mut set = CountingBitSet::new(rt.alloc(), 123)?;
-    for (place, count) in [(5, Some(0)), (5, Some(1)), (123, None)] {
-        assert_eq!(rt; counts(&mut set, place), count);
-    }
-    assert_eq!(rt; takes_out(&mut set), (1, 5, 2));
-    assert_eq!(rt; takes_out(&mut set), (0, 0, 0));
-    for (place, count) in [(122, 0), (0, 0), (122, 1), (122, 2)] {
-        assert_eq!(rt; counts(&mut set, place), Some(count));
-    }
-    assert_eq!(rt; takes_out(&mut set), (2, 122, 4));
+    play(&rt, &mut set, &COUNT_ROWS);
     assert_eq!(rt; CountingBitSet::max_count(), u64::MAX);
     Ok(())
 }
@@ -103,9 +135,9 @@ fn counting_bit_sets(rt: HostRuntime) -> Result<(), Fail> {
 fn many_counts(rt: HostRuntime) -> Result<(), Fail> {
     let mut set = CountingBitSet::new(rt.alloc(), 3)?;
     for count in 0..100_000 {
-        assert_eq!(rt; counts(&mut set, 1), Some(count));
+        assert_eq!(rt; counts(&mut set, 1), count);
     }
-    assert_eq!(rt; takes_out(&mut set), (1, 1, 100_000));
+    assert_eq!(rt; takes_out(&mut set), 1_000_001_100_000);
     Ok(())
 }
 

@@ -6,13 +6,13 @@ mod bits;
 #[cfg(test)]
 mod container;
 #[cfg(test)]
-mod greatest;
-#[cfg(test)]
 mod owners;
 #[cfg(test)]
 mod queues;
 #[cfg(test)]
 mod robust;
+#[cfg(test)]
+mod rows;
 #[cfg(test)]
 mod sets;
 #[cfg(test)]

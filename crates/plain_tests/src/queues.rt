@@ -1,172 +1,173 @@
 //! Rows of the queues of one caller.
+use crate::rows::{Does, NO, NONE, YES, play};
+use long_values::numbered::Numbered;
 use plain::{IndexQueue, Queue, SafelyOverflowingIndexQueue};
+use std::alloc::Global;
 use std::process::Abort;
 use std::test::Fail;
 use steps::enums::UniqueIndexCreationError;
 
-/// A call of the bounded queue, and what it answers.
-enum Row {
-    Push(u64, bool),
-    Pop(Option<u64>),
+/// A call. Values are numbers.
+pub enum Call {
+    /// Whether it was taken; of an overflowing queue the number that is handed back.
+    Push(u64),
+    Pop,
+    /// How many values wait, whether none does, and whether it is full: a digit each.
+    Looks,
 }
 
-/// Makes these calls, on a queue of numbers and on one of values of two words.
-fn bounded(
-    rt: &impl Abort,
-    name: &str,
-    mut numbers: IndexQueue,
-    mut values: Queue<(u64, u64)>,
-    rows: &[Row],
-) {
-    for (at, row) in rows.iter().enumerate() {
-        let right = match *row {
-            Row::Push(value, taken) => {
-                numbers.push(value) == taken && values.push((value, !value)) == taken
-            }
-            Row::Pop(value) => numbers.pop() == value && values.pop().map(|v| v.0) == value,
-        };
-        assert!(rt; right, "{name}: row {at}");
+/// Three answers, as digits.
+fn digits(number: usize, empty: bool, full: bool) -> u64 {
+    (number as u64)
+        .wrapping_mul(100)
+        .wrapping_add((empty as u64).wrapping_mul(10))
+        .wrapping_add(full as u64)
+}
+
+fn looks<T: Numbered>(queue: &mut Queue<T>) -> u64 {
+    let number = queue.len();
+    let empty = queue.is_empty();
+    digits(number, empty, queue.is_full())
+}
+
+fn pops<T: Numbered>(queue: &mut Queue<T>) -> u64 {
+    match queue.pop() {
+        Some(value) => value.number(),
+        None => NONE,
     }
 }
 
+impl<T: Numbered> Does<Call> for Queue<T> {
+    fn does(&mut self, call: &Call) -> u64 {
+        match *call {
+            Call::Push(number) => self.push(T::of_number(number)) as u64,
+            Call::Pop => pops(self),
+            Call::Looks => looks(self),
+        }
+    }
+}
+
+fn looks_over(queue: &mut SafelyOverflowingIndexQueue) -> u64 {
+    let number = queue.len();
+    let empty = queue.is_empty();
+    digits(number, empty, queue.is_full())
+}
+
+impl Does<Call> for SafelyOverflowingIndexQueue {
+    fn does(&mut self, call: &Call) -> u64 {
+        match *call {
+            Call::Push(number) => self.push(number).unwrap_or(NONE),
+            Call::Pop => self.pop().unwrap_or(NONE),
+            Call::Looks => looks_over(self),
+        }
+    }
+}
+
+/// Makes these calls on a queue of this capacity, from this position on.
+fn plays<T: Numbered>(
+    rt: &impl Abort,
+    alloc: Global,
+    capacity: usize,
+    position: u64,
+    rows: &[(Call, u64)],
+) -> Result<(), UniqueIndexCreationError> {
+    let mut queue = Queue::<T>::new_at(alloc, capacity, position)?;
+    assert_eq!(rt; queue.capacity(), capacity);
+    play(rt, &mut queue, rows);
+    Ok(())
+}
+
+const NOTHING: [(Call, u64); 2] = [(Call::Push(1), NO), (Call::Pop, NONE)];
+
+const IN_ORDER: [(Call, u64); 8] = [
+    (Call::Push(1), YES),
+    (Call::Push(2), YES),
+    (Call::Push(3), NO),
+    (Call::Pop, 1),
+    (Call::Push(4), YES),
+    (Call::Pop, 2),
+    (Call::Pop, 4),
+    (Call::Pop, NONE),
+];
+
+const LAST_POSITION: [(Call, u64); 4] = [
+    (Call::Push(1), YES),
+    (Call::Push(2), NO),
+    (Call::Pop, 1),
+    (Call::Pop, NONE),
+];
+
+/// On a queue of numbers and on one of values of two words.
 #[test]
 fn index_queues(rt: HostRuntime) -> Result<(), Fail> {
-    for (name, capacity, position, rows) in [
-        (
-            "no capacity",
-            0,
-            0,
-            &[Row::Push(1, false), Row::Pop(None)][..],
-        ),
-        (
-            "in order",
-            2,
-            0,
-            &[
-                Row::Push(1, true),
-                Row::Push(2, true),
-                Row::Push(3, false),
-                Row::Pop(Some(1)),
-                Row::Push(4, true),
-                Row::Pop(Some(2)),
-                Row::Pop(Some(4)),
-                Row::Pop(None),
-            ][..],
-        ),
-        (
-            "no position",
-            2,
-            u64::MAX,
-            &[Row::Push(1, false), Row::Pop(None)][..],
-        ),
-        (
-            "last position",
-            2,
-            u64::MAX - 1,
-            &[
-                Row::Push(1, true),
-                Row::Push(2, false),
-                Row::Pop(Some(1)),
-                Row::Pop(None),
-            ][..],
-        ),
+    for (capacity, position, rows) in [
+        (0, 0, &NOTHING[..]),
+        (2, 0, &IN_ORDER[..]),
+        (2, u64::MAX, &NOTHING[..]),
+        (2, u64::MAX - 1, &LAST_POSITION[..]),
     ] {
-        let numbers = IndexQueue::new_at(rt.alloc(), capacity, position)?;
-        let values = Queue::new_at(rt.alloc(), capacity, position)?;
-        bounded(&rt, name, numbers, values, rows);
+        plays::<u64>(&rt, rt.alloc(), capacity, position, rows)?;
+        plays::<(u64, u64)>(&rt, rt.alloc(), capacity, position, rows)?;
     }
     Ok(())
 }
 
-/// A call of the overflowing queue, and what it answers.
-enum Over {
-    Push(u64, Option<u64>),
-    Pop(Option<u64>),
+const LOOKED: [(Call, u64); 6] = [
+    (Call::Looks, 10),
+    (Call::Push(1 << 26), YES),
+    (Call::Looks, 100),
+    (Call::Push(2), YES),
+    (Call::Looks, 201),
+    (Call::Pop, 1 << 26),
+];
+
+#[test]
+fn looks_of_a_queue(rt: HostRuntime) -> Result<(), Fail> {
+    plays::<u128>(&rt, rt.alloc(), 2, 0, &LOOKED)?;
+    Ok(())
 }
+
+const REPLACES: [(Call, u64); 6] = [
+    (Call::Push(1), NONE),
+    (Call::Push(2), NONE),
+    (Call::Push(3), 1),
+    (Call::Pop, 2),
+    (Call::Pop, 3),
+    (Call::Pop, NONE),
+];
+
+const NO_CAPACITY: [(Call, u64); 2] = [(Call::Push(7), 7), (Call::Pop, NONE)];
+
+const NO_POSITION: [(Call, u64); 2] = [(Call::Push(1), 1), (Call::Pop, NONE)];
+
+const LAST_OVER: [(Call, u64); 4] = [
+    (Call::Push(1), NONE),
+    (Call::Push(2), 2),
+    (Call::Pop, 1),
+    (Call::Pop, NONE),
+];
+
+const LOOKED_OVER: [(Call, u64); 5] = [
+    (Call::Looks, 10),
+    (Call::Push(5), NONE),
+    (Call::Looks, 101),
+    (Call::Push(6), 5),
+    (Call::Looks, 101),
+];
 
 #[test]
 fn overflowing_queues(rt: HostRuntime) -> Result<(), Fail> {
-    for (name, capacity, position, rows) in [
-        (
-            "replaces",
-            2,
-            0,
-            &[
-                Over::Push(1, None),
-                Over::Push(2, None),
-                Over::Push(3, Some(1)),
-                Over::Pop(Some(2)),
-                Over::Pop(Some(3)),
-                Over::Pop(None),
-            ][..],
-        ),
-        (
-            "no capacity",
-            0,
-            0,
-            &[Over::Push(7, Some(7)), Over::Pop(None)][..],
-        ),
-        (
-            "no position",
-            2,
-            u64::MAX,
-            &[Over::Push(1, Some(1)), Over::Pop(None)][..],
-        ),
-        (
-            "last position",
-            1,
-            u64::MAX - 1,
-            &[
-                Over::Push(1, None),
-                Over::Push(2, Some(2)),
-                Over::Pop(Some(1)),
-                Over::Pop(None),
-            ][..],
-        ),
+    for (capacity, position, rows) in [
+        (2, 0, &REPLACES[..]),
+        (0, 0, &NO_CAPACITY[..]),
+        (2, u64::MAX, &NO_POSITION[..]),
+        (1, u64::MAX - 1, &LAST_OVER[..]),
+        (1, 0, &LOOKED_OVER[..]),
     ] {
         let mut queue = SafelyOverflowingIndexQueue::new_at(rt.alloc(), capacity, position)?;
-        for (at, row) in rows.iter().enumerate() {
-            let right = match *row {
-                Over::Push(value, back) => queue.push(value) == back,
-                Over::Pop(value) => queue.pop() == value,
-            };
-            assert!(rt; right, "{name}: row {at}");
-        }
+        assert_eq!(rt; queue.capacity(), capacity);
+        play(&rt, &mut queue, rows);
     }
-    Ok(())
-}
-
-/// Whether the queue takes the value, and the number that waits then, and whether it is empty and full, are these.
-fn takes(queue: &mut Queue<u128>, value: u128, says: (usize, bool, bool)) -> bool {
-    queue.push(value) && (queue.len(), queue.is_empty(), queue.is_full()) == says
-}
-
-/// The same of a push of the overflowing queue that hands this back.
-fn overflows(
-    queue: &mut SafelyOverflowingIndexQueue,
-    value: u64,
-    back: Option<u64>,
-    says: (usize, bool, bool),
-) -> bool {
-    queue.push(value) == back && (queue.len(), queue.is_empty(), queue.is_full()) == says
-}
-
-#[test]
-fn looks(rt: HostRuntime) -> Result<(), Fail> {
-    let mut queue = Queue::new(rt.alloc(), 2)?;
-    assert!(rt; queue.is_empty() && queue.capacity() == 2);
-    assert!(rt; takes(&mut queue, 1 << 90, (1, false, false)));
-    assert!(rt; takes(&mut queue, 2, (2, false, true)));
-    assert_eq!(rt; queue.pop(), Some(1 << 90));
-    Ok(())
-}
-
-#[test]
-fn looks_of_an_overflowing_queue(rt: HostRuntime) -> Result<(), Fail> {
-    let mut queue = SafelyOverflowingIndexQueue::new(rt.alloc(), 1)?;
-    assert!(rt; queue.is_empty() && queue.capacity() == 1);
-    assert!(rt; overflows(&mut queue, 5, None, (1, false, true)));
-    assert!(rt; overflows(&mut queue, 6, Some(5), (1, false, true)));
     Ok(())
 }
 

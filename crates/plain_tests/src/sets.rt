@@ -1,80 +1,100 @@
 //! Rows of the unique index set of one caller.
+use crate::rows::{Does, LOCKED, NO, NONE, OPEN, REFUSED, SHUT, YES, ended, play};
 use plain::UniqueIndexSet;
-use std::process::Abort;
 use std::test::Fail;
 use steps::enums::UniqueIndexCreationError;
-use steps::indices::enums::{ReleaseState, UniqueIndexSetAcquireFailure};
+use steps::indices::enums::UniqueIndexSetAcquireFailure;
 
-type Acquired = Result<u32, UniqueIndexSetAcquireFailure>;
-
-const OUT: Acquired = Err(UniqueIndexSetAcquireFailure::OutOfIndices);
-
-const SHUT: Acquired = Err(UniqueIndexSetAcquireFailure::IsLocked);
-
-/// A call, and what it answers. A release gives back an index that is out.
-enum Row {
-    Acquire(Acquired),
-    Release(u32, ReleaseState),
+/// A call. A release gives back an index that is out.
+pub enum Call {
+    Acquire,
+    Release(u32),
     /// In mode `LockIfLastIndex`.
-    Lock(u32, ReleaseState),
-    IsOut(u32, bool),
-    /// How many indices are out, and whether the set is locked.
-    Looks(usize, bool),
+    Lock(u32),
+    IsOut(u32),
+    /// How many indices are out, and a digit for whether the set is locked.
+    Looks,
 }
 
-/// Makes these calls.
-fn plays(rt: &impl Abort, mut set: UniqueIndexSet, rows: &[Row]) {
-    for (at, row) in rows.iter().enumerate() {
-        let right = match *row {
-            Row::Acquire(acquired) => set.acquire_raw_index() == acquired,
-            Row::Release(index, state) => {
-                set.is_out(index) && set.release_raw_index(index) == state
-            }
-            Row::Lock(index, state) => set.is_out(index) && set.release_or_lock(index) == state,
-            Row::IsOut(index, out) => set.is_out(index) == out,
-            Row::Looks(borrowed, locked) => {
-                set.borrowed_indices() == borrowed && set.is_locked() == locked
-            }
-        };
-        assert!(rt; right, "row {at}");
+fn acquires(set: &mut UniqueIndexSet) -> u64 {
+    match set.acquire_raw_index() {
+        Ok(index) => index as u64,
+        Err(UniqueIndexSetAcquireFailure::OutOfIndices) => NONE,
+        Err(UniqueIndexSetAcquireFailure::IsLocked) => SHUT,
     }
 }
 
-const ROWS: [Row; 12] = [
-    Row::Acquire(Ok(0)),
-    Row::Acquire(Ok(1)),
-    Row::Acquire(Ok(2)),
-    Row::Acquire(OUT),
-    Row::Release(0, ReleaseState::Unlocked),
-    Row::Release(2, ReleaseState::Unlocked),
-    Row::Looks(1, false),
-    Row::IsOut(0, false),
-    Row::IsOut(1, true),
-    Row::IsOut(3, false),
-    Row::Acquire(Ok(2)),
-    Row::Acquire(Ok(0)),
+fn releases(set: &mut UniqueIndexSet, index: u32) -> u64 {
+    if set.is_out(index) {
+        ended(set.release_raw_index(index))
+    } else {
+        REFUSED
+    }
+}
+
+fn locks(set: &mut UniqueIndexSet, index: u32) -> u64 {
+    if set.is_out(index) {
+        ended(set.release_or_lock(index))
+    } else {
+        REFUSED
+    }
+}
+
+fn borrowed(set: &mut UniqueIndexSet) -> u64 {
+    set.borrowed_indices() as u64
+}
+
+fn lockedness(set: &mut UniqueIndexSet) -> u64 {
+    set.is_locked() as u64
+}
+
+fn looks(set: &mut UniqueIndexSet) -> u64 {
+    let number = borrowed(set);
+    number.wrapping_mul(10).wrapping_add(lockedness(set))
+}
+
+impl Does<Call> for UniqueIndexSet {
+    fn does(&mut self, call: &Call) -> u64 {
+        match *call {
+            Call::Acquire => acquires(self),
+            Call::Release(index) => releases(self, index),
+            Call::Lock(index) => locks(self, index),
+            Call::IsOut(index) => self.is_out(index) as u64,
+            Call::Looks => looks(self),
+        }
+    }
+}
+
+const ROWS: [(Call, u64); 12] = [
+    (Call::Acquire, 0),
+    (Call::Acquire, 1),
+    (Call::Acquire, 2),
+    (Call::Acquire, NONE),
+    (Call::Release(0), OPEN),
+    (Call::Release(2), OPEN),
+    (Call::Looks, 10),
+    (Call::IsOut(0), NO),
+    (Call::IsOut(1), YES),
+    (Call::IsOut(3), NO),
+    (Call::Acquire, 2),
+    (Call::Acquire, 0),
+];
+
+const LOCK_ROWS: [(Call, u64); 5] = [
+    (Call::Acquire, 0),
+    (Call::Looks, 10),
+    (Call::Lock(0), LOCKED),
+    (Call::Acquire, SHUT),
+    (Call::Looks, 1),
 ];
 
 #[test]
 fn unique_sets(rt: HostRuntime) -> Result<(), Fail> {
-    let set = UniqueIndexSet::new(rt.alloc(), 3)?;
-    plays(&rt, set, &ROWS);
-    Ok(())
-}
-
-const LOCKED: [Row; 5] = [
-    Row::Acquire(Ok(0)),
-    Row::Looks(1, false),
-    Row::Lock(0, ReleaseState::Locked),
-    Row::Acquire(SHUT),
-    Row::Looks(0, true),
-];
-
-#[test]
-fn locked_sets(rt: HostRuntime) -> Result<(), Fail> {
-    let set = UniqueIndexSet::new(rt.alloc(), 3)?;
-    assert_eq!(rt; set.capacity(), 3);
-    plays(&rt, set, &LOCKED);
+    for rows in [&ROWS[..], &LOCK_ROWS[..]] {
+        let mut set = UniqueIndexSet::new(rt.alloc(), 3)?;
+        assert_eq!(rt; set.capacity(), 3);
+        play(&rt, &mut set, rows);
+    }
     Ok(())
 }
 
