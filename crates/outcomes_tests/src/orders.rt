@@ -15,8 +15,11 @@ use outcomes::progress::Progress;
 use outcomes::search::{Found, Search};
 use outcomes::text::{self, Party, Text};
 use std::alloc::{AllocError, Global};
-use std::test::Fail;
+use std::process::Abort;
 use steps::indices::enums::{ReleaseState, UniqueIndexSetAcquireFailure};
+
+/// The most values of an object in these texts.
+const ROOM: usize = 8;
 
 /// A queue's values, the value that stands, the flags that stand, or the free indices, of a container too, the next one
 /// first.
@@ -24,152 +27,219 @@ use steps::indices::enums::{ReleaseState, UniqueIndexSetAcquireFailure};
 struct Object {
     kind: Kind,
     capacity: usize,
-    items: Vec<u128>,
+    items: [u128; ROOM],
+    len: usize,
+}
+
+fn number(value: u128) -> u64 {
+    (value & 0xffff_ffff_ffff_ffff) as u64
 }
 
 impl Object {
-    fn new(alloc: Global, kind: Kind, capacity: usize) -> Result<Object, AllocError> {
-        let mut items = Vec::new(alloc);
-        match kind {
-            Kind::Atomic => items.push(0)?,
-            Kind::Indices | Kind::Robust | Kind::Container => {
-                for index in 0..capacity {
-                    items.push(index as u128)?;
-                }
-            }
-            _ => {}
-        }
-        Ok(Object {
+    fn new(kind: Kind, capacity: usize) -> Object {
+        let mut object = Object {
             kind,
             capacity,
-            items,
-        })
+            items: [0; ROOM],
+            len: 0,
+        };
+        let first = match kind {
+            Kind::Atomic => 1,
+            Kind::Indices | Kind::Robust | Kind::Container => capacity,
+            _ => 0,
+        };
+        for index in 0..first {
+            object.put(index as u128);
+        }
+        object
     }
 
-    fn take_first(&mut self) -> Option<u128> {
-        if self.items.is_empty() {
-            None
+    fn at(&self, place: usize) -> u128 {
+        match self.items.get(place) {
+            Some(item) => *item,
+            None => 0,
+        }
+    }
+
+    fn set_at(&mut self, place: usize, value: u128) {
+        if let Some(item) = self.items.get_mut(place) {
+            *item = value;
+        }
+    }
+
+    /// Behind the others.
+    fn put(&mut self, value: u128) {
+        let end = self.len;
+        self.set_at(end, value);
+        self.len = end.wrapping_add(1);
+    }
+
+    /// Before the item of this place.
+    fn insert(&mut self, place: usize, value: u128) {
+        let mut carried = value;
+        for at in place..self.len {
+            let next = self.at(at);
+            self.set_at(at, carried);
+            carried = next;
+        }
+        self.put(carried);
+    }
+
+    fn take_first(&mut self) -> u128 {
+        let first = self.at(0);
+        let end = self.len.saturating_sub(1);
+        for at in 0..end {
+            let next = self.at(at.wrapping_add(1));
+            self.set_at(at, next);
+        }
+        self.len = end;
+        first
+    }
+
+    fn has(&self, value: u128) -> bool {
+        let mut has = false;
+        for place in 0..self.len {
+            has |= self.at(place) == value;
+        }
+        has
+    }
+
+    /// How many items are less.
+    fn below(&self, value: u128) -> usize {
+        let mut count = 0usize;
+        for place in 0..self.len {
+            if self.at(place) < value {
+                count = count.wrapping_add(1);
+            }
+        }
+        count
+    }
+
+    fn pop(&mut self) -> Answer<u128> {
+        if self.len == 0 {
+            return Answer::PoppedNone;
+        }
+        let value = self.take_first();
+        if self.kind == Kind::Queue {
+            Answer::Popped(value)
         } else {
-            Some(self.items.remove(0))
+            Answer::PoppedIndex(number(value))
         }
     }
 
-    fn popped(&self, value: Option<u128>) -> Answer<u128> {
-        match (value, self.kind) {
-            (None, _) => Answer::PoppedNone,
-            (Some(value), Kind::Queue) => Answer::Popped(value),
-            (Some(value), _) => Answer::PoppedIndex(u64::try_from(value).unwrap_or(0)),
+    fn push(&mut self, value: u128) -> Answer<u128> {
+        let is_full = self.len >= self.capacity;
+        if self.kind != Kind::Overflow {
+            if !is_full {
+                self.put(value);
+            }
+            return Answer::Truth(!is_full);
+        }
+        self.put(value);
+        if is_full {
+            self.pop()
+        } else {
+            Answer::PoppedNone
         }
     }
 
-    fn push(&mut self, value: u128) -> Result<Answer<u128>, AllocError> {
-        let is_full = self.items.len() >= self.capacity;
-        if is_full && !matches!(self.kind, Kind::Overflow) {
-            return Ok(Answer::Truth(false));
-        }
-        self.items.push(value)?;
-        if !matches!(self.kind, Kind::Overflow) {
-            return Ok(Answer::Truth(true));
-        }
-        let oldest = if is_full { self.take_first() } else { None };
-        Ok(self.popped(oldest))
-    }
-
-    fn set(&mut self, place: u128) -> Result<Answer<u128>, AllocError> {
-        let stood = self.items.contains(&place);
+    fn set(&mut self, place: u64) -> Answer<u128> {
+        let place = u128::from(place);
+        let stood = self.has(place);
         if !stood {
-            self.items.push(place)?;
+            self.put(place);
         }
-        Ok(Answer::Truth(!stood))
+        Answer::Truth(!stood)
     }
 
     fn reset_next(&mut self) -> Answer<u128> {
-        match self.take_first() {
-            Some(place) => Answer::Reset(u64::try_from(place).unwrap_or(0)),
-            None => Answer::ResetNone,
+        if self.len == 0 {
+            return Answer::ResetNone;
         }
+        Answer::Reset(number(self.take_first()))
     }
 
     fn acquire(&mut self) -> Answer<u128> {
-        match self.take_first() {
-            Some(index) => Answer::Index(u32::try_from(index).unwrap_or(0)),
-            None => Answer::NoIndex(UniqueIndexSetAcquireFailure::OutOfIndices),
+        if self.len == 0 {
+            return Answer::NoIndex(UniqueIndexSetAcquireFailure::OutOfIndices);
         }
+        let index = self.take_first();
+        Answer::Index((index & 0xffff_ffff) as u32)
     }
 
     // The unique set is a stack; of the robust one and the container the least free index goes first.
-    fn release(&mut self, index: u64) -> Result<Answer<u128>, AllocError> {
-        self.items.insert(0, u128::from(index))?;
-        if matches!(self.kind, Kind::Robust | Kind::Container) {
-            self.items.sort()?;
-        }
-        Ok(Answer::State(ReleaseState::Unlocked))
+    fn release(&mut self, index: u64) -> Answer<u128> {
+        let index = u128::from(index);
+        let place = if self.kind == Kind::Indices {
+            0
+        } else {
+            self.below(index)
+        };
+        self.insert(place, index);
+        Answer::State(ReleaseState::Unlocked)
+    }
+
+    fn store(&mut self, value: u128) -> Answer<u128> {
+        self.set_at(0, value);
+        Answer::Truth(true)
     }
 
     // (A match in a match: a pattern two deep costs more to prove.)
 
-    fn queue_call(&mut self, start: QueueStart<u128>) -> Result<Answer<u128>, AllocError> {
+    fn queue_call(&mut self, start: QueueStart<u128>) -> Answer<u128> {
         match start {
             QueueStart::PushIndex(value) => self.push(u128::from(value)),
             QueueStart::Push(value) => self.push(value),
-            QueueStart::Pop => {
-                let oldest = self.take_first();
-                Ok(self.popped(oldest))
-            }
-            _ => Ok(Answer::Truth(true)),
+            QueueStart::Pop => self.pop(),
+            _ => Answer::Truth(true),
         }
     }
 
-    fn value_call(&mut self, start: AtomicStart<u128>) -> Result<Answer<u128>, AllocError> {
+    fn value_call(&mut self, start: AtomicStart<u128>) -> Answer<u128> {
         match start {
-            AtomicStart::Store(value) => {
-                self.take_first();
-                self.items.push(value)?;
-                Ok(Answer::Truth(true))
-            }
-            AtomicStart::Load => Ok(Answer::Loaded(self.items.first().copied().unwrap_or(0))),
-            _ => Ok(Answer::Truth(true)),
+            AtomicStart::Store(value) => self.store(value),
+            AtomicStart::Load => Answer::Loaded(self.at(0)),
+            _ => Answer::Truth(true),
         }
     }
 
-    fn bits_call(&mut self, start: BitsStart) -> Result<Answer<u128>, AllocError> {
+    fn bits_call(&mut self, start: BitsStart) -> Answer<u128> {
         match start {
-            BitsStart::Set(place) => self.set(u128::from(place)),
-            BitsStart::ResetNext => Ok(self.reset_next()),
-            _ => Ok(Answer::Truth(true)),
+            BitsStart::Set(place) => self.set(place),
+            BitsStart::ResetNext => self.reset_next(),
+            _ => Answer::Truth(true),
         }
     }
 
-    fn index_call(&mut self, start: IndexStart) -> Result<Answer<u128>, AllocError> {
+    fn index_call(&mut self, start: IndexStart) -> Answer<u128> {
         match start {
-            IndexStart::Acquire => Ok(self.acquire()),
+            IndexStart::Acquire => self.acquire(),
             IndexStart::Release(index, _) => self.release(index),
-            _ => Ok(Answer::Truth(true)),
+            _ => Answer::Truth(true),
         }
     }
 
-    fn robust_call(&mut self, start: RobustStart) -> Result<Answer<u128>, AllocError> {
+    fn robust_call(&mut self, start: RobustStart) -> Answer<u128> {
         match start {
-            RobustStart::Acquire(_) => Ok(self.acquire()),
+            RobustStart::Acquire(_) => self.acquire(),
             RobustStart::Release(index, _, _) => self.release(index),
-            _ => Ok(Answer::Truth(true)),
+            _ => Answer::Truth(true),
         }
     }
 
     // A new state shows as many values as there are indices that are not free.
-    fn container_call(&mut self, start: ContainerStart<u128>) -> Result<Answer<u128>, AllocError> {
+    fn container_call(&mut self, start: ContainerStart<u128>) -> Answer<u128> {
         match start {
-            ContainerStart::Add(_, _) => Ok(self.acquire()),
+            ContainerStart::Add(_, _) => self.acquire(),
             ContainerStart::Remove(index, _, _) => self.release(index),
             ContainerStart::GetState => {
-                let shown = self.capacity.saturating_sub(self.items.len());
-                Ok(Answer::Number(shown as u64))
+                Answer::Number(self.capacity.saturating_sub(self.len) as u64)
             }
-            _ => Ok(Answer::Truth(true)),
+            _ => Answer::Truth(true),
         }
     }
 
-    fn call(&mut self, start: Start<u128>) -> Result<Answer<u128>, AllocError> {
+    fn call(&mut self, start: Start<u128>) -> Answer<u128> {
         match start {
             Start::Queues(start) => self.queue_call(start),
             Start::Atomic(start) => self.value_call(start),
@@ -187,14 +257,14 @@ fn made(order: &[usize], place: usize) -> usize {
 }
 
 // What comes before is done.
-fn opened(alloc: Global, text: &Text) -> Result<Object, AllocError> {
-    let mut object = Object::new(alloc, text.setup.kind, text.setup.capacity as usize)?;
+fn opened(text: &Text) -> Object {
+    let mut object = Object::new(text.setup.kind, text.setup.capacity as usize);
     for opening in text.opening.iter() {
         if let Turn::Begin(_, start) = opening.turn {
-            object.call(start)?;
+            object.call(start);
         }
     }
-    Ok(object)
+    object
 }
 
 // The party's next call is made, if it has made these.
@@ -207,7 +277,7 @@ fn make(
 ) -> Result<Option<usize>, AllocError> {
     match party.calls.get(made) {
         Some(start) => {
-            let answer = object.call(*start)?;
+            let answer = object.call(*start);
             let event = Event::Finished(party.number, *start, answer);
             Ok(Some(answers.of_event(alloc, &event, " finished ", "")?))
         }
@@ -242,7 +312,7 @@ fn answers_in(
     order: &[usize],
     answers: &mut Answers,
 ) -> Result<Vec<usize>, AllocError> {
-    let mut object = opened(alloc, text)?;
+    let mut object = opened(text);
     let said = said_in(alloc, text, order, &mut object, answers)?;
     let mut all = Vec::new(alloc);
     for place in 0..text.parties.len() {
@@ -350,48 +420,45 @@ const CONTAINER: [&[u8]; 3] = [
     b"container 2 2\nopen 0 add 5 1\n0 remove 0 1 default; add 6 1\n1 get_state",
 ];
 
-// The place of the first text with other outcomes.
-fn first_wrong(alloc: Global, texts: &[&[u8]]) -> Option<usize> {
+// Ends at the first text with other outcomes.
+fn agree(rt: &impl Abort, alloc: Global, texts: &[&[u8]]) {
     for (at, input) in texts.iter().enumerate() {
-        match agrees(alloc, input) {
-            Ok(true) => {}
-            _ => return Some(at),
-        }
+        let agrees = matches!(agrees(alloc, input), Ok(true));
+        assert!(rt; agrees, "{at}");
     }
-    None
 }
 
 #[test]
 fn queues(rt: HostRuntime) {
-    assert_eq!(rt; first_wrong(rt.alloc(), &QUEUES), None);
+    agree(&rt, rt.alloc(), &QUEUES);
 }
 
 #[test]
 fn overflow(rt: HostRuntime) {
-    assert_eq!(rt; first_wrong(rt.alloc(), &OVERFLOW), None);
+    agree(&rt, rt.alloc(), &OVERFLOW);
 }
 
 #[test]
 fn value(rt: HostRuntime) {
-    assert_eq!(rt; first_wrong(rt.alloc(), &VALUE), None);
+    agree(&rt, rt.alloc(), &VALUE);
 }
 
 #[test]
 fn bits(rt: HostRuntime) {
-    assert_eq!(rt; first_wrong(rt.alloc(), &BITS), None);
+    agree(&rt, rt.alloc(), &BITS);
 }
 
 #[test]
 fn unique_indices(rt: HostRuntime) {
-    assert_eq!(rt; first_wrong(rt.alloc(), &INDICES), None);
+    agree(&rt, rt.alloc(), &INDICES);
 }
 
 #[test]
 fn robust_indices(rt: HostRuntime) {
-    assert_eq!(rt; first_wrong(rt.alloc(), &ROBUST), None);
+    agree(&rt, rt.alloc(), &ROBUST);
 }
 
 #[test]
 fn container(rt: HostRuntime) {
-    assert_eq!(rt; first_wrong(rt.alloc(), &CONTAINER), None);
+    agree(&rt, rt.alloc(), &CONTAINER);
 }

@@ -4,10 +4,6 @@ use outcomes::search::Most;
 use std::alloc::Global;
 use std::str;
 
-fn most(states: usize, turns: usize) -> Most {
-    Most { states, turns }
-}
-
 /// A text, and what is told of it.
 type Refused = (&'static [u8], &'static [u8]);
 
@@ -45,86 +41,139 @@ const REFUSED: [Refused; 16] = [
     ),
 ];
 
-/// The place of the first text that is refused otherwise.
-fn first_wrong(alloc: Global) -> Option<usize> {
-    for (at, (input, told)) in REFUSED.iter().enumerate() {
-        let listed = list_of(alloc, false, ENOUGH, input);
-        if listed.told.as_slice() != *told || listed.exit != 2 || !listed.output.is_empty() {
-            return Some(at);
-        }
-    }
-    None
-}
-
 #[test]
 fn malformed_texts(rt: HostRuntime) {
-    assert_eq!(rt; first_wrong(rt.alloc()), None);
+    for (at, (input, told)) in REFUSED.iter().enumerate() {
+        let run = (false, ENOUGH, *input, *told, 2);
+        assert!(rt; is_listed(rt.alloc(), &run, &NONE), "{at}");
+    }
 }
+
+/// Whether parties stop for good, how far the search goes, a text, what is told of it, and the exit status.
+type Run = (bool, Most, &'static [u8], &'static [u8], u8);
+
+/// How the list begins, what stands in it, and what does not.
+type List = (
+    &'static str,
+    &'static [&'static str],
+    &'static [&'static str],
+);
+
+fn is_list(output: &str, list: &List) -> bool {
+    let (first, stand, absent) = *list;
+    let mut is_so = output.starts_with(first);
+    for said in stand {
+        is_so &= output.contains(*said);
+    }
+    for said in absent {
+        is_so &= !output.contains(*said);
+    }
+    is_so
+}
+
+/// Whether a text is listed so.
+fn is_listed(alloc: Global, run: &Run, list: &List) -> bool {
+    let (stops, most, input, told, exit) = *run;
+    let listed = list_of(alloc, stops, most, input);
+    let output = str::from_utf8(&listed.output).unwrap_or("");
+    let is_text = output.len() == listed.output.len();
+    let is_told = listed.told.as_slice() == told && listed.exit == exit;
+    is_text && is_told && is_list(output, list)
+}
+
+/// Any list, and none: each list has a line feed.
+const ANY: List = ("", &[], &[]);
+
+const NONE: List = ("", &[], &["\n"]);
 
 const TWO_SETS: &[u8] = b"bits 64 2\n0 set 5\n1 set 5\n";
 
+const FOUR_STATES: Most = Most {
+    states: 4,
+    turns: 20_000,
+};
+
+const TOO_MANY: Run = (
+    false,
+    FOUR_STATES,
+    TWO_SETS,
+    b"more than 4 states: not all schedules were gone through\n",
+    1,
+);
+
+const CUT: List = ("0 outcomes of 0 schedules, 5 states\ncut: ", &[], &[]);
+
 #[test]
 fn too_many_states(rt: HostRuntime) {
-    let bound = most(4, ENOUGH.turns);
-    let listed = list_of(rt.alloc(), false, bound, TWO_SETS);
-    assert!(rt;
-        listed.told.as_slice()
-            == b"more than 4 states: not all schedules were gone through\n".as_slice()
-    );
-    assert!(rt;
-        listed
-            .output
-            .starts_with(b"0 outcomes of 0 schedules, 5 states\ncut: ")
-    );
-    assert!(rt; listed.exit == 1);
+    assert!(rt; is_listed(rt.alloc(), &TOO_MANY, &CUT));
 }
 
 /// A call before the parties begin that takes 9 turns.
 const LONG_OPEN: &[u8] = b"bits 8 2\nopen 0 reset_next\n0 set 5\n1 set 5\n";
 
+const EIGHT_TURNS: Most = Most {
+    states: 20_000,
+    turns: 8,
+};
+
+const NINE_TURNS: Most = Most {
+    states: 20_000,
+    turns: 9,
+};
+
+const UNENDED: Run = (
+    false,
+    EIGHT_TURNS,
+    LONG_OPEN,
+    b"line 2, column 8: the call has not ended after 8 turns\n",
+    1,
+);
+
+const ENDED: Run = (false, NINE_TURNS, LONG_OPEN, b"", 0);
+
 #[test]
 fn unended_open_call(rt: HostRuntime) {
-    let bound = most(ENOUGH.states, 8);
-    let listed = list_of(rt.alloc(), false, bound, LONG_OPEN);
-    assert!(rt;
-        listed.told.as_slice()
-            == b"line 2, column 8: the call has not ended after 8 turns\n".as_slice()
-    );
-    assert!(rt; listed.exit == 1 && listed.output.is_empty());
-    let bound = most(ENOUGH.states, 9);
-    assert!(rt; list_of(rt.alloc(), false, bound, LONG_OPEN).exit == 0);
+    assert!(rt; is_listed(rt.alloc(), &UNENDED, &NONE));
+    assert!(rt; is_listed(rt.alloc(), &ENDED, &ANY));
 }
 
 const REFUSED_CALLS: &[u8] =
     b"indices 1 1\nopen 0 acquire\n0 release 1 default; release 0 default; release 0 default\n";
 
+const REFUSES: Run = (false, ENOUGH, REFUSED_CALLS, b"", 0);
+
 /// What stands in the list of that text.
-const LISTED: [&str; 3] = [
-    "1 outcome of 1 schedule, ",
-    "\n  0 release 1 default: refused BadIndex\n  0 release 0 default -> Unlocked\n  0 release 0 default: refused NotHeld\n",
-    "\n0 begin release 1 default\n0 begin release 0 default\n0 next ",
-];
+const LISTED: List = (
+    "",
+    &[
+        "1 outcome of 1 schedule, ",
+        "\n  0 release 1 default: refused BadIndex\n  0 release 0 default -> Unlocked\n  0 release 0 default: refused NotHeld\n",
+        "\n0 begin release 1 default\n0 begin release 0 default\n0 next ",
+    ],
+    &[],
+);
 
 #[test]
 fn refused_calls(rt: HostRuntime) {
-    let listed = list_of(rt.alloc(), false, ENOUGH, REFUSED_CALLS);
-    let output = str::from_utf8(&listed.output).unwrap_or("");
-    for said in LISTED.iter() {
-        assert!(rt; output.contains(*said));
-    }
-    assert!(rt; listed.exit == 0 && listed.told.is_empty());
+    assert!(rt; is_listed(rt.alloc(), &REFUSES, &LISTED));
 }
 
 const PUSH_AND_POP: &[u8] =
     b"index_queue 1 2\nopen 0 acquire_producer\nopen 1 acquire_consumer\n0 push 5\n1 pop\n";
 
-// A push publishes with its last step, so one that stopped before has left nothing to pop.
+const STOPS: Run = (true, ENOUGH, PUSH_AND_POP, b"", 0);
+
+/// A push publishes with its last step, so one that stopped before has left nothing to pop.
+const STOPPED: List = (
+    "",
+    &[
+        "\n  0 push 5: stopped\n  1 pop -> none\n",
+        "\n  0 push 5 -> true\n  1 pop: stopped\n",
+    ],
+    &["\n  0 push 5: stopped\n  1 pop -> some 5\n"],
+);
+
 #[test]
 fn stopped_calls(rt: HostRuntime) {
-    let listed = list_of(rt.alloc(), true, ENOUGH, PUSH_AND_POP);
-    let output = str::from_utf8(&listed.output).unwrap_or("");
-    assert!(rt; output.contains("\n  0 push 5: stopped\n  1 pop -> none\n"));
-    assert!(rt; output.contains("\n  0 push 5 -> true\n  1 pop: stopped\n"));
-    assert!(rt; !output.contains("\n  0 push 5: stopped\n  1 pop -> some 5\n"));
-    assert!(rt; listed.exit == 0);
+    assert!(rt; is_listed(rt.alloc(), &STOPS, &STOPPED));
 }
