@@ -1,9 +1,7 @@
-use Rattle.std.proofs.Common.{◌≡◌, ◌≤◌, length, take}
-use Rattle.std.specs.List.{All}
+use Rattle.std.proofs.Common.{◌≡◌, length, take}
 use Rattle.lock_free.specs.Bits.Calls.{set_of, share, history, made}
-use Rattle.lock_free.specs.Sums.{sets}
-use Rattle.bells.specs.Times.{HasRung}
-use Rattle.bells.proofs.flags.ring.Given as goal
+use Rattle.bells.specs.Times.{WereSet, HasRung}
+use Rattle.bells.proofs.ring.Given as goal
 
 abbrev pub invariant-loop-at : goal.invariant-loop-at
 invariant-loop-at g l =
@@ -11,4 +9,4 @@ invariant-loop-at g l =
     × (set_of l.pass ≡ set_of l.fn.pass)
     × (share l.pass ≡ share l.fn.pass)
     × HasRung l.rung.items (made l.pass)
-    × All (λ bell. 1 ≤ sets bell (history l.pass)) (take l.at l.bells)
+    × WereSet (take l.at l.bells) (history l.pass)
