@@ -1,6 +1,6 @@
 use Rattle.std.proofs.Common.{◌≡◌}
 use Rattle.lock_free.specs.UniqueIndexSet.{view, set_of}
-use Rattle.pool.proofs.buffers.take.Given as goal
+use Rattle.pool.proofs.take.Given as goal
 
 abbrev pub invariant-loop : goal.invariant-loop
 invariant-loop g l =

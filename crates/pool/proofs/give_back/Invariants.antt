@@ -1,6 +1,6 @@
 use Rattle.std.proofs.Common.{◌≡◌, length, drop}
 use Rattle.lock_free.specs.UniqueIndexSet.{view, set_of}
-use Rattle.pool.proofs.buffers.give_back.Given as goal
+use Rattle.pool.proofs.give_back.Given as goal
 
 abbrev pub invariant-loop-at : goal.invariant-loop-at
 invariant-loop-at l =
