@@ -7,68 +7,89 @@ use Rattle.std.proofs.lemmas.List.Elements.{All-push, All-weaker}
 use Rattle.lock_free.specs.Event.{Event}
 use Rattle.lock_free.specs.HistoryView.View.{View}
 use Rattle.lock_free.specs.History.{IsBeginning}
+use Rattle.lock_free.specs.Share.{Share}
+use Rattle.lock_free.specs.Shares.{all_shares, half_of, both_of, IsAll}
 use Rattle.lock_free.specs.Sums.{is_set_of, is_clear_of, sets, clears}
-use Rattle.lock_free.specs.Bits.Told.{HasSet, HasReset}
+use Rattle.lock_free.specs.Bits.Told.{HasSet, StoodOnce, HasReset}
 use Rattle.lock_free.proofs.Sums.{sum_grows, seen_begins}
-use Rattle.lock_free.proofs.Bits.Sums.{set_adds, set_adds_none, reset_adds, reset_adds_none}
-use Rattle.bells.specs.Times.{times, HasRung, BothRung, HearsMore}
+use Rattle.lock_free.proofs.Bits.Sums.{set_adds, set_adds_none, was_set, reset_adds, reset_adds_none}
+use Rattle.bells.specs.Times.{times, WereSet, HasRung, BothRung, HearsMore}
 
-pub times_push : (bell b : ℕ) (xs : List ℕ) → times bell (xs ++ b ∷ []) ≡ times bell xs + cond (b == bell) 1 0
+-- the shares of a pass that was split twice make the whole
+pub split_twice : (first left third mine other : Share) → first ≡ all_shares → left ≡ half_of first → third ≡ half_of first → mine ≡ half_of left → other ≡ half_of left → IsAll (both_of (both_of mine other) third)
+split_twice first left third mine other all l t m o =
+    let half = l ∙ ap half_of all in
+    let p = m ∙ ap half_of half in
+    let q = o ∙ ap half_of half in
+    let s = t ∙ ap half_of all in
+    subst IsAll (λ i. both_of (both_of (sym p i) (sym q i)) (sym s i)) refl
+
+times_push : (bell b : ℕ) (xs : List ℕ) → times bell (xs ++ b ∷ []) ≡ times bell xs + cond (b == bell) 1 0
 times_push bell b xs = sum_by_push (λ x. cond (x == bell) 1 0) xs b
 
--- ---- a call
+-- ---- a set
 
-pub rings : (xs : List ℕ) (b : ℕ) (old new : View ℕ) → HasSet b true old new → HasRung xs old.made → HasRung (xs ++ b ∷ []) new.made
-rings xs b old new h is =
+pub rings : (xs more : List ℕ) (b : ℕ) (answer : Bool) (old new : View ℕ) → answer ≡ true → HasSet b answer old new → more ≡ xs ++ b ∷ [] → HasRung xs old.made → HasRung more new.made
+rings xs more b answer old new began h is was =
+    let added : HasSet b true old new = subst (λ t. HasSet b t old new) began h in
+    subst (λ z. HasRung z new.made) (sym is)
+    (record {
+      set = λ bell. (let adds = (set_adds old new b added bell).0 in let so_far = was.set bell in let push = times_push bell b xs in omega arith);
+      cleared = λ bell. (set_adds old new b added bell).1 ∙ was.cleared bell;
+    })
+
+pub rings_again : (xs : List ℕ) (b : ℕ) (answer : Bool) (old new : View ℕ) → answer ≡ false → HasSet b answer old new → HasRung xs old.made → HasRung xs new.made
+rings_again xs b answer old new stood h was =
+    let added : HasSet b false old new = subst (λ t. HasSet b t old new) stood h in
     record {
-      set = λ bell. (let adds = (set_adds old new b h bell).0 in let was = is.set bell in let more = times_push bell b xs in omega arith);
-      cleared = λ bell. (set_adds old new b h bell).1 ∙ is.cleared bell;
+      set = λ bell. (set_adds_none old new b added bell).0 ∙ was.set bell;
+      cleared = λ bell. (set_adds_none old new b added bell).1 ∙ was.cleared bell;
     }
 
-pub rings_again : (xs : List ℕ) (b : ℕ) (old new : View ℕ) → HasSet b false old new → HasRung xs old.made → HasRung xs new.made
-rings_again xs b old new h is =
+pub rang_still : (bells : List ℕ) (seen then : List (Event ℕ)) → IsBeginning seen then → WereSet bells seen → WereSet bells then
+rang_still bells seen then begins all = All-weaker (λ b. 1 ≤ sets b seen) (λ b. 1 ≤ sets b then) (λ b some. let grown = sum_grows (λ e. cond (is_set_of b e) 1 0) seen then begins in omega arith) bells all
+
+-- each of the bells so far was set, and so is one more, whichever the set answered
+pub rang_on : (bells : List ℕ) (n b : ℕ) (answer : Bool) (old new : View ℕ) → n < length bells → b ≡ get_or bells n 0 → HasSet b answer old new → (answer ≡ false → StoodOnce b new) → WereSet (take n bells) old.seen → WereSet (take (n + 1) bells) new.seen
+rang_on bells n b answer old new lt is h stood all =
+    let more : take n bells ++ b ∷ [] ≡ take (n + 1) bells = ap (λ z. take n bells ++ z ∷ []) is ∙ sym (take_more bells n 0 lt) in
+    let begins : IsBeginning old.seen new.seen = seen_begins h.by _ _ _ old new h.called in
+    subst (λ xs. WereSet xs new.seen) more (All-push (λ z. 1 ≤ sets z new.seen) (take n bells) b (rang_still (take n bells) old.seen new.seen begins all) (was_set old new b answer h stood))
+
+-- ---- a reset
+
+pub hears : (xs ys more : List ℕ) (b : ℕ) (first : List (Event ℕ)) (old new : View ℕ) → HasReset (Some b) old new → more ≡ ys ++ b ∷ [] → HearsMore xs ys first old.made → HearsMore xs more first new.made
+hears xs ys more b first old new h is was =
+    subst (λ z. HearsMore xs z first new.made) (sym is)
+    (record {
+      set = λ bell. (reset_adds old new b h bell).0 ∙ was.set bell;
+      cleared = λ bell. (let adds = (reset_adds old new b h bell).1 in let so_far = was.cleared bell in let push = times_push bell b ys in omega arith);
+    })
+
+pub hears_none : (xs ys : List ℕ) (first : List (Event ℕ)) (old new : View ℕ) → HasReset None old new → HearsMore xs ys first old.made → HearsMore xs ys first new.made
+hears_none xs ys first old new h was =
     record {
-      set = λ bell. (set_adds_none old new b h bell).0 ∙ is.set bell;
-      cleared = λ bell. (set_adds_none old new b h bell).1 ∙ is.cleared bell;
+      set = λ bell. (reset_adds_none old new h bell).0 ∙ was.set bell;
+      cleared = λ bell. ap (λ n. n + times bell xs) (reset_adds_none old new h bell).1 ∙ was.cleared bell;
     }
 
-pub hears : (xs : List ℕ) (b : ℕ) (old new : View ℕ) → HasReset (Some b) old new → HearsMore xs (xs ++ b ∷ []) old.made new.made
-hears xs b old new h =
-    record {
-      set = λ bell. (reset_adds old new b h bell).0;
-      cleared = λ bell. (let adds = (reset_adds old new b h bell).1 in let more = times_push bell b xs in omega arith);
-    }
+-- who found none at last has heard all that stood
+pub rest_heard : (ys : List ℕ) (first : List (Event ℕ)) (old new : View ℕ) (bell : ℕ) → HearsMore [] ys first old.made → HasReset None old new → sets bell new.made ≡ clears bell new.made → sets bell first ≡ clears bell first + times bell ys
+rest_heard ys first old new bell was h none =
+    let s = (reset_adds_none old new h bell).0 in
+    let c = (reset_adds_none old new h bell).1 in
+    let set = was.set bell in
+    let cleared = was.cleared bell in
+    let zero : times bell [] ≡ 0 = refl in
+    omega arith
 
-pub hears_none : (xs : List ℕ) (old new : View ℕ) → HasReset None old new → HearsMore xs xs old.made new.made
-hears_none xs old new h =
-    record {
-      set = λ bell. (reset_adds_none old new h bell).0;
-      cleared = λ bell. ap (λ n. n + times bell xs) (reset_adds_none old new h bell).1;
-    }
-
--- ---- several
+-- ---- nothing yet
 
 pub none_rung : (events : List (Event ℕ)) → events ≡ [] → HasRung [] events
 none_rung events e = subst (HasRung []) (sym e) (record { set = λ bell. refl; cleared = λ bell. refl })
 
 pub none_heard : (events : List (Event ℕ)) → HearsMore [] [] events events
 none_heard events = record { set = λ bell. refl; cleared = λ bell. refl }
-
-pub hears_on : (xs ys : List ℕ) (first mid last : List (Event ℕ)) → HearsMore [] xs first mid → HearsMore xs ys mid last → HearsMore [] ys first last
-hears_on xs ys first mid last h more =
-    record {
-      set = λ bell. more.set bell ∙ h.set bell;
-      cleared = λ bell. (let a = h.cleared bell in let b = more.cleared bell in let zero : times bell [] ≡ 0 = refl in omega arith);
-    }
-
-pub rang_still : (bells : List ℕ) (seen then : List (Event ℕ)) → IsBeginning seen then → All (λ b. 1 ≤ sets b seen) bells → All (λ b. 1 ≤ sets b then) bells
-rang_still bells seen then begins all = All-weaker (λ b. 1 ≤ sets b seen) (λ b. 1 ≤ sets b then) (λ b some. let grown = sum_grows (λ e. cond (is_set_of b e) 1 0) seen then begins in omega arith) bells all
-
--- each of the bells so far was set, and so is one more
-pub rang_on : (bells : List ℕ) (n bell : ℕ) (seen then : List (Event ℕ)) → n < length bells → bell ≡ get_or bells n 0 → IsBeginning seen then → 1 ≤ sets bell then → All (λ b. 1 ≤ sets b seen) (take n bells) → All (λ b. 1 ≤ sets b then) (take (n + 1) bells)
-rang_on bells n bell seen then lt is begins here all =
-    let more : take n bells ++ bell ∷ [] ≡ take (n + 1) bells = ap (λ z. take n bells ++ z ∷ []) is ∙ sym (take_more bells n 0 lt) in
-    subst (All (λ b. 1 ≤ sets b then)) more (All-push (λ b. 1 ≤ sets b then) (take n bells) bell (rang_still (take n bells) seen then begins all) here)
 
 -- ---- all passes joined
 
@@ -80,7 +101,7 @@ both_rung one two xs ys h g =
       cleared = λ bell. (let c = sum_by-append (λ e. cond (is_clear_of bell e) 1 0) xs ys in let a = h.cleared bell in let b = g.cleared bell in omega arith);
     }
 
-module _ (one two heard left : List ℕ) (rung start listened joined last : List (Event ℕ)) (rang : BothRung one two rung) (fresh : start ≡ []) (listens : HearsMore [] heard start listened) (is : joined ≡ rung ++ listened) (rest : HearsMore [] left joined last) (none : (bell : ℕ) → sets bell last ≡ clears bell last) where
+module _ (one two heard left : List ℕ) (rung start listened joined : List (Event ℕ)) (rang : BothRung one two rung) (fresh : start ≡ []) (listens : HearsMore [] heard start listened) (is : joined ≡ rung ++ listened) (rest : (bell : ℕ) → sets bell joined ≡ clears bell joined + times bell left) where
   -- all that was set
   set_in_all : (bell : ℕ) → sets bell joined ≡ times bell one + times bell two
   set_in_all bell =
@@ -97,19 +118,12 @@ module _ (one two heard left : List ℕ) (rung start listened joined last : List
       let a = rang.cleared bell in
       let b = listens.cleared bell in
       let f = ap (clears bell) fresh in
-      let d = rest.set bell in
-      let e = rest.cleared bell in
-      let z = none bell in
+      let r = rest bell in
       let zero : times bell [] ≡ 0 = refl in
       let clear : clears {T = ℕ} bell [] ≡ 0 = refl in
       omega arith
 
   -- whoever was seen to be set by then was heard, or still rang
-  pub none_lost : (bells : List ℕ) (seen then : List (Event ℕ)) → IsBeginning seen then → ((f : Event ℕ → ℕ) → sum_by f then ≡ sum_by f joined) → All (λ b. 1 ≤ sets b seen) bells → All (λ b. 1 ≤ times b heard + times b left) bells
-  none_lost bells seen then begins same all =
-      All-weaker (λ b. 1 ≤ sets b then) (λ b. 1 ≤ times b heard + times b left) (λ b some. let h = all_heard b in let s = set_in_all b in let e = same (λ x. cond (is_set_of b x) 1 0) in omega arith) bells (rang_still bells seen then begins all)
-
--- ---- a set, whichever it answered
-
-pub set_grows : (b : ℕ) (answer : Bool) (old new : View ℕ) → HasSet b answer old new → IsBeginning old.seen new.seen
-set_grows b answer old new h = seen_begins h.by _ _ _ old new h.called
+  pub none_lost : (bells : List ℕ) (then : List (Event ℕ)) → ((f : Event ℕ → ℕ) → sum_by f then ≡ sum_by f joined) → WereSet bells then → All (λ b. 1 ≤ times b heard + times b left) bells
+  none_lost bells then same all =
+      All-weaker (λ b. 1 ≤ sets b then) (λ b. 1 ≤ times b heard + times b left) (λ b some. let h = all_heard b in let s = set_in_all b in let e = same (λ x. cond (is_set_of b x) 1 0) in omega arith) bells all

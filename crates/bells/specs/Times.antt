@@ -1,15 +1,28 @@
 -- How often a bell stands in a list, and what threads have made of the history of their set.
-use Rattle.std.specs.Prelude.{◌≡◌, ℕ, ◌+◌, ◌==◌, List}
+use Rattle.std.specs.Prelude.{◌≡◌, ℕ, ◌+◌, ◌≤◌, ◌==◌, List, All}
 use Rattle.std.specs.List.{count_by}
-use Rattle.lock_free.specs.Sums.{sets, clears, counts, takes}
+use Rattle.lock_free.specs.Sums.{sets, clears}
 use Rattle.lock_free.specs.Event.{Event}
 
 abbrev pub times : ℕ → List ℕ → ℕ
 times bell bells = count_by (λ b. b == bell) bells
 
+-- each of these places was set
+abbrev pub WereSet : List ℕ → List (Event ℕ) → Type 0
+WereSet bells events = All (λ bell. 1 ≤ sets bell events) bells
+
+-- each of these bells was heard, or still rang
+abbrev pub CameOut : List ℕ → List ℕ → List ℕ → Type 0
+CameOut heard left bells = All (λ bell. 1 ≤ times bell heard + times bell left) bells
+
 -- who made these events set just these places, and cleared none
 pub record HasRung (bells : List ℕ) (events : List (Event ℕ)) : Type 0 where
   pub set : (bell : ℕ) → sets bell events ≡ times bell bells
+  pub cleared : (bell : ℕ) → clears bell events ≡ 0
+
+-- two did, one these places and the other those
+pub record BothRung (one two : List ℕ) (events : List (Event ℕ)) : Type 0 where
+  pub set : (bell : ℕ) → sets bell events ≡ times bell one + times bell two
   pub cleared : (bell : ℕ) → clears bell events ≡ 0
 
 -- what was added to the events clears just what was added to the bells
@@ -17,21 +30,3 @@ pub record HearsMore (bells more : List ℕ) (old new : List (Event ℕ)) : Type
   pub set : (bell : ℕ) → sets bell new ≡ sets bell old
   pub cleared : (bell : ℕ)
       → clears bell new + times bell bells ≡ clears bell old + times bell more
-
--- who made these events counted just these places, and took nothing out
-pub record CountsThese (bells : List ℕ) (events : List (Event ℕ)) : Type 0 where
-  pub counted : (bell : ℕ) → counts bell events ≡ times bell bells
-  pub taken : (bell : ℕ) → takes bell events ≡ 0
-
--- two did, one these places and the other those
-pub record BothRung (one two : List ℕ) (events : List (Event ℕ)) : Type 0 where
-  pub set : (bell : ℕ) → sets bell events ≡ times bell one + times bell two
-  pub cleared : (bell : ℕ) → clears bell events ≡ 0
-
-pub record BothCount (one two : List ℕ) (events : List (Event ℕ)) : Type 0 where
-  pub counted : (bell : ℕ) → counts bell events ≡ times bell one + times bell two
-  pub taken : (bell : ℕ) → takes bell events ≡ 0
-
--- what was added to the events counts no place
-pub record CountsNone (old new : List (Event ℕ)) : Type 0 where
-  pub counted : (bell : ℕ) → counts bell new ≡ counts bell old

@@ -1,6 +1,6 @@
 -- Numbers that are popped or handed back, and what is known of them once the passes are joined.
 use Rattle.std.proofs.Common.{◌≡◌, ℕ, suc, ◌+◌, ◌<◌, ◌≤◌, ◌⊎◌, inl, inr, ⊎_elim, List, [], ◌∷◌, ◌++◌, length, map, get_or, take, sym, refl, ap, subst, ◌∙◌, arith, append-nil, append_assoc}
-use Rattle.std.specs.Prelude.{Some, None}
+use Rattle.std.specs.Prelude.{Some}
 use Rattle.std.specs.List.{All, AllPairs}
 use Rattle.std.proofs.lemmas.List.{take_more, take_all, map-append}
 use Rattle.std.proofs.lemmas.List.Elements.{All-head, All-push}
@@ -15,9 +15,7 @@ use Rattle.lock_free.specs.Ring.Calls as calls
 use Rattle.lock_free.proofs.Orders.{by_less, Above, Rising, in_order_already}
 use Rattle.lock_free.proofs.Whole.{emptied_is_all}
 use Rattle.lock_free.proofs.Lists.{all_left, all_right, pairs_append}
-use Rattle.relay.specs.Rows.{row}
 use Rattle.relay_overflow.specs.Overflow.{Merges, Piled, HasPushedAll, HasTaken, HasDrained}
-use Rattle.relay.proofs.Rows.{row_in_order, Grown, grown_none, grown_more}
 
 abbrev Up : ℕ × ℕ → ℕ × ℕ → Type 0
 Up x y = x.0 < y.0
@@ -59,7 +57,8 @@ pub record Pushing (xs back : List ℕ) (v w : View ℕ) : Type 0 where
   pub returned : back ≡ before ++ (older ++ after)
   pub fresh : pushed ≡ [] → older ≡ []
   pub ended : (after ≡ []) ⊎ calls.TakesNone w
-  pub published : Grown pushed v.published w.published w.last_push
+  pub published : Piled pushed v.published w.published
+  pub newest : (pushed ≡ []) ⊎ ((q : ℕ) × (w.last_push ≡ Some q))
   pub taken : Piled older v.taken w.taken
   pub share : w.share ≡ v.share
   pub capacity : w.capacity ≡ v.capacity
@@ -75,7 +74,8 @@ pushing_none all v w e =
       returned = refl;
       fresh = λ e. refl;
       ended = inl refl;
-      published = subst (λ (z : View ℕ). Grown [] v.published z.published z.last_push) (sym e) (grown_none v.published None);
+      published = subst (λ (z : View ℕ). Piled [] v.published z.published) (sym e) (piled_none v.published);
+      newest = inl refl;
       taken = subst (λ (z : View ℕ). Piled [] v.taken z.taken) (sym e) (piled_none v.taken);
       share = ap (λ (z : View ℕ). z.share) e;
       capacity = ap (λ (z : View ℕ). z.capacity) e;
@@ -121,7 +121,8 @@ module _ (all : List ℕ) (n x : ℕ) (back : List ℕ) (v w u : View ℕ) (lt :
             returned = beside k.before k.older k.after back none k.returned;
             fresh = λ e. absurd (some_more k.pushed x e);
             ended = inl refl;
-            published = subst (λ (z : View ℕ). Grown (k.pushed ++ x ∷ []) v.published z.published z.last_push) (sym h.adds) (grown_more k.pushed x h.position v.published w.published w.last_push k.published h.next);
+            published = subst (λ (z : View ℕ). Piled (k.pushed ++ x ∷ []) v.published z.published) (sym h.adds) (piled_more k.pushed x h.position v.published w.published k.published h.above.0);
+            newest = inr (h.position, ap (λ (z : View ℕ). z.last_push) h.adds);
             taken = subst (λ (z : View ℕ). Piled k.older v.taken z.taken) (sym h.adds) k.taken;
             share = ap (λ (z : View ℕ). z.share) h.adds ∙ k.share;
             capacity = ap (λ (z : View ℕ). z.capacity) h.adds ∙ k.capacity;
@@ -139,7 +140,8 @@ module _ (all : List ℕ) (n x : ℕ) (back : List ℕ) (v w u : View ℕ) (lt :
         returned = between k.before k.older k.after y back none k.returned;
         fresh = λ e. absurd (some_more k.pushed x e);
         ended = inl refl;
-        published = subst (λ (z : View ℕ). Grown (k.pushed ++ x ∷ []) v.published z.published z.last_push) (sym h.adds) (grown_more k.pushed x h.position v.published w.published w.last_push k.published h.next);
+        published = subst (λ (z : View ℕ). Piled (k.pushed ++ x ∷ []) v.published z.published) (sym h.adds) (piled_more k.pushed x h.position v.published w.published k.published h.above.0);
+        newest = inr (h.position, ap (λ (z : View ℕ). z.last_push) h.adds);
         taken = subst (λ (z : View ℕ). Piled (k.older ++ y ∷ []) v.taken z.taken) (sym h.adds) (piled_more k.older y h.oldest v.taken w.taken k.taken h.taken);
         share = ap (λ (z : View ℕ). z.share) h.adds ∙ k.share;
         capacity = ap (λ (z : View ℕ). z.capacity) h.adds ∙ k.capacity;
@@ -157,7 +159,8 @@ module _ (all : List ℕ) (n x : ℕ) (back : List ℕ) (v w u : View ℕ) (lt :
         returned = ap (λ z. back ++ z ∷ []) own ∙ behind k.before k.older k.after x back k.returned;
         fresh = k.fresh;
         ended = inr (subst (λ (z : View ℕ). calls.TakesNone z) (sym same) shut);
-        published = subst (λ (z : View ℕ). Grown k.pushed v.published z.published z.last_push) (sym same) k.published;
+        published = subst (λ (z : View ℕ). Piled k.pushed v.published z.published) (sym same) k.published;
+        newest = subst (λ (z : View ℕ). (k.pushed ≡ []) ⊎ ((q : ℕ) × (z.last_push ≡ Some q))) (sym same) k.newest;
         taken = subst (λ (z : View ℕ). Piled k.older v.taken z.taken) (sym same) k.taken;
         share = ap (λ (z : View ℕ). z.share) same ∙ k.share;
         capacity = ap (λ (z : View ℕ). z.capacity) same ∙ k.capacity;
@@ -176,21 +179,19 @@ module _ (all : List ℕ) (n x : ℕ) (back : List ℕ) (v w u : View ℕ) (lt :
         returned = ap (λ z. back ++ z ∷ []) own ∙ ap (λ z. z ++ x ∷ []) (k.returned ∙ (ap (λ z. k.before ++ (z ++ k.after)) old ∙ ap (λ z. k.before ++ z) none ∙ append-nil k.before)) ∙ sym (append-nil (k.before ++ x ∷ []));
         fresh = λ e. refl;
         ended = inl refl;
-        published = subst (λ (z : View ℕ). Grown [] v.published z.published z.last_push) (sym same) (subst (λ xs. Grown xs v.published w.published w.last_push) first k.published);
+        published = subst (λ (z : View ℕ). Piled [] v.published z.published) (sym same) (subst (λ xs. Piled xs v.published w.published) first k.published);
+        newest = inl refl;
         taken = subst (λ (z : View ℕ). Piled [] v.taken z.taken) (sym same) (subst (λ xs. Piled xs v.taken w.taken) old k.taken);
         share = ap (λ (z : View ℕ). z.share) same ∙ k.share;
         capacity = ap (λ (z : View ℕ). z.capacity) same ∙ k.capacity;
       }
 
   own_one : (y : ℕ) → k.after ≡ [] → calls.WasHandedBack x y w u → Pushing (take n all ++ x ∷ []) (back ++ y ∷ []) v u
-  own_one y none h = go k.pushed refl
-    where
-      go : (ps : List ℕ) → k.pushed ≡ ps → Pushing (take n all ++ x ∷ []) (back ++ y ∷ []) v u
-      go [] e = own_before y h.own h.same e none
-      go (p ∷ ps) e =
-          let last : w.last_push ≡ Some (k.published.from + length ps) = k.published.newest (length ps) (ap length e ∙ (let s : suc (length ps) ≡ length ps + 1 = omega arith in s)) in
-          own_after y h.own h.same
-          (⊎_elim (λ bare. inl bare) (λ end. inr (last ∙ ap Some (end (k.published.from + length ps) last))) h.end)
+  own_one y none h =
+      ⊎_elim
+      (λ first. own_before y h.own h.same first none)
+      (λ t. own_after y h.own h.same (⊎_elim (λ bare. inl bare) (λ end. inr (t.1 ∙ ap Some (end t.0 t.1))) h.end))
+      k.newest
 
   pub returns_one : (y : ℕ) → (calls.HasReplaced x y w u) ⊎ (calls.WasHandedBack x y w u) → (calls.TakesNone w → (y ≡ x) × (u ≡ w)) → Pushing (take (n + 1) all) (back ++ y ∷ []) v u
   returns_one y t own =
@@ -209,8 +210,7 @@ pushed_all all n back v w u past k e =
       older = k.older;
       numbers = sym (take_all n all past) ∙ k.numbers;
       returned = k.returned;
-      from = k.published.from;
-      published = ap (λ (z : View ℕ). z.published) e ∙ k.published.pairs;
+      published = subst (λ (z : View ℕ). Piled k.pushed v.published z.published) (sym e) k.published;
       taken = subst (λ (z : View ℕ). Piled k.older v.taken z.taken) (sym e) k.taken;
       share = ap (λ (z : View ℕ). z.share) e ∙ k.share;
       capacity = ap (λ (z : View ℕ). z.capacity) e ∙ k.capacity;
@@ -319,10 +319,14 @@ module _ (capacity : ℕ) (some : 0 < capacity) (all back first came : List ℕ)
   emptied : Emptied y
   emptied = subst (λ (t : View ℕ). Emptied t) (sym ends) (d.emptied (subst (λ (t : View ℕ). IsWhole t) ends whole) wide)
 
-  published : y.published ≡ row s.from s.pushed
+  published : y.published ≡ s.published.pairs
   published =
       ap (λ (t : View ℕ). t.published) ends ∙ (d.popped.published ∙ (ap (λ (t : View ℕ). t.published) begins ∙ (ap (λ (t : View ℕ). t.published) is
-      ∙ (ap (λ xs. a.published ++ xs) r.published ∙ (append-nil a.published ∙ s.published)))))
+      ∙ (ap (λ xs. a.published ++ xs) r.published ∙ (append-nil a.published ∙ s.published.are)))))
+
+  -- which stand in order already
+  in_order : values_in_order s.published.pairs ≡ s.pushed
+  in_order = ap values (in_order_already s.published.pairs (rising_of s.published.pairs s.published.rising)) ∙ s.published.values
 
   abbrev hs : List (ℕ × ℕ)
   hs = s.taken.pairs
@@ -351,7 +355,7 @@ module _ (capacity : ℕ) (some : 0 < capacity) (all back first came : List ℕ)
   merged_older =
       let mixed = merged (ps ++ ds) hs (by_position (hs ++ (ps ++ ds))) (mixes hs (ps ++ ds) (rising_of hs s.taken.rising) (rising_of (ps ++ ds) rising)) in
       let ordered : values (by_position (hs ++ (ps ++ ds))) ≡ s.pushed =
-      ap values_in_order (sym taken) ∙ (emptied_is_all y sound (complete whole) emptied ∙ (ap values_in_order published ∙ row_in_order s.from s.pushed)) in
+      ap values_in_order (sym taken) ∙ (emptied_is_all y sound (complete whole) emptied ∙ (ap values_in_order published ∙ in_order)) in
       subst (λ (t : List ℕ × List ℕ × List ℕ). Merges t.0 t.1 t.2) (λ i. (numbers i, s.taken.values i, ordered i)) mixed
 
   pub overflowed : Merges came back all

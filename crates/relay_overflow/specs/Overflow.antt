@@ -3,7 +3,6 @@ use Rattle.std.specs.Prelude.{◌≡◌, ◌⊎◌, ℕ, ◌<◌, List, [], ◌�
 use Rattle.lock_free.specs.QueueView.View.{View}
 use Rattle.lock_free.specs.Ring.Views.{IsWhole}
 use Rattle.lock_free.specs.Ring.Between.{Emptied}
-use Rattle.relay.specs.Rows.{row}
 
 -- each of the last list stands in one of the first two, and both stand in its order
 abbrev pub Merges : List ℕ → List ℕ → List ℕ → Type 0
@@ -20,8 +19,8 @@ pub record Piled (xs : List ℕ) (old new : List (ℕ × ℕ)) : Type 0 where
   pub rising : AllPairs (λ (x y : ℕ × ℕ). x.0 < y.0) pairs
   pub above : All (λ (x : ℕ × ℕ). All (λ (y : ℕ × ℕ). x.0 < y.0) pairs) old
 
--- it has pushed these numbers, one right after the other, and got those back; where the queue took
--- none, before the first that it took or after the last, it got back what it pushed
+-- it has pushed these numbers, and got those back; where the queue took none, before the first that
+-- it took or after the last, it got back what it pushed
 pub record HasPushedAll (xs back : List ℕ) (v w : View ℕ) : Type 0 where
   pub before : List ℕ
   pub pushed : List ℕ
@@ -29,8 +28,7 @@ pub record HasPushedAll (xs back : List ℕ) (v w : View ℕ) : Type 0 where
   pub older : List ℕ
   pub numbers : xs ≡ before ++ (pushed ++ after)
   pub returned : back ≡ before ++ (older ++ after)
-  pub from : ℕ
-  pub published : w.published ≡ v.published ++ row from pushed
+  pub published : Piled pushed v.published w.published
   pub taken : Piled older v.taken w.taken
   pub share : w.share ≡ v.share
   pub capacity : w.capacity ≡ v.capacity
