@@ -92,8 +92,8 @@ pub struct Relayed {
 }
 
 /// Sends the numbers from one thread to another, which takes so many of them. What comes is a beginning of them, in
-/// their order, and all of them where nothing waits at the end. Where more are asked for than there are, it waits for
-/// good.
+/// their order, and all of them where nothing waits at the end. Where more are asked for than there are, or more than four
+/// are left over, which is what the queue has room for, it waits for good.
 pub fn relay<R: Threads + Wait + Sync>(
     rt: &R,
     alloc: Global,
@@ -131,8 +131,10 @@ pub fn relay<R: Threads + Wait + Sync>(
 
 fn main(rt: HostRuntime) -> io::Result<()> {
     let sent = [3, 1, 4, 1, 5, 9, 2, 6, 5, 3, 5, 8];
-    for (said, count) in [("sent", 12), ("came", 2), ("came", 0)] {
-        match relay(&rt, rt.alloc(), sent.as_slice(), count) {
+    let few = [3, 1, 4, 1];
+    let (all, few) = (sent.as_slice(), few.as_slice());
+    for (said, numbers, count) in [("sent", all, 12), ("came", few, 2), ("came", few, 0)] {
+        match relay(&rt, rt.alloc(), numbers, count) {
             Ok(came) => println!(rt;
                 "{said}: {:?}; nothing waits: {}",
                 came.numbers, came.emptied
