@@ -91,7 +91,7 @@ module _ {T : Type 0} where
         Fit = Fit;
         Holds = λ s latest events turns. Holds code s.holder s.core events turns;
         written = λ s p flight. [];
-        number = number code.size;
+        number = λ wrote. number code.size;
         At = λ s p start flight. FlightAt code s.holder s.core p start flight;
         Knows = λ s p events since changes backs flight. Knowing s.core since changes backs flight;
       }

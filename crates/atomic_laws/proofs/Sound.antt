@@ -26,6 +26,7 @@ use Rattle.model.specs.Coding.{Coding, IsCoding}
 use Rattle.model.specs.Families.{first_of, want_of, is_question, kept_after_begin}
 use Rattle.model.specs.Families.Atomic.Calls.{first, want}
 use Rattle.model.specs.Families.Atomic.Opening.{lacks_role, kept_rows}
+use Rattle.model.specs.Families.Loan.Opening.{is_loan}
 use Rattle.model.specs.Families.Queues.Opening.{holds}
 use Rattle.model.specs.Parties.{party_of}
 use Rattle.model.specs.Reading.{Open, span_of}
@@ -88,10 +89,10 @@ abbrev IsOwn : {T : Type 0} → Start T → Flight T → Type 0
 IsOwn (Atomic start) (flights.TheVariants.Atomic flight) = first start ≡ flight
 IsOwn start flight = ⊥
 
-begins_own : {T : Type 0} (c : ℕ) (start : Start T) (flight : Flight T) → first_of kinds.TheVariants.Atomic c start ≡ Some flight → IsOwn start flight
-begins_own c (Atomic start) (flights.TheVariants.Atomic flight) e = cc
-begins_own c (Atomic start) flight e = absurd (cc)
-begins_own c start flight e = absurd (cc)
+begins_own : {T : Type 0} (c : ℕ) (kept : Kept T) (start : Start T) (flight : Flight T) → first_of kinds.TheVariants.Atomic c start kept ≡ Some flight → IsOwn start flight
+begins_own c kept (Atomic start) (flights.TheVariants.Atomic flight) e = cc
+begins_own c kept (Atomic start) flight e = absurd (cc)
+begins_own c kept start flight e = absurd (cc)
 
 -- no call of a value asks a question
 store_asks : {T : Type 0} (code : Coding T) (value : T) (stage : StoreStage) → is_question (want code (store_at value stage)) ≡ false
@@ -192,17 +193,17 @@ module _ {T : Type 0} (code : Coding T) (c : ℕ) (t : Trace T) (s : frame.Sound
         owes = owes scene s.state.holder k (span_of p t.events) y (Begun p (Atomic start) ∷ []) t.world.changes shows refl (inv_of y t.world.changes);
       }
 
-  pub begin_comes : (start : Start T) (flight : Flight T) → MayBegin t.world p start → first_of t.world.kind t.world.capacity start ≡ Some flight
+  pub begin_comes : (start : Start T) (flight : Flight T) → MayBegin t.world p start → first_of t.world.kind t.world.capacity start t.world.kept ≡ Some flight
       → frame.Comes (family code c) t p (kept_after_begin t.world.coding t.world.capacity start p t.world.kept) t.world.words (party_at_begin start flight t.world.changes) (Begun p start ∷ []) t.world.changes
   begin_comes (Atomic start) (flights.TheVariants.Atomic flight) may e =
       let is = kept_is t.world.kept t.world.words s.state s.fit in
       let rows : first_row (kept_rows start (kepts.TheVariants.Atomic s.state.holder) p) ≡ None = subst (λ kept. first_row (kept_rows start kept p) ≡ None) is.0 may.rows in
       let role = (row_passed (lacks_role s.state.holder p start) NoRole None rows).0 in
-      let named : first_of kinds.TheVariants.Atomic t.world.capacity (Atomic start) ≡ Some (flights.TheVariants.Atomic flight) = subst (λ kind. first_of kind t.world.capacity (Atomic start) ≡ Some (flights.TheVariants.Atomic flight)) s.kind e in
-      begins start flight (subst (λ f. IsFirst code s.state.holder s.state.core p t.world.changes start f) (begins_own t.world.capacity (Atomic start) (flights.TheVariants.Atomic flight) named) (first_is code s.state.holder s.state.core p t.world.changes start role)) s may
+      let named : first_of kinds.TheVariants.Atomic t.world.capacity (Atomic start) t.world.kept ≡ Some (flights.TheVariants.Atomic flight) = subst (λ kind. first_of kind t.world.capacity (Atomic start) t.world.kept ≡ Some (flights.TheVariants.Atomic flight)) s.kind e in
+      begins start flight (subst (λ f. IsFirst code s.state.holder s.state.core p t.world.changes start f) (begins_own t.world.capacity t.world.kept (Atomic start) (flights.TheVariants.Atomic flight) named) (first_is code s.state.holder s.state.core p t.world.changes start role)) s may
   begin_comes start flight may e =
-      let named : first_of kinds.TheVariants.Atomic t.world.capacity start ≡ Some flight = subst (λ kind. first_of kind t.world.capacity start ≡ Some flight) s.kind e in
-      absurd (begins_own t.world.capacity start flight named)
+      let named : first_of kinds.TheVariants.Atomic t.world.capacity start t.world.kept ≡ Some flight = subst (λ kind. first_of kind t.world.capacity start t.world.kept ≡ Some flight) s.kind e in
+      absurd (begins_own t.world.capacity t.world.kept start flight named)
 
 module _ {T : Type 0} where
   laws : (code : Coding T) (c : ℕ) → frame.Laws (family code c)
@@ -246,6 +247,6 @@ module _ {T : Type 0} where
   reached_sound t is r =
       let w = t.world in
       let first = opening_sound w.coding w.capacity w.parties r.coded in
-      frame.reached_sound (family w.coding w.capacity) (laws w.coding w.capacity) t
+      frame.reached_sound (family w.coding w.capacity) (laws w.coding w.capacity) t (ap is_loan is)
       (subst (λ kind. frame.Sound (family w.coding w.capacity) (opening w.coding kind w.capacity w.parties)) (sym is) first)
       r

@@ -82,7 +82,7 @@ module _ {T : Type 0} (scene : Scene T) where
     -- the call goes on, and the version and the value that stands stay
     pub quiet :
         (back : Bool) (start : AtomicStart T) (ask : Option Ask) (flight : AtomicFlight T) (k' : Core) → k'.version ≡ k.version → k'.now ≡ k.now → Good code.size k' → words_after words ask ≡ layout ho k'
-        → scene.steps + step_count ask ≤ (family code scene.capacity).number (flights.TheVariants.Atomic flight) (scene.backs + one_if back)
+        → scene.steps + step_count ask ≤ (family code scene.capacity).number [] (flights.TheVariants.Atomic flight) (scene.backs + one_if back)
         → At code ho k' p start flight
         → KnowsFlight k' (scene.since + change_of words ask) (changes_then ask) (scene.backs + one_if back) flight
         → ((q : ℕ) → q ≢ p → (s : AtomicStart T) (f : AtomicFlight T) → At code ho k q s f → At code ho k' q s f)

@@ -1,6 +1,6 @@
 -- The machines of bit sets and of counting bit sets as families: what is said of one of the two kinds, and what each turn of
 -- its machine has to show.
-use Rattle.std.proofs.Common.{◌≡◌, ℕ, ◌+◌, ◌≤◌, Bool, Option, Some, List, [], ◌++◌, fold}
+use Rattle.std.proofs.Common.{◌≡◌, ℕ, ◌+◌, ◌≤◌, Bool, false, Option, Some, List, [], ◌++◌, fold}
 use Rattle.steps.specs.declared.ask.Ask.{Ask}
 use Rattle.steps.specs.declared.ask.After.{After}
 use Rattle.model.specs.declared.event.Answer.{Answer}
@@ -19,6 +19,7 @@ use Rattle.model.specs.Coding.{Coding}
 use Rattle.model.specs.Families.{ask_of}
 use Rattle.model.specs.Families.Bits.Calls.{want, after, goes_back}
 use Rattle.model.specs.Families.Bits.Steps.{effects_of}
+use Rattle.model.specs.Families.Loan.Opening.{is_loan}
 use Rattle.model.specs.Promise.{Promise}
 use Rattle.model.specs.Promises.Spans.{Stands}
 use Rattle.model.specs.Reading.{Span, Open, own_after, span_of}
@@ -37,6 +38,7 @@ pub record SetState (T : Type 0) : Type 0 where
 -- what is said of one of the two kinds
 pub record SetKind (T : Type 0) : Type 1 where
   pub kind : Kind
+  pub own : is_loan kind ≡ false  -- it is made with one number
   pub promise : Promise T
   pub Holds : ℕ → List ℕ → List (Event T) → ℕ → Type 0  -- what is so of the words and of the events, at this capacity and after so many turns
   pub Conserves : ℕ → List ℕ → List (Event T) → ℕ → ℕ → List ℕ → List (Event T) → ℕ → Type 0  -- what a turn conserves from there, after so many changes, that comes to these words with these events and to so many changes
@@ -79,7 +81,7 @@ module _ {T : Type 0} where
           Fit = Fit;
           Holds = λ s latest events turns. K.Holds c s.words events turns × (s.events ≡ events);
           written = λ s p flight. wrote_by p flight (span_of p s.events);
-          number = number_by K.number;
+          number = λ wrote. number_by K.number;
           At = λ s p start flight. FlightAt (K.At c (wrote_in (span_of p s.events))) start flight;
           Knows = λ s p events since changes backs flight. KnowsFlight (K.Knows p events s.words since changes backs) flight;
         }

@@ -21,6 +21,7 @@ use Rattle.model.specs.Families.{opening_of, first_of, want_of, ask_of, is_quest
 use Rattle.model.specs.Families.Bits.Calls.{first, want}
 use Rattle.model.specs.Families.Bits.Opening.{is_past, kept_rows}
 use Rattle.model.specs.Families.Bits.Steps.{effects_of}
+use Rattle.model.specs.Families.Loan.Opening.{is_loan}
 use Rattle.model.specs.Moments.{BeginsNone}
 use Rattle.model.specs.Parties.{party_of}
 use Rattle.model.specs.Promises.{IsTurnBy, IsKeptBy}
@@ -66,7 +67,7 @@ module _ {T : Type 0} (K : SetKind T) where
     pub still : (q : ℕ) (words : List ℕ) (events : List (Event T)) (turns changes : ℕ) (words' : List ℕ) (es : List (Event T)) (changes' : ℕ) → K.Conserves c words events turns changes words' es changes' → BeginsNone q es → (since backs : ℕ) (flight : BitsFlight)
         → K.Knows q events words since changes backs flight → K.Knows q (events ++ es) words' since changes' backs flight
     -- of a call that begins
-    pub begins_own : (start : Start T) (flight : Flight T) → first_of K.kind c start ≡ Some flight → IsOwn start
+    pub begins_own : (kept : Kept T) (start : Start T) (flight : Flight T) → first_of K.kind c start kept ≡ Some flight → IsOwn start
     pub begins : (p : ℕ) (start : BitsStart) (words : List ℕ) (events : List (Event T)) (turns changes : ℕ) → K.Holds c words events turns → K.Conserves c words events turns changes words (Begun p (Bits start) ∷ []) changes
     pub first : (p : ℕ) (events : List (Event T)) (words : List ℕ) (changes : ℕ) (start : BitsStart) (flight : BitsFlight) → first K.kind c start ≡ Some flight → is_past c start ≡ false → IsFirst c p events words changes start flight
     -- of a call under way
@@ -166,19 +167,19 @@ module _ {T : Type 0} (K : SetKind T) where
           refl
 
       -- its first stage is one of the set's own
-      some_first : (start : BitsStart) (flight : Flight T) → first_of K.kind c (Bits start) ≡ Some flight → (mine : BitsFlight) × (flight ≡ flights.TheVariants.Bits mine) × (first K.kind c start ≡ Some mine)
+      some_first : (start : BitsStart) (flight : Flight T) → first_of K.kind c (Bits start) t.world.kept ≡ Some flight → (mine : BitsFlight) × (flight ≡ flights.TheVariants.Bits mine) × (first K.kind c start ≡ Some mine)
       some_first start flight e = go (first K.kind c start) refl
         where
           go : (o : Option BitsFlight) → first K.kind c start ≡ o → (mine : BitsFlight) × (flight ≡ flights.TheVariants.Bits mine) × (first K.kind c start ≡ Some mine)
           go None h = let none : None ≡ Some flight = rw h at e in absurd (cc)
           go (Some mine) h = let same : Some (flights.TheVariants.Bits mine) ≡ Some flight = rw h at e in (mine, cc, h)
 
-      first_here : (start : Start T) (flight : Flight T) → first_of t.world.kind t.world.capacity start ≡ Some flight → first_of K.kind c start ≡ Some flight
+      first_here : (start : Start T) (flight : Flight T) → first_of t.world.kind t.world.capacity start t.world.kept ≡ Some flight → first_of K.kind c start t.world.kept ≡ Some flight
       first_here start flight e =
-          subst (λ n. first_of K.kind n start ≡ Some flight) s.capacity
-          (subst (λ kind. first_of kind t.world.capacity start ≡ Some flight) s.kind e)
+          subst (λ n. first_of K.kind n start t.world.kept ≡ Some flight) s.capacity
+          (subst (λ kind. first_of kind t.world.capacity start t.world.kept ≡ Some flight) s.kind e)
 
-      begin_comes : (start : Start T) (flight : Flight T) → MayBegin t.world p start → first_of t.world.kind t.world.capacity start ≡ Some flight
+      begin_comes : (start : Start T) (flight : Flight T) → MayBegin t.world p start → first_of t.world.kind t.world.capacity start t.world.kept ≡ Some flight
           → frame.Comes F t p (kept_after_begin t.world.coding t.world.capacity start p t.world.kept) t.world.words (party_at_begin start flight t.world.changes) (Begun p start ∷ []) t.world.changes
       begin_comes (Bits start) flight may e =
           let mine = some_first start flight (first_here (Bits start) flight e) in
@@ -188,7 +189,7 @@ module _ {T : Type 0} (K : SetKind T) where
           subst (λ ws. Begins ws t.world.kept start flight) (sym s.fit.1)
           (subst (λ kept. Begins s.state.words kept start flight) (sym s.fit.0)
           (subst (λ f. Begins s.state.words kepts.TheVariants.Nothing start f) (sym mine.1) (begins start mine.0 is may)))
-      begin_comes start flight may e = absurd (L.begins_own start flight (first_here start flight e))
+      begin_comes start flight may e = absurd (L.begins_own t.world.kept start flight (first_here start flight e))
 
     laws : frame.LawsOn F
     laws =
@@ -253,7 +254,7 @@ module _ {T : Type 0} (K : SetKind T) where
     bounds : frame.Bounds F
     bounds = record { most = at_most; paid = paid }
       where
-        at_most : (s : SetState T) (p backs : ℕ) (start : Start T) (flight : Flight T) → F.At s p start flight → F.number flight backs ≤ K.promise.most_steps c code.size start backs
+        at_most : (s : SetState T) (p backs : ℕ) (start : Start T) (flight : Flight T) → F.At s p start flight → F.number (F.written s p flight) flight backs ≤ K.promise.most_steps c code.size start backs
         at_most s p backs (Bits start) (flights.TheVariants.Bits flight) h = L.most (wrote_in (span_of p s.events)) backs start flight h
         at_most s p backs start flight h = absurd h
 
@@ -271,7 +272,7 @@ module _ {T : Type 0} (K : SetKind T) where
     sound t is r =
         let w = t.world in
         let L = laws_of w.coding w.capacity in
-        frame.reached_sound (family K w.coding w.capacity) (frame.laws_within (family K w.coding w.capacity) (laws w.coding w.capacity L)) t
+        frame.reached_sound (family K w.coding w.capacity) (frame.laws_within (family K w.coding w.capacity) (laws w.coding w.capacity L)) t (ap is_loan is ∙ K.own)
         (subst (λ kind. frame.Sound (family K w.coding w.capacity) (opening w.coding kind w.capacity w.parties)) (sym is) (opening_sound w.coding w.capacity L w.parties))
         r
 

@@ -243,22 +243,22 @@ module _ {T : Type 0} (shown : Shown T) (code : Coding T) (c : ℕ) (t : Trace T
     pub ends_none : (p : ℕ) (start : Start T) (answer : Answer T) (wrote : List (Event T)) → events_of t.world turn ≡ wrote ++ Finished p start answer ∷ [] → ⊥
     pub asks : (p index : ℕ) (value : T) → question_at (after_turn t turn) p ≡ Some (index, value) → question_at t p ≡ Some (index, value)
 
-  begun_asks : (q : ℕ) (start : Start T) (o : Option (Flight T)) → first_of t.world.kind t.world.capacity start ≡ o → (p index : ℕ) (value : T) → world_asks (after_begin t.world q start o) p ≡ Some (index, value) → world_asks t.world p ≡ Some (index, value)
+  begun_asks : (q : ℕ) (start : Start T) (o : Option (Flight T)) → first_of t.world.kind t.world.capacity start t.world.kept ≡ o → (p index : ℕ) (value : T) → world_asks (after_begin t.world q start o) p ≡ Some (index, value) → world_asks t.world p ≡ Some (index, value)
   begun_asks q start None first p index value e = e
   begun_asks q start (Some flight) first p index value e = ⊎_elim here there (cases_eq p q)
     where
       there : p ≢ q → world_asks t.world p ≡ Some (index, value)
       there ne = sym (ap (λ o. question_in t.world.coding (flight_of (doing_of o))) (party_put_other p q (party_at_begin start flight t.world.changes) t.world.latest ne)) ∙ e
 
-      none_of : (start : Start T) (flight : Flight T) → first_of kinds.TheVariants.Container t.world.capacity start ≡ Some flight → question_in t.world.coding (Some flight) ≡ None
+      none_of : (start : Start T) (flight : Flight T) → first_of kinds.TheVariants.Container t.world.capacity start t.world.kept ≡ Some flight → question_in t.world.coding (Some flight) ≡ None
       none_of (Container a) (flights.TheVariants.Container one) is =
-          let own = begins_own t.world.capacity (Container a) (flights.TheVariants.Container one) is in
+          let own = begins_own t.world.capacity t.world.kept (Container a) (flights.TheVariants.Container one) is in
           subst (λ f. question_in t.world.coding (Some (flights.TheVariants.Container f)) ≡ None) own.0 (question_first t.world.coding t.world.capacity a)
-      none_of a one is = absurd (begins_own t.world.capacity a one is)
+      none_of a one is = absurd (begins_own t.world.capacity t.world.kept a one is)
 
       here : p ≡ q → world_asks t.world p ≡ Some (index, value)
       here is =
-          let named : first_of kinds.TheVariants.Container t.world.capacity start ≡ Some flight = subst (λ kind. first_of kind t.world.capacity start ≡ Some flight) s.kind first in
+          let named : first_of kinds.TheVariants.Container t.world.capacity start t.world.kept ≡ Some flight = subst (λ kind. first_of kind t.world.capacity start t.world.kept ≡ Some flight) s.kind first in
           let none : question_in t.world.coding (Some flight) ≡ None = none_of start flight named in
           let stands : world_asks (after_begin t.world q start (Some flight)) q ≡ question_in t.world.coding (Some flight) =
           ap (λ o. question_in t.world.coding (flight_of (doing_of o))) (party_put_same q (party_at_begin start flight t.world.changes) t.world.latest)
@@ -278,7 +278,7 @@ module _ {T : Type 0} (shown : Shown T) (code : Coding T) (c : ℕ) (t : Trace T
       (record {
         right = (tt, tt);
         ends_none = λ p b answer wrote e. no_end (Begun q start) p b answer wrote (λ h. cc) e;
-        asks = begun_asks q start (first_of t.world.kind t.world.capacity start) refl;
+        asks = begun_asks q start (first_of t.world.kind t.world.capacity start t.world.kept) refl;
       })
   any_turn (Next q) r = inr (record { party = q; goes = next_goes q (passes t.world (Next q) r).on })
   any_turn (Decide q said) r = inr (record { party = q; goes = (decided q said r).goes })

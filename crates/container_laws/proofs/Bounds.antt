@@ -202,7 +202,7 @@ module _ {T : Type 0} where
   pub bounds : (code : Coding T) (c : ℕ) → frame.Bounds (family code c)
   bounds code c = record { most = at_most; paid = paid }
     where
-      at_most : (s : ContainerNow T) (p backs : ℕ) (start : Start T) (flight : Flight T) → (family code c).At s p start flight → (family code c).number flight backs ≤ most c code.size start backs
+      at_most : (s : ContainerNow T) (p backs : ℕ) (start : Start T) (flight : Flight T) → (family code c).At s p start flight → (family code c).number ((family code c).written s p flight) flight backs ≤ most c code.size start backs
       at_most s p backs (Container start) (flights.TheVariants.Container flight) h = steps_most c code.size _ _ backs start flight h
       at_most s p backs start flight h = absurd h
 

@@ -155,7 +155,7 @@ module _ {T : Type 0} where
         Fit = Fit;
         Holds = λ s latest events turns. Holds code c s latest events turns;
         written = λ s p flight. wrote_of p s.events;
-        number = number c code.size;
+        number = λ wrote. number c code.size;
         At = λ s p start flight. FlightAt c code.size (deeds_of p s.events) (acts_of p s.events) start flight;
         Knows = λ s p events since changes backs flight. Knowing code c flight (view s.words s.states s.latest events p since changes backs);
       }

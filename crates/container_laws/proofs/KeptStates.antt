@@ -14,7 +14,7 @@ use Rattle.steps.specs.Container.State.{Numbers}
 use Rattle.steps.specs.Picks.{by_test, by_eq}
 use Rattle.model.specs.declared.event.Answer.TheVariants.{Truth}
 use Rattle.model.specs.declared.event.Start.{Start}
-use Rattle.model.specs.declared.event.Start.TheVariants.{Container}
+use Rattle.model.specs.declared.event.Start.TheVariants.{Container, Loan}
 use Rattle.model.specs.declared.families.Flight.{Flight}
 use Rattle.model.specs.declared.families.Flight as flights
 use Rattle.model.specs.declared.families.Kept.{Kept}
@@ -25,6 +25,7 @@ use Rattle.model.specs.declared.families.container.calls.ContainerFlight.{Contai
 use Rattle.model.specs.declared.families.container.calls.ContainerFlight as calls
 use Rattle.model.specs.declared.families.container.calls.LookOf.{LookOf}
 use Rattle.model.specs.declared.families.container.calls.LookOf as kinds
+use Rattle.model.specs.declared.families.loan.LoanStart.{LoanStart}
 use Rattle.model.specs.declared.party.Doing.{Doing}
 use Rattle.model.specs.declared.party.Doing.TheVariants.{Going, Over}
 use Rattle.model.specs.declared.party.Party.{Party}
@@ -37,6 +38,7 @@ use Rattle.model.specs.Families.Container.Keeping.{is_look_of, MovesInLooks, Beg
 use Rattle.model.specs.Families.Container.Looks.{state_in, is_looking, EndsLook}
 use Rattle.model.specs.Families.Container.Opening.{keeps}
 use Rattle.model.specs.Families.Container.States.{state_of, with_state, fresh}
+use Rattle.model.specs.Families.Loan.Opening.{keeps as loan_keeps}
 use Rattle.model.specs.Parties.{party_of, put, doing_of, flight_of, progress_after}
 use Rattle.model.specs.Refusals.{refusal_of, is_due}
 use Rattle.model.specs.Step.{answer_in}
@@ -96,8 +98,13 @@ module _ {T : Type 0} where
   held_stays code capacity p q start (kepts.TheVariants.Container dead states) w none = refl
   held_stays code capacity p q start kept w none = refl
 
+  loan_stays : (q : ℕ) (start : LoanStart) (kept : Kept T) → state_in (loan_keeps start kept) q ≡ state_in kept q
+  loan_stays q start (kepts.TheVariants.Loan book) = refl
+  loan_stays q start kept = refl
+
   begun_stays : (code : Coding T) (capacity p q : ℕ) (start : Start T) (kept : Kept T) (w : World T) → is_look_of w q (Begin p start) ≡ false → state_in (kept_after_begin code capacity start p kept) q ≡ state_in kept q
   begun_stays code capacity p q (Container start) kept w none = held_stays code capacity p q start kept w none
+  begun_stays code capacity p q (Loan start) kept w none = loan_stays q start kept
   begun_stays code capacity p q start kept w none = refl
 
   died_stays : (kept : Kept T) (owner q : ℕ) → state_in (kept_after_death kept owner) q ≡ state_in kept q
@@ -169,14 +176,14 @@ module _ {T : Type 0} (shown : Shown T) (code : Coding T) (t : Trace T) (s : fra
     moves q none = by turn r none
       where
         by : (u : Turn T) → refusal_of t.world u ≡ None → is_look_of t.world q u ≡ false → state_in (after_turn t u).world.kept q ≡ state_in t.world.kept q
-        by (Begin p start) r none = begin_moves p q start none (first_of t.world.kind t.world.capacity start)
+        by (Begin p start) r none = begin_moves p q start none (first_of t.world.kind t.world.capacity start t.world.kept)
         by (Next p) r none = next_moves p q none (party_of p t.world.latest) refl
         by (Decide p said) r none = decision_moves p q said (frame.is_true (is_due t.world.coding (flight_in t.world p)) (must_be_due t.world p said (passes t.world (Decide p said) r).on)) (party_of p t.world.latest) refl
         by (Die owner) r none = died_stays t.world.kept owner q
 
     begins : BeginsWithState t turn (after_turn t turn)
     begins p state is found =
-        subst (λ u. state_in (after_turn t u).world.kept p ≡ Some state) (sym is) (update_begins p state found (first_of t.world.kind t.world.capacity (Container UpdateState)))
+        subst (λ u. state_in (after_turn t u).world.kept p ≡ Some state) (sym is) (update_begins p state found (first_of t.world.kind t.world.capacity (Container UpdateState) t.world.kept))
 
 -- ---- an update that answers false
 

@@ -24,6 +24,7 @@ use Rattle.model.specs.Families.Container.Calls as rows
 use Rattle.model.specs.Families.Container.Opening.{opening_words, names_owner, call_rows, kept_rows, states_at_begin}
 use Rattle.model.specs.Families.Indices.Robust.Dead.{has_died, dead_with}
 use Rattle.model.specs.Families.Indices.Robust.Reading.{is_dead, wrote_in}
+use Rattle.model.specs.Families.Loan.Opening.{is_loan}
 use Rattle.model.specs.Parties.{party_of, put, doing_of, flight_of}
 use Rattle.model.specs.Reading.{Open, span_of}
 use Rattle.model.specs.Rows.{first_row}
@@ -90,9 +91,9 @@ module _ {T : Type 0} where
   named_own c start flight true t e = absurd (cc)
   named_own c start flight false t e = absurd (cc)
 
-  pub begins_own : (c : ℕ) (start : Start T) (flight : Flight T) → first_of kinds.TheVariants.Container c start ≡ Some flight → IsOwn c start flight
-  begins_own c (Container start) flight e = named_own c start flight (names_owner start) refl e
-  begins_own c start flight e = absurd (cc)
+  pub begins_own : (c : ℕ) (kept : Kept T) (start : Start T) (flight : Flight T) → first_of kinds.TheVariants.Container c start kept ≡ Some flight → IsOwn c start flight
+  begins_own c kept (Container start) flight e = named_own c start flight (names_owner start) refl e
+  begins_own c kept start flight e = absurd (cc)
 
 -- ---- the laws of the family
 
@@ -251,23 +252,23 @@ module _ {T : Type 0} (shown : Shown T) (code : Coding T) (c : ℕ) (t : Trace T
           owes = owes scene s.state.words states' (span_of p t.events) y (Begun p (Container start) ∷ []) t.world.changes shows s.state state_is s.holds s.inv refl;
         }
 
-    pub begin_comes : (start : Start T) (flight : Flight T) → t.world.turns < 2 ^ 64 - 2 → MayBegin t.world p start → first_of t.world.kind t.world.capacity start ≡ Some flight
+    pub begin_comes : (start : Start T) (flight : Flight T) → t.world.turns < 2 ^ 64 - 2 → MayBegin t.world p start → first_of t.world.kind t.world.capacity start t.world.kept ≡ Some flight
         → frame.Comes (family code c) t p (kept_after_begin t.world.coding t.world.capacity start p t.world.kept) t.world.words (party_at_begin start flight t.world.changes) (Begun p start ∷ []) t.world.changes
     begin_comes (Container start) (flights.TheVariants.Container flight) small may e =
         let is = kept_is t.world.kept t.world.words s.state s.fit in
         let passed : first_row (call_rows s.state.dead start) ≡ None = subst (λ kept. first_row (kept_rows {T = T} start kept p) ≡ None) is.0 may.rows in
-        let named : first_of {T = T} kinds.TheVariants.Container t.world.capacity (Container start) ≡ Some (flights.TheVariants.Container flight) = subst
-        (λ kind. first_of {T = T} kind t.world.capacity (Container start) ≡ Some (flights.TheVariants.Container flight)) s.kind e in
+        let named : first_of {T = T} kinds.TheVariants.Container t.world.capacity (Container start) t.world.kept ≡ Some (flights.TheVariants.Container flight) = subst
+        (λ kind. first_of {T = T} kind t.world.capacity (Container start) t.world.kept ≡ Some (flights.TheVariants.Container flight)) s.kind e in
         let own : IsOwn c (Container start) (flights.TheVariants.Container flight) = subst (λ n. IsOwn n (Container start) (flights.TheVariants.Container flight)) s.capacity
-        (begins_own t.world.capacity (Container start) (flights.TheVariants.Container flight) named) in
+        (begins_own t.world.capacity t.world.kept (Container start) (flights.TheVariants.Container flight) named) in
         let now : BeginsFrom code c s.state.words kept_now start flight = subst (λ f. BeginsFrom code c s.state.words kept_now start f) own.0 (begins_now start small own.1 passed may.free) in
         subst (λ y. BeginsFrom y t.world.capacity t.world.words t.world.kept start flight) (sym s.coding)
         (subst (λ n. BeginsFrom code n t.world.words t.world.kept start flight) (sym s.capacity)
         (subst (λ ws. BeginsFrom code c ws t.world.kept start flight) (sym is.1)
         (subst (λ k. BeginsFrom code c s.state.words k start flight) (sym is.0) now)))
     begin_comes start flight small may e =
-        let named : first_of kinds.TheVariants.Container t.world.capacity start ≡ Some flight = subst (λ kind. first_of kind t.world.capacity start ≡ Some flight) s.kind e in
-        absurd (begins_own t.world.capacity start flight named)
+        let named : first_of kinds.TheVariants.Container t.world.capacity start t.world.kept ≡ Some flight = subst (λ kind. first_of kind t.world.capacity start t.world.kept ≡ Some flight) s.kind e in
+        absurd (begins_own t.world.capacity t.world.kept start flight named)
 
   -- ---- an owner dies
 
@@ -338,6 +339,6 @@ module _ {T : Type 0} (shown : Shown T) where
       let w = t.world in
       let may = admitted_is w.capacity (subst (λ kind. capacity_error kind w.capacity ≡ None) is r.admitted) in
       let first = opening_sound w.coding w.capacity w.parties r.coded may.0 may.1 in
-      frame.reached_sound (family w.coding w.capacity) (laws w.coding w.capacity) t
+      frame.reached_sound (family w.coding w.capacity) (laws w.coding w.capacity) t (ap is_loan is)
       (subst (λ kind. frame.Sound (family w.coding w.capacity) (opening w.coding kind w.capacity w.parties)) (sym is) first)
       r

@@ -176,7 +176,7 @@ module _ {T C M E : Type 0} (code : Coding T) (kind : Kind) (effects : ℕ → F
         let none : v.going ≡ None = ap (λ (z : View T). z.going) first.is ∙ first.idle in
         let size : base.capacity ≡ key = ap (λ (z : View T). z.capacity) (sym first.is) ∙ known in
         let idle : call_in r.trace.world id ≡ None = here.going ∙ none in
-        let is_first : first_of kind key call.start ≡ Some (call.flight c m) = subst (λ n. first_of kind n call.start ≡ Some (call.flight c m)) size first.first in
+        let is_first : first_of kind key call.start ((opening_of kind).kept key) ≡ Some (call.flight c m) = subst (λ n. first_of kind n call.start ((opening_of kind).kept n) ≡ Some (call.flight c m)) size first.first in
         let may : first_row (begin_rows kind key ((opening_of kind).kept key) id call.start) ≡ None = subst (λ n. first_row (begin_rows kind n ((opening_of kind).kept n) id call.start) ≡ None) size (first.may id) in
         record {
           gained = [] ++ Begun id call.start ∷ [];

@@ -70,6 +70,8 @@ module _ {T : Type 0} where
   effect_own p (events.TheVariants.Hidden q index) h = ap Some h
   effect_own p (events.TheVariants.Copied q index value) h = ap Some h
   effect_own p (events.TheVariants.Shown q index) h = ap Some h
+  effect_own p (events.TheVariants.Returned q index) h = ap Some h
+  effect_own p (events.TheVariants.TakenBack q index) h = ap Some h
   effect_own p (events.TheVariants.Died o) h = absurd h
   effect_own p (events.TheVariants.Acted q start answer) h = absurd h
   effect_own p (events.TheVariants.Finished q start answer) h = absurd h

@@ -142,9 +142,12 @@ module _ {T : Type 0} where
 
       -- ---- a call begins
 
-      module _ (start : Start T) (flight : Flight T) (idle : call_in u.world id ≡ None) (first : first_of kind capacity start ≡ Some flight) (may : first_row (begin_rows kind capacity ((opening_of kind).kept capacity) id start) ≡ None) where
-        first_here : first_of u.world.kind u.world.capacity start ≡ Some flight
-        first_here = rw (b.run.of_kind, b.run.sized) first
+      module _ (start : Start T) (flight : Flight T) (idle : call_in u.world id ≡ None) (first : first_of kind capacity start ((opening_of kind).kept capacity) ≡ Some flight) (may : first_row (begin_rows kind capacity ((opening_of kind).kept capacity) id start) ≡ None) where
+        first_here : first_of u.world.kind u.world.capacity start u.world.kept ≡ Some flight
+        first_here =
+            ap (λ k. first_of k u.world.capacity start u.world.kept) b.run.of_kind
+            ∙ (ap (λ n. first_of kind n start u.world.kept) b.run.sized
+            ∙ (ap (first_of kind capacity start) (laws.kept u b.run) ∙ first))
 
         pub begins_free : call_refusal u.world (Begin id start) ≡ None
         begins_free =
@@ -156,10 +159,10 @@ module _ {T : Type 0} where
             rw (no_flight u.world id idle) rows
 
         pub begun : Between s id (gained ++ Begun id start ∷ []) (after_turn u (Begin id start))
-        begun = turned s.words (Begin id start) begins_free (b.words ∙ ap (λ ws. ws ++ 0 ∷ []) (sym (writes_one_word u.world (Begin id start)))) (refl, tt) (λ j ne. begin_other u.world id j start ne (first_of u.world.kind u.world.capacity start))
+        begun = turned s.words (Begin id start) begins_free (b.words ∙ ap (λ ws. ws ++ 0 ∷ []) (sym (writes_one_word u.world (Begin id start)))) (refl, tt) (λ j ne. begin_other u.world id j start ne (first_of u.world.kind u.world.capacity start u.world.kept))
 
         pub begun_at : call_in (after_turn u (Begin id start)).world id ≡ Some (start, flight)
-        begun_at = begin_own u.world id start flight (first_of u.world.kind u.world.capacity start) first_here
+        begun_at = begin_own u.world id start flight (first_of u.world.kind u.world.capacity start u.world.kept) first_here
 
       -- ---- it goes on, at a word or at none
 

@@ -53,7 +53,8 @@ module _ {T C M E : Type 0} (code : Coding T) (kind : Kind) (call : Calling T C 
     pub fresh : base.other ≡ []
     pub standing : call.stands base.capacity c
     pub some : 0 < base.share.part
-    pub first : first_of kind base.capacity call.start ≡ Some (call.flight c m)
+    pub first : first_of kind base.capacity call.start ((opening_of kind).kept base.capacity)
+        ≡ Some (call.flight c m)
     pub may : (p : ℕ)
         → first_row
         (begin_rows kind base.capacity ((opening_of kind).kept base.capacity) p call.start)

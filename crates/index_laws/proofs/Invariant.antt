@@ -116,7 +116,7 @@ module _ {T : Type 0} where
         Fit = Fit;
         Holds = λ s latest events turns. Holds c s latest events;
         written = λ s p flight. any_wrote p flight;
-        number = number c;
+        number = λ wrote. number c;
         At = λ s p start flight. FlightAt c s.holders p start flight;
         Knows = λ s p events since changes backs flight. Knowing c s.words since changes backs flight;
       }

@@ -29,6 +29,7 @@ use Rattle.model.specs.Families.Indices.Opening.{opening_words, call_rows, kept_
 use Rattle.model.specs.Families.Indices.Promises.{GoesStraight}
 use Rattle.model.specs.Families.Indices.Reading.{tally_after}
 use Rattle.model.specs.Families.Queues.Opening.{holds}
+use Rattle.model.specs.Families.Loan.Opening.{is_loan}
 use Rattle.model.specs.Parties.{party_of, doing_of, flight_of}
 use Rattle.model.specs.Reading.{Open, span_of}
 use Rattle.model.specs.Rows.{first_row}
@@ -135,10 +136,10 @@ abbrev IsOwn : {T : Type 0} → ℕ → Start T → Flight T → Type 0
 IsOwn c (Indices start) (flights.TheVariants.Indices flight) = first c start ≡ flight
 IsOwn c start flight = ⊥
 
-begins_own : {T : Type 0} (c : ℕ) (start : Start T) (flight : Flight T) → first_of kinds.TheVariants.Indices c start ≡ Some flight → IsOwn c start flight
-begins_own c (Indices start) (flights.TheVariants.Indices flight) e = cc
-begins_own c (Indices start) flight e = absurd (cc)
-begins_own c start flight e = absurd (cc)
+begins_own : {T : Type 0} (c : ℕ) (kept : Kept T) (start : Start T) (flight : Flight T) → first_of kinds.TheVariants.Indices c start kept ≡ Some flight → IsOwn c start flight
+begins_own c kept (Indices start) (flights.TheVariants.Indices flight) e = cc
+begins_own c kept (Indices start) flight e = absurd (cc)
+begins_own c kept start flight e = absurd (cc)
 
 -- no call of the set asks a question
 acquire_asks_none : (c : ℕ) (stage : AcquireStage) → is_question (want (acquire_at c stage)) ≡ false
@@ -256,18 +257,18 @@ module _ {T : Type 0} (code : Coding T) (c : ℕ) (t : Trace T) (s : frame.Sound
         owes = owes scene s.state.words s.state.holders None (span_of p t.events) y (Begun p (Indices start) ∷ []) t.world.changes shows refl (inv_of y t.world.changes);
       }
 
-  pub begin_comes : (start : Start T) (flight : Flight T) → MayBegin t.world p start → first_of t.world.kind t.world.capacity start ≡ Some flight
+  pub begin_comes : (start : Start T) (flight : Flight T) → MayBegin t.world p start → first_of t.world.kind t.world.capacity start t.world.kept ≡ Some flight
       → frame.Comes (family code c) t p (kept_after_begin t.world.coding t.world.capacity start p t.world.kept) t.world.words (party_at_begin start flight t.world.changes) (Begun p start ∷ []) t.world.changes
   begin_comes (Indices start) (flights.TheVariants.Indices flight) may e =
       let is = kept_is t.world.kept t.world.words s.state s.fit in
       let rows : first_row (kept_rows {T = T} t.world.capacity start (kepts.TheVariants.Indices s.state.holders) p) ≡ None = subst (λ kept. first_row (kept_rows {T = T} t.world.capacity start kept p) ≡ None) is.0 may.rows in
       let passed : first_row (call_rows c s.state.holders p start) ≡ None = subst (λ n. first_row (call_rows n s.state.holders p start) ≡ None) s.capacity rows in
-      let named : first_of {T = T} kinds.TheVariants.Indices t.world.capacity (Indices start) ≡ Some (flights.TheVariants.Indices flight) = subst (λ kind. first_of {T = T} kind t.world.capacity (Indices start) ≡ Some (flights.TheVariants.Indices flight)) s.kind e in
-      let own : first c start ≡ flight = subst (λ n. first n start ≡ flight) s.capacity (begins_own t.world.capacity (Indices start) (flights.TheVariants.Indices flight) named) in
+      let named : first_of {T = T} kinds.TheVariants.Indices t.world.capacity (Indices start) t.world.kept ≡ Some (flights.TheVariants.Indices flight) = subst (λ kind. first_of {T = T} kind t.world.capacity (Indices start) t.world.kept ≡ Some (flights.TheVariants.Indices flight)) s.kind e in
+      let own : first c start ≡ flight = subst (λ n. first n start ≡ flight) s.capacity (begins_own t.world.capacity t.world.kept (Indices start) (flights.TheVariants.Indices flight) named) in
       begins start flight (subst (λ f. IsFirst T c s.state.words s.state.holders p t.world.changes start f) own (first_is c s.state.words s.state.holders p t.world.changes start passed)) may
   begin_comes start flight may e =
-      let named : first_of kinds.TheVariants.Indices t.world.capacity start ≡ Some flight = subst (λ kind. first_of kind t.world.capacity start ≡ Some flight) s.kind e in
-      absurd (begins_own t.world.capacity start flight named)
+      let named : first_of kinds.TheVariants.Indices t.world.capacity start t.world.kept ≡ Some flight = subst (λ kind. first_of kind t.world.capacity start t.world.kept ≡ Some flight) s.kind e in
+      absurd (begins_own t.world.capacity t.world.kept start flight named)
 
 module _ {T : Type 0} where
   laws : (code : Coding T) (c : ℕ) → frame.LawsOn (family code c)
@@ -307,7 +308,7 @@ module _ {T : Type 0} where
       let w = t.world in
       let may = admitted_is w.capacity (subst (λ kind. capacity_error kind w.capacity ≡ None) is r.admitted) in
       let first = opening_sound w.coding w.capacity w.parties may.0 may.1 in
-      frame.reached_sound (family w.coding w.capacity) (frame.laws_within (family w.coding w.capacity) (laws w.coding w.capacity)) t
+      frame.reached_sound (family w.coding w.capacity) (frame.laws_within (family w.coding w.capacity) (laws w.coding w.capacity)) t (ap is_loan is)
       (subst (λ kind. frame.Sound (family w.coding w.capacity) (opening w.coding kind w.capacity w.parties)) (sym is) first)
       r
 

@@ -65,6 +65,7 @@ fn name_of(kind: Kind) -> &'static str {
         Kind::Indices => "indices",
         Kind::Robust => "robust",
         Kind::Container => "container",
+        Kind::Loan => "loan",
     }
 }
 
@@ -72,6 +73,10 @@ fn title_of(alloc: Global, run: &Recorded) -> Result<String, AllocError> {
     let name = name_of(run.setup.kind);
     let capacity = run.setup.capacity;
     let number = run.setup.parties;
+    if let Kind::Loan = run.setup.kind {
+        let queue = run.setup.queue;
+        return format!(in alloc; "{name}, slots {capacity}, queue {queue}, parties {number}");
+    }
     format!(in alloc; "{name}, capacity {capacity}, parties {number}")
 }
 

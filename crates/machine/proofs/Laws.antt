@@ -1,6 +1,6 @@
 -- What is proved of every run, one line a kind.
 use Rattle.model.specs.declared.turn.Kind.{Kind}
-use Rattle.model.specs.declared.turn.Kind.TheVariants.{IndexQueue, Overflow, Queue, Atomic, Bits, Counts, Indices, Robust, Container}
+use Rattle.model.specs.declared.turn.Kind.TheVariants.{IndexQueue, Overflow, Queue, Atomic, Bits, Counts, Indices, Robust, Container, Loan}
 use Rattle.model.specs.declared.families.queues.QueueKind as queue_kinds
 use Rattle.model.proofs.Orders.{Keeps}
 use Rattle.atomic_laws.proofs.Justified.{value_keeps}
@@ -8,6 +8,7 @@ use Rattle.bit_laws.proofs.Bits.Justified.{bits_keep}
 use Rattle.bit_laws.proofs.Counts.Justified.{counts_keep}
 use Rattle.container_laws.proofs.Everything.{container_keeps}
 use Rattle.index_laws.proofs.Justified.{index_keeps}
+use Rattle.loan_laws.proofs.Justified.{loan_keeps}
 use Rattle.queue_laws.proofs.Queues.Justified.{queue_keeps}
 use Rattle.robust_laws.proofs.Justified.{robust_keeps}
 
@@ -21,3 +22,4 @@ laws_of Counts = counts_keep
 laws_of Indices = index_keeps
 laws_of Robust = robust_keeps
 laws_of Container = container_keeps
+laws_of Loan = loan_keeps

@@ -56,7 +56,7 @@ impl<T: Words> Model for Machine<T> {
 }
 
 impl<T: Words> Machine<T> {
-    ghost use Rattle.model.specs.World.{opening, capacity_error, IsCreationError, trace_in, world_in, progress_in};
+    ghost use Rattle.model.specs.World.{opening, loan_opening, capacity_error, loan_error, IsCreationError, IsLoanError, trace_in, world_in, progress_in};
     ghost use Rattle.model.specs.Refusals.{refusal_of, IsRefusal, is_going};
     ghost use Rattle.model.specs.Turns.{after_turn, after_turns, AreAllowed};
     ghost use Rattle.model.specs.Linearized.{IsLinearizableRun};
@@ -70,8 +70,8 @@ impl<T: Words> Machine<T> {
     /// party is made as it first begins a call, and room for its state of a container as it first looks.
     ///
     /// Refused are, in this order, a capacity above the greatest of the kind (`ProvidedCapacityGreaterThanMaxCapacity`:
-    /// 1 for a value, 2^24 - 2 for unique indices, else 2^32 - 1), one below the least (`ProvidedCapacityIsZero`: 1, for
-    /// queues, bits and counts 0), and memory (`NoMemory`).
+    /// 1 for a value, 2^24 - 2 for unique indices and a loan channel, else 2^32 - 1), one below the least
+    /// (`ProvidedCapacityIsZero`: 1, for queues, bits and counts 0), and memory (`NoMemory`).
     pub fn new(
         alloc: Global,
         kind: Kind,
@@ -94,17 +94,47 @@ impl<T: Words> Machine<T> {
         })
     }
 
+    /// A loan channel of so many slots, with a submission queue of this capacity. Each index is free, party 0 is the
+    /// sender, party 1 the receiver, and no party is dead. `new` of this kind makes one with as long a queue as it has
+    /// slots.
+    ///
+    /// Refused are, in this order, slots above 2^24 - 2 or a queue above 2^32 - 1, then one of them that is 0, and memory,
+    /// by the same names.
+    pub fn new_loan(
+        alloc: Global,
+        slots: usize,
+        queue: usize,
+        parties: u32,
+    ) -> Result<Machine<T>, UniqueIndexCreationError>
+        ensures ok { IfOk result (λ m. trace_in ⟦<T as Coded>⟧.coding m
+            ≡ loan_opening ⟦<T as Coded>⟧.coding slots queue parties) }
+        ensures admitted { OnOk result (loan_error slots queue ≡ None) }
+        ensures refused { IfErr result (IsLoanError slots queue) }
+    {
+        let parts = Parts::new_loan(alloc, slots, queue, parties)?;
+        let Ok(mut state) = ContainerState::new(alloc, 0, 0) else {
+            return Err(UniqueIndexCreationError::NoMemory);
+        };
+        state.capacity = parts.capacity;
+        Ok(Machine {
+            parts,
+            unlooked: Unlooked { state },
+        })
+    }
+
     /// One turn. A refused turn changes nothing.
     ///
     /// The refusals are tested in this order: `AtEnd` after 2^64 - 2 turns, `NoParty` for a number that is not below
-    /// the number of parties; for `Begin` then `Busy`, `WrongCall`, `BadIndex` for a bit or index of a set that is not
-    /// below the capacity, `NoRole`, `NotHeld` for a release of an index that the party does not hold, `OwnerIsDead` for
-    /// an acquire, a release, an add, a remove or a replace of a dead owner, and `OwnerLives` for a container's recovery
-    /// of an owner who lives; for `Next` `Idle`, `Undecided` where a decision is due, and `OwnerIsDead` for such a call
-    /// under way; for `Decide` `Idle`, `Undecided` where none is due, `OwnerIsDead`, and `OwnerLives` for a yes by which a
-    /// recovery of the robust set would free an index of an owner who lives; for `Die` `WrongCall` where the kind has no
-    /// owners, and `OwnerIsDead`; last `NoMemory`, where there is no room for the events, for a new party, for its state
-    /// or for a dead owner.
+    /// the number of parties; for `Begin` then `Busy`, `WrongCall`, `BadIndex` for a bit or index of a set or a channel
+    /// that is not below the capacity, `NoRole`, of a channel also for a call of another party, `NotHeld` for an index to
+    /// release, give up, send or give back that the party does not have, `OwnerIsDead` for an acquire, a release, an add,
+    /// a remove or a replace of a dead owner and for any call of a dead party of a channel, and `OwnerLives` for a
+    /// container's recovery of an owner who lives and a reclaim while the receiver does; for `Next` `Idle`, `Undecided`
+    /// where a decision is due, and `OwnerIsDead` for such a call under way; for `Decide` `Idle`, `Undecided` where none is
+    /// due, `OwnerIsDead`, and `OwnerLives` for a yes by which a recovery of the robust set would free an index of an owner
+    /// who lives; for `Die` `NoParty` where the owner would be a party of a channel, `WrongCall` where the kind has no
+    /// owners, and `OwnerIsDead`; last `NoMemory`, where there is no room for the events, for a new party, for its state,
+    /// for the value that its call is to read or for a dead owner.
     pub fn step(&mut self, turn: Turn<T>) -> Result<(), Refusal>
         ensures allowed { OnOk result
             (refusal_of (world_in ⟦<T as Coded>⟧.coding self.old) turn ≡ None) }
@@ -217,7 +247,9 @@ impl<T: Words> Machine<T> {
     /// 1 + b / 64. Of a counting bit set: the count of each place. Of the unique index set: the head, the next
     /// index of each index, and the claim flags, 64 to a word. Of the robust index set: the counter, and for each index a
     /// cell with its owner, or `u64::MAX`. Of the container: those of a robust index set, how often it has changed, the
-    /// number of each element, which is odd while a value stands there, and `T::WORDS` words for each.
+    /// number of each element, which is odd while a value stands there, and `T::WORDS` words for each. Of the loan
+    /// channel: those of its unique index set, of the submission queue, which is an overflowing one, and of the completion
+    /// queue.
     pub fn words(&self) -> &[u64]
         ensures { result.now ≡ self.now.words }
     {

@@ -16,6 +16,7 @@ use Rattle.model.specs.declared.turn.Turn.{Turn}
 use Rattle.model.specs.declared.turn.Turn.TheVariants.{Begin, Next, Decide, Die}
 use Rattle.model.specs.Coding.{Coding}
 use Rattle.model.specs.Families.{first_of, want_of, ask_of, is_question, going_rows, has_owners, kept_after_begin, kept_after_death}
+use Rattle.model.specs.Families.Loan.Opening.{is_loan}
 use Rattle.model.specs.Parties.{party_of, put, doing_of, flight_of, progress_after}
 use Rattle.model.specs.Promises.Bounds.{Progresses}
 use Rattle.model.specs.Promise.{Promise}
@@ -25,7 +26,8 @@ use Rattle.model.specs.Refusals.{call_refusal, is_due}
 use Rattle.model.specs.Rows.{first_row}
 use Rattle.model.specs.Shape.{IsShut}
 use Rattle.model.specs.Turns.{old_of, words_after, change_of, step_count, number_of, ask_of_doing, party_at_begin, after_begin, party_after, after_step, step_in, after_answer, after_next, after_decision, after_turn, events_of_step, events_of_answer, events_of_next, events_of_decision, IsReached, IsReachedOn}
-use Rattle.model.specs.World.{Trace, opening, flight_in}
+use Rattle.model.specs.World.{Trace, opening, opened, queue_error, flight_in}
+use Rattle.model.proofs.Openings.{opened_others}
 use Rattle.model.proofs.Parties.{party_put_same, party_put_other}
 use Rattle.model.proofs.Reached.{kept_by_runs, kept_by_runs_on}
 use Rattle.model.proofs.Readings.{AreRight, Each-append, AreOwn, AllFollow, span_of-own, span_of-other, span_of-death, spans_right}
@@ -45,7 +47,7 @@ pub record Family (T : Type 0) : Type 1 where
   pub Fit : Kept T → List ℕ → State → Type 0  -- they hold it
   pub Holds : State → List (ℕ × Party T) → List (Event T) → ℕ → Type 0  -- what is so of it and of the events, after so many turns
   pub written : State → ℕ → Flight T → List (Event T)  -- what a party's call under way has written since its begin
-  pub number : Flight T → ℕ → ℕ  -- how many steps it has taken at most, having turned back so often
+  pub number : List (Event T) → Flight T → ℕ → ℕ  -- how many steps it has taken at most, having written this and turned back so often
   pub At : State → ℕ → Start T → Flight T → Type 0  -- where it stands
   pub Knows : State → ℕ → List (Event T) → ℕ → ℕ → ℕ → Flight T → Type 0  -- what it knows of the events and of the counts
 
@@ -54,7 +56,7 @@ module _ {T : Type 0} (F : Family T) where
 
   pub record IsUnderWay (s : F.State) (p : ℕ) (x : Party T) (flight : Flight T) (seen : Span T) : Type 0 where
     pub span : seen ≡ Open x.start (F.written s p flight)
-    pub steps : x.steps ≤ F.number flight x.backs
+    pub steps : x.steps ≤ F.number (F.written s p flight) flight x.backs
     pub at : F.At s p x.start flight
 
   pub record HasEnded (x : Party T) (seen : Span T) : Type 0 where
@@ -135,7 +137,7 @@ module _ {T : Type 0} (F : Family T) where
     doing_fits : (x : Party T) (doing : Doing T) (span : Span T) → FitsDoing s q x doing span → FitsDoing s' q x doing span
     doing_fits x (Going flight since) span h =
         let both = others x.start flight h.at in
-        record { span = h.span ∙ ap (λ es. Open x.start es) (sym both.1); steps = h.steps; at = both.0 }
+        record { span = h.span ∙ ap (λ es. Open x.start es) (sym both.1); steps = subst (λ es. x.steps ≤ F.number es flight x.backs) (sym both.1) h.steps; at = both.0 }
     doing_fits x (Over others) span h = record { answer = h.answer; wrote = h.wrote; span = h.span; steps = h.steps }
 
     pub still_fits : (o : Option (Party T)) (span : Span T) → Fits s q o span → Fits s' q o span
@@ -226,7 +228,7 @@ module _ {T : Type 0} (F : Family T) where
         → ComesByStep t p x flight since (ask_of (want_of t.world.coding flight)) (old_of t.world.words (ask_of (want_of t.world.coding flight)))
     pub decision : (t : Trace T) (p : ℕ) (x : Party T) (flight : Flight T) (since : ℕ) (said : Bool) → Sound t → May t → first_row (going_rows t.world.coding t.world.kept (Some flight) (Some said)) ≡ None → party_of p t.world.latest ≡ Some x → x.doing ≡ Going flight since → is_question (want_of t.world.coding flight) ≡ true
         → ComesByStep t p x flight since None (number_of said)
-    pub begin : (t : Trace T) (p : ℕ) (start : Start T) (flight : Flight T) → Sound t → May t → MayBegin t.world p start → first_of t.world.kind t.world.capacity start ≡ Some flight
+    pub begin : (t : Trace T) (p : ℕ) (start : Start T) (flight : Flight T) → Sound t → May t → MayBegin t.world p start → first_of t.world.kind t.world.capacity start t.world.kept ≡ Some flight
         → Comes t p (kept_after_begin t.world.coding t.world.capacity start p t.world.kept) t.world.words (party_at_begin start flight t.world.changes) (Begun p start ∷ []) t.world.changes
     pub death : (t : Trace T) (owner : ℕ) (s : Sound t) → MayDie t.world owner → ComesByDeath t s owner
 
@@ -274,7 +276,7 @@ module _ {T : Type 0} (F : Family T) where
             let passed : first_row (going_rows t.world.coding t.world.kept (Some flight) (Some said)) ≡ None = subst (λ o. first_row (going_rows t.world.coding t.world.kept o (Some said)) ≡ None) here rows in
             step_sound t p x flight since None (number_of said) s (laws.decision t p x flight since said s may passed e d asks)
 
-    begin_sound : (t : Trace T) (p : ℕ) (start : Start T) → May t → MayBegin t.world p start → Sound t → (o : Option (Flight T)) → first_of t.world.kind t.world.capacity start ≡ o → Sound record { world = after_begin t.world p start o; events = t.events ++ Begun p start ∷ [] }
+    begin_sound : (t : Trace T) (p : ℕ) (start : Start T) → May t → MayBegin t.world p start → Sound t → (o : Option (Flight T)) → first_of t.world.kind t.world.capacity start t.world.kept ≡ o → Sound record { world = after_begin t.world p start o; events = t.events ++ Begun p start ∷ [] }
     begin_sound t p start small may s None e =
         let call = rw e at may.call in
         absurd (cc)
@@ -314,7 +316,7 @@ module _ {T : Type 0} (F : Family T) where
         }
 
     pub turn_sound : (t : Trace T) (turn : Turn T) → call_refusal t.world turn ≡ None → May t → Sound t → Sound (after_turn t turn)
-    turn_sound t (Begin p start) e may s = begin_sound t p start may (may_begin t.world p start e) s (first_of t.world.kind t.world.capacity start) refl
+    turn_sound t (Begin p start) e may s = begin_sound t p start may (may_begin t.world p start e) s (first_of t.world.kind t.world.capacity start t.world.kept) refl
     turn_sound t (Next p) e may s = next_sound t p may (next_passes t.world p e) s (party_of p t.world.latest) refl
     turn_sound t (Decide p said) e may s =
         decision_sound t p said may (decision_passes t.world p said e) (is_true (is_due t.world.coding (flight_in t.world p)) (must_be_due t.world p said e)) s (party_of p t.world.latest) refl
@@ -328,9 +330,16 @@ module _ {T : Type 0} (F : Family T) where
   abbrev pub LawsOn : Type 0
   LawsOn = LawsWhere (λ t. Unit {0})
 
-  pub reached_sound : Laws → (t : Trace T) → Sound (opening t.world.coding t.world.kind t.world.capacity t.world.parties) → IsReached t → Sound t
-  reached_sound laws t first r =
+  -- from the opening at any second number that is admitted
+  pub reached_from : Laws → (t : Trace T) → ((queue : ℕ) → queue_error t.world.kind queue ≡ None → Sound (opened t.world.coding t.world.kind t.world.capacity queue t.world.parties)) → IsReached t → Sound t
+  reached_from laws t first r =
       kept_by_runs Sound (λ u turn e h. turn_sound (λ t. t.world.turns < 2 ^ 64 - 2) laws u turn (passes u.world turn e).on (passes u.world turn e).turns h) t first r
+
+  -- where there is none
+  pub reached_sound : Laws → (t : Trace T) → is_loan t.world.kind ≡ false → Sound (opening t.world.coding t.world.kind t.world.capacity t.world.parties) → IsReached t → Sound t
+  reached_sound laws t other first r =
+      let w = t.world in
+      reached_from laws t (λ queue admitted. subst Sound (sym (opened_others w.coding w.kind w.capacity queue w.parties other)) first) r
 
   pub reached_on_sound : LawsOn → (t : Trace T) → Sound (opening t.world.coding t.world.kind t.world.capacity t.world.parties) → IsReachedOn t → Sound t
   reached_on_sound laws t first r = kept_by_runs_on Sound (λ u turn e h. turn_sound (λ t. Unit {0}) laws u turn e tt h) t first r
@@ -349,7 +358,7 @@ module _ {T : Type 0} (F : Family T) where
 
   -- what a family says of the counts of a call under way
   pub record Bounds : Type 0 where
-    pub most : (s : F.State) (p backs : ℕ) (start : Start T) (flight : Flight T) → F.At s p start flight → F.number flight backs ≤ F.promise.most_steps F.capacity F.coding.size start backs
+    pub most : (s : F.State) (p backs : ℕ) (start : Start T) (flight : Flight T) → F.At s p start flight → F.number (F.written s p flight) flight backs ≤ F.promise.most_steps F.capacity F.coding.size start backs
     pub paid : (s : F.State) (p : ℕ) (events : List (Event T)) (since changes backs : ℕ) (flight : Flight T) → F.Knows s p events since changes backs flight → backs ≤ changes - since
 
   pub progresses : Bounds → (s : F.State) (p : ℕ) (events : List (Event T)) (changes : ℕ) (o : Option (Party T)) (seen : Span T) → Fits s p o seen → KnowsParty s p events changes o → Progresses F.promise F.capacity F.coding.size seen (progress_after changes o)

@@ -2,8 +2,10 @@ pub mod Counts
 pub mod Dead
 pub mod Frame
 pub mod Linearizable
+pub mod LoanBooks
 pub mod Looks
 pub mod Moments
+pub mod Openings
 pub mod Orders
 pub mod Parties
 pub mod Places
@@ -23,6 +25,7 @@ pub mod WorkedBits
 pub mod WorkedContainer
 pub mod WorkedIndices
 pub mod WorkedLinearizable
+pub mod WorkedLoan
 pub mod WorkedProgress
 pub mod WorkedRobust
 pub mod WorkedValue

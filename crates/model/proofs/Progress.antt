@@ -6,6 +6,7 @@ use Rattle.model.specs.declared.event.Start.TheVariants as starts
 use Rattle.model.specs.declared.families.atomic.AtomicStart.TheVariants as atomics
 use Rattle.model.specs.declared.families.bits.BitsStart.TheVariants as bits
 use Rattle.model.specs.declared.families.container.ContainerStart.TheVariants as containers
+use Rattle.model.specs.declared.families.loan.LoanStart.TheVariants as loans
 use Rattle.model.specs.declared.families.indices.IndexStart.TheVariants as indices
 use Rattle.model.specs.declared.families.indices.robust.RobustStart.TheVariants as robust
 use Rattle.model.specs.declared.families.queues.QueueKind.{QueueKind}
@@ -14,14 +15,15 @@ use Rattle.model.specs.declared.families.queues.QueueStart.{QueueStart}
 use Rattle.model.specs.declared.families.queues.QueueStart.TheVariants as queues
 use Rattle.model.specs.declared.party.Progress.{Progress}
 use Rattle.model.specs.declared.turn.Kind.{Kind}
-use Rattle.model.specs.declared.turn.Kind.TheVariants.{IndexQueue, Overflow, Queue, Atomic, Bits, Counts, Indices, Robust, Container}
+use Rattle.model.specs.declared.turn.Kind.TheVariants.{IndexQueue, Overflow, Queue, Atomic, Bits, Counts, Indices, Robust, Container, Loan}
 use Rattle.model.specs.Families.Atomic.Promises as value_promises
 use Rattle.model.specs.Families.Bits.Promises.{bits_promise, counts_promise}
 use Rattle.model.specs.Families.Container.Promises as container_promises
+use Rattle.model.specs.Families.Loan.Promises as loan_promises
 use Rattle.model.specs.Families.Indices.Promises as index_promises
 use Rattle.model.specs.Families.Indices.Robust.Promises as robust_promises
 use Rattle.model.specs.Families.Queues.Promises as queue_promises
-use Rattle.model.specs.Progress.{Guarantee, WaitFree, ObstructionFree, IsGuaranteed, of_push, of_pop, in_queue, in_value, in_bits, in_counts, in_indices, in_robust, in_container, guarantee_of, IsWithin, LatestIsWithin, KeepsGuarantees}
+use Rattle.model.specs.Progress.{Guarantee, WaitFree, ObstructionFree, IsGuaranteed, of_push, of_pop, in_queue, in_value, in_bits, in_counts, in_indices, in_robust, in_container, in_loan, guarantee_of, IsWithin, LatestIsWithin, KeepsGuarantees}
 use Rattle.model.specs.Promise.{Promise}
 use Rattle.model.specs.Promises.{IsKept}
 use Rattle.model.specs.Promises.Bounds.{IsBounded, Progresses}
@@ -132,6 +134,16 @@ module _ {T : Type 0} where
   container_guaranteed capacity size (starts.Container containers.IsLocked) = λ backs. at_most _
   container_guaranteed capacity size other = λ backs. at_most _
 
+  loan_guaranteed : (capacity size : ℕ) (start : Start T) → IsGuaranteed loan_promises.promise capacity size start (in_loan capacity start)
+  loan_guaranteed capacity size (starts.Loan loans.Loan) = λ backs. at_most _
+  loan_guaranteed capacity size (starts.Loan (loans.Send index)) = λ backs. at_most _
+  loan_guaranteed capacity size (starts.Loan (loans.GiveUp index)) = λ backs. at_most _
+  loan_guaranteed capacity size (starts.Loan loans.TakeBack) = λ backs. at_most _
+  loan_guaranteed capacity size (starts.Loan loans.Receive) = λ backs. at_most _
+  loan_guaranteed capacity size (starts.Loan (loans.GiveBack index)) = λ backs. at_most _
+  loan_guaranteed capacity size (starts.Loan loans.Reclaim) = λ backs. at_most _
+  loan_guaranteed capacity size other = λ backs. at_most _
+
 pub guaranteed : {T : Type 0} (kind : Kind) (capacity size : ℕ) (start : Start T) → IsGuaranteed (promise_of kind) capacity size start (guarantee_of kind capacity size start)
 guaranteed IndexQueue capacity size start = queue_guaranteed queue_kinds.TheVariants.IndexQueue capacity size start
 guaranteed Overflow capacity size start = queue_guaranteed queue_kinds.TheVariants.Overflow capacity size start
@@ -142,6 +154,7 @@ guaranteed Counts capacity size start = counts_guaranteed capacity size start
 guaranteed Indices capacity size start = index_guaranteed capacity size start
 guaranteed Robust capacity size start = robust_guaranteed capacity size start
 guaranteed Container capacity size start = container_guaranteed capacity size start
+guaranteed Loan capacity size start = loan_guaranteed capacity size start
 
 module _ {T : Type 0} where
   -- ---- every run

@@ -14,9 +14,10 @@ use Rattle.steps.specs.declared.ask.Ask.{Ask}
 use Rattle.model.specs.Coding.{Coding, IsCoding}
 use Rattle.model.specs.Families.{first_of}
 use Rattle.model.specs.Parties.{party_of}
-use Rattle.model.specs.World.{World, Trace, opening, capacity_error}
+use Rattle.model.specs.World.{World, Trace, opening, opened, loan_opening, capacity_error, queue_error, loan_error}
 use Rattle.model.specs.Refusals.{refusal_of, call_refusal}
 use Rattle.model.specs.Turns.{after_begin, after_answer, after_next, after_decision, world_after, after_turn, unless_refused, attempt, run, attempt_on, run_on, IsReachedOn, after_turns, AreAllowed, IsReached, ask_of_doing, old_of, number_of}
+use Rattle.model.proofs.Openings.{opened_at_one, queue_admitted, loan_admitted}
 
 module _ {T : Type 0} where
   -- ---- what a machine is made with stays
@@ -47,7 +48,7 @@ module _ {T : Type 0} where
   decision_making w p said (Some x) = answer_making w p x None (number_of said) x.doing
 
   pub turn_making : (w : World T) (turn : Turn T) → SameMaking w (world_after w turn)
-  turn_making w (Begin p start) = begin_making w p start (first_of w.kind w.capacity start)
+  turn_making w (Begin p start) = begin_making w p start (first_of w.kind w.capacity start w.kept)
   turn_making w (Next p) = next_making w p (party_of p w.latest)
   turn_making w (Decide p said) = decision_making w p said (party_of p w.latest)
   turn_making w (Die owner) = record { coding = refl; kind = refl; capacity = refl; parties = refl }
@@ -64,18 +65,33 @@ module _ {T : Type 0} where
   pub reached_more : (t : Trace T) (turn : Turn T) → refusal_of t.world turn ≡ None → IsReached t → IsReached (after_turn t turn)
   reached_more t turn e r =
       let making = turn_making t.world turn in
-      let more : after_turn t turn ≡ run (r.turns ++ turn ∷ []) (opening t.world.coding t.world.kind t.world.capacity t.world.parties) =
-      sym (attempt_allowed t turn e) ∙ (ap (λ u. attempt u turn) r.is ∙ sym (run_more r.turns turn (opening t.world.coding t.world.kind t.world.capacity t.world.parties)))
+      let more : after_turn t turn ≡ run (r.turns ++ turn ∷ []) (opened t.world.coding t.world.kind t.world.capacity r.queue t.world.parties) =
+      sym (attempt_allowed t turn e) ∙ (ap (λ u. attempt u turn) r.is ∙ sym (run_more r.turns turn (opened t.world.coding t.world.kind t.world.capacity r.queue t.world.parties)))
       in
       record {
         coded = rw making.coding r.coded;
         admitted = rw (making.kind, making.capacity) r.admitted;
+        queue = r.queue;
+        queued = rw making.kind r.queued;
         turns = r.turns ++ turn ∷ [];
         is = rw (making.coding, making.kind, making.capacity, making.parties) more;
       }
 
   pub reached_opening : (code : Coding T) (kind : Kind) (capacity parties : ℕ) → IsCoding code → capacity_error kind capacity ≡ None → IsReached (opening code kind capacity parties)
-  reached_opening code kind capacity parties coded e = record { coded = coded; admitted = e; turns = []; is = refl }
+  reached_opening code kind capacity parties coded e =
+      record {
+        coded = coded;
+        admitted = e;
+        queue = capacity;
+        queued = queue_admitted kind capacity e;
+        turns = [];
+        is = sym (opened_at_one code kind capacity parties);
+      }
+
+  pub reached_loan : (code : Coding T) (slots queue parties : ℕ) → IsCoding code → loan_error slots queue ≡ None → IsReached (loan_opening code slots queue parties)
+  reached_loan code slots queue parties coded e =
+      let both = loan_admitted slots queue e in
+      record { coded = coded; admitted = both.0; queue = queue; queued = both.1; turns = []; is = refl }
 
   pub reached_is : (t u : Trace T) → t ≡ u → IsReached u → IsReached t
   reached_is t u e r = subst IsReached (sym e) r
@@ -115,8 +131,9 @@ module _ {T : Type 0} where
     run_keeps [] t h = h
     run_keeps (turn ∷ turns) t h = run_keeps turns (attempt t turn) (attempt_keeps t turn (refusal_of t.world turn) refl h)
 
-    pub kept_by_runs : (t : Trace T) → P (opening t.world.coding t.world.kind t.world.capacity t.world.parties) → IsReached t → P t
-    kept_by_runs t first r = subst P (sym r.is) (run_keeps r.turns (opening t.world.coding t.world.kind t.world.capacity t.world.parties) first)
+    pub kept_by_runs : (t : Trace T) → ((queue : ℕ) → queue_error t.world.kind queue ≡ None → P (opened t.world.coding t.world.kind t.world.capacity queue t.world.parties)) → IsReached t → P t
+    kept_by_runs t first r =
+        subst P (sym r.is) (run_keeps r.turns (opened t.world.coding t.world.kind t.world.capacity r.queue t.world.parties) (first r.queue r.queued))
 
   -- ---- where neither turns nor parties have a bound
 

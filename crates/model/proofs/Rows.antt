@@ -10,7 +10,7 @@ use Rattle.model.specs.declared.turn.Refusal.{Refusal}
 use Rattle.model.specs.declared.turn.Refusal.TheVariants.{AtEnd, NoParty, Idle, Undecided, WrongCall, OwnerIsDead}
 use Rattle.model.specs.Parties.{flight_of, doing_of}
 use Rattle.model.specs.World.{World, flight_in}
-use Rattle.model.specs.Families.{begin_of, first_of, going_rows, has_owners, is_dead}
+use Rattle.model.specs.Families.{begin_of, first_of, going_rows, lacks_party, has_owners, is_dead}
 use Rattle.model.specs.Turns.{turn_of}
 use Rattle.model.specs.Rows.{first_row}
 use Rattle.model.specs.Refusals.{refusal_of, call_refusal, call_rows, is_at_end, is_due}
@@ -56,11 +56,13 @@ module _ {T : Type 0} where
   passes w (Decide p said) e =
       let m = more w ((nat_le w.parties p, NoParty) ∷ call_rows w (Decide p said)) e in
       record { turns = m.0; on = (row_passed (nat_le w.parties p) NoParty (call_refusal w (Decide p said)) m.1).1 }
-  passes w (Die owner) e = let m = more w (call_rows w (Die owner)) e in record { turns = m.0; on = m.1 }
+  passes w (Die owner) e =
+      let m = more w ((lacks_party w.kept w.parties owner, NoParty) ∷ call_rows w (Die owner)) e in
+      record { turns = m.0; on = (row_passed (lacks_party w.kept w.parties owner) NoParty (call_refusal w (Die owner)) m.1).1 }
 
   pub record MayBegin (w : World T) (p : ℕ) (start : Start T) : Type 0 where
     pub free : flight_in w p ≡ None
-    pub call : is_none (first_of w.kind w.capacity start) ≡ false
+    pub call : is_none (first_of w.kind w.capacity start w.kept) ≡ false
     pub rows : first_row ((begin_of w.kind w.capacity start).rows w.kept p) ≡ None
 
   pub may_begin : (w : World T) (p : ℕ) (start : Start T) → call_refusal w (Begin p start) ≡ None → MayBegin w p start

@@ -45,7 +45,7 @@ module _ {T : Type 0} where
     pub record StandsThere (start : Start T) (flight : Flight T) : Type 0 where
       pub found : flight_of (doing_of (party_of p t.world.latest)) ≡ Some flight
       pub span : span_of p t.events ≡ Open start (F.written s.state p flight)
-      pub steps : x.steps ≤ F.number flight x.backs
+      pub steps : x.steps ≤ F.number (F.written s.state p flight) flight x.backs
       pub at : F.At s.state p start flight
       pub knows : F.Knows s.state p t.events since t.world.changes x.backs flight
 

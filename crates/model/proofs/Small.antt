@@ -116,7 +116,7 @@ module _ {T : Type 0} where
       }
 
   turn_small : (w : World T) (turn : Turn T) → refusal_of w turn ≡ None → IsSmall w → IsSmall (world_after w turn)
-  turn_small w (Begin p start) e h = begin_small w p start (first_of w.kind w.capacity start) (passes w (Begin p start) e).turns h
+  turn_small w (Begin p start) e h = begin_small w p start (first_of w.kind w.capacity start w.kept) (passes w (Begin p start) e).turns h
   turn_small w (Next p) e h = next_small w p (party_of p w.latest) refl (passes w (Next p) e).turns h
   turn_small w (Decide p said) e h = decision_small w p said (party_of p w.latest) refl (passes w (Decide p said) e).turns h
   turn_small w (Die owner) e h = death_small w owner (passes w (Die owner) e).turns h
@@ -124,5 +124,5 @@ module _ {T : Type 0} where
   pub reached_small : (t : Trace T) → IsReached t → IsSmall t.world
   reached_small t r =
       kept_by_runs (λ t. IsSmall t.world) (λ t turn e h. turn_small t.world turn e h) t
-      (record { turns = omega arith; changes = omega arith; latest = λ p x found. absurd (cc) })
+      (λ queue admitted. record { turns = omega arith; changes = omega arith; latest = λ p x found. absurd (cc) })
       r

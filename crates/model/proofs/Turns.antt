@@ -106,7 +106,7 @@ module _ {T : Type 0} where
 
   pub one_turn_later : (w : World T) (turn : Turn T) → call_refusal w turn ≡ None → IsOneTurnLater w (world_after w turn)
   one_turn_later w (Begin p start) e =
-      same_but_turns w (Begin p start) (begin_turns w p start (first_of w.kind w.capacity start) (may_begin w p start e).call)
+      same_but_turns w (Begin p start) (begin_turns w p start (first_of w.kind w.capacity start w.kept) (may_begin w p start e).call)
   one_turn_later w (Next p) e =
       let may = may_next w p e in
       same_but_turns w (Next p) (next_turns w p may.flight (party_of p w.latest) may.is)
@@ -138,7 +138,7 @@ module _ {T : Type 0} where
   decision_word w p said (Some x) = decided_word w p x (number_of said) x.doing
 
   pub writes_one_word : (w : World T) (turn : Turn T) → WritesOneWord w turn (world_after w turn)
-  writes_one_word w (Begin p start) = begin_word w p start (first_of w.kind w.capacity start)
+  writes_one_word w (Begin p start) = begin_word w p start (first_of w.kind w.capacity start w.kept)
   writes_one_word w (Next p) = next_word w p (party_of p w.latest)
   writes_one_word w (Decide p said) = decision_word w p said (party_of p w.latest)
   writes_one_word w (Die owner) = refl
@@ -186,7 +186,7 @@ module _ {T : Type 0} where
   begin_goes w p start (Some flight) e = ap (λ o. flight_of (doing_of o)) (party_put_same p (party_at_begin start flight w.changes) w.latest)
 
   pub goes_on : (w : World T) (turn : Turn T) → GoesAsTold w → call_refusal w turn ≡ None → GoesOn w turn (world_after w turn)
-  goes_on w (Begin p start) tells e = begin_goes w p start (first_of w.kind w.capacity start) (may_begin w p start e).call
+  goes_on w (Begin p start) tells e = begin_goes w p start (first_of w.kind w.capacity start w.kept) (may_begin w p start e).call
   goes_on w (Next p) tells e = next_goes w p tells (party_of p w.latest) refl
   goes_on w (Decide p said) tells e = decision_goes w p said tells (party_of p w.latest) refl
   goes_on w (Die owner) tells e = tt
@@ -242,7 +242,7 @@ module _ {T : Type 0} where
       rw (party_put_same p (party_at_begin start flight w.changes) w.latest, none) refl
 
   pub counts_turn : (w : World T) (turn : Turn T) → call_refusal w turn ≡ None → CountsTurn w turn (world_after w turn)
-  counts_turn w (Begin p start) e = begin_counts w p start (first_of w.kind w.capacity start) (may_begin w p start e).call
+  counts_turn w (Begin p start) e = begin_counts w p start (first_of w.kind w.capacity start w.kept) (may_begin w p start e).call
   counts_turn w (Next p) e = next_counts w p (party_of p w.latest) refl
   counts_turn w (Decide p said) e = decision_counts w p said (party_of p w.latest) refl
   counts_turn w (Die owner) e = tt
@@ -304,7 +304,7 @@ module _ {T : Type 0} where
   decision_others w p said (Some x) q ne small = answer_others w p x None (number_of said) x.doing q ne small
 
   pub counts_others : (w : World T) (turn : Turn T) → IsSmall w → CountsOthers w turn (world_after w turn)
-  counts_others w (Begin p start) small q ne = begin_others w p start (first_of w.kind w.capacity start) q ne small
+  counts_others w (Begin p start) small q ne = begin_others w p start (first_of w.kind w.capacity start w.kept) q ne small
   counts_others w (Next p) small q ne = next_others w p (party_of p w.latest) q ne small
   counts_others w (Decide p said) small q ne = decision_others w p said (party_of p w.latest) q ne small
   counts_others w (Die owner) small q ne =

@@ -1,5 +1,5 @@
 -- The families of calls: one line a family, which passes on to what stands in its own room.
-use Rattle.std.specs.Prelude.{ℕ, Bool, true, false, not, Option, Some, None, is_none, List, [], ◌∷◌}
+use Rattle.std.specs.Prelude.{ℕ, Bool, true, false, not, Option, Some, None, is_none, List, [], ◌∷◌, nat_le}
 use Rattle.steps.specs.declared.ask.After.{After}
 use Rattle.steps.specs.declared.ask.After.TheVariants.{GoOn}
 use Rattle.steps.specs.declared.ask.Ask.{Ask}
@@ -26,6 +26,7 @@ pub mod Atomic
 pub mod Bits
 pub mod Container
 pub mod Indices
+pub mod Loan
 pub mod Queues
 use Rattle.model.specs.Families.Atomic.Calls as atomic_calls
 use Rattle.model.specs.Families.Atomic.Opening as atomic_opening
@@ -43,6 +44,9 @@ use Rattle.model.specs.Families.Indices.Robust.Calls as robust_calls
 use Rattle.model.specs.Families.Indices.Robust.Dead.{has_died, dead_with}
 use Rattle.model.specs.Families.Indices.Robust.Opening as robust_opening
 use Rattle.model.specs.Families.Indices.Robust.Steps as robust_steps
+use Rattle.model.specs.Families.Loan.Calls as loan_calls
+use Rattle.model.specs.Families.Loan.Opening as loan_opening
+use Rattle.model.specs.Families.Loan.Steps as loan_steps
 use Rattle.model.specs.Families.Queues.Calls as queue_calls
 use Rattle.model.specs.Families.Queues.Opening as queue_opening
 use Rattle.model.specs.Families.Queues.Steps as queue_steps
@@ -59,6 +63,7 @@ opening_of kinds.TheVariants.Counts = bits_opening.counts_opening
 opening_of kinds.TheVariants.Indices = index_opening.opening
 opening_of kinds.TheVariants.Robust = robust_opening.opening
 opening_of kinds.TheVariants.Container = container_opening.opening
+opening_of kinds.TheVariants.Loan = loan_opening.opening
 
 -- ---- a call begins
 
@@ -74,21 +79,24 @@ module _ {T : Type 0} where
       robust_opening.begin kind capacity start
   begin_of kind capacity (starts.TheVariants.Container start) =
       container_opening.begin kind capacity start
+  begin_of kind capacity (starts.TheVariants.Loan start) = loan_opening.begin kind capacity start
 
   -- the call that begins, or None where the kind has no such call
-  abbrev pub first_of : Kind → ℕ → Start T → Option (Flight T)
-  first_of kind capacity start = (begin_of kind capacity start).call
+  abbrev pub first_of : Kind → ℕ → Start T → Kept T → Option (Flight T)
+  first_of kind capacity start kept = (begin_of kind capacity start).call kept
 
   -- what is tested of a party that is to begin a call, in order: the family's rows come last
   abbrev pub begin_rows : Kind → ℕ → Kept T → ℕ → Start T → List (Bool × Refusal)
   begin_rows kind capacity kept p start =
-      (is_none (first_of kind capacity start), WrongCall)
+      (is_none (first_of kind capacity start kept), WrongCall)
       ∷ (begin_of kind capacity start).rows kept p
 
   -- what a family keeps once the party has begun the call
   abbrev pub kept_after_begin : Coding T → ℕ → Start T → ℕ → Kept T → Kept T
   kept_after_begin code capacity (starts.TheVariants.Container start) p kept =
       container_opening.keeps code capacity start p kept
+  kept_after_begin code capacity (starts.TheVariants.Loan start) p kept =
+      loan_opening.keeps start kept
   kept_after_begin code capacity start p kept = kept
 
 -- ---- a call goes on
@@ -112,6 +120,7 @@ module _ {T : Type 0} where
   going_of code (flights.TheVariants.Indices flight) = index_calls.going flight
   going_of code (flights.TheVariants.Robust flight) = robust_calls.going flight
   going_of code (flights.TheVariants.Container flight) = container_calls.going code flight
+  going_of code (flights.TheVariants.Loan flight) = loan_calls.going flight
 
   -- what a call under way wants next
   abbrev pub want_of : Coding T → Flight T → Want (Unit {0})
@@ -125,6 +134,7 @@ module _ {T : Type 0} where
   abbrev pub goes_of : Coding T → ℕ → Flight T → ℕ → Kept T → After (Flight T) (Answer T)
   goes_of code p (flights.TheVariants.Container flight) old kept =
       container_calls.goes code p flight old kept
+  goes_of code p (flights.TheVariants.Loan flight) old kept = loan_calls.goes flight old kept
   goes_of code p flight old kept = after_of code flight old
 
   -- how many events its next step writes at most, apart from the end of the call
@@ -141,6 +151,7 @@ module _ {T : Type 0} where
   abbrev pub beside_of : List ℕ → Kept T → List (ℕ × Party T) → ℕ → Option (ℕ × ℕ)
   beside_of words (kepts.TheVariants.Queues roles) latest p =
       queue_steps.beside roles words latest p
+  beside_of words (kepts.TheVariants.Loan book) latest p = loan_steps.beside book words latest p
   beside_of words kept latest p = None
 
   -- What the step of a call comes to, in these words and from this old value of its word. Where the
@@ -171,6 +182,10 @@ module _ {T : Type 0} where
       (flights.TheVariants.Container flight) old (kepts.TheVariants.Container dead states) =
       as_step flights.TheVariants.Container (λ kept. kepts.TheVariants.Container kept.0 kept.1)
       (container_steps.step code p flight old dead states)
+  step_of code words beside p (starts.TheVariants.Loan start) (flights.TheVariants.Loan flight) old
+      (kepts.TheVariants.Loan book) =
+      as_step flights.TheVariants.Loan kepts.TheVariants.Loan
+      (loan_steps.step words beside p start flight old book)
   step_of code words beside p start flight old kept =
       record { after = GoOn flight; back = false; wrote = []; kept = kept }
 
@@ -180,13 +195,20 @@ module _ {T : Type 0} where
 abbrev pub has_owners : {T : Type 0} → Kept T → Bool
 has_owners (kepts.TheVariants.Owners dead) = true
 has_owners (kepts.TheVariants.Container dead states) = true
+has_owners (kepts.TheVariants.Loan book) = true
 has_owners kept = false
 
 -- whether the owner is dead
 abbrev pub is_dead : {T : Type 0} → Kept T → ℕ → Bool
 is_dead (kepts.TheVariants.Owners dead) owner = has_died owner dead
 is_dead (kepts.TheVariants.Container dead states) owner = has_died owner dead
+is_dead (kepts.TheVariants.Loan book) owner = has_died owner book.dead
 is_dead kept owner = false
+
+-- whether the owner would be a party, and there is none of this number
+abbrev pub lacks_party : {T : Type 0} → Kept T → ℕ → ℕ → Bool
+lacks_party (kepts.TheVariants.Loan book) parties owner = nat_le parties owner
+lacks_party kept parties owner = false
 
 -- what is tested of an owner who is to die
 abbrev pub death_rows : {T : Type 0} → Kept T → ℕ → List (Bool × Refusal)
@@ -199,4 +221,6 @@ kept_after_death (kepts.TheVariants.Owners dead) owner =
     kepts.TheVariants.Owners (dead_with owner dead)
 kept_after_death (kepts.TheVariants.Container dead states) owner =
     kepts.TheVariants.Container (dead_with owner dead) states
+kept_after_death (kepts.TheVariants.Loan book) owner =
+    kepts.TheVariants.Loan (record book { dead = dead_with owner book.dead })
 kept_after_death kept owner = kept

@@ -17,6 +17,8 @@ use Rattle.model.specs.declared.families.indices.IndexStart.{IndexStart}
 use Rattle.model.specs.declared.families.indices.IndexStart.TheVariants as indices
 use Rattle.model.specs.declared.families.indices.robust.RobustStart.{RobustStart}
 use Rattle.model.specs.declared.families.indices.robust.RobustStart.TheVariants as robust
+use Rattle.model.specs.declared.families.loan.LoanStart.{LoanStart}
+use Rattle.model.specs.declared.families.loan.LoanStart.TheVariants as loans
 use Rattle.model.specs.declared.families.queues.calls.QueueFlight as queue_flights
 use Rattle.model.specs.declared.families.queues.QueueKind.{QueueKind}
 use Rattle.model.specs.declared.families.queues.QueueKind as queue_kinds
@@ -24,7 +26,7 @@ use Rattle.model.specs.declared.families.queues.QueueStart.{QueueStart}
 use Rattle.model.specs.declared.families.queues.QueueStart.TheVariants as queues
 use Rattle.model.specs.declared.party.Progress.{Progress}
 use Rattle.model.specs.declared.turn.Kind.{Kind}
-use Rattle.model.specs.declared.turn.Kind.TheVariants.{IndexQueue, Overflow, Queue, Atomic, Bits, Counts, Indices, Robust, Container}
+use Rattle.model.specs.declared.turn.Kind.TheVariants.{IndexQueue, Overflow, Queue, Atomic, Bits, Counts, Indices, Robust, Container, Loan}
 use Rattle.model.specs.Coding.{Coding}
 use Rattle.model.specs.Families.{ask_of, want_of}
 use Rattle.model.specs.Promise.{Promise}
@@ -117,6 +119,15 @@ of_robust capacity (robust.Recover LockIfLastIndex) =
 of_robust capacity robust.BorrowedIndices = ObstructionFree (capacity + 2) (capacity + 2)
 of_robust capacity robust.IsLocked = WaitFree 1
 
+abbrev pub of_loan : ℕ → LoanStart → Guarantee
+of_loan slots loans.Loan = ObstructionFree (4 + slots) (max 2 slots)
+of_loan slots (loans.Send index) = WaitFree 11
+of_loan slots (loans.GiveUp index) = WaitFree 5
+of_loan slots loans.TakeBack = WaitFree 9
+of_loan slots loans.Receive = ObstructionFree 4 2
+of_loan slots (loans.GiveBack index) = WaitFree 4
+of_loan slots loans.Reclaim = ObstructionFree (8 * (slots + 1) + 5 * slots) 2
+
 module _ {T : Type 0} where
   abbrev pub of_container : ℕ → ℕ → ContainerStart T → Guarantee
   of_container capacity size (containers.Add value owner) =
@@ -167,6 +178,10 @@ module _ {T : Type 0} where
   in_container capacity size (starts.Container start) = of_container capacity size start
   in_container capacity size other = WaitFree 0
 
+  abbrev pub in_loan : ℕ → Start T → Guarantee
+  in_loan slots (starts.Loan start) = of_loan slots start
+  in_loan slots other = WaitFree 0
+
   -- the guarantee of a kind's call, at this capacity, where a value has so many words
   abbrev pub guarantee_of : Kind → ℕ → ℕ → Start T → Guarantee
   guarantee_of IndexQueue capacity size start = in_queue size queue_kinds.TheVariants.IndexQueue start
@@ -178,6 +193,7 @@ module _ {T : Type 0} where
   guarantee_of Indices capacity size start = in_indices capacity start
   guarantee_of Robust capacity size start = in_robust capacity start
   guarantee_of Container capacity size start = in_container capacity size start
+  guarantee_of Loan capacity size start = in_loan capacity start
 
 -- the table is right by the promised bounds
 abbrev pub AreGuaranteed : Type 0 → Kind → Type 0

@@ -4,7 +4,7 @@ use Rattle.std.specs.List.{flat_map}
 use Rattle.model.specs.declared.event.Start.{Start}
 use Rattle.model.specs.declared.event.Answer.{Answer}
 use Rattle.model.specs.declared.event.Event.{Event}
-use Rattle.model.specs.declared.event.Event.TheVariants.{Begun, Published, HandedOut, Set, Cleared, Counted, TakenOut, Claimed, Freed, Locked, Filled, Granted, FreedOf, Asked, Told, Placed, Hidden, Copied, Shown, Died, Acted, Finished}
+use Rattle.model.specs.declared.event.Event.TheVariants.{Begun, Published, HandedOut, Set, Cleared, Counted, TakenOut, Claimed, Freed, Locked, Filled, Granted, FreedOf, Asked, Told, Placed, Hidden, Copied, Shown, Returned, TakenBack, Died, Acted, Finished}
 
 module _ {T : Type 0} where
   -- P holds of each event and of what stands before it
@@ -45,6 +45,8 @@ module _ {T : Type 0} where
   whose (Hidden p index) = Some p
   whose (Copied p index value) = Some p
   whose (Shown p index) = Some p
+  whose (Returned p index) = Some p
+  whose (TakenBack p index) = Some p
   whose (Died o) = None
   whose (Acted p start answer) = Some p
   whose (Finished p start answer) = Some p

@@ -6,7 +6,7 @@ use Rattle.model.specs.declared.turn.Turn.TheVariants.{Begin, Next, Decide, Die}
 use Rattle.model.specs.declared.turn.Refusal.{Refusal}
 use Rattle.model.specs.declared.turn.Refusal.TheVariants.{NoParty, Busy, Idle, Undecided, NoMemory, AtEnd}
 use Rattle.model.specs.Coding.{Coding}
-use Rattle.model.specs.Families.{begin_rows, going_rows, death_rows, want_of, is_question}
+use Rattle.model.specs.Families.{begin_rows, going_rows, lacks_party, death_rows, want_of, is_question}
 use Rattle.model.specs.Rows.{first_row}
 use Rattle.model.specs.World.{World, flight_in}
 
@@ -49,7 +49,8 @@ module _ {T : Type 0} where
       (is_at_end w, AtEnd) ∷ (nat_le w.parties p, NoParty) ∷ call_rows w (Next p)
   rows_of w (Decide p said) =
       (is_at_end w, AtEnd) ∷ (nat_le w.parties p, NoParty) ∷ call_rows w (Decide p said)
-  rows_of w (Die owner) = (is_at_end w, AtEnd) ∷ call_rows w (Die owner)
+  rows_of w (Die owner) =
+      (is_at_end w, AtEnd) ∷ (lacks_party w.kept w.parties owner, NoParty) ∷ call_rows w (Die owner)
 
   -- the refusal where neither turns nor parties have a bound
   abbrev pub call_refusal : World T → Turn T → Option Refusal

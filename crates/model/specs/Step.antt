@@ -10,7 +10,7 @@ use Rattle.model.specs.declared.families.Kept.{Kept}
 use Rattle.model.specs.declared.turn.Refusal.{Refusal}
 
 pub record Beginning (F K : Type 0) : Type 0 where
-  pub call : Option F  -- the call that begins, or None where the kind has no such call
+  pub call : K → Option F  -- the call that begins, or None where the kind has no such call
   pub rows : K → ℕ → List (Bool × Refusal)  -- what is tested of a party that is to begin it
 
 pub record Going (F T : Type 0) : Type 0 where

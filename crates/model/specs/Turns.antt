@@ -21,7 +21,7 @@ use Rattle.model.specs.Families.{first_of, want_of, ask_of, beside_of, step_of, 
 use Rattle.model.specs.Parties.{party_of, put}
 use Rattle.model.specs.Refusals.{refusal_of, call_refusal}
 use Rattle.model.specs.Step.{Step, answer_in}
-use Rattle.model.specs.World.{World, Trace, opening, capacity_error}
+use Rattle.model.specs.World.{World, Trace, opening, opened, capacity_error, queue_error}
 
 -- ---- one operation on one word
 
@@ -156,7 +156,7 @@ module _ {T : Type 0} where
   after_death w owner = record w { kept = kept_after_death w.kept owner; turns = w.turns + 1 }
 
   abbrev pub world_after : World T → Turn T → World T
-  world_after w (Begin p start) = after_begin w p start (first_of w.kind w.capacity start)
+  world_after w (Begin p start) = after_begin w p start (first_of w.kind w.capacity start w.kept)
   world_after w (Next p) = after_next w p (party_of p w.latest)
   world_after w (Decide p said) = after_decision w p said (party_of p w.latest)
   world_after w (Die owner) = after_death w owner
@@ -222,10 +222,13 @@ module _ {T : Type 0} where
     pub is : t
         ≡ run_on turns (opening t.world.coding t.world.kind t.world.capacity t.world.parties)
 
-  -- some list of turns leads here from the opening, at a capacity that is admitted
+  -- some list of turns leads here from the opening, at a capacity that is admitted, and for a loan channel at a
+  -- capacity of its submission queue
   pub record IsReached (t : Trace T) : Type 0 where
     pub coded : IsCoding t.world.coding
     pub admitted : capacity_error t.world.kind t.world.capacity ≡ None
+    pub queue : ℕ
+    pub queued : queue_error t.world.kind queue ≡ None
     pub turns : List (Turn T)
     pub is : t
-        ≡ run turns (opening t.world.coding t.world.kind t.world.capacity t.world.parties)
+        ≡ run turns (opened t.world.coding t.world.kind t.world.capacity queue t.world.parties)

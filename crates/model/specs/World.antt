@@ -1,7 +1,7 @@
 -- The machine as plain data.
-use Rattle.std.specs.Prelude.{◌≡◌, ◌⊎◌, ℕ, Option, Some, None, List, []}
+use Rattle.std.specs.Prelude.{◌≡◌, ◌⊎◌, ℕ, ◌-◌, ◌^◌, ◌||◌, Option, Some, None, List, [], if◌then◌else◌, nat_lt}
 use Rattle.steps.specs.declared.enums.UniqueIndexCreationError.{UniqueIndexCreationError}
-use Rattle.steps.specs.declared.enums.UniqueIndexCreationError.TheVariants.{NoMemory}
+use Rattle.steps.specs.declared.enums.UniqueIndexCreationError.TheVariants.{NoMemory, ProvidedCapacityGreaterThanMaxCapacity, ProvidedCapacityIsZero}
 use Rattle.steps.specs.Enums.{capacity_refusal}
 use Rattle.model.specs.declared.event.Event.{Event}
 use Rattle.model.specs.declared.families.Flight.{Flight}
@@ -9,8 +9,10 @@ use Rattle.model.specs.declared.families.Kept.{Kept}
 use Rattle.model.specs.declared.party.Party.{Party}
 use Rattle.model.specs.declared.party.Progress.{Progress}
 use Rattle.model.specs.declared.turn.Kind.{Kind}
+use Rattle.model.specs.declared.turn.Kind.TheVariants.{Loan}
 use Rattle.model.specs.Coding.{Coding}
 use Rattle.model.specs.Families.{opening_of}
+use Rattle.model.specs.Families.Loan.Opening.{opening_words, opening_kept}
 use Rattle.model.specs.Parties.{party_of, doing_of, flight_of, progress_after}
 
 pub record World (T : Type 0) : Type 0 where
@@ -50,6 +52,36 @@ capacity_error kind capacity =
 abbrev pub IsCreationError : Kind → ℕ → UniqueIndexCreationError → Type 0
 IsCreationError kind capacity e =
     (capacity_error kind capacity ≡ Some e) ⊎ (capacity_error kind capacity ≡ None) × (e ≡ NoMemory)
+
+-- ---- a loan channel is made with two numbers: its slots, and the capacity of its submission queue
+
+-- the refusal of the second number, which no other kind has
+abbrev pub queue_error : Kind → ℕ → Option UniqueIndexCreationError
+queue_error Loan queue = capacity_refusal 1 (2 ^ 32 - 1) queue
+queue_error kind queue = None
+
+-- the refusal of both: a number above its greatest comes before one below its least
+abbrev pub loan_error : ℕ → ℕ → Option UniqueIndexCreationError
+loan_error slots queue =
+    if nat_lt (2 ^ 24 - 2) slots || nat_lt (2 ^ 32 - 1) queue
+    then Some ProvidedCapacityGreaterThanMaxCapacity
+    else if nat_lt slots 1 || nat_lt queue 1
+    then Some ProvidedCapacityIsZero
+    else None
+
+abbrev pub IsLoanError : ℕ → ℕ → UniqueIndexCreationError → Type 0
+IsLoanError slots queue e =
+    (loan_error slots queue ≡ Some e) ⊎ (loan_error slots queue ≡ None) × (e ≡ NoMemory)
+
+-- the words at the opening, by the number of words of a value, the capacity and the second number
+abbrev pub words_opened : Kind → ℕ → ℕ → ℕ → List ℕ
+words_opened Loan size capacity queue = opening_words capacity queue
+words_opened kind size capacity queue = (opening_of kind).words size capacity
+
+-- and what is kept beside them
+abbrev pub kept_opened : {T : Type 0} → Kind → ℕ → ℕ → Kept T
+kept_opened Loan capacity queue = opening_kept capacity queue
+kept_opened kind capacity queue = (opening_of kind).kept capacity
 
 module _ {T : Type 0} where
   -- the machine that holds this, where values are written so
@@ -91,6 +123,29 @@ module _ {T : Type 0} where
             };
         events = [];
       }
+
+  -- the same with a second number, which only a loan channel has
+  abbrev pub opened : Coding T → Kind → ℕ → ℕ → ℕ → Trace T
+  opened code kind capacity queue parties =
+      record {
+        world =
+            record {
+              coding = code;
+              kind = kind;
+              capacity = capacity;
+              parties = parties;
+              words = words_opened kind code.size capacity queue;
+              kept = kept_opened kind capacity queue;
+              latest = [];
+              changes = 0;
+              turns = 0;
+            };
+        events = [];
+      }
+
+  -- a loan channel of so many slots, with a submission queue of this capacity
+  abbrev pub loan_opening : Coding T → ℕ → ℕ → ℕ → Trace T
+  loan_opening code slots queue parties = opened code Loan slots queue parties
 
   -- the party's call under way
   abbrev pub flight_in : World T → ℕ → Option (Flight T)

@@ -6,6 +6,7 @@ use crate::families::bits::BitsStart;
 use crate::families::container::ContainerStart;
 use crate::families::indices::IndexStart;
 use crate::families::indices::robust::RobustStart;
+use crate::families::loan::LoanStart;
 use crate::families::queues::QueueStart;
 use std::alloc::AllocError;
 use steps::container::enums::{ContainerAddFailure, ContainerRemoveError};
@@ -38,6 +39,8 @@ pub enum Start<T> {
     Robust(RobustStart),
     /// A call of the container.
     Container(ContainerStart<T>),
+    /// A call of a loan channel.
+    Loan(LoanStart),
 }
 
 // `clone` by hand, here and below, and no `Debug`: a derive goes through every field of every case, and the proof of
@@ -142,6 +145,10 @@ pub enum Event<T> {
     Copied(u32, u32, T),
     /// A recovery has found that nothing stands at this index.
     Shown(u32, u32),
+    /// The receiver of a loan channel has given this index back: from here on it waits in the completion queue.
+    Returned(u32, u64),
+    /// The sender of a loan channel has taken this index, the oldest that waited there, out of the completion queue.
+    TakenBack(u32, u64),
     /// The owner died. This is an event of no party.
     Died(OwnerId),
     /// The linearization point of the call, with its answer. It can come in the turn of another party.

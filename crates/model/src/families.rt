@@ -1,8 +1,9 @@
 //! The families of calls. Each has a room of its own, and here one line where a machine passes on to it.
-ghost use Rattle.std.specs.Prelude.{◌≡◌, ◌+◌, ◌≤◌, ◌++◌, true, false, None, Some, OnOk, IfOk, IfErr, vec_len, vec_capacity};
+ghost use Rattle.std.specs.Prelude.{◌≡◌, ◌+◌, ◌≤◌, ◌++◌, ◌⊎◌, true, false, None, Some, OnOk, IfOk, IfErr, vec_len, vec_capacity};
 ghost use Rattle.steps.specs.Ask.{CameTo};
-ghost use Rattle.model.specs.Families.{opening_of, first_of, begin_rows, want_of, is_question, most_of, beside_of, step_of, going_rows, death_rows, kept_after_death, kept_after_begin};
+ghost use Rattle.model.specs.Families.{opening_of, first_of, begin_rows, want_of, is_question, most_of, beside_of, step_of, going_rows, lacks_party, death_rows, kept_after_death, kept_after_begin};
 ghost use Rattle.model.specs.Rows.{first_row};
+ghost use Rattle.model.specs.declared.turn.Refusal.TheVariants.{NoMemory};
 
 use crate::coding::Coded;
 use crate::event::{Answer, Event, Start};
@@ -16,6 +17,8 @@ use indices::calls::IndexFlight;
 use indices::holders::Holders;
 use indices::robust::calls::RobustFlight;
 use indices::robust::dead::Dead;
+use loan::Book;
+use loan::calls::LoanFlight;
 use queues::calls::QueueFlight;
 use queues::{QueueKind, Roles};
 use std::alloc::{AllocError, Global};
@@ -27,6 +30,7 @@ pub mod atomic;
 pub mod bits;
 pub mod container;
 pub mod indices;
+pub mod loan;
 pub mod queues;
 
 /// A call under way in a machine.
@@ -38,6 +42,7 @@ pub enum Flight<T> {
     Indices(IndexFlight),
     Robust(RobustFlight),
     Container(ContainerFlight<T>),
+    Loan(LoanFlight),
 }
 
 /// What a family needs to know beside its words.
@@ -54,6 +59,8 @@ pub enum Kept<T> {
     Owners(Dead),
     /// The owners that have died, and the states of the parties of a container.
     Container(Dead, States<T>),
+    /// What is kept of a loan channel.
+    Loan(Book),
 }
 
 /// What the step of one party has to know of the others: the party and the value of a push that acts where this step
@@ -82,6 +89,7 @@ pub fn capacities(kind: Kind) -> (u64, u64)
         Kind::Indices => indices::opening::CAPACITIES,
         Kind::Robust => indices::robust::opening::CAPACITIES,
         Kind::Container => container::opening::CAPACITIES,
+        Kind::Loan => loan::opening::CAPACITIES,
     }
 }
 
@@ -105,30 +113,34 @@ pub fn opening<T: Words>(
         Kind::Indices => indices::opening::open::<T>(alloc, capacity),
         Kind::Robust => indices::robust::opening::open::<T>(alloc, capacity),
         Kind::Container => container::opening::open::<T>(alloc, capacity),
+        Kind::Loan => loan::opening::open::<T>(alloc, capacity, capacity),
     }
 }
 
-/// The call that this party begins, or why it may not.
+/// The call that this party begins, or why it may not, unless memory for its room is refused.
 pub fn begin<T: Words>(
+    alloc: Global,
     kind: Kind,
     capacity: u32,
     kept: &Kept<T>,
     number: u32,
     start: &Start<T>,
 ) -> Result<Flight<T>, Refusal>
-    ensures ok { IfOk result (λ flight. first_of kind capacity start.now ≡ Some flight) }
+    ensures ok { IfOk result (λ flight. first_of kind capacity start.now kept.now ≡ Some flight) }
     ensures allowed { OnOk result
         (first_row (begin_rows kind capacity kept.now number start.now) ≡ None) }
     ensures refused { IfErr result
-        (λ row. first_row (begin_rows kind capacity kept.now number start.now) ≡ Some row) }
+        (λ row. (first_row (begin_rows kind capacity kept.now number start.now) ≡ Some row)
+        ⊎ (first_row (begin_rows kind capacity kept.now number start.now) ≡ None)
+        × (row ≡ NoMemory)) }
 {
     match (start, kept) {
         (Start::Queues(start), Kept::Queues(roles)) => {
-            let flight = queues::opening::begin(kind, capacity, roles, number, start)?;
+            let flight = queues::opening::begin(alloc, kind, capacity, roles, number, start)?;
             Ok(Flight::Queues(flight))
         }
         (Start::Atomic(start), Kept::Atomic(producer)) => {
-            let flight = atomic::opening::begin(kind, *producer, number, start)?;
+            let flight = atomic::opening::begin(alloc, kind, *producer, number, start)?;
             Ok(Flight::Atomic(flight))
         }
         (Start::Bits(start), Kept::Nothing) => {
@@ -144,8 +156,12 @@ pub fn begin<T: Words>(
             Ok(Flight::Robust(flight))
         }
         (Start::Container(start), Kept::Container(dead, _)) => {
-            let flight = container::opening::begin(kind, capacity, dead, start)?;
+            let flight = container::opening::begin(alloc, kind, capacity, dead, start)?;
             Ok(Flight::Container(flight))
+        }
+        (Start::Loan(start), Kept::Loan(book)) => {
+            let flight = loan::opening::begin(kind, capacity, book, number, *start)?;
+            Ok(Flight::Loan(flight))
         }
         _ => Err(Refusal::WrongCall),
     }
@@ -162,7 +178,21 @@ pub fn keep<T: Words>(kept: &mut Kept<T>, capacity: u32, start: &Start<T>, numbe
         (Start::Container(start), Kept::Container(_, states)) => {
             container::opening::keep(capacity, start, number, states)
         }
+        (Start::Loan(start), Kept::Loan(book)) => {
+            book.keep(*start);
+            true
+        }
         _ => true,
+    }
+}
+
+/// Whether the owner would be a party, and there is none of this number.
+pub fn lacks_party<T>(kept: &Kept<T>, parties: u32, owner: OwnerId) -> bool
+    ensures { result ≡ lacks_party kept.now parties owner }
+{
+    match kept {
+        Kept::Loan(_) => owner.value() >= parties as u64,
+        _ => false,
     }
 }
 
@@ -185,6 +215,13 @@ pub fn death_refusal<T>(kept: &Kept<T>, owner: OwnerId) -> Option<Refusal>
                 None
             }
         }
+        Kept::Loan(book) => {
+            if book.dead.has(owner) {
+                Some(Refusal::OwnerIsDead)
+            } else {
+                None
+            }
+        }
         _ => Some(Refusal::WrongCall),
     }
 }
@@ -197,6 +234,7 @@ pub fn die<T>(kept: &mut Kept<T>, owner: OwnerId) -> bool
     match kept {
         Kept::Owners(dead) => dead.add(owner),
         Kept::Container(dead, _) => dead.add(owner),
+        Kept::Loan(book) => book.dead.add(owner),
         _ => true,
     }
 }
@@ -207,6 +245,7 @@ pub fn look_beside<T>(kept: &Kept<T>, words: &Vec<u64>, latest: &Latest<T>, numb
 {
     match kept {
         Kept::Queues(roles) => queues::effects::look_beside(roles, words, latest, number),
+        Kept::Loan(book) => loan::effects::look_beside(book, words, latest, number),
         _ => None,
     }
 }
@@ -225,6 +264,7 @@ impl<T: Words> Flight<T> {
             Flight::Indices(flight) => (flight.want(), indices::effects::MOST_EFFECTS),
             Flight::Robust(flight) => (flight.want(), indices::robust::effects::MOST_EFFECTS),
             Flight::Container(flight) => (flight.want(), container::effects::MOST_EFFECTS),
+            Flight::Loan(flight) => (flight.want(), loan::effects::MOST_EFFECTS),
         }
     }
 
@@ -246,6 +286,7 @@ impl<T: Words> Flight<T> {
         match (self, kept) {
             (Flight::Robust(flight), Kept::Owners(dead)) => flight.going_refusal(dead, said),
             (Flight::Container(flight), Kept::Container(dead, _)) => flight.going_refusal(dead),
+            (Flight::Loan(flight), Kept::Loan(book)) => flight.going_refusal(book),
             _ => None,
         }
     }
@@ -295,6 +336,9 @@ impl<T: Words> Flight<T> {
             }
             (Flight::Container(flight), Start::Container(_), Kept::Container(_, states)) => {
                 flight.go_on(number, answer, states, events)
+            }
+            (Flight::Loan(flight), Start::Loan(start), Kept::Loan(book)) => {
+                flight.go_on(number, *start, words, beside, answer, book, events)
             }
             _ => Went {
                 back: false,

@@ -6,5 +6,6 @@ pub mod coding;
 pub mod event;
 pub mod families;
 pub mod party;
+pub mod room;
 pub mod turn;
 pub mod words;

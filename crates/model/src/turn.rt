@@ -1,6 +1,6 @@
 //! What a machine is made of, its turns, and why one is refused.
-ghost use Rattle.std.specs.Prelude.{◌≡◌, ⊤};
-ghost use Rattle.model.specs.World.{capacity_error};
+ghost use Rattle.std.specs.Prelude.{◌≡◌, ◌-◌, ◌^◌, ◌≤◌, None, ⊤};
+ghost use Rattle.model.specs.World.{capacity_error, loan_error};
 
 use crate::event::Start;
 use crate::families::capacities;
@@ -28,16 +28,34 @@ pub enum Kind {
     Robust,
     /// The container of values.
     Container,
+    /// The loan channel.
+    Loan,
 }
 
 /// Why a machine of this kind is not made with this capacity, or None. A queue and a set of bits or counts have from 0
-/// to 2^32 - 1, the single value 1, the unique index set from 1 to 2^24 - 2, and the robust one and the container from
-/// 1 to 2^32 - 1.
+/// to 2^32 - 1, the single value 1, the unique index set and the loan channel from 1 to 2^24 - 2, and the robust one and the
+/// container from 1 to 2^32 - 1.
 pub fn capacity_error(kind: Kind, capacity: usize) -> Option<UniqueIndexCreationError>
     ensures { result ≡ capacity_error kind capacity }
 {
     let (least, greatest) = capacities(kind);
     capacity_refusal(capacity as u64, least, greatest)
+}
+
+/// Why a loan channel of so many slots, with a submission queue of this capacity, is not made, or None. It has from 1 to
+/// 2^24 - 2 slots, and its queue from 1 to 2^32 - 1. A number above its greatest is refused before one below its least.
+pub fn loan_error(slots: usize, queue: usize) -> Option<UniqueIndexCreationError>
+    ensures error { result ≡ loan_error slots queue }
+    ensures slots { result ≡ None → slots ≤ 2 ^ 24 - 2 }
+    ensures queue { result ≡ None → queue ≤ 2 ^ 32 - 1 }
+{
+    if 0xff_fffe < slots || 0xffff_ffff < queue {
+        return Some(UniqueIndexCreationError::ProvidedCapacityGreaterThanMaxCapacity);
+    }
+    if slots < 1 || queue < 1 {
+        return Some(UniqueIndexCreationError::ProvidedCapacityIsZero);
+    }
+    None
 }
 
 /// One turn of a run. The number is the party's.

@@ -9,8 +9,8 @@ use Rattle.model.specs.declared.party.Doing.TheVariants.{Going, Over}
 use Rattle.model.specs.declared.party.Party.{Party}
 use Rattle.model.specs.declared.turn.Refusal.{Refusal}
 use Rattle.model.specs.declared.turn.Refusal.TheVariants.{NoParty, Busy, Idle}
-use Rattle.model.specs.declared.turn.Turn.TheVariants.{Begin}
-use Rattle.model.specs.Families.{begin_rows, beside_of}
+use Rattle.model.specs.declared.turn.Turn.TheVariants.{Begin, Die}
+use Rattle.model.specs.Families.{begin_rows, beside_of, lacks_party, death_rows}
 use Rattle.model.specs.Parties.{party_of, put, doing_of, flight_of}
 use Rattle.model.specs.Refusals.{refusal_of, IsRefusal}
 use Rattle.model.specs.Rows.{first_row}
@@ -122,3 +122,15 @@ some_found (Some x) found is e = ap is_some (sym is)
 pub none_found : {A : Type 0} (o : Option (Bor A)) (found : Option A) → option_copied o ≡ found → false ≡ is_some o → is_some found ≡ false
 none_found None found is e = ap is_some (sym is)
 none_found (Some x) found is e = absurd (cc)
+
+-- a death passes where its rows do
+pub death_passes : {T : Type 0} (w : World T) (owner : ℕ) → w.turns < 2 ^ 64 - 2 → lacks_party w.kept w.parties owner ≡ false → first_row (death_rows w.kept owner) ≡ None → refusal_of w (Die owner) ≡ None
+death_passes w owner small there rows =
+    let early : nat_le (2 ^ 64 - 2) w.turns ≡ false = grind (arith, nat_tests) in
+    rw (early, there) rows
+
+-- and is refused where one of them applies
+pub death_refuses : {T : Type 0} (w : World T) (owner : ℕ) (row : Refusal) → w.turns < 2 ^ 64 - 2 → lacks_party w.kept w.parties owner ≡ false → first_row (death_rows w.kept owner) ≡ Some row → refusal_of w (Die owner) ≡ Some row
+death_refuses w owner row small there rows =
+    let early : nat_le (2 ^ 64 - 2) w.turns ≡ false = grind (arith, nat_tests) in
+    rw (early, there) rows

@@ -2,9 +2,10 @@
 ghost use Rattle.std.specs.Prelude.{◌≡◌, ◌-◌, ◌^◌, ◌≤◌, ◌<◌, true, false, None, OnOk, OnErr, IfOk, IfErr};
 ghost use Rattle.model.specs.Families.{kept_after_begin};
 ghost use Rattle.model.specs.Parties.{put};
-ghost use Rattle.model.specs.World.{opening, capacity_error, IsCreationError};
+ghost use Rattle.model.specs.World.{opening, loan_opening, capacity_error, loan_error, IsCreationError, IsLoanError};
 ghost use Rattle.model.specs.Refusals.{refusal_of, IsRefusal};
 ghost use Rattle.model.specs.Small.{IsSmall, HasSmallCounts};
+ghost use Rattle.model.specs.declared.party.Doing.TheVariants.{Over};
 ghost use Rattle.model.specs.Turns.{turn_of, number_of, one_if, after_turn};
 ghost use Rattle.parts.specs.Parts.{state_of, trace_of, going_refusal, IsGoingRefusal, around, after_turn_of};
 
@@ -12,7 +13,7 @@ use model::coding::Coded;
 use model::event::{Event, Start};
 use model::families::{self, Beside, Kept};
 use model::party::{Doing, Latest, Party, flight_of};
-use model::turn::{Kind, Refusal, Turn, capacity_error};
+use model::turn::{Kind, Refusal, Turn, capacity_error, loan_error};
 use model::words;
 use std::alloc::Global;
 use std::collections::BTreeMap;
@@ -83,6 +84,14 @@ fn enter<T: Words>(
     false
 }
 
+/// The party's call is done, and others made so many changes since it began. It stands by itself since its flight ends
+/// here, in one of many ways.
+fn finish<T: Words>(party: &mut Party<T>, others: u64)
+    ensures { party.new ≡ record party.old { doing = Over others } }
+{
+    party.doing = Doing::Over(others);
+}
+
 /// The party's call takes its step, or is handed a decision, unless it is refused.
 fn go_on<T: Words>(
     party: &mut Party<T>,
@@ -135,7 +144,8 @@ fn go_on<T: Words>(
     party.backs += one_if(went.back);
     if let Some(answer) = went.done {
         events.push_reserved(Event::Finished(number, party.start, answer));
-        party.doing = Doing::Over(changes.saturating_sub(*since));
+        let others = changes.saturating_sub(*since);
+        finish(party, others);
     }
     words::write(words, ask);
     Ok(())
@@ -174,6 +184,39 @@ impl<T: Words> Parts<T> {
         })
     }
 
+    /// The same of a loan channel of so many slots, with a submission queue of this capacity.
+    pub fn new_loan(
+        alloc: Global,
+        slots: usize,
+        queue: usize,
+        parties: u32,
+    ) -> Result<Parts<T>, UniqueIndexCreationError>
+        ensures ok { IfOk result (λ m. trace_of ⟦<T as Coded>⟧.coding m
+            ≡ loan_opening ⟦<T as Coded>⟧.coding slots queue parties) }
+        ensures admitted { OnOk result (loan_error slots queue ≡ None) }
+        ensures refused { IfErr result (IsLoanError slots queue) }
+    {
+        if let Some(error) = loan_error(slots, queue) {
+            return Err(error);
+        }
+        let capacity = slots as u32;
+        let opened = families::loan::opening::open::<T>(alloc, capacity, queue as u32);
+        let Ok((words, kept)) = opened else {
+            return Err(UniqueIndexCreationError::NoMemory);
+        };
+        Ok(Parts {
+            kind: Kind::Loan,
+            capacity,
+            parties,
+            words,
+            kept,
+            latest: BTreeMap::new(alloc),
+            changes: 0,
+            turns: 0,
+            events: Vec::new(alloc),
+        })
+    }
+
     /// The party begins this call, unless that is refused.
     fn begin(&mut self, number: u32, start: Start<T>) -> Result<(), Refusal>
         requires { self.old.turns < 2 ^ 64 - 2 }
@@ -193,7 +236,8 @@ impl<T: Words> Parts<T> {
         if flight_of(&self.latest, number).is_some() {
             return Err(Refusal::Busy);
         }
-        let flight = families::begin(self.kind, self.capacity, &self.kept, number, &start)?;
+        let alloc = *self.events.allocator();
+        let flight = families::begin(alloc, self.kind, self.capacity, &self.kept, number, &start)?;
         let Ok(()) = self.events.reserve(1) else {
             return Err(Refusal::NoMemory);
         };
@@ -271,6 +315,9 @@ impl<T: Words> Parts<T> {
             ≡ after_turn (trace_of ⟦<T as Coded>⟧.coding self.old) (Turn.Die owner)) }
         ensures err { OnErr result (state_of self.new ≡ state_of self.old) }
     {
+        if families::lacks_party(&self.kept, self.parties, owner) {
+            return Err(Refusal::NoParty);
+        }
         if let Some(refusal) = families::death_refusal(&self.kept, owner) {
             return Err(refusal);
         }

@@ -106,7 +106,7 @@ module _ {T : Type 0} where
         Fit = Fit;
         Holds = λ s latest events turns. Holds c s latest events turns;
         written = λ s p flight. wrote_of p s.events;
-        number = number c;
+        number = λ wrote. number c;
         At = λ s p start flight. FlightAt c (deeds_of p s.events) start flight;
         Knows = λ s p events since changes backs flight. Knowing c flight (view s.words events p since changes backs);
       }

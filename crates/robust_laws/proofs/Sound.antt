@@ -46,6 +46,7 @@ use Rattle.model.specs.Families.Indices.Robust.Dead as rows
 use Rattle.model.specs.Families.Indices.Robust.Opening.{opening_words, is_owner, names_owner, call_rows, kept_rows}
 use Rattle.model.specs.Families.Indices.Robust.Promises.{IsFilledWith, IsProper, AsksRight}
 use Rattle.model.specs.Families.Indices.Robust.Reading.{Deed, Yes, deeds, filled_after, is_dead, settled_of, wrote_in, deeds_of, IsOneOf}
+use Rattle.model.specs.Families.Loan.Opening.{is_loan}
 use Rattle.model.specs.Parties.{party_of}
 use Rattle.model.specs.Reading.{Open, span_of}
 use Rattle.model.specs.Rows.{first_row}
@@ -258,9 +259,9 @@ module _ (T : Type 0) (c : ℕ) where
   named_own start flight true t e = absurd (cc)
   named_own start flight false t e = absurd (cc)
 
-  begins_own : (start : Start T) (flight : Flight T) → first_of kinds.TheVariants.Robust c start ≡ Some flight → IsOwn T c start flight
-  begins_own (Robust start) flight e = named_own start flight (names_owner start) refl e
-  begins_own start flight e = absurd (cc)
+  begins_own : (kept : Kept T) (start : Start T) (flight : Flight T) → first_of kinds.TheVariants.Robust c start kept ≡ Some flight → IsOwn T c start flight
+  begins_own kept (Robust start) flight e = named_own start flight (names_owner start) refl e
+  begins_own kept start flight e = absurd (cc)
 
 -- ---- the laws of the family
 
@@ -401,23 +402,23 @@ module _ {T : Type 0} (code : Coding T) (c : ℕ) (t : Trace T) (s : frame.Sound
     span_begun : (start : RobustStart) → span_of p (t.events ++ Begun p (Robust start) ∷ []) ≡ Open (Robust start) []
     span_begun start = span_of-own p t.events (Begun p (Robust start) ∷ []) (refl, tt)
 
-    pub begin_comes : (start : Start T) (flight : Flight T) → MayBegin t.world p start → first_of t.world.kind t.world.capacity start ≡ Some flight
+    pub begin_comes : (start : Start T) (flight : Flight T) → MayBegin t.world p start → first_of t.world.kind t.world.capacity start t.world.kept ≡ Some flight
         → frame.Comes (family code c) t p (kept_after_begin t.world.coding t.world.capacity start p t.world.kept) t.world.words (party_at_begin start flight t.world.changes) (Begun p start ∷ []) t.world.changes
     begin_comes (Robust start) (flights.TheVariants.Robust flight) may e =
         let is = kept_is t.world.kept t.world.words s.state s.fit in
         let listed : first_row (kept_rows {T = T} t.world.capacity start (kepts.TheVariants.Owners s.state.dead) p) ≡ None = subst (λ kept. first_row (kept_rows {T = T} t.world.capacity start kept p) ≡ None) is.0 may.rows in
         let passed : first_row (call_rows c s.state.dead start) ≡ None = subst (λ n. first_row (call_rows n s.state.dead start) ≡ None) s.capacity listed in
-        let named : first_of {T = T} kinds.TheVariants.Robust t.world.capacity (Robust start) ≡ Some (flights.TheVariants.Robust flight) = subst
-        (λ kind. first_of {T = T} kind t.world.capacity (Robust start) ≡ Some (flights.TheVariants.Robust flight)) s.kind e in
+        let named : first_of {T = T} kinds.TheVariants.Robust t.world.capacity (Robust start) t.world.kept ≡ Some (flights.TheVariants.Robust flight) = subst
+        (λ kind. first_of {T = T} kind t.world.capacity (Robust start) t.world.kept ≡ Some (flights.TheVariants.Robust flight)) s.kind e in
         let own : IsOwn T c (Robust start) (flights.TheVariants.Robust flight) = subst (λ n. IsOwn T n (Robust start) (flights.TheVariants.Robust flight)) s.capacity
-        (begins_own T t.world.capacity (Robust start) (flights.TheVariants.Robust flight) named) in
+        (begins_own T t.world.capacity t.world.kept (Robust start) (flights.TheVariants.Robust flight) named) in
         let g = s.holds.good in
         begins_now start flight
         (subst (λ f. IsFirst T c s.state.words t.events p t.world.changes start f) own.0 (first_is c s.state.words t.events p t.world.changes g.some g.owned start own.1 s.state.dead passed (ap (λ a. deeds (wrote_in a)) (span_begun start))))
         (span_begun start) may
     begin_comes start flight may e =
-        let named : first_of kinds.TheVariants.Robust t.world.capacity start ≡ Some flight = subst (λ kind. first_of kind t.world.capacity start ≡ Some flight) s.kind e in
-        absurd (begins_own T t.world.capacity start flight named)
+        let named : first_of kinds.TheVariants.Robust t.world.capacity start t.world.kept ≡ Some flight = subst (λ kind. first_of kind t.world.capacity start t.world.kept ≡ Some flight) s.kind e in
+        absurd (begins_own T t.world.capacity t.world.kept start flight named)
 
   -- ---- an owner dies
 
@@ -471,6 +472,6 @@ module _ {T : Type 0} where
       let w = t.world in
       let may = admitted_is w.capacity (subst (λ kind. capacity_error kind w.capacity ≡ None) is r.admitted) in
       let first = opening_sound w.coding w.capacity w.parties may.0 may.1 in
-      frame.reached_sound (family w.coding w.capacity) (laws w.coding w.capacity) t
+      frame.reached_sound (family w.coding w.capacity) (laws w.coding w.capacity) t (ap is_loan is)
       (subst (λ kind. frame.Sound (family w.coding w.capacity) (opening w.coding kind w.capacity w.parties)) (sym is) first)
       r

@@ -6,6 +6,7 @@ use Rattle.schedule.specs.Bits.{set, any_set_call, bit_set_call, counting_bit_se
 use Rattle.schedule.specs.Container as container
 use Rattle.schedule.specs.Indices.{mode_at, release, any_index_call, index_call}
 use Rattle.schedule.specs.Indices.Robust as robust
+use Rattle.schedule.specs.Loan as loan
 use Rattle.schedule.specs.Queues.{push_index, push_value, item_call, any_call, queue_call}
 use Rattle.schedule.specs.Grammar.{number_at, setup_of, begin_of, next_of, decision_of, turn_of, death_of, command_of}
 use Rattle.schedule.specs.Print.{event_text, refusal_text}
@@ -79,6 +80,21 @@ replaced : output [] (codes "container 1 2\n0 begin add 5 1\n0 next 9\n1 begin g
     ≡ printed_whole (codes "0 begun add 5 1\n0 filled 0 1\n0 granted 0 1\n0 placed 0 5\n0 finished add 5 1 -> 0\n1 begun get_state\n1 copied 0 5\n1 finished get_state -> 1\n0 begun replace 0 6 1\n0 hidden 0\n0 placed 0 6\n0 finished replace 0 6 1 -> done\n1 begun update_state\n1 copied 0 6\n1 finished update_state -> true\n")
 unfolding output_of_lines machine_of setup_of number_at lines_from command_of turn_of begin_of container.container_call container.any_container_call container.add container.replace next_of nexts outcome event_text digits
 replaced = refl
+
+-- a full queue hands the oldest index back, the receiver dies with the other one, and the sender takes it back
+reclaimed : output [] (codes "loan 2 1 3\n0 begin loan\n0 next 20\n0 begin send 0\n0 next 20\n0 begin loan\n0 next 20\n0 begin send 1\n0 next 20\n1 begin receive\n1 next 20\n0 begin loan\n0 next 20\ndie 1\n0 begin reclaim\n0 next 20\n")
+    ≡ printed_whole (codes "0 begun loan\n0 claimed 0\n0 finished loan -> 0\n0 begun send 0\n0 published 0\n0 acted send 0 -> none\n0 finished send 0 -> none\n0 begun loan\n0 claimed 1\n0 finished loan -> 1\n0 begun send 1\n0 published 1\n0 handed_out 0\n0 acted send 1 -> some 0\n0 freed 0\n0 finished send 1 -> some 0\n1 begun receive\n1 handed_out 1\n1 acted receive -> some 1\n1 finished receive -> some 1\n0 begun loan\n0 claimed 0\n0 finished loan -> 0\ndied 1\n0 begun reclaim\n0 freed 1\n0 finished reclaim -> 1\n")
+unfolding output_of_lines machine_of setup_of number_at lines_from command_of turn_of death_of begin_of loan.loan_call loan.any_loan_call loan.send next_of nexts outcome event_text digits
+reclaimed = refl
+
+-- both numbers of a loan channel are tested, first whether one is above its greatest
+too_many_slots : output [] (codes "loan 16777215 0 1") ≡ stopped 1 causes.ProvidedCapacityGreaterThanMaxCapacity
+unfolding output_of_lines machine_of setup_of number_at
+too_many_slots = refl
+
+no_room_to_send : output [] (codes "loan 1 0 1") ≡ stopped 1 causes.ProvidedCapacityIsZero
+unfolding output_of_lines machine_of setup_of number_at
+no_room_to_send = refl
 
 -- memory refused to the second turn
 short_turn : output (false ∷ true ∷ []) (codes "index_queue 1 1\n0 begin acquire_producer\n0 next\n0 next")

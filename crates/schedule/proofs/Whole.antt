@@ -4,7 +4,7 @@ use Rattle.std.specs.Io.KnownBytes.{Appends, Keeps}
 use Rattle.std.proofs.KnownBytes.{Appends-nil, Appends-kept}
 use Rattle.std.proofs.lemmas.List.Splits.{length-slice_split}
 use Rattle.std.proofs.lemmas.List.Sums.{count_by-le-length}
-use Rattle.model.specs.World.{World, opening}
+use Rattle.model.specs.World.{World}
 use Rattle.schedule.specs.declared.error.Cause.{Cause}
 use Rattle.schedule.specs.declared.error.Cause.TheVariants.{MissingValue}
 use Rattle.schedule.specs.declared.error.ScheduleError.{ScheduleError}
@@ -12,7 +12,7 @@ use Rattle.schedule.specs.declared.error.ScheduleError.TheVariants.{Malformed, R
 use Rattle.schedule.specs.declared.grammar.Setup.{Setup}
 use Rattle.schedule.specs.Text.{lines, words}
 use Rattle.schedule.specs.Written.{AppendsPart}
-use Rattle.schedule.specs.Output.{two_words, Output, stopped, machine_of, lines_from, opened, output_of_lines, output}
+use Rattle.schedule.specs.Output.{Output, stopped, machine_of, trace_of, lines_from, opened, output_of_lines, output}
 use Rattle.schedule.specs.Run.{IsOutput, IsRun}
 use Rattle.schedule.proofs.Lines.{output_from}
 
@@ -57,7 +57,7 @@ same_output one other same b a (Err ReadFailed) p = p
 same_output one other same b a (Err NoMemory) p = p
 
 pub text_lines : (input first : List ℕ) (rest : List (List ℕ)) (setup : Setup) (w : World ℕ) (b a : Option (List ℕ)) (r : Result (Unit {0}) ScheduleError)
-    → lines input ≡ first ∷ rest → machine_of (words first) ≡ Ok setup → w ≡ (opening two_words setup.kind setup.capacity setup.parties).world
+    → lines input ≡ first ∷ rest → machine_of (words first) ≡ Ok setup → w ≡ (trace_of setup).world
     → IsOutput (output_from setup.kind rest w) b a r → IsOutput (λ memory. output memory input) b a r
 text_lines input first rest setup w b a r e read same p =
     same_output (output_from setup.kind rest w) (λ memory. output memory input)

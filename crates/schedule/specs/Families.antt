@@ -11,12 +11,13 @@ use Rattle.schedule.specs.Bits as bits
 use Rattle.schedule.specs.Container as container
 use Rattle.schedule.specs.Indices as indices
 use Rattle.schedule.specs.Indices.Robust as robust
+use Rattle.schedule.specs.Loan as loan
 use Rattle.schedule.specs.Queues as queues
 
 abbrev pub families : List Family
 families =
     queues.family ∷ atomic.family ∷ bits.family ∷ indices.family ∷ robust.family
-    ∷ container.family ∷ []
+    ∷ container.family ∷ loan.family ∷ []
 
 -- what the first of them says that says anything
 abbrev pub first_of : {A : Type 0} → (Family → Option A) → List Family → Option A

@@ -3,6 +3,7 @@ use Rattle.std.specs.Prelude.{ℕ, ◌-◌, ◌^◌, ◌==◌, Bool, true, false
 use Rattle.model.specs.declared.event.Start.{Start}
 use Rattle.model.specs.declared.turn.Kind.{Kind}
 use Rattle.model.specs.declared.turn.Turn.TheVariants.{Begin, Next, Decide, Die}
+use Rattle.model.specs.Families.Loan.Opening.{is_loan}
 use Rattle.schedule.specs.declared.error.Cause.{Cause}
 use Rattle.schedule.specs.declared.error.Cause.TheVariants.{BadValue, UnknownKind, UnknownTurn, UnknownCall}
 use Rattle.schedule.specs.declared.grammar.Command.{Command}
@@ -17,15 +18,20 @@ use Rattle.schedule.specs.Text.{number_of}
 abbrev pub kind_of : List ℕ → Result Kind Cause
 kind_of name = elim (kind_named name) [ Some kind ↦ Ok kind | None ↦ Err UnknownKind ]
 
--- a kind, a capacity and how many parties
+-- the capacity of a loan channel's queue; any other kind has none
+abbrev pub queue_at : Kind → List (List ℕ) → Result (ℕ × List (List ℕ)) Cause
+queue_at kind ws = if is_loan kind then number_at (2 ^ 64 - 1) ws else Ok (0, ws)
+
+-- a kind, a capacity, of a loan channel that of its queue too, and how many parties
 unfoldable pub setup_of : List (List ℕ) → Result Setup Cause
 setup_of ws = do
   name ← next_word ws
   kind ← kind_of name.0
   capacity ← number_at (2 ^ 64 - 1) name.1
-  parties ← number_at (2 ^ 32 - 1) capacity.1
+  queue ← queue_at kind capacity.1
+  parties ← number_at (2 ^ 32 - 1) queue.1
   end ← ended parties.1
-  Ok (record { kind = kind; capacity = capacity.0; parties = parties.0 })
+  Ok (record { kind = kind; capacity = capacity.0; queue = queue.0; parties = parties.0 })
 
 -- ---- calls
 

@@ -5,6 +5,7 @@ pub mod Families
 pub mod Family
 pub mod Grammar
 pub mod Indices
+pub mod Loan
 pub mod Output
 pub mod Print
 pub mod Queues

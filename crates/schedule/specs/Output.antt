@@ -10,7 +10,8 @@ use Rattle.model.specs.declared.turn.Turn.TheVariants.{Next}
 use Rattle.steps.specs.Words.{words_of_u128, value_of_u128}
 use Rattle.model.specs.Coding.{Coding, coding_of}
 use Rattle.model.specs.World as machines
-use Rattle.model.specs.World.{World, opening, capacity_error, world_in}
+use Rattle.model.specs.Families.Loan.Opening.{is_loan}
+use Rattle.model.specs.World.{World, Trace, opening, loan_opening, capacity_error, loan_error, world_in}
 use Rattle.model.specs.Refusals.{refusal_of, is_going}
 use Rattle.model.specs.Turns.{world_after, events_of}
 use Rattle.schedule.specs.declared.error.Cause.{Cause}
@@ -139,14 +140,27 @@ abbrev pub admitted : Setup → Option Cause → Result Setup Cause
 admitted setup None = Ok setup
 admitted setup (Some cause) = Err cause
 
+-- of a loan channel both its numbers are tested
+abbrev pub setup_error : Setup → Option UniqueIndexCreationError
+setup_error setup =
+    if is_loan setup.kind
+    then loan_error setup.capacity setup.queue
+    else capacity_error setup.kind setup.capacity
+
 unfoldable pub machine_of : List (List ℕ) → Result Setup Cause
 machine_of ws = do
   setup ← setup_of ws
-  admitted setup (capacity_cause (capacity_error setup.kind setup.capacity))
+  admitted setup (capacity_cause (setup_error setup))
+
+-- the machine of a first line
+abbrev pub trace_of : Setup → Trace ℕ
+trace_of setup =
+    if is_loan setup.kind
+    then loan_opening two_words setup.capacity setup.queue setup.parties
+    else opening two_words setup.kind setup.capacity setup.parties
 
 abbrev pub opened : Setup → List Bool → State
-opened setup memory =
-    record { world = (opening two_words setup.kind setup.capacity setup.parties).world; memory = memory }
+opened setup memory = record { world = (trace_of setup).world; memory = memory }
 
 unfoldable pub output_of_lines : List Bool → List (List ℕ) → Output
 output_of_lines memory [] = stopped 1 causes.MissingValue

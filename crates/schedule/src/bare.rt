@@ -3,7 +3,7 @@
 use crate::error::{Cause, ScheduleError};
 use crate::grammar::{Command, Setup, command_of, setup_of};
 use crate::line::Line;
-use crate::runs::{machine_of, run_and_tell, run_in};
+use crate::runs::{self, machine_of, run_and_tell, run_in};
 use crate::told::status;
 use machine::event::Event;
 use machine::party::Progress;
@@ -26,9 +26,19 @@ pub fn made_of<T: Words>(
     Machine::new(alloc, kind, capacity, parties)
 }
 
+/// A new loan channel.
+pub fn made_loan<T: Words>(
+    alloc: Global,
+    slots: usize,
+    queue: usize,
+    parties: u32,
+) -> Result<Machine<T>, UniqueIndexCreationError> {
+    Machine::new_loan(alloc, slots, queue, parties)
+}
+
 /// The machine of a first line that was read, or None where there is no memory.
 pub fn made(alloc: Global, setup: Setup) -> Option<Machine<u128>> {
-    made_of(alloc, setup.kind, setup.capacity as usize, setup.parties).ok()
+    runs::made_of(alloc, setup).ok()
 }
 
 /// One turn.

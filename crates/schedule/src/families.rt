@@ -19,7 +19,8 @@ macro_rules! families {
             crate::bits::$ask $given,
             crate::indices::$ask $given,
             crate::indices::robust::$ask $given,
-            crate::container::$ask $given
+            crate::container::$ask $given,
+            crate::loan::$ask $given
         )
     };
 }

@@ -1,23 +1,25 @@
 //! What a line says, read word by word.
 ghost use Rattle.std.specs.Prelude.{◌≡◌, ◌≤◌, ◌-◌, ◌==◌, IfOk};
 ghost use Rattle.schedule.specs.Text.{words_left, words};
-ghost use Rattle.schedule.specs.Grammar.{Gives, next_word, ended, number_at, owner_at, kind_of, setup_of, call_of, begin_of, count_of, next_of, decision_of, turn_of, death_of, command_of};
+ghost use Rattle.schedule.specs.Grammar.{Gives, next_word, ended, number_at, owner_at, kind_of, queue_at, setup_of, call_of, begin_of, count_of, next_of, decision_of, turn_of, death_of, command_of};
 
 use crate::error::Cause;
 use crate::families;
 use crate::text::{Rest, number_of, words};
 use machine::event::Start;
+use machine::families::loan::opening::is_loan;
 use machine::turn::{Kind, Turn};
 use steps::enums::OwnerId;
 
 /// The greatest number of an owner.
 const GREATEST_OWNER: u128 = 0xffff_ffff_ffff_fffe;
 
-/// The first line: the machine, before its capacity is tested.
+/// The first line: the machine, before its capacity is tested. The second number is that of a loan channel's queue.
 #[derive(Clone, Copy)]
 pub struct Setup {
     pub kind: Kind,
     pub capacity: u64,
+    pub queue: u64,
     pub parties: u32,
 }
 
@@ -85,7 +87,19 @@ fn kind_of(name: &[u8]) -> Result<Kind, Cause>
     }
 }
 
-/// Reads the first line: a kind, a capacity and how many parties. The error is the first from the left.
+// The capacity of a loan channel's queue, and the words behind it. Any other kind has none.
+fn queue_at(kind: Kind, words: Rest<'_>) -> Result<(u64, Rest<'_>), Cause>
+    ensures { Gives (λ x. (x.0, words_left x.1)) result (queue_at kind (words_left words.entry)) }
+{
+    if !is_loan(kind) {
+        return Ok((0, words));
+    }
+    let (queue, rest) = number_at(u128::from(u64::MAX), words)?;
+    Ok((queue as u64, rest))
+}
+
+/// Reads the first line: a kind, a capacity, of a loan channel that of its queue too, and how many parties. The error is
+/// the first from the left.
 #[tactic(auto, unfolding(crate::specs::Grammar::setup_of))]
 pub fn setup_of(line: &[u8]) -> Result<Setup, Cause>
     ensures { Gives (λ setup. setup) result (setup_of (words line.now)) }
@@ -93,11 +107,13 @@ pub fn setup_of(line: &[u8]) -> Result<Setup, Cause>
     let (name, rest) = next_word(words(line))?;
     let kind = kind_of(name)?;
     let (capacity, rest) = number_at(u128::from(u64::MAX), rest)?;
+    let (queue, rest) = queue_at(kind, rest)?;
     let (parties, rest) = number_at(u128::from(u32::MAX), rest)?;
     ended(rest)?;
     Ok(Setup {
         kind,
         capacity: capacity as u64,
+        queue,
         parties: parties as u32,
     })
 }

@@ -12,6 +12,7 @@ pub mod grammar;
 mod indices;
 pub mod input;
 pub mod line;
+mod loan;
 pub mod output;
 pub mod pen;
 mod queues;

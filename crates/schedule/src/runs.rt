@@ -1,7 +1,7 @@
 //! A whole run: the input is read, the machine is made, and the lines are done one after another.
-ghost use Rattle.std.specs.Prelude.{◌≡◌, ◌^◌, ◌<◌, ℕ, Bool, Option, List, Result, length};
+ghost use Rattle.std.specs.Prelude.{◌≡◌, ◌^◌, ◌<◌, ℕ, Bool, Option, List, Result, IfOk, length};
 ghost use Rattle.schedule.specs.Grammar.{Gives};
-ghost use Rattle.schedule.specs.Output.{world_of, outcome, nexts, commanded, lines_from, machine_of, output};
+ghost use Rattle.schedule.specs.Output.{world_of, outcome, nexts, commanded, lines_from, setup_error, machine_of, trace_of, output};
 ghost use Rattle.schedule.specs.Print.{exit_of, message_text};
 ghost use Rattle.schedule.specs.Run.{IsTurn, IsStep, Prints, IsOutput, IsRun};
 ghost use Rattle.schedule.specs.Text.{words, words_left};
@@ -16,7 +16,8 @@ use crate::output::{flush, put_events, put_refusal};
 use crate::text::{Rest, lines};
 use crate::told::status;
 use machine::Machine;
-use machine::turn::{Kind, Turn, capacity_error};
+use machine::families::loan::opening::is_loan;
+use machine::turn::{Kind, Turn, capacity_error, loan_error};
 use std::alloc::{Allocator, Global};
 use std::io::{BufWriter, Read, Write};
 use steps::enums::UniqueIndexCreationError;
@@ -127,13 +128,36 @@ fn do_lines<W: Write>(
     Ok(())
 }
 
+// Why no machine is made with these numbers, or None.
+fn setup_error(setup: Setup) -> Option<UniqueIndexCreationError>
+    ensures { result ≡ setup_error setup }
+{
+    if is_loan(setup.kind) {
+        loan_error(setup.capacity as usize, setup.queue as usize)
+    } else {
+        capacity_error(setup.kind, setup.capacity as usize)
+    }
+}
+
+/// The machine of a first line.
+pub fn made_of(alloc: Global, setup: Setup) -> Result<Machine<u128>, UniqueIndexCreationError>
+    ensures { IfOk result (λ machine. world_of machine ≡ (trace_of setup).world) }
+{
+    let capacity = setup.capacity as usize;
+    if is_loan(setup.kind) {
+        Machine::new_loan(alloc, capacity, setup.queue as usize, setup.parties)
+    } else {
+        Machine::new(alloc, setup.kind, capacity, setup.parties)
+    }
+}
+
 /// Reads the first line. The error is the first from the left, and last comes a capacity that the kind does not admit.
 #[tactic(auto, unfolding(crate::specs::Output::machine_of))]
 pub fn machine_of(line: &[u8]) -> Result<Setup, Cause>
     ensures { Gives (λ setup. setup) result (machine_of (words line.now)) }
 {
     let setup = setup_of(line)?;
-    match capacity_error(setup.kind, setup.capacity as usize) {
+    match setup_error(setup) {
         Some(UniqueIndexCreationError::ProvidedCapacityGreaterThanMaxCapacity) => {
             Err(Cause::ProvidedCapacityGreaterThanMaxCapacity)
         }
@@ -157,7 +181,7 @@ fn do_text<W: Write>(alloc: Global, input: &[u8], writer: &mut W) -> Result<(), 
         Ok(setup) => setup,
         Err(cause) => return Err(ScheduleError::Malformed(1, cause)),
     };
-    match Machine::new(alloc, setup.kind, setup.capacity as usize, setup.parties) {
+    match made_of(alloc, setup) {
         Ok(mut machine) => do_lines(setup.kind, rest, &mut machine, writer),
         Err(_) => Err(ScheduleError::NoMemory),
     }

@@ -6,6 +6,7 @@ pub mod Copied
 pub mod Enums
 pub mod Indices
 pub mod Laws
+pub mod Loan
 pub mod Objects
 pub mod Picks
 pub mod Queues

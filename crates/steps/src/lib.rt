@@ -13,6 +13,7 @@ pub mod container;
 pub mod copied;
 pub mod enums;
 pub mod indices;
+pub mod loan;
 pub mod queues;
 pub mod routine;
 pub mod words;

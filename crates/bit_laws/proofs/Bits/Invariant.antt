@@ -78,6 +78,7 @@ module _ {T : Type 0} where
   bit_set =
       record {
         kind = kinds.TheVariants.Bits;
+        own = refl;
         promise = bits_promise;
         Holds = λ c words events turns. Holds c words events;
         Conserves = λ c words events turns changes words' es changes'. Conserves c words events changes words' es changes';

@@ -73,6 +73,7 @@ module _ {T : Type 0} where
   counting_set =
       record {
         kind = kinds.TheVariants.Counts;
+        own = refl;
         promise = counts_promise;
         Holds = Holds;
         Conserves = λ c words events turns changes words' es changes'. Conserves c words events turns words' es;

@@ -8,6 +8,7 @@ use Rattle.model.specs.declared.event.Event.{Event}
 use Rattle.model.specs.declared.event.Event.TheVariants.{Begun}
 use Rattle.model.specs.declared.event.Start.{Start}
 use Rattle.model.specs.declared.event.Start.TheVariants.{Bits}
+use Rattle.model.specs.declared.families.Kept.{Kept}
 use Rattle.model.specs.declared.families.Flight.{Flight}
 use Rattle.model.specs.declared.families.bits.BitsStart.{BitsStart}
 use Rattle.model.specs.declared.families.bits.BitsStart.TheVariants.{Set, ResetNext, ResetAll}
@@ -97,9 +98,9 @@ module _ {T : Type 0} where
     first_is ResetNext flight e r = absurd (cc)
 
   -- a call that begins on a counting bit set is one of its own
-  pub begins_own : (c : ℕ) (start : Start T) (flight : Flight T) → first_of kinds.TheVariants.Counts c start ≡ Some flight → IsOwn start
-  begins_own c (Bits start) flight e = tt
-  begins_own c start flight e = absurd (cc)
+  pub begins_own : (c : ℕ) (kept : Kept T) (start : Start T) (flight : Flight T) → first_of kinds.TheVariants.Counts c start kept ≡ Some flight → IsOwn start
+  begins_own c kept (Bits start) flight e = tt
+  begins_own c kept start flight e = absurd (cc)
 
   -- to begin changes no count
   pub begins_none : (c p : ℕ) (start : BitsStart) (words : List ℕ) (events : List (Event T)) (turns : ℕ) → Holds c words events turns → Conserves c words events turns words (Begun p (Bits start) ∷ [])

@@ -1,12 +1,13 @@
 -- What the structure of each kind promises: one line a kind, which passes on to the room of its family.
 use Rattle.model.specs.declared.families.queues.QueueKind as queue_kinds
 use Rattle.model.specs.declared.turn.Kind.{Kind}
-use Rattle.model.specs.declared.turn.Kind.TheVariants.{IndexQueue, Overflow, Queue, Atomic, Bits, Counts, Indices, Robust, Container}
+use Rattle.model.specs.declared.turn.Kind.TheVariants.{IndexQueue, Overflow, Queue, Atomic, Bits, Counts, Indices, Robust, Container, Loan}
 use Rattle.model.specs.Families.Atomic.Promises as atomic
 use Rattle.model.specs.Families.Bits.Promises as bits
 use Rattle.model.specs.Families.Container.Promises as container
 use Rattle.model.specs.Families.Indices.Promises as indices
 use Rattle.model.specs.Families.Indices.Robust.Promises as robust
+use Rattle.model.specs.Families.Loan.Promises as loan
 use Rattle.model.specs.Families.Queues.Promises as queues
 use Rattle.model.specs.Promise.{Promise}
 
@@ -20,3 +21,4 @@ promise_of Counts = bits.counts_promise
 promise_of Indices = indices.promise
 promise_of Robust = robust.promise
 promise_of Container = container.promise
+promise_of Loan = loan.promise

@@ -74,7 +74,7 @@ module _ {T : Type 0} where
 
   -- a call begins, and a call under way goes on by the old value of the asked word, or by yes or no
   abbrev pub GoesOn : World T → Turn T → World T → Type 0
-  GoesOn old (Begin p start) new = flight_in new p ≡ first_of old.kind old.capacity start
+  GoesOn old (Begin p start) new = flight_in new p ≡ first_of old.kind old.capacity start old.kept
   GoesOn old (Next p) new =
       IfSome (flight_in old p)
       (λ flight. StandsAt new p

@@ -144,7 +144,7 @@ module _ {T : Type 0} (en : Coding T) where
         Fit = Fit;
         Holds = λ s latest events turns. Holds kd c s.roles s.core latest events turns;
         written = λ s p flight. written c s.core p flight;
-        number = number en;
+        number = λ wrote. number en;
         At = λ s p start flight. FlightAt kd c s.roles s.core p start flight;
         Knows = λ s p events since changes backs flight. Knowing c s.core p events since changes backs flight;
       }

@@ -178,7 +178,7 @@ module _ {T : Type 0} (en : Coding T) where
   pub bounds : (kd : QueueKind) (c : ℕ) → frame.Bounds (family {T = T} en kd c)
   bounds kd c = record { most = at_most; paid = paid }
     where
-      at_most : (s : Queue (Val T kd)) (p backs : ℕ) (start : Start T) (flight : Flight T) → (family en kd c).At s p start flight → (family {T = T} en kd c).number flight backs ≤ most kd c en.size start backs
+      at_most : (s : Queue (Val T kd)) (p backs : ℕ) (start : Start T) (flight : Flight T) → (family en kd c).At s p start flight → (family {T = T} en kd c).number ((family {T = T} en kd c).written s p flight) flight backs ≤ most kd c en.size start backs
       at_most s p backs (Queues start) (flights.TheVariants.Queues flight) h = steps_most kd c s.roles s.core p backs start flight h
       at_most s p backs start flight h = absurd h
 

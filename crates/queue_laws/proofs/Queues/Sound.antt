@@ -33,6 +33,7 @@ use Rattle.model.specs.declared.families.queues.QueueKind as kinds
 use Rattle.model.specs.declared.turn.Refusal.TheVariants.{NoRole}
 use Rattle.model.specs.Coding.{Coding, IsCoding, one_word}
 use Rattle.model.specs.Families.{opening_of, first_of, want_of, ask_of, is_question, kept_after_begin}
+use Rattle.model.specs.Families.Loan.Opening.{is_loan}
 use Rattle.model.specs.Families.Queues.Calls.{acquire_of, release_of, first}
 use Rattle.model.specs.Families.Queues.Objects.{list_of}
 use Rattle.model.specs.Families.Queues.Opening.{cells_of, words_of_cell, lacks_role, call_of, kept_rows}
@@ -194,11 +195,11 @@ mapped_own start None flight e = absurd (cc)
 mapped_own start (Some f) (flights.TheVariants.Queues flight) e = tt
 mapped_own start (Some f) flight e = absurd (cc)
 
-begins_own : {T : Type 0} (kd : QueueKind) (c : ℕ) (start : Start T) (flight : Flight T) → first_of (machine_kind kd) c start ≡ Some flight → IsOwn start flight
-begins_own kd c (Queues start) flight e = mapped_own start (call_of (machine_kind kd) c start) flight e
-begins_own IndexQueue c start flight e = absurd (cc)
-begins_own kinds.TheVariants.Overflow c start flight e = absurd (cc)
-begins_own kinds.TheVariants.Queue c start flight e = absurd (cc)
+begins_own : {T : Type 0} (kd : QueueKind) (c : ℕ) (kept : Kept T) (start : Start T) (flight : Flight T) → first_of (machine_kind kd) c start kept ≡ Some flight → IsOwn start flight
+begins_own kd c kept (Queues start) flight e = mapped_own start (call_of (machine_kind kd) c start) flight e
+begins_own IndexQueue c kept start flight e = absurd (cc)
+begins_own kinds.TheVariants.Overflow c kept start flight e = absurd (cc)
+begins_own kinds.TheVariants.Queue c kept start flight e = absurd (cc)
 
 module _ {T : Type 0} (en : Coding T) (law : IsCoding en) (kd : QueueKind) (c : ℕ) (t : Trace T) (s : frame.Sound (family en kd c) t) (small : t.world.turns < 2 ^ 64 - 2) (p : ℕ) where
   abbrev pub scene_of : Party T → ℕ → Scene T kd
@@ -278,18 +279,18 @@ module _ {T : Type 0} (en : Coding T) (law : IsCoding en) (kd : QueueKind) (c : 
         owes = owes en kd scene s.state.roles k (span_of p t.events) y (Begun p (Queues start) ∷ []) t.world.changes shows refl (inv_of y t.world.changes);
       }
 
-  pub begin_comes : (start : Start T) (flight : Flight T) → MayBegin t.world p start → first_of t.world.kind t.world.capacity start ≡ Some flight
+  pub begin_comes : (start : Start T) (flight : Flight T) → MayBegin t.world p start → first_of t.world.kind t.world.capacity start t.world.kept ≡ Some flight
       → frame.Comes (family en kd c) t p (kept_after_begin t.world.coding t.world.capacity start p t.world.kept) t.world.words (party_at_begin start flight t.world.changes) (Begun p start ∷ []) t.world.changes
   begin_comes (Queues start) (flights.TheVariants.Queues flight) may e =
       let is = kept_is t.world.kept t.world.words s.state s.fit in
       let rows : first_row (kept_rows start (kepts.TheVariants.Queues s.state.roles) p) ≡ None = subst (λ kept. first_row (kept_rows start kept p) ≡ None) is.0 may.rows in
       let role = (row_passed (lacks_role s.state.roles p start) NoRole None rows).0 in
-      let named : first_of (machine_kind kd) c (Queues start) ≡ Some (flights.TheVariants.Queues flight) = rw (s.kind, s.capacity) at e in
+      let named : first_of (machine_kind kd) c (Queues start) t.world.kept ≡ Some (flights.TheVariants.Queues flight) = rw (s.kind, s.capacity) at e in
       let called : first kd c start ≡ Some flight = sym (call_is kd c start) ∙ some_mapped (call_of (machine_kind kd) c start) flight named in
       begins start flight (first_is en law c s.state.roles p (t.events ++ Begun p (Queues start) ∷ []) t.world.changes kd s.state.core start flight called role) may.free
   begin_comes start flight may e =
-      let named : first_of (machine_kind kd) t.world.capacity start ≡ Some flight = subst (λ kind. first_of kind t.world.capacity start ≡ Some flight) s.kind e in
-      absurd (begins_own kd t.world.capacity start flight named)
+      let named : first_of (machine_kind kd) t.world.capacity start t.world.kept ≡ Some flight = subst (λ kind. first_of kind t.world.capacity start t.world.kept ≡ Some flight) s.kind e in
+      absurd (begins_own kd t.world.capacity t.world.kept start flight named)
 
 never_due : {T A : Type 0} → (en z : Coding T) (kd : QueueKind) (c : ℕ) (s : Queue (Val T kd)) (p : ℕ) (start : Start T) (flight : Flight T) → (family en kd c).At s p start flight → is_question (want_of z flight) ≡ true → A
 never_due en z kd c s p (Queues start) (flights.TheVariants.Queues flight) at e = let none = never_asks z flight in absurd (cc)
@@ -375,11 +376,16 @@ module _ {T : Type 0} (en : Coding T) (law : IsCoding en) where
         inv = record { spans = Each-nil _; calls = λ p. refl; knows = λ p. tt };
       }
 
+no_loan : (kd : QueueKind) → is_loan (machine_kind kd) ≡ false
+no_loan IndexQueue = refl
+no_loan kinds.TheVariants.Overflow = refl
+no_loan kinds.TheVariants.Queue = refl
+
 pub reached_sound : {T : Type 0} (kd : QueueKind) (t : Trace T) → t.world.kind ≡ machine_kind kd → IsReached t → frame.Sound (family t.world.coding kd t.world.capacity) t
 reached_sound kd t is r =
     let w = t.world in
     let admitted : capacity_error (machine_kind kd) w.capacity ≡ None = subst (λ kind. capacity_error kind w.capacity ≡ None) is r.admitted in
     let first = opening_sound w.coding r.coded kd w.capacity w.parties (admitted_fits kd w.capacity admitted) in
-    frame.reached_sound (family w.coding kd w.capacity) (laws w.coding r.coded kd w.capacity) t
+    frame.reached_sound (family w.coding kd w.capacity) (laws w.coding r.coded kd w.capacity) t (ap is_loan is ∙ no_loan kd)
     (subst (λ kind. frame.Sound (family w.coding kd w.capacity) (opening w.coding kind w.capacity w.parties)) (sym is) first)
     r

@@ -58,6 +58,6 @@ module _ {T : Type 0} where
   abbrev pub begin : Kind → AtomicStart T → Beginning (Flight T) (Kept T)
   begin kind start =
       record {
-        call = option_map flights.TheVariants.Atomic (call_of kind start);
+        call = λ kept. option_map flights.TheVariants.Atomic (call_of kind start);
         rows = kept_rows start;
       }

@@ -54,6 +54,6 @@ kept_rows capacity start kept p = (true, WrongCall) ∷ []
 abbrev pub begin : {T : Type 0} → Kind → ℕ → BitsStart → Beginning (Flight T) (Kept T)
 begin kind capacity start =
     record {
-      call = option_map flights.TheVariants.Bits (first kind capacity start);
+      call = λ kept. option_map flights.TheVariants.Bits (first kind capacity start);
       rows = kept_rows capacity start;
     }

@@ -66,6 +66,6 @@ module _ {T : Type 0} where
   abbrev pub begin : Kind → ℕ → IndexStart → Beginning (Flight T) (Kept T)
   begin kind capacity start =
       record {
-        call = option_map flights.TheVariants.Indices (call_of kind capacity start);
+        call = λ kept. option_map flights.TheVariants.Indices (call_of kind capacity start);
         rows = kept_rows capacity start;
       }

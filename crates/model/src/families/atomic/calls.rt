@@ -1,14 +1,15 @@
 //! The calls of the single value under way: what each wants, and how it goes on.
-ghost use Rattle.std.specs.Prelude.{◌≡◌};
+ghost use Rattle.std.specs.Prelude.{◌≡◌, IfOk};
 ghost use Rattle.steps.specs.Ask.{CameTo};
-ghost use Rattle.model.specs.Families.Atomic.Calls.{fresh, first, want, after, goes_back};
+ghost use Rattle.model.specs.Families.Atomic.Calls.{first, want, after, goes_back};
 
 use super::AtomicStart;
 use crate::coding::Coded;
 use crate::event::Answer;
+use crate::room::Apart;
+use std::alloc::{AllocError, Global};
 use steps::ask::Want;
 use steps::atomic::{Load, PRODUCER, Store};
-use steps::copied::Copied;
 use steps::queues::roles::{AcquireRole, ReleaseRole};
 use steps::routine::Running;
 use steps::words::Words;
@@ -19,21 +20,14 @@ pub enum AtomicFlight<T> {
     Acquire(Running<AcquireRole, (), ()>),
     Release(Running<ReleaseRole, (), ()>),
     Store(Running<Store<T>, T, ()>),
-    Load(Running<Load<T, Copied>, (), Copied>),
+    Load(Running<Load<T, Apart>, (), Apart>),
 }
 
-/// A room in which nothing was put.
-fn fresh() -> Copied
-    ensures { result ≡ fresh }
+/// The call that begins, unless memory for its room is refused.
+pub fn first<T: Words>(alloc: Global, start: &AtomicStart<T>) -> Result<AtomicFlight<T>, AllocError>
+    ensures { IfOk result (λ flight. flight ≡ first start.now) }
 {
-    Copied { words: [0; 128] }
-}
-
-/// The call that begins.
-pub fn first<T: Words>(start: &AtomicStart<T>) -> AtomicFlight<T>
-    ensures { result ≡ first start.now }
-{
-    match *start {
+    let flight = match *start {
         AtomicStart::AcquireProducer => AtomicFlight::Acquire(Running {
             call: AcquireRole { word: PRODUCER },
             given: (),
@@ -52,9 +46,10 @@ pub fn first<T: Words>(start: &AtomicStart<T>) -> AtomicFlight<T>
         AtomicStart::Load => AtomicFlight::Load(Running {
             call: Load::new(),
             given: (),
-            room: fresh(),
+            room: Apart::new(alloc)?,
         }),
-    }
+    };
+    Ok(flight)
 }
 
 impl<T: Words> AtomicFlight<T> {

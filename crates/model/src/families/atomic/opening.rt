@@ -1,8 +1,8 @@
 //! The words of the single value at its opening, and who may begin which call.
-ghost use Rattle.std.specs.Prelude.{◌≡◌, ◌∷◌, None, Some, is_none, OnOk, IfOk, IfErr};
+ghost use Rattle.std.specs.Prelude.{◌≡◌, ◌∷◌, ◌⊎◌, None, Some, is_none, OnOk, IfOk, IfErr};
 ghost use Rattle.model.specs.Families.Atomic.Opening.{opening, is_value, call_of, lacks_role, call_rows};
 ghost use Rattle.model.specs.Rows.{first_row};
-ghost use Rattle.model.specs.declared.turn.Refusal.TheVariants.{WrongCall};
+ghost use Rattle.model.specs.declared.turn.Refusal.TheVariants.{WrongCall, NoMemory};
 
 use super::AtomicStart;
 use super::calls::{AtomicFlight, first};
@@ -52,8 +52,9 @@ fn is_value(kind: Kind) -> bool
     }
 }
 
-/// The call that this party begins, or why it may not.
+/// The call that this party begins, or why it may not, unless memory for its room is refused.
 pub fn begin<T: Words>(
+    alloc: Global,
     kind: Kind,
     producer: Option<u32>,
     number: u32,
@@ -63,9 +64,11 @@ pub fn begin<T: Words>(
     ensures allowed { OnOk result (first_row
         ((is_none (call_of kind start.now), WrongCall)
         ∷ call_rows producer number start.now) ≡ None) }
-    ensures refused { IfErr result (λ row. first_row
+    ensures refused { IfErr result (λ row. (first_row
         ((is_none (call_of kind start.now), WrongCall)
-        ∷ call_rows producer number start.now) ≡ Some row) }
+        ∷ call_rows producer number start.now) ≡ Some row) ⊎ (first_row
+        ((is_none (call_of kind start.now), WrongCall)
+        ∷ call_rows producer number start.now) ≡ None) × (row ≡ NoMemory)) }
 {
     if !is_value(kind) {
         return Err(Refusal::WrongCall);
@@ -73,5 +76,8 @@ pub fn begin<T: Words>(
     if lacks_role(producer, number, start) {
         return Err(Refusal::NoRole);
     }
-    Ok(first(start))
+    match first(alloc, start) {
+        Ok(flight) => Ok(flight),
+        Err(_) => Err(Refusal::NoMemory),
+    }
 }

@@ -1,5 +1,5 @@
 //! The calls of the container under way: what each wants, and how it goes on.
-ghost use Rattle.std.specs.Prelude.{◌≡◌};
+ghost use Rattle.std.specs.Prelude.{◌≡◌, IfOk};
 ghost use Rattle.steps.specs.Ask.{CameTo};
 ghost use Rattle.model.specs.Families.Container.Calls.{place_of, add_of, remove_of, replace_of, find_of, recover_of, look_of, count_of, locked_of, added, removed, replaced, counted, looked, want, after, goes_back, look_flight, look_after, look_writes, states_after};
 ghost use Rattle.model.specs.Families.Container.States.{state_of};
@@ -7,6 +7,8 @@ ghost use Rattle.model.specs.Families.Container.States.{state_of};
 use super::states::States;
 use crate::coding::Coded;
 use crate::event::Answer;
+use crate::room::Apart;
+use std::alloc::{AllocError, Global};
 use steps::ask::{After, Want};
 use steps::container::add::{Add, Owned};
 use steps::container::enums::{ContainerAddFailure, ContainerRemoveError};
@@ -16,7 +18,6 @@ use steps::container::recover::{DeadOwner, Recover};
 use steps::container::remove::Remove;
 use steps::container::replace::{Replace, Replacement};
 use steps::container::state::ContainerState;
-use steps::copied::Copied;
 use steps::enums::OwnerId;
 use steps::indices::enums::{ReleaseMode, ReleaseState};
 use steps::indices::robust::looks::{BorrowedIndices, IsLocked};
@@ -44,8 +45,8 @@ pub enum ContainerFlight<T> {
     Add(Running<Add<T>, Owned<T>, ()>),
     Remove(Running<Remove, GiveBack, ()>),
     Replace(Running<Replace<T>, Replacement<T>, ()>),
-    Find(Running<Find<T, Copied>, OwnerId, Copied>),
-    Recover(Running<Recover<T, Copied>, DeadOwner, Copied>),
+    Find(Running<Find<T, Apart>, OwnerId, Apart>),
+    Recover(Running<Recover<T, Apart>, DeadOwner, Apart>),
     /// It goes on from what its party's state has seen, and writes into that.
     Look(LookOf, Look<T>),
     Count(CountOf, Running<BorrowedIndices, (), ()>),
@@ -102,26 +103,37 @@ pub fn replace<T: Words>(capacity: u32, index: u64, value: T, owner: OwnerId) ->
     })
 }
 
-/// A find of this owner's indices that begins.
-pub fn find<T: Words>(capacity: u32, owner: OwnerId) -> ContainerFlight<T>
-    ensures { result ≡ find_of capacity owner }
+/// A find of this owner's indices that begins, unless memory for its room is refused.
+pub fn find<T: Words>(
+    alloc: Global,
+    capacity: u32,
+    owner: OwnerId,
+) -> Result<ContainerFlight<T>, AllocError>
+    ensures { IfOk result (λ flight. flight ≡ find_of capacity owner) }
 {
-    ContainerFlight::Find(Running {
+    let room = Apart::new(alloc)?;
+    Ok(ContainerFlight::Find(Running {
         call: Find::new(capacity),
         given: owner,
-        room: Copied { words: [0; 128] },
-    })
+        room,
+    }))
 }
 
-/// A recovery of this owner's indices that begins.
-pub fn recover<T: Words>(capacity: u32, owner: OwnerId, mode: ReleaseMode) -> ContainerFlight<T>
-    ensures { result ≡ recover_of capacity owner mode }
+/// A recovery of this owner's indices that begins, unless memory for its room is refused.
+pub fn recover<T: Words>(
+    alloc: Global,
+    capacity: u32,
+    owner: OwnerId,
+    mode: ReleaseMode,
+) -> Result<ContainerFlight<T>, AllocError>
+    ensures { IfOk result (λ flight. flight ≡ recover_of capacity owner mode) }
 {
-    ContainerFlight::Recover(Running {
+    let room = Apart::new(alloc)?;
+    Ok(ContainerFlight::Recover(Running {
         call: Recover::new(capacity),
         given: DeadOwner { owner, mode },
-        room: Copied { words: [0; 128] },
-    })
+        room,
+    }))
 }
 
 /// A look that begins.

@@ -1,9 +1,9 @@
 //! The words of the container at its opening, who may begin which call, and who may go on.
-ghost use Rattle.std.specs.Prelude.{◌≡◌, ◌∷◌, true, false, None, Some, is_none, OnOk, IfOk, IfErr};
+ghost use Rattle.std.specs.Prelude.{◌≡◌, ◌∷◌, ◌⊎◌, true, false, None, Some, is_none, OnOk, IfOk, IfErr};
 ghost use Rattle.model.specs.Families.Container.Calls.{acts_for_dead, going_rows};
 ghost use Rattle.model.specs.Families.Container.Opening.{opening, is_container, call_of, call_rows, states_at_begin};
 ghost use Rattle.model.specs.Rows.{first_row};
-ghost use Rattle.model.specs.declared.turn.Refusal.TheVariants.{WrongCall};
+ghost use Rattle.model.specs.declared.turn.Refusal.TheVariants.{WrongCall, NoMemory};
 
 use super::ContainerStart;
 use super::calls::{
@@ -48,6 +48,7 @@ fn is_container(kind: Kind) -> bool
 
 /// The call that begins, or why it may not.
 pub fn begin<T: Words>(
+    alloc: Global,
     kind: Kind,
     capacity: u32,
     dead: &Dead,
@@ -57,9 +58,11 @@ pub fn begin<T: Words>(
     ensures allowed { OnOk result (first_row
         ((is_none (call_of kind capacity start.now), WrongCall)
         ∷ call_rows dead.now start.now) ≡ None) }
-    ensures refused { IfErr result (λ row. first_row
+    ensures refused { IfErr result (λ row. (first_row
         ((is_none (call_of kind capacity start.now), WrongCall)
-        ∷ call_rows dead.now start.now) ≡ Some row) }
+        ∷ call_rows dead.now start.now) ≡ Some row) ⊎ (first_row
+        ((is_none (call_of kind capacity start.now), WrongCall)
+        ∷ call_rows dead.now start.now) ≡ None) × (row ≡ NoMemory)) }
 {
     if !is_container(kind) {
         return Err(Refusal::WrongCall);
@@ -84,12 +87,18 @@ pub fn begin<T: Words>(
             }
             Ok(replace(capacity, index, value, owner))
         }
-        ContainerStart::Find(owner) => Ok(find(capacity, owner)),
+        ContainerStart::Find(owner) => match find(alloc, capacity, owner) {
+            Ok(flight) => Ok(flight),
+            Err(_) => Err(Refusal::NoMemory),
+        },
         ContainerStart::Recover(owner, mode) => {
             if !dead.has(owner) {
                 return Err(Refusal::OwnerLives);
             }
-            Ok(recover(capacity, owner, mode))
+            match recover(alloc, capacity, owner, mode) {
+                Ok(flight) => Ok(flight),
+                Err(_) => Err(Refusal::NoMemory),
+            }
         }
         ContainerStart::GetState => Ok(look(LookOf::GetState, capacity)),
         ContainerStart::UpdateState => Ok(look(LookOf::UpdateState, capacity)),

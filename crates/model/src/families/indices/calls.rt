@@ -21,7 +21,7 @@ pub enum IndexFlight {
 }
 
 /// What an acquire answers in a machine.
-fn acquire_answer<T>(acquired: Result<u32, UniqueIndexSetAcquireFailure>) -> Answer<T>
+pub(crate) fn acquire_answer<T>(acquired: Result<u32, UniqueIndexSetAcquireFailure>) -> Answer<T>
     ensures { result ≡ acquire_answer acquired }
 {
     match acquired {

@@ -47,4 +47,13 @@ impl Holders {
             self.parties[index as usize] = party;
         }
     }
+
+    /// This index, which can be any number, is held by nobody from now on.
+    pub fn leave(&mut self, index: u64)
+        ensures { self.new ≡ slice_set self.old index None }
+    {
+        if index < self.parties.len() as u64 {
+            self.parties[index as usize] = None;
+        }
+    }
 }

@@ -1,13 +1,15 @@
 //! The calls of the queues under way: what each wants, and how it goes on.
-ghost use Rattle.std.specs.Prelude.{◌≡◌};
+ghost use Rattle.std.specs.Prelude.{◌≡◌, IfOk};
 ghost use Rattle.steps.specs.Ask.{CameTo};
 ghost use Rattle.model.specs.Families.Queues.Calls.{acquire_of, release_of, push_index_of, push_value_of, pop_of, length_of, first, want, after, goes_back, popped, popped_value, length_answer};
 
 use super::{QueueKind, QueueStart};
 use crate::coding::Coded;
 use crate::event::Answer;
+use crate::room::Apart;
+use std::alloc::{AllocError, Global};
 use steps::ask::Want;
-use steps::copied::{Copied, OneWord};
+use steps::copied::OneWord;
 use steps::queues::lengths::Len;
 use steps::queues::overflow;
 use steps::queues::ring::{CONSUMER, PRODUCER, Pop, Push};
@@ -50,7 +52,7 @@ pub enum QueueFlight<T> {
     Role(RoleCall),
     Indices(RingCall<u64, OneWord>),
     /// On a queue of the machine's own values.
-    Values(RingCall<T, Copied>),
+    Values(RingCall<T, Apart>),
     Overflow(OverflowCall),
     Length(LengthOf, Running<Len, (), ()>),
 }
@@ -111,10 +113,14 @@ fn push_value_of<T: Words>(kind: QueueKind, capacity: u32, value: T) -> Option<Q
     }
 }
 
-fn pop_of<T: Words>(kind: QueueKind, capacity: u32) -> QueueFlight<T>
-    ensures { result ≡ pop_of kind capacity }
+fn pop_of<T: Words>(
+    alloc: Global,
+    kind: QueueKind,
+    capacity: u32,
+) -> Result<QueueFlight<T>, AllocError>
+    ensures { IfOk result (λ flight. flight ≡ pop_of kind capacity) }
 {
-    match kind {
+    let flight = match kind {
         QueueKind::IndexQueue => QueueFlight::Indices(RingCall::Pop(Running {
             call: Pop::new(capacity),
             given: (),
@@ -128,9 +134,10 @@ fn pop_of<T: Words>(kind: QueueKind, capacity: u32) -> QueueFlight<T>
         QueueKind::Queue => QueueFlight::Values(RingCall::Pop(Running {
             call: Pop::new(capacity),
             given: (),
-            room: Copied { words: [0; 128] },
+            room: Apart::new(alloc)?,
         })),
-    }
+    };
+    Ok(flight)
 }
 
 fn length_of<T>(which: LengthOf, capacity: u32) -> QueueFlight<T>
@@ -146,26 +153,28 @@ fn length_of<T>(which: LengthOf, capacity: u32) -> QueueFlight<T>
     )
 }
 
-/// The call that begins, or None where the kind has no such call.
+/// The call that begins, or None where the kind has no such call, unless memory for its room is refused.
 pub fn first<T: Words>(
+    alloc: Global,
     kind: QueueKind,
     capacity: u32,
     start: &QueueStart<T>,
-) -> Option<QueueFlight<T>>
-    ensures { result ≡ first kind capacity start.now }
+) -> Result<Option<QueueFlight<T>>, AllocError>
+    ensures { IfOk result (λ flight. flight ≡ first kind capacity start.now) }
 {
-    match *start {
+    let flight = match *start {
         QueueStart::AcquireProducer => Some(acquire_of(PRODUCER)),
         QueueStart::ReleaseProducer => Some(release_of(PRODUCER)),
         QueueStart::AcquireConsumer => Some(acquire_of(CONSUMER)),
         QueueStart::ReleaseConsumer => Some(release_of(CONSUMER)),
         QueueStart::PushIndex(index) => push_index_of(kind, capacity, index),
         QueueStart::Push(value) => push_value_of(kind, capacity, value),
-        QueueStart::Pop => Some(pop_of(kind, capacity)),
+        QueueStart::Pop => Some(pop_of(alloc, kind, capacity)?),
         QueueStart::Len => Some(length_of(LengthOf::Len, capacity)),
         QueueStart::IsEmpty => Some(length_of(LengthOf::IsEmpty, capacity)),
         QueueStart::IsFull => Some(length_of(LengthOf::IsFull, capacity)),
-    }
+    };
+    Ok(flight)
 }
 
 fn popped<T: Copy>(answer: Option<u64>) -> Answer<T>

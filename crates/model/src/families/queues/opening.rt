@@ -1,8 +1,9 @@
 //! The words of a queue at its opening, and who may begin which call.
-ghost use Rattle.std.specs.Prelude.{◌≡◌, ◌∷◌, None, Some, is_none, OnOk, IfOk, IfErr};
+ghost use Rattle.std.specs.Prelude.{◌≡◌, ◌∷◌, ◌⊎◌, ℕ, None, Some, is_none, OnOk, IfOk, IfErr};
+ghost use Rattle.model.specs.Families.Queues.Calls.{first};
 ghost use Rattle.model.specs.Families.Queues.Opening.{cells_of, words_of_cell, opening, queue_kind, call_of, holds, lacks_role, call_rows};
 ghost use Rattle.model.specs.Rows.{first_row};
-ghost use Rattle.model.specs.declared.turn.Refusal.TheVariants.{WrongCall};
+ghost use Rattle.model.specs.declared.turn.Refusal.TheVariants.{WrongCall, NoMemory};
 
 use super::calls::{QueueFlight, first};
 use super::{QueueKind, QueueStart, Roles};
@@ -101,8 +102,28 @@ fn queue_kind(kind: Kind) -> Option<QueueKind>
     }
 }
 
-/// The call that this party begins, or why it may not.
+/// Whether the queue has no such call.
+fn lacks_call<T: Words>(kind: QueueKind, start: &QueueStart<T>) -> bool
+    ensures { (capacity : ℕ) → result ≡ is_none (first kind capacity start.now) }
+{
+    match start {
+        QueueStart::PushIndex(_) => match kind {
+            QueueKind::IndexQueue => false,
+            QueueKind::Overflow => false,
+            QueueKind::Queue => true,
+        },
+        QueueStart::Push(_) => match kind {
+            QueueKind::IndexQueue => true,
+            QueueKind::Overflow => true,
+            QueueKind::Queue => false,
+        },
+        _ => false,
+    }
+}
+
+/// The call that this party begins, or why it may not, unless memory for its room is refused.
 pub fn begin<T: Words>(
+    alloc: Global,
     kind: Kind,
     capacity: u32,
     roles: &Roles,
@@ -113,18 +134,24 @@ pub fn begin<T: Words>(
     ensures allowed { OnOk result (first_row
         ((is_none (call_of kind capacity start.now), WrongCall)
         ∷ call_rows roles.now number start.now) ≡ None) }
-    ensures refused { IfErr result (λ row. first_row
+    ensures refused { IfErr result (λ row. (first_row
         ((is_none (call_of kind capacity start.now), WrongCall)
-        ∷ call_rows roles.now number start.now) ≡ Some row) }
+        ∷ call_rows roles.now number start.now) ≡ Some row) ⊎ (first_row
+        ((is_none (call_of kind capacity start.now), WrongCall)
+        ∷ call_rows roles.now number start.now) ≡ None) × (row ≡ NoMemory)) }
 {
     let Some(kind) = queue_kind(kind) else {
         return Err(Refusal::WrongCall);
     };
-    let Some(flight) = first(kind, capacity, start) else {
+    if lacks_call(kind, start) {
         return Err(Refusal::WrongCall);
-    };
+    }
     if lacks_role(roles, number, start) {
         return Err(Refusal::NoRole);
     }
-    Ok(flight)
+    match first(alloc, kind, capacity, start) {
+        Ok(Some(flight)) => Ok(flight),
+        Ok(None) => Err(Refusal::WrongCall),
+        Err(_) => Err(Refusal::NoMemory),
+    }
 }

@@ -1,4 +1,4 @@
-use Rattle.std.proofs.Common.{sym, ap, ◌∙◌, arith}
+use Rattle.std.proofs.Common.{sym, ◌∙◌, arith}
 use Rattle.schedule.specs.Output.{world_of}
 use Rattle.schedule.proofs.Whole.{few_lines, text_missing, text_malformed, text_lines}
 use Rattle.schedule.proofs.runs.do_text.Goals as goal
@@ -12,7 +12,7 @@ returns-in-Err g c = text_malformed c.args.input.now c.in-Some.first.now _ _ c.i
 pub do_lines-requires : goal.do_lines-requires
 do_lines-requires g c = omega (arith, few_lines c.args.input.now c.in-Some.first.now _ (sym c.lines.ensures ∙ c.in-Some.ensures))
 
-pub returns-in-Ok-new : goal.returns-in-Ok-new
-returns-in-Ok-new g c =
-    text_lines c.args.input.now c.in-Some.first.now _ c.in-Ok.setup (world_of c.in-Ok-new.machine) _ _ c.do_lines.result
-    (sym c.lines.ensures ∙ c.in-Some.ensures) c.in-Ok.ensures (ap (λ t. t.world) c.in-Ok-new.ensures.ok) c.do_lines.ensures
+pub returns-in-Ok-made_of : goal.returns-in-Ok-made_of
+returns-in-Ok-made_of g c =
+    text_lines c.args.input.now c.in-Some.first.now _ c.in-Ok.setup (world_of c.in-Ok-made_of.machine) _ _ c.do_lines.result
+    (sym c.lines.ensures ∙ c.in-Some.ensures) c.in-Ok.ensures c.in-Ok-made_of.ensures c.do_lines.ensures

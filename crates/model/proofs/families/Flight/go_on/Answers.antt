@@ -1,6 +1,6 @@
 use Rattle.std.proofs.Common.{rules}
 use Rattle.model.proofs.families.Flight.go_on.Goals as goal
-use Rattle.model.proofs.families.Flight.go_on.Goals.{in-Queues-Queues-Queues, in-Atomic-Atomic-Atomic, in-Bits-Bits-Nothing, in-Indices-Indices-Indices, in-Robust-Robust-Owners, in-Container-Container-Container, in_default, in_default-via-in-Queues+in-Queues+in_default, in_default-via-in-Queues+in_default, in_default-via-in-Atomic+in-Atomic+in_default, in_default-via-in-Atomic+in_default, in_default-via-in-Bits+in-Bits+in_default, in_default-via-in-Bits+in_default, in_default-via-in-Indices+in-Indices+in_default, in_default-via-in-Indices+in_default, in_default-via-in-Robust+in-Robust+in_default, in_default-via-in-Robust+in_default, in_default-via-in-Container+in-Container+in_default, in_default-via-in-Container+in_default}
+use Rattle.model.proofs.families.Flight.go_on.Goals.{in-Queues-Queues-Queues, in-Atomic-Atomic-Atomic, in-Bits-Bits-Nothing, in-Indices-Indices-Indices, in-Robust-Robust-Owners, in-Container-Container-Container, in-Loan-Loan-Loan, in_default, in_default-via-in-Queues+in-Queues+in_default, in_default-via-in-Queues+in_default, in_default-via-in-Atomic+in-Atomic+in_default, in_default-via-in-Atomic+in_default, in_default-via-in-Bits+in-Bits+in_default, in_default-via-in-Bits+in_default, in_default-via-in-Indices+in-Indices+in_default, in_default-via-in-Indices+in_default, in_default-via-in-Robust+in-Robust+in_default, in_default-via-in-Robust+in_default, in_default-via-in-Container+in-Container+in_default, in_default-via-in-Container+in_default, in_default-via-in-Loan+in-Loan+in_default, in_default-via-in-Loan+in_default}
 
 pub returns-clause-after : goal.returns-clause-after
 returns-clause-after g c =
@@ -11,6 +11,7 @@ returns-clause-after g c =
       | in-Indices-Indices-Indices w ↦ search rules
       | in-Robust-Robust-Owners w ↦ search rules
       | in-Container-Container-Container w ↦ search rules
+      | in-Loan-Loan-Loan w ↦ search rules
       | in_default w ↦
           elim w.in_default.branch [
             | in_default-via-in-Queues+in-Queues+in_default v ↦ search rules
@@ -25,6 +26,8 @@ returns-clause-after g c =
             | in_default-via-in-Robust+in_default v ↦ search rules
             | in_default-via-in-Container+in-Container+in_default v ↦ search rules
             | in_default-via-in-Container+in_default v ↦ search rules
+            | in_default-via-in-Loan+in-Loan+in_default v ↦ search rules
+            | in_default-via-in-Loan+in_default v ↦ search rules
           ]
     ]
 
@@ -37,6 +40,7 @@ returns-clause-back g c =
       | in-Indices-Indices-Indices w ↦ search rules
       | in-Robust-Robust-Owners w ↦ search rules
       | in-Container-Container-Container w ↦ search rules
+      | in-Loan-Loan-Loan w ↦ search rules
       | in_default w ↦
           elim w.in_default.branch [
             | in_default-via-in-Queues+in-Queues+in_default v ↦ search rules
@@ -51,6 +55,8 @@ returns-clause-back g c =
             | in_default-via-in-Robust+in_default v ↦ search rules
             | in_default-via-in-Container+in-Container+in_default v ↦ search rules
             | in_default-via-in-Container+in_default v ↦ search rules
+            | in_default-via-in-Loan+in-Loan+in_default v ↦ search rules
+            | in_default-via-in-Loan+in_default v ↦ search rules
           ]
     ]
 
@@ -63,6 +69,7 @@ returns-clause-kept g c =
       | in-Indices-Indices-Indices w ↦ search rules
       | in-Robust-Robust-Owners w ↦ search rules
       | in-Container-Container-Container w ↦ search rules
+      | in-Loan-Loan-Loan w ↦ search rules
       | in_default w ↦
           elim w.in_default.branch [
             | in_default-via-in-Queues+in-Queues+in_default v ↦ search rules
@@ -77,6 +84,8 @@ returns-clause-kept g c =
             | in_default-via-in-Robust+in_default v ↦ search rules
             | in_default-via-in-Container+in-Container+in_default v ↦ search rules
             | in_default-via-in-Container+in_default v ↦ search rules
+            | in_default-via-in-Loan+in-Loan+in_default v ↦ search rules
+            | in_default-via-in-Loan+in_default v ↦ search rules
           ]
     ]
 
@@ -89,6 +98,7 @@ returns-clause-wrote g c =
       | in-Indices-Indices-Indices w ↦ search rules
       | in-Robust-Robust-Owners w ↦ search rules
       | in-Container-Container-Container w ↦ search rules
+      | in-Loan-Loan-Loan w ↦ search rules
       | in_default w ↦
           elim w.in_default.branch [
             | in_default-via-in-Queues+in-Queues+in_default v ↦ search rules
@@ -103,5 +113,7 @@ returns-clause-wrote g c =
             | in_default-via-in-Robust+in_default v ↦ search rules
             | in_default-via-in-Container+in-Container+in_default v ↦ search rules
             | in_default-via-in-Container+in_default v ↦ search rules
+            | in_default-via-in-Loan+in-Loan+in_default v ↦ search rules
+            | in_default-via-in-Loan+in_default v ↦ search rules
           ]
     ]

@@ -74,6 +74,6 @@ module _ {T : Type 0} where
   abbrev pub begin : Kind → ℕ → RobustStart → Beginning (Flight T) (Kept T)
   begin kind capacity start =
       record {
-        call = option_map flights.TheVariants.Robust (call_of kind capacity start);
+        call = λ kept. option_map flights.TheVariants.Robust (call_of kind capacity start);
         rows = kept_rows capacity start;
       }

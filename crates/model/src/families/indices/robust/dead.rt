@@ -35,7 +35,14 @@ impl Dead {
     pub fn has(&self, owner: OwnerId) -> bool
         ensures { result ≡ has_died owner self.now }
     {
-        self.owners.contains(&owner.value())
+        self.has_number(owner.value())
+    }
+
+    /// The same by its number.
+    pub fn has_number(&self, number: u64) -> bool
+        ensures { result ≡ has_died number self.now }
+    {
+        self.owners.contains(&number)
     }
 
     /// This owner has died too, unless memory for it is refused. Then nothing changes.

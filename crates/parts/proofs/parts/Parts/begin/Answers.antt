@@ -1,4 +1,4 @@
-use Rattle.std.proofs.Common.{◌≡◌, ◌<◌, ◌≤◌, inl, inr, true, false, is_some, refl, sym, subst, arith}
+use Rattle.std.proofs.Common.{◌≡◌, ◌<◌, ◌≤◌, inl, inr, ⊎_elim, true, false, is_some, refl, sym, subst, arith}
 use Rattle.std.proofs.lemmas.Result.{err_from_is_err_and}
 use Rattle.std.specs.Prelude.{IfErr}
 use Rattle.model.specs.declared.turn.Turn.TheVariants.{Begin}
@@ -21,10 +21,15 @@ returns-in_err-flight-clause-refused g c =
     let w = (trace_of (coding_of g.T.Words.WORDS g.T.Words.words_of g.T.Words.value_of) c.args.self.now).world in
     let within : c.args.number < c.args.self.now.parties = omega arith in
     let free : is_some (flight_in w c.args.number) ≡ false = none_found c.flight_of.result (flight_in w c.args.number) c.flight_of.ensures c.if-is_some.ensures in
-    let refused = begin_refuses w c.args.number c.args.start c.in_err-flight.field-0.0 c.requires within free c.in_err-flight.ensures.refused in
+    let turn = Begin c.args.number c.args.start in
+    let refused : IsRefusal w turn c.in_err-flight.field-0.0 = ⊎_elim
+    (λ row. inl (begin_refuses w c.args.number c.args.start c.in_err-flight.field-0.0 c.requires within free row))
+    (λ memory. inr (begin_passes w c.args.number c.args.start c.requires within free memory.0, memory.1))
+    c.in_err-flight.ensures.refused
+    in
     let passed = err_from_is_err_and c.from_residual.result c.from_residual.ensures.1 in
-    subst (λ r. IfErr r (IsRefusal w (Begin c.args.number c.args.start))) (sym passed.1)
-    (subst (λ row. IsRefusal w (Begin c.args.number c.args.start) row) (sym passed.2) (inl refused))
+    subst (λ r. IfErr r (IsRefusal w turn)) (sym passed.1)
+    (subst (λ row. IsRefusal w turn row) (sym passed.2) refused)
 
 pub returns-in_default-clause-refused : goal.returns-in_default-clause-refused
 returns-in_default-clause-refused g c =

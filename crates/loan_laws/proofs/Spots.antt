@@ -1,0 +1,42 @@
+-- Where an index is after one event more.
+use Rattle.std.proofs.Common.{◌≡◌, ◌≢◌, ℕ, ◌==◌, if◌then◌else◌, Bool, true, false, Some, None, List, [], ◌∷◌, ◌++◌, refl, ap, ◌∙◌, eq-eqb, ne_eqb}
+use Rattle.std.proofs.lemmas.List.Sums.{fold-append}
+use Rattle.model.specs.declared.event.Event.{Event}
+use Rattle.model.specs.Families.Loan.Reading.{Spot, Free, Waiting, Returning, Move, move_of, moved, spot_after, spot_of}
+
+-- ---- the two spots that are queues
+
+abbrev pub is_waiting : Spot → Bool
+is_waiting Waiting = true
+is_waiting spot = false
+
+abbrev pub is_returning : Spot → Bool
+is_returning Returning = true
+is_returning spot = false
+
+pub waits_there : (spot : Spot) → is_waiting spot ≡ true → spot ≡ Waiting
+waits_there Waiting e = refl
+waits_there spot e = absurd (cc)
+
+pub returns_there : (spot : Spot) → is_returning spot ≡ true → spot ≡ Returning
+returns_there Returning e = refl
+returns_there spot e = absurd (cc)
+
+module _ {T : Type 0} (events : List (Event T)) (e : Event T) where
+  spot_more : (i : ℕ) → spot_of i (events ++ e ∷ []) ≡ moved i (spot_of i events) (move_of e)
+  spot_more i = fold-append (spot_after i) Free events (e ∷ [])
+
+  -- an event that moves no index
+  pub spot_stays : (i : ℕ) → move_of e ≡ None → spot_of i (events ++ e ∷ []) ≡ spot_of i events
+  spot_stays i none = spot_more i ∙ ap (moved i (spot_of i events)) none
+
+  module _ (m : Move) (is : move_of e ≡ Some m) where
+    choice : (i : ℕ) → spot_of i (events ++ e ∷ []) ≡ (if m.index == i then m.to else spot_of i events)
+    choice i = spot_more i ∙ ap (moved i (spot_of i events)) is
+
+    -- an event that moves another one
+    pub spot_other : (i : ℕ) → m.index ≢ i → spot_of i (events ++ e ∷ []) ≡ spot_of i events
+    spot_other i ne = choice i ∙ ap (λ b. if b then m.to else spot_of i events) (ne_eqb m.index i ne)
+
+    pub spot_moved : spot_of m.index (events ++ e ∷ []) ≡ m.to
+    spot_moved = choice m.index ∙ ap (λ b. if b then m.to else spot_of m.index events) (eq-eqb m.index m.index refl)

@@ -1,0 +1,525 @@
+-- The steps of a take-back until it releases its index: the sender pops the completion queue.
+use Rattle.std.proofs.Common.{◌≡◌, ◌≢◌, ℕ, suc, ◌+◌, ◌-◌, ◌^◌, ◌<◌, ◌≤◌, ◌==◌, ◌||◌, ◌⊎◌, ⊎_elim, Bool, true, false, Option, Some, None, List, [], ◌∷◌, ◌++◌, length, fold, refl, sym, ap, subst, ◌∙◌, append-nil, arith}
+use Rattle.std.proofs.lemmas.Bool.{cases_eq}
+use Rattle.std.proofs.lemmas.Bool.Decides.{nat_tests}
+use Rattle.std.proofs.lemmas.List.{set-get_or}
+use Rattle.std.proofs.lemmas.List.Sums.{fold-append}
+use Rattle.steps.specs.declared.ask.Ask.{Ask}
+use Rattle.steps.specs.declared.ask.After.{After}
+use Rattle.steps.specs.declared.ask.After.TheVariants.{GoOn, Done}
+use Rattle.steps.specs.declared.copied.OneWord.{OneWord}
+use Rattle.steps.specs.declared.indices.unique.ReleaseStage as releases
+use Rattle.steps.specs.declared.loan.take_back.TakeBack as take_back
+use Rattle.steps.specs.declared.loan.take_back.TakeBackStage as take_backs
+use Rattle.steps.specs.declared.queues.ring.PushStage.{PushStage}
+use Rattle.steps.specs.declared.queues.ring.PushStage as pushes
+use Rattle.steps.specs.declared.queues.ring.PopStage.{PopStage}
+use Rattle.steps.specs.declared.queues.ring.PopStage as pops
+use Rattle.steps.specs.Loan.Layout.{completion_word}
+use Rattle.steps.specs.Loan.Parts.{shifted}
+use Rattle.steps.specs.Loan.TakeBack.{take_back_takes}
+use Rattle.steps.specs.Queues.Ring.{cell_word, word_at, pop_asks}
+use Rattle.steps.specs.Routine.{went_on}
+use Rattle.model.specs.declared.event.Answer.{Answer}
+use Rattle.model.specs.declared.event.Answer.TheVariants as answers
+use Rattle.model.specs.declared.event.Event.{Event}
+use Rattle.model.specs.declared.event.Event.TheVariants.{TakenBack, Finished}
+use Rattle.model.specs.declared.event.Start.{Start}
+use Rattle.model.specs.declared.event.Start.TheVariants as starts
+use Rattle.model.specs.declared.families.Flight as flights
+use Rattle.model.specs.declared.families.loan.LoanStart.TheVariants as calls
+use Rattle.model.specs.declared.families.loan.calls.LoanFlight.{LoanFlight}
+use Rattle.model.specs.declared.families.loan.calls.LoanFlight.TheVariants.{TakeBack}
+use Rattle.model.specs.declared.families.loan.effects.Effect.{Effect}
+use Rattle.model.specs.declared.families.loan.effects.Effect.TheVariants as effects
+use Rattle.model.specs.declared.party.Party.{Party}
+use Rattle.model.specs.Coding.{Coding, one_word}
+use Rattle.model.specs.Families.{ask_of}
+use Rattle.model.specs.Families.Loan.Reading.{Passing, Returning, spot_of, receiver_after, receiver_of, died_after, given_back, taken_back}
+use Rattle.model.specs.Families.Loan.Steps.{ended_book, book_after, take_back_effect, effects_of}
+use Rattle.model.specs.Families.Queues.Calls.{as_it_is, popped, words_of_index}
+use Rattle.model.specs.Reading.{Span, Open, Ended, own_after, span_of}
+use Rattle.model.specs.Step.{as_call, answer_in}
+use Rattle.model.specs.Turns.{old_of, words_after, step_count, ending_of}
+use Rattle.model.proofs.Readings.{span_of-own, span_of-other}
+use Rattle.queue_laws.proofs.Queues.Core.{Core, taken}
+use Rattle.queue_laws.proofs.Queues.Knows.{layout, in_one}
+use Rattle.queue_laws.proofs.Ring.Knows.{KnowsPush, KnowsPop, pop_number}
+use Rattle.loan_laws.proofs.Channel.{Channel, no_roles, words_in}
+use Rattle.loan_laws.proofs.Completion as completion
+use Rattle.loan_laws.proofs.Cuts.{IsOn}
+use Rattle.loan_laws.proofs.Invariant.{Hangs, sends_at, counted_for, hung, reclaims_in, Carries, HoldsNow}
+use Rattle.loan_laws.proofs.Knows.{wrote_in, At}
+use Rattle.loan_laws.proofs.Lists.{first_there, lists_stay}
+use Rattle.loan_laws.proofs.OnQueues.{OnQueues, queues_then, queues_show, silent_tells}
+use Rattle.loan_laws.proofs.Parts.{completion_long, completion_old, completion_words}
+use Rattle.loan_laws.proofs.Placed.{Placed, placed_on}
+use Rattle.loan_laws.proofs.Releases.{take_back_frees_at}
+use Rattle.loan_laws.proofs.Rooms.{back_below, index_is}
+use Rattle.loan_laws.proofs.Sender.{party_then, Steps}
+use Rattle.loan_laws.proofs.Spots.{is_waiting, is_returning, returns_there, spot_stays, spot_other, spot_moved}
+use Rattle.loan_laws.proofs.Table.{takes_it_back}
+use Rattle.loan_laws.proofs.Told.{is_reclaiming}
+
+abbrev pub pops_at : ℕ → ℕ → PopStage → OneWord → LoanFlight
+pops_at slots queue stage found =
+    TakeBack (record { call = record { slots = slots; queue = queue; stage = take_backs.TheVariants.Pops stage found }; given = tt; room = tt })
+
+-- a room with this word
+abbrev pub word_of : ℕ → OneWord
+word_of v = record { 0 = v }
+
+-- how a take-back goes on that goes on so
+abbrev pub taken_after : (T : Type 0) → After take_back.TakeBack (Option ℕ) → After LoanFlight (Answer T)
+taken_after T after = as_call TakeBack popped (went_on as_it_is tt tt after)
+
+-- a push of the same queue, where the first value leaves
+pub take_keeps : (slots : ℕ) (k : Core ℕ) (v : ℕ) (rest : List ℕ) → k.waiting ≡ v ∷ rest → (w : ℕ) (stage : PushStage) → KnowsPush one_word slots k w stage → KnowsPush one_word slots (taken 1 words_of_index slots k rest) w stage
+take_keeps slots k v rest is w pushes.TheVariants.LoadsWrite h = h
+take_keeps slots k v rest is w (pushes.TheVariants.LoadsRead write) h = h
+take_keeps slots k v rest is w (pushes.TheVariants.StoresCell write cell at) h =
+    let long : length k.waiting ≡ suc (length rest) = ap length is in
+    let room = h.1 in
+    (h.0, omega arith, h.2, h.3, h.4)
+take_keeps slots k v rest is w (pushes.TheVariants.StoresWrite write) h =
+    let long : length k.waiting ≡ suc (length rest) = ap length is in
+    let room = h.1 in
+    (h.0, omega arith, h.2)
+
+-- a queue that has something has a first one
+pub first_of : (xs : List ℕ) → 0 < length xs → (v : ℕ) × (rest : List ℕ) × (xs ≡ v ∷ rest)
+first_of [] some = absurd (omega arith)
+first_of (x ∷ xs) some = (x, xs, refl)
+
+not_passing : (q : ℕ) → Passing q ≡ Returning → ⊥
+not_passing q e = absurd (cc)
+
+module _ {T : Type 0} (code : Coding T) (slots queue : ℕ) (s : Channel T) (latest : List (ℕ × Party T)) (turns changes since : ℕ) (x : Party T) (h : HoldsNow slots queue s latest s.events turns) (small : turns < 2 ^ 64 - 2) (under : PopStage) (had : OneWord) (here : sends_at latest ≡ Some (flights.TheVariants.Loan (pops_at slots queue under had)))
+    (from : span_of 0 s.events ≡ Open (starts.Loan calls.TakeBack) []) (straight : x.backs ≡ 0) where
+  abbrev start : Start T
+  start = starts.Loan calls.TakeBack
+
+  abbrev spanned : Span T
+  spanned = Open start []
+
+  abbrev pub asked : PopStage → Option Ask
+  asked stage = ask_of (shifted (completion_word slots queue) (pop_asks stage))
+
+  abbrev pub old : PopStage → ℕ
+  old stage = old_of (words_in s) (asked stage)
+
+  abbrev queued : List ℕ
+  queued = layout no_roles s.completion
+
+  abbrev pub goes : PopStage → OneWord → ℕ → After LoanFlight (Answer T)
+  goes stage found value = taken_after T (take_back_takes (record { slots = slots; queue = queue; stage = take_backs.TheVariants.Pops stage found }) (take_backs.TheVariants.Pops stage found) value)
+
+  abbrev events_by : Effect → After LoanFlight (Answer T) → List (Event T)
+  events_by effect after = effects_of 0 effect (answer_in after) ++ ending_of 0 start (answer_in after)
+
+  -- what is kept then
+  abbrev Keeps : Channel T → Effect → After LoanFlight (Answer T) → Type 0
+  Keeps s' effect after = ended_book {T = T} 0 calls.TakeBack (answer_in after) (fold (book_after {T = T}) s.book (effects_of 0 effect (answer_in after))) ≡ s'.book
+
+  abbrev StepTo : Channel T → PopStage → After LoanFlight (Answer T) → Effect → Type 0
+  StepTo s' stage after effect = Steps code slots queue s latest turns changes since x s' spanned calls.TakeBack (asked stage) false after (events_by effect after) × Keeps s' effect after
+
+  -- what a step of a take-back that stands here comes to
+  pub record Does (stage : PopStage) (found : OneWord) : Type 0 where
+    pub channel_then : Channel T
+    pub step : StepTo channel_then stage (goes stage found (old stage)) (take_back_effect (take_backs.TheVariants.Pops stage found))
+
+  -- ---- what is so of the queue
+
+  some : 1 ≤ slots
+  some = h.parts.set.some
+
+  few : slots < 2 ^ 24
+  few = let low = h.parts.set.few in omega arith
+
+  reached : s.completion.write < 2 ^ 64 - 2
+  reached = let given = h.given in omega arith
+
+  long : length queued ≡ 4 + slots
+  long = completion_long slots queue s (counted_for (sends_at latest)) h.parts
+
+  old_is : (stage : PopStage) → IsOn queued (pop_asks stage) → old stage ≡ old_of queued (ask_of (pop_asks stage))
+  old_is stage on = completion_old slots queue s (counted_for (sends_at latest)) h.parts (pop_asks stage) on
+
+  words_are : (stage : PopStage) (k : Core ℕ) → IsOn queued (pop_asks stage) → words_after queued (ask_of (pop_asks stage)) ≡ layout no_roles k → words_after (words_in s) (asked stage) ≡ s.set ++ (layout no_roles s.submission ++ layout no_roles k)
+  words_are stage k on is =
+      completion_words slots queue s (counted_for (sends_at latest)) h.parts (pop_asks stage) on
+      ∙ ap (λ ws. s.set ++ (layout no_roles s.submission ++ ws)) is
+
+  one_step : (stage : PopStage) → step_count (asked stage) ≡ 1
+  one_step pops.TheVariants.LoadsRead = refl
+  one_step (pops.TheVariants.LoadsWrite read) = refl
+  one_step (pops.TheVariants.LoadsCell read cell at) = refl
+  one_step (pops.TheVariants.StoresRead read) = refl
+
+  calm : Hangs queue s.submission None
+  calm = subst (Hangs queue s.submission) (ap (hung s.submission.read) here) h.hangs
+
+  idle : counted_for (sends_at latest) ≡ 0
+  idle = ap counted_for here
+
+  -- ---- it goes on
+
+  abbrev still : Channel T
+  still = record s { submission = s.submission; completion = s.completion; book = s.book; events = s.events ++ [] }
+
+  module _ (now after_it : PopStage) (then_found : OneWord) (on : IsOn queued (pop_asks now)) (words : words_after queued (ask_of (pop_asks now)) ≡ queued) (known : KnowsPop one_word slots s.completion (in_one then_found) after_it) (steps : x.steps + 1 ≤ pop_number 1 after_it) where
+    abbrev y_on : Party T
+    y_on = party_then s x since changes calls.TakeBack (asked now) false (GoOn (pops_at slots queue after_it then_found))
+
+    as_was : span_of 0 (s.events ++ []) ≡ spanned
+    as_was = ap (span_of 0) (append-nil s.events) ∙ from
+
+    on_queues_goes : OnQueues slots queue s latest turns y_on s.submission s.completion s.book []
+    on_queues_goes =
+        let sent = h.sent in
+        let given = h.given in
+        let same : receiver_of (s.events ++ []) ≡ receiver_of s.events = ap receiver_of (append-nil s.events) in
+        record {
+          busy_before = idle;
+          busy_after = refl;
+          queue_stays = refl;
+          submission = h.parts.submission;
+          completion = h.parts.completion;
+          placed = subst (Placed slots s.claims s.submission.waiting s.completion.waiting s.book) (sym (append-nil s.events)) h.parts.placed;
+          tells = silent_tells queue (is_reclaiming s.events) s.submission.waiting s.completion.waiting s.completion.waiting [] refl refl refl (append-nil s.completion.waiting);
+          hangs = calm;
+          sent = omega arith;
+          given = omega arith;
+          reclaiming = h.reclaiming ∙ ap (λ es. reclaims_in (span_of 0 es)) (sym (append-nil s.events));
+          receivers = (omega arith, omega arith);
+          moves = tt;
+          begins = tt;
+          answers = tt;
+          passing = λ i q e. subst (λ es. Carries i (span_of q es)) (sym (append-nil s.events)) (h.passing i q (ap (spot_of i) (sym (append-nil s.events)) ∙ e));
+        }
+
+    goes_on : StepTo still now (GoOn (pops_at slots queue after_it then_found)) effects.Quiet
+    goes_on =
+        let wrote_is : [] ≡ wrote_in (span_of 0 (s.events ++ [])) = sym (ap wrote_in as_was) in
+        let one = one_step now in (
+          record {
+            words = words_are now s.completion on words;
+            shows = queues_show slots queue s latest turns y_on s.submission s.completion s.book [] h on_queues_goes;
+            own = tt;
+            stands = tt;
+            here =
+                record {
+                  span = ap (λ wrote. Open start wrote) wrote_is;
+                  steps = omega arith;
+                  at = subst (λ wrote. At slots queue still 0 wrote calls.TakeBack (pops_at slots queue after_it then_found)) wrote_is (refl, refl, refl, refl, known);
+                };
+            knows = omega arith;
+            theirs = λ q ne.
+                record {
+                  alive = λ alive. alive;
+                  receiver = λ alive e. e;
+                  pop = λ alive e room stage known. known;
+                  passes = λ alive e i passes. (passes.0, ap (spot_of i) (append-nil s.events) ∙ passes.1);
+                  push = λ i stage known. known;
+                };
+            up = record { write = omega arith; read = omega arith; paid = omega arith };
+          },
+          refl,
+        )
+
+  -- ---- nothing waits
+
+  abbrev load_of_write : PopStage
+  load_of_write = pops.TheVariants.LoadsWrite s.completion.read
+
+  abbrev ends : Event T
+  ends = Finished 0 start answers.PoppedNone
+
+  abbrev y_none : Party T
+  y_none = party_then s x since changes calls.TakeBack (asked load_of_write) false (Done answers.PoppedNone)
+
+  abbrev s_none : Channel T
+  s_none = queues_then slots queue s latest turns y_none s.submission s.completion s.book (ends ∷ [])
+
+  same_spots : (i : ℕ) → spot_of i (s.events ++ ends ∷ []) ≡ spot_of i s.events
+  same_spots i = spot_stays s.events ends i refl
+
+  same_receiver : receiver_of (s.events ++ ends ∷ []) ≡ receiver_of s.events
+  same_receiver = fold-append receiver_after 1 s.events (ends ∷ [])
+
+  ended : span_of 0 (s.events ++ ends ∷ []) ≡ Ended start answers.PoppedNone []
+  ended = span_of-own 0 s.events (ends ∷ []) (refl, tt) ∙ ap (λ span. fold own_after span (ends ∷ [])) from
+
+  placed_none : Placed slots s.claims s.submission.waiting s.completion.waiting s.book (s.events ++ ends ∷ [])
+  placed_none =
+      let placed = h.parts.placed in
+      placed_on slots s.events ends refl s.claims s.submission.waiting s.completion.waiting s.book s.book placed
+      (record {
+        places = refl;
+        holders = refl;
+        receiver = placed.keeps.receiver ∙ sym same_receiver;
+        dead = λ q. placed.keeps.dead q ∙ sym (fold-append (died_after q) false s.events (ends ∷ []));
+        parties = λ i q by. subst (λ n. (q ≡ 0) ⊎ (q ≡ n)) (sym same_receiver) (placed.parties i q by);
+      })
+      (lists_stay is_waiting s.submission.waiting s.events ends placed.waits refl)
+      (lists_stay is_returning s.completion.waiting s.events ends placed.returns refl)
+
+  -- nothing is in passing in a take-back that has taken nothing
+  none_carried : {A : Type 0} (i : ℕ) → Carries i spanned → A
+  none_carried i carried = let clash : [] ≡ i ∷ [] = carried.0 in absurd (cc)
+
+  passing_none : (i q : ℕ) → spot_of i (s.events ++ ends ∷ []) ≡ Passing q → Carries i (span_of q (s.events ++ ends ∷ []))
+  passing_none i q e =
+      let carried = h.passing i q (sym (same_spots i) ∙ e) in
+      ⊎_elim
+      (λ (mine : q ≡ 0). none_carried i (subst (Carries i) from (subst (λ n. Carries i (span_of n s.events)) mine carried)))
+      (λ (theirs : q ≢ 0). subst (Carries i) (sym (span_of-other 0 q s.events (ends ∷ []) theirs (refl, tt))) carried)
+      (cases_eq q 0)
+
+  module _ (empty : s.completion.waiting ≡ []) where
+    on_queues_none : OnQueues slots queue s latest turns y_none s.submission s.completion s.book (ends ∷ [])
+    on_queues_none =
+        let sent = h.sent in
+        let given = h.given in
+        let same = same_receiver in
+        record {
+          busy_before = idle;
+          busy_after = refl;
+          queue_stays = refl;
+          submission = h.parts.submission;
+          completion = h.parts.completion;
+          placed = placed_none;
+          tells = silent_tells queue (is_reclaiming s.events) s.submission.waiting s.completion.waiting s.completion.waiting (ends ∷ []) refl refl refl (append-nil s.completion.waiting);
+          hangs = calm;
+          sent = omega arith;
+          given = omega arith;
+          reclaiming = h.reclaiming ∙ (ap reclaims_in from ∙ sym (ap reclaims_in ended));
+          receivers = (omega arith, omega arith);
+          moves = (tt, tt);
+          begins = (tt, tt);
+          answers = (h.told.given ∙ (ap (λ xs. taken_back s.events ++ xs) empty ∙ append-nil (taken_back s.events)), tt);
+          passing = passing_none;
+        }
+
+    finds_none : IsOn queued (pop_asks load_of_write) → x.steps ≤ 1 → StepTo s_none load_of_write (Done answers.PoppedNone) effects.Quiet
+    finds_none on steps = (
+      record {
+        words = words_are load_of_write s.completion on refl;
+        shows = queues_show slots queue s latest turns y_none s.submission s.completion s.book (ends ∷ []) h on_queues_none;
+        own = (refl, tt);
+        stands = ((refl, record { moments = refl; done = record { claimed = refl; published = refl; handed_out = refl; given_back = refl; taken_back = refl; freed = refl } }), tt);
+        here = record { answer = answers.PoppedNone; wrote = []; span = refl; steps = omega arith };
+        knows = omega arith;
+        theirs = λ q ne.
+            record {
+              alive = λ alive. alive;
+              receiver = λ alive e. e;
+              pop = λ alive e room stage known. known;
+              passes = λ alive e i passes. (passes.0, same_spots i ∙ passes.1);
+              push = λ i stage known. known;
+            };
+        up = record { write = omega arith; read = omega arith; paid = omega arith };
+      },
+      refl,
+    )
+
+  -- ---- the first one leaves the queue
+
+  module _ (index : ℕ) (rest : List ℕ) (first : s.completion.waiting ≡ index ∷ rest) where
+    abbrev store_of_read : PopStage
+    store_of_read = pops.TheVariants.StoresRead s.completion.read
+
+    abbrev takes : Event T
+    takes = TakenBack 0 index
+
+    abbrev without : Core ℕ
+    without = taken 1 words_of_index slots s.completion rest
+
+    abbrev frees_at : LoanFlight
+    frees_at = take_back_frees_at slots queue index releases.TheVariants.ClearsFlag
+
+    abbrev y_taken : Party T
+    y_taken = party_then s x since changes calls.TakeBack (asked store_of_read) false (GoOn frees_at)
+
+    abbrev s_taken : Channel T
+    s_taken = queues_then slots queue s latest turns y_taken s.submission without s.book (takes ∷ [])
+
+    below : index < slots
+    below = back_below slots s.claims s.submission.waiting s.completion.waiting s.book s.events h.parts.placed index rest first
+
+    was_returning : spot_of index s.events ≡ Returning
+    was_returning = returns_there (spot_of index s.events) (first_there is_returning s.completion.waiting rest s.events index first h.parts.placed.returns)
+
+    now_passing : spot_of index (s.events ++ takes ∷ []) ≡ Passing 0
+    now_passing = spot_moved s.events takes (record { index = index; from = Returning; to = Passing 0 }) refl
+
+    elsewhere : (i : ℕ) → index ≢ i → spot_of i (s.events ++ takes ∷ []) ≡ spot_of i s.events
+    elsewhere i ne = spot_other s.events takes (record { index = index; from = Returning; to = Passing 0 }) refl i ne
+
+    open_then : span_of 0 (s.events ++ takes ∷ []) ≡ Open start (takes ∷ [])
+    open_then = span_of-own 0 s.events (takes ∷ []) (refl, tt) ∙ ap (λ span. fold own_after span (takes ∷ [])) from
+
+    receiver_stays : receiver_of (s.events ++ takes ∷ []) ≡ receiver_of s.events
+    receiver_stays = fold-append receiver_after 1 s.events (takes ∷ [])
+
+    passing_taken : (i q : ℕ) → spot_of i (s.events ++ takes ∷ []) ≡ Passing q → Carries i (span_of q (s.events ++ takes ∷ []))
+    passing_taken i q e = ⊎_elim mine others (cases_eq index i)
+      where
+        mine : index ≡ i → Carries i (span_of q (s.events ++ takes ∷ []))
+        mine same =
+            let both : Passing 0 ≡ Passing q = sym now_passing ∙ (ap (λ n. spot_of n (s.events ++ takes ∷ [])) same ∙ e) in
+            let zero : 0 ≡ q = cc in
+            let carried : Carries i (Open start (takes ∷ [])) = (ap (λ n. n ∷ []) same, refl) in
+            subst (λ n. Carries i (span_of n (s.events ++ takes ∷ []))) zero (subst (Carries i) (sym open_then) carried)
+
+        others : index ≢ i → Carries i (span_of q (s.events ++ takes ∷ []))
+        others ne =
+            let carried = h.passing i q (sym (elsewhere i ne) ∙ e) in
+            ⊎_elim
+            (λ (sender : q ≡ 0). none_carried i (subst (Carries i) from (subst (λ n. Carries i (span_of n s.events)) sender carried)))
+            (λ (theirs : q ≢ 0). subst (Carries i) (sym (span_of-other 0 q s.events (takes ∷ []) theirs (refl, tt))) carried)
+            (cases_eq q 0)
+
+    on_queues_taken : OnQueues slots queue s latest turns y_taken s.submission without s.book (takes ∷ [])
+    on_queues_taken =
+        let sent = h.sent in
+        let given = h.given in
+        let same = receiver_stays in
+        record {
+          busy_before = idle;
+          busy_after = refl;
+          queue_stays = refl;
+          submission = h.parts.submission;
+          completion = completion.take_good slots some few s.completion h.parts.completion reached index rest first;
+          placed = takes_it_back slots s.claims s.submission.waiting s.completion.waiting s.book s.events h.parts.placed index below rest first;
+          tells = silent_tells queue (is_reclaiming s.events) s.submission.waiting s.completion.waiting rest (takes ∷ []) refl refl refl (append-nil s.completion.waiting ∙ first);
+          hangs = calm;
+          sent = omega arith;
+          given = omega arith;
+          reclaiming = h.reclaiming ∙ (ap reclaims_in from ∙ sym (ap reclaims_in open_then));
+          receivers = (omega arith, omega arith);
+          moves = ((below, was_returning), tt);
+          begins = (tt, tt);
+          answers = (tt, tt);
+          passing = passing_taken;
+        }
+
+    takes_it : IsOn queued (pop_asks store_of_read) → x.steps ≤ 3 → StepTo s_taken store_of_read (GoOn frees_at) (effects.TakesBack index)
+    takes_it on steps =
+        let wrote_is : takes ∷ [] ≡ wrote_in (span_of 0 (s.events ++ takes ∷ [])) = sym (ap wrote_in open_then) in (
+          record {
+            words = words_are store_of_read without on (completion.take_words slots some few s.completion h.parts.completion reached index rest first);
+            shows = queues_show slots queue s latest turns y_taken s.submission without s.book (takes ∷ []) h on_queues_taken;
+            own = (refl, tt);
+            stands = (record { claimed = refl; published = refl; handed_out = refl; given_back = refl; taken_back = refl; freed = refl }, tt);
+            here =
+                record {
+                  span = ap (λ wrote. Open start wrote) wrote_is;
+                  steps = omega arith;
+                  at = subst (λ wrote. At slots queue s_taken 0 wrote calls.TakeBack frees_at) wrote_is (refl, refl, refl, refl, (below, now_passing));
+                };
+            knows = omega arith;
+            theirs = λ q ne.
+                record {
+                  alive = λ alive. alive;
+                  receiver = λ alive e. e;
+                  pop = λ alive e room stage known. known;
+                  passes = λ alive e i passes.
+                      let apart : index ≢ i = λ same. not_passing q (sym passes.1 ∙ (ap (λ n. spot_of n s.events) (sym same) ∙ was_returning)) in
+                      (passes.0, elsewhere i apart ∙ passes.1);
+                  push = λ i stage known. take_keeps slots s.completion index rest first i stage known;
+                };
+            up = record { write = omega arith; read = omega arith; paid = omega arith };
+          },
+          refl,
+        )
+
+  -- ---- each of its stages
+
+  loads_read : (room : OneWord) → x.steps ≤ 0 → Does pops.TheVariants.LoadsRead room
+  loads_read room steps =
+      let on : 1 < length queued = (let wide = long in omega arith) in
+      let is : goes pops.TheVariants.LoadsRead room (old pops.TheVariants.LoadsRead) ≡ GoOn (pops_at slots queue load_of_write room) = ap (goes pops.TheVariants.LoadsRead room) (old_is pops.TheVariants.LoadsRead on) in
+      record {
+        channel_then = still;
+        step =
+            subst (λ a. StepTo still pops.TheVariants.LoadsRead a effects.Quiet) (sym is)
+            (goes_on pops.TheVariants.LoadsRead load_of_write room on refl (omega arith, refl) (omega arith));
+      }
+
+  abbrev load_of_cell : PopStage
+  load_of_cell = pops.TheVariants.LoadsCell s.completion.read (cell_word slots 1 s.completion.read) 0
+
+  loads_write : (room : OneWord) → x.steps ≤ 1 → Does load_of_write room
+  loads_write room steps = go (s.completion.write == s.completion.read) refl
+    where
+      on : 0 < length queued
+      on = let wide = long in omega arith
+
+      go : (same : Bool) → (s.completion.write == s.completion.read) ≡ same → Does load_of_write room
+      go true e =
+          let none : (slots == 0) ≡ false = (let most = some in grind (arith, nat_tests)) in
+          let both : (slots == 0 || s.completion.write == s.completion.read) ≡ true = rw (none, e) refl in
+          let is : goes load_of_write room (old load_of_write) ≡ Done answers.PoppedNone = ap (goes load_of_write room) (old_is load_of_write on) ∙ (rw both refl) in
+          record {
+            channel_then = s_none;
+            step =
+                subst (λ a. StepTo s_none load_of_write a effects.Quiet) (sym is)
+                (finds_none (completion.finds_none slots some few s.completion h.parts.completion reached e) on steps);
+          }
+      go false e =
+          let none : (slots == 0) ≡ false = (let most = some in grind (arith, nat_tests)) in
+          let both : (slots == 0 || s.completion.write == s.completion.read) ≡ false = rw (none, e) refl in
+          let is : goes load_of_write room (old load_of_write) ≡ GoOn (pops_at slots queue load_of_cell room) = ap (goes load_of_write room) (old_is load_of_write on) ∙ (rw both refl) in
+          let ahead = completion.finds_some slots some few s.completion h.parts.completion reached e in
+          let write = h.parts.completion.write in
+          let front = first_of s.completion.waiting (omega arith) in
+          let known : KnowsPop one_word slots s.completion (in_one room) load_of_cell = (omega arith, front.0, front.1, refl, front.2, refl, omega arith, λ i below. absurd (omega arith)) in
+          record {
+            channel_then = still;
+            step =
+                subst (λ a. StepTo still load_of_write a effects.Quiet) (sym is)
+                (goes_on load_of_write load_of_cell room on refl known (omega arith));
+          }
+
+  -- the cell has the first value
+  loads_cell : (room : OneWord) (v : ℕ) (rest : List ℕ) → s.completion.waiting ≡ v ∷ rest → x.steps ≤ 2 → Does load_of_cell room
+  loads_cell room v rest first steps =
+      let on = completion.cell_on slots some few s.completion h.parts.completion reached s.completion.read in
+      let value : old load_of_cell ≡ v = old_is load_of_cell on ∙ completion.first_is slots some few s.completion h.parts.completion reached v rest first in
+      let is : goes load_of_cell room (old load_of_cell) ≡ GoOn (pops_at slots queue (pops.TheVariants.StoresRead s.completion.read) (word_of v)) = ap (goes load_of_cell room) value in
+      record {
+        channel_then = still;
+        step =
+            subst (λ a. StepTo still load_of_cell a effects.Quiet) (sym is)
+            (goes_on load_of_cell (pops.TheVariants.StoresRead s.completion.read) (word_of v) on (set-get_or queued (word_at (cell_word slots 1 s.completion.read) 0) 0) (rest, refl, first) (omega arith));
+      }
+
+  stores_read : (room : OneWord) (rest : List ℕ) → s.completion.waiting ≡ room.0 ∷ rest → x.steps ≤ 3 → Does (pops.TheVariants.StoresRead s.completion.read) room
+  stores_read room rest first steps =
+      let on : 1 < length queued = (let wide = long in omega arith) in
+      let low : slots < 2 ^ 32 = (let less = few in omega arith) in
+      let is : goes (pops.TheVariants.StoresRead s.completion.read) room (old (pops.TheVariants.StoresRead s.completion.read)) ≡ GoOn (take_back_frees_at slots queue room.0 releases.TheVariants.ClearsFlag) =
+      ap (λ i. GoOn (take_back_frees_at slots queue i releases.TheVariants.ClearsFlag)) (index_is room.0 slots (below room.0 rest first) low)
+      in
+      record {
+        channel_then = s_taken room.0 rest first;
+        step =
+            subst (λ a. StepTo (s_taken room.0 rest first) (pops.TheVariants.StoresRead s.completion.read) a (effects.TakesBack room.0)) (sym is)
+            (takes_it room.0 rest first on steps);
+      }
+
+  -- what a take-back knows leads on
+  pub does : (now : PopStage) (room : OneWord) → KnowsPop one_word slots s.completion (in_one room) now → x.steps ≤ pop_number 1 now → Does now room
+  does pops.TheVariants.LoadsRead room known steps = loads_read room steps
+  does (pops.TheVariants.LoadsWrite read) room known steps = subst (λ n. Does (pops.TheVariants.LoadsWrite n) room) (sym known.1) (loads_write room steps)
+  does (pops.TheVariants.LoadsCell read cell at) room known steps =
+      let first : at ≡ 0 = (let low = known.6 in omega arith) in
+      subst (λ n. Does (pops.TheVariants.LoadsCell read cell n) room) (sym first)
+      (subst (λ n. Does (pops.TheVariants.LoadsCell read n 0) room) (sym known.5)
+      (subst (λ n. Does (pops.TheVariants.LoadsCell n (cell_word slots 1 s.completion.read) 0) room) (sym known.3)
+      (loads_cell room known.1 known.2 known.4 (omega arith))))
+  does (pops.TheVariants.StoresRead read) room known steps =
+      subst (λ n. Does (pops.TheVariants.StoresRead n) room) (sym known.1)
+      (stores_read room known.0 known.2 steps)

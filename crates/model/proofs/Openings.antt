@@ -1,0 +1,64 @@
+-- How machines open: at one number, and a loan channel at two.
+use Rattle.std.proofs.Common.{◌≡◌, ℕ, ◌-◌, ◌^◌, ◌≤◌, ◌||◌, Bool, true, false, Some, None, if◌then◌else◌, nat_lt, refl, arith}
+use Rattle.std.proofs.lemmas.Bool.Decides.{nat_tests}
+use Rattle.steps.specs.declared.enums.UniqueIndexCreationError.{UniqueIndexCreationError}
+use Rattle.steps.specs.declared.enums.UniqueIndexCreationError.TheVariants.{ProvidedCapacityGreaterThanMaxCapacity, ProvidedCapacityIsZero}
+use Rattle.model.specs.declared.turn.Kind.{Kind}
+use Rattle.model.specs.declared.turn.Kind.TheVariants.{Loan}
+use Rattle.model.specs.Coding.{Coding}
+use Rattle.model.specs.Families.Loan.Opening.{is_loan}
+use Rattle.model.specs.World.{opening, opened, capacity_error, queue_error, loan_error}
+
+-- ---- the same machine, made with one number and with two
+
+module _ {T : Type 0} where
+  pub opened_at_one : (code : Coding T) (kind : Kind) (c parties : ℕ) → opened code kind c c parties ≡ opening code kind c parties
+  opened_at_one code Loan c parties = refl
+  opened_at_one code kind c parties = refl
+
+  -- another kind than the loan channel has no second number
+  pub opened_others : (code : Coding T) (kind : Kind) (c queue parties : ℕ) → is_loan kind ≡ false → opened code kind c queue parties ≡ opening code kind c parties
+  opened_others code Loan c queue parties e = absurd (cc)
+  opened_others code kind c queue parties e = refl
+
+-- ---- numbers that are admitted
+
+passed_both : (a b : Bool) (x y : UniqueIndexCreationError) → (if a then Some x else if b then Some y else None) ≡ None → (a ≡ false) × (b ≡ false)
+passed_both true b x y e = absurd (cc)
+passed_both false true x y e = absurd (cc)
+passed_both false false x y e = (refl, refl)
+
+passes_both : (a b : Bool) (x y : UniqueIndexCreationError) → a ≡ false → b ≡ false → (if a then Some x else if b then Some y else None) ≡ None
+passes_both true b x y e f = absurd (cc)
+passes_both false true x y e f = absurd (cc)
+passes_both false false x y e f = refl
+
+neither : (a b : Bool) → (a || b) ≡ false → (a ≡ false) × (b ≡ false)
+neither true b e = absurd (cc)
+neither false b e = (refl, e)
+
+-- a capacity that passes both tests is not refused
+passes : (a b : Bool) → a ≡ false → b ≡ false → (if a then Some ProvidedCapacityGreaterThanMaxCapacity else if b then Some ProvidedCapacityIsZero else None) ≡ None
+passes a b e f = passes_both a b ProvidedCapacityGreaterThanMaxCapacity ProvidedCapacityIsZero e f
+
+-- a number of slots is also a capacity of a submission queue
+wide_enough : (c : ℕ) → capacity_error Loan c ≡ None → queue_error Loan c ≡ None
+wide_enough c e =
+    let both = passed_both (nat_lt (2 ^ 24 - 2) c) (nat_lt c 1) _ _ e in
+    let most : nat_lt (2 ^ 24 - 2) c ≡ false = both.0 in
+    let below : c ≤ 2 ^ 24 - 2 = grind (arith, nat_tests) in
+    let within : nat_lt (2 ^ 32 - 1) c ≡ false = grind (arith, nat_tests) in
+    passes (nat_lt (2 ^ 32 - 1) c) (nat_lt c 1) within both.1
+
+pub queue_admitted : (kind : Kind) (c : ℕ) → capacity_error kind c ≡ None → queue_error kind c ≡ None
+queue_admitted Loan c e = wide_enough c e
+queue_admitted kind c e = refl
+
+pub loan_admitted : (slots queue : ℕ) → loan_error slots queue ≡ None → (capacity_error Loan slots ≡ None) × (queue_error Loan queue ≡ None)
+loan_admitted slots queue e =
+    let both = passed_both (nat_lt (2 ^ 24 - 2) slots || nat_lt (2 ^ 32 - 1) queue) (nat_lt slots 1 || nat_lt queue 1) _ _ e in
+    let most = neither (nat_lt (2 ^ 24 - 2) slots) (nat_lt (2 ^ 32 - 1) queue) both.0 in
+    let least = neither (nat_lt slots 1) (nat_lt queue 1) both.1 in (
+      passes (nat_lt (2 ^ 24 - 2) slots) (nat_lt slots 1) most.0 least.0,
+      passes (nat_lt (2 ^ 32 - 1) queue) (nat_lt queue 1) most.1 least.1,
+    )

@@ -1,0 +1,135 @@
+-- The definitions of the loan channel at worked runs.
+use Rattle.std.proofs.Common.{◌≡◌, ℕ, Option, Some, None, List, [], ◌∷◌, ◌++◌, refl}
+use Rattle.model.specs.declared.event.Answer.TheVariants.{Index, Number, PoppedNone, PoppedIndex}
+use Rattle.model.specs.declared.event.Event.TheVariants.{Begun, Published, HandedOut, Claimed, Freed, Died, Acted, Finished}
+use Rattle.model.specs.declared.event.Item.TheVariants as items
+use Rattle.model.specs.declared.event.Start.{Start}
+use Rattle.model.specs.declared.event.Start.TheVariants as starts
+use Rattle.model.specs.declared.families.loan.LoanStart.TheVariants.{Loan, Send, Receive, GiveBack, Reclaim}
+use Rattle.model.specs.declared.turn.Refusal.{Refusal}
+use Rattle.model.specs.declared.turn.Refusal.TheVariants.{NoParty, NoRole, NotHeld, BadIndex, OwnerIsDead, OwnerLives}
+use Rattle.model.specs.declared.turn.Turn.{Turn}
+use Rattle.model.specs.declared.turn.Turn.TheVariants.{Begin, Next, Die}
+use Rattle.model.specs.Families.Loan.Reading.{Free, With, spot_of, receiver_of}
+use Rattle.model.specs.Refusals.{refusal_of}
+use Rattle.model.specs.Turns.{run}
+use Rattle.model.specs.World.{Trace, loan_opening}
+use Rattle.model.proofs.Runs.{two_words, begins}
+
+abbrev loan : Start ℕ
+loan = starts.Loan Loan
+
+abbrev send : ℕ → Start ℕ
+send index = starts.Loan (Send index)
+
+abbrev receive : Start ℕ
+receive = starts.Loan Receive
+
+abbrev give_back : ℕ → Start ℕ
+give_back index = starts.Loan (GiveBack index)
+
+abbrev reclaim : Start ℕ
+reclaim = starts.Loan Reclaim
+
+-- two slots, a submission queue of capacity 1, and three parties
+abbrev ran_on : List (Turn ℕ) → Trace ℕ
+ran_on turns = run turns (loan_opening two_words 2 1 3)
+
+-- ---- the opening: head, next indices and flags; and the positions, roles and cells of both queues
+
+pub opening_words : (ran_on []).world.words
+    ≡ 0 ∷ 1 ∷ 2 ∷ 0 ∷ 0 ∷ 0 ∷ 1 ∷ 1 ∷ 0 ∷ 0 ∷ 0 ∷ 0 ∷ 1 ∷ 1 ∷ 0 ∷ 0 ∷ []
+opening_words = refl
+
+-- ---- a full queue hands the oldest index back, and the receiver dies with the other one
+
+abbrev sent : List (Turn ℕ)
+sent = begins 0 loan 4 ++ (begins 0 (send 0) 4 ++ (begins 0 loan 4 ++ begins 0 (send 1) 10))
+
+abbrev reclaimed : List (Turn ℕ)
+reclaimed = sent ++ (begins 1 receive 4 ++ (begins 0 loan 4 ++ (Die 1 ∷ begins 0 reclaim 8)))
+
+pub sent_events : (ran_on sent).events
+    ≡ Begun 0 loan
+    ∷ Claimed 0 0
+    ∷ Finished 0 loan (Index 0)
+    ∷ Begun 0 (send 0)
+    ∷ Published 0 (items.Index 0)
+    ∷ Acted 0 (send 0) PoppedNone
+    ∷ Finished 0 (send 0) PoppedNone
+    ∷ Begun 0 loan
+    ∷ Claimed 0 1
+    ∷ Finished 0 loan (Index 1)
+    ∷ Begun 0 (send 1)
+    ∷ Published 0 (items.Index 1)
+    ∷ HandedOut 0 (items.Index 0)
+    ∷ Acted 0 (send 1) (PoppedIndex 0)
+    ∷ Freed 0 0
+    ∷ Finished 0 (send 1) (PoppedIndex 0)
+    ∷ []
+sent_events = refl
+
+pub reclaimed_events : (ran_on reclaimed).events
+    ≡ Begun 0 loan
+    ∷ Claimed 0 0
+    ∷ Finished 0 loan (Index 0)
+    ∷ Begun 0 (send 0)
+    ∷ Published 0 (items.Index 0)
+    ∷ Acted 0 (send 0) PoppedNone
+    ∷ Finished 0 (send 0) PoppedNone
+    ∷ Begun 0 loan
+    ∷ Claimed 0 1
+    ∷ Finished 0 loan (Index 1)
+    ∷ Begun 0 (send 1)
+    ∷ Published 0 (items.Index 1)
+    ∷ HandedOut 0 (items.Index 0)
+    ∷ Acted 0 (send 1) (PoppedIndex 0)
+    ∷ Freed 0 0
+    ∷ Finished 0 (send 1) (PoppedIndex 0)
+    ∷ Begun 1 receive
+    ∷ HandedOut 1 (items.Index 1)
+    ∷ Acted 1 receive (PoppedIndex 1)
+    ∷ Finished 1 receive (PoppedIndex 1)
+    ∷ Begun 0 loan
+    ∷ Claimed 0 0
+    ∷ Finished 0 loan (Index 0)
+    ∷ Died 1
+    ∷ Begun 0 reclaim
+    ∷ Freed 0 1
+    ∷ Finished 0 reclaim (Number 1)
+    ∷ []
+reclaimed_events = refl
+
+-- ---- where the indices are, by the events and by what is kept
+
+pub places_before : (spot_of 0 (ran_on (sent ++ begins 1 receive 4)).events ≡ Free)
+    × (spot_of 1 (ran_on (sent ++ begins 1 receive 4)).events ≡ With 1)
+places_before = (refl, refl)
+
+pub places_after : (spot_of 0 (ran_on reclaimed).events ≡ With 0)
+    × (spot_of 1 (ran_on reclaimed).events ≡ Free)
+    × (receiver_of (ran_on reclaimed).events ≡ 2)
+places_after = (refl, refl, refl)
+
+-- ---- refusals, in their order
+
+abbrev refused_after : List (Turn ℕ) → Turn ℕ → Option Refusal
+refused_after turns turn = refusal_of (ran_on turns).world turn
+
+pub of_an_index : (refused_after sent (Begin 1 (send 2)) ≡ Some BadIndex)
+    × (refused_after sent (Begin 1 (send 1)) ≡ Some NoRole)
+    × (refused_after sent (Begin 0 (send 1)) ≡ Some NotHeld)
+    × (refused_after sent (Begin 1 (give_back 1)) ≡ Some NotHeld)
+of_an_index = (refl, refl, refl, refl)
+
+pub of_a_reclaim : (refused_after sent (Begin 1 reclaim) ≡ Some NoRole)
+    × (refused_after sent (Begin 0 reclaim) ≡ Some OwnerLives)
+    × (refused_after (sent ++ Die 1 ∷ []) (Begin 0 reclaim) ≡ None)
+of_a_reclaim = (refl, refl, refl)
+
+pub of_the_dead : (refused_after (sent ++ Die 1 ∷ []) (Begin 1 receive) ≡ Some OwnerIsDead)
+    × (refused_after (sent ++ (Begin 1 receive ∷ Die 1 ∷ [])) (Next 1) ≡ Some OwnerIsDead)
+    × (refused_after (sent ++ Die 1 ∷ []) (Die 1) ≡ Some OwnerIsDead)
+    × (refused_after sent (Die 3) ≡ Some NoParty)
+    × (refused_after reclaimed (Begin 1 receive) ≡ Some NoRole)
+of_the_dead = (refl, refl, refl, refl, refl)

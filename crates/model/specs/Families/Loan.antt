@@ -1,0 +1,9 @@
+-- The room of the loan channel: its calls, its words at the opening, what their steps write down, and what
+-- they promise.
+pub mod Bounds
+pub mod Calls
+pub mod Opening
+pub mod Promises
+pub mod Reading
+pub mod Spans
+pub mod Steps

@@ -1,0 +1,140 @@
+-- How the events of a loan channel are read: where each index is.
+use Rattle.std.specs.Prelude.{ℕ, ◌+◌, ◌==◌, Bool, true, false, Option, Some, None, List, [], ◌∷◌, ◌++◌, fold, if◌then◌else◌}
+use Rattle.std.specs.List.{flat_map}
+use Rattle.model.specs.declared.event.Answer.{Answer}
+use Rattle.model.specs.declared.event.Answer.TheVariants.{PoppedIndex}
+use Rattle.model.specs.declared.event.Answer.TheVariants as answers
+use Rattle.model.specs.declared.event.Event.{Event}
+use Rattle.model.specs.declared.event.Event.TheVariants.{Begun, Published, HandedOut, Claimed, Freed, Returned, TakenBack, Died, Acted, Finished}
+use Rattle.model.specs.declared.event.Item.TheVariants.{Index}
+use Rattle.model.specs.declared.event.Start.{Start}
+use Rattle.model.specs.declared.event.Start.TheVariants.{Loan, Queues}
+use Rattle.model.specs.declared.families.loan.LoanStart.TheVariants as calls
+use Rattle.model.specs.declared.families.queues.QueueStart.TheVariants.{PushIndex, Pop}
+
+-- ---- places
+
+-- where an index is: nobody has it; it is in passing in a call of this party; this party has it, in no call; it
+-- waits in the submission queue; or in the completion queue
+pub data Spot : Type 0 where
+  Free : Spot
+  Passing : (party : ℕ) → Spot
+  With : (party : ℕ) → Spot
+  Waiting : Spot
+  Returning : Spot
+
+-- an index goes from one place to another
+pub record Move : Type 0 where
+  pub index : ℕ
+  pub from : Spot
+  pub to : Spot
+
+module _ {T : Type 0} where
+  -- the move that an event tells
+  abbrev pub move_of : Event T → Option Move
+  move_of (Claimed p index) = Some (record { index = index; from = Free; to = Passing p })
+  move_of (Finished p (Loan calls.Loan) (answers.Index index)) =
+      Some (record { index = index; from = Passing p; to = With p })
+  move_of (Begun p (Loan (calls.Send index))) =
+      Some (record { index = index; from = With p; to = Passing p })
+  move_of (Begun p (Loan (calls.GiveUp index))) =
+      Some (record { index = index; from = With p; to = Passing p })
+  move_of (Published p (Index index)) =
+      Some (record { index = index; from = Passing p; to = Waiting })
+  move_of (HandedOut p (Index index)) =
+      Some (record { index = index; from = Waiting; to = Passing p })
+  move_of (Finished p (Loan calls.Receive) (PoppedIndex index)) =
+      Some (record { index = index; from = Passing p; to = With p })
+  move_of (Begun p (Loan (calls.GiveBack index))) =
+      Some (record { index = index; from = With p; to = Passing p })
+  move_of (Returned p index) = Some (record { index = index; from = Passing p; to = Returning })
+  move_of (TakenBack p index) = Some (record { index = index; from = Returning; to = Passing p })
+  move_of (Freed p index) = Some (record { index = index; from = Passing p; to = Free })
+  move_of e = None
+
+-- where an index is after a move of it or of another one
+abbrev pub moved : ℕ → Spot → Option Move → Spot
+moved i spot None = spot
+moved i spot (Some move) = if move.index == i then move.to else spot
+
+module _ {T : Type 0} where
+  abbrev pub spot_after : ℕ → Spot → Event T → Spot
+  spot_after i spot e = moved i spot (move_of e)
+
+  abbrev pub spot_of : ℕ → List (Event T) → Spot
+  spot_of i events = fold (spot_after i) Free events
+
+  -- ---- the receiver, and who has died
+
+  -- each finished reclaim makes the party of the next number the receiver
+  abbrev pub receiver_after : ℕ → Event T → ℕ
+  receiver_after p (Finished q (Loan calls.Reclaim) answer) = p + 1
+  receiver_after p e = p
+
+  abbrev pub receiver_of : List (Event T) → ℕ
+  receiver_of events = fold receiver_after 1 events
+
+  abbrev pub died_after : ℕ → Bool → Event T → Bool
+  died_after p dead (Died q) = if q == p then true else dead
+  died_after p dead e = dead
+
+  abbrev pub has_died_by : ℕ → List (Event T) → Bool
+  has_died_by p events = fold (died_after p) false events
+
+  -- ---- the completion queue
+
+  abbrev pub gives_back : Event T → List ℕ
+  gives_back (Returned p index) = index ∷ []
+  gives_back e = []
+
+  abbrev pub takes_back : Event T → List ℕ
+  takes_back (TakenBack p index) = index ∷ []
+  takes_back e = []
+
+  -- the indices of the Returned events, in order, and of the TakenBack events
+  abbrev pub given_back : List (Event T) → List ℕ
+  given_back events = flat_map gives_back events
+
+  abbrev pub taken_back : List (Event T) → List ℕ
+  taken_back events = flat_map takes_back events
+
+  abbrev pub frees : Event T → List ℕ
+  frees (Freed p index) = index ∷ []
+  frees e = []
+
+  abbrev pub freed : List (Event T) → List ℕ
+  freed events = flat_map frees events
+
+  abbrev pub claims : Event T → List ℕ
+  claims (Claimed p index) = index ∷ []
+  claims e = []
+
+  abbrev pub claimed : List (Event T) → List ℕ
+  claimed events = flat_map claims events
+
+  -- ---- the submission queue as a queue: a send pushes, a receive pops, and so does a reclaim for each index that it
+  -- hands out
+
+  -- whether a reclaim is under way
+  abbrev pub reclaims_after : Bool → Event T → Bool
+  reclaims_after now (Begun p (Loan calls.Reclaim)) = true
+  reclaims_after now (Finished p (Loan calls.Reclaim) answer) = false
+  reclaims_after now e = now
+
+  -- the push or pop that acts at an event, and its answer
+  abbrev pub queue_acts : Bool → Event T → List (Start T × Answer T)
+  queue_acts reclaims (Acted p (Loan (calls.Send index)) answer) =
+      (Queues (PushIndex index), answer) ∷ []
+  queue_acts reclaims (Acted p (Loan calls.Receive) answer) = (Queues Pop, answer) ∷ []
+  queue_acts reclaims (HandedOut p (Index index)) =
+      if reclaims then (Queues Pop, PoppedIndex index) ∷ [] else []
+  queue_acts reclaims e = []
+
+  abbrev pub as_queue : Bool → List (Event T) → List (Start T × Answer T)
+  as_queue reclaims [] = []
+  as_queue reclaims (e ∷ es) =
+      queue_acts reclaims e ++ as_queue (reclaims_after reclaims e) es
+
+  -- the pushes and pops of these events, in the order in which they acted, and their answers
+  abbrev pub queue_moments : List (Event T) → List (Start T × Answer T)
+  queue_moments events = as_queue false events

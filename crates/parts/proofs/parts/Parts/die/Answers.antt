@@ -1,0 +1,38 @@
+use Rattle.std.proofs.Common.{◌≡◌, inl, inr, false, None, Some, refl, sym}
+use Rattle.model.specs.Coding.{coding_of}
+use Rattle.model.specs.Families.{lacks_party, death_rows, kept_after_death}
+use Rattle.model.specs.Rows.{first_row}
+use Rattle.parts.specs.Parts.{trace_of}
+use Rattle.parts.proofs.Going.{death_passes, death_refuses}
+use Rattle.parts.proofs.parts.Parts.die.Goals as goal
+
+pub returns-in-Some-clause-refused : goal.returns-in-Some-clause-refused
+returns-in-Some-clause-refused g c =
+    let w = (trace_of (coding_of g.T.Words.WORDS g.T.Words.words_of g.T.Words.value_of) c.args.self.now).world in
+    let there : lacks_party c.args.self.now.kept c.args.self.now.parties c.args.owner ≡ false = sym c.if-lacks_party.ensures in
+    let row : first_row (death_rows c.args.self.now.kept c.args.owner) ≡ Some c.in-Some.refusal = sym c.in-Some.ensures in
+    inl (death_refuses w c.args.owner c.in-Some.refusal c.requires there row)
+
+pub returns-in_default-reserve-clause-refused : goal.returns-in_default-reserve-clause-refused
+returns-in_default-reserve-clause-refused g c =
+    let w = (trace_of (coding_of g.T.Words.WORDS g.T.Words.words_of g.T.Words.value_of) c.args.self.now).world in
+    let there : lacks_party c.args.self.now.kept c.args.self.now.parties c.args.owner ≡ false = sym c.if-lacks_party.ensures in
+    let rows : first_row (death_rows c.args.self.now.kept c.args.owner) ≡ None = sym c.in_default.ensures in
+    inr (death_passes w c.args.owner c.requires there rows, refl)
+
+pub returns-then-not-die-clause-refused : goal.returns-then-not-die-clause-refused
+returns-then-not-die-clause-refused g c =
+    let w = (trace_of (coding_of g.T.Words.WORDS g.T.Words.words_of g.T.Words.value_of) c.args.self.now).world in
+    let there : lacks_party c.args.self.now.kept c.args.self.now.parties c.args.owner ≡ false = sym c.if-lacks_party.ensures in
+    let rows : first_row (death_rows c.args.self.now.kept c.args.owner) ≡ None = sym c.in_default.ensures in
+    inr (death_passes w c.args.owner c.requires there rows, refl)
+
+pub returns-then-not-die-clause-err : goal.returns-then-not-die-clause-err
+returns-then-not-die-clause-err g c =
+    let same : c.die.new.kept ≡ c.args.self.now.kept = c.if-not-die.ensures.same refl in
+    rw (same, c.reserve.ensures.items) refl
+
+pub returns-clause-ok : goal.returns-clause-ok
+returns-clause-ok g c =
+    let kept : c.die.new.kept ≡ kept_after_death c.args.self.now.kept c.args.owner = c.if-not-die.ensures.dies refl in
+    rw (kept, c.push_reserved.ensures.items, c.reserve.ensures.items) refl

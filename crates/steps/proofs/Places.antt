@@ -1,0 +1,33 @@
+-- The first index that is sent, among those from an index on.
+use Rattle.std.proofs.Common.{◌≡◌, ◌∙◌, ℕ, suc, ◌+◌, ◌-◌, ◌<◌, ◌≤◌, ap, arith, refl}
+use Rattle.std.specs.Prelude.{Bool, true, false, Option, Some, None, List, if◌then◌else◌}
+use Rattle.steps.specs.declared.loan.places.Place.{Place}
+use Rattle.steps.specs.Loan.Places.{is_sent, place_at, sent_within, next_sent}
+
+-- those that are left begin with this one
+one_left : (places : List Place) (slots index : ℕ) → index < slots
+    → next_sent places slots index
+    ≡ (if is_sent (place_at places index)
+    then Some index
+    else next_sent places slots (index + 1))
+one_left places slots index low =
+    let left : slots - index ≡ suc (slots - (index + 1)) = omega (arith, low) in
+    ap (sent_within places index) left
+
+pub found_here : (places : List Place) (slots index : ℕ) → index < slots
+    → is_sent (place_at places index) ≡ true → next_sent places slots index ≡ Some index
+found_here places slots index low sent =
+    one_left places slots index low
+    ∙ ap (λ b. if b then Some index else next_sent places slots (index + 1)) sent
+
+pub goes_further : (places : List Place) (slots index : ℕ) → index < slots
+    → is_sent (place_at places index) ≡ false
+    → next_sent places slots index ≡ next_sent places slots (index + 1)
+goes_further places slots index low kept =
+    one_left places slots index low
+    ∙ ap (λ b. if b then Some index else next_sent places slots (index + 1)) kept
+
+pub none_left : (places : List Place) (slots index : ℕ) → slots ≤ index
+    → next_sent places slots index ≡ None
+none_left places slots index past =
+    let left : slots - index ≡ 0 = omega (arith, past) in ap (sent_within places index) left

@@ -1,0 +1,16 @@
+use Rattle.std.proofs.Common.{◌∙◌, sym}
+use Rattle.steps.proofs.Places.{found_here, goes_further, none_left}
+use Rattle.steps.proofs.loan.places.next_sent.Goals as goal
+
+pub slots-preserved : goal.slots-preserved
+slots-preserved c =
+    c.slots.invariant
+    ∙ goes_further c.args.places.now.items c.args.slots c.slots.index c.slots-test.true
+    (sym c.has_sent.ensures ∙ c.if-has_sent.false)
+
+pub returns-then-has_sent : goal.returns-then-has_sent
+returns-then-has_sent c =
+    sym
+    (c.slots.invariant
+    ∙ found_here c.args.places.now.items c.args.slots c.slots.index c.slots-test.true
+    (sym c.has_sent.ensures ∙ c.if-has_sent.true))

@@ -1,0 +1,21 @@
+-- A call on one part of a structure, whose words begin somewhere in those of the whole.
+use Rattle.std.specs.Prelude.{ℕ}
+use Rattle.steps.specs.Queues.Ring.{word_at}
+use Rattle.steps.specs.declared.ask.Want.{Want}
+use Rattle.steps.specs.declared.ask.Want as wants
+use Rattle.steps.specs.declared.ask.After.{After}
+use Rattle.steps.specs.declared.ask.After.TheVariants.{GoOn, Done}
+use Rattle.steps.specs.declared.loan.parts.Part.{Part}
+
+-- the same operation, on a word of the part that begins at this one
+abbrev pub shifted : ℕ → Want (Unit {0}) → Want (Unit {0})
+shifted base (wants.TheVariants.Ask ask) =
+    wants.TheVariants.Ask (record ask { word = word_at base ask.word })
+shifted base (wants.TheVariants.Question question) = wants.TheVariants.Question question
+shifted base wants.TheVariants.Nothing = wants.TheVariants.Nothing
+
+module _ {C E : Type 0} where
+  -- it goes on and ends as the call itself
+  abbrev pub part_after : ℕ → After C E → After (Part C) E
+  part_after base (GoOn call) = GoOn (record { base = base; call = call })
+  part_after base (Done end) = Done end
