@@ -86,7 +86,7 @@ fn send_some<'a>(rt: &impl Wait, mut sends: Sends<'a>, count: u32) -> Sends<'a> 
     sends
 }
 
-/// Receives one and keeps it, and gives two back.
+/// Receives one and keeps it, and gives back a number that no slot has, and two more that it receives.
 fn receive_three(rt: &impl Wait, mut receives: Receives<'_>) -> bool {
     for _ in rt.forever() {
         if receives.receive(rt).is_some() {
@@ -94,7 +94,8 @@ fn receive_three(rt: &impl Wait, mut receives: Receives<'_>) -> bool {
         }
         thread::yield_now();
     }
-    receive_all(rt, &mut receives, 2)
+    let fine = receives.give_back(u64::MAX);
+    receive_all(rt, &mut receives, 2) && fine
 }
 
 /// Whether an index that is loaned stays so while six are reclaimed, and nothing waits to be received then.
@@ -106,8 +107,8 @@ fn reclaims(rt: &impl Wait, sends: &mut Sends<'_>) -> Option<bool> {
     Some(freed == Some((6, true)) && sends.is_loaned(kept))
 }
 
-/// Six slots are sent, of which the receiver gets three: it keeps one, gives two back, and ends, so three wait in one
-/// queue and two in the other. The sender loans one more and reclaims: whether it keeps that one, and the sender.
+/// Six slots are sent, of which the receiver gets three: it keeps one, gives a number that was never sent and the other
+/// two back, and ends, so three wait in either queue. The sender loans one more and reclaims: whether it keeps that one, and the sender.
 pub fn ends_early<'a, R: Wait + Threads + Sync>(
     rt: &R,
     sends: Sends<'a>,

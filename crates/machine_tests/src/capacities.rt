@@ -14,7 +14,7 @@ const ABOVE: Option<UniqueIndexCreationError> = Some(
     UniqueIndexCreationError::ProvidedCapacityGreaterThanMaxCapacity,
 );
 
-const CAPACITIES: [(Kind, usize, Option<UniqueIndexCreationError>); 27] = [
+const CAPACITIES: [(Kind, usize, Option<UniqueIndexCreationError>); 31] = [
     (Kind::IndexQueue, 0, None),
     (Kind::IndexQueue, 4_294_967_295, None),
     (Kind::IndexQueue, 4_294_967_296, ABOVE),
@@ -42,6 +42,10 @@ const CAPACITIES: [(Kind, usize, Option<UniqueIndexCreationError>); 27] = [
     (Kind::Container, 1, None),
     (Kind::Container, 4_294_967_295, None),
     (Kind::Container, 4_294_967_296, ABOVE),
+    (Kind::Loan, 0, ZERO),
+    (Kind::Loan, 1, None),
+    (Kind::Loan, 16_777_214, None),
+    (Kind::Loan, 16_777_215, ABOVE),
 ];
 
 fn first_wrong() -> Option<usize> {
@@ -70,8 +74,9 @@ fn capacities(rt: HostRuntime) {
 }
 
 /// Sixty-four flags stand in a word, and a word more has the reset position; a count has a word of its own; an element
-/// of a container, of two words, has its cell and its number besides.
-const SIZES: [(&str, usize); 15] = [
+/// of a container, of two words, has its cell and its number besides. A loan
+/// channel has the words of an index set and of two queues.
+const SIZES: [(&str, usize); 16] = [
     ("bits 0 1", 1),
     ("bits 1 1", 2),
     ("bits 64 1", 2),
@@ -87,6 +92,7 @@ const SIZES: [(&str, usize); 15] = [
     ("indices 100 1", 103),
     ("robust 100 1", 101),
     ("container 100 1", 402),
+    ("loan 100 4 1", 216),
 ];
 
 fn has_words(alloc: Global, line: &str, words: usize) -> bool {

@@ -14,6 +14,8 @@ mod elements;
 #[cfg(test)]
 mod indices;
 #[cfg(test)]
+mod loan;
+#[cfg(test)]
 mod many;
 #[cfg(test)]
 mod misuse;

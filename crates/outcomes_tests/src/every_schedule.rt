@@ -78,7 +78,7 @@ fn agrees(alloc: Global, stops: bool, input: &[u8]) -> Result<bool, Failure> {
 }
 
 /// Texts, and whether parties stop for good.
-const TEXTS: [(bool, &[u8]); 5] = [
+const TEXTS: [(bool, &[u8]); 6] = [
     (
         false,
         b"index_queue 1 2\nopen 0 acquire_producer\nopen 1 acquire_consumer\n0 push 5\n1 pop",
@@ -97,6 +97,7 @@ const TEXTS: [(bool, &[u8]); 5] = [
         false,
         b"container 1 2\ndie 1\n0 recover 1 default\n1 get_state; update_state",
     ),
+    (false, b"loan 1 1 2\nopen 0 loan\n0 send 0\n1 receive"),
 ];
 
 #[test]

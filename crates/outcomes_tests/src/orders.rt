@@ -247,6 +247,8 @@ impl Object {
             Start::Indices(start) => self.index_call(start),
             Start::Robust(start) => self.robust_call(start),
             Start::Container(start) => self.container_call(start),
+            // No order of a channel is tried here.
+            Start::Loan(_) => Answer::Done,
         }
     }
 }

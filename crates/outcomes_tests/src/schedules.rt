@@ -5,7 +5,7 @@ use std::str;
 use std::test::Fail;
 
 /// Texts, and how many calls come before the parties begin. No call of them is refused.
-const TEXTS: [(&[u8], usize); 6] = [
+const TEXTS: [(&[u8], usize); 7] = [
     (
         b"index_queue 1 2\nopen 0 acquire_producer\nopen 1 acquire_consumer\n0 push 5; push 6\n1 pop; pop",
         2,
@@ -26,6 +26,10 @@ const TEXTS: [(&[u8], usize); 6] = [
     (
         b"robust 2 2\nopen 0 acquire 3\ndie 3\n0 acquire 4\n1 recover default; find 3",
         1,
+    ),
+    (
+        b"loan 2 1 2\nopen 0 loan; send 0; loan\n0 send 1\n1 receive; receive",
+        3,
     ),
 ];
 

@@ -77,10 +77,17 @@ const CONTAINER_RECOVERED: &[u8] =
 const CONTAINER_RECOVERED_OUTPUT: &[u8] =
     b"0 begun add 5 1\n0 filled 0 1\n0 granted 0 1\n0 placed 0 5\n0 finished add 5 1 -> 0\ndied 1\n0 begun recover 1 default\n0 copied 0 5\n0 asked 0 1\n0 told 0 1\n0 freed 0 1\n1 begun get_state\n1 copied 0 5\n1 finished get_state -> 1\n0 hidden 0\n0 finished recover 1 default -> Unlocked\n";
 
+/// A send has taken its oldest index back and not yet freed it as a receive takes the next one; the receiver then dies.
+const LOAN: &[u8] =
+    b"loan 2 1 2\n0 begin loan\n0 next 20\n0 begin send 0\n0 next 20\n0 begin loan\n0 next 20\n0 begin send 1\n0 next 6\n1 begin receive\n1 next 20\n0 next 9\ndie 1\n0 begin reclaim\n0 next 20\n";
+
+const LOAN_OUTPUT: &[u8] =
+    b"0 begun loan\n0 claimed 0\n0 finished loan -> 0\n0 begun send 0\n0 published 0\n0 acted send 0 -> none\n0 finished send 0 -> none\n0 begun loan\n0 claimed 1\n0 finished loan -> 1\n0 begun send 1\n0 published 1\n0 handed_out 0\n0 acted send 1 -> some 0\n1 begun receive\n1 handed_out 1\n1 acted receive -> some 1\n1 finished receive -> some 1\n0 freed 0\n0 finished send 1 -> some 0\ndied 1\n0 begun reclaim\n0 freed 1\n0 finished reclaim -> 1\n";
+
 /// A text and its output.
 pub type Text = (&'static [u8], &'static [u8]);
 
-pub const TEXTS: [Text; 11] = [
+pub const TEXTS: [Text; 12] = [
     (INDEX_QUEUE, INDEX_QUEUE_OUTPUT),
     (OVERFLOW, OVERFLOW_OUTPUT),
     (QUEUE, QUEUE_OUTPUT),
@@ -92,4 +99,5 @@ pub const TEXTS: [Text; 11] = [
     (CONTAINER, CONTAINER_OUTPUT),
     (CONTAINER_TAKEN, CONTAINER_TAKEN_OUTPUT),
     (CONTAINER_RECOVERED, CONTAINER_RECOVERED_OUTPUT),
+    (LOAN, LOAN_OUTPUT),
 ];

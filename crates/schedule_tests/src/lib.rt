@@ -12,6 +12,8 @@ mod failures;
 #[cfg(test)]
 mod indices;
 #[cfg(test)]
+mod loan;
+#[cfg(test)]
 mod memory;
 #[cfg(test)]
 mod robust;

@@ -9,6 +9,8 @@ mod calls;
 #[cfg(test)]
 mod indices;
 #[cfg(test)]
+mod loan;
+#[cfg(test)]
 mod overflow;
 #[cfg(test)]
 mod queues;

@@ -12,12 +12,12 @@ use std::alloc::Global;
 /// How many schedules are drawn at each of four capacities, and what their seeds are made of.
 const SCHEDULES: u64 = 2_500;
 
-const SEED: u64 = 0x9e37_79b9_7f4a_7c15;
+pub const SEED: u64 = 0x9e37_79b9_7f4a_7c15;
 
 /// Numbers by xorshift: the same ones from the same seed.
 #[derive(Drop)]
-struct Draws {
-    state: u64,
+pub struct Draws {
+    pub state: u64,
 }
 
 impl Draws {
@@ -31,13 +31,13 @@ impl Draws {
     }
 
     /// A number below the bound, which is above 0.
-    fn below(&mut self, bound: u64) -> u64 {
+    pub fn below(&mut self, bound: u64) -> u64 {
         let drawn = self.number() >> 32;
         if bound == 0 { 0 } else { drawn % bound }
     }
 
     /// Whether it comes once in so many times.
-    fn once_in(&mut self, times: u64) -> bool {
+    pub fn once_in(&mut self, times: u64) -> bool {
         self.below(times) == 0
     }
 
@@ -52,7 +52,7 @@ impl Draws {
     }
 
     /// How many turns a party takes at once.
-    fn turns(&mut self) -> u64 {
+    pub fn turns(&mut self) -> u64 {
         match self.below(5) {
             0 => 12,
             1 => 5,

@@ -155,7 +155,7 @@ fn after(span: &Span, told: &Told, before: u64) -> Span {
             next.acted_value = told.value;
         }
         What::Finished => next.is_open = false,
-        What::Hidden | What::Died | What::Nothing => {}
+        What::Hidden | What::Returned | What::TakenBack | What::Died | What::Nothing => {}
     }
     next
 }

@@ -8,6 +8,7 @@ use machine::families::bits::BitsStart;
 use machine::families::container::ContainerStart;
 use machine::families::indices::IndexStart;
 use machine::families::indices::robust::RobustStart;
+use machine::families::loan::LoanStart;
 use machine::families::queues::QueueStart;
 use machine::turn::Turn;
 use std::alloc::AllocError;
@@ -44,6 +45,8 @@ pub enum What {
     Hidden,
     Copied,
     Shown,
+    Returned,
+    TakenBack,
     Died,
     Acted,
     Finished,
@@ -88,6 +91,13 @@ pub enum Name {
     LenOf,
     IsEmptyOf,
     IsLockedOf,
+    Loan,
+    Send,
+    GiveUp,
+    TakeBack,
+    Receive,
+    GiveBack,
+    Reclaim,
     /// The owner dies, which is no call.
     Dies,
 }
@@ -271,6 +281,18 @@ fn container_call(start: ContainerStart<u128>) -> Call {
     }
 }
 
+fn loan_call(start: LoanStart) -> Call {
+    match start {
+        LoanStart::Loan => named(Name::Loan, ANY, 0),
+        LoanStart::Send(index) => named(Name::Send, index, 0),
+        LoanStart::GiveUp(index) => named(Name::GiveUp, index, 0),
+        LoanStart::TakeBack => named(Name::TakeBack, ANY, 0),
+        LoanStart::Receive => named(Name::Receive, ANY, 0),
+        LoanStart::GiveBack(index) => named(Name::GiveBack, index, 0),
+        LoanStart::Reclaim => named(Name::Reclaim, ANY, 0),
+    }
+}
+
 /// The call in names and numbers.
 fn call_of(start: &Start<u128>) -> Call {
     match start {
@@ -280,6 +302,7 @@ fn call_of(start: &Start<u128>) -> Call {
         Start::Indices(start) => index_call(*start),
         Start::Robust(start) => robust_call(*start),
         Start::Container(start) => container_call(*start),
+        Start::Loan(start) => loan_call(*start),
     }
 }
 
@@ -423,6 +446,8 @@ pub fn told_of(event: &Event<u128>) -> Told {
             *value,
         ),
         Event::Shown(party, index) => of_place(What::Shown, *party, *index as u64, 0, 0),
+        Event::Returned(party, index) => of_place(What::Returned, *party, *index, 0, 0),
+        Event::TakenBack(party, index) => of_place(What::TakenBack, *party, *index, 0, 0),
         Event::Died(owner) => of_owner(What::Died, 0, 0, *owner),
         Event::Acted(party, start, answer) => of_end(What::Acted, *party, start, answer),
         Event::Finished(party, start, answer) => of_end(What::Finished, *party, start, answer),
@@ -435,6 +460,20 @@ fn push_of(value: u128) -> QueueStart<u128> {
     } else {
         QueueStart::PushIndex((value & 0xffff_ffff_ffff_ffff) as u64)
     }
+}
+
+/// The call of a loan channel.
+fn loan_start(call: &Call) -> Option<Start<u128>> {
+    Some(Start::Loan(match call.name {
+        Name::Loan => LoanStart::Loan,
+        Name::Send => LoanStart::Send(call.place),
+        Name::GiveUp => LoanStart::GiveUp(call.place),
+        Name::TakeBack => LoanStart::TakeBack,
+        Name::Receive => LoanStart::Receive,
+        Name::GiveBack => LoanStart::GiveBack(call.place),
+        Name::Reclaim => LoanStart::Reclaim,
+        _ => return None,
+    }))
 }
 
 /// The call of a queue, a value, flags or indices that has no owner.
@@ -453,7 +492,7 @@ fn plain_start(call: &Call, mode: ReleaseMode) -> Option<Start<u128>> {
         Name::ResetAll => Start::Bits(BitsStart::ResetAll),
         Name::Acquire => Start::Indices(IndexStart::Acquire),
         Name::Release => Start::Indices(IndexStart::Release(call.place, mode)),
-        _ => return None,
+        _ => return loan_start(call),
     })
 }
 

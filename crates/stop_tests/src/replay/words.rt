@@ -97,6 +97,7 @@ impl Replay {
             Kind::Counts => word(words, 0) == at(&self.numbers, 0),
             Kind::Indices => self.claims_stand(words),
             Kind::Container => self.values_stand(words),
+            Kind::Loan => false, // a channel has a replay of its own
             Kind::Robust => {
                 self.owners_stand(words) && (word(words, 0) == u64::MAX) == self.is_locked
             }

@@ -1,0 +1,373 @@
+//! Schedules of a loan channel that are drawn from a seed, with parties that die at any step, reclaims and the receivers
+//! after them, and judged by the reading at each turn.
+use crate::channel::moves::{WITH, spot};
+use crate::channel::{Channel, at};
+use crate::drawn::{Draws, SEED};
+use crate::replay::{Right, want};
+use crate::told::{ANY, Call, Name, Said, What, told_of, turn_of};
+use machine::Machine;
+use machine::turn::{Refusal, Turn};
+use schedule::bare;
+use std::alloc::Global;
+
+/// How many schedules are drawn for each of five channels.
+const SCHEDULES: u64 = 2_000;
+
+/// A schedule that is being drawn.
+#[derive(Drop)]
+struct Run {
+    machine: Machine<u128>,
+    channel: Channel,
+    draws: Draws,
+    /// How often each refusal came.
+    refused: [u64; 8],
+    /// Of three runs the sender takes nothing back in one, and in one the receiver receives nothing.
+    leaves: Name,
+}
+
+/// How often each refusal came, and each answer.
+#[derive(Drop)]
+struct Tally {
+    refused: [u64; 8],
+    ended: [u64; 11],
+    /// The most receivers that a run had, and the most indices that a reclaim handed out, and took back.
+    receivers: u64,
+    handed_out: u64,
+    taken_back: u64,
+}
+
+/// The calls of a channel and their answers.
+const ANSWERS: [(Name, Said); 11] = [
+    (Name::Loan, Said::Place),
+    (Name::Loan, Said::OutOfIndices),
+    (Name::Send, Said::NoValue),
+    (Name::Send, Said::Value),
+    (Name::GiveUp, Said::Done),
+    (Name::TakeBack, Said::Value),
+    (Name::TakeBack, Said::NoValue),
+    (Name::Receive, Said::Value),
+    (Name::Receive, Said::NoValue),
+    (Name::GiveBack, Said::True),
+    (Name::Reclaim, Said::Number),
+];
+
+/// What a sender begins, and a receiver.
+const SENDS: [Name; 12] = [
+    Name::Loan,
+    Name::Loan,
+    Name::Loan,
+    Name::Send,
+    Name::Send,
+    Name::Send,
+    Name::Send,
+    Name::GiveUp,
+    Name::TakeBack,
+    Name::TakeBack,
+    Name::Reclaim,
+    Name::GiveBack,
+];
+
+const RECEIVES: [Name; 6] = [
+    Name::Receive,
+    Name::Receive,
+    Name::Receive,
+    Name::GiveBack,
+    Name::GiveBack,
+    Name::Loan,
+];
+
+/// The refusals that a channel has.
+const REFUSALS: [Refusal; 8] = [
+    Refusal::NoParty,
+    Refusal::Busy,
+    Refusal::Idle,
+    Refusal::BadIndex,
+    Refusal::NoRole,
+    Refusal::NotHeld,
+    Refusal::OwnerIsDead,
+    Refusal::OwnerLives,
+];
+
+/// What is not begun in a run.
+const LEAVES: [Name; 3] = [Name::TakeBack, Name::Receive, Name::Dies];
+
+/// One turn, made once more where memory is refused to it, and why it is refused.
+fn refusal(machine: &mut Machine<u128>, turn: Turn<u128>) -> Option<Refusal> {
+    let again = turn;
+    match bare::step(machine, turn) {
+        Err(Refusal::NoMemory) => bare::step(machine, again).err(),
+        ended => ended.err(),
+    }
+}
+
+/// The party of this number, where it is small.
+fn party_of(number: u64) -> u32 {
+    if number < 8 { number as u32 } else { 8 }
+}
+
+fn one_of(draws: &mut Draws, names: &[Name]) -> Name {
+    match names.get(draws.below(names.len() as u64) as usize) {
+        Some(name) => *name,
+        None => Name::Loan,
+    }
+}
+
+impl Run {
+    /// A turn of this party, of which the reading expects this.
+    fn turn(&mut self, party: u64, turn: Turn<u128>, expected: Option<Refusal>) -> Right {
+        let refused = refusal(&mut self.machine, turn);
+        want(
+            refused == expected,
+            "a turn is refused for the first test that it does not meet",
+        )?;
+        for (one, count) in REFUSALS.iter().zip(self.refused.iter_mut()) {
+            if refused == Some(*one) {
+                *count = count.wrapping_add(1);
+            }
+        }
+        self.channel.right(&self.machine, party_of(party))
+    }
+
+    /// Mostly an index that the party has, else any, at times past the last.
+    fn index(&mut self, party: u64) -> u64 {
+        let first = self.draws.below(self.channel.slots);
+        if !self.draws.once_in(16) {
+            for next in 0..self.channel.slots {
+                let sum = first.wrapping_add(next);
+                let index = if sum < self.channel.slots {
+                    sum
+                } else {
+                    sum.wrapping_sub(self.channel.slots)
+                };
+                if at(&self.channel.spots, index) == spot(WITH, party) {
+                    return index;
+                }
+            }
+        }
+        self.draws.below(self.channel.slots.wrapping_add(1))
+    }
+
+    fn begins(&mut self, party: u64) -> Right {
+        let is_cut_off = self.channel.is_dead(self.channel.receiver);
+        let drawn = if party == 0 && is_cut_off && self.draws.once_in(2) {
+            Name::Reclaim
+        } else if party == self.channel.receiver {
+            one_of(&mut self.draws, &RECEIVES)
+        } else {
+            one_of(&mut self.draws, &SENDS)
+        };
+        let is_left = drawn == self.leaves;
+        let name = if is_left { Name::Send } else { drawn };
+        let call = Call {
+            name,
+            place: self.index(party),
+            owner: ANY,
+            may_lock: false,
+            value: 0,
+        };
+        let expected = self.channel.begin_refusal(party, &call);
+        match turn_of(party_of(party), &call) {
+            Some(turn) => self.turn(party, turn, expected),
+            None => Err("a call has a turn"),
+        }
+    }
+
+    fn goes_on(&mut self, party: u64) -> Right {
+        let turns = if self.draws.once_in(2) {
+            40
+        } else {
+            self.draws.turns()
+        };
+        for _ in 0..turns {
+            let span = self.channel.span(party);
+            if span.is_open {
+                let expected = self.channel.next_refusal(party);
+                self.turn(party, Turn::Next(party_of(party)), expected)?;
+            }
+        }
+        Ok(())
+    }
+
+    /// A party dies: mostly the receiver, seldom the sender.
+    fn dies(&mut self) -> Right {
+        let mut party = self.channel.receiver;
+        if self.draws.once_in(6) {
+            party = self.draws.below(self.channel.parties.wrapping_add(2));
+        }
+        let death = Call {
+            name: Name::Dies,
+            place: ANY,
+            owner: party,
+            may_lock: false,
+            value: 0,
+        };
+        let expected = self.channel.death_refusal(party);
+        match turn_of(0, &death) {
+            Some(turn) => self.turn(party, turn, expected),
+            None => Ok(()),
+        }
+    }
+
+    /// A drawn row: a party dies, begins a call, or goes on with one; at times what it may not.
+    fn row(&mut self) -> Right {
+        if self.draws.once_in(32) {
+            return self.dies();
+        }
+        let drawn = self.draws.below(16);
+        let party = if drawn == 0 {
+            self.draws.below(6)
+        } else if drawn < 8 {
+            self.channel.receiver
+        } else {
+            0
+        };
+        if self.draws.once_in(64) {
+            let expected = self.channel.next_refusal(party);
+            return self.turn(party, Turn::Next(party_of(party)), expected);
+        }
+        let span = self.channel.span(party);
+        if !span.is_open || self.draws.once_in(32) {
+            self.begins(party)?;
+        }
+        self.goes_on(party)
+    }
+
+    fn rows(&mut self) -> Right {
+        for _ in 0..self.draws.below(31).wrapping_add(25) {
+            self.row()?;
+        }
+        self.channel.ended_right(&self.machine)
+    }
+}
+
+/// A new channel, made once more where memory is refused to it, or None.
+fn made(alloc: Global, slots: u64, queue: u64, parties: u32) -> Option<Machine<u128>> {
+    let (slots, queue) = (slots as usize, queue as usize);
+    match bare::made_loan(alloc, slots, queue, parties) {
+        Ok(machine) => Some(machine),
+        Err(_) => match bare::made_loan(alloc, slots, queue, parties) {
+            Ok(machine) => Some(machine),
+            Err(_) => None,
+        },
+    }
+}
+
+fn opened(alloc: Global, slots: u64, queue: u64, seed: u64) -> Option<Run> {
+    let mut draws = Draws { state: seed };
+    let parties = draws.below(4).wrapping_add(2);
+    let leaves = one_of(&mut draws, &LEAVES);
+    match made(alloc, slots, queue, party_of(parties)) {
+        Some(machine) => Some(Run {
+            machine,
+            channel: Channel::new(slots, queue, parties),
+            draws,
+            refused: [0; 8],
+            leaves,
+        }),
+        None => None,
+    }
+}
+
+impl Tally {
+    fn take(&mut self, run: &Run) {
+        for (more, count) in run.refused.iter().zip(self.refused.iter_mut()) {
+            *count = count.wrapping_add(*more);
+        }
+        let mut handed_out = 0u64;
+        let mut taken_back = 0u64;
+        for event in run.machine.events() {
+            let told = told_of(event);
+            match told.what {
+                What::Begun => {
+                    handed_out = 0;
+                    taken_back = 0;
+                }
+                What::HandedOut => handed_out = handed_out.wrapping_add(1),
+                What::TakenBack => taken_back = taken_back.wrapping_add(1),
+                What::Finished if told.call.name == Name::Reclaim => {
+                    self.handed_out = self.handed_out.max(handed_out);
+                    self.taken_back = self.taken_back.max(taken_back);
+                }
+                _ => {}
+            }
+            for (row, count) in ANSWERS.iter().zip(self.ended.iter_mut()) {
+                if told.what == What::Finished && row.0 == told.call.name && row.1 == told.said {
+                    *count = count.wrapping_add(1);
+                }
+            }
+        }
+        self.receivers = self.receivers.max(run.channel.receiver);
+    }
+
+    /// Whether each answer and each refusal came, a third receiver, and a reclaim that found two indices in each queue where
+    /// so many can be; an index that comes back to a send only where the queue is shorter than the slots are many.
+    fn is_whole(&self, slots: u64, queue: u64) -> Right {
+        let is_short = queue < slots;
+        let mut are_answers = true;
+        for (row, count) in ANSWERS.iter().zip(&self.ended) {
+            let comes = is_short || row.0 != Name::Send || row.1 != Said::Value;
+            are_answers &= comes == (*count > 0);
+        }
+        let mut are_refusals = true;
+        for count in &self.refused {
+            are_refusals &= *count > 0;
+        }
+        want(are_answers, "each answer comes")?;
+        want(are_refusals, "each refusal comes")?;
+        want(self.receivers > 2, "a third receiver comes")?;
+        want(
+            self.handed_out >= slots.min(queue).min(2) && self.taken_back >= slots.min(2),
+            "a reclaim finds two indices in each queue",
+        )
+    }
+}
+
+/// The seed of the first schedule that breaks a promise, and that promise.
+fn first_wrong(alloc: Global, slots: u64, queue: u64) -> Option<(u64, &'static str)> {
+    let mut tally = Tally {
+        refused: [0; 8],
+        ended: [0; 11],
+        receivers: 0,
+        handed_out: 0,
+        taken_back: 0,
+    };
+    for number in 0..SCHEDULES {
+        let seed = SEED ^ (slots << 40) ^ (queue << 32) ^ number;
+        let Some(mut run) = opened(alloc, slots, queue, seed) else {
+            return Some((seed, "a channel is made where there is memory"));
+        };
+        if let Err(promise) = run.rows() {
+            return Some((seed, promise));
+        }
+        tally.take(&run);
+    }
+    match tally.is_whole(slots, queue) {
+        Ok(()) => None,
+        Err(promise) => Some((0, promise)),
+    }
+}
+
+#[test]
+fn drawn_schedules_of_one_slot(rt: HostRuntime) {
+    assert_eq!(rt; first_wrong(rt.alloc(), 1, 1), None);
+}
+
+#[test]
+fn drawn_schedules_of_two_slots_and_a_queue_of_one(rt: HostRuntime) {
+    assert_eq!(rt; first_wrong(rt.alloc(), 2, 1), None);
+}
+
+#[test]
+fn drawn_schedules_of_three_slots_and_a_queue_of_two(rt: HostRuntime) {
+    assert_eq!(rt; first_wrong(rt.alloc(), 3, 2), None);
+}
+
+#[test]
+fn drawn_schedules_of_four_slots_and_a_queue_of_one(rt: HostRuntime) {
+    assert_eq!(rt; first_wrong(rt.alloc(), 4, 1), None);
+}
+
+#[test]
+fn drawn_schedules_of_four_slots_and_a_longer_queue(rt: HostRuntime) {
+    assert_eq!(rt; first_wrong(rt.alloc(), 4, 5), None);
+}
