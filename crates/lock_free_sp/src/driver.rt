@@ -1,5 +1,6 @@
 //! Drives the calls of `steps` on the words of a table. Nothing else touches a word, but making
-//! a table, splitting a seat, joining two, a look, and the loads that close a queue.
+//! a table, splitting a seat, joining two, a look, the loads that close a queue, and the scans of
+//! the owners' cells of a robust index set or a container, whose loops take the steps of the call.
 pub mod drive;
 pub mod rule;
 pub mod seated;

@@ -22,7 +22,7 @@ use Rattle.model.specs.declared.event.Start.TheVariants.{Bits}
 use Rattle.model.specs.declared.families.bits.BitsStart.TheVariants.{ResetAll}
 use Rattle.model.specs.declared.turn.Kind.TheVariants as kinds
 use Rattle.model.specs.Coding.{one_word}
-use Rattle.model.specs.Families.{first_of}
+use Rattle.model.specs.Families.{opening_of, first_of}
 use Rattle.model.specs.Families.Bits.Promises.{IsBitSet, HasCleared}
 use Rattle.model.specs.Families.Bits.Steps.{clear_events}
 use Rattle.model.specs.Families.Bits.Reading.{is_clear_of, clears}
@@ -165,7 +165,7 @@ found_clear cap word v w room low s size place here past = go (has_flag room.0 p
 
 -- ---- the call and its closure
 
-pub first_word : (n : ℕ) (c : Emptying) (m : OneWord) → first_of kinds.Bits n emptying ≡ Some (clearing {T = ℕ} c m) → c.word ≡ 1
+pub first_word : (n : ℕ) (c : Emptying) (m : OneWord) → first_of kinds.Bits n emptying ((opening_of kinds.Bits).kept n) ≡ Some (clearing {T = ℕ} c m) → c.word ≡ 1
 first_word n c m e = let same : clearing {T = ℕ} (record { word = 1; end = 1 + elements n }) (record { 0 = 0 }) ≡ clearing c m = cc in sym (ap flight_word same)
 
 pub has_word : (c : Emptying) (m : OneWord) → flight_word (clearing {T = ℕ} c m) ≡ c.word

@@ -14,7 +14,7 @@ use Rattle.model.specs.declared.families.Flight.{Flight}
 use Rattle.model.specs.declared.families.bits.BitsStart.TheVariants.{ResetAll}
 use Rattle.model.specs.declared.turn.Kind.{Kind}
 use Rattle.model.specs.Coding.{one_word}
-use Rattle.model.specs.Families.{first_of}
+use Rattle.model.specs.Families.{opening_of, first_of}
 use Rattle.lock_free_sp.specs.Driver.{Next}
 use Rattle.history.specs.declared.view.View.{View}
 use Rattle.history.specs.History.{Called, IsHistory}
@@ -28,7 +28,7 @@ abbrev pub emptying : Start ℕ
 emptying = Bits ResetAll
 
 module _ (kind : Kind) (flight : Emptying → OneWord → Flight ℕ) (writes : ℕ → ℕ → ℕ → List (Event ℕ)) (first : ℕ) (end_of : ℕ → ℕ)
-    (has_word : (c : Emptying) (m : OneWord) → flight_word (flight c m) ≡ c.word) (first_word : (n : ℕ) (c : Emptying) (m : OneWord) → first_of kind n emptying ≡ Some (flight c m) → c.word ≡ first) where
+    (has_word : (c : Emptying) (m : OneWord) → flight_word (flight c m) ≡ c.word) (first_word : (n : ℕ) (c : Emptying) (m : OneWord) → first_of kind n emptying ((opening_of kind).kept n) ≡ Some (flight c m) → c.word ≡ first) where
   abbrev pub AtWord : View ℕ → View ℕ → Emptying → OneWord → Type 0
   AtWord = At one_word kind (empties flight writes first end_of)
 
@@ -105,7 +105,7 @@ pub record Stepped (kind : Kind) (writes : ℕ → ℕ → ℕ → List (Event �
   pub history : IsHistory one_word kind v.capacity w.seen
 
 module _ (kind : Kind) (flight : Emptying → OneWord → Flight ℕ) (writes : ℕ → ℕ → ℕ → List (Event ℕ)) (first : ℕ) (end_of : ℕ → ℕ)
-    (has_word : (c : Emptying) (m : OneWord) → flight_word (flight c m) ≡ c.word) (first_word : (n : ℕ) (c : Emptying) (m : OneWord) → first_of kind n emptying ≡ Some (flight c m) → c.word ≡ first) where
+    (has_word : (c : Emptying) (m : OneWord) → flight_word (flight c m) ≡ c.word) (first_word : (n : ℕ) (c : Emptying) (m : OneWord) → first_of kind n emptying ((opening_of kind).kept n) ≡ Some (flight c m) → c.word ≡ first) where
   pub stepped : (base v w : View ℕ) (c : Emptying) (m room : OneWord) (n : ℕ) → At one_word kind (empties flight writes first end_of) base v c m → (a : After Emptying (Unit {0})) → reset_all_after c n ≡ a
       → ((b : View ℕ) → At one_word kind (empties flight writes first end_of) b v c m → Goes kind flight writes first end_of has_word first_word b a room w) → Stepped kind writes v w c.word room
   stepped base v w c m room n at (GoOn next) e told = go (told v mine)

@@ -16,7 +16,7 @@ use Rattle.model.specs.declared.families.Flight.{Flight}
 use Rattle.model.specs.declared.families.bits.BitsStart.TheVariants.{ResetAll}
 use Rattle.model.specs.declared.turn.Kind.TheVariants as kinds
 use Rattle.model.specs.Coding.{one_word}
-use Rattle.model.specs.Families.{first_of}
+use Rattle.model.specs.Families.{opening_of, first_of}
 use Rattle.model.specs.Families.Bits.Promises.{IsCountingOn, HasTakenOn}
 use Rattle.model.specs.Families.Bits.Steps.{take_events}
 use Rattle.model.specs.Families.Queues.Calls.{fresh}
@@ -35,7 +35,7 @@ use Rattle.lock_free.proofs.Counts.Emptying.{take_first}
 use Rattle.lock_free.proofs.Counts.Emptied.{emptying, Goes, goes_on, ends_all}
 use Rattle.lock_free.proofs.Counts.Handed.{Counted, none_counted, none_states, counted_found, found, found_events}
 
-first_word : (n : ℕ) (c : Emptying) (m : OneWord) → first_of kinds.Counts n emptying ≡ Some (taking {T = ℕ} c m) → c.word ≡ 0
+first_word : (n : ℕ) (c : Emptying) (m : OneWord) → first_of kinds.Counts n emptying ((opening_of kinds.Counts).kept n) ≡ Some (taking {T = ℕ} c m) → c.word ≡ 0
 first_word n c m e = let same : taking {T = ℕ} (record { word = 0; end = n }) (record { 0 = 0 }) ≡ taking c m = cc in sym (ap flight_word same)
 
 has_word : (c : Emptying) (m : OneWord) → flight_word (taking {T = ℕ} c m) ≡ c.word

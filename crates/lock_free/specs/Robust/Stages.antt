@@ -72,6 +72,11 @@ abbrev pub AcquireEnds : View → Acquired → Unit {0} → View → Type 0
 AcquireEnds base (Ok index) room w = FoundOpen base w × (index < base.capacity)
 AcquireEnds base (Err failure) room w = WasRefused failure base w
 
+-- how a step of it ends, which leaves the view unless the acquire ends
+abbrev pub AcquireGoes : View → After Acquire Acquired → View → Type 0
+AcquireGoes v (GoOn d) w = (w ≡ v) × AcquireStands w d
+AcquireGoes v (Done end) w = AcquireEnds v end tt w
+
 -- ---- release
 
 -- it locks in the mode for that alone

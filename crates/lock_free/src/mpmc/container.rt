@@ -15,6 +15,7 @@ use std::sync::Arc;
 use steps::words::Words;
 
 mod calls;
+mod counts;
 mod fixed;
 mod looks;
 mod make;

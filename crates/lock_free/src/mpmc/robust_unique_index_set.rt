@@ -20,7 +20,9 @@ use lock_free_sp::driver::seated::Seated;
 use std::alloc::Global;
 use std::sync::Arc;
 
+mod acquires;
 mod calls;
+mod cells;
 mod counts;
 mod fixed;
 mod make;

@@ -192,6 +192,22 @@ impl<V, K, Q: Rule<V, K>> Seated<V, K, Q> {
             After::GoOn(next) => next,
             After::Done(end) => return end,
         };
+        let call = match self.once::<Brand, C, D>(call, given, room) {
+            After::GoOn(next) => next,
+            After::Done(end) => return end,
+        };
+        let call = match self.once::<Brand, C, D>(call, given, room) {
+            After::GoOn(next) => next,
+            After::Done(end) => return end,
+        };
+        let call = match self.once::<Brand, C, D>(call, given, room) {
+            After::GoOn(next) => next,
+            After::Done(end) => return end,
+        };
+        let call = match self.once::<Brand, C, D>(call, given, room) {
+            After::GoOn(next) => next,
+            After::Done(end) => return end,
+        };
         let mut call = call;
         'steps: for _ in rt.forever() {
             match self.once::<Brand, C, D>(call, given, room) {

@@ -11,11 +11,11 @@ use Rattle.steps.specs.declared.indices.robust.parts.Raise as raises
 use Rattle.steps.specs.declared.indices.robust.acquire.Acquire.{Acquire}
 use Rattle.steps.specs.declared.indices.robust.acquire.AcquireStage as acquires
 use Rattle.steps.specs.Indices.Robust.Parts.{cell_word, empty, locked, greatest}
-use Rattle.steps.specs.Indices.Robust.Acquire.{Acquired, acquire_asks, acquire_want, acquire_tries, acquire_sees, acquire_raised, acquire_takes, acquire_after}
-use Rattle.lock_free_sp.specs.Driver.{Owes, KeepsRule}
+use Rattle.steps.specs.Indices.Robust.Acquire.{Acquired, at_acquire, acquire_asks, acquire_want, acquire_tries, acquire_sees, acquire_raised, acquire_takes, acquire_after}
+use Rattle.lock_free_sp.specs.Driver.{Next, Owes, KeepsRule}
 use Rattle.lock_free.specs.declared.robust.view.View.{View}
 use Rattle.lock_free.specs.Robust.Kept.{size, Kept}
-use Rattle.lock_free.specs.Robust.Stages.{At, AcquireStage, AcquireStands, AcquireEnds}
+use Rattle.lock_free.specs.Robust.Stages.{At, AcquireStage, AcquireStands, AcquireEnds, AcquireGoes}
 use Rattle.lock_free.proofs.Rules.Robust.Steps.{capacity_seen, unseen, seen_after, Goes, Tells, tells, Shows, stays, sees, counter_step, cell_step}
 use Rattle.lock_free.proofs.Rules.Robust.Parts.{kept_locked, not_exchanged, raise_owes}
 
@@ -87,3 +87,18 @@ acquire_rule owner base v c room key words slots id sized known at =
     (λ free. (refl, free))
     (λ index free within. ((refl, free), within))
     c.stage (λ k. refl) at.1.1
+
+-- what a step leaves
+pub acquire_goes : (v w : View) (a : After Acquire Acquired) (room : Unit {0}) → Next capacity_seen (At AcquireStands) AcquireEnds v a room w → AcquireGoes v a w
+acquire_goes v w (GoOn d) room h = h
+acquire_goes v w (Done (Ok index)) room h = h
+acquire_goes v w (Done (Err failure)) room h = h
+
+-- an exchange of a cell leaves the view, whatever stood there
+pub fills_goes : (v : View) (c : Acquire) (counter index k : ℕ) → c.capacity ≡ v.capacity → AcquireStage v (acquires.TheVariants.FillsCell counter index) → AcquireGoes v (acquire_takes c (acquires.TheVariants.FillsCell counter index) k) v
+fills_goes v c counter index k same at =
+    by_eq (λ a. AcquireGoes v a v) k empty (GoOn (at_acquire c (acquires.TheVariants.Raises index raises.TheVariants.LoadsCounter))) (acquire_tries c counter (index + 1))
+    (λ e. (refl, (same, (at.0, at.2, tt))))
+    (λ ne. by_test (λ s. AcquireGoes v (GoOn (at_acquire c s)) v) (nat_lt (index + 1) c.capacity) (acquires.TheVariants.FillsCell counter (index + 1)) (acquires.TheVariants.ChecksCounter counter)
+    (λ t. (refl, (same, (at.0, at.1, (let l : index + 1 < c.capacity = grind (arith, nat_tests) in omega arith)))))
+    (λ t. (refl, (same, (at.0, at.1)))))

@@ -109,6 +109,14 @@ module _ {A : Type 0} (after : ℕ → A) (v : View) (Here : Bool → A → Type
           (says k false (goes k small), refl),
         )
 
+-- a step on a cell need tell nothing
+unmarked : (v : View) (mark : Bool) → mark ≡ false → seen_after mark v ≡ v
+unmarked v true e = absurd (true≢false e)
+unmarked v false e = refl
+
+pub cell_leaves : (total slots id : ℕ) (v : View) → 0 < total → (word : ℕ) (f : ℕ → ℕ) → 1 ≤ word → Allows (Kept total) slots id (v, []) word f (λ found new. (new.0 ≡ v) × (new.1 ≡ []))
+cell_leaves total slots id v least word f high = cell_step (λ (k : ℕ). k) v (λ mark (k : ℕ). mark ≡ false) (λ u n w. w ≡ u) (λ k mark e. unmarked v mark e) total slots id least word f high (λ k small. refl)
+
 -- ---- how a table opens, and how seats come and go
 
 module _ (total : ℕ) where

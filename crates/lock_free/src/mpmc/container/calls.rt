@@ -6,13 +6,13 @@ ghost use Rattle.lock_free.specs.Container.Names.{view, container_of, capacity_o
 
 use super::{Container, ContainerAddFailure, ContainerHandle, ContainerRemoveError, OwnerId, Pass};
 use crate::container::drives::{Adds, Removes, Replaces};
-use crate::robust::drives::{Counts, Looks};
+use crate::robust::drives::Looks;
 use std::sync::Wait;
 use steps::container::add::{Add, Owned};
 use steps::container::remove::Remove;
 use steps::container::replace::{Replace, Replacement};
 use steps::indices::enums::{ReleaseMode, ReleaseState};
-use steps::indices::robust::looks::{BorrowedIndices, IsLocked};
+use steps::indices::robust::looks::IsLocked;
 use steps::indices::robust::release::GiveBack;
 use steps::words::Words;
 
@@ -136,10 +136,7 @@ impl<T: Words> Container<T> {
         ensures most { result ≤ capacity_of self.now }
         ensures lock { (view pass.old).locked ≡ true → result ≡ 0 }
     {
-        let call = BorrowedIndices::new(pass.token.capacity);
-        pass.token
-            .seated
-            .drive_on::<BorrowedIndices, Counts>(rt, call, &(), &mut ())
+        pass.borrowed_indices(rt)
     }
 
     /// Whether `len` is 0: so where the pass has seen the lock. As many atomic steps. After `is_empty` of the Rust crate.

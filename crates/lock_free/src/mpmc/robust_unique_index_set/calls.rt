@@ -4,7 +4,7 @@ ghost use Rattle.lock_free.specs.Robust.Calls.{FoundOpen, FoundLocked, WasRefuse
 ghost use Rattle.lock_free.specs.RobustUniqueIndexSet.{view, set_of, capacity_of, IsPassOf};
 
 use super::{OwnerId, Pass, RobustUniqueIndexSet, RobustUniqueIndexSetReleaseError};
-use crate::robust::drives::{Acquires, Looks, Releases};
+use crate::robust::drives::{Looks, Releases};
 use std::sync::Wait;
 use steps::indices::enums::{ReleaseMode, ReleaseState, UniqueIndexSetAcquireFailure};
 use steps::indices::robust::acquire::Acquire;
@@ -33,10 +33,7 @@ impl RobustUniqueIndexSet {
         ensures refused { IfErr result (λ e. WasRefused e (view pass.old) (view pass.new)) }
     {
         let call = Acquire::new(pass.capacity);
-        let end = pass
-            .seated
-            .drive_on::<Acquire, Acquires>(rt, call, &owner, &mut ());
-        match end {
+        match pass.acquire(rt, call, owner) {
             Ok(index) => Ok(index as usize),
             Err(failure) => Err(failure),
         }

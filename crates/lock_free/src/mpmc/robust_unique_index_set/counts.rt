@@ -7,11 +7,13 @@ ghost use Rattle.lock_free.specs.Robust.Stages.{CountStands, BorrowedStands, Bor
 ghost use Rattle.lock_free.specs.RobustUniqueIndexSet.{view, set_of, capacity_of, IsPassOf};
 
 use super::{Pass, RobustUniqueIndexSet};
+use crate::robust::counts::counted_next;
 use crate::robust::drives::Counts;
 use std::sync::Wait;
 use steps::ask::After;
 use steps::indices::robust::looks::BorrowedIndices;
 use steps::indices::robust::parts::Count;
+use steps::routine::Routine;
 
 impl Pass {
     /// Takes one step of the call.
@@ -42,36 +44,26 @@ impl Pass {
         ensures goes { BorrowedGoes (view self.old) result }
     {
         let capacity = self.capacity;
-        let mut seen = counter;
-        let mut cell = first;
+        let mut cell = first as usize;
         let mut found = filled;
         'cells: loop {
-            let here = BorrowedIndices {
-                capacity,
-                count: Count::LoadsCell {
-                    counter: seen,
-                    index: cell,
-                    filled: found,
-                },
-            };
-            let after = self.step_count(here);
-            match after {
-                After::GoOn(next) => {
-                    let count = next.count;
-                    match count {
-                        Count::LoadsCell {
-                            counter,
-                            index,
-                            filled,
-                        } => {
-                            seen = counter;
-                            cell = index;
-                            found = filled;
-                        }
-                        _ => return after,
-                    }
+            let owner = self.load_cell(cell);
+            match counted_next(capacity, cell, found, owner) {
+                Some(next) => {
+                    cell = next.0;
+                    found = next.1;
                 }
-                After::Done(_) => return after,
+                None => {
+                    let here = BorrowedIndices {
+                        capacity,
+                        count: Count::LoadsCell {
+                            counter,
+                            index: cell as u32,
+                            filled: found,
+                        },
+                    };
+                    return here.take(&(), &mut (), owner);
+                }
             }
         }
     }
@@ -102,7 +94,20 @@ impl Pass {
         ensures view { view self.new ≡ view self.old }
         ensures counted { WasCounted (view self.old) result }
     {
-        let mut call = BorrowedIndices::new(self.capacity);
+        // The first turns stand by themselves, so that a compiler sees at each of them at which stage the call is.
+        let call = match self.step_count(BorrowedIndices::new(self.capacity)) {
+            After::GoOn(next) => next,
+            After::Done(filled) => return filled,
+        };
+        let call = match self.count_next(call) {
+            After::GoOn(next) => next,
+            After::Done(filled) => return filled,
+        };
+        let call = match self.step_count(call) {
+            After::GoOn(next) => next,
+            After::Done(filled) => return filled,
+        };
+        let mut call = call;
         for _ in rt.forever() {
             match self.count_next(call) {
                 After::GoOn(next) => call = next,

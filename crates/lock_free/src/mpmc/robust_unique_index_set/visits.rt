@@ -1,6 +1,8 @@
 //! The calls on a set that come to its indices: find and recover.
-ghost use Rattle.std.specs.Prelude.{◌≡◌, ℕ, false, IsTrue, IsFalse};
+ghost use Rattle.std.specs.Prelude.{◌≡◌, ◌+◌, ◌<◌, ℕ, false, IsTrue, IsFalse, IfSome};
+ghost use Rattle.steps.specs.declared.ask.After.TheVariants.{GoOn};
 ghost use Rattle.steps.specs.declared.enums.CallbackProgression.TheVariants.{Continue};
+ghost use Rattle.steps.specs.declared.indices.enums.ReleaseMode.{ReleaseMode as Mode};
 ghost use Rattle.steps.specs.Indices.Robust.Find.{find_after};
 ghost use Rattle.steps.specs.Indices.Robust.Recover.{recover_after};
 ghost use Rattle.lock_free.specs.Bits.Callable.{TakesPlaces};
@@ -16,6 +18,7 @@ use std::sync::Wait;
 use steps::ask::After;
 use steps::indices::enums::{ReleaseMode, ReleaseState};
 use steps::indices::robust::find::{Find, FindStage};
+use steps::indices::robust::parts::EMPTY;
 use steps::indices::robust::recover::{Recover, RecoverStage};
 use steps::routine::Routine;
 
@@ -103,21 +106,18 @@ impl Pass {
         ensures passed { HasPassed first result }
     {
         let capacity = self.capacity;
-        let mut cell = first;
+        let mut cell = first as usize;
         'cells: loop {
-            let here = Recover {
-                capacity,
-                stage: RecoverStage::LoadsCell { index: cell },
-            };
-            match self.step_recover(here, mode) {
-                After::GoOn(next) => {
-                    let stage = next.stage;
-                    match stage {
-                        RecoverStage::LoadsCell { index } => cell = index,
-                        _ => return After::GoOn(next),
-                    }
+            let found = self.load_cell(cell);
+            match passed_next(capacity, cell, found) {
+                Some(next) => cell = next,
+                None => {
+                    let here = Recover {
+                        capacity,
+                        stage: RecoverStage::LoadsCell { index: cell as u32 },
+                    };
+                    return here.take(&mode, &mut (), found);
                 }
-                After::Done(state) => return After::Done(state),
             }
         }
     }
@@ -181,7 +181,12 @@ impl Pass {
             (λ s o i t. S.step s o i tt t) (view self.old).capacity (view self.old).locked
             predicate recovered result.1 result.2 }
     {
-        let mut call = Recover::new(self.capacity);
+        // The first step stands by itself, so that a compiler sees at which stage the call is.
+        let first = self.step_recover(Recover::new(self.capacity), mode);
+        let mut call = match first {
+            After::GoOn(next) => next,
+            After::Done(state) => return (state, predicate, recovered),
+        };
         for _ in rt.forever() {
             let (after, next_predicate, next_recovered) = self.recover_next(
                 call, mode, predicate, recovered,
@@ -194,6 +199,26 @@ impl Pass {
             }
         }
         unreachable!()
+    }
+}
+
+/// The cell to which a recovery goes on from one in which it finds this, if all that it does is to pass over it.
+#[inline(always)]
+fn passed_next(capacity: u32, cell: usize, found: u64) -> Option<usize>
+    requires { cell < capacity }
+    ensures next { IfSome result (λ next. (next ≡ cell + 1) × (next < capacity)) }
+    ensures after { IfSome result (λ next. (mode : Mode)
+        → recover_after (record { capacity = capacity; stage = stages.LoadsCell cell }) mode found
+        ≡ GoOn (record { capacity = capacity; stage = stages.LoadsCell next })) }
+{
+    if found != EMPTY {
+        return None;
+    }
+    let next = cell + 1;
+    if next < capacity as usize {
+        Some(next)
+    } else {
+        None
     }
 }
 

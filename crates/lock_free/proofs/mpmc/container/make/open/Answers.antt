@@ -1,4 +1,4 @@
-use Rattle.std.proofs.Common.{rules, ◌≡◌, length, ap, ◌∙◌, length-set}
+use Rattle.std.proofs.Common.{rules}
 use Rattle.steps.specs.Container.Layout.{total_words}
 use Rattle.lock_free.proofs.Rules.Robust.Steps.{opens}
 use Rattle.lock_free.proofs.mpmc.container.make.open.Goals as goal

@@ -8,7 +8,7 @@ abbrev pub invariant-cells : goal.invariant-cells
 invariant-cells l =
     (set_of l.self ≡ set_of l.fn.self)
     × (view l.self ≡ view l.fn.self)
-    × CountStands (view l.fn.self) (stages.LoadsCell l.seen l.cell l.found)
+    × CountStands (view l.fn.self) (stages.LoadsCell l.fn.counter l.cell l.found)
 
 abbrev pub decreases-cells : goal.decreases-cells
 decreases-cells l = l.fn.self.capacity - l.cell
