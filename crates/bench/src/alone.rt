@@ -4,7 +4,7 @@ ghost use Rattle.std.specs.Prelude.{◌≡◌};
 
 use crate::error::BenchError;
 use crate::hand::Words;
-use crate::timing::{Row, Timed, print_row};
+use crate::timing::{Row, Timed, Wanted, print_row};
 use std::alloc::Global;
 use std::sync::Wait;
 use std::time::CpuClock;
@@ -118,7 +118,7 @@ fn step_row<R: Wait + CpuClock + Print>(
 pub fn rows<R: Wait + CpuClock + Print>(
     rt: &R,
     alloc: Global,
-    wanted: &str,
+    wanted: Wanted<'_>,
 ) -> Result<(), BenchError> {
     let all = [
         ("step: load", Step::Load),
@@ -133,6 +133,7 @@ pub fn rows<R: Wait + CpuClock + Print>(
             name,
             capacity: 1,
             steps: 1,
+            together: false,
         };
         if row.is_wanted(wanted) {
             step_row(rt, alloc, &row, step)?;

@@ -5,25 +5,27 @@ ghost use Rattle.lock_free.specs.Counts.Calls as of_counts;
 use crate::error::BenchError;
 use crate::hand::bits as by_hand;
 use crate::hand::bits::Calls;
-use crate::timing::{Row, Timed, print_row};
+use crate::timing::{Row, Timed, Wanted};
+use crate::together::{Many, print_any};
 use lock_free::mpmc::bit_set::{BitSet, Pass};
 use lock_free::mpmc::counting_bit_set;
 use lock_free::mpmc::counting_bit_set::{BitState, CountingBitSet};
 use std::alloc::Global;
 use std::sync::Wait;
+use std::thread::Threads;
 use std::time::CpuClock;
 
 /// A bit set with a pass.
 #[derive(Drop)]
-struct Bits {
-    set: BitSet,
+struct Bits<'a> {
+    set: &'a BitSet,
     pass: Pass,
     next: usize,
     calls: Calls,
-    ghost of: { of_bits.IsPassOf set pass },
+    ghost of: { of_bits.IsPassOf set.now pass },
 }
 
-impl Bits {
+impl<'a> Bits<'a> {
     #[inline(never)]
     fn set<R: Wait>(&mut self, rt: &R, place: usize) -> bool {
         if place >= self.set.capacity() {
@@ -48,7 +50,7 @@ impl Bits {
     }
 }
 
-impl Timed for Bits {
+impl<'a> Timed for Bits<'a> {
     fn call<R: Wait>(&mut self, rt: &R) -> u64 {
         match self.calls {
             Calls::SetAndResetNext => {
@@ -76,14 +78,14 @@ impl Timed for Bits {
 
 /// Counts with a pass.
 #[derive(Drop)]
-struct Counts {
-    set: CountingBitSet,
+struct Counts<'a> {
+    set: &'a CountingBitSet,
     pass: counting_bit_set::Pass,
     takes_all: bool,
-    ghost of: { of_counts.IsPassOf set pass },
+    ghost of: { of_counts.IsPassOf set.now pass },
 }
 
-impl Counts {
+impl<'a> Counts<'a> {
     #[inline(never)]
     fn set(&mut self, place: usize) -> u64 {
         if place >= self.set.capacity() {
@@ -105,7 +107,19 @@ impl Counts {
     }
 }
 
-impl Timed for Counts {
+impl<'a> Many for Bits<'a> {
+    fn another(&mut self) -> Option<Bits<'a>> {
+        let pass = self.pass.split()?;
+        Some(Bits {
+            set: self.set,
+            pass,
+            next: 0,
+            calls: self.calls,
+        })
+    }
+}
+
+impl<'a> Timed for Counts<'a> {
     fn call<R: Wait>(&mut self, _rt: &R) -> u64 {
         let before = self.set(5);
         if self.takes_all {
@@ -116,8 +130,19 @@ impl Timed for Counts {
     }
 }
 
+impl<'a> Many for Counts<'a> {
+    fn another(&mut self) -> Option<Counts<'a>> {
+        let pass = self.pass.split()?;
+        Some(Counts {
+            set: self.set,
+            pass,
+            takes_all: self.takes_all,
+        })
+    }
+}
+
 /// Prints a row of the bit set, of which no place stands.
-fn bits_row<R: Wait + CpuClock + Print>(
+fn bits_row<R: Wait + Threads + CpuClock + Print + Sync>(
     rt: &R,
     alloc: Global,
     row: &Row<'_>,
@@ -125,19 +150,19 @@ fn bits_row<R: Wait + CpuClock + Print>(
     calls: Calls,
 ) -> Result<(), BenchError> {
     let (set, pass) = BitSet::new(alloc, capacity as usize)?;
-    let mut driven = Bits {
-        set,
+    let driven = Bits {
+        set: &set,
         pass,
         next: 0,
         calls,
     };
-    let mut hand = by_hand::Bits::new(alloc, capacity, calls)?;
-    print_row(rt, row, &mut driven, &mut hand)?;
+    let hand = by_hand::Bits::new(alloc, capacity, calls)?;
+    print_any(rt, row, driven, hand)?;
     Ok(())
 }
 
 /// Prints a row of the counts, in which no place counts.
-fn counts_row<R: Wait + CpuClock + Print>(
+fn counts_row<R: Wait + Threads + CpuClock + Print + Sync>(
     rt: &R,
     alloc: Global,
     row: &Row<'_>,
@@ -145,41 +170,43 @@ fn counts_row<R: Wait + CpuClock + Print>(
     takes_all: bool,
 ) -> Result<(), BenchError> {
     let (set, pass) = CountingBitSet::new(alloc, capacity as usize)?;
-    let mut driven = Counts {
-        set,
+    let driven = Counts {
+        set: &set,
         pass,
         takes_all,
     };
-    let mut hand = by_hand::Counts::new(alloc, capacity, takes_all)?;
-    print_row(rt, row, &mut driven, &mut hand)?;
+    let hand = by_hand::Counts::new(alloc, capacity, takes_all)?;
+    print_any(rt, row, driven, hand)?;
     Ok(())
 }
 
 /// The rows whose names begin so.
-pub fn rows<R: Wait + CpuClock + Print>(
+pub fn rows<R: Wait + Threads + CpuClock + Print + Sync>(
     rt: &R,
     alloc: Global,
-    wanted: &str,
+    wanted: Wanted<'_>,
 ) -> Result<(), BenchError> {
     for capacity in [64u32, 1024, 65536] {
+        let changing = "bit set: set and reset_next";
+        let none = "bit set: reset_next, no place stands";
+        let emptying = "bit set: set and reset_all";
         let all = [
-            ("bit set: set and reset_next", Calls::SetAndResetNext, 6),
+            (changing, Calls::SetAndResetNext, 6, false),
+            (changing, Calls::SetAndResetNext, 6, true),
+            (none, Calls::ResetNext, 1 + capacity as u64, false),
             (
-                "bit set: reset_next, no place stands",
-                Calls::ResetNext,
-                1 + capacity as u64,
-            ),
-            (
-                "bit set: set and reset_all",
+                emptying,
                 Calls::SetAndResetAll,
                 2 + capacity as u64 / 64,
+                false,
             ),
         ];
-        for (name, calls, steps) in all {
+        for (name, calls, steps, together) in all {
             let row = Row {
                 name,
                 capacity: capacity as u64,
                 steps,
+                together,
             };
             if row.is_wanted(wanted) {
                 bits_row(rt, alloc, &row, capacity, calls)?;
@@ -188,14 +215,21 @@ pub fn rows<R: Wait + CpuClock + Print>(
     }
     for capacity in [64u32, 1024] {
         let all = [
-            ("counts: set", false, 1),
-            ("counts: set and reset_all", true, 1 + capacity as u64),
+            ("counts: set", false, 1, false),
+            ("counts: set", false, 1, true),
+            (
+                "counts: set and reset_all",
+                true,
+                1 + capacity as u64,
+                false,
+            ),
         ];
-        for (name, takes_all, steps) in all {
+        for (name, takes_all, steps, together) in all {
             let row = Row {
                 name,
                 capacity: capacity as u64,
                 steps,
+                together,
             };
             if row.is_wanted(wanted) {
                 counts_row(rt, alloc, &row, capacity, takes_all)?;

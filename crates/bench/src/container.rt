@@ -3,25 +3,27 @@ ghost use Rattle.lock_free.specs.Container.Names.{IsPassOf};
 
 use crate::error::BenchError;
 use crate::hand;
-use crate::timing::{Row, Timed, print_row};
+use crate::timing::{Row, Timed, Wanted};
+use crate::together::{Many, print_any};
 use lock_free::mpmc::container::{Container, ContainerHandle, OwnerId, Pass};
 use lock_free::mpmc::unique_index_set_enums::ReleaseMode;
 use std::alloc::Global;
 use std::sync::Wait;
+use std::thread::Threads;
 use std::time::CpuClock;
 
 /// A container of numbers with a pass, and the owner that adds.
 #[derive(Drop)]
-struct Values {
-    container: Container<u64>,
+struct Values<'a> {
+    container: &'a Container<u64>,
     pass: Pass<u64>,
     owner: OwnerId,
     next: u64,
     is_counted: bool,
-    ghost of: { IsPassOf container pass },
+    ghost of: { IsPassOf container.now pass },
 }
 
-impl Values {
+impl<'a> Values<'a> {
     #[inline(never)]
     fn add<R: Wait>(&mut self, rt: &R, value: u64) -> Option<ContainerHandle> {
         self.container
@@ -42,7 +44,7 @@ impl Values {
     }
 }
 
-impl Timed for Values {
+impl<'a> Timed for Values<'a> {
     fn call<R: Wait>(&mut self, rt: &R) -> u64 {
         if self.is_counted {
             return self.len(rt);
@@ -56,8 +58,21 @@ impl Timed for Values {
     }
 }
 
+impl<'a> Many for Values<'a> {
+    fn another(&mut self) -> Option<Values<'a>> {
+        let pass = self.pass.split()?;
+        Some(Values {
+            container: self.container,
+            pass,
+            owner: self.owner,
+            next: self.next,
+            is_counted: self.is_counted,
+        })
+    }
+}
+
 /// Prints a row of the container, in which no value stands.
-fn values_row<R: Wait + CpuClock + Print>(
+fn values_row<R: Wait + Threads + CpuClock + Print + Sync>(
     rt: &R,
     alloc: Global,
     row: &Row<'_>,
@@ -68,34 +83,36 @@ fn values_row<R: Wait + CpuClock + Print>(
         return Err(BenchError::Taken);
     };
     let (container, pass) = Container::new(alloc, capacity as usize, 1)?;
-    let mut driven = Values {
-        container,
+    let driven = Values {
+        container: &container,
         pass,
         owner,
         next: 0,
         is_counted,
     };
-    let mut by_hand = hand::container::Values::new(alloc, capacity, is_counted)?;
-    print_row(rt, row, &mut driven, &mut by_hand)?;
+    let by_hand = hand::container::Values::new(alloc, capacity, is_counted)?;
+    print_any(rt, row, driven, by_hand)?;
     Ok(())
 }
 
 /// The rows whose names begin so.
-pub fn rows<R: Wait + CpuClock + Print>(
+pub fn rows<R: Wait + Threads + CpuClock + Print + Sync>(
     rt: &R,
     alloc: Global,
-    wanted: &str,
+    wanted: Wanted<'_>,
 ) -> Result<(), BenchError> {
     for capacity in [64u32, 1024] {
         let all = [
-            ("container: add and remove", false, 14),
-            ("container: len", true, 2 + capacity as u64),
+            ("container: add and remove", false, 14, false),
+            ("container: add and remove", false, 14, true),
+            ("container: len", true, 2 + capacity as u64, false),
         ];
-        for (name, is_counted, steps) in all {
+        for (name, is_counted, steps, together) in all {
             let row = Row {
                 name,
                 capacity: capacity as u64,
                 steps,
+                together,
             };
             if row.is_wanted(wanted) {
                 values_row(rt, alloc, &row, capacity, is_counted)?;

@@ -5,7 +5,8 @@ ghost use Rattle.lock_free.specs.RobustUniqueIndexSet as of_robust;
 
 use crate::error::BenchError;
 use crate::hand::{robust, unique};
-use crate::timing::{Row, Timed, print_row};
+use crate::timing::{Row, Timed, Wanted, time};
+use crate::together::{Many, print_any};
 use lock_free::mpmc::robust_unique_index_set;
 use lock_free::mpmc::robust_unique_index_set::{
     CallbackProgression, OwnerId, RobustUniqueIndexSet,
@@ -14,15 +15,16 @@ use lock_free::mpmc::unique_index_set::{Pass, UniqueIndexSet};
 use lock_free::mpmc::unique_index_set_enums::{ReleaseMode, ReleaseState};
 use std::alloc::Global;
 use std::sync::Wait;
+use std::thread::Threads;
 use std::time::CpuClock;
 
 /// A unique index set with a pass.
 #[derive(Drop)]
-struct Unique {
-    set: UniqueIndexSet,
+struct Unique<'a> {
+    set: &'a UniqueIndexSet,
     pass: Pass,
     calls: unique::Calls,
-    ghost of: { of_unique.IsPassOf set pass },
+    ghost of: { of_unique.IsPassOf set.now pass },
 }
 
 #[inline(never)]
@@ -46,23 +48,19 @@ fn release_unique(set: &UniqueIndexSet, index: u32, pass: &mut Pass)
     set.release_raw_index(index, pass);
 }
 
-impl Unique {
+impl<'a> Unique<'a> {
     #[inline(never)]
     fn borrowed_indices(&mut self) -> usize {
         self.set.borrowed_indices(&mut self.pass)
     }
 }
 
-impl Timed for Unique {
+impl<'a> Timed for Unique<'a> {
     fn call<R: Wait>(&mut self, rt: &R) -> u64 {
         match self.calls {
-            unique::Calls::AcquireAndRelease => match acquire_unique(
-                rt,
-                &self.set,
-                &mut self.pass,
-            ) {
+            unique::Calls::AcquireAndRelease => match acquire_unique(rt, self.set, &mut self.pass) {
                 Some(index) => {
-                    release_unique(&self.set, index, &mut self.pass);
+                    release_unique(self.set, index, &mut self.pass);
                     index as u64
                 }
                 None => 1 << 32,
@@ -72,18 +70,29 @@ impl Timed for Unique {
     }
 }
 
+impl<'a> Many for Unique<'a> {
+    fn another(&mut self) -> Option<Unique<'a>> {
+        let pass = self.pass.split()?;
+        Some(Unique {
+            set: self.set,
+            pass,
+            calls: self.calls,
+        })
+    }
+}
+
 /// A robust set with a pass, and the owner that acquires.
 #[derive(Drop)]
-struct Robust {
-    set: RobustUniqueIndexSet,
+struct Robust<'a> {
+    set: &'a RobustUniqueIndexSet,
     pass: robust_unique_index_set::Pass,
     owner: OwnerId,
     dead: OwnerId,
     calls: robust::Calls,
-    ghost of: { of_robust.IsPassOf set pass },
+    ghost of: { of_robust.IsPassOf set.now pass },
 }
 
-impl Robust {
+impl<'a> Robust<'a> {
     #[inline(never)]
     fn acquire<R: Wait>(&mut self, rt: &R) -> Option<usize> {
         self.set.acquire(rt, self.owner, &mut self.pass).ok()
@@ -135,12 +144,16 @@ impl Robust {
     }
 }
 
-impl Timed for Robust {
+impl<'a> Timed for Robust<'a> {
     fn call<R: Wait>(&mut self, rt: &R) -> u64 {
         match self.calls {
             robust::Calls::AcquireAndRelease => match self.acquire(rt) {
                 Some(index) => self.release(rt, index) as u64,
                 None => 2,
+            },
+            robust::Calls::Acquire => match self.acquire(rt) {
+                Some(index) => index as u64,
+                None => 1 << 32,
             },
             robust::Calls::BorrowedIndices => self.borrowed_indices(rt) as u64,
             robust::Calls::Find => self.find(),
@@ -149,8 +162,21 @@ impl Timed for Robust {
     }
 }
 
+impl<'a> Many for Robust<'a> {
+    fn another(&mut self) -> Option<Robust<'a>> {
+        let pass = self.pass.split()?;
+        Some(Robust {
+            set: self.set,
+            pass,
+            owner: self.owner,
+            dead: self.dead,
+            calls: self.calls,
+        })
+    }
+}
+
 /// Prints a row of the unique index set, of which no index is out.
-fn unique_row<R: Wait + CpuClock + Print>(
+fn unique_row<R: Wait + Threads + CpuClock + Print + Sync>(
     rt: &R,
     alloc: Global,
     row: &Row<'_>,
@@ -158,32 +184,26 @@ fn unique_row<R: Wait + CpuClock + Print>(
     calls: unique::Calls,
 ) -> Result<(), BenchError> {
     let (set, pass) = UniqueIndexSet::new(alloc, capacity as usize)?;
-    let mut driven = Unique { set, pass, calls };
-    let mut hand = unique::Unique::new(alloc, capacity, calls)?;
-    print_row(rt, row, &mut driven, &mut hand)?;
+    let driven = Unique {
+        set: &set,
+        pass,
+        calls,
+    };
+    let hand = unique::Unique::new(alloc, capacity, calls)?;
+    print_any(rt, row, driven, hand)?;
     Ok(())
 }
 
-/// A robust set of which no index is out.
-fn new_robust(alloc: Global, capacity: u32, calls: robust::Calls) -> Result<Robust, BenchError> {
-    let Ok(owner) = OwnerId::new(7) else {
-        return Err(BenchError::Taken);
-    };
-    let Ok(dead) = OwnerId::new(9) else {
-        return Err(BenchError::Taken);
-    };
-    let (set, pass) = RobustUniqueIndexSet::new(alloc, capacity as usize)?;
-    Ok(Robust {
-        set,
-        pass,
-        owner,
-        dead,
-        calls,
-    })
+/// The owner of this number.
+fn owner_of(number: u64) -> Result<OwnerId, BenchError> {
+    match OwnerId::new(number) {
+        Ok(owner) => Ok(owner),
+        Err(_) => Err(BenchError::Taken),
+    }
 }
 
 /// Prints a row of the robust set, of which no index is out, or each.
-fn robust_row<R: Wait + CpuClock + Print>(
+fn robust_row<R: Wait + Threads + CpuClock + Print + Sync>(
     rt: &R,
     alloc: Global,
     row: &Row<'_>,
@@ -191,42 +211,45 @@ fn robust_row<R: Wait + CpuClock + Print>(
     is_full: bool,
     calls: robust::Calls,
 ) -> Result<(), BenchError> {
-    let mut driven = new_robust(alloc, capacity, calls)?;
+    let owner = owner_of(7)?;
+    let dead = owner_of(9)?;
+    let (set, pass) = RobustUniqueIndexSet::new(alloc, capacity as usize)?;
+    let mut driven = Robust {
+        set: &set,
+        pass,
+        owner,
+        dead,
+        calls,
+    };
     let in_each = if is_full { 7 } else { robust::EMPTY };
-    let mut hand = robust::Robust::new(alloc, capacity, in_each, calls)?;
+    let hand = robust::Robust::new(alloc, capacity, in_each, calls)?;
     if is_full {
-        for _ in 0..capacity {
-            driven.acquire(rt);
-        }
+        time(rt, &mut driven, capacity as u64)?;
     }
-    print_row(rt, row, &mut driven, &mut hand)?;
+    print_any(rt, row, driven, hand)?;
     Ok(())
 }
 
 /// The rows whose names begin so.
-pub fn rows<R: Wait + CpuClock + Print>(
+pub fn rows<R: Wait + Threads + CpuClock + Print + Sync>(
     rt: &R,
     alloc: Global,
-    wanted: &str,
+    wanted: Wanted<'_>,
 ) -> Result<(), BenchError> {
+    let taking = "unique index set: acquire and release";
+    let asking = "unique index set: borrowed_indices";
     let all = [
-        (
-            "unique index set: acquire and release",
-            unique::Calls::AcquireAndRelease,
-            8,
-        ),
-        (
-            "unique index set: borrowed_indices",
-            unique::Calls::BorrowedIndices,
-            1,
-        ),
+        (taking, unique::Calls::AcquireAndRelease, 8, false),
+        (taking, unique::Calls::AcquireAndRelease, 8, true),
+        (asking, unique::Calls::BorrowedIndices, 1, false),
     ];
-    for (name, calls, steps) in all {
+    for (name, calls, steps, together) in all {
         for capacity in [64u32, 65536] {
             let row = Row {
                 name,
                 capacity: capacity as u64,
                 steps,
+                together,
             };
             if row.is_wanted(wanted) {
                 unique_row(rt, alloc, &row, capacity, calls)?;
@@ -237,50 +260,38 @@ pub fn rows<R: Wait + CpuClock + Print>(
 }
 
 /// The rows of the robust set.
-fn robust_rows<R: Wait + CpuClock + Print>(
+fn robust_rows<R: Wait + Threads + CpuClock + Print + Sync>(
     rt: &R,
     alloc: Global,
-    wanted: &str,
+    wanted: Wanted<'_>,
 ) -> Result<(), BenchError> {
+    let taking = "robust index set: acquire and release";
+    let failing = "robust index set: acquire, none is left";
+    let asking = "robust index set: borrowed_indices";
+    let finding = "robust index set: find, of nothing";
+    let freeing = "robust index set: recover, of nothing";
     for capacity in [8u32, 64, 1024] {
         let cells = capacity as u64;
         let all = [
+            (taking, false, robust::Calls::AcquireAndRelease, 7, false),
+            (taking, false, robust::Calls::AcquireAndRelease, 7, true),
+            (failing, true, robust::Calls::Acquire, cells + 2, false),
             (
-                "robust index set: acquire and release",
-                false,
-                robust::Calls::AcquireAndRelease,
-                7,
-            ),
-            (
-                "robust index set: acquire, none is left",
-                true,
-                robust::Calls::AcquireAndRelease,
-                cells + 2,
-            ),
-            (
-                "robust index set: borrowed_indices",
+                asking,
                 false,
                 robust::Calls::BorrowedIndices,
                 cells + 2,
-            ),
-            (
-                "robust index set: find, of nothing",
                 false,
-                robust::Calls::Find,
-                cells,
             ),
-            (
-                "robust index set: recover, of nothing",
-                false,
-                robust::Calls::Recover,
-                cells + 2,
-            ),
+            (finding, false, robust::Calls::Find, cells, false),
+            (freeing, false, robust::Calls::Recover, cells + 2, false),
         ];
-        for (name, is_full, calls, steps) in all {
+        for (name, is_full, calls, steps, together) in all {
             let row = Row {
                 name,
                 capacity: cells,
                 steps,
+                together,
             };
             if row.is_wanted(wanted) {
                 robust_row(rt, alloc, &row, capacity, is_full, calls)?;

@@ -4,7 +4,7 @@ ghost use Rattle.lock_free.specs.Ends.{IsPassOf};
 
 use crate::error::BenchError;
 use crate::hand;
-use crate::timing::{Row, Timed, print_row};
+use crate::timing::{Row, Timed, Wanted, print_row};
 use lock_free::spsc::index_queue::{Consumer, IndexQueue, Pass, Producer};
 use lock_free::spsc::queue::Queue;
 use lock_free::spsc::{queue, safely_overflowing_index_queue as overflow};
@@ -165,7 +165,7 @@ fn length_row<R: Wait + CpuClock + Print>(
 fn pairs_row<const CAPACITY: usize, R: Wait + CpuClock + Print>(
     rt: &R,
     alloc: Global,
-    wanted: &str,
+    wanted: Wanted<'_>,
 ) -> Result<(), BenchError>
     requires { CAPACITY < 2 ^ 32 }
 {
@@ -173,6 +173,7 @@ fn pairs_row<const CAPACITY: usize, R: Wait + CpuClock + Print>(
         name: "queue of pairs: push and pop",
         capacity: CAPACITY as u64,
         steps: 10,
+        together: false,
     };
     if !row.is_wanted(wanted) {
         return Ok(());
@@ -227,13 +228,14 @@ fn overflowing_row<R: Wait + CpuClock + Print>(
 pub fn rows<R: Wait + CpuClock + Print>(
     rt: &R,
     alloc: Global,
-    wanted: &str,
+    wanted: Wanted<'_>,
 ) -> Result<(), BenchError> {
     for capacity in [8u32, 64, 1024, 65536] {
         let row = Row {
             name: "index queue: push and pop",
             capacity: capacity as u64,
             steps: 8,
+            together: false,
         };
         if row.is_wanted(wanted) {
             numbers_row(rt, alloc, &row, capacity)?;
@@ -243,6 +245,7 @@ pub fn rows<R: Wait + CpuClock + Print>(
         name: "index queue: len",
         capacity: 64,
         steps: 4,
+        together: false,
     };
     if row.is_wanted(wanted) {
         length_row(rt, alloc, &row)?;
@@ -254,6 +257,7 @@ pub fn rows<R: Wait + CpuClock + Print>(
             name: "overflowing queue: push into the full one, pop, push",
             capacity: capacity as u64,
             steps: 14,
+            together: false,
         };
         if row.is_wanted(wanted) {
             overflowing_row(rt, alloc, &row, capacity)?;

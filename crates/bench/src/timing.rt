@@ -5,7 +5,7 @@ use std::sync::Wait;
 use std::time::CpuClock;
 
 /// How often each of the two is timed.
-const ROUNDS: usize = 11;
+pub const ROUNDS: usize = 11;
 
 /// How many nanoseconds of the processor one timing takes at least.
 const LONG_ENOUGH: u64 = 2_000_000;
@@ -15,23 +15,39 @@ pub trait Timed {
     fn call<R: Wait>(&mut self, rt: &R) -> u64;
 }
 
-/// What a row is about: a call, the capacity of what it is called on, and how many atomic steps it takes.
+/// Which rows are wanted.
+#[derive(Clone, Copy)]
+pub struct Wanted<'a> {
+    /// What the name begins with, or `all`.
+    pub beginning: &'a str,
+    /// Those in which several threads make the calls at once, or those of one thread.
+    pub together: bool,
+}
+
+/// What a row is about: a call, the capacity of what it is called on, how many atomic steps it takes where nobody steps
+/// in between, and whether several threads make it at once.
 #[derive(Clone, Copy)]
 pub struct Row<'a> {
     pub name: &'a str,
     pub capacity: u64,
     pub steps: u64,
+    pub together: bool,
 }
 
 impl<'a> Row<'a> {
     /// Whether its name begins so, or each is wanted.
-    pub fn is_wanted(&self, beginning: &str) -> bool {
-        beginning == "all" || self.name.starts_with(beginning)
+    pub fn is_wanted(&self, wanted: Wanted<'_>) -> bool {
+        self.together == wanted.together
+            && (wanted.beginning == "all" || self.name.starts_with(wanted.beginning))
     }
 }
 
 /// The nanoseconds of the processor that so many calls take, and the sum of their answers.
-fn time<T: Timed, R: Wait + CpuClock>(rt: &R, timed: &mut T, calls: u64) -> io::Result<(u64, u64)> {
+pub fn time<T: Timed, R: Wait + CpuClock>(
+    rt: &R,
+    timed: &mut T,
+    calls: u64,
+) -> io::Result<(u64, u64)> {
     let mut sum = 0u64;
     let start = rt.thread_cpu_time()?;
     for _ in 0..calls {
@@ -54,7 +70,7 @@ fn print_tenths<R: Print>(rt: &R, tenths: u64) -> io::Result<()> {
 }
 
 /// How many calls of either take long enough: a power of two. Each of the two makes as many.
-fn enough<D: Timed, H: Timed, R: Wait + CpuClock>(
+pub fn enough<D: Timed, H: Timed, R: Wait + CpuClock>(
     rt: &R,
     driven: &mut D,
     hand: &mut H,
@@ -71,7 +87,46 @@ fn enough<D: Timed, H: Timed, R: Wait + CpuClock>(
     Ok(calls)
 }
 
-/// Prints a row: medians of the nanoseconds of a call, driven and by hand, and of the ratio of the two.
+/// What the rounds of a row took, in nanoseconds of the processor.
+#[derive(Drop)]
+pub struct Rounds {
+    /// How many calls each of the two made in a round, in all its threads.
+    calls: u64,
+    driven: [u64; ROUNDS],
+    hand: [u64; ROUNDS],
+    ratios: [u64; ROUNDS],
+}
+
+impl Rounds {
+    pub fn new(calls: u64) -> Rounds {
+        Rounds {
+            calls,
+            driven: [0; ROUNDS],
+            hand: [0; ROUNDS],
+            ratios: [0; ROUNDS],
+        }
+    }
+
+    /// Keeps what a round took.
+    pub fn keep(&mut self, round: usize, driven: u64, hand: u64) {
+        let calls = self.calls;
+        if round < ROUNDS {
+            self.driven[round] = driven.saturating_mul(10).checked_div(calls).unwrap_or(0);
+            self.hand[round] = hand.saturating_mul(10).checked_div(calls).unwrap_or(0);
+            self.ratios[round] = driven.saturating_mul(100).checked_div(hand).unwrap_or(0);
+        }
+    }
+
+    /// Prints medians of the nanoseconds of a call, driven and by hand, and of the ratio of the two.
+    pub fn print<R: Print>(&self, rt: &R) -> io::Result<()> {
+        let ratio = median(&self.ratios);
+        print_tenths(rt, median(&self.driven))?;
+        print_tenths(rt, median(&self.hand))?;
+        print!(rt; "{}.{}{} |", ratio / 100, ratio / 10 % 10, ratio % 10)
+    }
+}
+
+/// Prints the row of two that make the same calls, of one thread.
 pub fn print_row<D: Timed, H: Timed, R: Wait + CpuClock + Print>(
     rt: &R,
     row: &Row<'_>,
@@ -80,22 +135,15 @@ pub fn print_row<D: Timed, H: Timed, R: Wait + CpuClock + Print>(
 ) -> io::Result<()> {
     let calls = enough(rt, driven, hand)?;
     let mut same = true;
-    let mut all_driven = [0u64; ROUNDS];
-    let mut all_hand = [0u64; ROUNDS];
-    let mut ratios = [0u64; ROUNDS];
+    let mut rounds = Rounds::new(calls);
     for round in 0..ROUNDS {
         let (first, answers) = time(rt, driven, calls)?;
         let (second, others) = time(rt, hand, calls)?;
         same = same && answers == others;
-        all_driven[round] = first.saturating_mul(10).checked_div(calls).unwrap_or(0);
-        all_hand[round] = second.saturating_mul(10).checked_div(calls).unwrap_or(0);
-        ratios[round] = first.saturating_mul(100).checked_div(second).unwrap_or(0);
+        rounds.keep(round, first, second);
     }
-    let ratio = median(&ratios);
     print!(rt; "| {} | {} | {} | ", row.name, row.capacity, row.steps)?;
-    print_tenths(rt, median(&all_driven))?;
-    print_tenths(rt, median(&all_hand))?;
-    print!(rt; "{}.{}{} |", ratio / 100, ratio / 10 % 10, ratio % 10)?;
+    rounds.print(rt)?;
     if same {
         println!(rt; "")
     } else {

@@ -4,11 +4,13 @@ ghost use Rattle.lock_free.specs.UnrestrictedAtomic.{IsPassOf};
 
 use crate::error::BenchError;
 use crate::hand::value as by_hand;
-use crate::timing::{Row, Timed, print_row};
+use crate::timing::{Row, Timed, Wanted, print_row};
+use crate::together::{Many, print_any};
 use lock_free::spmc::unrestricted_atomic::{Pass, Producer, UnrestrictedAtomic};
 use lock_free::words::Words;
 use std::alloc::Global;
 use std::sync::Wait;
+use std::thread::Threads;
 use std::time::CpuClock;
 
 /// A value of 16 words: these four, four times.
@@ -121,22 +123,32 @@ impl<'a, T: Numbered> Timed for Stores<'a, T> {
 
 /// Loads the value.
 #[derive(Drop)]
-struct Loads<T: Words> {
-    value: UnrestrictedAtomic<T>,
+struct Loads<'a, T: Words> {
+    value: &'a UnrestrictedAtomic<T>,
     pass: Pass<T>,
-    ghost of: { IsPassOf value pass },
+    ghost of: { IsPassOf value.now pass },
 }
 
-impl<T: Numbered> Loads<T> {
+impl<'a, T: Numbered> Loads<'a, T> {
     #[inline(never)]
     fn load<R: Wait>(&mut self, rt: &R) -> T {
         self.value.load(rt, &mut self.pass)
     }
 }
 
-impl<T: Numbered> Timed for Loads<T> {
+impl<'a, T: Numbered> Timed for Loads<'a, T> {
     fn call<R: Wait>(&mut self, rt: &R) -> u64 {
         self.load(rt).number()
+    }
+}
+
+impl<'a> Many for Loads<'a, u64> {
+    fn another(&mut self) -> Option<Loads<'a, u64>> {
+        let pass = self.pass.split()?;
+        Some(Loads {
+            value: self.value,
+            pass,
+        })
     }
 }
 
@@ -163,9 +175,28 @@ fn load_row<T: Numbered + Drop, const N: usize, R: Wait + CpuClock + Print>(
     row: &Row<'_>,
 ) -> Result<(), BenchError> {
     let (value, pass) = UnrestrictedAtomic::new(alloc, T::of(0))?;
-    let mut driven = Loads { value, pass };
+    let mut driven = Loads {
+        value: &value,
+        pass,
+    };
     let mut hand = by_hand::Value::<N>::new(alloc, false)?;
     print_row(rt, row, &mut driven, &mut hand)?;
+    Ok(())
+}
+
+/// Prints the rows of a load of a word by several threads.
+fn loads_row<R: Wait + Threads + CpuClock + Print + Sync>(
+    rt: &R,
+    alloc: Global,
+    row: &Row<'_>,
+) -> Result<(), BenchError> {
+    let (value, pass) = UnrestrictedAtomic::new(alloc, 0u64)?;
+    let driven = Loads {
+        value: &value,
+        pass,
+    };
+    let hand = by_hand::Value::<1>::new(alloc, false)?;
+    print_any(rt, row, driven, hand)?;
     Ok(())
 }
 
@@ -173,7 +204,7 @@ fn load_row<T: Numbered + Drop, const N: usize, R: Wait + CpuClock + Print>(
 fn of_words<T: Numbered + Drop, const N: usize, R: Wait + CpuClock + Print>(
     rt: &R,
     alloc: Global,
-    wanted: &str,
+    wanted: Wanted<'_>,
     stored: &str,
     loaded: &str,
 ) -> Result<(), BenchError>
@@ -183,6 +214,7 @@ fn of_words<T: Numbered + Drop, const N: usize, R: Wait + CpuClock + Print>(
         name: stored,
         capacity: 1,
         steps: 2 + N as u64,
+        together: false,
     };
     if row.is_wanted(wanted) {
         store_row::<T, N, R>(rt, alloc, &row)?;
@@ -191,6 +223,7 @@ fn of_words<T: Numbered + Drop, const N: usize, R: Wait + CpuClock + Print>(
         name: loaded,
         capacity: 1,
         steps: 2 + N as u64,
+        together: false,
     };
     if row.is_wanted(wanted) {
         load_row::<T, N, R>(rt, alloc, &row)?;
@@ -199,11 +232,20 @@ fn of_words<T: Numbered + Drop, const N: usize, R: Wait + CpuClock + Print>(
 }
 
 /// The rows whose names begin so.
-pub fn rows<R: Wait + CpuClock + Print>(
+pub fn rows<R: Wait + Threads + CpuClock + Print + Sync>(
     rt: &R,
     alloc: Global,
-    wanted: &str,
+    wanted: Wanted<'_>,
 ) -> Result<(), BenchError> {
+    let row = Row {
+        name: "value of a word: load",
+        capacity: 1,
+        steps: 3,
+        together: true,
+    };
+    if row.is_wanted(wanted) {
+        loads_row(rt, alloc, &row)?;
+    }
     of_words::<u64, 1, R>(
         rt,
         alloc,

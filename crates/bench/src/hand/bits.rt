@@ -3,6 +3,7 @@ ghost use Rattle.std.specs.Prelude.{◌≡◌, ◌+◌, ◌*◌, ◌<◌, ◌≤
 
 use super::Words;
 use crate::timing::Timed;
+use crate::together::Many;
 use std::alloc::{AllocError, Global};
 use std::sync::Wait;
 
@@ -160,6 +161,19 @@ impl Timed for Bits {
     }
 }
 
+impl Many for Bits {
+    fn another(&mut self) -> Option<Bits> {
+        let words = self.words.another()?;
+        Some(Bits {
+            words,
+            capacity: self.capacity,
+            elements: self.elements,
+            next: 0,
+            calls: self.calls,
+        })
+    }
+}
+
 /// Counts, each of one place.
 #[derive(Drop)]
 pub struct Counts {
@@ -211,5 +225,19 @@ impl Timed for Counts {
         } else {
             before
         }
+    }
+}
+
+impl Many for Counts {
+    fn another(&mut self) -> Option<Counts> {
+        if self.capacity == 0 {
+            return None;
+        }
+        let words = self.words.another()?;
+        Some(Counts {
+            words,
+            capacity: self.capacity,
+            takes_all: self.takes_all,
+        })
     }
 }

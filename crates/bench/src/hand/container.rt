@@ -4,6 +4,7 @@ ghost use Rattle.std.specs.Prelude.{◌≡◌, ◌+◌};
 use super::Words;
 use super::robust::{EMPTY, GREATEST, LOCKED};
 use crate::timing::Timed;
+use crate::together::Many;
 use std::alloc::{AllocError, Global};
 use std::sync::Wait;
 
@@ -153,5 +154,17 @@ impl Timed for Values {
             Some(index) => self.remove(rt, index, 7) as u64,
             None => 2,
         }
+    }
+}
+
+impl Many for Values {
+    fn another(&mut self) -> Option<Values> {
+        let words = self.words.another()?;
+        Some(Values {
+            words,
+            capacity: self.capacity,
+            next: self.next,
+            is_counted: self.is_counted,
+        })
     }
 }

@@ -3,6 +3,7 @@ ghost use Rattle.std.specs.Prelude.{◌≡◌, ◌+◌};
 
 use super::Words;
 use crate::timing::Timed;
+use crate::together::Many;
 use std::alloc::{AllocError, Global};
 use std::sync::Wait;
 
@@ -17,6 +18,8 @@ pub const GREATEST: u64 = u64::MAX - 1;
 pub enum Calls {
     /// Takes an index, and gives it back where there was one.
     AcquireAndRelease,
+    /// Takes an index.
+    Acquire,
     /// Asks how many are out.
     BorrowedIndices,
     /// Finds what an owner has.
@@ -165,9 +168,24 @@ impl Timed for Robust {
                 Some(index) => self.release(rt, index, 7) as u64,
                 None => 2,
             },
+            Calls::Acquire => match self.acquire(rt, 7) {
+                Some(index) => index as u64,
+                None => 1 << 32,
+            },
             Calls::BorrowedIndices => self.borrowed_indices(rt),
             Calls::Find => self.find(7),
             Calls::Recover => self.recover(rt, 9) as u64,
         }
+    }
+}
+
+impl Many for Robust {
+    fn another(&mut self) -> Option<Robust> {
+        let words = self.words.another()?;
+        Some(Robust {
+            words,
+            capacity: self.capacity,
+            calls: self.calls,
+        })
     }
 }

@@ -3,6 +3,7 @@ ghost use Rattle.std.specs.Prelude.{◌≡◌, ◌+◌, ◌*◌, ◌<◌, ◌≤
 
 use super::Words;
 use crate::timing::Timed;
+use crate::together::Many;
 use std::alloc::{AllocError, Global};
 use std::sync::Wait;
 
@@ -130,5 +131,17 @@ impl Timed for Unique {
             },
             Calls::BorrowedIndices => self.borrowed_indices(),
         }
+    }
+}
+
+impl Many for Unique {
+    fn another(&mut self) -> Option<Unique> {
+        let words = self.words.another()?;
+        Some(Unique {
+            words,
+            capacity: self.capacity,
+            flags: self.flags,
+            calls: self.calls,
+        })
     }
 }

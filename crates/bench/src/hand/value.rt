@@ -3,6 +3,7 @@ ghost use Rattle.std.specs.Prelude.{◌≡◌, ◌+◌, ◌<◌, ◌≤◌};
 
 use super::Words;
 use crate::timing::Timed;
+use crate::together::Many;
 use std::alloc::{AllocError, Global};
 use std::sync::Wait;
 
@@ -83,5 +84,16 @@ impl<const N: usize> Timed for Value<N> {
         }
         let value = self.load(rt);
         if N > 0 { value[0] } else { 0 }
+    }
+}
+
+impl<const N: usize> Many for Value<N> {
+    fn another(&mut self) -> Option<Value<N>> {
+        let words = self.words.another()?;
+        Some(Value {
+            words,
+            next: self.next,
+            stores: self.stores,
+        })
     }
 }
