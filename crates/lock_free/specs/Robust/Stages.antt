@@ -189,6 +189,18 @@ abbrev pub HasPassed : ℕ → After Recover ReleaseState → Type 0
 HasPassed first (GoOn d) = HasPassedTo first d.stage
 HasPassed first (Done state) = ⊥
 
+-- a call that has come to a cell goes past it, and any other stays
+abbrev pub PassesCells : Recover → recovers.RecoverStage → After Recover ReleaseState → Type 0
+PassesCells call (recovers.TheVariants.LoadsCell index) after = HasPassed index after
+PassesCells call stage after = after ≡ GoOn call
+
+-- a call that has come past its last cell takes its last step, and any other stays
+abbrev pub LooksAgain : Recover → ReleaseMode → recovers.RecoverStage
+    → After Recover ReleaseState → Type 0
+LooksAgain call mode recovers.TheVariants.LoadsCounterAgain after =
+    (k : ℕ) × (after ≡ recover_after call mode k)
+LooksAgain call mode stage after = after ≡ GoOn call
+
 -- an exchange that emptied its cell
 abbrev pub stage_frees : recovers.RecoverStage → Bool
 stage_frees recovers.TheVariants.LoadsCounter = false

@@ -98,10 +98,3 @@ recover_rule mode base v c room key words slots id sized known at = stage_owes m
 pub recover_goes : (v w : View) (a : After Recover ReleaseState) (room : Unit {0}) → Next capacity_seen (At RecoverStands) RecoverEnds v a room w → RecoverGoes v a w
 recover_goes v w (GoOn d) room h = h
 recover_goes v w (Done state) room h = h
-
--- the load of a cell leaves the view, whatever stands there
-pub passes_goes : (mode : ReleaseMode) (v : View) (c : Recover) (index k : ℕ) → c.capacity ≡ v.capacity → RecoverStage v (recovers.TheVariants.LoadsCell index) → k < 18446744073709551616 → RecoverGoes v (recover_takes c (recovers.TheVariants.LoadsCell index) mode k) v
-passes_goes mode v c index k same at small =
-    by_eq (λ a. RecoverGoes v a v) k empty (recover_comes_to c (index + 1)) (GoOn (at_recover c (recovers.TheVariants.Asks index k)))
-    (λ e. comes mode v c same tt (index + 1) at.0)
-    (λ ne. (refl, (same, (at.0, at.1, (let n = ne in omega arith)))))

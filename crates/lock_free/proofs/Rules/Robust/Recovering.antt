@@ -1,5 +1,5 @@
 -- What the closures of a recovery were called with so far.
-use Rattle.std.proofs.Common.{◌≡◌, ℕ, ◌+◌, ◌<◌, ◌≤◌, nat_lt, Bool, true, false, true≢false, List, [], ◌∷◌, ◌++◌, refl, sym, ap, ◌∙◌, subst, arith, if◌then◌else◌}
+use Rattle.std.proofs.Common.{◌≡◌, ◌⊎◌, ℕ, ◌+◌, ◌<◌, ◌≤◌, nat_lt, Bool, true, false, true≢false, List, [], ◌∷◌, ◌++◌, inl, inr, ⊎_elim, refl, sym, ap, ◌∙◌, subst, arith, if◌then◌else◌}
 use Rattle.std.specs.List.{All, FoldsTo}
 use Rattle.std.proofs.lemmas.Fn.{FoldsTo-push}
 use Rattle.std.proofs.lemmas.List.Elements.{All-nil, All-push, All-weaker, Contains-push, Contains-append_left}
@@ -19,7 +19,7 @@ use Rattle.steps.specs.Indices.Robust.Parts.{empty, locked, raise_after, lock_af
 use Rattle.steps.specs.Indices.Robust.Recover.{at_recover, recover_comes_to, recover_raised, recover_locked, recover_takes}
 use Rattle.lock_free.specs.declared.robust.view.View.{View}
 use Rattle.lock_free.specs.Robust.Callable.{Owned, Asked, IsOwned, TheyAscend, QuestionsAscend, WasAgreed, asks, tells, TakesQuestions, TakesFreed, HasVisited}
-use Rattle.lock_free.specs.Robust.Stages.{RecoverStage, RecoverStands, RecoverAsks, RecoverMoves, GoesQuietly, HasPassedTo, HasPassed, has_freed}
+use Rattle.lock_free.specs.Robust.Stages.{RecoverStage, RecoverStands, RecoverGoes, RecoverAsks, RecoverMoves, GoesQuietly, HasPassedTo, HasPassed, PassesCells, LooksAgain, has_freed}
 
 abbrev owned : ℕ → ℕ → Owned
 owned owner index = record { owner = owner; index = index }
@@ -32,15 +32,6 @@ AskedBelow low xs = All (λ (a : Asked). a.of.index < low) xs
 
 abbrev ToldBelow : ℕ → List Owned → Type 0
 ToldBelow low xs = All (λ (o : Owned). o.index < low) xs
-
--- a load of a cell leads there
-pub passes : (c : Recover) (first index k : ℕ) (mode : ReleaseMode) → first ≤ index → HasPassed first (recover_takes c (recovers.TheVariants.LoadsCell index) mode k)
-passes c first index k mode le =
-    by_eq (HasPassed first) k empty (recover_comes_to c (index + 1)) (GoOn (at_recover c (recovers.TheVariants.Asks index k)))
-    (λ e. by_test (λ stage. HasPassed first (GoOn (at_recover c stage))) (nat_lt (index + 1) c.capacity) (recovers.TheVariants.LoadsCell (index + 1)) recovers.TheVariants.LoadsCounterAgain
-    (λ t. omega arith)
-    (λ t. tt))
-    (λ ne. le)
 
 module _ {F S : Type 0} (step : F → ℕ → ℕ → Bool → F → Type 0) (tell : S → ℕ → ℕ → S → Type 0) (v : View) (f : F) (s : S) where
   -- the calls that led to p and q, at indices below these
@@ -247,6 +238,71 @@ module _ {F S : Type 0} (step : F → ℕ → ℕ → Bool → F → Type 0) (te
   may_ask takes frees (recovers.TheVariants.Raises index raise) at p q so = tt
   may_ask takes frees (recovers.TheVariants.Locks index lock) at p q so = tt
   may_ask takes frees recovers.TheVariants.LoadsCounterAgain at p q so = tt
+
+-- ---- between two steps
+
+module _ {F S : Type 0} (step : F → ℕ → ℕ → Bool → F → Type 0) (tell : S → ℕ → ℕ → S → Type 0) (base : View) (f : F) (s : S) where
+  abbrev pub Between : View → Recover → F → S → Type 0
+  Between v call p x = (v ≡ base) × RecoverStands base call × SoFar step tell base f s call.stage p x
+
+  pub ended : (v : View) (call : Recover) (mode : ReleaseMode) (state : ReleaseState) (p q : F) (x y : S) (after : After Recover ReleaseState) → Between v call p x → RecoverMoves step tell call mode call.stage p x after q y → after ≡ Done state → Onward step tell base f s (Done state) q y
+  ended v call mode state p q x y after so moves is =
+      subst (λ a. Onward step tell base f s a q y) is (onward step tell base f s call mode so.1 p q x y after so.2 moves)
+
+  pub between : (v w : View) (call next : Recover) (mode : ReleaseMode) (p q : F) (x y : S) (after : After Recover ReleaseState) → Between v call p x → RecoverGoes v after w → RecoverMoves step tell call mode call.stage p x after q y → after ≡ GoOn next → Between w next q y
+  between v w call next mode p q x y after so goes moves is =
+      let at = subst (λ a. RecoverGoes v a w) is goes in
+      let same : w ≡ base = at.0 ∙ so.0 in
+      (same, subst (λ z. RecoverStands z next) same at.1, subst (λ a. Onward step tell base f s a q y) is (onward step tell base f s call mode so.1 p q x y after so.2 moves))
+
+  -- ---- the first steps, which leave the closures
+
+  abbrev pub Moves : Recover → ReleaseMode → recovers.RecoverStage → F → S → After Recover ReleaseState → Type 0
+  Moves call mode stage p x after = (after ≡ GoOn call) ⊎ RecoverMoves step tell call mode stage p x after p x
+
+  pub passes_moves : (call : Recover) (mode : ReleaseMode) (p : F) (x : S) (after : After Recover ReleaseState) (stage : recovers.RecoverStage) → PassesCells call stage after → Moves call mode stage p x after
+  passes_moves call mode p x after recovers.TheVariants.LoadsCounter h = inl h
+  passes_moves call mode p x after (recovers.TheVariants.LoadsCell index) h = inr (refl, refl, h)
+  passes_moves call mode p x after (recovers.TheVariants.Asks index owner) h = inl h
+  passes_moves call mode p x after (recovers.TheVariants.EmptiesCell index owner) h = inl h
+  passes_moves call mode p x after (recovers.TheVariants.Raises index raise) h = inl h
+  passes_moves call mode p x after (recovers.TheVariants.Locks index lock) h = inl h
+  passes_moves call mode p x after recovers.TheVariants.LoadsCounterAgain h = inl h
+
+  pub looks_moves : (call : Recover) (mode : ReleaseMode) (p : F) (x : S) (after : After Recover ReleaseState) (stage : recovers.RecoverStage) → LooksAgain call mode stage after → Moves call mode stage p x after
+  looks_moves call mode p x after recovers.TheVariants.LoadsCounter h = inl h
+  looks_moves call mode p x after (recovers.TheVariants.LoadsCell index) h = inl h
+  looks_moves call mode p x after (recovers.TheVariants.Asks index owner) h = inl h
+  looks_moves call mode p x after (recovers.TheVariants.EmptiesCell index owner) h = inl h
+  looks_moves call mode p x after (recovers.TheVariants.Raises index raise) h = inl h
+  looks_moves call mode p x after (recovers.TheVariants.Locks index lock) h = inl h
+  looks_moves call mode p x after recovers.TheVariants.LoadsCounterAgain h = inr (refl, refl, h)
+
+  abbrev going : Recover → After Recover ReleaseState → Recover
+  going other (GoOn d) = d
+  going other (Done state) = other
+
+  abbrev going_on : After Recover ReleaseState → Bool
+  going_on (GoOn d) = true
+  going_on (Done state) = false
+
+  -- a step that may leave the call as it is
+  pub goes_or_stays : (v w : View) (call next : Recover) (mode : ReleaseMode) (p : F) (x : S) (after : After Recover ReleaseState) → Between v call p x → RecoverGoes v after w → Moves call mode call.stage p x after → after ≡ GoOn next → Between w next p x
+  goes_or_stays v w call next mode p x after so goes moves is =
+      ⊎_elim
+      (λ stays.
+      let at = subst (λ a. RecoverGoes v a w) stays goes in
+      subst (λ d. Between w d p x) (ap (going call) (sym stays ∙ is)) (at.0 ∙ so.0, so.1, so.2))
+      (λ m. between v w call next mode p p x x after so goes m is) moves
+
+  pub ends_or_stays : (v : View) (call : Recover) (mode : ReleaseMode) (state : ReleaseState) (p : F) (x : S) (after : After Recover ReleaseState) → Between v call p x → Moves call mode call.stage p x after → after ≡ Done state → Onward step tell base f s (Done state) p x
+  ends_or_stays v call mode state p x after so moves is =
+      ⊎_elim
+      (λ stays. let no : going_on (GoOn call) ≡ going_on (Done state) = ap going_on (sym stays ∙ is) in absurd (true≢false no))
+      (λ m. ended v call mode state p p x x after so m is) moves
+
+  pub asked : {pre : F → ℕ → ℕ → Type 0} {may : S → ℕ → ℕ → Type 0} (v : View) (call : Recover) (p : F) (x : S) → (base.locked ≡ false → TakesQuestions pre step base.capacity f) → (base.locked ≡ false → TakesFreed step may tell base.capacity f s) → Between v call p x → RecoverAsks pre may call.stage p x
+  asked v call p x questions freed so = may_ask step tell base f s questions freed call.stage so.1.1 p x so.2
 
 -- ---- the closures at an equal capacity
 

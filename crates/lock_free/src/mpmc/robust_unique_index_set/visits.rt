@@ -1,14 +1,15 @@
 //! The calls on a set that come to its indices: find and recover.
-ghost use Rattle.std.specs.Prelude.{◌≡◌, ◌+◌, ◌<◌, ℕ, false, IsTrue, IsFalse, IfSome};
+ghost use Rattle.std.specs.Prelude.{◌≡◌, ◌+◌, ◌<◌, ℕ, false, IsTrue, IsFalse};
 ghost use Rattle.steps.specs.declared.ask.After.TheVariants.{GoOn};
 ghost use Rattle.steps.specs.declared.enums.CallbackProgression.TheVariants.{Continue};
 ghost use Rattle.steps.specs.declared.indices.enums.ReleaseMode.{ReleaseMode as Mode};
 ghost use Rattle.steps.specs.Indices.Robust.Find.{find_after};
+ghost use Rattle.steps.specs.Indices.Robust.Parts.{empty};
 ghost use Rattle.steps.specs.Indices.Robust.Recover.{recover_after};
 ghost use Rattle.lock_free.specs.Bits.Callable.{TakesPlaces};
 ghost use Rattle.lock_free.specs.Robust.Callable.{HasFound, TakesQuestions, TakesFreed, HasVisited};
 ghost use Rattle.lock_free.specs.Robust.Calls.{HasRecovered};
-ghost use Rattle.lock_free.specs.Robust.Stages.{FindStands, FindAsks, FindMoves, RecoverStage as StandsAt, RecoverStands, RecoverGoes, HasPassed, RecoverAsks, RecoverMoves, has_freed};
+ghost use Rattle.lock_free.specs.Robust.Stages.{FindStands, FindAsks, FindMoves, RecoverStage as StandsAt, RecoverStands, RecoverGoes, HasPassed, PassesCells, LooksAgain, RecoverAsks, RecoverMoves, has_freed};
 ghost use Rattle.steps.specs.declared.indices.robust.recover.RecoverStage.TheVariants as stages;
 ghost use Rattle.lock_free.specs.RobustUniqueIndexSet.{view, set_of, capacity_of, IsPassOf};
 
@@ -109,16 +110,45 @@ impl Pass {
         let mut cell = first as usize;
         'cells: loop {
             let found = self.load_cell(cell);
-            match passed_next(capacity, cell, found) {
-                Some(next) => cell = next,
-                None => {
-                    let here = Recover {
-                        capacity,
-                        stage: RecoverStage::LoadsCell { index: cell as u32 },
-                    };
-                    return here.take(&mode, &mut (), found);
-                }
+            if found != EMPTY {
+                let here = at_cell(capacity, cell as u32);
+                return here.take(&mode, &mut (), found);
             }
+            cell = passed_next(capacity, cell);
+            if cell >= capacity as usize {
+                let last = at_cell(capacity, capacity - 1);
+                return last.take(&mode, &mut (), found);
+            }
+        }
+    }
+
+    /// Takes the steps of a call that has come to its first cell, and leaves any other call.
+    #[inline(always)]
+    fn pass_first(&mut self, call: Recover, mode: ReleaseMode) -> After<Recover, ReleaseState>
+        requires { RecoverStands (view self.old) call }
+        ensures set { set_of self.new ≡ set_of self.old }
+        ensures goes { RecoverGoes (view self.old) result (view self.new) }
+        ensures passed { PassesCells call call.stage result }
+    {
+        let stage = call.stage;
+        match stage {
+            RecoverStage::LoadsCell { index } => self.pass_over(index, mode),
+            _ => After::GoOn(call),
+        }
+    }
+
+    /// Takes the last step of a call that has come past its last cell, and leaves any other call.
+    #[inline(always)]
+    fn look_again(&mut self, call: Recover, mode: ReleaseMode) -> After<Recover, ReleaseState>
+        requires { RecoverStands (view self.old) call }
+        ensures set { set_of self.new ≡ set_of self.old }
+        ensures goes { RecoverGoes (view self.old) result (view self.new) }
+        ensures looked { LooksAgain call mode call.stage result }
+    {
+        let stage = call.stage;
+        match stage {
+            RecoverStage::LoadsCounterAgain => self.step_recover(call, mode),
+            _ => After::GoOn(call),
         }
     }
 
@@ -181,9 +211,17 @@ impl Pass {
             (λ s o i t. S.step s o i tt t) (view self.old).capacity (view self.old).locked
             predicate recovered result.1 result.2 }
     {
-        // The first step stands by itself, so that a compiler sees at which stage the call is.
-        let first = self.step_recover(Recover::new(self.capacity), mode);
-        let mut call = match first {
+        // The first turns stand by themselves, so that a compiler sees at each of them at which stage the call is: a
+        // recovery that finds nothing has no others.
+        let call = match self.step_recover(Recover::new(self.capacity), mode) {
+            After::GoOn(next) => next,
+            After::Done(state) => return (state, predicate, recovered),
+        };
+        let call = match self.pass_first(call, mode) {
+            After::GoOn(next) => next,
+            After::Done(state) => return (state, predicate, recovered),
+        };
+        let mut call = match self.look_again(call, mode) {
             After::GoOn(next) => next,
             After::Done(state) => return (state, predicate, recovered),
         };
@@ -202,23 +240,26 @@ impl Pass {
     }
 }
 
-/// The cell to which a recovery goes on from one in which it finds this, if all that it does is to pass over it.
+/// The cell behind an empty one, to which a recovery goes on if there is one.
 #[inline(always)]
-fn passed_next(capacity: u32, cell: usize, found: u64) -> Option<usize>
+fn passed_next(capacity: u32, cell: usize) -> usize
     requires { cell < capacity }
-    ensures next { IfSome result (λ next. (next ≡ cell + 1) × (next < capacity)) }
-    ensures after { IfSome result (λ next. (mode : Mode)
-        → recover_after (record { capacity = capacity; stage = stages.LoadsCell cell }) mode found
-        ≡ GoOn (record { capacity = capacity; stage = stages.LoadsCell next })) }
+    ensures next { result ≡ cell + 1 }
+    ensures after { result < capacity → (mode : Mode)
+        → recover_after (record { capacity = capacity; stage = stages.LoadsCell cell }) mode empty
+        ≡ GoOn (record { capacity = capacity; stage = stages.LoadsCell result }) }
 {
-    if found != EMPTY {
-        return None;
-    }
-    let next = cell + 1;
-    if next < capacity as usize {
-        Some(next)
-    } else {
-        None
+    cell + 1
+}
+
+/// A recovery that comes to a cell.
+#[inline(always)]
+fn at_cell(capacity: u32, index: u32) -> Recover
+    ensures { result ≡ record { capacity = capacity; stage = stages.LoadsCell index } }
+{
+    Recover {
+        capacity,
+        stage: RecoverStage::LoadsCell { index },
     }
 }
 
