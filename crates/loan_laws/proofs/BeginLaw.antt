@@ -41,7 +41,7 @@ use Rattle.loan_laws.proofs.Firsts.{is_that, is_below, has_it, loan_first, take_
 use Rattle.loan_laws.proofs.Invariant.{reclaims_in, HoldsNow, family}
 
 -- five rows, none of which refuses
-rows_passed : (a b c d e : Bool) → first_row ((a, BadIndex) ∷ (b, NoRole) ∷ (c, NotHeld) ∷ (d, OwnerIsDead) ∷ (e, OwnerLives) ∷ []) ≡ None
+pub rows_passed : (a b c d e : Bool) → first_row ((a, BadIndex) ∷ (b, NoRole) ∷ (c, NotHeld) ∷ (d, OwnerIsDead) ∷ (e, OwnerLives) ∷ []) ≡ None
     → (a ≡ false) × (b ≡ false) × (c ≡ false) × (d ≡ false) × (e ≡ false)
 rows_passed true b c d e r = absurd (cc)
 rows_passed false true c d e r = absurd (cc)
@@ -127,11 +127,11 @@ module _ {T : Type 0} (code : Coding T) (slots queue : ℕ) (s : Channel T) (lat
 -- ---- the law
 
 -- a call that begins on a loan channel is one of its own
-abbrev IsOwn : {T : Type 0} → ℕ → Book → Start T → Flight T → Type 0
+abbrev pub IsOwn : {T : Type 0} → ℕ → Book → Start T → Flight T → Type 0
 IsOwn slots book (starts.Loan start) (flights.TheVariants.Loan flight) = first slots book start ≡ flight
 IsOwn slots book start flight = ⊥
 
-begins_own : {T : Type 0} (slots : ℕ) (book : Book) (start : Start T) (flight : Flight T) → first_of kinds.TheVariants.Loan slots start (kepts.TheVariants.Loan book) ≡ Some flight → IsOwn slots book start flight
+pub begins_own : {T : Type 0} (slots : ℕ) (book : Book) (start : Start T) (flight : Flight T) → first_of kinds.TheVariants.Loan slots start (kepts.TheVariants.Loan book) ≡ Some flight → IsOwn slots book start flight
 begins_own slots book (starts.Loan start) (flights.TheVariants.Loan flight) e = cc
 begins_own slots book (starts.Loan start) flight e = absurd (cc)
 begins_own slots book start flight e = absurd (cc)

@@ -5,14 +5,14 @@ use Rattle.steps.specs.Indices.Head.{flag_word, has_flag}
 use Rattle.model.specs.declared.event.Event.{Event}
 use Rattle.model.specs.declared.event.Item.{Item}
 use Rattle.model.specs.declared.event.Item.TheVariants.{Index}
-use Rattle.model.specs.Families.Loan.Promises.{sent_in, given_back_in, AreThose, KeepsBook, IsChannelBy, IsChannel, promise}
+use Rattle.model.specs.Families.Loan.Promises.{sent_in, given_back_in, AreThose, KeepsBook, LivesRight, IsChannelBy, IsChannel, promise}
 use Rattle.model.specs.Families.Loan.Reading.{Spot, Free, Waiting, Returning, spot_of, receiver_of, given_back, taken_back, queue_moments}
 use Rattle.model.specs.Families.Queues.Objects.{overflowing_list}
 use Rattle.model.specs.Families.Queues.Reading.{published, handed_out, waiting}
 use Rattle.model.specs.Objects.{IsLegal, standing}
 use Rattle.model.specs.Parties.{party_of}
 use Rattle.model.specs.Promises.{IsKeptBy}
-use Rattle.model.specs.Reading.{span_of}
+use Rattle.model.specs.Reading.{Each, span_of}
 use Rattle.model.specs.World.{Trace}
 use Rattle.model.proofs.Frame as frame
 use Rattle.index_laws.proofs.Core.{flag_within}
@@ -38,8 +38,8 @@ module _ {T : Type 0} where
   pub waiting_is : (events : List (Event T)) (rest : List (Item T)) → published events ≡ handed_out events ++ rest → waiting events ≡ rest
   waiting_is events rest book = ap (drop (length (handed_out events))) book ∙ drop_at (handed_out events) rest (length (handed_out events)) refl
 
-  channel_kept : (t : Trace T) (queue : ℕ) → (s : frame.Sound (family t.world.coding t.world.capacity queue) t) → IsChannel t
-  channel_kept t queue s =
+  channel_kept : (t : Trace T) (queue : ℕ) → (s : frame.Sound (family t.world.coding t.world.capacity queue) t) → Each LivesRight t.events → IsChannel t
+  channel_kept t queue s lives =
       let w = t.world in
       let k = s.state in
       let hold = s.holds in
@@ -69,6 +69,7 @@ module _ {T : Type 0} where
         moves = hold.moves;
         begins = hold.begins;
         answers = hold.answers;
+        lives = lives;
         passing = λ index p e. carried_open index (span_of p t.events) (hold.passing index p e);
         parties = λ index p by. subst (λ es. IsBy p (spot_of index es) → (p ≡ 0) ⊎ (p ≡ receiver_of es)) hold.same (parts.placed.parties index p) by;
         flags = λ index below. (λ some. claim_tells (spot_of index t.events) (sym (flag index below) ∙ some), λ ne. flag index below ∙ claim_told (spot_of index t.events) ne);
@@ -96,11 +97,11 @@ module _ {T : Type 0} where
         keeps = subst (λ es. KeepsBook k.book es) hold.same parts.placed.keeps;
       })
 
-  pub kept_by : (t : Trace T) (queue : ℕ) → 1 ≤ t.world.capacity → (s : frame.Sound (family t.world.coding t.world.capacity queue) t) → IsKeptBy promise t
-  kept_by t queue some s =
+  pub kept_by : (t : Trace T) (queue : ℕ) → 1 ≤ t.world.capacity → (s : frame.Sound (family t.world.coding t.world.capacity queue) t) → Each LivesRight t.events → IsKeptBy promise t
+  kept_by t queue some s lives =
       let w = t.world in
       record {
         spans = s.inv.spans;
         progress = λ p. frame.progresses (family w.coding w.capacity queue) (bounds w.coding w.capacity queue some) s.state p t.events w.changes (party_of p w.latest) (span_of p t.events) (s.inv.calls p) (s.inv.knows p);
-        promised = channel_kept t queue s;
+        promised = channel_kept t queue s lives;
       }

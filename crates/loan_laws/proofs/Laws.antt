@@ -17,13 +17,16 @@ use Rattle.model.specs.Coding.{Coding}
 use Rattle.model.specs.Families.{want_of, is_question, going_rows}
 use Rattle.model.specs.Families.Indices.Robust.Dead.{has_died}
 use Rattle.model.specs.Families.Loan.Calls as rows
+use Rattle.model.specs.Families.Loan.Promises.{LivesRight}
 use Rattle.model.specs.Parties.{party_of}
+use Rattle.model.specs.Reading.{Each}
 use Rattle.model.specs.Refusals.{refusal_of}
 use Rattle.model.specs.Rows.{first_row}
 use Rattle.model.specs.Turns.{old_of, after_turn, IsReached}
 use Rattle.model.specs.World.{Trace, opened, capacity_error, queue_error}
 use Rattle.model.proofs.Frame as frame
 use Rattle.model.proofs.Reached.{kept_by_runs}
+use Rattle.model.proofs.Readings.{Each-nil}
 use Rattle.model.proofs.Rows.{passes}
 use Rattle.model.proofs.Scenes.{asked, StandsThere, stands_there, ComesFrom, comes_from}
 use Rattle.loan_laws.proofs.Asks.{never_asks}
@@ -35,6 +38,7 @@ use Rattle.loan_laws.proofs.GiveUpStep.{give_up_releases}
 use Rattle.loan_laws.proofs.Invariant.{family}
 use Rattle.loan_laws.proofs.LoanStep.{loan_acquires}
 use Rattle.loan_laws.proofs.Lives.{lives}
+use Rattle.loan_laws.proofs.Living.{turn_lives}
 use Rattle.loan_laws.proofs.Loans.{loan_at}
 use Rattle.loan_laws.proofs.Opens.{slots_are, queue_is, opening_sound}
 use Rattle.loan_laws.proofs.ReceiveSteps.{receive_comes}
@@ -93,7 +97,7 @@ module _ {T : Type 0} (code : Coding T) (slots queue : ℕ) (t : Trace T) (sound
 
   comes : (p : ℕ) (start : Start T) (flight : Flight T) → first_row (going_rows t.world.coding t.world.kept (Some flight) None) ≡ None → StandsThere (channel code slots queue) t sound p x since start flight
       → ComesFrom (channel code slots queue) t sound p x since code (words_in sound.state) (kepts.TheVariants.Loan sound.state.book) start flight
-  comes p (starts.TheVariants.Loan start) (flights.TheVariants.Loan flight) r there = call_comes p start flight (lives code slots queue t sound flight r) there
+  comes p (starts.TheVariants.Loan start) (flights.TheVariants.Loan flight) r there = call_comes p start flight (lives code slots queue t sound flight None r) there
   comes p start flight r there = absurd there.at
 
   step_comes : (p : ℕ) (flight : Flight T) → first_row (going_rows t.world.coding t.world.kept (Some flight) None) ≡ None → party_of p t.world.latest ≡ Some x → x.doing ≡ Going flight since
@@ -122,21 +126,27 @@ module _ {T : Type 0} (code : Coding T) (slots queue : ℕ) where
         death = λ t owner s may. death_comes code slots queue t owner s may;
       }
 
--- a machine that was reached is a sound one of some second number
-pub reached : {T : Type 0} (t : Trace T) → t.world.kind ≡ kinds.TheVariants.Loan → IsReached t → (queue : ℕ) × frame.Sound (family t.world.coding t.world.capacity queue) t
+-- a machine that was reached is a sound one of some second number, and its dead do nothing more
+pub reached : {T : Type 0} (t : Trace T) → t.world.kind ≡ kinds.TheVariants.Loan → IsReached t → (queue : ℕ) × frame.Sound (family t.world.coding t.world.capacity queue) t × Each LivesRight t.events
 reached {T} t is r = kept_by_runs IsSound keeps t first r
   where
     IsSound : Trace T → Type 0
-    IsSound u = (queue : ℕ) × frame.Sound (family t.world.coding t.world.capacity queue) u
+    IsSound u = (queue : ℕ) × frame.Sound (family t.world.coding t.world.capacity queue) u × Each LivesRight u.events
 
     keeps : (u : Trace T) (turn : Turn T) → refusal_of u.world turn ≡ None → IsSound u → IsSound (after_turn u turn)
     keeps u turn e h =
-        let passed = passes u.world turn e in
-        (h.0, frame.turn_sound (family t.world.coding t.world.capacity h.0) (λ t. t.world.turns < 2 ^ 64 - 2) (laws t.world.coding t.world.capacity h.0) u turn passed.on passed.turns h.1)
+        let passed = passes u.world turn e in (
+          h.0,
+          frame.turn_sound (family t.world.coding t.world.capacity h.0) (λ t. t.world.turns < 2 ^ 64 - 2) (laws t.world.coding t.world.capacity h.0) u turn passed.on passed.turns h.1,
+          turn_lives t.world.coding t.world.capacity h.0 u h.1 turn passed.on h.2,
+        )
 
     first : (queue : ℕ) → queue_error t.world.kind queue ≡ None → IsSound (opened t.world.coding t.world.kind t.world.capacity queue t.world.parties)
     first queue queued =
         let w = t.world in
         let few = slots_are w.capacity (subst (λ kind. capacity_error kind w.capacity ≡ None) is r.admitted) in
-        let fits = queue_is queue (subst (λ kind. queue_error kind queue ≡ None) is queued) in
-        (queue, subst (λ kind. frame.Sound (family w.coding w.capacity queue) (opened w.coding kind w.capacity queue w.parties)) (sym is) (opening_sound w.capacity queue few.0 few.1 fits.0 fits.1 w.coding w.parties))
+        let fits = queue_is queue (subst (λ kind. queue_error kind queue ≡ None) is queued) in (
+          queue,
+          subst (λ kind. frame.Sound (family w.coding w.capacity queue) (opened w.coding kind w.capacity queue w.parties)) (sym is) (opening_sound w.capacity queue few.0 few.1 fits.0 fits.1 w.coding w.parties),
+          Each-nil _,
+        )

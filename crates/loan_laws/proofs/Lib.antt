@@ -25,6 +25,7 @@ pub mod Knows
 pub mod Laws
 pub mod Lists
 pub mod Lives
+pub mod Living
 pub mod LoanStep
 pub mod Loans
 pub mod Mine

@@ -1,5 +1,5 @@
 -- Who goes on with a call lives, since the call has passed its rows.
-use Rattle.std.proofs.Common.{◌≡◌, ℕ, false, Some, None, subst}
+use Rattle.std.proofs.Common.{◌≡◌, ℕ, Bool, false, Option, Some, None, subst}
 use Rattle.model.specs.declared.families.Flight as flights
 use Rattle.model.specs.declared.families.loan.calls.LoanFlight.{LoanFlight}
 use Rattle.model.specs.declared.turn.Refusal.TheVariants.{OwnerIsDead}
@@ -15,8 +15,8 @@ use Rattle.loan_laws.proofs.Channel.{kept_is}
 use Rattle.loan_laws.proofs.StepLaw.{channel}
 
 module _ {T : Type 0} (code : Coding T) (slots queue : ℕ) (t : Trace T) (sound : frame.Sound (channel code slots queue) t) (flight : LoanFlight) where
-  pub lives : first_row (going_rows t.world.coding t.world.kept (Some (flights.TheVariants.Loan flight)) None) ≡ None → has_died (party_of flight) sound.state.book.dead ≡ false
-  lives rows =
+  pub lives : (said : Option Bool) → first_row (going_rows t.world.coding t.world.kept (Some (flights.TheVariants.Loan flight)) said) ≡ None → has_died (party_of flight) sound.state.book.dead ≡ false
+  lives said rows =
       let is = kept_is t.world.kept t.world.words sound.state sound.fit in
       (row_passed (has_died (party_of flight) sound.state.book.dead) OwnerIsDead None
-      (subst (λ kept. first_row (going_rows t.world.coding kept (Some (flights.TheVariants.Loan flight)) None) ≡ None) is.0 rows)).0
+      (subst (λ kept. first_row (going_rows t.world.coding kept (Some (flights.TheVariants.Loan flight)) said) ≡ None) is.0 rows)).0

@@ -1,6 +1,7 @@
 -- The definitions of the loan channel at worked runs.
 use Rattle.std.proofs.Common.{◌≡◌, ℕ, Option, Some, None, List, [], ◌∷◌, ◌++◌, refl}
 use Rattle.model.specs.declared.event.Answer.TheVariants.{Index, Number, PoppedNone, PoppedIndex}
+use Rattle.model.specs.declared.event.Event.{Event}
 use Rattle.model.specs.declared.event.Event.TheVariants.{Begun, Published, HandedOut, Claimed, Freed, Died, Acted, Finished}
 use Rattle.model.specs.declared.event.Item.TheVariants as items
 use Rattle.model.specs.declared.event.Start.{Start}
@@ -10,10 +11,13 @@ use Rattle.model.specs.declared.turn.Refusal.{Refusal}
 use Rattle.model.specs.declared.turn.Refusal.TheVariants.{NoParty, NoRole, NotHeld, BadIndex, OwnerIsDead, OwnerLives}
 use Rattle.model.specs.declared.turn.Turn.{Turn}
 use Rattle.model.specs.declared.turn.Turn.TheVariants.{Begin, Next, Die}
+use Rattle.model.specs.Families.Loan.Promises.{LivesRight}
 use Rattle.model.specs.Families.Loan.Reading.{Free, With, spot_of, receiver_of}
+use Rattle.model.specs.Reading.{Each}
 use Rattle.model.specs.Refusals.{refusal_of}
 use Rattle.model.specs.Turns.{run}
 use Rattle.model.specs.World.{Trace, loan_opening}
+use Rattle.model.proofs.Readings.{AreRight, Each-append, Each-nil}
 use Rattle.model.proofs.Runs.{two_words, begins}
 
 abbrev loan : Start ℕ
@@ -133,3 +137,62 @@ pub of_the_dead : (refused_after (sent ++ Die 1 ∷ []) (Begin 1 receive) ≡ So
     × (refused_after sent (Die 3) ≡ Some NoParty)
     × (refused_after reclaimed (Begin 1 receive) ≡ Some NoRole)
 of_the_dead = (refl, refl, refl, refl, refl)
+
+-- ---- the dead do nothing more
+
+reclaimed_lives : AreRight LivesRight [] (ran_on reclaimed).events
+reclaimed_lives =
+    (refl, (refl, (refl, (refl, (refl, (tt, (refl, (refl, (refl, (refl, (refl, (refl, (refl, (refl, (refl, (refl, (refl, (refl, (refl, (refl, (refl, (refl, (refl, (refl, ((refl, refl), (refl, (refl, tt)))))))))))))))))))))))))))
+
+pub no_dead_goes_on : Each LivesRight (ran_on reclaimed).events
+no_dead_goes_on = Each-append LivesRight [] (ran_on reclaimed).events (Each-nil LivesRight) reclaimed_lives
+
+abbrev died : List (Event ℕ)
+died = (ran_on (sent ++ (Begin 1 receive ∷ Die 1 ∷ []))).events
+
+pub no_begin_of_the_dead : LivesRight died (Begun 1 receive) → ⊥
+no_begin_of_the_dead right = cc
+
+pub no_index_of_the_dead : LivesRight died (HandedOut 1 (items.Index 1)) → ⊥
+no_index_of_the_dead right = cc
+
+pub no_end_of_the_dead : LivesRight died (Finished 1 receive PoppedNone) → ⊥
+no_end_of_the_dead right = cc
+
+pub no_act_of_the_dead : LivesRight died (Acted 1 receive PoppedNone) → ⊥
+no_act_of_the_dead right = cc
+
+pub no_second_death : LivesRight died (Died 1) → ⊥
+no_second_death right = cc
+
+pub no_dead_in_a_run : Each LivesRight (died ++ Begun 1 receive ∷ []) → ⊥
+no_dead_in_a_run lives = no_begin_of_the_dead (lives died [] (Begun 1 receive) refl)
+
+pub no_reclaim_from_the_living : LivesRight (ran_on sent).events (Begun 0 reclaim) → ⊥
+no_reclaim_from_the_living right = let dead = right.1 in cc
+
+-- but a send that has stopped in a full queue acts as a receive makes room
+abbrev stopped : List (Turn ℕ)
+stopped = begins 0 loan 4 ++ (begins 0 (send 0) 4 ++ (begins 0 loan 4 ++ begins 0 (send 1) 4))
+
+pub send_of_the_dead_acts : (ran_on (stopped ++ (Die 0 ∷ begins 1 receive 4))).events
+    ≡ Begun 0 loan
+    ∷ Claimed 0 0
+    ∷ Finished 0 loan (Index 0)
+    ∷ Begun 0 (send 0)
+    ∷ Published 0 (items.Index 0)
+    ∷ Acted 0 (send 0) PoppedNone
+    ∷ Finished 0 (send 0) PoppedNone
+    ∷ Begun 0 loan
+    ∷ Claimed 0 1
+    ∷ Finished 0 loan (Index 1)
+    ∷ Begun 0 (send 1)
+    ∷ Published 0 (items.Index 1)
+    ∷ Died 0
+    ∷ Begun 1 receive
+    ∷ HandedOut 1 (items.Index 0)
+    ∷ Acted 1 receive (PoppedIndex 0)
+    ∷ Acted 0 (send 1) PoppedNone
+    ∷ Finished 1 receive (PoppedIndex 0)
+    ∷ []
+send_of_the_dead_acts = refl

@@ -1,5 +1,5 @@
 -- What holds of the machine of a loan channel, after any turns.
-use Rattle.std.specs.Prelude.{◌≡◌, ◌≢◌, ◌⊎◌, ◌↔◌, ℕ, ◌+◌, ◌<◌, true, Option, Some, None, Contains, AllPairs, List, [], ◌++◌, map, take, drop, slice_index, slice_index_or}
+use Rattle.std.specs.Prelude.{◌≡◌, ◌≢◌, ◌⊎◌, ◌↔◌, ℕ, ◌+◌, ◌<◌, true, false, Option, Some, None, IfSome, Contains, AllPairs, List, [], ◌++◌, map, take, drop, slice_index, slice_index_or}
 use Rattle.steps.specs.declared.ask.Ask.{Ask}
 use Rattle.steps.specs.declared.ask.Op.TheVariants.{Load}
 use Rattle.steps.specs.declared.indices.enums.UniqueIndexSetAcquireFailure.TheVariants as failures
@@ -11,7 +11,7 @@ use Rattle.steps.specs.Loan.Places.{place_at}
 use Rattle.model.specs.declared.event.Answer.{Answer}
 use Rattle.model.specs.declared.event.Answer.TheVariants.{PoppedNone, PoppedIndex, NoIndex}
 use Rattle.model.specs.declared.event.Event.{Event}
-use Rattle.model.specs.declared.event.Event.TheVariants.{Begun, Freed, Acted, Finished}
+use Rattle.model.specs.declared.event.Event.TheVariants.{Begun, Freed, Died, Acted, Finished}
 use Rattle.model.specs.declared.event.Item.{Item}
 use Rattle.model.specs.declared.event.Item.TheVariants.{Index}
 use Rattle.model.specs.declared.event.Start.{Start}
@@ -31,7 +31,7 @@ use Rattle.model.specs.Families.Queues.Objects.{overflowing_list}
 use Rattle.model.specs.Families.Queues.Reading.{published, handed_out, waiting}
 use Rattle.model.specs.Objects.{IsLegal, standing}
 use Rattle.model.specs.Promise.{Promise}
-use Rattle.model.specs.Reading.{Each, span_of, Span}
+use Rattle.model.specs.Reading.{Each, whose, span_of, Span}
 use Rattle.model.specs.Shape.{IsOpen}
 use Rattle.model.specs.Turns.{words_after}
 use Rattle.model.specs.World.{Trace}
@@ -97,6 +97,18 @@ module _ {T : Type 0} where
   BeginsRight before (Begun p (Loan start)) = p ≡ 0
   BeginsRight before e = Unit {0}
 
+  -- ---- the dead
+
+  -- Who has died begins no call, moves no index, ends no call and does not die again: the one event of a call of its own
+  -- that may come later is that its send acts, as a receive makes room. A reclaim begins only where the receiver has
+  -- died.
+  abbrev pub LivesRight : List (Event T) → Event T → Type 0
+  LivesRight before (Begun p (Loan calls.Reclaim)) =
+      (has_died_by p before ≡ false) × (has_died_by (receiver_of before) before ≡ true)
+  LivesRight before (Died p) = has_died_by p before ≡ false
+  LivesRight before (Acted p (Loan (calls.Send index)) PoppedNone) = Unit {0}
+  LivesRight before e = IfSome (whose e) (λ p. has_died_by p before ≡ false)
+
   -- ---- answers
 
   -- A loan fails only where no index is free, and never because of a lock. A take-back that has nothing finds that
@@ -142,6 +154,7 @@ module _ {T : Type 0} where
     pub moves : Each (MovesRight t.world.capacity) t.events
     pub begins : Each BeginsRight t.events
     pub answers : Each (AnswersRight t.world.capacity) t.events
+    pub lives : Each LivesRight t.events
     -- an index is in passing in a call that is under way, or has stopped
     pub passing : (index p : ℕ) → spot_of index t.events ≡ Passing p
         → IsOpen (λ call. Unit {0}) (λ wrote. Unit {0}) (span_of p t.events)
