@@ -1,6 +1,6 @@
 //! What a find of a container comes to, and what a recovery asks and frees, alone and between threads.
 use crate::user::User;
-use crate::values::change_many;
+use crate::values::two_change;
 use lock_free::mpmc::container::{
     CallbackProgression, Container, ContainerAddFailure, ContainerState, OwnerId,
 };
@@ -100,11 +100,11 @@ fn each_value_of_an_owner(rt: HostRuntime) -> Result<(), Fail> {
     let (container, pass) = Container::new(rt.alloc(), 4, 5)?;
     let mut user = User::new(&container, pass);
     for (value, of) in [(5u32, 1u64), (6, 2), (7, 1), (8, 1)] {
-        let owner = OwnerId::new(of).map_err(|_| "no owner")?;
-        user.adds(&rt, value, owner).map_err(|_| "no place")?;
+        let owner = OwnerId::new(of)?;
+        user.adds(&rt, value, owner)?;
     }
     for (of, stop, comes) in FINDS {
-        let owner = OwnerId::new(of).map_err(|_| "no owner")?;
+        let owner = OwnerId::new(of)?;
         assert_eq!(rt; find(&mut user, owner, stop), Some(comes));
     }
     Ok(())
@@ -127,13 +127,13 @@ const RECOVERIES: [Recovery; 5] = [
 fn dead_owners(rt: HostRuntime) -> Result<(), Fail> {
     let (container, pass) = Container::new(rt.alloc(), 3, 5)?;
     let mut user = User::new(&container, pass);
-    let one = OwnerId::new(1).map_err(|_| "no owner")?;
+    let one = OwnerId::new(1)?;
     for value in [5u32, 6, 7] {
-        user.adds(&rt, value, one).map_err(|_| "no place")?;
+        user.adds(&rt, value, one)?;
     }
     let mut state = user.state(&rt).ok_or("no memory")?;
     for (of, answers, mode, asked, (digits, number)) in RECOVERIES {
-        let dead = OwnerId::new(of).map_err(|_| "no owner")?;
+        let dead = OwnerId::new(of)?;
         assert_eq!(rt; recover(&rt, &mut user, dead, answers, mode), asked);
         assert_eq!(rt; user.updates(&rt, &mut state), Some(true));
         assert_eq!(rt; shown(&state), digits);
@@ -149,8 +149,8 @@ fn dead_owners(rt: HostRuntime) -> Result<(), Fail> {
 fn a_recovery_that_does_not_lock(rt: HostRuntime) -> Result<(), Fail> {
     let (container, pass) = Container::new(rt.alloc(), 1, 5)?;
     let mut user = User::new(&container, pass);
-    let one = OwnerId::new(1).map_err(|_| "no owner")?;
-    user.adds(&rt, 5u32, one).map_err(|_| "no place")?;
+    let one = OwnerId::new(1)?;
+    user.adds(&rt, 5u32, one)?;
     assert_eq!(rt;
         recover(&rt, &mut user, one, 1, KEEP),
         (5, ReleaseState::Unlocked)
@@ -170,7 +170,7 @@ fn left_over(rt: &impl Wait, alloc: Global, owner: OwnerId) -> Option<ContainerS
 
 #[test]
 fn state_without_container(rt: HostRuntime) -> Result<(), Fail> {
-    let owner = OwnerId::new(1).map_err(|_| "no owner")?;
+    let owner = OwnerId::new(1)?;
     let state = left_over(&rt, rt.alloc(), owner).ok_or("no state")?;
     assert_eq!(rt; (shown(&state), state.get(1)), (516, Some(&6)));
     Ok(())
@@ -226,6 +226,22 @@ fn recover_all(rt: &impl Wait, user: User<'_, (u64, u64)>, dead: OwnerId) -> (u6
     (sum, state)
 }
 
+/// Finds the values of one owner, and recovers another, each in a thread: whether the finds went well, and what the
+/// recovery came to.
+fn find_and_recover<R: Threads + Wait + Sync>(
+    rt: &R,
+    third: User<'_, (u64, u64)>,
+    fourth: User<'_, (u64, u64)>,
+    alive: OwnerId,
+    dead: OwnerId,
+) -> (bool, (u64, ReleaseState)) {
+    thread::join(
+        rt,
+        move || find_many(third, alive),
+        move || recover_all(rt, fourth, dead),
+    )
+}
+
 /// Two who add, replace and remove, one who finds the values of one, and one who recovers a third owner: whether all went
 /// well, what the recovery came to, and how many indices have an owner in the end.
 fn between<R: Threads + Wait + Sync>(
@@ -238,37 +254,22 @@ fn between<R: Threads + Wait + Sync>(
     let second = user.another()?;
     let third = user.another()?;
     let fourth = user.another()?;
-    let ((one, two), (three, recovered)) = thread::join(
+    let (changed, (found, recovered)) = thread::join(
         rt,
-        move || {
-            thread::join(
-                rt,
-                move || change_many(rt, first, owners.0),
-                move || change_many(rt, second, owners.1),
-            )
-        },
-        move || {
-            thread::join(
-                rt,
-                move || find_many(third, owners.0),
-                move || recover_all(rt, fourth, dead),
-            )
-        },
+        move || two_change(rt, first, second, owners),
+        move || find_and_recover(rt, third, fourth, owners.0, dead),
     );
-    Some((one && two && three, recovered, user.says(rt).0))
+    Some((changed && found, recovered, user.says(rt).0))
 }
 
 #[test]
 fn owners_between_threads(rt: HostRuntime) -> Result<(), Fail> {
     let (container, pass) = Container::new(rt.alloc(), 5, 1)?;
     let mut user = User::new(&container, pass);
-    let owners = (
-        OwnerId::new(1).map_err(|_| "no owner")?,
-        OwnerId::new(2).map_err(|_| "no owner")?,
-    );
-    let dead = OwnerId::new(3).map_err(|_| "no owner")?;
+    let owners = (OwnerId::new(1)?, OwnerId::new(2)?);
+    let dead = OwnerId::new(3)?;
     for n in [40u64, 2] {
-        user.adds(&rt, (n, n), dead).map_err(|_| "no place")?;
+        user.adds(&rt, (n, n), dead)?;
     }
     let comes = Some((true, (42, ReleaseState::Unlocked), 0));
     assert!(rt; between(&rt, user, owners, dead) == comes);

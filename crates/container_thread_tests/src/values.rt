@@ -33,8 +33,8 @@ fn one_value(rt: HostRuntime) -> Result<(), Fail> {
     let (fixed, pass) = FixedSizeContainer::<u32, 139>::new(rt.alloc(), 5)?;
     assert_eq!(rt; fixed.capacity(), 139);
     let mut user = User::new(&fixed, pass);
-    let owner = OwnerId::new(8192).map_err(|_| "no owner")?;
-    let handle = user.adds(&rt, 1234567, owner).map_err(|_| "no place")?;
+    let owner = OwnerId::new(8192)?;
+    let handle = user.adds(&rt, 1234567, owner)?;
     assert_eq!(rt; (handle.index(), handle.owner.value()), (0, 8192));
     let mut state = user.state(&rt).ok_or("no memory")?;
     assert_eq!(rt;
@@ -52,7 +52,7 @@ fn one_value(rt: HostRuntime) -> Result<(), Fail> {
         user.removes(&rt, &handle, ReleaseMode::Default),
         Err(FOREIGN)
     );
-    assert_eq!(rt; user.replaces(&handle, 7), Err(FOREIGN));
+    assert_eq!(rt; user.replaces(&handle, 7).err(), Some(FOREIGN));
     assert_eq!(rt; user.updates(&rt, &mut state), Some(false));
     assert_eq!(rt; user.says(&rt), (0, true, false));
     Ok(())
@@ -63,10 +63,10 @@ fn one_value(rt: HostRuntime) -> Result<(), Fail> {
 fn one_replaced(rt: HostRuntime) -> Result<(), Fail> {
     let (container, pass) = Container::new(rt.alloc(), 3, 5)?;
     let mut user = User::new(&container, pass);
-    let owner = OwnerId::new(1).map_err(|_| "no owner")?;
-    let handle = user.adds(&rt, 5, owner).map_err(|_| "no place")?;
+    let owner = OwnerId::new(1)?;
+    let handle = user.adds(&rt, 5, owner)?;
     let mut state = user.state(&rt).ok_or("no memory")?;
-    assert_eq!(rt; user.replaces(&handle, 6), Ok(()));
+    assert!(rt; user.replaces(&handle, 6).is_ok());
     assert_eq!(rt; shown(&state), (1, 5));
     assert_eq!(rt; user.updates(&rt, &mut state), Some(true));
     assert_eq!(rt; (shown(&state), state.get(0)), ((1, 6), Some(&6)));
@@ -74,7 +74,7 @@ fn one_replaced(rt: HostRuntime) -> Result<(), Fail> {
     assert_eq!(rt; (shown(&second), second.get(0)), ((1, 6), Some(&6)));
     let removed = user.removes(&rt, &handle, ReleaseMode::Default);
     assert_eq!(rt; removed, Ok(ReleaseState::Unlocked));
-    assert_eq!(rt; user.replaces(&handle, 7), Err(FOREIGN));
+    assert_eq!(rt; user.replaces(&handle, 7).err(), Some(FOREIGN));
     Ok(())
 }
 
@@ -99,9 +99,9 @@ fn what_of_containers_crosses_threads(rt: HostRuntime) {
 fn a_refused_state(rt: HostRuntime) -> Result<(), Fail> {
     let (container, pass) = Container::new(rt.alloc(), 3, 5)?;
     let mut user = User::new(&container, pass);
-    let owner = OwnerId::new(1).map_err(|_| "no owner")?;
+    let owner = OwnerId::new(1)?;
     for value in [5u32, 6] {
-        user.adds(&rt, value, owner).map_err(|_| "no place")?;
+        user.adds(&rt, value, owner)?;
     }
     let mut first = user.state(&rt).ok_or("no memory")?;
     let second = user.state(&rt);
@@ -115,23 +115,23 @@ fn a_refused_state(rt: HostRuntime) -> Result<(), Fail> {
 fn refuses(rt: &impl Wait, user: &mut User<'_, u32>, wrong: &ContainerHandle) -> bool {
     let removed = user.removes(rt, wrong, ReleaseMode::LockIfLastIndex);
     let replaced = user.replaces(wrong, 1);
-    removed == Err(FOREIGN) && replaced == Err(FOREIGN)
+    removed == Err(FOREIGN) && replaced.err() == Some(FOREIGN)
 }
 
 /// Handles and states of others are told apart, and a locked container stays so.
 #[test]
 fn foreign_and_locked(rt: HostRuntime) -> Result<(), Fail> {
-    let owner = OwnerId::new(1).map_err(|_| "no owner")?;
+    let owner = OwnerId::new(1)?;
     let (large, pass) = Container::new(rt.alloc(), 3, 5)?;
     let mut large = User::new(&large, pass);
     for value in [5u32, 6, 7] {
-        large.adds(&rt, value, owner).map_err(|_| "no place")?;
+        large.adds(&rt, value, owner)?;
     }
     assert!(rt; large.adds(&rt, 8, owner) == Err(ContainerAddFailure::OutOfSpace));
     let (small, pass) = Container::new(rt.alloc(), 1, 5)?;
     let mut small = User::new(&small, pass);
     let mut other = small.another().ok_or("no further pass")?;
-    let handle = small.adds(&rt, 9, owner).map_err(|_| "no place")?;
+    let handle = small.adds(&rt, 9, owner)?;
     let far = ContainerHandle {
         index: 2,
         owner,
@@ -165,7 +165,7 @@ fn foreign_and_locked(rt: HostRuntime) -> Result<(), Fail> {
 }
 
 /// Adds a pair of equal numbers, replaces it by another such, and removes it, many times: whether each went well.
-pub fn change_many(rt: &impl Wait, mut user: User<'_, (u64, u64)>, owner: OwnerId) -> bool {
+fn change_many(rt: &impl Wait, mut user: User<'_, (u64, u64)>, owner: OwnerId) -> bool {
     let mut well = true;
     for n in 0..300u64 {
         match user.adds(rt, (n, n), owner) {
@@ -207,6 +207,21 @@ fn look_many(
     Some((state, whole))
 }
 
+/// Whether all went well for two, each in a thread.
+pub fn two_change<R: Threads + Wait + Sync>(
+    rt: &R,
+    first: User<'_, (u64, u64)>,
+    second: User<'_, (u64, u64)>,
+    owners: (OwnerId, OwnerId),
+) -> bool {
+    let (one, two) = thread::join(
+        rt,
+        move || change_many(rt, first, owners.0),
+        move || change_many(rt, second, owners.1),
+    );
+    one && two
+}
+
 /// Two who add, replace and remove beside one who looks: whether all that was seen was whole, and how much stands at the
 /// end in the state that was brought up to date once more.
 fn between<R: Threads + Wait + Sync>(
@@ -217,29 +232,20 @@ fn between<R: Threads + Wait + Sync>(
     let first = user.another()?;
     let second = user.another()?;
     let third = user.another()?;
-    let (one, (two, seen)) = thread::join(
+    let (well, seen) = thread::join(
         rt,
-        move || change_many(rt, first, owners.0),
-        move || {
-            thread::join(
-                rt,
-                move || change_many(rt, second, owners.1),
-                move || look_many(rt, third),
-            )
-        },
+        move || two_change(rt, first, second, owners),
+        move || look_many(rt, third),
     );
     let (mut state, whole) = seen?;
     user.updates(rt, &mut state)?;
-    Some((one && two && whole, state.number()))
+    Some((well && whole, state.number()))
 }
 
 #[test]
 fn whole_pairs(rt: HostRuntime) -> Result<(), Fail> {
     let (container, pass) = Container::new(rt.alloc(), 3, 1)?;
-    let owners = (
-        OwnerId::new(1).map_err(|_| "no owner")?,
-        OwnerId::new(2).map_err(|_| "no owner")?,
-    );
+    let owners = (OwnerId::new(1)?, OwnerId::new(2)?);
     let user = User::new(&container, pass);
     let comes = between(&rt, user, owners).ok_or("no state")?;
     assert_eq!(rt; comes, (true, 0));

@@ -79,9 +79,9 @@ fn comes_to(rt: &impl Wait, user: &mut User<'_, Greatest>, owner: OwnerId) -> bo
 fn greatest_values(rt: HostRuntime) -> Result<(), Fail> {
     let (container, pass) = Container::new(rt.alloc(), 2, 9)?;
     let mut user = User::new(&container, pass);
-    let owner = OwnerId::new(1).map_err(|_| "no owner")?;
-    let handle = user.adds(&rt, FIRST, owner).map_err(|_| "no place")?;
-    user.adds(&rt, SECOND, owner).map_err(|_| "no place")?;
+    let owner = OwnerId::new(1)?;
+    let handle = user.adds(&rt, FIRST, owner)?;
+    user.adds(&rt, SECOND, owner)?;
     let mut state = user.state(&rt).ok_or("no memory")?;
     assert!(rt; (state.get(0), state.get(1)) == (Some(&FIRST), Some(&SECOND)));
     assert!(rt; user.replaces(&handle, THIRD).is_ok());

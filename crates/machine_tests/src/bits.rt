@@ -114,17 +114,49 @@ fn scripts_of_flags_and_counts(rt: HostRuntime) -> Result<(), Fail> {
 }
 
 impl Played {
-    /// Whether each of 5,000 places is set so often, each in so many turns.
-    fn sets_all(&mut self, times: u64, turns: u64) -> Result<bool, AllocError> {
+    fn sets(&mut self, place: u64, turns: u64) -> Result<bool, AllocError> {
+        let call = with(self.alloc, "set ", place)?;
+        self.begins(0, &call, turns)
+    }
+
+    /// Whether each of 5,000 places is set, each in so many turns.
+    fn sets_all(&mut self, turns: u64) -> Result<bool, AllocError> {
         let mut right = true;
-        for _ in 0..times {
-            for place in 0..5000u64 {
-                let call = with(self.alloc, "set ", place)?;
-                right &= self.begins(0, &call, turns)?;
-            }
+        for place in 0..5000u64 {
+            right &= self.sets(place, turns)?;
         }
         Ok(right)
     }
+
+    /// Whether the flags of 5,000 places are set and then reset.
+    fn resets_flags(&mut self) -> Result<bool, AllocError> {
+        Ok(
+            self.sets_all(2)?
+                && self.answers(0, "reset_all", 79, "done")?
+                && each_told(self.machine.events(), 0)
+                && self.answers(0, "reset_next", 5001, "none")?,
+        )
+    }
+
+    /// Whether 5,000 places are counted twice and then emptied.
+    fn empties_counts(&mut self) -> Result<bool, AllocError> {
+        Ok(
+            self.sets_all(1)?
+                && self.sets_all(1)?
+                && self.answers(0, "reset_all", 5000, "done")?
+                && each_told(self.machine.events(), 2)
+                && are_zeros(self.machine.words()),
+        )
+    }
+}
+
+fn are_zeros(words: &[u64]) -> bool {
+    for word in words {
+        if *word != 0 {
+            return false;
+        }
+    }
+    true
 }
 
 /// Whether the last events, before the end of the call, say of each place that this much was taken out of it, or of 0 that
@@ -144,40 +176,28 @@ fn each_told(events: &[Event<u128>], number: u64) -> bool {
     right
 }
 
-/// Whether the flags of 5,000 places are set and then reset.
-fn resets_flags(alloc: Global) -> Result<bool, AllocError> {
-    let Some(mut played) = opened(alloc, "bits 5000 1") else {
-        return Ok(false);
-    };
-    Ok(
-        played.sets_all(1, 2)?
-            && played.answers(0, "reset_all", 79, "done")?
-            && each_told(played.machine.events(), 0)
-            && played.answers(0, "reset_next", 5001, "none")?,
-    )
+fn are_reset(alloc: Global) -> Result<bool, AllocError> {
+    match opened(alloc, "bits 5000 1") {
+        Some(mut played) => played.resets_flags(),
+        None => Ok(false),
+    }
 }
 
-/// Whether 5,000 places are counted twice and then emptied.
-fn empties_counts(alloc: Global) -> Result<bool, AllocError> {
-    let Some(mut played) = opened(alloc, "counts 5000 1") else {
-        return Ok(false);
-    };
-    Ok(
-        played.sets_all(2, 1)?
-            && played.answers(0, "reset_all", 5000, "done")?
-            && each_told(played.machine.events(), 2)
-            && played.machine.words().iter().all(|count| *count == 0),
-    )
+fn are_emptied(alloc: Global) -> Result<bool, AllocError> {
+    match opened(alloc, "counts 5000 1") {
+        Some(mut played) => played.empties_counts(),
+        None => Ok(false),
+    }
 }
 
 #[test]
 fn five_thousand_flags(rt: HostRuntime) -> Result<(), Fail> {
-    assert!(rt; resets_flags(rt.alloc())?);
+    assert!(rt; are_reset(rt.alloc())?);
     Ok(())
 }
 
 #[test]
 fn five_thousand_counts(rt: HostRuntime) -> Result<(), Fail> {
-    assert!(rt; empties_counts(rt.alloc())?);
+    assert!(rt; are_emptied(rt.alloc())?);
     Ok(())
 }

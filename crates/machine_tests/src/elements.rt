@@ -13,6 +13,15 @@ fn value_of(index: u64) -> u64 {
     index.wrapping_mul(1_000_003)
 }
 
+/// What the state shows there, with every third value or without.
+fn shown_at(index: u64, are_gone: bool) -> Option<u128> {
+    if index >= 300 || (are_gone && index % 3 == 2) {
+        None
+    } else {
+        Some(value_of(index) as u128)
+    }
+}
+
 /// The call by which it comes there, for one of so many owners, from 1 on, in turn.
 fn add(alloc: Global, index: u64, owners: u64) -> Result<String, AllocError> {
     let owner = index.checked_rem(owners).unwrap_or(0).saturating_add(1);
@@ -62,12 +71,7 @@ impl Played {
     fn shows_all(&self, are_gone: bool) -> bool {
         let mut right = true;
         for index in 0..5000u64 {
-            let value = if index >= 300 || (are_gone && index % 3 == 2) {
-                None
-            } else {
-                Some(value_of(index) as u128)
-            };
-            right &= self.state_has(1, index as usize, value);
+            right &= self.state_has(1, index as usize, shown_at(index, are_gone));
         }
         right
     }
@@ -93,13 +97,16 @@ impl Played {
     }
 }
 
+fn are_gone_through(alloc: Global) -> Result<bool, AllocError> {
+    match opened(alloc, "container 5000 2") {
+        Some(mut played) => played.goes_through_all(),
+        None => Ok(false),
+    }
+}
+
 #[test]
 fn five_thousand_elements(rt: HostRuntime) -> Result<(), Fail> {
-    let is_right = match opened(rt.alloc(), "container 5000 2") {
-        Some(mut played) => played.goes_through_all()?,
-        None => false,
-    };
-    assert!(rt; is_right);
+    assert!(rt; are_gone_through(rt.alloc())?);
     Ok(())
 }
 

@@ -9,7 +9,7 @@ use schedule::bare::{
     is_going, line_of, line_of_refusal, made, read_command, read_words, state, step, text_of,
     under_way,
 };
-use schedule::grammar::Command;
+use schedule::grammar::{Command, Setup};
 use schedule::pen::Pen;
 use std::alloc::{AllocError, Global};
 use steps::indices::head::HeadDetails;
@@ -71,17 +71,21 @@ pub struct Played {
     pub machine: Machine<u128>,
 }
 
+fn played_on(alloc: Global, setup: Setup) -> Option<Played> {
+    match made(alloc, setup) {
+        Some(machine) => Some(Played {
+            alloc,
+            kind: setup.kind,
+            machine,
+        }),
+        None => None,
+    }
+}
+
 /// A machine, by the first line of a schedule, or None where it is not made.
 pub fn opened(alloc: Global, line: &str) -> Option<Played> {
     match read_words(line.as_bytes()) {
-        Ok(setup) => match made(alloc, setup) {
-            Some(machine) => Some(Played {
-                alloc,
-                kind: setup.kind,
-                machine,
-            }),
-            None => None,
-        },
+        Ok(setup) => played_on(alloc, setup),
         Err(_) => None,
     }
 }

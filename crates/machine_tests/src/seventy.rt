@@ -120,12 +120,15 @@ impl Played {
     }
 }
 
+fn are_recovered(alloc: Global) -> Result<bool, AllocError> {
+    match opened(alloc, "robust 70 2") {
+        Some(mut played) => played.recovers(),
+        None => Ok(false),
+    }
+}
+
 #[test]
 fn a_robust_set_of_seventy(rt: HostRuntime) -> Result<(), Fail> {
-    let recovered = match opened(rt.alloc(), "robust 70 2") {
-        Some(mut played) => played.recovers()?,
-        None => false,
-    };
-    assert!(rt; recovered);
+    assert!(rt; are_recovered(rt.alloc())?);
     Ok(())
 }

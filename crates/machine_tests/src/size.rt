@@ -1,11 +1,11 @@
 //! Runs of many turns, of large queues, of many parties and of calls that go back a thousand times.
 use crate::many::{Many, tells_rounds};
-use crate::script::{Row, Shows};
+use crate::script::{Played, Row, Shows, opened};
 use machine::event::{Answer, Event, Start};
 use machine::families::queues::QueueStart;
-use machine::turn::{Kind, Refusal, Turn};
+use machine::turn::{Refusal, Turn};
 use machine::{Machine, Stopped};
-use schedule::bare::{made_of, run, run_all};
+use schedule::bare::{run, run_all};
 use std::alloc::{AllocError, Global};
 use std::test::Fail;
 
@@ -105,31 +105,24 @@ fn many_turns(alloc: Global) -> Result<Vec<Turn<u128>>, AllocError> {
     Ok(turns)
 }
 
-#[test]
-fn ten_thousand_turns_by_one_run(rt: HostRuntime) -> Result<(), Fail> {
-    let turns = many_turns(rt.alloc())?;
-    let mut machine = made_of(rt.alloc(), Kind::IndexQueue, 3, 2)?;
-    assert!(rt; run(&mut machine, turns.as_slice()) == 10_004);
-    assert!(rt; tells_rounds(rt.alloc(), machine.events(), 1000)?);
-    assert!(rt; machine.words() == [1000, 1000, 0, 0, 999, 997, 998].as_slice());
-    Ok(())
+/// What a machine does by its lists of turns.
+#[derive(Clone, Copy)]
+enum Runs {
+    /// It takes the rounds by one run.
+    ByOne,
+    UpToARefusal,
+    /// It takes them and says why it stops.
+    Why,
 }
 
-#[test]
-fn run_takes_the_turns_up_to_a_refusal(rt: HostRuntime) -> Result<(), Fail> {
-    let mut machine = made_of(rt.alloc(), Kind::IndexQueue, 1, 1)?;
-    let turns: [Turn<u128>; 4] = [
-        Turn::Begin(0, Start::Queues(QueueStart::AcquireProducer)),
-        Turn::Next(0),
-        Turn::Next(0),
-        Turn::Begin(0, Start::Queues(QueueStart::PushIndex(7))),
-    ];
-    assert!(rt; run(&mut machine, &turns) == 2);
-    let push = [Turn::Begin(0, Start::Queues(QueueStart::PushIndex(7)))];
-    assert!(rt; run(&mut machine, &push) == 1);
-    assert!(rt; machine.events().len() == 3);
-    Ok(())
-}
+const FIRST: [Turn<u128>; 4] = [
+    Turn::Begin(0, Start::Queues(QueueStart::AcquireProducer)),
+    Turn::Next(0),
+    Turn::Next(0),
+    Turn::Begin(0, Start::Queues(QueueStart::PushIndex(7))),
+];
+
+const PUSH: [Turn<u128>; 1] = [Turn::Begin(0, Start::Queues(QueueStart::PushIndex(7)))];
 
 const POP: Turn<u128> = Turn::Begin(1, Start::Queues(QueueStart::Pop));
 
@@ -152,12 +145,62 @@ fn pops_none(machine: &mut Machine<u128>) -> bool {
         && run_all(machine, &[]) == Ok(())
 }
 
+impl Played {
+    fn takes_by_one(&mut self) -> Result<bool, AllocError> {
+        let turns = many_turns(self.alloc)?;
+        Ok(
+            run(&mut self.machine, turns.as_slice()) == 10_004
+                && self.machine.words() == [1000, 1000, 0, 0, 999, 997, 998].as_slice()
+                && tells_rounds(self.alloc, self.machine.events(), 1000)?,
+        )
+    }
+
+    fn takes_up_to_a_refusal(&mut self) -> bool {
+        run(&mut self.machine, &FIRST) == 2
+            && run(&mut self.machine, &PUSH) == 1
+            && self.machine.events().len() == 3
+    }
+
+    fn says_why(&mut self) -> Result<bool, AllocError> {
+        let mut turns = many_turns(self.alloc)?;
+        turns.extend_from_slice(&[Turn::Next(1), POP])?;
+        Ok(
+            stops(&mut self.machine, turns.as_slice(), 10_004, Refusal::Idle)
+                && pops_none(&mut self.machine),
+        )
+    }
+
+    fn runs(&mut self, runs: Runs) -> Result<bool, AllocError> {
+        match runs {
+            Runs::ByOne => self.takes_by_one(),
+            Runs::UpToARefusal => Ok(self.takes_up_to_a_refusal()),
+            Runs::Why => self.says_why(),
+        }
+    }
+}
+
+/// Whether a new machine does so.
+fn comes_out(alloc: Global, line: &str, runs: Runs) -> Result<bool, AllocError> {
+    match opened(alloc, line) {
+        Some(mut played) => played.runs(runs),
+        None => Ok(false),
+    }
+}
+
+#[test]
+fn ten_thousand_turns_by_one_run(rt: HostRuntime) -> Result<(), Fail> {
+    assert!(rt; comes_out(rt.alloc(), "index_queue 3 2", Runs::ByOne)?);
+    Ok(())
+}
+
+#[test]
+fn run_takes_the_turns_up_to_a_refusal(rt: HostRuntime) -> Result<(), Fail> {
+    assert!(rt; comes_out(rt.alloc(), "index_queue 1 1", Runs::UpToARefusal)?);
+    Ok(())
+}
+
 #[test]
 fn why_a_run_stopped(rt: HostRuntime) -> Result<(), Fail> {
-    let mut machine = made_of(rt.alloc(), Kind::IndexQueue, 3, 2)?;
-    let mut turns = many_turns(rt.alloc())?;
-    turns.extend_from_slice(&[Turn::Next(1), POP])?;
-    assert!(rt; stops(&mut machine, turns.as_slice(), 10_004, Refusal::Idle));
-    assert!(rt; pops_none(&mut machine));
+    assert!(rt; comes_out(rt.alloc(), "index_queue 3 2", Runs::Why)?);
     Ok(())
 }

@@ -3,18 +3,16 @@
 ghost use Rattle.std.specs.Prelude.{◌≡◌, ⊤};
 
 use machine::event::{Answer, Event, Item, Start};
-use machine::families::atomic::AtomicStart;
-use machine::families::bits::BitsStart;
-use machine::families::container::ContainerStart;
-use machine::families::indices::IndexStart;
-use machine::families::indices::robust::RobustStart;
-use machine::families::loan::LoanStart;
-use machine::families::queues::QueueStart;
-use machine::turn::Turn;
 use std::alloc::AllocError;
 use steps::container::enums::ContainerAddFailure;
 use steps::enums::OwnerId;
-use steps::indices::enums::{ReleaseMode, ReleaseState, UniqueIndexSetAcquireFailure};
+use steps::indices::enums::{ReleaseState, UniqueIndexSetAcquireFailure};
+
+mod calls;
+mod turns;
+
+use calls::call_of;
+pub use turns::turn_of;
 
 /// Any number.
 pub const ANY: u64 = u64::MAX;
@@ -162,26 +160,6 @@ impl Clone for Told {
     }
 }
 
-fn named(name: Name, place: u64, value: u128) -> Call {
-    Call {
-        name,
-        place,
-        owner: 0,
-        may_lock: false,
-        value,
-    }
-}
-
-fn owned(name: Name, place: u64, owner: OwnerId, mode: ReleaseMode, value: u128) -> Call {
-    Call {
-        name,
-        place,
-        owner: owner.value(),
-        may_lock: mode == ReleaseMode::LockIfLastIndex,
-        value,
-    }
-}
-
 fn of_index(number: u64) -> u128 {
     OF_INDEX | (number as u128)
 }
@@ -190,119 +168,6 @@ fn of_item(item: &Item<u128>) -> u128 {
     match item {
         Item::Index(number) => of_index(*number),
         Item::Value(value) => *value,
-    }
-}
-
-fn queue_call(start: QueueStart<u128>) -> Call {
-    match start {
-        QueueStart::AcquireProducer => named(Name::AcquireProducer, ANY, 0),
-        QueueStart::ReleaseProducer => named(Name::ReleaseProducer, ANY, 0),
-        QueueStart::AcquireConsumer => named(Name::AcquireConsumer, ANY, 0),
-        QueueStart::ReleaseConsumer => named(Name::ReleaseConsumer, ANY, 0),
-        QueueStart::PushIndex(number) => named(Name::Push, ANY, of_index(number)),
-        QueueStart::Push(value) => named(Name::Push, ANY, value),
-        QueueStart::Pop => named(Name::Pop, ANY, 0),
-        QueueStart::Len => named(Name::Len, ANY, 0),
-        QueueStart::IsEmpty => named(Name::IsEmpty, ANY, 0),
-        QueueStart::IsFull => named(Name::IsFull, ANY, 0),
-    }
-}
-
-fn value_call(start: AtomicStart<u128>) -> Call {
-    match start {
-        AtomicStart::AcquireProducer => named(Name::AcquireStoring, ANY, 0),
-        AtomicStart::ReleaseProducer => named(Name::ReleaseStoring, ANY, 0),
-        AtomicStart::Store(value) => named(Name::Store, ANY, value),
-        AtomicStart::Load => named(Name::Load, ANY, 0),
-    }
-}
-
-fn bits_call(start: BitsStart) -> Call {
-    match start {
-        BitsStart::Set(place) => named(Name::Set, place, 0),
-        BitsStart::ResetNext => named(Name::ResetNext, ANY, 0),
-        BitsStart::ResetAll => named(Name::ResetAll, ANY, 0),
-    }
-}
-
-fn index_call(start: IndexStart) -> Call {
-    match start {
-        IndexStart::Acquire => named(Name::Acquire, ANY, 0),
-        IndexStart::Release(index, mode) => Call {
-            name: Name::Release,
-            place: index,
-            owner: 0,
-            may_lock: mode == ReleaseMode::LockIfLastIndex,
-            value: 0,
-        },
-        IndexStart::BorrowedIndices => named(Name::BorrowedIndices, ANY, 0),
-        IndexStart::IsLocked => named(Name::IsLocked, ANY, 0),
-    }
-}
-
-/// A call of any owner.
-fn of_any(name: Name, mode: ReleaseMode) -> Call {
-    Call {
-        name,
-        place: ANY,
-        owner: ANY,
-        may_lock: mode == ReleaseMode::LockIfLastIndex,
-        value: 0,
-    }
-}
-
-fn robust_call(start: RobustStart) -> Call {
-    let keeps = ReleaseMode::Default;
-    match start {
-        RobustStart::Acquire(owner) => owned(Name::AcquireFor, ANY, owner, keeps, 0),
-        RobustStart::Release(index, owner, mode) => owned(Name::ReleaseOf, index, owner, mode, 0),
-        RobustStart::Find(owner) => owned(Name::FindFor, ANY, owner, keeps, 0),
-        RobustStart::Recover(mode) => of_any(Name::Recover, mode),
-        RobustStart::BorrowedIndices => of_any(Name::BorrowedByOwners, keeps),
-        RobustStart::IsLocked => of_any(Name::IsLockedForOwners, keeps),
-    }
-}
-
-fn container_call(start: ContainerStart<u128>) -> Call {
-    let keeps = ReleaseMode::Default;
-    match start {
-        ContainerStart::Add(value, owner) => owned(Name::Add, ANY, owner, keeps, value),
-        ContainerStart::Remove(index, owner, mode) => owned(Name::Remove, index, owner, mode, 0),
-        ContainerStart::Replace(index, value, owner) => {
-            owned(Name::Replace, index, owner, keeps, value)
-        }
-        ContainerStart::Find(owner) => owned(Name::FindOf, ANY, owner, keeps, 0),
-        ContainerStart::Recover(owner, mode) => owned(Name::RecoverOf, ANY, owner, mode, 0),
-        ContainerStart::GetState => of_any(Name::GetState, keeps),
-        ContainerStart::UpdateState => of_any(Name::UpdateState, keeps),
-        ContainerStart::Len => of_any(Name::LenOf, keeps),
-        ContainerStart::IsEmpty => of_any(Name::IsEmptyOf, keeps),
-        ContainerStart::IsLocked => of_any(Name::IsLockedOf, keeps),
-    }
-}
-
-fn loan_call(start: LoanStart) -> Call {
-    match start {
-        LoanStart::Loan => named(Name::Loan, ANY, 0),
-        LoanStart::Send(index) => named(Name::Send, index, 0),
-        LoanStart::GiveUp(index) => named(Name::GiveUp, index, 0),
-        LoanStart::TakeBack => named(Name::TakeBack, ANY, 0),
-        LoanStart::Receive => named(Name::Receive, ANY, 0),
-        LoanStart::GiveBack(index) => named(Name::GiveBack, index, 0),
-        LoanStart::Reclaim => named(Name::Reclaim, ANY, 0),
-    }
-}
-
-/// The call in names and numbers.
-fn call_of(start: &Start<u128>) -> Call {
-    match start {
-        Start::Queues(start) => queue_call(*start),
-        Start::Atomic(start) => value_call(*start),
-        Start::Bits(start) => bits_call(*start),
-        Start::Indices(start) => index_call(*start),
-        Start::Robust(start) => robust_call(*start),
-        Start::Container(start) => container_call(*start),
-        Start::Loan(start) => loan_call(*start),
     }
 }
 
@@ -451,87 +316,5 @@ pub fn told_of(event: &Event<u128>) -> Told {
         Event::Died(owner) => of_owner(What::Died, 0, 0, *owner),
         Event::Acted(party, start, answer) => of_end(What::Acted, *party, start, answer),
         Event::Finished(party, start, answer) => of_end(What::Finished, *party, start, answer),
-    }
-}
-
-fn push_of(value: u128) -> QueueStart<u128> {
-    if value < OF_INDEX {
-        QueueStart::Push(value)
-    } else {
-        QueueStart::PushIndex((value & 0xffff_ffff_ffff_ffff) as u64)
-    }
-}
-
-/// The call of a loan channel.
-fn loan_start(call: &Call) -> Option<Start<u128>> {
-    Some(Start::Loan(match call.name {
-        Name::Loan => LoanStart::Loan,
-        Name::Send => LoanStart::Send(call.place),
-        Name::GiveUp => LoanStart::GiveUp(call.place),
-        Name::TakeBack => LoanStart::TakeBack,
-        Name::Receive => LoanStart::Receive,
-        Name::GiveBack => LoanStart::GiveBack(call.place),
-        Name::Reclaim => LoanStart::Reclaim,
-        _ => return None,
-    }))
-}
-
-/// The call of a queue, a value, flags or indices that has no owner.
-fn plain_start(call: &Call, mode: ReleaseMode) -> Option<Start<u128>> {
-    Some(match call.name {
-        Name::AcquireProducer => Start::Queues(QueueStart::AcquireProducer),
-        Name::AcquireConsumer => Start::Queues(QueueStart::AcquireConsumer),
-        Name::Push => Start::Queues(push_of(call.value)),
-        Name::Pop => Start::Queues(QueueStart::Pop),
-        Name::Len => Start::Queues(QueueStart::Len),
-        Name::AcquireStoring => Start::Atomic(AtomicStart::AcquireProducer),
-        Name::Store => Start::Atomic(AtomicStart::Store(call.value)),
-        Name::Load => Start::Atomic(AtomicStart::Load),
-        Name::Set => Start::Bits(BitsStart::Set(call.place)),
-        Name::ResetNext => Start::Bits(BitsStart::ResetNext),
-        Name::ResetAll => Start::Bits(BitsStart::ResetAll),
-        Name::Acquire => Start::Indices(IndexStart::Acquire),
-        Name::Release => Start::Indices(IndexStart::Release(call.place, mode)),
-        _ => return loan_start(call),
-    })
-}
-
-/// The call of a container, or of a robust set.
-fn owned_start(call: &Call, owner: OwnerId, mode: ReleaseMode) -> Option<Start<u128>> {
-    Some(match call.name {
-        Name::AcquireFor => Start::Robust(RobustStart::Acquire(owner)),
-        Name::ReleaseOf => Start::Robust(RobustStart::Release(call.place, owner, mode)),
-        Name::Recover => Start::Robust(RobustStart::Recover(mode)),
-        Name::Add => Start::Container(ContainerStart::Add(call.value, owner)),
-        Name::Remove => Start::Container(ContainerStart::Remove(call.place, owner, mode)),
-        Name::Replace => Start::Container(ContainerStart::Replace(call.place, call.value, owner)),
-        Name::FindOf => Start::Container(ContainerStart::Find(owner)),
-        Name::RecoverOf => Start::Container(ContainerStart::Recover(owner, mode)),
-        Name::GetState => Start::Container(ContainerStart::GetState),
-        Name::UpdateState => Start::Container(ContainerStart::UpdateState),
-        Name::LenOf => Start::Container(ContainerStart::Len),
-        Name::IsEmptyOf => Start::Container(ContainerStart::IsEmpty),
-        Name::IsLockedOf => Start::Container(ContainerStart::IsLocked),
-        _ => return plain_start(call, mode),
-    })
-}
-
-/// The turn by which the party begins this call, or its owner dies.
-pub fn turn_of(party: u32, call: &Call) -> Option<Turn<u128>> {
-    let number = if call.owner == ANY { 0 } else { call.owner };
-    let Ok(owner) = OwnerId::new(number) else {
-        return None;
-    };
-    if call.name == Name::Dies {
-        return Some(Turn::Die(owner));
-    }
-    let mode = if call.may_lock {
-        ReleaseMode::LockIfLastIndex
-    } else {
-        ReleaseMode::Default
-    };
-    match owned_start(call, owner, mode) {
-        Some(start) => Some(Turn::Begin(party, start)),
-        None => None,
     }
 }

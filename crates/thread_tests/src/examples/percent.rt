@@ -11,7 +11,7 @@ use std::sync::Wait;
 use std::test::Fail;
 
 /// A number of at most 100.
-#[derive(Clone, Copy, PartialEq)]
+#[derive(Clone, Copy)]
 struct Percent {
     value: u8,
     ghost small: { value ≤ 100 },

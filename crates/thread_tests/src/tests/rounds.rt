@@ -99,19 +99,43 @@ pub fn fills_and_empties<E: Kind<T>, T: Words + Numbered + PartialEq + Drop>(
     right
 }
 
+/// Pushes a value until it is taken.
+fn push_one<E: Kind<T>, T: Words + Numbered + Drop>(
+    rt: &impl Wait,
+    producer: &mut Producer<'_, E, T>,
+    number: u64,
+) {
+    for _ in rt.forever() {
+        if E::push(producer, T::numbered(number, number)).is_none() {
+            break;
+        }
+        thread::yield_now();
+    }
+}
+
 /// Pushes 1,000 values, each until it is taken.
 fn push_all<E: Kind<T>, T: Words + Numbered + Drop>(
     rt: &impl Wait,
     mut producer: Producer<'_, E, T>,
 ) {
     for number in 0..1000 {
-        for _ in rt.forever() {
-            if E::push(&mut producer, T::numbered(number, number)).is_none() {
-                break;
-            }
-            thread::yield_now();
-        }
+        push_one(rt, &mut producer, number);
     }
+}
+
+/// Whether the value that comes next is this one.
+fn pops_one<E: Kind<T>, T: Words + Numbered + PartialEq + Drop>(
+    rt: &impl Wait,
+    consumer: &mut Consumer<'_, E, T>,
+    number: u64,
+) -> bool {
+    for _ in rt.forever() {
+        if let Some(value) = E::pop(rt, consumer) {
+            return value == T::numbered(number, number);
+        }
+        thread::yield_now();
+    }
+    false
 }
 
 /// Whether the first 1,000 values come in order.
@@ -121,13 +145,7 @@ fn pop_all<E: Kind<T>, T: Words + Numbered + PartialEq + Drop>(
 ) -> bool {
     let mut ordered = true;
     for number in 0..1000 {
-        for _ in rt.forever() {
-            if let Some(value) = E::pop(rt, &mut consumer) {
-                ordered &= value == T::numbered(number, number);
-                break;
-            }
-            thread::yield_now();
-        }
+        ordered &= pops_one(rt, &mut consumer, number);
     }
     ordered
 }

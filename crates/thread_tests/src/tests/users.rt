@@ -101,7 +101,7 @@ pub struct Users<'a, E: Spare, T: Words> {
     ghost consuming: { ForSome consumer (λ c. consumer_queue c ≡ queue_id queue.now) },
 }
 
-impl<'a, E: Kind<T>, T: Words + PartialEq + Drop> Users<'a, E, T> {
+impl<'a, E: Spare, T: Words> Users<'a, E, T> {
     pub fn new(queue: &'a Ring<E, T, RingRule<E, T>>, pass: Pass<E, T>) -> Users<'a, E, T>
         requires { IsPassOf queue.now pass }
     {
@@ -110,44 +110,6 @@ impl<'a, E: Kind<T>, T: Words + PartialEq + Drop> Users<'a, E, T> {
             pass,
             producer: None,
             consumer: None,
-        }
-    }
-
-    /// Whether a call answers so.
-    pub fn does(&mut self, rt: &impl Wait, call: Call<T>) -> bool {
-        match call {
-            Call::Push(value, back) => self.push(value) == Some(back),
-            Call::Pop(value) => self.pop(rt) == Some(value),
-            Call::Len(waiting) => has(rt, self.queue, &mut self.pass, waiting),
-            Call::AskProducer(is_free) => self.ask_producer() == is_free,
-            Call::AskConsumer(is_free) => self.ask_consumer() == is_free,
-            Call::ReleaseProducer => self.release_producer(),
-            Call::ReleaseConsumer => self.release_consumer(),
-            Call::DropProducer => self.producer.take().is_some(),
-            Call::DropConsumer => self.consumer.take().is_some(),
-            Call::JoinProducer => self.join_producer(),
-            Call::JoinConsumer => self.join_consumer(),
-        }
-    }
-
-    /// Whether as many values wait, and a call then answers so.
-    pub fn has_and_does(&mut self, rt: &impl Wait, waiting: usize, call: Call<T>) -> bool {
-        has(rt, self.queue, &mut self.pass, waiting) & self.does(rt, call)
-    }
-
-    /// What the push gives back. None where there is no producer.
-    fn push(&mut self, value: T) -> Option<Option<T>> {
-        match &mut self.producer {
-            Some(producer) => Some(E::push(producer, value)),
-            None => None,
-        }
-    }
-
-    /// The same of a pop.
-    fn pop(&mut self, rt: &impl Wait) -> Option<Option<T>> {
-        match &mut self.consumer {
-            Some(consumer) => Some(E::pop(rt, consumer)),
-            None => None,
         }
     }
 
@@ -237,6 +199,46 @@ impl<'a, E: Kind<T>, T: Words + PartialEq + Drop> Users<'a, E, T> {
     }
 }
 
+impl<'a, E: Kind<T>, T: Words + PartialEq + Drop> Users<'a, E, T> {
+    /// Whether a call answers so.
+    pub fn does(&mut self, rt: &impl Wait, call: Call<T>) -> bool {
+        match call {
+            Call::Push(value, back) => self.push(value) == Some(back),
+            Call::Pop(value) => self.pop(rt) == Some(value),
+            Call::Len(waiting) => has(rt, self.queue, &mut self.pass, waiting),
+            Call::AskProducer(is_free) => self.ask_producer() == is_free,
+            Call::AskConsumer(is_free) => self.ask_consumer() == is_free,
+            Call::ReleaseProducer => self.release_producer(),
+            Call::ReleaseConsumer => self.release_consumer(),
+            Call::DropProducer => self.producer.take().is_some(),
+            Call::DropConsumer => self.consumer.take().is_some(),
+            Call::JoinProducer => self.join_producer(),
+            Call::JoinConsumer => self.join_consumer(),
+        }
+    }
+
+    /// Whether as many values wait, and a call then answers so.
+    pub fn has_and_does(&mut self, rt: &impl Wait, waiting: usize, call: Call<T>) -> bool {
+        has(rt, self.queue, &mut self.pass, waiting) & self.does(rt, call)
+    }
+
+    /// What the push gives back. None where there is no producer.
+    fn push(&mut self, value: T) -> Option<Option<T>> {
+        match &mut self.producer {
+            Some(producer) => Some(E::push(producer, value)),
+            None => None,
+        }
+    }
+
+    /// The same of a pop.
+    fn pop(&mut self, rt: &impl Wait) -> Option<Option<T>> {
+        match &mut self.consumer {
+            Some(consumer) => Some(E::pop(rt, consumer)),
+            None => None,
+        }
+    }
+}
+
 /// Whether as many values wait, by all three calls.
 fn has<E: Spare, T: Words>(
     rt: &impl Wait,
@@ -253,6 +255,25 @@ fn has<E: Spare, T: Words>(
     (number, is_empty, is_full) == (waiting, waiting == 0, waiting == queue.capacity())
 }
 
+/// The first of these calls, if any, that does not answer so.
+fn first_wrong<E: Kind<T>, T: Words + PartialEq + Drop>(
+    rt: &impl Wait,
+    users: &mut Users<'_, E, T>,
+    calls: &[Call<T>],
+) -> Option<usize> {
+    for (at, call) in calls.iter().enumerate() {
+        if !users.does(rt, *call) {
+            return Some(at);
+        }
+    }
+    None
+}
+
+/// No call may have answered otherwise.
+pub fn none_wrong(rt: &impl Abort, name: &str, wrong: Option<usize>) {
+    assert!(rt; wrong.is_none(), "{name}: call {wrong:?}");
+}
+
 /// Makes these calls, each of which has to answer so.
 pub fn play<E: Kind<T>, T: Words + PartialEq + Drop>(
     rt: &(impl Abort + Wait),
@@ -264,7 +285,5 @@ pub fn play<E: Kind<T>, T: Words + PartialEq + Drop>(
     requires { IsPassOf queue.now pass }
 {
     let mut users = Users::new(queue, pass);
-    for (at, call) in calls.iter().enumerate() {
-        assert!(rt; users.does(rt, *call), "{name}: call {at}");
-    }
+    none_wrong(rt, name, first_wrong(rt, &mut users, calls));
 }

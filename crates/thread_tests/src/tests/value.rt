@@ -4,6 +4,7 @@ ghost use Rattle.std.specs.Option.{ForSome};
 ghost use Rattle.lock_free.specs.UnrestrictedAtomic.{value_id, value_of_pass, IsPassOf, value_of_producer};
 
 use super::long_values::{Greatest, Sixteen};
+use super::users::none_wrong;
 use lock_free::mpmc::unique_index_set_enums::UniqueIndexCreationError;
 use lock_free::spmc::unrestricted_atomic::{Pass, Producer, UnrestrictedAtomic};
 use lock_free::words::Words;
@@ -60,19 +61,7 @@ struct Users<'a, T: Words> {
     ghost producing: { ForSome producer (λ p. value_of_producer p ≡ value_id value.now) },
 }
 
-impl<'a, T: Words + PartialEq + Drop> Users<'a, T> {
-    /// Whether a call answers so.
-    fn does(&mut self, rt: &impl Wait, call: &Call<T>) -> bool {
-        match *call {
-            Call::Store(value, is_taken) => self.store(value) == Some(is_taken),
-            Call::Load(value) => load(rt, self.value, &mut self.pass) == value,
-            Call::Ask(is_free) => self.ask() == is_free,
-            Call::Release(value) => self.release(rt) == Some(value),
-            Call::Drop => self.producer.take().is_some(),
-            Call::Join => self.join(),
-        }
-    }
-
+impl<'a, T: Words> Users<'a, T> {
     /// Whether the store is taken. None where there is no producer.
     fn store(&mut self, value: T) -> Option<bool> {
         match &mut self.producer {
@@ -117,6 +106,34 @@ impl<'a, T: Words + PartialEq + Drop> Users<'a, T> {
     }
 }
 
+impl<'a, T: Words + PartialEq + Drop> Users<'a, T> {
+    /// Whether a call answers so.
+    fn does(&mut self, rt: &impl Wait, call: &Call<T>) -> bool {
+        match *call {
+            Call::Store(value, is_taken) => self.store(value) == Some(is_taken),
+            Call::Load(value) => load(rt, self.value, &mut self.pass) == value,
+            Call::Ask(is_free) => self.ask() == is_free,
+            Call::Release(value) => self.release(rt) == Some(value),
+            Call::Drop => self.producer.take().is_some(),
+            Call::Join => self.join(),
+        }
+    }
+}
+
+/// The first of these calls, if any, that does not answer so.
+fn first_wrong<T: Words + PartialEq + Drop>(
+    rt: &impl Wait,
+    users: &mut Users<'_, T>,
+    calls: &[Call<T>],
+) -> Option<usize> {
+    for (at, call) in calls.iter().enumerate() {
+        if !users.does(rt, call) {
+            return Some(at);
+        }
+    }
+    None
+}
+
 /// Makes these calls, each of which has to answer so.
 fn play<T: Words + PartialEq + Drop>(
     rt: &(impl Abort + Wait),
@@ -132,9 +149,7 @@ fn play<T: Words + PartialEq + Drop>(
         pass,
         producer: None,
     };
-    for (at, call) in calls.iter().enumerate() {
-        assert!(rt; users.does(rt, call), "{name}: call {at}");
-    }
+    none_wrong(rt, name, first_wrong(rt, &mut users, calls));
 }
 
 /// From 7: a value is stored and loaded, and its role is taken once.
