@@ -8,6 +8,6 @@ mod listed;
 #[cfg(test)]
 mod orders;
 #[cfg(test)]
-mod schedules;
+mod refused;
 #[cfg(test)]
-mod texts;
+mod schedules;

@@ -7,6 +7,6 @@ mod broken;
 #[cfg(test)]
 mod faulty;
 #[cfg(test)]
-mod pipes;
+mod inputs;
 #[cfg(test)]
-mod texts;
+mod pipes;

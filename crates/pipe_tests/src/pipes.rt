@@ -1,6 +1,6 @@
 //! Each text, where a read or a write fails at each call in turn.
 use crate::faulty::{Sink, Source};
-use crate::texts::{TEXTS, Text};
+use crate::inputs::{TEXTS, Text};
 use schedule::error::ScheduleError;
 use schedule::{run, status};
 use std::alloc::Global;

@@ -1,15 +1,15 @@
 -- The definitions, computed at worked schedules and at broken ones.
 use Rattle.std.proofs.Common.{◌≡◌, ℕ, false, List, [], ◌∷◌, Ok, Err, refl, true, codes}
 use Rattle.std.specs.Fmt.{digits}
-use Rattle.schedule.specs.declared.error.Cause.TheVariants as causes
-use Rattle.schedule.specs.Bits.{set, any_set_call, bit_set_call, counting_bit_set_call}
-use Rattle.schedule.specs.Container as container
-use Rattle.schedule.specs.Indices.{mode_at, release, any_index_call, index_call}
-use Rattle.schedule.specs.Indices.Robust as robust
-use Rattle.schedule.specs.Loan as loan
-use Rattle.schedule.specs.Queues.{push_index, push_value, item_call, any_call, queue_call}
-use Rattle.schedule.specs.Grammar.{number_at, setup_of, begin_of, next_of, decision_of, turn_of, death_of, command_of}
-use Rattle.schedule.specs.Print.{event_text, refusal_text}
+use Rattle.texts.specs.declared.error.Cause.TheVariants as causes
+use Rattle.texts.specs.Bits.{set, any_set_call, bit_set_call, counting_bit_set_call}
+use Rattle.texts.specs.Container as container
+use Rattle.texts.specs.Indices.{mode_at, release, any_index_call, index_call}
+use Rattle.texts.specs.Indices.Robust as robust
+use Rattle.texts.specs.Loan as loan
+use Rattle.texts.specs.Queues.{push_index, push_value, item_call, any_call, queue_call}
+use Rattle.texts.specs.Grammar.{number_at, setup_of, begin_of, next_of, decision_of, turn_of, death_of, command_of}
+use Rattle.texts.specs.Print.{event_text, refusal_text}
 use Rattle.schedule.specs.Output.{Output, outcome, nexts, lines_from, machine_of, output_of_lines, output, stopped}
 
 abbrev printed_whole : List ℕ → Output

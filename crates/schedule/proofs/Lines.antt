@@ -5,12 +5,12 @@ use Rattle.std.specs.Io.KnownBytes.{Appends}
 use Rattle.std.proofs.KnownBytes.{Appends-trans}
 use Rattle.model.specs.declared.turn.Kind.{Kind}
 use Rattle.model.specs.World.{World}
-use Rattle.schedule.specs.declared.error.Cause.{Cause}
-use Rattle.schedule.specs.declared.error.ScheduleError.{ScheduleError}
-use Rattle.schedule.specs.declared.error.ScheduleError.TheVariants.{Malformed}
-use Rattle.schedule.specs.declared.grammar.Command.{Command}
-use Rattle.schedule.specs.Text.{words}
-use Rattle.schedule.specs.Grammar.{command_of}
+use Rattle.texts.specs.declared.error.Cause.{Cause}
+use Rattle.texts.specs.declared.error.ScheduleError.{ScheduleError}
+use Rattle.texts.specs.declared.error.ScheduleError.TheVariants.{Malformed}
+use Rattle.texts.specs.declared.grammar.Command.{Command}
+use Rattle.texts.specs.Text.{words}
+use Rattle.texts.specs.Grammar.{command_of}
 use Rattle.schedule.specs.Output.{State, Output, commanded, lines_from, before, stopped}
 use Rattle.schedule.specs.Run.{Prints, IsOutput}
 use Rattle.schedule.proofs.Turns.{at}

@@ -9,12 +9,12 @@ use Rattle.model.specs.declared.turn.Turn.TheVariants.{Next}
 use Rattle.model.specs.World.{World}
 use Rattle.model.specs.Refusals.{refusal_of, IsRefusal}
 use Rattle.model.specs.Turns.{world_after, events_of}
-use Rattle.schedule.specs.declared.error.ScheduleError.{ScheduleError}
-use Rattle.schedule.specs.declared.error.ScheduleError.TheVariants.{WriteFailed}
-use Rattle.schedule.specs.Print.{events_text, refusal_text}
+use Rattle.texts.specs.declared.error.ScheduleError.{ScheduleError}
+use Rattle.texts.specs.declared.error.ScheduleError.TheVariants.{WriteFailed}
+use Rattle.texts.specs.Print.{events_text, refusal_text}
 use Rattle.schedule.specs.Written.{AppendsPart}
 use Rattle.schedule.specs.Output.{Outcome, outcome, outcome_as, refusal_where, State, Printed, after_text, printed, goes_on, nexts, commanded}
-use Rattle.schedule.specs.declared.grammar.Command.TheVariants.{Once}
+use Rattle.texts.specs.declared.grammar.Command.TheVariants.{Once}
 use Rattle.schedule.specs.Run.{IsTurn, Prints}
 use Rattle.schedule.proofs.Writing.{part_within}
 

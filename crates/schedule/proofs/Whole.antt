@@ -5,12 +5,12 @@ use Rattle.std.proofs.KnownBytes.{Appends-nil, Appends-kept}
 use Rattle.std.proofs.lemmas.List.Splits.{length-slice_split}
 use Rattle.std.proofs.lemmas.List.Sums.{count_by-le-length}
 use Rattle.model.specs.World.{World}
-use Rattle.schedule.specs.declared.error.Cause.{Cause}
-use Rattle.schedule.specs.declared.error.Cause.TheVariants.{MissingValue}
-use Rattle.schedule.specs.declared.error.ScheduleError.{ScheduleError}
-use Rattle.schedule.specs.declared.error.ScheduleError.TheVariants.{Malformed, ReadFailed, WriteFailed, NoMemory}
-use Rattle.schedule.specs.declared.grammar.Setup.{Setup}
-use Rattle.schedule.specs.Text.{lines, words}
+use Rattle.texts.specs.declared.error.Cause.{Cause}
+use Rattle.texts.specs.declared.error.Cause.TheVariants.{MissingValue}
+use Rattle.texts.specs.declared.error.ScheduleError.{ScheduleError}
+use Rattle.texts.specs.declared.error.ScheduleError.TheVariants.{Malformed, ReadFailed, WriteFailed, NoMemory}
+use Rattle.texts.specs.declared.grammar.Setup.{Setup}
+use Rattle.texts.specs.Text.{lines, words}
 use Rattle.schedule.specs.Written.{AppendsPart}
 use Rattle.schedule.specs.Output.{Output, stopped, machine_of, trace_of, lines_from, opened, output_of_lines, output}
 use Rattle.schedule.specs.Run.{IsOutput, IsRun}

@@ -4,7 +4,7 @@ use Rattle.std.specs.Io.KnownBytes.{Appends, Keeps}
 use Rattle.std.proofs.KnownBytes.{Appends-trans, Appends-nil, Appends-kept}
 use Rattle.std.proofs.lemmas.List.{at_drop_more}
 use Rattle.model.specs.declared.event.Event.{Event}
-use Rattle.schedule.specs.Print.{event_text, events_text}
+use Rattle.texts.specs.Print.{event_text, events_text}
 use Rattle.schedule.specs.Written.{AppendsPart}
 
 -- all of a first text was written, and a beginning of what follows it

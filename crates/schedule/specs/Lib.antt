@@ -1,15 +1,4 @@
-pub mod Atomic
-pub mod Bits
-pub mod Container
-pub mod Families
-pub mod Family
-pub mod Grammar
-pub mod Indices
-pub mod Loan
 pub mod Output
-pub mod Print
-pub mod Queues
-pub mod Reading
 pub mod Run
-pub mod Text
+pub mod Told
 pub mod Written

@@ -14,14 +14,14 @@ use Rattle.model.specs.Families.Loan.Opening.{is_loan}
 use Rattle.model.specs.World.{World, Trace, opening, loan_opening, capacity_error, loan_error, world_in}
 use Rattle.model.specs.Refusals.{refusal_of, is_going}
 use Rattle.model.specs.Turns.{world_after, events_of}
-use Rattle.schedule.specs.declared.error.Cause.{Cause}
-use Rattle.schedule.specs.declared.error.Cause.TheVariants as causes
-use Rattle.schedule.specs.declared.grammar.Command.{Command}
-use Rattle.schedule.specs.declared.grammar.Command.TheVariants.{Once, Times}
-use Rattle.schedule.specs.declared.grammar.Setup.{Setup}
-use Rattle.schedule.specs.Text.{lines, words}
-use Rattle.schedule.specs.Grammar.{◌>>=◌, setup_of, command_of}
-use Rattle.schedule.specs.Print.{events_text, refusal_text}
+use Rattle.texts.specs.declared.error.Cause.{Cause}
+use Rattle.texts.specs.declared.error.Cause.TheVariants as causes
+use Rattle.texts.specs.declared.grammar.Command.{Command}
+use Rattle.texts.specs.declared.grammar.Command.TheVariants.{Once, Times}
+use Rattle.texts.specs.declared.grammar.Setup.{Setup}
+use Rattle.texts.specs.Text.{lines, words}
+use Rattle.texts.specs.Grammar.{◌>>=◌, setup_of, command_of}
+use Rattle.texts.specs.Print.{events_text, refusal_text}
 
 -- ---- one turn
 

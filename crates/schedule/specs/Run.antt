@@ -2,8 +2,8 @@
 use Rattle.std.specs.Prelude.{◌≡◌, ℕ, Bool, Option, Result, Ok, Err, List, ◌++◌, IfSome}
 use Rattle.std.specs.Io.KnownBytes.{Appends, Keeps}
 use Rattle.model.specs.World.{World}
-use Rattle.schedule.specs.declared.error.ScheduleError.{ScheduleError}
-use Rattle.schedule.specs.declared.error.ScheduleError.TheVariants as errors
+use Rattle.texts.specs.declared.error.ScheduleError.{ScheduleError}
+use Rattle.texts.specs.declared.error.ScheduleError.TheVariants as errors
 use Rattle.schedule.specs.Output.{Outcome, State, Printed, Output, goes_on, output}
 use Rattle.schedule.specs.Written.{AppendsPart}
 

@@ -1,8 +1,8 @@
 -- What a writer holds after all of a text was written, or a beginning of it.
 use Rattle.std.specs.Prelude.{◌≡◌, ℕ, List, ◌++◌, Option, Result, Ok, Err}
 use Rattle.std.specs.Io.KnownBytes.{Appends}
-use Rattle.schedule.specs.declared.error.ScheduleError.{ScheduleError}
-use Rattle.schedule.specs.declared.error.ScheduleError.TheVariants as errors
+use Rattle.texts.specs.declared.error.ScheduleError.{ScheduleError}
+use Rattle.texts.specs.declared.error.ScheduleError.TheVariants as errors
 
 -- known bytes grow by a beginning of the text, which can be all of it
 abbrev pub AppendsPart : Option (List ℕ) → Option (List ℕ) → List ℕ → Type 0

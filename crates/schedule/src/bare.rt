@@ -1,8 +1,5 @@
 //! Calls of a machine, and of what reads and prints a schedule, for those who need no contract: a caller of these
 //! loads and carries none of theirs.
-use crate::error::{Cause, ScheduleError};
-use crate::grammar::{Command, Setup, command_of, setup_of};
-use crate::line::Line;
 use crate::runs::{self, machine_of, run_and_tell, run_in};
 use crate::told::status;
 use machine::event::Event;
@@ -15,6 +12,9 @@ use std::str;
 use steps::container::state::ContainerState;
 use steps::enums::UniqueIndexCreationError;
 use steps::words::Words;
+use texts::error::{Cause, ScheduleError};
+use texts::grammar::{Command, Setup, command_of, setup_of};
+use texts::line::Line;
 
 /// A new machine.
 pub fn made_of<T: Words>(

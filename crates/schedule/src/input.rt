@@ -3,9 +3,9 @@ ghost use Rattle.std.specs.Prelude.{◌≡◌, ◌++◌, ℕ, List, false, IfOk,
 ghost use Rattle.std.specs.Io.KnownBytes.{Consumes, IsAtEnd};
 ghost use Rattle.schedule.specs.Written.{IsUnread};
 
-use crate::error::ScheduleError;
 use std::alloc::Allocator;
 use std::io::{ErrorKind, Read};
+use texts::error::ScheduleError;
 
 // Appends some of what is left, and answers false where nothing was.
 fn read_piece<A: Allocator, R: Read>(

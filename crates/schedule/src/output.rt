@@ -1,14 +1,14 @@
 //! Writing to the end, so that a failure leaves a beginning of the text.
 ghost use Rattle.std.specs.Prelude.{◌≡◌, IfErr};
 ghost use Rattle.std.specs.Io.KnownBytes.{Keeps};
-ghost use Rattle.schedule.specs.Print.{events_text, refusal_text};
+ghost use Rattle.texts.specs.Print.{events_text, refusal_text};
 ghost use Rattle.schedule.specs.Written.{Writes};
 
-use crate::error::ScheduleError;
-use crate::line::Line;
 use machine::event::Event;
 use machine::turn::Refusal;
 use std::io::{ErrorKind, Write};
+use texts::error::ScheduleError;
+use texts::line::Line;
 
 /// Writes all of the bytes. A write that was interrupted is tried again; any other failure, and a write that takes
 /// nothing, is `WriteFailed`, after a beginning of the bytes.

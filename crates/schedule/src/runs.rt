@@ -1,19 +1,16 @@
 //! A whole run: the input is read, the machine is made, and the lines are done one after another.
 ghost use Rattle.std.specs.Prelude.{◌≡◌, ◌^◌, ◌<◌, ℕ, Bool, Option, List, Result, IfOk, length};
-ghost use Rattle.schedule.specs.Grammar.{Gives};
+ghost use Rattle.texts.specs.Grammar.{Gives};
 ghost use Rattle.schedule.specs.Output.{world_of, outcome, nexts, commanded, lines_from, setup_error, machine_of, trace_of, output};
-ghost use Rattle.schedule.specs.Print.{exit_of, message_text};
+ghost use Rattle.schedule.specs.Told.{exit_of, message_text};
 ghost use Rattle.schedule.specs.Run.{IsTurn, IsStep, Prints, IsOutput, IsRun};
-ghost use Rattle.schedule.specs.Text.{words, words_left};
+ghost use Rattle.texts.specs.Text.{words, words_left};
 ghost use Rattle.schedule.specs.Written.{AppendsPart};
-ghost use Rattle.schedule.specs.declared.error.ScheduleError.{ScheduleError};
+ghost use Rattle.texts.specs.declared.error.ScheduleError.{ScheduleError};
 ghost use Rattle.model.specs.declared.turn.Turn.TheVariants.{Next};
 
-use crate::error::{Cause, ScheduleError};
-use crate::grammar::{Command, Setup, command_of, setup_of};
 use crate::input::whole_input;
 use crate::output::{flush, put_events, put_refusal};
-use crate::text::{Rest, lines};
 use crate::told::status;
 use machine::Machine;
 use machine::families::loan::opening::is_loan;
@@ -21,6 +18,9 @@ use machine::turn::{Kind, Turn, capacity_error, loan_error};
 use std::alloc::{Allocator, Global};
 use std::io::{BufWriter, Read, Write};
 use steps::enums::UniqueIndexCreationError;
+use texts::error::{Cause, ScheduleError};
+use texts::grammar::{Command, Setup, command_of, setup_of};
+use texts::text::{Rest, lines};
 
 // One turn. Whether it was taken.
 fn take_turn<W: Write>(

@@ -1,14 +1,14 @@
 //! What the end of a run is told as, and its exit status.
 ghost use Rattle.std.specs.Prelude.{◌≡◌};
-ghost use Rattle.schedule.specs.Print.{exit_of, message_text};
+ghost use Rattle.schedule.specs.Told.{exit_of, message_text};
 ghost use Rattle.schedule.specs.Written.{Writes, AppendsPart};
 
-use crate::error::ScheduleError;
-use crate::line::Line;
 use crate::output::put;
 use std::io::Write;
+use texts::error::ScheduleError;
+use texts::line::Line;
 
-#[tactic(auto, unfolding(crate::specs::Print::message_text))]
+#[tactic(auto, unfolding(crate::specs::Told::message_text))]
 fn put_message<W: Write>(
     ran: &Result<(), ScheduleError>,
     errors: &mut W,

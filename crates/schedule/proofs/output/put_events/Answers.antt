@@ -1,6 +1,6 @@
 use Rattle.std.proofs.Common.{ap, ◌∙◌, ◌++◌, arith}
 use Rattle.std.proofs.KnownBytes.{Appends-trans}
-use Rattle.schedule.specs.Print.{event_text}
+use Rattle.texts.specs.Print.{event_text}
 use Rattle.schedule.proofs.Writing.{part_within, events_more}
 use Rattle.schedule.proofs.output.put_events.Goals as goal
 

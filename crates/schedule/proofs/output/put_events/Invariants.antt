@@ -1,6 +1,6 @@
 use Rattle.std.proofs.Common.{◌≡◌, ℕ, List, ◌++◌, drop}
 use Rattle.std.specs.Io.KnownBytes.{Appends}
-use Rattle.schedule.specs.Print.{events_text}
+use Rattle.texts.specs.Print.{events_text}
 use Rattle.schedule.proofs.output.put_events.Given as goal
 
 abbrev pub invariant-loop-event : goal.invariant-loop-event

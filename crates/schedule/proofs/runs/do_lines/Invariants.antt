@@ -1,7 +1,7 @@
 use Rattle.std.proofs.Common.{◌≡◌, ℕ, ◌+◌, ◌<◌, ◌^◌, ◌++◌, List, Bool, length}
 use Rattle.std.specs.Io.KnownBytes.{Appends}
 use Rattle.schedule.specs.Output.{world_of, lines_from, before}
-use Rattle.schedule.specs.Text.{words_left}
+use Rattle.texts.specs.Text.{words_left}
 use Rattle.schedule.proofs.runs.do_lines.Given as goal
 
 abbrev pub invariant-loop-line : goal.invariant-loop-line

@@ -1,7 +1,7 @@
 use Rattle.std.proofs.Common.{◌++◌, ap, sym, ◌∙◌, subst}
 use Rattle.std.specs.Io.KnownBytes.{Appends}
 use Rattle.model.specs.Turns.{events_of}
-use Rattle.schedule.specs.Print.{events_text}
+use Rattle.texts.specs.Print.{events_text}
 use Rattle.schedule.specs.Written.{AppendsPart}
 use Rattle.schedule.specs.Output.{world_of}
 use Rattle.schedule.proofs.Turns.{events_behind, taken_written, taken_failed, refused_written, refused_failed}

@@ -1,8 +1,0 @@
-use Rattle.schedule.proofs.Texts.{first_part, only_part}
-use Rattle.schedule.proofs.text.Rest.first.Goals as goal
-
-pub returns-then-at-text : goal.returns-then-at-text
-returns-then-at-text c = rw c.in-Some.is (first_part _ _ _ c.place_of-at.ensures c.if-at-text.true)
-
-pub returns-else-at-text : goal.returns-else-at-text
-returns-else-at-text c = rw c.in-Some.is (only_part _ _ _ c.place_of-at.ensures c.if-at-text.false)

@@ -1,0 +1,14 @@
+use Rattle.std.proofs.Common.{◌≡◌, ◌<◌, ◌≤◌, ◌^◌, ◌++◌, decimal, drop, length}
+use Rattle.texts.proofs.line.Line.push_number.Given as goal
+
+abbrev pub invariant-loop-rest : goal.invariant-loop-rest
+invariant-loop-rest l = record {
+  fits : l.rest < 10 ^ 39;
+  digits : decimal l.rest ++ drop l.at l.digits ≡ decimal l.number;
+  room : length (decimal l.rest) ≤ l.at;
+  within : l.at ≤ 39;
+  sized : length l.digits ≡ 39;
+}
+
+abbrev pub decreases-loop-rest : goal.decreases-loop-rest
+decreases-loop-rest l = l.rest

@@ -1,0 +1,116 @@
+-- The calls of the unique index set, as a schedule names them and as they print. The robust index
+-- set has a room of its own within.
+use Rattle.std.specs.Prelude.{ℕ, ◌-◌, ◌^◌, List, ◌++◌, Option, Some, None, Result, Ok, Err, if◌then◌else◌, bytes_eq, codes, decimal}
+use Rattle.steps.specs.declared.indices.enums.ReleaseMode.{ReleaseMode}
+use Rattle.steps.specs.declared.indices.enums.ReleaseMode.TheVariants.{LockIfLastIndex, Default}
+use Rattle.steps.specs.declared.indices.enums.ReleaseState.{ReleaseState}
+use Rattle.steps.specs.declared.indices.enums.ReleaseState as states
+use Rattle.steps.specs.declared.indices.enums.UniqueIndexSetAcquireFailure.{UniqueIndexSetAcquireFailure}
+use Rattle.steps.specs.declared.indices.enums.UniqueIndexSetAcquireFailure as failures
+use Rattle.model.specs.declared.event.Answer.{Answer}
+use Rattle.model.specs.declared.event.Answer.TheVariants.{Index, NoIndex, State}
+use Rattle.model.specs.declared.event.Event.{Event}
+use Rattle.model.specs.declared.event.Event.TheVariants.{Claimed, Freed, Locked}
+use Rattle.model.specs.declared.event.Start.{Start}
+use Rattle.model.specs.declared.event.Start.TheVariants.{Indices}
+use Rattle.model.specs.declared.families.indices.IndexStart.{IndexStart}
+use Rattle.model.specs.declared.families.indices.IndexStart.TheVariants.{Acquire, Release, BorrowedIndices, IsLocked}
+use Rattle.model.specs.declared.turn.Kind.{Kind}
+use Rattle.model.specs.declared.turn.Kind as kinds
+use Rattle.texts.specs.declared.error.Cause.{Cause}
+use Rattle.texts.specs.declared.error.Cause.TheVariants.{BadValue, UnknownCall}
+use Rattle.texts.specs.Family.{Family}
+use Rattle.texts.specs.Reading.{◌>>=◌, next_word, number_at}
+pub mod Robust
+
+-- ---- how they are read
+
+abbrev pub kind_of : List ℕ → Option Kind
+kind_of name = if bytes_eq name (codes "indices") then Some kinds.TheVariants.Indices else None
+
+abbrev pub mode_of : List ℕ → Result ReleaseMode Cause
+mode_of word =
+    if bytes_eq word (codes "default") then Ok Default
+    else if bytes_eq word (codes "lock") then Ok LockIfLastIndex
+    else Err BadValue
+
+-- a mode, and the words after it
+unfoldable pub mode_at : List (List ℕ) → Result (ReleaseMode × List (List ℕ)) Cause
+mode_at ws = do
+  word ← next_word ws
+  mode ← mode_of word.0
+  Ok (mode, word.1)
+
+unfoldable pub release : List (List ℕ) → Result (IndexStart × List (List ℕ)) Cause
+release ws = do
+  index ← number_at (2 ^ 64 - 1) ws
+  mode ← mode_at index.1
+  Ok (Release index.0 mode.0, mode.1)
+
+unfoldable pub any_index_call : List ℕ → List (List ℕ) → Result (IndexStart × List (List ℕ)) Cause
+any_index_call name ws =
+    if bytes_eq name (codes "acquire") then Ok (Acquire, ws)
+    else if bytes_eq name (codes "release") then release ws
+    else if bytes_eq name (codes "borrowed_indices") then Ok (BorrowedIndices, ws)
+    else if bytes_eq name (codes "is_locked") then Ok (IsLocked, ws)
+    else Err UnknownCall
+
+-- the calls of the unique index set
+unfoldable pub index_call : List ℕ → List (List ℕ) → Result (Start ℕ × List (List ℕ)) Cause
+index_call name ws = do
+  call ← any_index_call name ws
+  Ok (Indices call.0, call.1)
+
+abbrev pub call : Kind → List ℕ → List (List ℕ)
+    → Option (Result (Start ℕ × List (List ℕ)) Cause)
+call kinds.TheVariants.Indices name ws = Some (index_call name ws)
+call kind name ws = None
+
+-- ---- how they print
+
+abbrev pub mode_text : ReleaseMode → List ℕ
+mode_text Default = codes "default"
+mode_text LockIfLastIndex = codes "lock"
+
+abbrev pub index_call_text : IndexStart → List ℕ
+index_call_text Acquire = codes "acquire"
+index_call_text (Release index mode) =
+    codes "release " ++ decimal index ++ codes " " ++ mode_text mode
+index_call_text BorrowedIndices = codes "borrowed_indices"
+index_call_text IsLocked = codes "is_locked"
+
+abbrev pub failure_text : UniqueIndexSetAcquireFailure → List ℕ
+failure_text failures.TheVariants.OutOfIndices = codes "OutOfIndices"
+failure_text failures.TheVariants.IsLocked = codes "IsLocked"
+
+abbrev pub state_text : ReleaseState → List ℕ
+state_text states.TheVariants.Locked = codes "Locked"
+state_text states.TheVariants.Unlocked = codes "Unlocked"
+
+abbrev pub call_text : Start ℕ → Option (List ℕ)
+call_text (Indices start) = Some (index_call_text start)
+call_text start = None
+
+abbrev pub answer_text : Answer ℕ → Option (List ℕ)
+answer_text (Index index) = Some (decimal index)
+answer_text (NoIndex failure) = Some (failure_text failure)
+answer_text (State state) = Some (state_text state)
+answer_text answer = None
+
+abbrev pub event_text : Event ℕ → Option (List ℕ)
+event_text (Claimed party index) = Some (decimal party ++ codes " claimed " ++ decimal index)
+event_text (Freed party index) = Some (decimal party ++ codes " freed " ++ decimal index)
+event_text (Locked party) = Some (decimal party ++ codes " locked")
+event_text event = None
+
+-- ---- all that the room says
+
+abbrev pub family : Family
+family =
+    record {
+      kind = kind_of;
+      call = call;
+      call_text = call_text;
+      answer_text = answer_text;
+      event_text = event_text;
+    }

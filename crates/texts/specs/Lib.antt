@@ -1,0 +1,12 @@
+pub mod Atomic
+pub mod Bits
+pub mod Container
+pub mod Families
+pub mod Family
+pub mod Grammar
+pub mod Indices
+pub mod Loan
+pub mod Print
+pub mod Queues
+pub mod Reading
+pub mod Text

@@ -1,0 +1,134 @@
+-- The calls of the queues, as a schedule names them and as they print.
+use Rattle.std.specs.Prelude.{ℕ, ◌-◌, ◌^◌, Bool, true, false, List, ◌++◌, Option, Some, None, Result, Ok, Err, if◌then◌else◌, bytes_eq, codes, decimal}
+use Rattle.model.specs.declared.event.Answer.{Answer}
+use Rattle.model.specs.declared.event.Answer.TheVariants.{PoppedNone, PoppedIndex, Popped}
+use Rattle.model.specs.declared.event.Event.{Event}
+use Rattle.model.specs.declared.event.Event.TheVariants.{Published, HandedOut}
+use Rattle.model.specs.declared.event.Item.{Item}
+use Rattle.model.specs.declared.event.Item.TheVariants.{Index, Value}
+use Rattle.model.specs.declared.event.Start.{Start}
+use Rattle.model.specs.declared.event.Start.TheVariants.{Queues}
+use Rattle.model.specs.declared.families.queues.QueueStart.{QueueStart}
+use Rattle.model.specs.declared.families.queues.QueueStart.TheVariants.{AcquireProducer, ReleaseProducer, AcquireConsumer, ReleaseConsumer, PushIndex, Push, Pop, Len, IsEmpty, IsFull}
+use Rattle.model.specs.declared.turn.Kind.{Kind}
+use Rattle.model.specs.declared.turn.Kind.TheVariants.{IndexQueue, Overflow, Queue}
+use Rattle.texts.specs.declared.error.Cause.{Cause}
+use Rattle.texts.specs.declared.error.Cause.TheVariants.{UnknownCall}
+use Rattle.texts.specs.Family.{Family}
+use Rattle.texts.specs.Reading.{◌>>=◌, number_at}
+
+-- ---- how they are read
+
+abbrev pub kind_of : List ℕ → Option Kind
+kind_of name =
+    if bytes_eq name (codes "index_queue") then Some IndexQueue
+    else if bytes_eq name (codes "overflow") then Some Overflow
+    else if bytes_eq name (codes "queue") then Some Queue
+    else None
+
+abbrev pub role_call : List ℕ → Option (QueueStart ℕ)
+role_call name =
+    if bytes_eq name (codes "acquire_producer") then Some AcquireProducer
+    else if bytes_eq name (codes "release_producer") then Some ReleaseProducer
+    else if bytes_eq name (codes "acquire_consumer") then Some AcquireConsumer
+    else if bytes_eq name (codes "release_consumer") then Some ReleaseConsumer
+    else None
+
+abbrev pub length_call : List ℕ → Option (QueueStart ℕ)
+length_call name =
+    if bytes_eq name (codes "len") then Some Len
+    else if bytes_eq name (codes "is_empty") then Some IsEmpty
+    else if bytes_eq name (codes "is_full") then Some IsFull
+    else None
+
+-- a push of an index, or of a value of the machine's own type
+unfoldable pub push_index : List (List ℕ) → Result (QueueStart ℕ × List (List ℕ)) Cause
+push_index ws = do
+  index ← number_at (2 ^ 64 - 1) ws
+  Ok (PushIndex index.0, index.1)
+
+unfoldable pub push_value : List (List ℕ) → Result (QueueStart ℕ × List (List ℕ)) Cause
+push_value ws = do
+  value ← number_at (2 ^ 128 - 1) ws
+  Ok (Push value.0, value.1)
+
+abbrev pub push_call : Bool → List (List ℕ) → Result (QueueStart ℕ × List (List ℕ)) Cause
+push_call is_value ws = if is_value then push_value ws else push_index ws
+
+-- a call on the values of a queue that is no call on a role
+unfoldable pub item_call : Bool → List ℕ → List (List ℕ)
+    → Result (QueueStart ℕ × List (List ℕ)) Cause
+item_call is_value name ws =
+    if bytes_eq name (codes "push") then push_call is_value ws
+    else if bytes_eq name (codes "pop") then Ok (Pop, ws)
+    else elim (length_call name) [ Some start ↦ Ok (start, ws) | None ↦ Err UnknownCall ]
+
+unfoldable pub any_call : Bool → List ℕ → List (List ℕ)
+    → Result (QueueStart ℕ × List (List ℕ)) Cause
+any_call is_value name ws =
+    elim (role_call name) [ Some start ↦ Ok (start, ws) | None ↦ item_call is_value name ws ]
+
+-- the calls of a queue of indices, and of one of values
+unfoldable pub queue_call : Bool → List ℕ → List (List ℕ) → Result (Start ℕ × List (List ℕ)) Cause
+queue_call is_value name ws = do
+  call ← any_call is_value name ws
+  Ok (Queues call.0, call.1)
+
+abbrev pub index_queue_call : List ℕ → List (List ℕ) → Result (Start ℕ × List (List ℕ)) Cause
+index_queue_call name ws = queue_call false name ws
+
+abbrev pub value_queue_call : List ℕ → List (List ℕ) → Result (Start ℕ × List (List ℕ)) Cause
+value_queue_call name ws = queue_call true name ws
+
+-- both queues of indices have the same calls
+abbrev pub call : Kind → List ℕ → List (List ℕ)
+    → Option (Result (Start ℕ × List (List ℕ)) Cause)
+call IndexQueue name ws = Some (index_queue_call name ws)
+call Overflow name ws = Some (index_queue_call name ws)
+call Queue name ws = Some (value_queue_call name ws)
+call kind name ws = None
+
+-- ---- how they print
+
+abbrev pub queue_call_text : QueueStart ℕ → List ℕ
+queue_call_text AcquireProducer = codes "acquire_producer"
+queue_call_text ReleaseProducer = codes "release_producer"
+queue_call_text AcquireConsumer = codes "acquire_consumer"
+queue_call_text ReleaseConsumer = codes "release_consumer"
+queue_call_text (PushIndex index) = codes "push " ++ decimal index
+queue_call_text (Push value) = codes "push " ++ decimal value
+queue_call_text Pop = codes "pop"
+queue_call_text Len = codes "len"
+queue_call_text IsEmpty = codes "is_empty"
+queue_call_text IsFull = codes "is_full"
+
+abbrev pub call_text : Start ℕ → Option (List ℕ)
+call_text (Queues start) = Some (queue_call_text start)
+call_text start = None
+
+abbrev pub answer_text : Answer ℕ → Option (List ℕ)
+answer_text PoppedNone = Some (codes "none")
+answer_text (PoppedIndex index) = Some (codes "some " ++ decimal index)
+answer_text (Popped value) = Some (codes "some " ++ decimal value)
+answer_text answer = None
+
+abbrev pub item_text : Item ℕ → List ℕ
+item_text (Index n) = decimal n
+item_text (Value n) = decimal n
+
+abbrev pub event_text : Event ℕ → Option (List ℕ)
+event_text (Published party item) = Some (decimal party ++ codes " published " ++ item_text item)
+event_text (HandedOut party item) = Some (decimal party ++ codes " handed_out " ++ item_text item)
+event_text event = None
+
+-- ---- all that the room says
+
+abbrev pub family : Family
+family =
+    record {
+      kind = kind_of;
+      call = call;
+      call_text = call_text;
+      answer_text = answer_text;
+      event_text = event_text;
+    }
