@@ -14,7 +14,7 @@ use Rattle.steps.specs.Container.Layout.{change_word, count_word}
 use Rattle.steps.specs.Indices.Robust.Parts.{empty, one_more}
 use Rattle.model.specs.declared.event.Answer.TheVariants as answers
 use Rattle.model.specs.declared.event.Event.{Event}
-use Rattle.model.specs.declared.event.Event.TheVariants.{Hidden, Locked, Finished}
+use Rattle.model.specs.declared.event.Event.TheVariants.{Hidden, Finished}
 use Rattle.model.specs.declared.event.Start.TheVariants.{Container}
 use Rattle.model.specs.declared.families.container.ContainerStart.{ContainerStart}
 use Rattle.model.specs.declared.families.container.ContainerStart.TheVariants.{Remove}
@@ -26,7 +26,7 @@ use Rattle.model.specs.Families.Container.Promises.{AnswersRight}
 use Rattle.model.specs.Families.Container.Reading.{Act}
 use Rattle.model.specs.Families.Container.Spans.{HasDone}
 use Rattle.model.specs.Families.Indices.Robust.Promises.{IsUnlocked}
-use Rattle.model.specs.Families.Indices.Robust.Reading.{Deed, Frees, Locks, deeds, is_dead, IsOneOf}
+use Rattle.model.specs.Families.Indices.Robust.Reading.{Deed, Frees, Locks, is_dead, IsOneOf}
 use Rattle.model.specs.Moments.{BeginsNone}
 use Rattle.model.specs.Turns.{words_after}
 use Rattle.model.proofs.Moments.{held_later}

@@ -49,8 +49,7 @@ use Rattle.robust_laws.proofs.Knows as set_knows
 use Rattle.robust_laws.proofs.Locks as set_locks
 use Rattle.robust_laws.proofs.Parts.{raise_ask, lock_ask, raise_step, lock_step, IsSaid, none_beyond}
 use Rattle.robust_laws.proofs.Past.{through_now}
-use Rattle.robust_laws.proofs.Recovers.{nothing_said}
-use Rattle.robust_laws.proofs.Stages.{loads_same, exchanges, exchange_sets, fails_same}
+use Rattle.robust_laws.proofs.Stages.{loads_same}
 use Rattle.robust_laws.proofs.Stages as set_stages
 use Rattle.robust_laws.proofs.Standing.{raise_number, lock_number, LockAt}
 use Rattle.container_laws.proofs.HiddenKnows.{HasHidden}

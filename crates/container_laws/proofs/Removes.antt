@@ -72,7 +72,7 @@ use Rattle.container_laws.proofs.SetSteps.{rest_set, wide_set, frees, locks}
 use Rattle.container_laws.proofs.Silent.{silently}
 use Rattle.container_laws.proofs.Stages.{IsHere, all, done, sees_now, then_sees, StepOf, Leads, none_lengthens, party_then, since_then, changes_then, backs_then, goes_on, goes_calmly, ends, owes_none, was_proper, was_proper_calmly, does_with}
 use Rattle.container_laws.proofs.Standing.{remove_at, remove_number, release_total, RemoveAt, place_is}
-use Rattle.container_laws.proofs.Steps.{loads, calm_none, right_none}
+use Rattle.container_laws.proofs.Steps.{calm_none, right_none}
 use Rattle.container_laws.proofs.Turns.{remove_owes, count_in}
 use Rattle.container_laws.proofs.Writing.{even_is, odd_is}
 

@@ -17,9 +17,9 @@ use Rattle.model.specs.declared.party.Party.{Party}
 use Rattle.model.specs.declared.turn.Kind as kinds
 use Rattle.model.specs.declared.turn.Refusal.TheVariants.{OwnerIsDead}
 use Rattle.model.specs.Coding.{Coding, IsCoding}
-use Rattle.model.specs.Families.{first_of, want_of, ask_of, is_question, going_rows, beside_of, step_of, kept_after_death, kept_after_begin}
+use Rattle.model.specs.Families.{first_of, want_of, is_question, going_rows, beside_of, step_of, kept_after_death, kept_after_begin}
 use Rattle.model.specs.Families as families
-use Rattle.model.specs.Families.Container.Calls.{first, want, acts_for_dead}
+use Rattle.model.specs.Families.Container.Calls.{first, acts_for_dead}
 use Rattle.model.specs.Families.Container.Calls as rows
 use Rattle.model.specs.Families.Container.Opening.{opening_words, names_owner, call_rows, kept_rows, states_at_begin}
 use Rattle.model.specs.Families.Indices.Robust.Dead.{has_died, dead_with}

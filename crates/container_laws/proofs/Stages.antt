@@ -37,7 +37,7 @@ use Rattle.model.proofs.Readings.{AreOwn, AllFollow, span_of-own}
 use Rattle.robust_laws.proofs.Effects.{both_ways}
 use Rattle.robust_laws.proofs.Invariant as set_invariant
 use Rattle.robust_laws.proofs.Stages.{is_seen}
-use Rattle.container_laws.proofs.Invariant.{Scene, Inv, Does, Shows, AreAllRight, before, then_is, wrote_of, view}
+use Rattle.container_laws.proofs.Invariant.{Scene, Inv, Does, Shows, AreAllRight, before, wrote_of, view}
 use Rattle.container_laws.proofs.Invariant as invariant
 use Rattle.container_laws.proofs.Knows.{View, Knows}
 use Rattle.container_laws.proofs.Proper.{IsProperSoFar, proper_before}

@@ -20,6 +20,7 @@ pub mod Looks
 pub mod Opening
 pub mod Parts
 pub mod Past
+pub mod RecoverSteps
 pub mod Recovers
 pub mod Releases
 pub mod Rights

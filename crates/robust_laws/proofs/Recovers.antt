@@ -1,5 +1,5 @@
 -- The steps of a recovery.
-use Rattle.std.proofs.Common.{◌≡◌, ◌≢◌, ℕ, ◌+◌, ◌*◌, ◌<◌, ◌≤◌, ◌==◌, ◌⊎◌, ⊎_elim, inl, inr, if◌then◌else◌, nat_lt, Bool, true, false, Option, Some, None, List, [], ◌∷◌, ◌++◌, set, refl, sym, ap, subst, ◌∙◌, arith}
+use Rattle.std.proofs.Common.{◌≡◌, ◌≢◌, ℕ, ◌+◌, ◌*◌, ◌<◌, ◌≤◌, ◌==◌, ◌⊎◌, ⊎_elim, inl, inr, if◌then◌else◌, nat_lt, Bool, true, false, Option, Some, None, List, [], ◌∷◌, ◌++◌, refl, sym, ap, subst, ◌∙◌, arith}
 use Rattle.std.specs.List.{AllByRecursion}
 use Rattle.std.proofs.lemmas.Bool.{cases_lt}
 use Rattle.std.proofs.lemmas.Bool.Decides.{nat_tests}
@@ -11,7 +11,6 @@ use Rattle.steps.specs.declared.indices.enums.ReleaseMode.{ReleaseMode}
 use Rattle.steps.specs.declared.indices.enums.ReleaseMode.TheVariants.{LockIfLastIndex, Default}
 use Rattle.steps.specs.declared.indices.enums.ReleaseState.{ReleaseState}
 use Rattle.steps.specs.declared.indices.enums.ReleaseState as states
-use Rattle.steps.specs.declared.indices.robust.parts.Count.{Count}
 use Rattle.steps.specs.declared.indices.robust.parts.Count as counts
 use Rattle.steps.specs.declared.indices.robust.parts.Lock.{Lock}
 use Rattle.steps.specs.declared.indices.robust.parts.Lock as parts
@@ -20,41 +19,39 @@ use Rattle.steps.specs.declared.indices.robust.parts.Raise as raises
 use Rattle.steps.specs.declared.indices.robust.recover.Recover as calls
 use Rattle.steps.specs.declared.indices.robust.recover.RecoverStage.{RecoverStage}
 use Rattle.steps.specs.declared.indices.robust.recover.RecoverStage as recovers
-use Rattle.steps.specs.Indices.Robust.Parts.{cell_word, empty, locked, first_lock, raise_after, raise_goes_back, lock_after, lock_goes_back}
-use Rattle.steps.specs.Indices.Robust.Recover.{at_recover, recover_comes_to, recover_raised, recover_locked}
+use Rattle.steps.specs.Indices.Robust.Parts.{cell_word, empty, locked, first_lock, raise_after, raise_goes_back}
+use Rattle.steps.specs.Indices.Robust.Recover.{at_recover, recover_comes_to, recover_raised}
 use Rattle.steps.specs.Picks.{by_test}
 use Rattle.steps.specs.Routine.{went_on}
 use Rattle.model.specs.declared.event.Answer.TheVariants.{State}
 use Rattle.model.specs.declared.event.Event.{Event}
-use Rattle.model.specs.declared.event.Event.TheVariants.{FreedOf, Asked, Told, Locked, Finished}
+use Rattle.model.specs.declared.event.Event.TheVariants.{FreedOf, Asked, Told, Finished}
 use Rattle.model.specs.declared.event.Start.TheVariants.{Robust}
 use Rattle.model.specs.declared.families.indices.robust.RobustStart.TheVariants.{Recover}
 use Rattle.model.specs.declared.families.indices.robust.calls.RobustFlight as flights
 use Rattle.model.specs.Families.Indices.Robust.Bounds.{most_steps}
-use Rattle.model.specs.Families.Indices.Robust.Promises.{cell_of, promise, AsksRight, AnswersRight, IsUnlocked, HeldThrough, StillToFree, IsProper, HasRecovered, LivesToRelease}
-use Rattle.model.specs.Families.Indices.Robust.Reading.{Deed, Frees, Asks, Yes, Locks, deeds, asked_in, filled_after, filled_of, holder_of, is_dead, deeds_of, IsOneOf}
+use Rattle.model.specs.Families.Indices.Robust.Promises.{cell_of, promise, AsksRight, AnswersRight, IsUnlocked, HeldThrough, StillToFree, HasRecovered, LivesToRelease}
+use Rattle.model.specs.Families.Indices.Robust.Reading.{Deed, Frees, Asks, Yes, deeds, asked_in, filled_after, filled_of, is_dead, deeds_of, IsOneOf}
 use Rattle.model.specs.Families.Indices.Robust.Spans.{HasJustFreed}
-use Rattle.model.specs.Families.Indices.Robust.Steps.{locked_by}
 use Rattle.model.specs.Families.Queues.Calls.{as_it_is}
 use Rattle.model.specs.Moments.{BeginsNone, HeldOnce}
 use Rattle.model.specs.Promises.Spans.{Stands}
 use Rattle.model.specs.Reading.{Open}
 use Rattle.model.specs.Step.{as_call}
-use Rattle.model.specs.Turns.{old_of, words_after, step_count}
+use Rattle.model.specs.Turns.{words_after, step_count}
 use Rattle.model.proofs.Moments.{held_now, held_later}
 use Rattle.model.proofs.Readings.{no_more, AllFollow, AreRight}
 use Rattle.robust_laws.proofs.Core.{counter_of, cell}
 use Rattle.robust_laws.proofs.Counting.{times_below}
 use Rattle.robust_laws.proofs.Deeds.{still_one, last_one, by_latest, was_one, all_so, asks_more, FreedWereAsked, freed_more}
-use Rattle.robust_laws.proofs.Effects.{proper_less, Stays, at_same, some_none, one_owner, both_ways, quiet_none, quiet_asked, quiet_told, quietly, unlocked, is_shut, stays_same, stays_raised, filled_by, filled_none, filled_some}
+use Rattle.robust_laws.proofs.Effects.{proper_less, Stays, at_same, some_none, one_owner, both_ways, quiet_asked, quiet_told, quietly, unlocked, is_shut, stays_same, stays_raised, filled_by, filled_none, filled_some}
 use Rattle.robust_laws.proofs.Frees.{frees}
 use Rattle.robust_laws.proofs.Invariant.{Scene, Inv, Good, Does, wrote_of}
 use Rattle.robust_laws.proofs.Knows.{Knows, IsPaid, WasOpen, AskedBelow, GoneBut, LockSays}
-use Rattle.robust_laws.proofs.Standing.{at_least_one, at_least_four, recover_at, recover_number, raise_number, lock_number, for_back, for_index, RecoverAt, LockAt, IsInCourse}
-use Rattle.robust_laws.proofs.Locks.{locks}
-use Rattle.robust_laws.proofs.Parts.{raise_ask, lock_ask, raise_step, lock_step, IsSaid, none_beyond}
+use Rattle.robust_laws.proofs.Standing.{at_least_one, at_least_four, recover_at, raise_number, for_back, for_index, RecoverAt, IsInCourse}
+use Rattle.robust_laws.proofs.Parts.{raise_ask, raise_step, none_beyond}
 use Rattle.robust_laws.proofs.Past.{through_less, through_now}
-use Rattle.robust_laws.proofs.Stages.{IsHere, Lengthens, all, now, sees, then_sees, backs_then, loads, exchanges, loads_same, fails_same, exchange_sets, deeds_more, StepOf, AnswerOf, Leads, goes_on, goes_quietly, ends_quietly}
+use Rattle.robust_laws.proofs.Stages.{IsHere, Lengthens, now, sees, then_sees, backs_then, loads, exchanges, loads_same, fails_same, exchange_sets, deeds_more, StepOf, AnswerOf, Leads, goes_on, goes_quietly, ends_quietly}
 
 most_is : (c backs : ℕ) (mode : ReleaseMode) → most_steps c (Recover mode) backs ≡ 2 + c * for_index c mode + backs * for_back c mode
 most_is c backs Default = omega arith
@@ -108,7 +105,7 @@ module _ {T : Type 0} (scene : Scene T) (inv : Inv scene) (mode : ReleaseMode) (
 
     module _ (stays : Stays scene (words_after ws ask)) (paid : IsPaid (sees scene ask back)) (asked : AllByRecursion (λ i. i < index + 1) (asked_in done)) (freed : FreedWereAsked done) (open_once : WasOpen (now scene))
         (says : AskedBelow (index + 1) (now scene)) (gone : GoneBut (λ i o. ⊥) (now scene)) where
-      comes_quietly : Lead ask back [] (recover_comes_to (call_at stage) (index + 1))
+      pub comes_quietly : Lead ask back [] (recover_comes_to (call_at stage) (index + 1))
       comes_quietly =
           by_test (λ s. Lead ask back [] (GoOn (at_recover (call_at stage) s))) (nat_lt (index + 1) c) (recovers.TheVariants.LoadsCell (index + 1)) recovers.TheVariants.LoadsCounterAgain
           (λ t.
@@ -126,7 +123,7 @@ module _ {T : Type 0} (scene : Scene T) (inv : Inv scene) (mode : ReleaseMode) (
         (stands : AllFollow (Stands promise c) (Open (Robust (Recover mode)) (wrote_of p events)) (did ++ [])) (asks : AreRight AsksRight events (did ++ [])) (paid : IsPaid (sees scene ask back))
         (asked : AllByRecursion (λ i. i < index + 1) (asked_in (done ++ deeds (did ++ [])))) (freed : FreedWereAsked (done ++ deeds (did ++ []))) (open_once : WasOpen (then_sees scene ask back (did ++ [])))
         (says : AskedBelow (index + 1) (then_sees scene ask back (did ++ []))) (gone : GoneBut (λ i o. ⊥) (then_sees scene ask back (did ++ []))) where
-      comes_loudly : Lead ask back did (recover_comes_to (call_at stage) (index + 1))
+      pub comes_loudly : Lead ask back did (recover_comes_to (call_at stage) (index + 1))
       comes_loudly =
           by_test (λ s. Lead ask back did (GoOn (at_recover (call_at stage) s))) (nat_lt (index + 1) c) (recovers.TheVariants.LoadsCell (index + 1)) recovers.TheVariants.LoadsCounterAgain
           (λ t.
@@ -142,16 +139,16 @@ module _ {T : Type 0} (scene : Scene T) (inv : Inv scene) (mode : ReleaseMode) (
   -- ---- what it knows once it has done one thing more
 
   module _ (d : Deed) (es : List (Event T)) (words' : List ℕ) (begins : BeginsNone p es) (more : deeds_of p (events ++ es) ≡ done ++ d ∷ []) (does : Does scene words' es) where
-    open_then : WasOpen (now scene) → HeldOnce p IsUnlocked (events ++ es)
+    pub open_then : WasOpen (now scene) → HeldOnce p IsUnlocked (events ++ es)
     open_then h = held_later p IsUnlocked events es begins h
 
     still_one_then : (one : Deed) → IsOneOf one done → IsOneOf one (deeds_of p (events ++ es))
     still_one_then one h = subst (IsOneOf one) (sym more) (still_one one d done h)
 
-    asked_then : (k : ℕ) → AskedBelow k (now scene) → (i owner : ℕ) → i < k → HeldThrough p (StillToFree p owner i) (events ++ es) → IsOneOf (Asks i owner) (deeds_of p (events ++ es))
+    pub asked_then : (k : ℕ) → AskedBelow k (now scene) → (i owner : ℕ) → i < k → HeldThrough p (StillToFree p owner i) (events ++ es) → IsOneOf (Asks i owner) (deeds_of p (events ++ es))
     asked_then k h i owner below through = still_one_then (Asks i owner) (h i owner below (through_less p (StillToFree p owner i) events es begins through))
 
-    gone_then : (Was Now : ℕ → ℕ → Type 0) → GoneBut Was (now scene) → ((i owner : ℕ) → Was i owner → is_dead owner events ≡ true → (filled_of i (events ++ es) ≢ Some owner) ⊎ Now i owner)
+    pub gone_then : (Was Now : ℕ → ℕ → Type 0) → GoneBut Was (now scene) → ((i owner : ℕ) → Was i owner → is_dead owner events ≡ true → (filled_of i (events ++ es) ≢ Some owner) ⊎ Now i owner)
         → ((i owner : ℕ) → d ≡ Yes i owner → (is_dead owner events ≡ true) × Now i owner)
         → (i owner : ℕ) → IsOneOf (Yes i owner) (deeds_of p (events ++ es)) → (is_dead owner (events ++ es) ≡ true) × ((filled_of i (events ++ es) ≢ Some owner) ⊎ Now i owner)
     gone_then Was Now h was new i owner told =
@@ -164,7 +161,7 @@ module _ {T : Type 0} (scene : Scene T) (inv : Inv scene) (mode : ReleaseMode) (
 
   -- ---- the load of the counter
 
-  loads_counter : done ≡ [] → steps ≤ 0 → Knows c (recover_at c mode recovers.TheVariants.LoadsCounter) (now scene) → StepOf scene (Recover mode) (recover_at c mode recovers.TheVariants.LoadsCounter)
+  pub loads_counter : done ≡ [] → steps ≤ 0 → Knows c (recover_at c mode recovers.TheVariants.LoadsCounter) (now scene) → StepOf scene (Recover mode) (recover_at c mode recovers.TheVariants.LoadsCounter)
   loads_counter none s k = go (counter_of ws == locked) refl
     where
       go : (b : Bool) → (counter_of ws == locked) ≡ b → Lead (Some (loads 0)) false [] (if b then Done states.TheVariants.Locked else recover_comes_to (call_at recovers.TheVariants.LoadsCounter) 0)
@@ -266,7 +263,7 @@ module _ {T : Type 0} (scene : Scene T) (inv : Inv scene) (mode : ReleaseMode) (
             gone = gone_then (Asks index (cell ws index)) asking (words_after ws load) tt asks_deeds asks_does (λ i o. ⊥) (λ i o. ⊥) k.gone (λ i o never. absurd never) (λ i o e. absurd (cc));
           })
 
-    loads_cell : StepOf scene (Recover mode) (recover_at c mode (recovers.TheVariants.LoadsCell index))
+    pub loads_cell : StepOf scene (Recover mode) (recover_at c mode (recovers.TheVariants.LoadsCell index))
     loads_cell = go (cell ws index == empty) refl
       where
         go : (b : Bool) → (cell ws index == empty) ≡ b → Lead (Some (loads (cell_word index))) false (if b then [] else Asked p index (cell ws index) ∷ [])
@@ -326,7 +323,7 @@ module _ {T : Type 0} (scene : Scene T) (inv : Inv scene) (mode : ReleaseMode) (
             gone = gone_then (Yes index owner) telling ws tt tells_deeds tells_does (λ i o. ⊥) (λ i o. (i ≡ index) × (o ≡ owner)) k.gone (λ i o never. absurd never) frees_this;
           })
 
-    decided : (answer : ℕ) → (answer ≢ 0 → is_dead owner events ≡ true) → AnswerOf scene (Recover mode) (recover_at c mode (recovers.TheVariants.Asks index owner)) None answer
+    pub decided : (answer : ℕ) → (answer ≢ 0 → is_dead owner events ≡ true) → AnswerOf scene (Recover mode) (recover_at c mode (recovers.TheVariants.Asks index owner)) None answer
     decided answer dead = go (answer == 0) refl
       where
         go : (b : Bool) → (answer == 0) ≡ b → Lead None false (if b then [] else Told p index owner ∷ [])
@@ -411,7 +408,7 @@ module _ {T : Type 0} (scene : Scene T) (inv : Inv scene) (mode : ReleaseMode) (
             gone = gone_then (Frees index owner) freeing (words_after ws exchange) tt frees_deeds frees_does (λ i o. (i ≡ index) × (o ≡ owner)) (λ i o. ⊥) k.gone (λ i o exempt d. inl (freed_here i o exempt)) (λ i o e. absurd (cc));
           })
 
-    empties_cell : StepOf scene (Recover mode) (recover_at c mode (recovers.TheVariants.EmptiesCell index owner))
+    pub empties_cell : StepOf scene (Recover mode) (recover_at c mode (recovers.TheVariants.EmptiesCell index owner))
     empties_cell = go (cell ws index == owner) refl
       where
         go : (b : Bool) → (cell ws index == owner) ≡ b → Lead (Some (exchanges (cell_word index) owner empty)) false (if b then FreedOf p index owner ∷ [] else [])
@@ -422,7 +419,7 @@ module _ {T : Type 0} (scene : Scene T) (inv : Inv scene) (mode : ReleaseMode) (
 
   -- ---- the second look at the counter
 
-  loads_again : FreedWereAsked done → steps ≤ 1 + c * for_index c mode + backs * for_back c mode → Knows c (recover_at c mode recovers.TheVariants.LoadsCounterAgain) (now scene)
+  pub loads_again : FreedWereAsked done → steps ≤ 1 + c * for_index c mode + backs * for_back c mode → Knows c (recover_at c mode recovers.TheVariants.LoadsCounterAgain) (now scene)
       → StepOf scene (Recover mode) (recover_at c mode recovers.TheVariants.LoadsCounterAgain)
   loads_again freed s k = go (counter_of ws == locked) refl
     where
@@ -463,7 +460,7 @@ module _ {T : Type 0} (scene : Scene T) (inv : Inv scene) (mode : ReleaseMode) (
         goes_quietly scene inv (Recover mode) (recover_at c mode (recovers.TheVariants.Locks index first_lock)) ask false here stays few (refl, refl, (course, just, e, tt))
         (record { paid = paid; scanned = tt; owns = tt; says = k.says; gone = k.gone })
 
-    raises_step : raises_to (Some (raise_ask raise)) (raise_goes_back raise (counter_of ws)) (raise_after raise (counter_of ws))
+    pub raises_step : raises_to (Some (raise_ask raise)) (raise_goes_back raise (counter_of ws)) (raise_after raise (counter_of ws))
     raises_step =
         let one = at_least_one c mode in
         raise_step scene inv raises_to raise k.paid
@@ -480,82 +477,3 @@ module _ {T : Type 0} (scene : Scene T) (inv : Inv scene) (mode : ReleaseMode) (
         (λ ask open_now new paid few.
         let low = few (3 + index * for_index c mode) (for_back c mode) one (omega arith) in
         goes_by_mode mode refl ask (stays_raised scene inv (words_after ws ask) open_now new) paid (omega arith))
-
-  -- ---- the lock
-
-  module _ (index : ℕ) (lock : Lock) (course : IsInCourse c index (index + 1) done) (just : HasJustFreed done) (may_lock : mode ≡ LockIfLastIndex) (at : LockAt c lock)
-      (s : steps ≤ 5 + lock_number c lock + index * for_index c mode + backs * for_back c mode) (k : Knows c (recover_at c mode (recovers.TheVariants.Locks index lock)) (now scene)) where
-    abbrev locks_to : Option Ask → Bool → List (Event T) → After Lock ReleaseState → Type 0
-    locks_to ask back did r = Lead ask back did (recover_locked (call_at (recovers.TheVariants.Locks index lock)) index r)
-
-    for_a_back : for_back c mode ≡ c + 3
-    for_a_back = ap (for_back c) may_lock
-
-    for_an_index : for_index c mode ≡ c + 7
-    for_an_index = ap (for_index c) may_lock
-
-    said : IsSaid scene inv (λ j filled. Unit {0})
-    said = record { none = tt; empty_next = λ j filled low none h. tt; filled_next = λ j filled o low is h. tt }
-
-    abbrev locking : List (Event T)
-    locking = Locked p ∷ []
-
-    module _ (ask : Option Ask) (none : IsProper events → (i : ℕ) → holder_of i events ≡ None) (open_now : counter_of ws ≢ locked) (new : words_after ws ask ≡ set ws 0 locked) (paid : IsPaid (sees scene ask false))
-        (few : Few ask false 1 (index + 1)) where
-      locks_does : Does scene (words_after ws ask) locking
-      locks_does = locks scene inv (words_after ws ask) [] quiet_none tt tt tt none open_now new
-
-      locks_deeds : deeds_of p (events ++ locking) ≡ done ++ Locks ∷ []
-      locks_deeds = deeds_more scene (Recover mode) here locking locks_does.own (λ start w. refl)
-
-      stands_there : AllFollow (Stands promise c) (Open (Robust (Recover mode)) (wrote_of p events)) locking
-      stands_there = subst (λ m. AllFollow (Stands promise c) (Open (Robust (Recover m)) (wrote_of p events)) locking) (sym may_lock) (just, tt)
-
-      locks_set : Lead ask false locking (recover_comes_to (call_at (recovers.TheVariants.Locks index lock)) (index + 1))
-      locks_set =
-          comes_loudly index course.within (recovers.TheVariants.Locks index lock) ask false few locking (λ start w. refl) locks_does stands_there (tt, tt) paid
-          (asks_more (index + 1) Locks done course.asked tt) (freed_more Locks done course.freed (λ i o e. absurd (cc)))
-          (open_then Locks locking (words_after ws ask) tt locks_deeds locks_does k.says.0)
-          (asked_then Locks locking (words_after ws ask) tt locks_deeds locks_does (index + 1) k.says.1)
-          (gone_then Locks locking (words_after ws ask) tt locks_deeds locks_does (λ i o. ⊥) (λ i o. ⊥) k.gone (λ i o never. absurd never) (λ i o e. absurd (cc)))
-
-    locks_step : locks_to (Some (lock_ask lock)) (lock_goes_back lock (old_of ws (Some (lock_ask lock)))) (locked_by p lock (old_of ws (Some (lock_ask lock)))) (lock_after c lock (old_of ws (Some (lock_ask lock))))
-    locks_step =
-        let wide = for_a_back in
-        let each = for_an_index in
-        lock_step scene inv (λ j filled. Unit {0}) said locks_to lock at k.paid k.scanned (nothing_said c lock)
-        (λ next ask back stays next_at paid scanned says few.
-        let low = few (5 + index * for_index c mode) (for_back c mode) (omega arith) (omega arith) in
-        goes_quietly scene inv (Recover mode) (recover_at c mode (recovers.TheVariants.Locks index next)) ask back here stays (omega arith) (refl, refl, (course, just, may_lock, next_at))
-        (record { paid = paid; scanned = scanned; owns = tt; says = k.says; gone = k.gone }))
-        (λ ask same shut paid few.
-        let low = few (5 + index * for_index c mode) (for_back c mode) (omega arith) (omega arith) in
-        comes_quietly index course.within (recovers.TheVariants.Locks index lock) ask false (omega arith) (stays_same scene inv (words_after ws ask) same) paid course.asked course.freed k.says.0 k.says.1 k.gone)
-        (λ filled ask stays open_now more says paid few.
-        let low = few (5 + index * for_index c mode) (for_back c mode) (omega arith) (omega arith) in
-        comes_quietly index course.within (recovers.TheVariants.Locks index lock) ask false (omega arith) stays paid course.asked course.freed k.says.0 k.says.1 k.gone)
-        (λ ask none open_now new paid few.
-        let low = few (5 + index * for_index c mode) (for_back c mode) (omega arith) (omega arith) in
-        locks_set ask none open_now new paid (omega arith))
-
-  -- ---- any step
-
-  pub recover_step : (stage : RecoverStage) → RecoverAt c mode (all scene) stage → Knows c (recover_at c mode stage) (now scene) → steps ≤ recover_number c mode stage backs → StepOf scene (Recover mode) (recover_at c mode stage)
-  recover_step recovers.TheVariants.LoadsCounter at k s = loads_counter at s k
-  recover_step (recovers.TheVariants.LoadsCell index) at k s = loads_cell index at s k
-  recover_step (recovers.TheVariants.Asks index owner) at k s = decided index owner at k s 0 (λ other. absurd (other refl))
-  recover_step (recovers.TheVariants.EmptiesCell index owner) at k s = empties_cell index owner at s k
-  recover_step (recovers.TheVariants.Raises index raises.TheVariants.LoadsCounter) at k s = raises_step index raises.TheVariants.LoadsCounter at.0 at.1 s k
-  recover_step (recovers.TheVariants.Raises index (raises.TheVariants.ExchangesCounter number)) at k s = raises_step index (raises.TheVariants.ExchangesCounter number) at.0 at.1 s k
-  recover_step (recovers.TheVariants.Locks index (parts.TheVariants.Counts counts.TheVariants.LoadsCounter)) at k s = locks_step index (parts.TheVariants.Counts counts.TheVariants.LoadsCounter) at.0 at.1 at.2 at.3 s k
-  recover_step (recovers.TheVariants.Locks index (parts.TheVariants.Counts (counts.TheVariants.LoadsCell number i filled))) at k s = locks_step index
-      (parts.TheVariants.Counts (counts.TheVariants.LoadsCell number i filled)) at.0 at.1 at.2 at.3 s k
-  recover_step (recovers.TheVariants.Locks index (parts.TheVariants.Counts (counts.TheVariants.ExchangesCounter number filled))) at k s = locks_step index
-      (parts.TheVariants.Counts (counts.TheVariants.ExchangesCounter number filled)) at.0 at.1 at.2 at.3 s k
-  recover_step (recovers.TheVariants.Locks index (parts.TheVariants.ExchangesCounter number)) at k s = locks_step index (parts.TheVariants.ExchangesCounter number) at.0 at.1 at.2 at.3 s k
-  recover_step recovers.TheVariants.LoadsCounterAgain at k s = loads_again at s k
-
-  pub recover_decided : (index owner : ℕ) → RecoverAt c mode (all scene) (recovers.TheVariants.Asks index owner) → Knows c (recover_at c mode (recovers.TheVariants.Asks index owner)) (now scene)
-      → steps ≤ recover_number c mode (recovers.TheVariants.Asks index owner) backs → (answer : ℕ) → (answer ≢ 0 → is_dead owner events ≡ true)
-      → AnswerOf scene (Recover mode) (recover_at c mode (recovers.TheVariants.Asks index owner)) None answer
-  recover_decided index owner at k s answer dead = decided index owner at k s answer dead

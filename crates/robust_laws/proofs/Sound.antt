@@ -38,7 +38,7 @@ use Rattle.model.specs.declared.party.Party.{Party}
 use Rattle.model.specs.declared.turn.Kind as kinds
 use Rattle.model.specs.declared.turn.Refusal.TheVariants.{BadIndex, OwnerIsDead, OwnerLives}
 use Rattle.model.specs.Coding.{Coding}
-use Rattle.model.specs.Families.{first_of, want_of, ask_of, is_question, going_rows, beside_of, step_of, kept_after_death, kept_after_begin}
+use Rattle.model.specs.Families.{first_of, want_of, is_question, going_rows, beside_of, step_of, kept_after_death, kept_after_begin}
 use Rattle.model.specs.Families as families
 use Rattle.model.specs.Families.Indices.Robust.Calls.{first, want}
 use Rattle.model.specs.Families.Indices.Robust.Dead.{has_died, dead_with, acts_for_dead, frees_living}
@@ -65,12 +65,12 @@ use Rattle.robust_laws.proofs.Effects.{both_ways, proper_less}
 use Rattle.robust_laws.proofs.Finds.{find_step, find_decided}
 use Rattle.robust_laws.proofs.Invariant.{RobustSet, Fit, Scene, Inv, Shows, view, family, wrote_of, at_written, owes, holds_more}
 use Rattle.robust_laws.proofs.Knows.{Knows}
-use Rattle.robust_laws.proofs.Standing.{acquire_at, release_at, find_at, recover_at, borrowed_at, looking, At, FindAt, RecoverAt}
+use Rattle.robust_laws.proofs.Standing.{acquire_at, find_at, recover_at, borrowed_at, At, FindAt, RecoverAt}
 use Rattle.robust_laws.proofs.Standing as standing
 use Rattle.robust_laws.proofs.Looks.{borrowed_step, looks_step}
 use Rattle.robust_laws.proofs.Opening.{opening_good, admitted_is}
 use Rattle.robust_laws.proofs.Past.{since_begun}
-use Rattle.robust_laws.proofs.Recovers.{recover_step, recover_decided}
+use Rattle.robust_laws.proofs.RecoverSteps.{recover_step, recover_decided}
 use Rattle.robust_laws.proofs.Releases.{release_step}
 use Rattle.robust_laws.proofs.Rights.{IsBy, AreOwned}
 use Rattle.robust_laws.proofs.Stages.{IsHere, all, now, StepOf, DecisionOf}

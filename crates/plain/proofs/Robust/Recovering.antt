@@ -125,7 +125,7 @@ module _ {F S : Type 0} (step : F → ℕ → ℕ → Bool → F → Type 0) (te
   want c given = recover_want c
 
   abbrev kept : Recover → Unit {0} → ℕ → Unit {0}
-  kept c room old = room
+  kept c room _ = room
 
   -- It asked about these, and these are left. Where it stops next, the words are these.
   pub record Recovering (done : ℕ) (call : Recover) (p : F) (q : S) (words : List ℕ) : Type 0 where
