@@ -90,7 +90,7 @@ empty_good cells =
       held = λ i v e. absurd (cc);
     }
 
-all_free : (n i : ℕ) → place_at (replicate n places.Free) i ≡ places.Free
+pub all_free : (n i : ℕ) → place_at (replicate n places.Free) i ≡ places.Free
 all_free zero i = refl
 all_free (suc n) zero = refl
 all_free (suc n) (suc i) = all_free n i

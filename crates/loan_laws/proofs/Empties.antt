@@ -59,7 +59,7 @@ use Rattle.loan_laws.proofs.Sender.{party_then, Steps}
 use Rattle.loan_laws.proofs.Sents.{ComesTo, IsHome, comes_to, all_home}
 use Rattle.loan_laws.proofs.Spots.{is_returning, returns_there, spot_other, spot_moved}
 use Rattle.loan_laws.proofs.Table.{sent_there, returning_away, takes_it_back}
-use Rattle.loan_laws.proofs.TakeBacks.{take_keeps, first_of}
+use Rattle.loan_laws.proofs.TakenOff.{take_keeps, first_of}
 use Rattle.loan_laws.proofs.Told.{is_reclaiming}
 use Rattle.loan_laws.proofs.Waits.{cell_place}
 

@@ -18,7 +18,6 @@ use Rattle.model.specs.Families.Queues.Reading.{published, handed_out}
 use Rattle.model.specs.Parties.{party_of, doing_of, flight_of}
 use Rattle.model.specs.Reading.{Each, Span, Never, Open, Ended, span_of}
 use Rattle.model.specs.Shape.{IsOpen}
-use Rattle.model.proofs.Frame as frame
 use Rattle.model.proofs.Frame.{Family}
 use Rattle.queue_laws.proofs.Queues.Core.{Core}
 use Rattle.loan_laws.proofs.Channel.{Channel, Fit, Holds}

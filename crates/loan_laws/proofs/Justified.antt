@@ -143,7 +143,7 @@ loan_keeps {T} =
     record {
       kept = λ t is r.
           let s = reached t is r in
-          subst (λ P. IsKeptBy P t) (sym (ap (promise_of {T = T}) is)) (kept_by t s.0 s.1.holds.parts.set.some s.1 s.2);
+          subst (λ P. IsKeptBy P t) (sym (ap (promise_of {T = T}) is)) (kept_by t s.0 s.1.holds.parts.set.some s.1 s.2 s.3);
       turn = λ t turn is e r.
           let s = reached t is r in
           subst (λ P. IsTurnBy P t turn (after_turn t turn)) (sym (ap (promise_of {T = T}) is))

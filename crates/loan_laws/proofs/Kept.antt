@@ -6,7 +6,7 @@ use Rattle.model.specs.declared.event.Event.{Event}
 use Rattle.model.specs.declared.event.Item.{Item}
 use Rattle.model.specs.declared.event.Item.TheVariants.{Index}
 use Rattle.model.specs.Families.Loan.Promises.{sent_in, given_back_in, AreThose, KeepsBook, LivesRight, IsChannelBy, IsChannel, promise}
-use Rattle.model.specs.Families.Loan.Reading.{Spot, Free, Waiting, Returning, spot_of, receiver_of, given_back, taken_back, queue_moments}
+use Rattle.model.specs.Families.Loan.Reading.{Spot, Free, Waiting, Returning, spot_of, place_of, receiver_of, given_back, taken_back, queue_moments}
 use Rattle.model.specs.Families.Queues.Objects.{overflowing_list}
 use Rattle.model.specs.Families.Queues.Reading.{published, handed_out, waiting}
 use Rattle.model.specs.Objects.{IsLegal, standing}
@@ -22,6 +22,7 @@ use Rattle.loan_laws.proofs.Channel.{kept_is, no_roles}
 use Rattle.loan_laws.proofs.Invariant.{sends_at, counted_for, carried_open, family}
 use Rattle.loan_laws.proofs.Placed.{claim_of, IsBy}
 use Rattle.loan_laws.proofs.Spots.{is_waiting, is_returning, waits_there, returns_there}
+use Rattle.loan_laws.proofs.Tabled.{IsTabled, place_in}
 use Rattle.loan_laws.proofs.Told.{items}
 use Rattle.loan_laws.proofs.Waits.{sent_is, back_is, are_those}
 
@@ -38,8 +39,8 @@ module _ {T : Type 0} where
   pub waiting_is : (events : List (Event T)) (rest : List (Item T)) → published events ≡ handed_out events ++ rest → waiting events ≡ rest
   waiting_is events rest book = ap (drop (length (handed_out events))) book ∙ drop_at (handed_out events) rest (length (handed_out events)) refl
 
-  channel_kept : (t : Trace T) (queue : ℕ) → (s : frame.Sound (family t.world.coding t.world.capacity queue) t) → Each LivesRight t.events → IsChannel t
-  channel_kept t queue s lives =
+  channel_kept : (t : Trace T) (queue : ℕ) → (s : frame.Sound (family t.world.coding t.world.capacity queue) t) → Each LivesRight t.events → IsTabled t → IsChannel t
+  channel_kept t queue s lives tabled =
       let w = t.world in
       let k = s.state in
       let hold = s.holds in
@@ -70,6 +71,7 @@ module _ {T : Type 0} where
         begins = hold.begins;
         answers = hold.answers;
         lives = lives;
+        table = λ index. subst (λ kept. place_in kept index ≡ place_of index t.events) is.0 (tabled index);
         passing = λ index p e. carried_open index (span_of p t.events) (hold.passing index p e);
         parties = λ index p by. subst (λ es. IsBy p (spot_of index es) → (p ≡ 0) ⊎ (p ≡ receiver_of es)) hold.same (parts.placed.parties index p) by;
         flags = λ index below. (λ some. claim_tells (spot_of index t.events) (sym (flag index below) ∙ some), λ ne. flag index below ∙ claim_told (spot_of index t.events) ne);
@@ -97,11 +99,11 @@ module _ {T : Type 0} where
         keeps = subst (λ es. KeepsBook k.book es) hold.same parts.placed.keeps;
       })
 
-  pub kept_by : (t : Trace T) (queue : ℕ) → 1 ≤ t.world.capacity → (s : frame.Sound (family t.world.coding t.world.capacity queue) t) → Each LivesRight t.events → IsKeptBy promise t
-  kept_by t queue some s lives =
+  pub kept_by : (t : Trace T) (queue : ℕ) → 1 ≤ t.world.capacity → (s : frame.Sound (family t.world.coding t.world.capacity queue) t) → Each LivesRight t.events → IsTabled t → IsKeptBy promise t
+  kept_by t queue some s lives tabled =
       let w = t.world in
       record {
         spans = s.inv.spans;
         progress = λ p. frame.progresses (family w.coding w.capacity queue) (bounds w.coding w.capacity queue some) s.state p t.events w.changes (party_of p w.latest) (span_of p t.events) (s.inv.calls p) (s.inv.knows p);
-        promised = channel_kept t queue s lives;
+        promised = channel_kept t queue s lives tabled;
       }

@@ -31,7 +31,7 @@ use Rattle.model.proofs.Rows.{passes}
 use Rattle.model.proofs.Scenes.{asked, StandsThere, stands_there, ComesFrom, comes_from}
 use Rattle.loan_laws.proofs.Asks.{never_asks}
 use Rattle.loan_laws.proofs.BeginLaw.{begin_comes}
-use Rattle.loan_laws.proofs.Channel.{Channel, words_in, kept_is}
+use Rattle.loan_laws.proofs.Channel.{Channel, words_in, kept_is, all_free}
 use Rattle.loan_laws.proofs.Deaths.{death_comes}
 use Rattle.loan_laws.proofs.GiveBackStep.{give_back_comes}
 use Rattle.loan_laws.proofs.GiveUpStep.{give_up_releases}
@@ -47,6 +47,7 @@ use Rattle.loan_laws.proofs.Releases.{give_up_at}
 use Rattle.loan_laws.proofs.Senders.{Stands, Comes}
 use Rattle.loan_laws.proofs.SendStep.{send_at, send_steps}
 use Rattle.loan_laws.proofs.StepLaw.{channel}
+use Rattle.loan_laws.proofs.Tabled.{IsTabled, turn_tabled}
 use Rattle.loan_laws.proofs.TakeBackStep.{take_back_at, take_back_steps}
 
 module _ {T : Type 0} (code : Coding T) (slots queue : ℕ) (t : Trace T) (sound : frame.Sound (channel code slots queue) t) (small : t.world.turns < 2 ^ 64 - 2) (x : Party T) (since : ℕ) where
@@ -126,19 +127,21 @@ module _ {T : Type 0} (code : Coding T) (slots queue : ℕ) where
         death = λ t owner s may. death_comes code slots queue t owner s may;
       }
 
--- a machine that was reached is a sound one of some second number, and its dead do nothing more
-pub reached : {T : Type 0} (t : Trace T) → t.world.kind ≡ kinds.TheVariants.Loan → IsReached t → (queue : ℕ) × frame.Sound (family t.world.coding t.world.capacity queue) t × Each LivesRight t.events
+-- a machine that was reached is a sound one of some second number, its dead do nothing more, and its table is right
+pub reached : {T : Type 0} (t : Trace T) → t.world.kind ≡ kinds.TheVariants.Loan → IsReached t → (queue : ℕ) × frame.Sound (family t.world.coding t.world.capacity queue) t × Each LivesRight t.events × IsTabled t
 reached {T} t is r = kept_by_runs IsSound keeps t first r
   where
     IsSound : Trace T → Type 0
-    IsSound u = (queue : ℕ) × frame.Sound (family t.world.coding t.world.capacity queue) u × Each LivesRight u.events
+    IsSound u = (queue : ℕ) × frame.Sound (family t.world.coding t.world.capacity queue) u × Each LivesRight u.events × IsTabled u
 
     keeps : (u : Trace T) (turn : Turn T) → refusal_of u.world turn ≡ None → IsSound u → IsSound (after_turn u turn)
     keeps u turn e h =
-        let passed = passes u.world turn e in (
+        let passed = passes u.world turn e in
+        let sound = frame.turn_sound (family t.world.coding t.world.capacity h.0) (λ t. t.world.turns < 2 ^ 64 - 2) (laws t.world.coding t.world.capacity h.0) u turn passed.on passed.turns h.1 in (
           h.0,
-          frame.turn_sound (family t.world.coding t.world.capacity h.0) (λ t. t.world.turns < 2 ^ 64 - 2) (laws t.world.coding t.world.capacity h.0) u turn passed.on passed.turns h.1,
+          sound,
           turn_lives t.world.coding t.world.capacity h.0 u h.1 turn passed.on h.2,
+          turn_tabled t.world.coding t.world.capacity h.0 u h.1 h.3 turn sound.holds.moves,
         )
 
     first : (queue : ℕ) → queue_error t.world.kind queue ≡ None → IsSound (opened t.world.coding t.world.kind t.world.capacity queue t.world.parties)
@@ -149,4 +152,5 @@ reached {T} t is r = kept_by_runs IsSound keeps t first r
           queue,
           subst (λ kind. frame.Sound (family w.coding w.capacity queue) (opened w.coding kind w.capacity queue w.parties)) (sym is) (opening_sound w.capacity queue few.0 few.1 fits.0 fits.1 w.coding w.parties),
           Each-nil _,
+          subst (λ kind. IsTabled (opened w.coding kind w.capacity queue w.parties)) (sym is) (λ i. all_free w.capacity i),
         )

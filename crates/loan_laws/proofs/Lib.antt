@@ -51,6 +51,7 @@ pub mod Releasing
 pub mod Rooms
 pub mod SendMoves
 pub mod SendStep
+pub mod SendSteps
 pub mod Sender
 pub mod Senders
 pub mod Sends
@@ -61,8 +62,10 @@ pub mod StepLaw
 pub mod Still
 pub mod Submission
 pub mod Table
+pub mod Tabled
 pub mod TakeBackStep
 pub mod TakeBacks
+pub mod TakenOff
 pub mod Theirs
 pub mod Told
 pub mod Turns

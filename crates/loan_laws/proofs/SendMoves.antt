@@ -1,6 +1,6 @@
 -- The last steps of a send's push over a full queue: it moves the read position, and loads the index that so leaves; or a receive
 -- has made room before.
-use Rattle.std.proofs.Common.{◌≡◌, ◌≢◌, ℕ, suc, ◌+◌, ◌-◌, ◌%◌, ◌^◌, ◌<◌, ◌≤◌, ◌==◌, ⊎_elim, inl, inr, Bool, true, false, Option, Some, None, List, [], ◌∷◌, ◌++◌, length, get_or, fold, refl, sym, ap, subst, ◌∙◌, append-nil, append_assoc, length-append, arith}
+use Rattle.std.proofs.Common.{◌≡◌, ◌≢◌, ℕ, suc, ◌+◌, ◌-◌, ◌%◌, ◌^◌, ◌<◌, ◌≤◌, ◌==◌, ⊎_elim, inl, inr, true, false, Option, Some, None, List, [], ◌∷◌, ◌++◌, length, get_or, fold, refl, sym, ap, subst, ◌∙◌, append-nil, append_assoc, length-append, arith}
 use Rattle.std.proofs.lemmas.Bool.{cases_eq}
 use Rattle.std.proofs.lemmas.Bool.Decides.{nat_tests}
 use Rattle.std.proofs.lemmas.List.{set-get_or}
@@ -37,22 +37,20 @@ use Rattle.model.specs.Families.Queues.Reading.{published, handed_out}
 use Rattle.model.specs.Reading.{Open, own_after, span_of}
 use Rattle.model.specs.Turns.{change_of}
 use Rattle.model.proofs.Readings.{span_of-own, span_of-other}
-use Rattle.queue_laws.proofs.Overflow.Core.{oldest, push_over}
+use Rattle.queue_laws.proofs.Overflow.Core.{push_over}
 use Rattle.queue_laws.proofs.Overflow.Keeping.{take_keeps_pop}
-use Rattle.queue_laws.proofs.Overflow.Knows.{KnowsOverflowPush, overflow_push_number}
 use Rattle.queue_laws.proofs.Queues.Core.{Core, taken}
 use Rattle.loan_laws.proofs.Channel.{Channel, words_in}
 use Rattle.loan_laws.proofs.Invariant.{Hangs, sends_at, counted_for, hung, reclaims_in, Carries, HoldsNow}
-use Rattle.loan_laws.proofs.Knows.{Passes, PushAt, push_wrote, wrote_in, At}
+use Rattle.loan_laws.proofs.Knows.{Passes, push_wrote, wrote_in, At}
 use Rattle.loan_laws.proofs.Lists.{first_there}
 use Rattle.loan_laws.proofs.OnQueues.{OnQueues, queues_show, silent_tells}
 use Rattle.loan_laws.proofs.Parts.{submission_old}
 use Rattle.loan_laws.proofs.Placed.{Placed}
-use Rattle.loan_laws.proofs.Publishes.{stores_write}
 use Rattle.loan_laws.proofs.Releases.{send_frees_at}
 use Rattle.loan_laws.proofs.Rooms.{sent_below, index_is}
 use Rattle.loan_laws.proofs.Sender.{party_then}
-use Rattle.loan_laws.proofs.Sends.{pushes_at, asked, old, queued, goes, effect_at, StepTo, Does, Here, reached, long, old_is, words_are, change_is, loads_write, loads_read, stores_cell}
+use Rattle.loan_laws.proofs.Sends.{pushes_at, asked, old, queued, goes, effect_at, StepTo, Does, Here, reached, long, old_is, words_are, change_is}
 use Rattle.loan_laws.proofs.Spots.{is_waiting, waits_there, spot_other, spot_moved}
 use Rattle.loan_laws.proofs.Still.{AreStill, spots_still, receiver_still, placed_still}
 use Rattle.loan_laws.proofs.Submission as submission
@@ -115,7 +113,7 @@ module _ {T : Type 0} (code : Coding T) (slots queue : ℕ) (s : Channel T) (lat
 
   -- ---- it takes the oldest index out
 
-  abbrev moves : PushStage
+  abbrev pub moves : PushStage
   moves = pushes.TheVariants.MovesRead s.submission.read
 
   abbrev loads : PushStage
@@ -281,7 +279,7 @@ module _ {T : Type 0} (code : Coding T) (slots queue : ℕ) (s : Channel T) (lat
         )
 
     -- as the call computes it
-    moves_read : Does_at moves
+    pub moves_read : Does_at moves
     moves_read =
         let t : (s.submission.read == s.submission.read) ≡ true = grind (arith, nat_tests) in
         let found : value moves ≡ s.submission.read = old_is code slots queue s latest turns changes since x h small index straight moves on in
@@ -298,13 +296,13 @@ module _ {T : Type 0} (code : Coding T) (slots queue : ℕ) (s : Channel T) (lat
 
   -- ---- a receive has moved it before: the send has acted, and ends
 
-  abbrev acted : Event T
+  abbrev pub acted : Event T
   acted = Acted 0 call answers.PoppedNone
 
   abbrev ends : Event T
   ends = Finished 0 call answers.PoppedNone
 
-  abbrev late : ℕ → PushStage
+  abbrev pub late : ℕ → PushStage
   late read = pushes.TheVariants.MovesRead read
 
   module _ (read : ℕ) (here : Here code slots queue s latest turns changes since x h small index straight (late read)) (from : span_of 0 s.events ≡ Open call (publishes ∷ acted ∷ [])) (moved : (s.submission.read == read) ≡ false) (apart : (read == s.submission.read) ≡ false) (steps : x.steps ≤ 4) where
@@ -382,7 +380,7 @@ module _ {T : Type 0} (code : Coding T) (slots queue : ℕ) (s : Channel T) (lat
       refl,
     )
 
-    moves_late : Does_at (late read)
+    pub moves_late : Does_at (late read)
     moves_late =
         let found : value (late read) ≡ s.submission.read = old_is code slots queue s latest turns changes since x h small index straight (late read) on_late in
         let wrote : push_wrote {T = T} queue s.submission index (late read) ≡ publishes ∷ acted ∷ [] = rw apart refl in
@@ -472,7 +470,7 @@ module _ {T : Type 0} (code : Coding T) (slots queue : ℕ) (s : Channel T) (lat
           refl,
         )
 
-    loads_cell : Does_at stage
+    pub loads_cell : Does_at stage
     loads_cell =
         let few = h.parts.set.few in
         let low : slots < 2 ^ 32 = omega arith in
@@ -484,38 +482,3 @@ module _ {T : Type 0} (code : Coding T) (slots queue : ℕ) (s : Channel T) (lat
           channel_then = s_free;
           step = subst (λ a. To s_free (wrote_out read) stage a effects.Quiet) (sym is_after) has_it;
         }
-
-  -- ---- every step of the push
-
-  -- what a send knows leads on
-  pub does : (now : PushStage) → Here code slots queue s latest turns changes since x h small index straight now → span_of 0 s.events ≡ Open call (push_wrote queue s.submission index now) → KnowsOverflowPush queue s.submission index now → PushAt slots queue s index now → x.steps ≤ overflow_push_number now → Does_at now
-  does pushes.TheVariants.HandsBack here from known stands steps = absurd stands
-  does pushes.TheVariants.LoadsWrite here from known stands steps = loads_write code slots queue s latest turns changes since x h small index straight stands from here steps
-  does (pushes.TheVariants.LoadsRead write) here from known stands steps =
-      subst Does_at (ap (λ n. pushes.TheVariants.LoadsRead n) (sym known.1))
-      (loads_read code slots queue s latest turns changes since x h small index straight stands from (subst (λ n. Here code slots queue s latest turns changes since x h small index straight (pushes.TheVariants.LoadsRead n)) known.1 here) steps)
-  does (pushes.TheVariants.StoresCell write read) here from known stands steps =
-      subst Does_at (ap (λ n. pushes.TheVariants.StoresCell n read) (sym known.1))
-      (stores_cell code slots queue s latest turns changes since x h small index straight stands from read known.2 known.3 (subst (λ n. Here code slots queue s latest turns changes since x h small index straight (pushes.TheVariants.StoresCell n read)) known.1 here) steps)
-  does (pushes.TheVariants.StoresWrite write read) here from known stands steps =
-      subst Does_at (ap (λ n. pushes.TheVariants.StoresWrite n read) (sym known.1))
-      (stores_write code slots queue s latest turns changes since x h small index straight read (subst (λ n. Here code slots queue s latest turns changes since x h small index straight (pushes.TheVariants.StoresWrite n read)) known.1 here) stands from known.4 steps known.2 known.3)
-  does (pushes.TheVariants.MovesRead read) here from known stands steps = go (s.submission.read == read) refl
-    where
-      go : (b : Bool) → (s.submission.read == read) ≡ b → Does_at (pushes.TheVariants.MovesRead read)
-      go true e =
-          let same : read ≡ s.submission.read = grind (arith, nat_tests) in
-          let t : (s.submission.read == s.submission.read) ≡ true = grind (arith, nat_tests) in
-          let last = known.3 same in
-          let far = known.2 in
-          let write = h.parts.submission.write in
-          let old = oldest queue s.submission h.parts.submission (omega arith) in
-          let wrote : push_wrote {T = T} queue s.submission index moves ≡ publishes ∷ [] = rw t refl in
-          subst Does_at (ap (λ n. pushes.TheVariants.MovesRead n) (sym same))
-          (moves_read (subst (λ n. Here code slots queue s latest turns changes since x h small index straight (pushes.TheVariants.MovesRead n)) same here) (subst (λ n. span_of 0 s.events ≡ Open call (push_wrote queue s.submission index (pushes.TheVariants.MovesRead n))) same from ∙ ap (λ es. Open call es) wrote) last.0 old.0 last.1 old.1 (omega arith) steps)
-      go false e =
-          let ne : s.submission.read ≢ read = grind (arith, nat_tests) in
-          let apart : (read == s.submission.read) ≡ false = (let other : read ≢ s.submission.read = λ same. ne (sym same) in grind (arith, nat_tests)) in
-          let wrote : push_wrote {T = T} queue s.submission index (late read) ≡ publishes ∷ acted ∷ [] = rw apart refl in
-          moves_late read here (from ∙ ap (λ es. Open call es) wrote) e apart steps
-  does (pushes.TheVariants.LoadsCell read) here from known stands steps = loads_cell read here from stands steps

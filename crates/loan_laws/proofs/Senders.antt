@@ -33,7 +33,7 @@ use Rattle.loan_laws.proofs.GiveBacks as give_backs
 use Rattle.loan_laws.proofs.GiveBacks.{give_at}
 use Rattle.loan_laws.proofs.Receives as receives
 use Rattle.loan_laws.proofs.Receives.{receive_at, IsLook}
-use Rattle.loan_laws.proofs.SendMoves as sends
+use Rattle.loan_laws.proofs.SendSteps as sends
 use Rattle.loan_laws.proofs.Sends.{pushes_at, asked, old, goes, effect_at}
 use Rattle.loan_laws.proofs.Sender.{Steps}
 use Rattle.loan_laws.proofs.Knows.{push_wrote}

@@ -4,7 +4,6 @@ use Rattle.std.proofs.lemmas.Bool.Decides.{nat_tests}
 use Rattle.steps.specs.declared.ask.Ask.{Ask}
 use Rattle.steps.specs.declared.ask.After.{After}
 use Rattle.steps.specs.declared.ask.After.TheVariants.{GoOn}
-use Rattle.steps.specs.declared.indices.unique.ReleaseStage as releases
 use Rattle.steps.specs.declared.loan.send.Send as send
 use Rattle.steps.specs.declared.loan.send.SendStage as sends
 use Rattle.steps.specs.declared.copied.OneWord.{OneWord}
@@ -18,7 +17,6 @@ use Rattle.steps.specs.Queues.Overflow.{push_asks}
 use Rattle.steps.specs.Queues.Ring.{load}
 use Rattle.steps.specs.Routine.{went_on}
 use Rattle.model.specs.declared.event.Answer.{Answer}
-use Rattle.model.specs.declared.event.Answer.TheVariants as answers
 use Rattle.model.specs.declared.event.Event.{Event}
 use Rattle.model.specs.declared.event.Item.{Item}
 use Rattle.model.specs.declared.event.Item.TheVariants.{Index}

@@ -16,7 +16,6 @@ use Rattle.model.specs.Families.Loan.Opening.{taken_from}
 use Rattle.model.specs.Families.Loan.Promises.{holder_in, IsIn}
 use Rattle.model.specs.Families.Loan.Reading.{Spot, Free, Passing, With, Waiting, Returning, Move, move_of, spot_of, receiver_after, receiver_of, died_after}
 use Rattle.model.specs.Families.Loan.Steps.{book_after}
-use Rattle.index_laws.proofs.Core.{holder}
 use Rattle.loan_laws.proofs.Lists.{first_there, lists_pass, lists_push, lists_pop}
 use Rattle.loan_laws.proofs.Placed.{claim_of, IsBy, Placed, placed_more}
 use Rattle.loan_laws.proofs.Spots.{is_waiting, is_returning, waits_there, returns_there}

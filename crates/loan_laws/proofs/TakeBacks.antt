@@ -1,5 +1,5 @@
 -- The steps of a take-back until it releases its index: the sender pops the completion queue.
-use Rattle.std.proofs.Common.{◌≡◌, ◌≢◌, ℕ, suc, ◌+◌, ◌-◌, ◌^◌, ◌<◌, ◌≤◌, ◌==◌, ◌||◌, ◌⊎◌, ⊎_elim, Bool, true, false, Option, Some, None, List, [], ◌∷◌, ◌++◌, length, fold, refl, sym, ap, subst, ◌∙◌, append-nil, arith}
+use Rattle.std.proofs.Common.{◌≡◌, ◌≢◌, ℕ, ◌+◌, ◌-◌, ◌^◌, ◌<◌, ◌≤◌, ◌==◌, ◌||◌, ◌⊎◌, ⊎_elim, Bool, true, false, Option, Some, None, List, [], ◌∷◌, ◌++◌, length, fold, refl, sym, ap, subst, ◌∙◌, append-nil, arith}
 use Rattle.std.proofs.lemmas.Bool.{cases_eq}
 use Rattle.std.proofs.lemmas.Bool.Decides.{nat_tests}
 use Rattle.std.proofs.lemmas.List.{set-get_or}
@@ -9,10 +9,7 @@ use Rattle.steps.specs.declared.ask.After.{After}
 use Rattle.steps.specs.declared.ask.After.TheVariants.{GoOn, Done}
 use Rattle.steps.specs.declared.copied.OneWord.{OneWord}
 use Rattle.steps.specs.declared.indices.unique.ReleaseStage as releases
-use Rattle.steps.specs.declared.loan.take_back.TakeBack as take_back
 use Rattle.steps.specs.declared.loan.take_back.TakeBackStage as take_backs
-use Rattle.steps.specs.declared.queues.ring.PushStage.{PushStage}
-use Rattle.steps.specs.declared.queues.ring.PushStage as pushes
 use Rattle.steps.specs.declared.queues.ring.PopStage.{PopStage}
 use Rattle.steps.specs.declared.queues.ring.PopStage as pops
 use Rattle.steps.specs.Loan.Layout.{completion_word}
@@ -44,7 +41,7 @@ use Rattle.model.specs.Turns.{old_of, words_after, step_count, ending_of}
 use Rattle.model.proofs.Readings.{span_of-own, span_of-other}
 use Rattle.queue_laws.proofs.Queues.Core.{Core, taken}
 use Rattle.queue_laws.proofs.Queues.Knows.{layout, in_one}
-use Rattle.queue_laws.proofs.Ring.Knows.{KnowsPush, KnowsPop, pop_number}
+use Rattle.queue_laws.proofs.Ring.Knows.{KnowsPop, pop_number}
 use Rattle.loan_laws.proofs.Channel.{Channel, no_roles, words_in}
 use Rattle.loan_laws.proofs.Completion as completion
 use Rattle.loan_laws.proofs.Cuts.{IsOn}
@@ -54,42 +51,18 @@ use Rattle.loan_laws.proofs.Lists.{first_there, lists_stay}
 use Rattle.loan_laws.proofs.OnQueues.{OnQueues, queues_then, queues_show, silent_tells}
 use Rattle.loan_laws.proofs.Parts.{completion_long, completion_old, completion_words}
 use Rattle.loan_laws.proofs.Placed.{Placed, placed_on}
+use Rattle.loan_laws.proofs.Receives.{word_of}
 use Rattle.loan_laws.proofs.Releases.{take_back_frees_at}
 use Rattle.loan_laws.proofs.Rooms.{back_below, index_is}
 use Rattle.loan_laws.proofs.Sender.{party_then, Steps}
 use Rattle.loan_laws.proofs.Spots.{is_waiting, is_returning, returns_there, spot_stays, spot_other, spot_moved}
 use Rattle.loan_laws.proofs.Table.{takes_it_back}
+use Rattle.loan_laws.proofs.TakenOff.{take_keeps, first_of}
 use Rattle.loan_laws.proofs.Told.{is_reclaiming}
 
 abbrev pub pops_at : ℕ → ℕ → PopStage → OneWord → LoanFlight
 pops_at slots queue stage found =
     TakeBack (record { call = record { slots = slots; queue = queue; stage = take_backs.TheVariants.Pops stage found }; given = tt; room = tt })
-
--- a room with this word
-abbrev pub word_of : ℕ → OneWord
-word_of v = record { 0 = v }
-
--- how a take-back goes on that goes on so
-abbrev pub taken_after : (T : Type 0) → After take_back.TakeBack (Option ℕ) → After LoanFlight (Answer T)
-taken_after T after = as_call TakeBack popped (went_on as_it_is tt tt after)
-
--- a push of the same queue, where the first value leaves
-pub take_keeps : (slots : ℕ) (k : Core ℕ) (v : ℕ) (rest : List ℕ) → k.waiting ≡ v ∷ rest → (w : ℕ) (stage : PushStage) → KnowsPush one_word slots k w stage → KnowsPush one_word slots (taken 1 words_of_index slots k rest) w stage
-take_keeps slots k v rest is w pushes.TheVariants.LoadsWrite h = h
-take_keeps slots k v rest is w (pushes.TheVariants.LoadsRead write) h = h
-take_keeps slots k v rest is w (pushes.TheVariants.StoresCell write cell at) h =
-    let long : length k.waiting ≡ suc (length rest) = ap length is in
-    let room = h.1 in
-    (h.0, omega arith, h.2, h.3, h.4)
-take_keeps slots k v rest is w (pushes.TheVariants.StoresWrite write) h =
-    let long : length k.waiting ≡ suc (length rest) = ap length is in
-    let room = h.1 in
-    (h.0, omega arith, h.2)
-
--- a queue that has something has a first one
-pub first_of : (xs : List ℕ) → 0 < length xs → (v : ℕ) × (rest : List ℕ) × (xs ≡ v ∷ rest)
-first_of [] some = absurd (omega arith)
-first_of (x ∷ xs) some = (x, xs, refl)
 
 not_passing : (q : ℕ) → Passing q ≡ Returning → ⊥
 not_passing q e = absurd (cc)
@@ -112,7 +85,7 @@ module _ {T : Type 0} (code : Coding T) (slots queue : ℕ) (s : Channel T) (lat
   queued = layout no_roles s.completion
 
   abbrev pub goes : PopStage → OneWord → ℕ → After LoanFlight (Answer T)
-  goes stage found value = taken_after T (take_back_takes (record { slots = slots; queue = queue; stage = take_backs.TheVariants.Pops stage found }) (take_backs.TheVariants.Pops stage found) value)
+  goes stage found value = as_call TakeBack popped (went_on as_it_is tt tt (take_back_takes (record { slots = slots; queue = queue; stage = take_backs.TheVariants.Pops stage found }) (take_backs.TheVariants.Pops stage found) value))
 
   abbrev events_by : Effect → After LoanFlight (Answer T) → List (Event T)
   events_by effect after = effects_of 0 effect (answer_in after) ++ ending_of 0 start (answer_in after)

@@ -1,5 +1,6 @@
 -- The definitions of the loan channel at worked runs.
 use Rattle.std.proofs.Common.{◌≡◌, ℕ, Option, Some, None, List, [], ◌∷◌, ◌++◌, refl}
+use Rattle.steps.specs.declared.loan.places.Place.TheVariants as places
 use Rattle.model.specs.declared.event.Answer.TheVariants.{Index, Number, PoppedNone, PoppedIndex}
 use Rattle.model.specs.declared.event.Event.{Event}
 use Rattle.model.specs.declared.event.Event.TheVariants.{Begun, Published, HandedOut, Claimed, Freed, Died, Acted, Finished}
@@ -12,7 +13,7 @@ use Rattle.model.specs.declared.turn.Refusal.TheVariants.{NoParty, NoRole, NotHe
 use Rattle.model.specs.declared.turn.Turn.{Turn}
 use Rattle.model.specs.declared.turn.Turn.TheVariants.{Begin, Next, Die}
 use Rattle.model.specs.Families.Loan.Promises.{LivesRight}
-use Rattle.model.specs.Families.Loan.Reading.{Free, With, spot_of, receiver_of}
+use Rattle.model.specs.Families.Loan.Reading.{Free, Passing, With, spot_of, place_of, receiver_of}
 use Rattle.model.specs.Reading.{Each}
 use Rattle.model.specs.Refusals.{refusal_of}
 use Rattle.model.specs.Turns.{run}
@@ -114,6 +115,21 @@ pub places_after : (spot_of 0 (ran_on reclaimed).events ≡ With 0)
     × (spot_of 1 (ran_on reclaimed).events ≡ Free)
     × (receiver_of (ran_on reclaimed).events ≡ 2)
 places_after = (refl, refl, refl)
+
+-- the sender's table says Loaned until an index is published, and Sent until it is free, in passing too
+abbrev sending : Trace ℕ
+sending = ran_on (begins 0 loan 4 ++ begins 0 (send 0) 2)
+
+abbrev giving_back : Trace ℕ
+giving_back = ran_on (sent ++ (begins 1 receive 4 ++ begins 1 (give_back 1) 1))
+
+pub table_of_a_send : (spot_of 0 sending.events ≡ Passing 0) × (place_of 0 sending.events ≡ places.Loaned)
+table_of_a_send = (refl, refl)
+
+pub table_of_a_give_back : (spot_of 1 giving_back.events ≡ Passing 1)
+    × (place_of 1 giving_back.events ≡ places.Sent)
+    × (place_of 1 (ran_on reclaimed).events ≡ places.Free)
+table_of_a_give_back = (refl, refl, refl)
 
 -- ---- refusals, in their order
 

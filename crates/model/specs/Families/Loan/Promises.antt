@@ -24,7 +24,7 @@ use Rattle.model.specs.declared.families.queues.QueueKind.TheVariants.{IndexQueu
 use Rattle.model.specs.Coding.{Coding}
 use Rattle.model.specs.Families.Indices.Robust.Dead.{has_died}
 use Rattle.model.specs.Families.Loan.Bounds.{most_steps}
-use Rattle.model.specs.Families.Loan.Reading.{Spot, Free, Passing, With, Waiting, Returning, Move, move_of, spot_of, receiver_of, has_died_by, given_back, taken_back, queue_moments}
+use Rattle.model.specs.Families.Loan.Reading.{Spot, Free, Passing, With, Waiting, Returning, Move, move_of, spot_of, place_of, receiver_of, has_died_by, given_back, taken_back, queue_moments}
 use Rattle.model.specs.Families.Loan.Spans.{Wrote, may_stand}
 use Rattle.model.specs.Families.Queues.Book.{waiting_in}
 use Rattle.model.specs.Families.Queues.Objects.{overflowing_list}
@@ -126,7 +126,7 @@ module _ {T : Type 0} where
   -- ---- what is kept
 
   pub record KeepsBook (book : Book) (events : List (Event T)) : Type 0 where
-    -- the sender's table
+    -- where the index is of which the sender's table says so
     pub places : (index : ℕ) → IsIn (place_at book.places index) (spot_of index events)
     -- who may send, give up or give back an index has it by the events
     pub holders : (index : ℕ)
@@ -155,6 +155,8 @@ module _ {T : Type 0} where
     pub begins : Each BeginsRight t.events
     pub answers : Each (AnswersRight t.world.capacity) t.events
     pub lives : Each LivesRight t.events
+    -- the sender's table
+    pub table : (index : ℕ) → place_at book.places index ≡ place_of index t.events
     -- an index is in passing in a call that is under way, or has stopped
     pub passing : (index p : ℕ) → spot_of index t.events ≡ Passing p
         → IsOpen (λ call. Unit {0}) (λ wrote. Unit {0}) (span_of p t.events)

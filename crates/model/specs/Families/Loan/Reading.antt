@@ -1,6 +1,8 @@
--- How the events of a loan channel are read: where each index is.
+-- How the events of a loan channel are read: where each index is, and what the sender's table is to say.
 use Rattle.std.specs.Prelude.{ℕ, ◌+◌, ◌==◌, Bool, true, false, Option, Some, None, List, [], ◌∷◌, ◌++◌, fold, if◌then◌else◌}
 use Rattle.std.specs.List.{flat_map}
+use Rattle.steps.specs.declared.loan.places.Place.{Place}
+use Rattle.steps.specs.declared.loan.places.Place.TheVariants as places
 use Rattle.model.specs.declared.event.Answer.{Answer}
 use Rattle.model.specs.declared.event.Answer.TheVariants.{PoppedIndex}
 use Rattle.model.specs.declared.event.Answer.TheVariants as answers
@@ -63,6 +65,18 @@ module _ {T : Type 0} where
 
   abbrev pub spot_of : ℕ → List (Event T) → Spot
   spot_of i events = fold (spot_after i) Free events
+
+  -- ---- the sender's table
+
+  -- an index is Loaned from its claim on, Sent from its publication on, and Free from its free on
+  abbrev pub place_after : ℕ → Place → Event T → Place
+  place_after i place (Claimed p index) = if index == i then places.Loaned else place
+  place_after i place (Published p (Index index)) = if index == i then places.Sent else place
+  place_after i place (Freed p index) = if index == i then places.Free else place
+  place_after i place e = place
+
+  abbrev pub place_of : ℕ → List (Event T) → Place
+  place_of i events = fold (place_after i) places.Free events
 
   -- ---- the receiver, and who has died
 
