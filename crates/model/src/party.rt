@@ -5,6 +5,7 @@ ghost use Rattle.model.specs.Parties.{party_of, doing_of, flight_of, progress_af
 use crate::event::Start;
 use crate::families::Flight;
 use std::collections::BTreeMap;
+use std::marker::Model;
 
 /// How far a party's latest call has come.
 #[derive(Debug, Clone, Copy, PartialEq, Eq)]
@@ -37,15 +38,29 @@ pub struct Party<T> {
     pub doing: Doing<T>,
 }
 
+/// A party in memory of its own: a map of parties keeps, and moves, only where each is.
+#[derive(Drop)]
+pub struct Seat<T> {
+    pub party: Box<Party<T>>,
+}
+
+impl<T> Model for Seat<T> {
+    ghost use Rattle.model.specs.declared.party.Party.{Party};
+
+    ghost Value = { Party T };
+
+    ghost view = { λ a. a.party.value };
+}
+
 /// The parties that have begun a call, by number.
-pub type Latest<T> = BTreeMap<u32, Party<T>>;
+pub type Latest<T> = BTreeMap<u32, Seat<T>>;
 
 /// The call that the party has under way.
 pub fn flight_of<T>(latest: &Latest<T>, number: u32) -> Option<&Flight<T>>
     ensures { option_copied result ≡ flight_of (doing_of (party_of number latest.now.entries)) }
 {
     match latest.get(&number) {
-        Some(party) => match &party.doing {
+        Some(seat) => match &seat.party.doing {
             Doing::Going(flight, _) => Some(flight),
             Doing::Over(_) => None,
         },
@@ -59,16 +74,16 @@ pub fn progress_of<T>(latest: &Latest<T>, changes: u64, number: u32) -> Option<P
 {
     match latest.get(&number) {
         None => None,
-        Some(party) => match &party.doing {
+        Some(seat) => match &seat.party.doing {
             Doing::Going(_, since) => Some(Progress {
-                steps: party.steps,
-                backs: party.backs,
+                steps: seat.party.steps,
+                backs: seat.party.backs,
                 others: changes.saturating_sub(*since),
                 finished: false,
             }),
             Doing::Over(others) => Some(Progress {
-                steps: party.steps,
-                backs: party.backs,
+                steps: seat.party.steps,
+                backs: seat.party.backs,
                 others: *others,
                 finished: true,
             }),

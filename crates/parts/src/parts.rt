@@ -12,7 +12,7 @@ ghost use Rattle.parts.specs.Parts.{state_of, trace_of, going_refusal, IsGoingRe
 use model::coding::Coded;
 use model::event::{Event, Start};
 use model::families::{self, Beside, Kept};
-use model::party::{Doing, Latest, Party, flight_of};
+use model::party::{Doing, Latest, Party, Seat, flight_of};
 use model::turn::{Kind, Refusal, Turn, capacity_error, loan_error};
 use model::words;
 use std::alloc::Global;
@@ -51,10 +51,18 @@ fn one_if(back: bool) -> u64
     if back { 1 } else { 0 }
 }
 
+/// The seat has this party now.
+fn reseat<T: Words>(seat: &mut Seat<T>, party: Party<T>)
+    ensures { seat.new ≡ party }
+{
+    *seat.party = party;
+}
+
 /// The party's latest call is this one, and its family keeps what it keeps from its begin on, unless memory for one of
-/// them is refused. Then nothing changes.
+/// them is refused. Then nothing changes. A party that has begun before takes no more memory for itself.
 #[tactic(auto, using(model::proofs::Parties::put_removed))]
 fn enter<T: Words>(
+    alloc: Global,
     latest: &mut Latest<T>,
     kept: &mut Kept<T>,
     capacity: u32,
@@ -68,13 +76,17 @@ fn enter<T: Words>(
     ensures kept_stays { result ≡ false → kept.new ≡ kept.old }
 {
     let start = party.start;
-    if latest.contains_key(&number) {
+    if let Some(seat) = latest.get_mut(&number) {
         if !families::keep(kept, capacity, &start, number) {
             return false;
         }
-        return latest.insert(number, party).is_ok();
+        reseat(seat, party);
+        return true;
     }
-    if latest.insert(number, party).is_err() {
+    let Ok(party) = Box::new(alloc, party) else {
+        return false;
+    };
+    if latest.insert(number, Seat { party }).is_err() {
         return false;
     }
     if families::keep(kept, capacity, &start, number) {
@@ -248,6 +260,7 @@ impl<T: Words> Parts<T> {
             doing: Doing::Going(flight, self.changes),
         };
         if !enter(
+            alloc,
             &mut self.latest,
             &mut self.kept,
             self.capacity,
@@ -279,12 +292,12 @@ impl<T: Words> Parts<T> {
             return Err(Refusal::NoParty);
         }
         let beside = families::look_beside(&self.kept, &self.words, &self.latest, number);
-        let Some(party) = self.latest.get_mut(&number) else {
+        let Some(seat) = self.latest.get_mut(&number) else {
             return Err(Refusal::Idle);
         };
         let turns = self.turns;
         let gone = go_on(
-            party,
+            &mut *seat.party,
             number,
             said,
             beside,

@@ -10,19 +10,22 @@ use Rattle.parts.proofs.Going.{refusal_is, is_refusal, going_is, goes_on_nowhere
 use Rattle.parts.proofs.parts.Parts.resume.Goals as goal
 
 pub go_on-gone-requires-clause-small : goal.go_on-gone-requires-clause-small
-go_on-gone-requires-clause-small g c = c.requires.small.latest c.args.number c.in-Some.party.now (sym c.in-Some.ensures.value)
+go_on-gone-requires-clause-small g c =
+    c.requires.small.latest c.args.number c.deref_mut.result.now (sym c.in-Some.ensures.value ∙ ap Some (sym (c.deref_mut.ensures.value ∙ c.seat.view_is)))
 
 pub returns-in-Ok-clause-allowed : goal.returns-in-Ok-clause-allowed
 returns-in-Ok-clause-allowed g c =
     let within : c.args.number < c.args.self.now.parties = omega arith in
-    refusal_is (trace_of (coding_of g.T.Words.WORDS g.T.Words.words_of g.T.Words.value_of) c.args.self.now).world c.args.number c.args.said c.in-Some.party.now c.requires.turns within (sym c.in-Some.ensures.value) ∙ c.in-Ok.ensures.allowed
+    let x = c.deref_mut.result.now in
+    let found = sym c.in-Some.ensures.value ∙ ap Some (sym (c.deref_mut.ensures.value ∙ c.seat.view_is)) in
+    refusal_is (trace_of (coding_of g.T.Words.WORDS g.T.Words.words_of g.T.Words.value_of) c.args.self.now).world c.args.number c.args.said x c.requires.turns within found ∙ c.in-Ok.ensures.allowed
 
 pub returns-in-Ok-clause-ok : goal.returns-in-Ok-clause-ok
 returns-in-Ok-clause-ok g c =
     let w = (trace_of (coding_of g.T.Words.WORDS g.T.Words.words_of g.T.Words.value_of) c.args.self.now).world in
-    let x = c.in-Some.party.now in
+    let x = c.deref_mut.result.now in
     let y = c.go_on-gone.new.party in
-    let found : party_of c.args.number w.latest ≡ Some x = sym c.in-Some.ensures.value in
+    let found : party_of c.args.number w.latest ≡ Some x = sym c.in-Some.ensures.value ∙ ap Some (sym (c.deref_mut.ensures.value ∙ c.seat.view_is)) in
     let written : (c.get_mut.follows.lender y).entries ≡ put c.args.number y w.latest =
     (c.get_mut.follows.holds y).0 ∙ set_is_put c.args.number y x w.latest c.in-Some.ensures.ordered found
     in
@@ -32,15 +35,17 @@ returns-in-Ok-clause-ok g c =
 pub returns-in-Err-clause-refused : goal.returns-in-Err-clause-refused
 returns-in-Err-clause-refused g c =
     let within : c.args.number < c.args.self.now.parties = omega arith in
-    is_refusal (trace_of (coding_of g.T.Words.WORDS g.T.Words.words_of g.T.Words.value_of) c.args.self.now).world c.args.number c.args.said c.in-Some.party.now c.in-Err.refusal c.requires.turns within (sym c.in-Some.ensures.value) c.in-Err.ensures.refused
+    let x = c.deref_mut.result.now in
+    let found = sym c.in-Some.ensures.value ∙ ap Some (sym (c.deref_mut.ensures.value ∙ c.seat.view_is)) in
+    is_refusal (trace_of (coding_of g.T.Words.WORDS g.T.Words.words_of g.T.Words.value_of) c.args.self.now).world c.args.number c.args.said x c.in-Err.refusal c.requires.turns within found c.in-Err.ensures.refused
 
 pub returns-in-Err-clause-err : goal.returns-in-Err-clause-err
 returns-in-Err-clause-err g c =
     let w = (trace_of (coding_of g.T.Words.WORDS g.T.Words.words_of g.T.Words.value_of) c.args.self.now).world in
-    let x = c.in-Some.party.now in
+    let x = c.deref_mut.result.now in
     let same : (c.get_mut.follows.lender c.go_on-gone.new.party).entries ≡ w.latest =
     ap (λ y. (c.get_mut.follows.lender y).entries) c.in-Err.ensures.party
-    ∙ ((c.get_mut.follows.holds x).0 ∙ set_value_same (is_at (nat_cmp c.args.number)) w.latest x (sym c.in-Some.ensures.value))
+    ∙ ((c.get_mut.follows.holds x).0 ∙ set_value_same (is_at (nat_cmp c.args.number)) w.latest x (sym c.in-Some.ensures.value ∙ ap Some (sym (c.deref_mut.ensures.value ∙ c.seat.view_is))))
     in
     rw (same, c.in-Err.ensures.words, c.in-Err.ensures.kept, c.in-Err.ensures.changes, c.in-Err.ensures.events) refl
 
