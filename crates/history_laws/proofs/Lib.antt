@@ -4,6 +4,7 @@ pub mod CountActs
 pub mod Filling
 pub mod Finds
 pub mod Laws
+pub mod Machines
 pub mod Marks
 pub mod Order
 pub mod Ways

@@ -10,7 +10,7 @@ ghost use Rattle.model.specs.declared.event.Start.{Start};
 ghost use Rattle.model.specs.declared.turn.Kind.{Kind};
 ghost use Rattle.model.specs.Coding.{Coding};
 ghost use Rattle.model.specs.Linearizable.{Precedes};
-ghost use Rattle.model.specs.Turns.{IsReachedOn};
+ghost use Rattle.model.specs.Turns.{IsReached, IsReachedOn};
 ghost use Rattle.model.specs.World.{Trace};
 ghost use Rattle.history.specs.declared.view.View.{View};
 ghost use Rattle.history.specs.History.{IsBeginning, IsHistory, Called};
@@ -29,6 +29,11 @@ pub fn histories_act<T>()
 /// The same of every run of a machine, with no bound of turns or parties. The lemma is `runs_act` there.
 pub fn runs_act<T>()
     ensures { (t : Trace T) → IsReachedOn t → IsSet t.world.kind → ActsByPlace t.world.kind t.world.capacity t.events }
+{}
+
+/// The same of every machine, whatever turns it was given. The lemma is `machines_act` of `proofs/Machines.antt`.
+pub fn machines_act<T>()
+    ensures { (t : Trace T) → IsReached t → IsSet t.world.kind → ActsByPlace t.world.kind t.world.capacity t.events }
 {}
 
 /// A call that a pass made stands, with its answer, in every history that goes on from what the pass has seen then. The
