@@ -188,7 +188,19 @@ const REFUSALS: [Row; 19] = [
     )),
 ];
 
-const SCRIPTS: [Script; 20] = [
+/// Of two parties: none pushes or pops without the role, also where the other has it.
+const ROLES_OF_ANOTHER: [Row; 8] = [
+    Row::Refused("1 begin push 1", "NoRole"),
+    Row::Refused("1 begin pop", "NoRole"),
+    Row::Call(0, "acquire_producer", 1, "true"),
+    Row::Call(0, "acquire_consumer", 1, "true"),
+    Row::Refused("1 begin push 1", "NoRole"),
+    Row::Refused("1 begin pop", "NoRole"),
+    Row::Refused("1 begin release_producer", "NoRole"),
+    Row::Refused("1 begin release_consumer", "NoRole"),
+];
+
+const SCRIPTS: [Script; 22] = [
     ("index_queue 128 3", &[(1, &ROLES), (1, &PUSH_AND_POP)]),
     ("index_queue 0 3", &[(1, &ROLES), (1, &FULL_AND_EMPTY)]),
     ("index_queue 2 3", &[(1, &ROLES), (1, &LENGTHS)]),
@@ -202,6 +214,8 @@ const SCRIPTS: [Script; 20] = [
     ("overflow 1 3", &[(1, &ROLES), (1, &MOVED_READ)]),
     ("overflow 1 3", &[(1, &ROLES), (1, &POP_AGAIN)]),
     ("index_queue 1 2", &[(1, &REFUSALS)]),
+    ("overflow 1 2", &[(1, &ROLES_OF_ANOTHER)]),
+    ("queue 1 2", &[(1, &ROLES_OF_ANOTHER)]),
     ("index_queue 5000 3", &[(1, &ROLES), (1, &MANY_VALUES)]),
     ("overflow 5000 3", &[(1, &ROLES), (1, &MANY_OVERFLOWING)]),
     ("index_queue 3 2", &[(1, &ROLES), (1, &MANY_TURNS)]),

@@ -127,6 +127,33 @@ const TURNS_BACK: [Row; 10] = [
     Row::Shows(Shows::Counts(0, 18, 3, 3, true)),
 ];
 
+/// At capacity 1: a recovery counts again where another party has raised the counter, before the count is closed, and
+/// before the lock.
+const RECOVERS_AGAIN: [Row; 11] = [
+    Row::Call(0, "acquire 1", 4, "0"),
+    Row::Turn("die 1"),
+    Row::Part(1, "recover lock", 2),
+    Row::Turn("1 yes"),
+    Row::Goes(1, 5),
+    Row::Call(0, "borrowed_indices", 3, "0"),
+    Row::Goes(1, 4),
+    Row::Call(0, "borrowed_indices", 3, "0"),
+    Row::Goes(1, 6),
+    Row::Shows(Shows::Last("1 finished recover lock -> Locked\n")),
+    Row::Shows(Shows::Counts(1, 17, 2, 2, true)),
+];
+
+/// At capacity 2: a release for an owner who dies stops for good, and locks nothing.
+const DIES_IN_A_RELEASE: [Row; 7] = [
+    Row::Call(0, "acquire 5", 4, "0"),
+    Row::Part(0, "release 0 5 lock", 1),
+    Row::Turn("die 5"),
+    Row::Refused("0 next", "OwnerIsDead"),
+    Row::Refused("0 begin is_locked", "Busy"),
+    Row::Call(1, "borrowed_indices", 4, "0"),
+    Row::Call(1, "is_locked", 1, "false"),
+];
+
 /// At capacity 2: an acquire for an owner who dies stops for good, and what it has filled is found.
 const DIES_IN_A_CALL: [Row; 9] = [
     Row::Part(0, "acquire 5", 2),
@@ -167,7 +194,7 @@ const ROUNDS_END: [Row; 1] = [Row::Shows(Shows::Word(0, 20_000))];
 
 const NO_OWNERS: [Row; 1] = [Row::Refused("die 2", "WrongCall")];
 
-const SCRIPTS: [Script; 9] = [
+const SCRIPTS: [Script; 11] = [
     ("robust 2 2", &[(1, &CALLS)]),
     ("robust 1 2", &[(1, &MEETS_THE_LOCK)]),
     ("robust 3 2", &[(1, &OF_THE_DEAD)]),
@@ -175,6 +202,8 @@ const SCRIPTS: [Script; 9] = [
     ("robust 2 2", &[(1, &LOCKS)]),
     ("robust 2 2", &[(1, &TURNS_BACK)]),
     ("robust 2 2", &[(1, &DIES_IN_A_CALL)]),
+    ("robust 1 2", &[(1, &RECOVERS_AGAIN)]),
+    ("robust 2 2", &[(1, &DIES_IN_A_RELEASE)]),
     ("robust 100 2", &[(1, &REFUSALS)]),
     ("index_queue 1 2", &[(1, &NO_OWNERS)]),
 ];
