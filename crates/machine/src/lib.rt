@@ -132,7 +132,7 @@ impl<T: Words> Machine<T> {
     /// container's recovery of an owner who lives and a reclaim while the receiver does; for `Next` `Idle`, `Undecided`
     /// where a decision is due, and `OwnerIsDead` for such a call under way; for `Decide` `Idle`, `Undecided` where none is
     /// due, `OwnerIsDead`, and `OwnerLives` for a yes by which a recovery of the robust set would free an index of an owner
-    /// who lives; for `Die` `NoParty` where the owner would be a party of a channel, `WrongCall` where the kind has no
+    /// who lives; for `Die` of a channel `NoParty` where no party has this number, `WrongCall` where the kind has no
     /// owners, and `OwnerIsDead`; last `NoMemory`, where there is no room for the events, for a new party, for its state,
     /// for the value that its call is to read or for a dead owner.
     pub fn step(&mut self, turn: Turn<T>) -> Result<(), Refusal>

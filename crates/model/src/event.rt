@@ -58,17 +58,19 @@ impl<T: Copy> Clone for Start<T> {
 /// What a call answers.
 #[derive(Copy, PartialEq, Eq)]
 pub enum Answer<T> {
-    /// Of giving a role back, of resetting all bits or counts, and of a replace.
+    /// Of giving a role back, of resetting all bits or counts, of a replace, and of giving a loaned index up.
     Done,
     /// Of a push of the bounded queue, of a store, of acquiring a role, of asking whether a queue is empty or full, a
-    /// container empty or a set of indices or a container locked, of setting a bit, and of bringing a state up to date.
+    /// container empty or a set of indices or a container locked, of setting a bit, of bringing a state up to date, and
+    /// of giving a received index back.
     Truth(bool),
     /// Of asking how many values wait, how many indices are borrowed or how many an owner has, the count of a place
-    /// before it was set, and how many values a new state of a container shows.
+    /// before it was set, how many values a new state of a container shows, and how many indices a reclaim released.
     Number(u64),
-    /// Of a pop, or of a push of the overflowing queue, that has no value.
+    /// Of a pop, a receive or a take-back, or of a push of the overflowing queue or a send, that has no value.
     PoppedNone,
-    /// The number that a pop answers, or that a push of the overflowing queue hands back.
+    /// The number that a pop, a receive or a take-back answers, or that a push of the overflowing queue or a send hands
+    /// back.
     PoppedIndex(u64),
     /// The same for a value of the machine's own type.
     Popped(T),
@@ -78,9 +80,9 @@ pub enum Answer<T> {
     ResetNone,
     /// The bit that was reset.
     Reset(u64),
-    /// The index that an acquire hands out, or at which an add has put its value.
+    /// The index that an acquire or a loan hands out, or at which an add has put its value.
     Index(u32),
-    /// Why an acquire hands out none.
+    /// Why an acquire or a loan hands out none.
     NoIndex(UniqueIndexSetAcquireFailure),
     /// Whether the set or the container is locked, by a release, a remove or a recovery.
     State(ReleaseState),
@@ -149,7 +151,7 @@ pub enum Event<T> {
     Returned(u32, u64),
     /// The sender of a loan channel has taken this index, the oldest that waited there, out of the completion queue.
     TakenBack(u32, u64),
-    /// The owner died. This is an event of no party.
+    /// The owner, or the party of a loan channel, died. This is an event of no party.
     Died(OwnerId),
     /// The linearization point of the call, with its answer. It can come in the turn of another party.
     Acted(u32, Start<T>, Answer<T>),

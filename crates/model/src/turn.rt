@@ -67,7 +67,8 @@ pub enum Turn<T> {
     Next(u32),
     /// The party's question is answered by yes or no. No word is touched.
     Decide(u32, bool),
-    /// The owner dies. From here on no call acquires, releases, adds, removes or replaces for it.
+    /// The owner dies. From here on no call acquires, releases, adds, removes or replaces for it. In a loan channel the
+    /// party dies, and takes no turn any more.
     Die(OwnerId),
 }
 

@@ -44,7 +44,7 @@ fn readme_queue(rt: HostRuntime) -> Result<(), Fail> {
     Ok(())
 }
 
-// crates/lock_free/CALLING.md shows these lines.
+// crates/lock_free/CALLING.md names these lines.
 #[test]
 fn readme_value(rt: HostRuntime) -> Result<(), Fail> {
     let (value, mut pass) = UnrestrictedAtomic::new(rt.alloc(), 7u64)?;

@@ -24,9 +24,9 @@ impl Default for ReleaseMode {
 /// Whether a release has locked the set.
 #[derive(Debug, Clone, Copy, PartialEq, Eq)]
 pub enum ReleaseState {
-    /// The set is locked: the last index was given back, and none is handed out any more.
+    /// The set is locked, and hands out no index any more.
     Locked,
-    /// Indices are still handed out.
+    /// The call has not found the set locked, or its mode is `Default`.
     Unlocked,
 }
 

@@ -17,7 +17,8 @@ use std::marker::PhantomData;
 /// how many.
 ///
 /// It pops the submission queue until nothing waits there, then the completion queue, and then releases the indices that
-/// are Sent, in mode `Default`, each after the one before it. That the receiver is dead is the caller's concern.
+/// are Sent, in mode `Default`, each after the one before it. At most 8 steps and 13 a slot, and 2 for each turn back.
+/// That the receiver is dead is the caller's concern.
 #[derive(Clone, Copy)]
 pub struct Reclaim {
     pub slots: u32,

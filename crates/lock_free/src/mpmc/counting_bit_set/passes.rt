@@ -36,7 +36,7 @@ impl Pass {
         })
     }
 
-    /// Takes in the other pass of the set, and sees all of the history. Where it has the whole share now, one of the two
+    /// Takes in the other pass of the set, and sees a history that goes on from both. With the whole share one of the two
     /// had seen all of it, and each event in it was made by one of them. This project's own.
     pub fn join(&mut self, other: Pass)
         requires { set_of other ≡ set_of self.old }

@@ -137,7 +137,8 @@ impl<'a> LoanSender<'a> {
     }
 
     /// Sends a Loaned index: it is Sent. The answer is that of the push. Where the queue is full, that is the oldest value,
-    /// which is Free again where it is an index that is Sent, and else changes nothing. At most 11 atomic steps.
+    /// and where it takes none (it has no capacity, or is at its last position) the index itself: Free again where it is an
+    /// index that is Sent, while any other value changes nothing. At most 11 atomic steps.
     pub fn send(&mut self, index: u32) -> Option<u64>
         requires { IsLoaned index self.old }
         ensures sent { IfNone result

@@ -28,7 +28,7 @@ impl<T: Words> UnrestrictedAtomic<T> {
         UnrestrictedAtomic::new_at(alloc, value, 1)
     }
 
-    /// The same at this version, as after so many stores, the opening one counted. This project's own.
+    /// The same at this version, which is at least 1, as after so many stores, the opening one counted. This project's own.
     pub fn new_at(
         alloc: Global,
         value: T,
