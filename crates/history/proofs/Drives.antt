@@ -1,5 +1,6 @@
 -- The driver over the rule of a machine: what it asks of the steps of a call, shown once for all calls of all kinds.
-use Rattle.std.proofs.Common.{◌≡◌, inl, inr, ⊎_elim, ℕ, ◌+◌, ◌<◌, Option, Some, None, IfSome, List, [], ◌∷◌, ◌++◌, slice_index, slice_set, refl, sym, ap, subst, ◌∙◌, append_assoc, append-nil, arith}
+use Rattle.std.proofs.Common.{◌^◌, Bool, true, false, ◌≡◌, inl, inr, ⊎_elim, ℕ, ◌+◌, ◌<◌, Option, Some, None, IfSome, List, [], ◌∷◌, ◌++◌, length, slice_index, slice_set, refl, sym, ap, subst, ◌∙◌, append_assoc, append-nil, arith, sum_by}
+use Rattle.std.proofs.lemmas.List.Sums.{sum_by-append}
 use mathlib.Core.Option.{some}
 use lib.ListN.{get_elem?}
 use Rattle.atomic_table.specs.Table.{State, Allows}
@@ -18,7 +19,7 @@ use Rattle.model.specs.declared.families.Flight.{Flight}
 use Rattle.model.specs.declared.turn.Kind.{Kind}
 use Rattle.model.specs.declared.turn.Turn.TheVariants.{Begin, Next}
 use Rattle.model.specs.Coding.{Coding}
-use Rattle.model.specs.Families.{opening_of, first_of, begin_rows, want_of, after_of}
+use Rattle.model.specs.Families.{first_of, begin_rows, want_of, after_of}
 use Rattle.model.specs.Rows.{first_row}
 use Rattle.model.specs.Step.{answer_in}
 use Rattle.model.specs.Turns.{after_turn, events_of, ending_of, words_after}
@@ -26,14 +27,20 @@ use Rattle.model.specs.World.{Trace}
 use Rattle.lock_free_sp.specs.Driver.{answered, Owes, Next as NextKnown, Told, KeepsRule}
 use Rattle.lock_free_sp.specs.Shares.{IsAll}
 use Rattle.history.specs.declared.view.View.{View}
-use Rattle.history.specs.Known.{events_by}
+use Rattle.history.specs.Known.{events_by, owned}
 use Rattle.history.specs.History.{IsRun, IsMachine, IsHistory, Fits, Called, call_in}
-use Rattle.history.specs.Stages.{Calling, Since, opened, IsFirst, IsUnderWay, At, Ends}
-use Rattle.history.proofs.Known.{known_whole, by_more, by_mine}
-use Rattle.history.proofs.Calls.{call_then}
+use Rattle.history.specs.Stages.{Calling, Since, opened, Starts, IsFirst, IsUnderWay, At, Ends, LeftOut, Over}
+use Rattle.history.specs.Views.{Looks}
+use Rattle.queue_laws.proofs.Queues.Knows.{IsFreshCall}
+use Rattle.history.proofs.Known.{known_whole, by_more, by_mine, nil_right, idle_seat}
+use Rattle.history.proofs.Calls.{call_then, get_left}
 use Rattle.history.proofs.Turns.{KindLaws, Between, want_for, at_ask, at_first, begun, begun_at, gone, goes_to, told as turn_told, made_between}
 use Rattle.history.proofs.Steps.{view_after, settle}
-use Rattle.history.proofs.Passes.{set_same}
+use Rattle.history.proofs.Passes.{set_same, looks_at}
+
+by_bool : {A : Type 0} → (b : Bool) → (b ≡ true → A) → (b ≡ false → A) → A
+by_bool true t f = t refl
+by_bool false t f = f refl
 
 pub no_rest : {A : Type 0} → (xs rest : List A) → xs ≡ xs ++ rest → rest ≡ []
 no_rest [] rest e = sym e
@@ -55,12 +62,19 @@ module _ {T C M E : Type 0} (call : Calling T C M E) where
 
 pub record IsCallOf {T C M E : Type 0} (code : Coding T) (effects : ℕ → Flight T → ℕ → List (Event T)) (size_of : ℕ → ℕ) (want : C → Want (Unit {0})) (after : C → ℕ → After C E) (kept : C → M → ℕ → M) (call : Calling T C M E) : Type 0 where
   pub same_want : (c : C) (m : M) → want_of code (call.flight c m) ≡ want c
-  pub same_after : (c : C) (m : M) (n : ℕ) → after_of code (call.flight c m) n ≡ goes call (after c n) (kept c m n)
+  pub same_after : (capacity : ℕ) (c : C) (m : M) (n : ℕ) → call.stands capacity c → after_of code (call.flight c m) n ≡ goes call (after c n) (kept c m n)
   pub hears : (c : C) (m : M) (a : Ask) (n : ℕ) → want c ≡ wants.Ask a → (after c (answered a.op n) ≡ after c n) × (kept c m (answered a.op n) ≡ kept c m n)
   pub stays : (capacity : ℕ) (c d : C) (n : ℕ) → call.stands capacity c → after c n ≡ GoOn d → call.stands capacity d
   pub asks : (capacity : ℕ) (c : C) → call.stands capacity c → (a : Ask) × (a.word < size_of capacity) × (want c ≡ wants.Ask a)
+  pub past : (capacity : ℕ) (c d : C) (n k : ℕ) → call.stands capacity c → after c n ≡ GoOn d → call.skips d k ≡ false
+  pub finds : (c : C) (m : M) (n : ℕ) → n < 2 ^ 64 → call.skips c n ≡ false → IsFreshCall n (call.flight c m)
+  pub leaves : (c : C) (a : Ask) (n : ℕ) → call.skips c n ≡ true → want c ≡ wants.Ask a → (written a.op n ≡ n) × (e : E) × call.left e × (after c n ≡ Done e)
   pub tells : (capacity p : ℕ) (from : Option (Start T × Flight T)) (c d : C) (m : M) (n : ℕ) (es : List (Event T)) → call.stands capacity c → call.wrote capacity p from c m es → after c n ≡ GoOn d → call.wrote capacity p from d (kept c m n) (es ++ effects p (call.flight c m) n)
-  pub tells_all : (capacity p : ℕ) (from : Option (Start T × Flight T)) (c : C) (e : E) (m : M) (n : ℕ) (es : List (Event T)) → call.stands capacity c → call.wrote capacity p from c m es → after c n ≡ Done e → call.wrote_all capacity p from e (kept c m n) (es ++ effects p (call.flight c m) n)
+  pub tells_all : (capacity p : ℕ) (from : Option (Start T × Flight T)) (c : C) (e : E) (m : M) (n : ℕ) (es : List (Event T)) → call.stands capacity c → call.skips c n ≡ false → call.wrote capacity p from c m es → after c n ≡ Done e → call.wrote_all capacity p from e (kept c m n) (es ++ effects p (call.flight c m) n)
+
+-- no step of the call is the first load of a push
+abbrev pub NeverPushes : {T C M : Type 0} → (C → M → Flight T) → Type 0
+NeverPushes {T} {C} {M} flight = (c : C) (m : M) (n : ℕ) → IsFreshCall n (flight c m)
 
 -- what was seen and made from a view on, before the step
 pub record Prior {T : Type 0} (p : ℕ) (start : Start T) (wrote : List (Event T)) (base : View T) (events made : List (Event T)) : Type 0 where
@@ -98,18 +112,21 @@ module _ {T C M E : Type 0} (code : Coding T) (kind : Kind) (effects : ℕ → F
   -- ---- the machine, before the step
 
   abbrev Told_by : ℕ → C → M → View T → List (Event T) → List (Event T) → Type 0
-  Told_by id c m base events made = (wrote : List (Event T)) × call.wrote base.capacity id base.going c m wrote × Prior id call.start wrote base events made
+  Told_by p c m base events made = (wrote : List (Event T)) × call.wrote base.capacity p base.going c m wrote × Prior p call.start wrote base events made
 
+  -- the seat goes on as this one of its parties
   pub record Ready (s : State (Unit {0}) (View T)) (v : View T) (key id : ℕ) (c : C) (m : M) : Type 0 where
+    pub p : ℕ
+    pub owner : ℕ → ℕ
     pub gained : List (Event T)
     pub u : Trace T
-    pub between : Between code kind key s id gained u
-    pub there : call_in u.world id ≡ Some (call.start, call.flight c m)
-    pub party : (base : View T) → Stage base v c m → IfSome base.party (λ p. p ≡ id)
-    pub prior : (base : View T) → Stage base v c m → Told_by id c m base u.events (v.made ++ gained)
+    pub between : Between code kind key owner s id p gained u
+    pub there : call_in u.world p ≡ Some (call.start, call.flight c m)
+    pub by : (base : View T) → Stage base v c m → call.by base.party p
+    pub prior : (base : View T) → Stage base v c m → Told_by p c m base u.events (v.made ++ gained)
 
   module _ (s : State (Unit {0}) (View T)) (v : View T) (key id : ℕ) (c : C) (m : M) (r : IsMachine code kind key s) (at : get_elem? s.views id ≡ some v) (known : v.capacity ≡ key) where
-    here : Fits r.trace id v
+    here : Fits r.owner r.trace id v
     here = r.seats id v at
 
     -- who has the whole has seen all
@@ -117,88 +134,115 @@ module _ {T C M E : Type 0} (code : Coding T) (kind : Kind) (effects : ℕ → F
     nothing_else all alone = ⊎_elim (λ (e : v.seen ≡ r.trace.events). no_rest v.seen here.seen.rest (e ∙ here.seen.is)) (λ (e : v.other ≡ r.trace.events). none_after v.seen here.seen.rest (sym (sym here.seen.is ∙ (sym e ∙ alone)))) (known_whole s.views r.trace.events id v at all r.known)
 
     -- who has a share has seen all of its own
-    nothing_own : 0 < v.share.part → events_by id here.seen.rest ≡ []
-    nothing_own any = no_rest (events_by id v.seen) (events_by id here.seen.rest) (here.own any ∙ (ap (events_by id) here.seen.is ∙ by_more id v.seen here.seen.rest))
+    nothing_own : 0 < v.share.part → v.other ≡ [] → (p : ℕ) → r.owner p ≡ id → events_by p here.seen.rest ≡ []
+    nothing_own any alone p of_id =
+        ⊎_elim (λ (e : events_by p v.seen ≡ events_by p r.trace.events). no_rest (events_by p v.seen) (events_by p here.seen.rest) (e ∙ (ap (events_by p) here.seen.is ∙ by_more p v.seen here.seen.rest)))
+        (λ (e : events_by p v.other ≡ events_by p r.trace.events). nil_right (events_by p v.seen) (events_by p here.seen.rest) (sym (by_more p v.seen here.seen.rest) ∙ (sym (ap (events_by p) here.seen.is) ∙ (sym e ∙ ap (events_by p) alone))))
+        (here.own any p of_id)
 
-    first_prior : (base : View T) → v.going ≡ None → Stage base v c m → Told_by id c m base (r.trace.events ++ Begun id call.start ∷ []) (v.made ++ Begun id call.start ∷ [])
-    first_prior base none (inl first) =
-        let opens : opened id call.start base.going ≡ Begun id call.start ∷ [] = ap (opened id call.start) first.idle in (
+    first_prior : (p : ℕ) → r.owner p ≡ id → (base : View T) → v.going ≡ None → Stage base v c m → Told_by p c m base (r.trace.events ++ Begun p call.start ∷ []) (v.made ++ Begun p call.start ∷ [])
+    first_prior p of_id base none (inl first) =
+        let opens : opened p call.start base.going ≡ Begun p call.start ∷ [] = ap (opened p call.start) first.idle in
+        let fresh : v.other ≡ [] = ap (λ (z : View T). z.other) first.is ∙ first.fresh in (
           [],
-          subst (λ (o : Option (Start T × Flight T)). call.wrote base.capacity id o c m []) (sym first.idle) (first.wrote id),
+          subst (λ (o : Option (Start T × Flight T)). call.wrote base.capacity p o c m []) (sym first.idle) (first.wrote p),
           record {
             others = here.seen.rest;
             during = [];
-            is = ap (λ es. es ++ Begun id call.start ∷ []) (here.seen.is ∙ ap (λ (z : View T). z.seen ++ here.seen.rest) first.is) ∙ ap (λ es. (base.seen ++ here.seen.rest) ++ es) (sym (append-nil (opened id call.start base.going) ∙ opens));
-            alone = λ all. nothing_else (subst (λ (z : View T). IsAll z.share) (sym first.is) all) (ap (λ (z : View T). z.other) first.is ∙ first.fresh);
-            others_own = nothing_own (some_share base v c m (inl first));
+            is = ap (λ es. es ++ Begun p call.start ∷ []) (here.seen.is ∙ ap (λ (z : View T). z.seen ++ here.seen.rest) first.is) ∙ ap (λ es. (base.seen ++ here.seen.rest) ++ es) (sym (append-nil (opened p call.start base.going) ∙ opens));
+            alone = λ all. nothing_else (subst (λ (z : View T). IsAll z.share) (sym first.is) all) fresh;
+            others_own = nothing_own (some_share base v c m (inl first)) fresh p of_id;
             during_own = refl;
-            made_is = ap (λ (z : View T). z.made ++ Begun id call.start ∷ []) first.is ∙ ap (λ es. base.made ++ es) (sym (append-nil (opened id call.start base.going) ∙ opens));
+            made_is = ap (λ (z : View T). z.made ++ Begun p call.start ∷ []) first.is ∙ ap (λ es. base.made ++ es) (sym (append-nil (opened p call.start base.going) ∙ opens));
           },
         )
-    first_prior base none (inr under) =
+    first_prior p of_id base none (inr under) =
         let no : ◌≡◌ {A = Option (Start T × Flight T)} None (Some (call.start, call.flight c m)) = sym none ∙ under.going in
         absurd (cc)
 
-    later_prior : (base : View T) → v.going ≡ Some (call.start, call.flight c m) → Stage base v c m → Told_by id c m base r.trace.events (v.made ++ [])
-    later_prior base has (inl first) =
+    later_prior : (p : ℕ) → r.owner p ≡ id → v.party ≡ Some p → (base : View T) → v.going ≡ Some (call.start, call.flight c m) → Stage base v c m → Told_by p c m base r.trace.events (v.made ++ [])
+    later_prior p of_id is_p base has (inl first) =
         let no : ◌≡◌ {A = Option (Start T × Flight T)} None (Some (call.start, call.flight c m)) = sym first.idle ∙ (ap (λ (z : View T). z.going) (sym first.is) ∙ has) in
         absurd (cc)
-    later_prior base has (inr under) =
-        let same : under.party ≡ id = subst (λ (o : Option ℕ). IfSome o (λ p. p ≡ id)) under.mine here.party in
-        let since : Since id call.start under.wrote [] base v = subst (λ p. Since p call.start under.wrote [] base v) same under.since in
+    later_prior p of_id is_p base has (inr under) =
+        let both : ◌≡◌ {A = Option ℕ} (Some under.party) (Some p) = sym under.mine ∙ is_p in
+        let same : under.party ≡ p = cc in
+        let since : Since p call.start under.wrote [] base v = subst (λ z. Since z call.start under.wrote [] base v) same under.since in
         let rest = here.seen.rest in (
           under.wrote,
-          subst (λ p. call.wrote base.capacity p base.going c m under.wrote) same under.tells,
+          subst (λ z. call.wrote base.capacity z base.going c m under.wrote) same under.tells,
           record {
             others = since.others;
             during = since.during ++ rest;
             is =
                 here.seen.is
                 ∙ (ap (λ es. es ++ rest) since.is
-                ∙ (ap (λ zs. ((base.seen ++ since.others) ++ (opened id call.start base.going ++ zs)) ++ rest) (append-nil since.during)
-                ∙ (append_assoc (base.seen ++ since.others) (opened id call.start base.going ++ since.during) rest ∙ ap (λ zs. (base.seen ++ since.others) ++ zs) (append_assoc (opened id call.start base.going) since.during rest))));
+                ∙ (ap (λ zs. ((base.seen ++ since.others) ++ (opened p call.start base.going ++ zs)) ++ rest) (append-nil since.during)
+                ∙ (append_assoc (base.seen ++ since.others) (opened p call.start base.going ++ since.during) rest ∙ ap (λ zs. (base.seen ++ since.others) ++ zs) (append_assoc (opened p call.start base.going) since.during rest))));
             alone = since.alone;
             others_own = since.others_own;
-            during_own = by_more id since.during rest ∙ (ap (λ zs. events_by id since.during ++ zs) (nothing_own under.some) ∙ (append-nil (events_by id since.during) ∙ since.during_own));
-            made_is = append-nil v.made ∙ (since.made ∙ ap (λ zs. base.made ++ (opened id call.start base.going ++ zs)) (append-nil under.wrote));
+            during_own = by_more p since.during rest ∙ (ap (λ zs. events_by p since.during ++ zs) (nothing_own under.some under.alone p of_id) ∙ (append-nil (events_by p since.during) ∙ since.during_own));
+            made_is = append-nil v.made ∙ (since.made ∙ ap (λ zs. base.made ++ (opened p call.start base.going ++ zs)) (append-nil under.wrote));
           },
         )
 
-    -- the party that it was once is this one
-    party_was : (base : View T) → Stage base v c m → IfSome base.party (λ p. p ≡ id)
-    party_was base (inl first) = subst (λ (z : View T). IfSome z.party (λ p. p ≡ id)) first.is here.party
-    party_was base (inr under) =
-        let same : under.party ≡ id = subst (λ (o : Option ℕ). IfSome o (λ p. p ≡ id)) under.mine here.party in
-        subst (λ q. IfSome base.party (λ p. p ≡ q)) same under.same
+    -- as which party the call began
+    first_by : (p : ℕ) → call.by v.party p → (base : View T) → v.going ≡ None → Stage base v c m → call.by base.party p
+    first_by p by base none (inl first) = subst (λ (z : View T). call.by z.party p) first.is by
+    first_by p by base none (inr under) =
+        let no : ◌≡◌ {A = Option (Start T × Flight T)} None (Some (call.start, call.flight c m)) = sym none ∙ under.going in
+        absurd (cc)
+
+    later_by : (p : ℕ) → v.party ≡ Some p → (base : View T) → v.going ≡ Some (call.start, call.flight c m) → Stage base v c m → call.by base.party p
+    later_by p is_p base has (inl first) =
+        let no : ◌≡◌ {A = Option (Start T × Flight T)} None (Some (call.start, call.flight c m)) = sym first.idle ∙ (ap (λ (z : View T). z.going) (sym first.is) ∙ has) in
+        absurd (cc)
+    later_by p is_p base has (inr under) =
+        let both : ◌≡◌ {A = Option ℕ} (Some under.party) (Some p) = sym under.mine ∙ is_p in
+        let same : under.party ≡ p = cc in
+        subst (λ q. call.by base.party q) same under.same
 
     pub ready : (base : View T) → Stage base v c m → Ready s v key id c m
     ready base (inl first) =
         let none : v.going ≡ None = ap (λ (z : View T). z.going) first.is ∙ first.idle in
         let size : base.capacity ≡ key = ap (λ (z : View T). z.capacity) (sym first.is) ∙ known in
-        let idle : call_in r.trace.world id ≡ None = here.going ∙ none in
-        let is_first : first_of kind key call.start ((opening_of kind).kept key) ≡ Some (call.flight c m) = subst (λ n. first_of kind n call.start ((opening_of kind).kept n) ≡ Some (call.flight c m)) size first.first in
-        let may : first_row (begin_rows kind key ((opening_of kind).kept key) id call.start) ≡ None = subst (λ n. first_row (begin_rows kind n ((opening_of kind).kept n) id call.start) ≡ None) size (first.may id) in
+        let self : r.owner id ≡ id = here.self (some_share base v c m (inl first)) in
+        let run : IsRun code kind base.capacity r.trace = subst (λ n. IsRun code kind n r.trace) (sym size) r.run in
+        let parties : IfSome base.party (λ p. r.owner p ≡ id) = subst (λ (z : View T). IfSome z.party (λ p. r.owner p ≡ id)) first.is here.party in
+        let sums : (f : Event T → ℕ) → sum_by f base.made ≡ sum_by (owned r.owner id f) r.trace.events = subst (λ (z : View T). (f : Event T → ℕ) → sum_by f z.made ≡ sum_by (owned r.owner id f) r.trace.events) first.is here.made in
+        let starts : Starts code kind call base c m r.trace r.owner id = first.starts r.trace r.owner id run self parties sums in
+        let p = starts.party in
+        let idle : (q : ℕ) → r.owner q ≡ id → call_in r.trace.world q ≡ None = idle_seat r.owner r.trace id v none here in
+        let is_first : first_of kind key call.start r.trace.world.kept ≡ Some (call.flight c m) = subst (λ n. first_of kind n call.start r.trace.world.kept ≡ Some (call.flight c m)) size starts.first in
+        let may : first_row (begin_rows kind key r.trace.world.kept p call.start) ≡ None = subst (λ n. first_row (begin_rows kind n r.trace.world.kept p call.start) ≡ None) size starts.may in
+        let before : Between code kind key r.owner s id p [] r.trace = at_first code kind key s id p r starts.mine self (λ q of_id ne. idle q of_id) in
         record {
-          gained = [] ++ Begun id call.start ∷ [];
-          u = after_turn r.trace (Begin id call.start);
-          between = begun code kind key (size_of key) effects (laws key) s id [] r.trace (at_first code kind key s id r) call.start (call.flight c m) idle is_first may;
-          there = begun_at code kind key (size_of key) effects (laws key) s id [] r.trace (at_first code kind key s id r) call.start (call.flight c m) idle is_first may;
-          party = party_was;
-          prior = λ base' stage. first_prior base' none stage;
+          p = p;
+          owner = r.owner;
+          gained = [] ++ Begun p call.start ∷ [];
+          u = after_turn r.trace (Begin p call.start);
+          between = begun code kind key (size_of key) effects (laws key) r.owner s id p [] r.trace before call.start (call.flight c m) (idle p starts.mine) is_first may;
+          there = begun_at code kind key (size_of key) effects (laws key) r.owner s id p [] r.trace before call.start (call.flight c m) (idle p starts.mine) is_first may;
+          by = λ base' stage. first_by p (subst (λ (z : View T). call.by z.party p) (sym first.is) starts.by) base' none stage;
+          prior = λ base' stage. first_prior p starts.mine base' none stage;
         }
     ready base (inr under) =
+        let p = under.party in
+        let mine : r.owner p ≡ id = subst (λ (o : Option ℕ). IfSome o (λ q. r.owner q ≡ id)) under.mine here.party in
         record {
+          p = p;
+          owner = r.owner;
           gained = [];
           u = r.trace;
-          between = at_first code kind key s id r;
-          there = here.going ∙ under.going;
-          party = party_was;
-          prior = λ base' stage. later_prior base' under.going stage;
+          between = at_first code kind key s id p r mine (here.self under.some) (λ q of_id ne. here.idle q of_id (λ e. (let both : ◌≡◌ {A = Option ℕ} (Some p) (Some q) = sym under.mine ∙ e in let same : p ≡ q = cc in ne (sym same))));
+          there = here.going p mine under.mine ∙ under.going;
+          by = λ base' stage. later_by p under.mine base' under.going stage;
+          prior = λ base' stage. later_prior p mine under.mine base' under.going stage;
         }
 
   -- ---- what the step tells
 
-  module _ (s : State (Unit {0}) (View T)) (v : View T) (key id : ℕ) (c : C) (m : M) (at : get_elem? s.views id ≡ some v) (known : v.capacity ≡ key) (y : Ready s v key id c m) (ask : Option Ask) (low : IfSome ask (λ a. a.word < size_of key)) (asks_it : want_of code (call.flight c m) ≡ want_for ask) where
+  module _ (s : State (Unit {0}) (View T)) (v : View T) (key id : ℕ) (c : C) (m : M) (at : get_elem? s.views id ≡ some v) (known : v.capacity ≡ key) (y : Ready s v key id c m) (ask : Option Ask) (low : IfSome ask (λ a. a.word < size_of key)) (asks_it : want_of code (call.flight c m) ≡ want_for ask) (finds : IsFreshCall (at_ask s.words ask) (call.flight c m)) where
     abbrev pub found : ℕ
     found = at_ask s.words ask
 
@@ -206,161 +250,274 @@ module _ {T C M E : Type 0} (code : Coding T) (kind : Kind) (effects : ℕ → F
     flight_now = call.flight c m
 
     abbrev pub then_trace : Trace T
-    then_trace = after_turn y.u (Next id)
+    then_trace = after_turn y.u (Next y.p)
 
     abbrev pub then_gained : List (Event T)
-    then_gained = y.gained ++ events_of y.u.world (Next id)
+    then_gained = y.gained ++ events_of y.u.world (Next y.p)
 
-    pub next_between : Between code kind key (record { words = words_after s.words ask; homes = s.homes; views = s.views }) id then_gained then_trace
-    next_between = gone code kind key (size_of key) effects (laws key) s id y.gained y.u y.between call.start flight_now ask low y.there asks_it
+    pub next_between : Between code kind key y.owner (record { words = words_after s.words ask; homes = s.homes; views = s.views }) id y.p then_gained then_trace
+    next_between = gone code kind key (size_of key) effects (laws key) y.owner s id y.p y.gained y.u y.between call.start flight_now ask low y.there asks_it finds
 
-    going_then : call_in then_trace.world id ≡ call_then call.start (after_of code flight_now found)
-    going_then = goes_to code kind key (size_of key) effects (laws key) s id y.gained y.u y.between call.start flight_now ask low y.there asks_it
+    going_then : call_in then_trace.world y.p ≡ call_then call.start (after_of code flight_now found)
+    going_then = goes_to code kind key (size_of key) effects (laws key) y.owner s id y.p y.gained y.u y.between call.start flight_now ask low y.there asks_it finds
 
     run_then : (base : View T) → Stage base v c m → IsRun code kind base.capacity then_trace
     run_then base stage = subst (λ n. IsRun code kind n then_trace) (sym (sym (same_capacity base v c m stage) ∙ known)) next_between.run
 
     abbrev pub view_then : View T
-    view_then = view_after code kind key id v then_gained then_trace
+    view_then = view_after code kind key id y.p v then_gained then_trace
 
-    own_effects : events_by id (effects id flight_now found) ≡ effects id flight_now found
-    own_effects = by_mine id (effects id flight_now found) (((laws key).goes_on y.u y.between.run id call.start flight_now y.there).own found)
+    own_effects : events_by y.p (effects y.p flight_now found) ≡ effects y.p flight_now found
+    own_effects = by_mine y.p (effects y.p flight_now found) (((laws key).goes_on y.u y.between.run y.p call.start flight_now y.there).own found)
 
     -- it is later by what the step wrote, and by its end
-    since_then : (base : View T) (wrote last : List (Event T)) → Prior id call.start wrote base y.u.events (v.made ++ y.gained) → ending_of id call.start (answer_in (after_of code flight_now found)) ≡ last → Since id call.start (wrote ++ effects id flight_now found) last base view_then
+    since_then : (base : View T) (wrote last : List (Event T)) → Prior y.p call.start wrote base y.u.events (v.made ++ y.gained) → ending_of y.p call.start (answer_in (after_of code flight_now found)) ≡ last → Since y.p call.start (wrote ++ effects y.p flight_now found) last base view_then
     since_then base wrote last prior ends =
-        let effs = effects id flight_now found in
-        let told_now : events_of y.u.world (Next id) ≡ effs ++ last =
-        turn_told code kind key (size_of key) effects (laws key) s id y.gained y.u y.between call.start flight_now ask low y.there asks_it ∙ ap (λ zs. effs ++ zs) ends
+        let effs = effects y.p flight_now found in
+        let told_now : events_of y.u.world (Next y.p) ≡ effs ++ last =
+        turn_told code kind key (size_of key) effects (laws key) y.owner s id y.p y.gained y.u y.between call.start flight_now ask low y.there asks_it finds ∙ ap (λ zs. effs ++ zs) ends
         in
         record {
           others = prior.others;
           during = prior.during ++ effs;
-          is = ap (λ zs. y.u.events ++ zs) told_now ∙ (ap (λ zs. zs ++ (effs ++ last)) prior.is ∙ regroup (base.seen ++ prior.others) (opened id call.start base.going) prior.during effs last);
+          is = ap (λ zs. y.u.events ++ zs) told_now ∙ (ap (λ zs. zs ++ (effs ++ last)) prior.is ∙ regroup (base.seen ++ prior.others) (opened y.p call.start base.going) prior.during effs last);
           alone = prior.alone;
           others_own = prior.others_own;
-          during_own = by_more id prior.during effs ∙ (ap (λ zs. zs ++ events_by id effs) prior.during_own ∙ ap (λ zs. wrote ++ zs) own_effects);
-          made = sym (append_assoc v.made y.gained (events_of y.u.world (Next id))) ∙ (ap (λ zs. (v.made ++ y.gained) ++ zs) told_now ∙ (ap (λ zs. zs ++ (effs ++ last)) prior.made_is ∙ regroup base.made (opened id call.start base.going) wrote effs last));
+          during_own = by_more y.p prior.during effs ∙ (ap (λ zs. zs ++ events_by y.p effs) prior.during_own ∙ ap (λ zs. wrote ++ zs) own_effects);
+          made = sym (append_assoc v.made y.gained (events_of y.u.world (Next y.p))) ∙ (ap (λ zs. (v.made ++ y.gained) ++ zs) told_now ∙ (ap (λ zs. zs ++ (effs ++ last)) prior.made_is ∙ regroup base.made (opened y.p call.start base.going) wrote effs last));
         }
 
     -- the call goes on
-    pub goes_then : (base : View T) (stage : Stage base v c m) (d : C) (m' : M) → after_of code flight_now found ≡ GoOn (call.flight d m') → call.stands base.capacity d
-        → ((wrote : List (Event T)) → call.wrote base.capacity id base.going c m wrote → call.wrote base.capacity id base.going d m' (wrote ++ effects id flight_now found)) → IsUnderWay code kind call base view_then d m'
-    goes_then base stage d m' afters standing tells =
+    pub goes_then : (base : View T) (stage : Stage base v c m) (d : C) (m' : M) → after_of code flight_now found ≡ GoOn (call.flight d m') → call.stands base.capacity d → ((n : ℕ) → call.skips d n ≡ false)
+        → ((wrote : List (Event T)) → call.wrote base.capacity y.p base.going c m wrote → call.wrote base.capacity y.p base.going d m' (wrote ++ effects y.p flight_now found)) → IsUnderWay code kind call base view_then d m'
+    goes_then base stage d m' afters standing past tells =
         let before = y.prior base stage in
         record {
           capacity = same_capacity base v c m stage;
           share = same_share base v c m stage;
           some = some_share base v c m stage;
           standing = standing;
-          party = id;
+          party = y.p;
           mine = refl;
-          same = y.party base stage;
+          same = y.by base stage;
           going = going_then ∙ ap (call_then call.start) afters;
+          past = past;
           alone = refl;
-          wrote = before.0 ++ effects id flight_now found;
+          wrote = before.0 ++ effects y.p flight_now found;
           tells = tells before.0 before.1;
-          since = since_then base before.0 [] before.2 (ap (λ (a : After (Flight T) (Answer T)). ending_of id call.start (answer_in a)) afters);
+          since = since_then base before.0 [] before.2 (ap (λ (a : After (Flight T) (Answer T)). ending_of y.p call.start (answer_in a)) afters);
           history = record { trace = then_trace; run = run_then base stage; is = refl };
         }
 
     -- the call ends
     pub ends_then : (base : View T) (stage : Stage base v c m) (end : E) (m' : M) → after_of code flight_now found ≡ Done (call.answer end m')
-        → ((wrote : List (Event T)) → call.wrote base.capacity id base.going c m wrote → call.wrote_all base.capacity id base.going end m' (wrote ++ effects id flight_now found)) → Ends code kind call base end m' view_then
+        → ((wrote : List (Event T)) → call.wrote base.capacity y.p base.going c m wrote → call.wrote_all base.capacity y.p base.going end m' (wrote ++ effects y.p flight_now found)) → Ends code kind call base end m' view_then
     ends_then base stage end m' afters tells =
         let before = y.prior base stage in
         record {
           capacity = same_capacity base v c m stage;
           share = same_share base v c m stage;
-          party = id;
+          party = y.p;
           mine = refl;
-          same = y.party base stage;
+          same = y.by base stage;
           alone = refl;
           idle = going_then ∙ ap (call_then call.start) afters;
-          wrote = before.0 ++ effects id flight_now found;
+          wrote = before.0 ++ effects y.p flight_now found;
           tells = tells before.0 before.1;
-          since = since_then base before.0 (Finished id call.start (call.answer end m') ∷ []) before.2 (ap (λ (a : After (Flight T) (Answer T)). ending_of id call.start (answer_in a)) afters);
+          since = since_then base before.0 (Finished y.p call.start (call.answer end m') ∷ []) before.2 (ap (λ (a : After (Flight T) (Answer T)). ending_of y.p call.start (answer_in a)) afters);
           history = record { trace = then_trace; run = run_then base stage; is = refl };
-          all = λ all f. made_between code kind key id then_gained then_trace (record { words = words_after s.words ask; homes = s.homes; views = s.views }) next_between v at (subst IsAll (sym (same_share base v c m stage)) all) f;
+          all = λ all f. made_between code kind key y.owner id y.p then_gained then_trace (record { words = words_after s.words ask; homes = s.homes; views = s.views }) next_between v at (subst IsAll (sym (same_share base v c m stage)) all) f;
+          parties = record { owner = y.owner; seat = id; sums = λ f. sum_by-append f v.made then_gained ∙ next_between.made_own v at f };
         }
 
   -- ---- a call that needs no word is one look at any word
 
-  pub at_once : (v : View T) (c : C) (m m' : M) (end : E) (key slots id word : ℕ) → v.capacity ≡ key → IsFirst code kind call v v c m → want_of code (call.flight c m) ≡ wants.Nothing → after_of code (call.flight c m) 0 ≡ Done (call.answer end m')
+  pub at_once : (v : View T) (c : C) (m m' : M) (end : E) (key slots id word : ℕ) → v.capacity ≡ key → IsFirst code kind call v v c m → want_of code (call.flight c m) ≡ wants.Nothing → IsFreshCall 0 (call.flight c m) → after_of code (call.flight c m) 0 ≡ Done (call.answer end m')
       → ((p : ℕ) → call.wrote_all v.capacity p v.going end m' ([] ++ effects p (call.flight c m) 0)) → ((p : ℕ) (wrote : List (Event T)) → call.wrote v.capacity p v.going c m wrote → wrote ≡ [])
       → Allows (IsMachine code kind key) slots id (v, []) word (λ n. n) (λ found me. Ends code kind call v end m' me.0 × (me.1 ≡ []))
-  at_once v c m m' end key slots id word known first asks_none afters tells none s r long at small =
+  at_once v c m m' end key slots id word known first asks_none finds afters tells none s r long at small =
       let y = ready s v key id c m r at known v (inl first) in
-      let u = after_turn y.u (Next id) in (
-        view_then s v key id c m at known y None tt asks_none,
+      let u = after_turn y.u (Next y.p) in (
+        view_then s v key id c m at known y None tt asks_none finds,
         table.keeps,
         tt,
-        settle code kind key id (slice_set s.words word (slice_index s.words word)) s v (then_gained s v key id c m at known y None tt asks_none) u at first.some
-            (subst (λ ws. Between code kind key (record { words = ws; homes = s.homes; views = s.views }) id (then_gained s v key id c m at known y None tt asks_none) u) (sym (set_same s.words word)) (next_between s v key id c m at known y None tt asks_none)),
+        settle code kind key id y.p y.owner (slice_set s.words word (slice_index s.words word)) s v (then_gained s v key id c m at known y None tt asks_none finds) u at first.some
+            (subst (λ ws. Between code kind key y.owner (record { words = ws; homes = s.homes; views = s.views }) id y.p (then_gained s v key id c m at known y None tt asks_none finds) u) (sym (set_same s.words word)) (next_between s v key id c m at known y None tt asks_none finds)),
         (
-          ends_then s v key id c m at known y None tt asks_none v (inl first) end m' afters
-              (λ wrote h. subst (λ ws. call.wrote_all v.capacity id v.going end m' (ws ++ effects id (call.flight c m) 0)) (sym (none id wrote h)) (tells id)),
+          ends_then s v key id c m at known y None tt asks_none finds v (inl first) end m' afters
+              (λ wrote h. subst (λ ws. call.wrote_all v.capacity y.p v.going end m' (ws ++ effects y.p (call.flight c m) 0)) (sym (none y.p wrote h)) (tells y.p)),
           refl,
         ),
       )
 
 module _ {T C M E : Type 0} (code : Coding T) (kind : Kind) (effects : ℕ → Flight T → ℕ → List (Event T)) (size_of : ℕ → ℕ) (laws : (capacity : ℕ) → KindLaws code kind capacity (size_of capacity) effects) (want : C → Want (Unit {0})) (after : C → ℕ → After C E) (kept : C → M → ℕ → M) (call : Calling T C M E) (is_call : IsCallOf code effects size_of want after kept call) where
   abbrev Step : View T → After C E → M → View T → Type 0
-  Step base a m w = NextKnown (λ (z : View T). z.capacity) (At code kind call) (Ends code kind call) base a m w
+  Step base a m w = NextKnown (λ (z : View T). z.capacity) (At code kind call) (Over code kind call) base a m w
 
-  module _ (s : State (Unit {0}) (View T)) (v : View T) (key id : ℕ) (c : C) (m : M) (at : get_elem? s.views id ≡ some v) (known : v.capacity ≡ key) (y : Ready code kind effects size_of laws call s v key id c m) (ask : Ask) (low : ask.word < size_of key) (wants_it : want c ≡ wants.Ask ask) where
+  module _ (s : State (Unit {0}) (View T)) (v : View T) (key id : ℕ) (c : C) (m : M) (at : get_elem? s.views id ≡ some v) (known : v.capacity ≡ key) (y : Ready code kind effects size_of laws call s v key id c m) (ask : Ask) (low : ask.word < size_of key) (wants_it : want c ≡ wants.Ask ask) (small : slice_index s.words ask.word < 2 ^ 64) (skip : call.skips c (slice_index s.words ask.word) ≡ false) where
     abbrev n : ℕ
     n = slice_index s.words ask.word
 
     pub asks_it : want_of code (call.flight c m) ≡ wants.Ask ask
     asks_it = is_call.same_want c m ∙ wants_it
 
+    pub finds_it : IsFreshCall n (call.flight c m)
+    finds_it = is_call.finds c m n small skip
+
     abbrev pub view_now : View T
-    view_now = view_then code kind effects size_of laws call s v key id c m at known y (Some ask) low asks_it
+    view_now = view_then code kind effects size_of laws call s v key id c m at known y (Some ask) low asks_it finds_it
 
     known_then : (base : View T) → At code kind call base v c m → (r : After C E) → after c n ≡ r → Step base r (kept c m n) view_now
     known_then base stage (GoOn d) e =
-        inr (goes_then code kind effects size_of laws call s v key id c m at known y (Some ask) low asks_it base stage d (kept c m n) (is_call.same_after c m n ∙ ap (λ r. goes call r (kept c m n)) e)
-        (is_call.stays base.capacity c d n (still_stands code kind effects size_of laws call base v c m stage) e) (λ wrote h. is_call.tells base.capacity id base.going c d m n wrote (still_stands code kind effects size_of laws call base v c m stage) h e))
+        inr (goes_then code kind effects size_of laws call s v key id c m at known y (Some ask) low asks_it finds_it base stage d (kept c m n) (is_call.same_after base.capacity c m n (still_stands code kind effects size_of laws call base v c m stage) ∙ ap (λ r. goes call r (kept c m n)) e)
+        (is_call.stays base.capacity c d n (still_stands code kind effects size_of laws call base v c m stage) e) (λ k. is_call.past base.capacity c d n k (still_stands code kind effects size_of laws call base v c m stage) e) (λ wrote h. is_call.tells base.capacity y.p base.going c d m n wrote (still_stands code kind effects size_of laws call base v c m stage) h e))
     known_then base stage (Done end) e =
-        ends_then code kind effects size_of laws call s v key id c m at known y (Some ask) low asks_it base stage end (kept c m n) (is_call.same_after c m n ∙ ap (λ r. goes call r (kept c m n)) e)
-        (λ wrote h. is_call.tells_all base.capacity id base.going c end m n wrote (still_stands code kind effects size_of laws call base v c m stage) h e)
+        inl (ends_then code kind effects size_of laws call s v key id c m at known y (Some ask) low asks_it finds_it base stage end (kept c m n) (is_call.same_after base.capacity c m n (still_stands code kind effects size_of laws call base v c m stage) ∙ ap (λ r. goes call r (kept c m n)) e)
+        (λ wrote h. is_call.tells_all base.capacity y.p base.going c end m n wrote (still_stands code kind effects size_of laws call base v c m stage) skip h e))
 
-    pub told : Told (λ (z : View T). z.capacity) (At code kind call) (Ends code kind call) after kept c m v (answered ask.op n) view_now
+    pub told : Told (λ (z : View T). z.capacity) (At code kind call) (Over code kind call) after kept c m v (answered ask.op n) view_now
     told =
         let hears = is_call.hears c m ask n wants_it in (
           refl,
           λ base stage. subst (λ (z : After C E × M). Step base z.0 z.1 view_now) (λ i. (sym hears.0 i, sym hears.1 i)) (known_then base stage (after c n) refl),
         )
 
-    pub between_then : Between code kind key (record { words = slice_set s.words ask.word (written ask.op n); homes = s.homes; views = s.views }) id (then_gained code kind effects size_of laws call s v key id c m at known y (Some ask) low asks_it) (after_turn y.u (Next id))
-    between_then = next_between code kind effects size_of laws call s v key id c m at known y (Some ask) low asks_it
+    pub between_then : Between code kind key y.owner (record { words = slice_set s.words ask.word (written ask.op n); homes = s.homes; views = s.views }) id y.p (then_gained code kind effects size_of laws call s v key id c m at known y (Some ask) low asks_it finds_it) (after_turn y.u (Next y.p))
+    between_then = next_between code kind effects size_of laws call s v key id c m at known y (Some ask) low asks_it finds_it
 
     abbrev pub gained_now : List (Event T)
-    gained_now = then_gained code kind effects size_of laws call s v key id c m at known y (Some ask) low asks_it
+    gained_now = then_gained code kind effects size_of laws call s v key id c m at known y (Some ask) low asks_it finds_it
+
+  -- ---- a call that finds the last position is a look
+
+  module _ (s : State (Unit {0}) (View T)) (v w : View T) (key : ℕ) (c : C) (m : M) (ask : Ask) (known : v.capacity ≡ key) (wants_it : want c ≡ wants.Ask ask) (skip : call.skips c (slice_index s.words ask.word) ≡ true) (looked : Looks code kind key v w) (t : Trace T) (run : IsRun code kind key t) (same_seen : w.seen ≡ t.events) (same_word : slice_index t.world.words ask.word ≡ slice_index s.words ask.word) where
+    abbrev seen_word : ℕ
+    seen_word = slice_index s.words ask.word
+
+    left_out : (base : View T) → At code kind call base v c m → (e : E) (m' : M) → call.left e → LeftOut code kind call base e m' w
+    left_out base (inl first) e m' left =
+        let size : base.capacity ≡ key = sym (ap (λ (z : View T). z.capacity) first.is) ∙ known in
+        record {
+          looked = subst (λ z. Looks code kind z.capacity z w) first.is (subst (λ n. Looks code kind n v w) (sym known) looked);
+          word = seen_word;
+          from = c;
+          skipped = skip;
+          left = left;
+          room = m;
+          ask = ask;
+          asks = is_call.same_want c m ∙ wants_it;
+          trace = t;
+          run = subst (λ n. IsRun code kind n t) (sym size) run;
+          seen = same_seen;
+          found = same_word;
+        }
+    left_out base (inr under) e m' left =
+        let no : true ≡ false = sym skip ∙ under.past seen_word in
+        absurd (cc)
+
+    pub told_left : Told (λ (z : View T). z.capacity) (At code kind call) (Over code kind call) after kept c m v (answered ask.op seen_word) w
+    told_left =
+        let hears = is_call.hears c m ask seen_word wants_it in
+        let out = is_call.leaves c ask seen_word skip wants_it in (
+          looked.capacity,
+          λ base stage. subst (λ (z : After C E × M). Step base z.0 z.1 w) (λ i. (sym hears.0 i, sym hears.1 i)) (subst (λ a. Step base a (kept c m seen_word) w) (sym out.3) (inr (left_out base stage out.1 (kept c m seen_word) out.2))),
+        )
 
   -- ---- each step of the call keeps the rule
 
-  pub keeps : KeepsRule (λ (z : View T). z.capacity) (At code kind call) (Ends code kind call) (λ key. size_of key + 1) (λ key. key) (λ key. IsMachine code kind key) want after kept
+  pub keeps : KeepsRule (λ (z : View T). z.capacity) (At code kind call) (Over code kind call) (λ key. size_of key + 1) (λ key. key) (λ key. IsMachine code kind key) want after kept
   keeps base₀ v c m key words slots id wide known at₀ =
       let asked = is_call.asks base₀.capacity c (still_stands code kind effects size_of laws call base₀ v c m at₀) in
       let ask = asked.0 in
       let same : base₀.capacity ≡ key = sym (same_capacity code kind effects size_of laws call base₀ v c m at₀) ∙ known in
       let low : ask.word < size_of key = subst (λ z. ask.word < size_of z) same asked.1 in
       let below : ask.word < words = omega arith in
-      let told_by = Told (λ (z : View T). z.capacity) (At code kind call) (Ends code kind call) after kept c m in
+      let told_by = Told (λ (z : View T). z.capacity) (At code kind call) (Over code kind call) after kept c m in
       subst (λ w. Owes (IsMachine code kind key) words slots id told_by w (v, [])) (sym asked.2) (
         below,
-        λ s r long at small. (
+        λ s r long at small. by_bool (call.skips c (slice_index s.words ask.word)) (λ skip. (
+            let out = is_call.leaves c ask (slice_index s.words ask.word) skip asked.2 in
+            let look = looks_at code kind key slots id ask.word v (some_share code kind effects size_of laws call base₀ v c m at₀) s r long at small in
+            let wide : length r.trace.world.words ≡ size_of key = (laws key).size r.trace r.run in
+            let same_word : slice_index r.trace.world.words ask.word ≡ slice_index s.words ask.word = sym (ap (λ ws. slice_index ws ask.word) r.words ∙ get_left r.trace.world.words (0 ∷ []) ask.word (omega arith)) in (
+              look.0,
+              look.1,
+              look.2,
+              subst (λ n. IsMachine code kind key (table.stepped s ask.word n id [] look.0 look.1)) (sym out.0) look.3,
+              (told_left s v look.0 key c m ask known asked.2 skip look.4.0 r.trace r.run look.5 same_word, look.4.1),
+            ))) (λ skip. (
             let y = ready code kind effects size_of laws call s v key id c m r at known base₀ at₀ in (
-              view_now s v key id c m at known y ask low asked.2,
+              view_now s v key id c m at known y ask low asked.2 small skip,
               table.keeps,
               tt,
-              settle code kind key id (slice_set s.words ask.word (written ask.op (slice_index s.words ask.word))) s v (gained_now s v key id c m at known y ask low asked.2) (after_turn y.u (Next id)) at
-                  (some_share code kind effects size_of laws call base₀ v c m at₀) (between_then s v key id c m at known y ask low asked.2),
-              (told s v key id c m at known y ask low asked.2, refl),
-            )),
+              settle code kind key id y.p y.owner (slice_set s.words ask.word (written ask.op (slice_index s.words ask.word))) s v (gained_now s v key id c m at known y ask low asked.2 small skip) (after_turn y.u (Next y.p)) at
+                  (some_share code kind effects size_of laws call base₀ v c m at₀) (between_then s v key id c m at known y ask low asked.2 small skip),
+              (told s v key id c m at known y ask low asked.2 small skip, refl),
+            ))),
       )
+
+  -- a call that no word leaves out always ends
+  module _ (never : (c : C) (n : ℕ) → call.skips c n ≡ false) where
+    ended : (base : View T) (e : E) (m : M) (w : View T) → Over code kind call base e m w → Ends code kind call base e m w
+    ended base e m w (inl ends) = ends
+    ended base e m w (inr left) = (let no : false ≡ true = sym (never left.from left.word) ∙ left.skipped in absurd (cc))
+
+    next_ended : (base : View T) (r : After C E) (m : M) (w : View T) → Step base r m w → NextKnown (λ (z : View T). z.capacity) (At code kind call) (Ends code kind call) base r m w
+    next_ended base (GoOn d) m w h = h
+    next_ended base (Done e) m w h = ended base e m w h
+
+    abbrev ToldOver : C → M → View T → ℕ → View T → Type 0
+    ToldOver c m = Told (λ (z : View T). z.capacity) (At code kind call) (Over code kind call) after kept c m
+
+    abbrev ToldEnds : C → M → View T → ℕ → View T → Type 0
+    ToldEnds c m = Told (λ (z : View T). z.capacity) (At code kind call) (Ends code kind call) after kept c m
+
+    told_all : (c : C) (m : M) (x : View T) (n : ℕ) (w : View T) → ToldOver c m x n w → ToldEnds c m x n w
+    told_all c m x n w h = (h.0, λ base stage. next_ended base (after c n) (kept c m n) w (h.1 base stage))
+
+    pub keeps_all : KeepsRule (λ (z : View T). z.capacity) (At code kind call) (Ends code kind call) (λ key. size_of key + 1) (λ key. key) (λ key. IsMachine code kind key) want after kept
+    keeps_all base₀ v c m key words slots id wide known at₀ = go (want c) (keeps base₀ v c m key words slots id wide known at₀)
+      where
+        go : (w : Want (Unit {0})) → Owes (IsMachine code kind key) words slots id (ToldOver c m) w (v, []) → Owes (IsMachine code kind key) words slots id (ToldEnds c m) w (v, [])
+        go (wants.Ask a) h = (h.0, λ s r long at small. (let x = h.1 s r long at small in (x.0, x.1, x.2, x.3, (told_all c m v _ x.0 x.4.0, x.4.1))))
+        go (wants.Question q) h = told_all c m v 0 v h
+        go wants.Nothing h = told_all c m v 0 v h
+
+-- ---- calls whose answer names the capacity
+
+module _ {T C M E : Type 0} (code : Coding T) (kind : Kind) (size_of : ℕ → ℕ) (want : C → Want (Unit {0})) (after : C → ℕ → After C E) (kept : C → M → ℕ → M) (call : ℕ → Calling T C M E) where
+  abbrev pub AtSized : View T → View T → C → M → Type 0
+  AtSized base v c m = At code kind (call base.capacity) base v c m
+
+  abbrev pub EndsSized : View T → E → M → View T → Type 0
+  EndsSized base e m w = Ends code kind (call base.capacity) base e m w
+
+  one_size : (n : ℕ) (base v : View T) (c : C) (m : M) → At code kind (call n) base v c m → v.capacity ≡ base.capacity
+  one_size n base v c m (inl first) = ap (λ (z : View T). z.capacity) first.is
+  one_size n base v c m (inr under) = under.capacity
+
+  sized_next : (n : ℕ) (base w : View T) (r : After C E) (m : M) → base.capacity ≡ n → NextKnown (λ (z : View T). z.capacity) (At code kind (call n)) (Ends code kind (call n)) base r m w → NextKnown (λ (z : View T). z.capacity) AtSized EndsSized base r m w
+  sized_next n base w (GoOn d) m same h = subst (λ k. At code kind (call k) base w d m) (sym same) h
+  sized_next n base w (Done e) m same h = subst (λ k. Ends code kind (call k) base e m w) (sym same) h
+
+  told_sized : (base : View T) (c : C) (m : M) (x : View T) (n : ℕ) (w : View T) → x.capacity ≡ base.capacity → Told (λ (z : View T). z.capacity) (At code kind (call base.capacity)) (Ends code kind (call base.capacity)) after kept c m x n w → Told (λ (z : View T). z.capacity) AtSized EndsSized after kept c m x n w
+  told_sized base c m x n w same h = (
+    h.0,
+    λ other stage. (
+        let size : other.capacity ≡ base.capacity = sym (one_size other.capacity other x c m stage) ∙ same in
+        sized_next base.capacity other w (after c n) (kept c m n) size (h.1 other (subst (λ k. At code kind (call k) other x c m) size stage))),
+  )
+
+  pub keeps_sized : ((n : ℕ) → KeepsRule (λ (z : View T). z.capacity) (At code kind (call n)) (Ends code kind (call n)) (λ key. size_of key + 1) (λ key. key) (λ key. IsMachine code kind key) want after kept) → KeepsRule (λ (z : View T). z.capacity) AtSized EndsSized (λ key. size_of key + 1) (λ key. key) (λ key. IsMachine code kind key) want after kept
+  keeps_sized keeps_for base v c m key words slots id wide known at₀ = go (want c) (keeps_for base.capacity base v c m key words slots id wide known at₀)
+    where
+      same : v.capacity ≡ base.capacity
+      same = one_size base.capacity base v c m at₀
+
+      go : (w : Want (Unit {0})) → Owes (IsMachine code kind key) words slots id (Told (λ (z : View T). z.capacity) (At code kind (call base.capacity)) (Ends code kind (call base.capacity)) after kept c m) w (v, []) → Owes (IsMachine code kind key) words slots id (Told (λ (z : View T). z.capacity) AtSized EndsSized after kept c m) w (v, [])
+      go (wants.Ask a) h = (h.0, λ s r long at small. (let x = h.1 s r long at small in (x.0, x.1, x.2, x.3, (told_sized base c m v _ x.0 same x.4.0, x.4.1))))
+      go (wants.Question q) h = told_sized base c m v 0 v same h
+      go wants.Nothing h = told_sized base c m v 0 v same h
 
 -- ---- what a caller knows of a whole call
 
@@ -382,9 +539,9 @@ module _ {T C M E : Type 0} (code : Coding T) (kind : Kind) (call : Calling T C 
       }
 
   -- a call may be told of from where it stands as well
-  pub at_itself : (base v : View T) (c : C) (m : M) → ((n p : ℕ) → call.wrote n p (Some (call.start, call.flight c m)) c m []) → At code kind call base v c m → At code kind call v v c m
-  at_itself base v c m none (inl first) = subst (λ z. At code kind call z z c m) (sym first.is) (inl (record { is = refl; idle = first.idle; fresh = first.fresh; standing = first.standing; some = first.some; first = first.first; may = first.may; wrote = first.wrote }))
-  at_itself base v c m none (inr under) =
+  pub at_itself : (base v : View T) (c : C) (m : M) → ((p : ℕ) → call.by (Some p) p) → ((n p : ℕ) → call.wrote n p (Some (call.start, call.flight c m)) c m []) → At code kind call base v c m → At code kind call v v c m
+  at_itself base v c m own none (inl first) = subst (λ z. At code kind call z z c m) (sym first.is) (inl (record { is = refl; idle = first.idle; fresh = first.fresh; standing = first.standing; some = first.some; first = first.first; starts = first.starts; wrote = first.wrote }))
+  at_itself base v c m own none (inr under) =
       let opens : opened under.party call.start v.going ≡ [] = ap (opened under.party call.start) under.going in
       inr (record {
         capacity = refl;
@@ -393,8 +550,9 @@ module _ {T C M E : Type 0} (code : Coding T) (kind : Kind) (call : Calling T C 
         some = under.some;
         party = under.party;
         mine = under.mine;
-        same = subst (λ (o : Option ℕ). IfSome o (λ p. p ≡ under.party)) (sym under.mine) refl;
+        same = subst (λ (o : Option ℕ). call.by o under.party) (sym under.mine) (own under.party);
         going = under.going;
+        past = under.past;
         alone = under.alone;
         wrote = [];
         tells = subst (λ (o : Option (Start T × Flight T)). call.wrote v.capacity under.party o c m []) (sym under.going) (none v.capacity under.party);

@@ -1,8 +1,8 @@
 -- Who has seen all of the history, and that the seats have made all of it together.
-use Rattle.std.proofs.Common.{◌≡◌, ◌≢◌, inl, inr, ⊎_elim, ℕ, zero, suc, ◌+◌, ◌<◌, Option, Some, None, IfSome, List, [], ◌∷◌, ◌++◌, length, set, refl, sym, ap, subst, ◌∙◌, arith, append_assoc, append-nil, sum_by, ◌==◌, true, false}
+use Rattle.std.proofs.Common.{◌≡◌, ◌≢◌, inl, inr, ⊎_elim, ℕ, zero, suc, ◌+◌, ◌<◌, Option, Some, None, IfSome, List, [], ◌∷◌, ◌++◌, length, set, refl, sym, ap, subst, ◌∙◌, arith, append_assoc, append-nil, sum_by, ◌==◌, true, false, if◌then◌else◌, ◌≤◌, ◌⊎◌}
 use Rattle.std.proofs.lemmas.Bool.{cases_eq}
 use Rattle.std.proofs.lemmas.Bool.Decides.{nat_tests}
-use Rattle.std.proofs.lemmas.List.Sums.{sum_by-append}
+use Rattle.std.proofs.lemmas.List.Sums.{sum_by-append, sum_by-cons}
 use Rattle.std.specs.List.{AllByRecursion}
 use mathlib.Core.Option.{some, some-injective, some-ne-none}
 use lib.ListN.{get_elem?}
@@ -11,10 +11,20 @@ use Rattle.lock_free_sp.specs.Shares.{Shares, IsAll, all_shares}
 use Rattle.lock_free_sp.proofs.Shares.{shares_alone, shares_stay, shares_split, shares_join, others_none, positive}
 use Rattle.model.specs.declared.event.Event.{Event}
 use Rattle.model.specs.Reading.{whose}
+use Rattle.model.specs.World.{Trace}
 use Rattle.history.specs.declared.view.View.{View}
 use Rattle.history.specs.Views.{right_view, left_view, joined_view, spent_view}
-use Rattle.history.specs.History.{IsBeginning}
-use Rattle.history.specs.Known.{HasSeen, Known, own_of, events_by, made_of}
+use Rattle.history.specs.History.{IsBeginning, Fits, call_in}
+use Rattle.history.specs.Known.{HasSeen, Known, own_of, events_by, made_of, owned, if_owned}
+
+-- the parties of the one seat are then those of the other too
+abbrev pub handed_on : ℕ → ℕ → (ℕ → ℕ) → ℕ → ℕ
+handed_on id other owner p = if owner p == other then id else owner p
+
+pub nat_cases : (n p : ℕ) → (n ≤ p) ⊎ (p < n)
+nat_cases zero p = inl (omega arith)
+nat_cases (suc n) zero = inr (omega arith)
+nat_cases (suc n) (suc p) = ⊎_elim (λ h. inl (omega arith)) (λ h. inr (omega arith)) (nat_cases n p)
 
 pub within : {A : Type 0} → (xs : List A) (i : ℕ) (x : A) → get_elem? xs i ≡ some x → i < length xs
 within [] i x e = absurd (some-ne-none x (sym e))
@@ -25,7 +35,56 @@ nil_left : {A : Type 0} → (xs ys : List A) → xs ++ ys ≡ [] → xs ≡ []
 nil_left [] ys e = refl
 nil_left (x ∷ xs) ys e = absurd (cc)
 
+pub nil_right : {A : Type 0} → (xs ys : List A) → xs ++ ys ≡ [] → ys ≡ []
+nil_right [] ys e = e
+nil_right (x ∷ xs) ys e = absurd (cc)
+
+-- where the one seat takes the other in
+one_both : (owner : ℕ → ℕ) (id other n : ℕ) → id ≢ other → (o : Option ℕ) → if_owned owner id o n + if_owned owner other o n ≡ if_owned (handed_on id other owner) id o n
+one_both owner id other n ne None = refl
+one_both owner id other n ne (Some p) = ⊎_elim in_other (λ apart. ⊎_elim (in_id apart) (in_none apart) (cases_eq (owner p) id)) (cases_eq (owner p) other)
+  where
+    in_other : owner p ≡ other → (if owner p == id then n else 0) + (if owner p == other then n else 0) ≡ (if (if owner p == other then id else owner p) == id then n else 0)
+    in_other e =
+        let a : (owner p == id) ≡ false = grind (arith, nat_tests) in
+        let b : (owner p == other) ≡ true = grind (arith, nat_tests) in
+        let c : (id == id) ≡ true = grind (arith, nat_tests) in
+        rw (a, b, c) (omega arith)
+
+    in_id : owner p ≢ other → owner p ≡ id → (if owner p == id then n else 0) + (if owner p == other then n else 0) ≡ (if (if owner p == other then id else owner p) == id then n else 0)
+    in_id apart e =
+        let a : (owner p == id) ≡ true = grind (arith, nat_tests) in
+        let b : (owner p == other) ≡ false = grind (arith, nat_tests) in
+        rw (b, a) (omega arith)
+
+    in_none : owner p ≢ other → owner p ≢ id → (if owner p == id then n else 0) + (if owner p == other then n else 0) ≡ (if (if owner p == other then id else owner p) == id then n else 0)
+    in_none apart e =
+        let a : (owner p == id) ≡ false = grind (arith, nat_tests) in
+        let b : (owner p == other) ≡ false = grind (arith, nat_tests) in
+        rw (b, a) refl
+
+-- a third seat keeps its parties
+one_third : (owner : ℕ → ℕ) (id other j n : ℕ) → j ≢ id → j ≢ other → (o : Option ℕ) → if_owned owner j o n ≡ if_owned (handed_on id other owner) j o n
+one_third owner id other j n ne apart None = refl
+one_third owner id other j n ne apart (Some p) = ⊎_elim in_other in_none (cases_eq (owner p) other)
+  where
+    in_other : owner p ≡ other → (if owner p == j then n else 0) ≡ (if (if owner p == other then id else owner p) == j then n else 0)
+    in_other e =
+        let a : (owner p == j) ≡ false = grind (arith, nat_tests) in
+        let b : (owner p == other) ≡ true = grind (arith, nat_tests) in
+        let c : (id == j) ≡ false = grind (arith, nat_tests) in
+        rw (a, b, c) refl
+
+    in_none : owner p ≢ other → (if owner p == j then n else 0) ≡ (if (if owner p == other then id else owner p) == j then n else 0)
+    in_none e =
+        let b : (owner p == other) ≡ false = grind (arith, nat_tests) in
+        rw b refl
+
 module _ {T : Type 0} where
+  -- a sum begins with the first
+  pub sum_first : (f : Event T → ℕ) (e : Event T) (es : List (Event T)) → sum_by f (e ∷ es) ≡ f e + sum_by f es
+  sum_first f e es = sum_by-cons f e es
+
   -- ---- whose events
 
   pub by_more : (p : ℕ) (xs ys : List (Event T)) → events_by p (xs ++ ys) ≡ events_by p xs ++ events_by p ys
@@ -56,6 +115,51 @@ module _ {T : Type 0} where
   -- who did nothing is seen to have done nothing
   pub none_before : (p : ℕ) (seen events : List (Event T)) → IsBeginning seen events → events_by p events ≡ [] → events_by p seen ≡ []
   none_before p seen events h none = nil_left (events_by p seen) (events_by p h.rest) (sym (by_more p seen h.rest) ∙ (ap (events_by p) (sym h.is) ∙ none))
+
+  -- ---- the events of the parties of one seat
+
+  -- the party of an event that did nothing is none
+  not_by : (owner : ℕ → ℕ) (j : ℕ) (e : Event T) (es : List (Event T)) → ((p : ℕ) → owner p ≡ j → events_by p (e ∷ es) ≡ []) → (f : Event T → ℕ) → owned owner j f e ≡ 0
+  not_by owner j e es none f = go (whose e) refl
+    where
+      go : (o : Option ℕ) → whose e ≡ o → if_owned owner j o (f e) ≡ 0
+      go None is = refl
+      go (Some p) is = ⊎_elim (λ (h : owner p ≡ j). (let mine = own_mine p e is in let no : e ∷ [] ≡ [] = sym mine ∙ nil_left (own_of p e) (events_by p es) (none p h) in absurd (cc))) (λ (h : owner p ≢ j). (let t : (owner p == j) ≡ false = grind (arith, nat_tests) in rw t refl)) (cases_eq (owner p) j)
+
+  pub owned_none : (owner : ℕ → ℕ) (j : ℕ) (f : Event T → ℕ) (es : List (Event T)) → ((p : ℕ) → owner p ≡ j → events_by p es ≡ []) → sum_by (owned owner j f) es ≡ 0
+  owned_none owner j f [] none = refl
+  owned_none owner j f (e ∷ es) none =
+      let here = not_by owner j e es none f in
+      let more = owned_none owner j f es (λ p of_j. nil_right (own_of p e) (events_by p es) (none p of_j)) in
+      let sum = sum_first (owned owner j f) e es in
+      omega arith
+
+  pub owned_both : (owner : ℕ → ℕ) (id other : ℕ) (f : Event T → ℕ) → id ≢ other → (es : List (Event T)) → sum_by (owned owner id f) es + sum_by (owned owner other f) es ≡ sum_by (owned (handed_on id other owner) id f) es
+  owned_both owner id other f ne [] = refl
+  owned_both owner id other f ne (e ∷ es) =
+      let here = one_both owner id other (f e) ne (whose e) in
+      let more = owned_both owner id other f ne es in
+      let a = sum_first (owned owner id f) e es in
+      let b = sum_first (owned owner other f) e es in
+      let c = sum_first (owned (handed_on id other owner) id f) e es in
+      omega arith
+
+  pub owned_third : (owner : ℕ → ℕ) (id other j : ℕ) (f : Event T → ℕ) → j ≢ id → j ≢ other → (es : List (Event T)) → sum_by (owned owner j f) es ≡ sum_by (owned (handed_on id other owner) j f) es
+  owned_third owner id other j f ne apart [] = refl
+  owned_third owner id other j f ne apart (e ∷ es) =
+      let here = one_third owner id other j (f e) ne apart (whose e) in
+      let more = owned_third owner id other j f ne apart es in
+      let a = sum_first (owned owner j f) e es in
+      let b = sum_first (owned (handed_on id other owner) j f) e es in
+      omega arith
+
+  -- no party of a seat that is idle has a call under way
+  pub idle_seat : (owner : ℕ → ℕ) (t : Trace T) (j : ℕ) (v : View T) → v.going ≡ None → Fits owner t j v → (p : ℕ) → owner p ≡ j → call_in t.world p ≡ None
+  idle_seat owner t j v none f p of_j = go v.party refl
+    where
+      go : (o : Option ℕ) → v.party ≡ o → call_in t.world p ≡ None
+      go None is = f.idle p of_j (λ e. (let no : ◌≡◌ {A = Option ℕ} None (Some p) = sym is ∙ e in absurd (cc)))
+      go (Some q) is = ⊎_elim (λ (e : q ≡ p). f.going p of_j (is ∙ ap Some e) ∙ none) (λ (ne : q ≢ p). f.idle p of_j (λ e. (let same : ◌≡◌ {A = Option ℕ} (Some q) (Some p) = sym is ∙ e in let no : q ≡ p = cc in absurd (ne no)))) (cases_eq q p)
 
   -- ---- what the seats made
 

@@ -7,3 +7,13 @@ pub mod Passes
 pub mod Drives
 pub mod Made
 pub mod Sets
+pub mod Ledger
+pub mod Held
+pub mod Roles
+pub mod Indices
+pub mod IndexCalls
+pub mod Queues
+pub mod QueueLaws
+pub mod QueueCalls
+pub mod Holders
+pub mod Cells

@@ -1,5 +1,5 @@
 -- How passes are made of one another, and a look at the whole history, under the rule of a machine.
-use Rattle.std.proofs.Common.{◌≡◌, ◌≢◌, ◌⊎◌, inl, inr, ⊎_elim, ℕ, zero, suc, ◌+◌, ◌-◌, ◌^◌, ◌<◌, nat_lt, false, None, List, [], ◌∷◌, ◌++◌, length, replicate, get_or, set, slice_index, slice_set, refl, sym, ap, subst, ◌∙◌, append_assoc, append-nil, arith, length-set, sum_by}
+use Rattle.std.proofs.Common.{◌≡◌, ◌≢◌, ◌⊎◌, inl, inr, ⊎_elim, ℕ, zero, suc, ◌+◌, ◌-◌, ◌^◌, ◌<◌, ◌≤◌, ◌==◌, true, false, if◌then◌else◌, Option, Some, None, IfSome, List, [], ◌∷◌, ◌++◌, length, replicate, get_or, set, slice_index, slice_set, refl, sym, ap, subst, ◌∙◌, append_assoc, append-nil, arith, length-set, sum_by}
 use mathlib.Core.Option.{some, some-injective, some-ne-none}
 use lib.ListN.{get_elem?}
 use Rattle.atomic_table.specs.Table.{State, Allows, Splits, Joins, Enters, opening}
@@ -9,16 +9,20 @@ use Rattle.model.specs.declared.event.Event.{Event}
 use Rattle.model.specs.declared.turn.Kind.{Kind}
 use Rattle.model.specs.declared.turn.Kind.TheVariants as kinds
 use Rattle.model.specs.Coding.{Coding, IsCoding, one_word}
+use Rattle.std.proofs.lemmas.Bool.{cases_eq}
 use Rattle.std.proofs.lemmas.Bool.Decides.{nat_tests}
+use Rattle.std.proofs.lemmas.List.Sums.{sum_by-append}
 use Rattle.model.specs.Families.{opening_of}
 use Rattle.model.specs.World as worlds
 use Rattle.model.specs.World.{Trace, capacity_error}
 use Rattle.model.proofs.Reached.{reached_on_opening}
+use Rattle.queue_laws.proofs.Queues.Sound.{fresh_opening}
 use Rattle.history.specs.declared.view.View.{View}
 use Rattle.history.specs.History.{IsBeginning, IsMachine, Fits, call_in}
-use Rattle.history.specs.Views.{first_view, left_view, right_view, joined_view, spent_view, Looks}
-use Rattle.history.specs.Known.{Known}
-use Rattle.history.proofs.Known.{within, known_alone, known_step, known_whole, made_whole, known_split, known_join, none_before}
+use Rattle.history.specs.Views.{first_view, left_view, right_view, joined_view, spent_view, Looks, LooksAt}
+use Rattle.history.specs.Known.{Known, HasSeenOf, events_by}
+use Rattle.history.proofs.Calls.{get_left}
+use Rattle.history.proofs.Known.{within, handed_on, owned_none, owned_both, owned_third, idle_seat, nat_cases, known_alone, known_step, known_whole, made_whole, known_split, known_join, none_before}
 
 pub set_same : (xs : List ℕ) (i : ℕ) → set xs i (get_or xs i 0) ≡ xs
 set_same [] i = refl
@@ -57,13 +61,16 @@ module _ {T : Type 0} (code : Coding T) (kind : Kind) (capacity : ℕ) where
   all_of es = record { rest = []; is = sym (append-nil es) }
 
   -- a seat may know otherwise what fits
-  pub reseat : (words : List ℕ) (s : State (Unit {0}) (View T)) (m : Holds s) (id : ℕ) (v w : View T) → words ≡ s.words → get_elem? s.views id ≡ some v → Fits m.trace id w → Known (set s.views id w) m.trace.events → Holds (record { words = words; homes = s.homes; views = set s.views id w })
+  pub reseat : (words : List ℕ) (s : State (Unit {0}) (View T)) (m : Holds s) (id : ℕ) (v w : View T) → words ≡ s.words → get_elem? s.views id ≡ some v → Fits m.owner m.trace id w → Known (set s.views id w) m.trace.events → Holds (record { words = words; homes = s.homes; views = set s.views id w })
   reseat words s m id v w same at fits known =
       record {
         trace = m.trace;
         run = m.run;
         words = same ∙ m.words;
-        seats = λ j x found. ⊎_elim (λ (e : (j ≡ id) × (w ≡ x)). subst (λ z. Fits m.trace j z) e.1 (subst (λ n. Fits m.trace n w) (sym e.0) fits)) (λ (e : (j ≢ id) × (get_elem? s.views j ≡ some x)). m.seats j x e.1) (at_set s.views id j w x found);
+        owner = m.owner;
+        seats = λ j x found. ⊎_elim (λ (e : (j ≡ id) × (w ≡ x)). subst (λ z. Fits m.owner m.trace j z) e.1 (subst (λ n. Fits m.owner m.trace n w) (sym e.0) fits)) (λ (e : (j ≢ id) × (get_elem? s.views j ≡ some x)). m.seats j x e.1) (at_set s.views id j w x found);
+        inside = λ p low. (let long = length-set s.views id w in let h = m.inside p (omega arith) in omega arith);
+        fresh = λ p past. (let long = length-set s.views id w in m.fresh p (omega arith));
         further = λ j past. (let long = length-set s.views id w in m.further j (omega arith));
         made_none = λ j past. (let long = length-set s.views id w in m.made_none j (omega arith));
         known = known;
@@ -75,54 +82,168 @@ module _ {T : Type 0} (code : Coding T) (kind : Kind) (capacity : ℕ) where
         trace = m.trace;
         run = m.run;
         words = m.words;
-        seats = λ j x found. ⊎_elim (λ (e : get_elem? (set s.views id (left_view v)) j ≡ some x). old j x e) (λ (e : (j ≡ length (set s.views id (left_view v))) × (right_view v ≡ x)). subst (λ z. Fits m.trace j z) e.1 (new j e.0)) (at_end (set s.views id (left_view v)) (right_view v) x j found);
-        further = λ j past. (let long = length_end (set s.views id (left_view v)) (right_view v) in let same = length-set s.views id (left_view v) in m.further j (omega arith));
-        made_none = λ j past. (let long = length_end (set s.views id (left_view v)) (right_view v) in let same = length-set s.views id (left_view v) in m.made_none j (omega arith));
+        owner = m.owner;
+        seats = λ j x found. ⊎_elim (λ (e : get_elem? (set s.views id (left_view v)) j ≡ some x). old j x e) (λ (e : (j ≡ length (set s.views id (left_view v))) × (right_view v ≡ x)). subst (λ z. Fits m.owner m.trace j z) e.1 (new j (e.0 ∙ same))) (at_end (set s.views id (left_view v)) (right_view v) x j found);
+        inside = λ p low. (let l = long in ⊎_elim (λ (past : length s.views ≤ p). (let f = m.fresh p past in omega arith)) (λ (low' : p < length s.views). (let h = m.inside p low' in omega arith)) (nat_cases (length s.views) p));
+        fresh = λ p past. (let l = long in m.fresh p (omega arith));
+        further = λ j past. (let l = long in m.further j (omega arith));
+        made_none = λ j past. (let l = long in m.made_none j (omega arith));
         known = known_split s.views m.trace.events id v (within s.views id v at) at m.known;
       }
     where
-      new : (j : ℕ) → j ≡ length (set s.views id (left_view v)) → Fits m.trace j (right_view v)
-      new j e = record { seen = (m.seats id v at).seen; other = nothing m.trace.events; going = (let same = length-set s.views id (left_view v) in m.further j (omega arith)); party = tt; own = λ any. (let none = (let same = length-set s.views id (left_view v) in m.made_none j (omega arith)) in none_before j v.seen m.trace.events (m.seats id v at).seen none ∙ sym none) }
+      same : length (set s.views id (left_view v)) ≡ length s.views
+      same = length-set s.views id (left_view v)
 
-      left : Fits m.trace id (left_view v)
-      left = (let f = m.seats id v at in record { seen = f.seen; other = f.other; going = f.going; party = f.party; own = f.own })
+      long : length (set s.views id (left_view v) ++ right_view v ∷ []) ≡ length s.views + 1
+      long = length_end (set s.views id (left_view v)) (right_view v) ∙ ap (λ n. n + 1) same
 
-      old : (j : ℕ) (x : View T) → get_elem? (set s.views id (left_view v)) j ≡ some x → Fits m.trace j x
-      old j x found = ⊎_elim (λ (e : (j ≡ id) × (left_view v ≡ x)). subst (λ z. Fits m.trace j z) e.1 (subst (λ n. Fits m.trace n (left_view v)) (sym e.0) left)) (λ (e : (j ≢ id) × (get_elem? s.views j ≡ some x)). m.seats j x e.1) (at_set s.views id j (left_view v) x found)
+      -- a party of the new seat is its own number
+      alone : (p j : ℕ) → j ≡ length s.views → m.owner p ≡ j → length s.views ≤ p
+      alone p j e of_j = ⊎_elim (λ h. h) (λ (low : p < length s.views). (let h = m.inside p low in absurd (omega arith))) (nat_cases (length s.views) p)
 
-  pub joins : (id other : ℕ) (v w : View T) → 0 < v.share.part → w.going ≡ None → v.other ≡ [] → w.other ≡ [] → Joins Holds id v other w (joined_view v w) spent_view
-  joins id other v w some_share idle alone alone' s m at apart at' =
+      new : (j : ℕ) → j ≡ length s.views → Fits m.owner m.trace j (right_view v)
+      new j e =
+          record {
+            seen = (m.seats id v at).seen;
+            other = nothing m.trace.events;
+            self = λ any. m.fresh j (omega arith);
+            going = λ p of_j is. absurd (cc);
+            idle = λ p of_j ne. m.further p (alone p j e of_j);
+            party = tt;
+            own = λ any p of_j. (let none = m.made_none p (alone p j e of_j) in inl (none_before p v.seen m.trace.events (m.seats id v at).seen none ∙ sym none));
+            made = λ f. sym (owned_none m.owner j f m.trace.events (λ p of_j. m.made_none p (alone p j e of_j)));
+          }
+
+      left : Fits m.owner m.trace id (left_view v)
+      left = (let f = m.seats id v at in record { seen = f.seen; other = f.other; self = f.self; going = f.going; idle = f.idle; party = f.party; own = f.own; made = f.made })
+
+      old : (j : ℕ) (x : View T) → get_elem? (set s.views id (left_view v)) j ≡ some x → Fits m.owner m.trace j x
+      old j x found = ⊎_elim (λ (e : (j ≡ id) × (left_view v ≡ x)). subst (λ z. Fits m.owner m.trace j z) e.1 (subst (λ n. Fits m.owner m.trace n (left_view v)) (sym e.0) left)) (λ (e : (j ≢ id) × (get_elem? s.views j ≡ some x)). m.seats j x e.1) (at_set s.views id j (left_view v) x found)
+
+  pub joins : (id other : ℕ) (v w : View T) → 0 < v.share.part → 0 < w.share.part → w.going ≡ None → v.other ≡ [] → w.other ≡ [] → Joins Holds id v other w (joined_view v w) spent_view
+  joins id other v w some_share other_share idle alone alone' s m at apart at' =
       record {
         trace = m.trace;
         run = m.run;
         words = m.words;
-        seats = λ j x found. ⊎_elim (λ (e : (j ≡ other) × (spent_view ≡ x)). subst (λ z. Fits m.trace j z) e.1 (gone j e.0)) (λ (e : (j ≢ other) × (get_elem? (set s.views id (joined_view v w)) j ≡ some x)). old j x e.1) (at_set (set s.views id (joined_view v w)) other j spent_view x found);
-        further = λ j past. (let one = length-set (set s.views id (joined_view v w)) other spent_view in let two = length-set s.views id (joined_view v w) in m.further j (omega arith));
-        made_none = λ j past. (let one = length-set (set s.views id (joined_view v w)) other spent_view in let two = length-set s.views id (joined_view v w) in m.made_none j (omega arith));
+        owner = handed_on id other m.owner;
+        seats = λ j x found. ⊎_elim (λ (e : (j ≡ other) × (spent_view ≡ x)). subst (λ z. Fits (handed_on id other m.owner) m.trace j z) e.1 (gone j e.0)) (λ (e : (j ≢ other) × (get_elem? (set s.views id (joined_view v w)) j ≡ some x)). old j x e.0 e.1) (at_set (set s.views id (joined_view v w)) other j spent_view x found);
+        inside = λ p low. (let l = long in ⊎_elim (λ (e : m.owner p ≡ other). (let to = moves p e in let h = within s.views id v at in omega arith)) (λ (ne : m.owner p ≢ other). (let to = stays p ne in let h = m.inside p (omega arith) in omega arith)) (cases_eq (m.owner p) other));
+        fresh = λ p past. (
+            let l = long in
+            let is = m.fresh p (omega arith) in
+            let low = within s.views other w theirs in
+            stays p (λ e. absurd (omega arith)) ∙ is);
+        further = λ j past. (let l = long in m.further j (omega arith));
+        made_none = λ j past. (let l = long in m.made_none j (omega arith));
         known = known_join s.views m.trace.events id other v w at apart theirs some_share (m.seats id v at).seen alone alone' m.known;
       }
     where
+      long : length (set (set s.views id (joined_view v w)) other spent_view) ≡ length s.views
+      long = length-set (set s.views id (joined_view v w)) other spent_view ∙ length-set s.views id (joined_view v w)
+
       theirs : get_elem? s.views other ≡ some w
       theirs = ⊎_elim (λ (e : (other ≡ id) × (joined_view v w ≡ w)). absurd (apart e.0)) (λ (e : (other ≢ id) × (get_elem? s.views other ≡ some w)). e.1) (at_set s.views id other (joined_view v w) w at')
 
-      both : Fits m.trace id (joined_view v w)
-      both = record { seen = (m.seats id v at).seen; other = (m.seats other w theirs).seen; going = (m.seats id v at).going; party = (m.seats id v at).party; own = λ any. (m.seats id v at).own some_share }
+      moves : (p : ℕ) → m.owner p ≡ other → handed_on id other m.owner p ≡ id
+      moves p e = let t : (m.owner p == other) ≡ true = grind (arith, nat_tests) in rw t refl
 
-      old : (j : ℕ) (x : View T) → get_elem? (set s.views id (joined_view v w)) j ≡ some x → Fits m.trace j x
-      old j x found = ⊎_elim (λ (e : (j ≡ id) × (joined_view v w ≡ x)). subst (λ z. Fits m.trace j z) e.1 (subst (λ n. Fits m.trace n (joined_view v w)) (sym e.0) both)) (λ (e : (j ≢ id) × (get_elem? s.views j ≡ some x)). m.seats j x e.1) (at_set s.views id j (joined_view v w) x found)
+      stays : (p : ℕ) → m.owner p ≢ other → handed_on id other m.owner p ≡ m.owner p
+      stays p ne = let t : (m.owner p == other) ≡ false = grind (arith, nat_tests) in rw t refl
 
-      gone : (j : ℕ) → j ≡ other → Fits m.trace j spent_view
-      gone j e = record { seen = nothing m.trace.events; other = nothing m.trace.events; going = ap (call_in m.trace.world) e ∙ ((m.seats other w theirs).going ∙ idle); party = tt; own = λ any. absurd (omega arith) }
+      -- whose parties the seats have now
+      of_id : (p : ℕ) → handed_on id other m.owner p ≡ id → (m.owner p ≡ id) ⊎ (m.owner p ≡ other)
+      of_id p e = ⊎_elim (λ h. inr h) (λ ne. inl (sym (stays p ne) ∙ e)) (cases_eq (m.owner p) other)
 
-  pub looks : (slots id word : ℕ) (v : View T) → 0 < v.share.part → Allows Holds slots id (v, []) word (λ n. n) (λ found me. Looks code kind capacity v me.0 × (me.1 ≡ []))
-  looks slots id word v some_share s m long at small =
+      of_third : (p j : ℕ) → j ≢ id → handed_on id other m.owner p ≡ j → (m.owner p ≡ j) × (m.owner p ≢ other)
+      of_third p j ne e = ⊎_elim (λ h. absurd (ne (sym e ∙ moves p h))) (λ apart_too. (sym (stays p apart_too) ∙ e, apart_too)) (cases_eq (m.owner p) other)
+
+      mine : Fits m.owner m.trace id v
+      mine = m.seats id v at
+
+      its : Fits m.owner m.trace other w
+      its = m.seats other w theirs
+
+      its_idle : (p : ℕ) → m.owner p ≡ other → call_in m.trace.world p ≡ None
+      its_idle p of_other = idle_seat m.owner m.trace other w idle its p of_other
+
+      both : Fits (handed_on id other m.owner) m.trace id (joined_view v w)
+      both =
+          record {
+            seen = mine.seen;
+            other = its.seen;
+            self = λ any. stays id (λ e. apart (sym (sym (mine.self some_share) ∙ e))) ∙ mine.self some_share;
+            going = λ p now is. ⊎_elim (λ (h : m.owner p ≡ id). mine.going p h is) (λ (h : m.owner p ≡ other). absurd (apart (sym h ∙ party_is v.party p is mine.party))) (of_id p now);
+            idle = λ p now ne. ⊎_elim (λ (h : m.owner p ≡ id). mine.idle p h ne) (λ (h : m.owner p ≡ other). its_idle p h) (of_id p now);
+            party = go v.party mine.party;
+            own = λ any p now. ⊎_elim (λ (h : m.owner p ≡ id). inl (only v alone p (mine.seen) (mine.own some_share p h))) (λ (h : m.owner p ≡ other). inr (only w alone' p (its.seen) (its.own other_share p h))) (of_id p now);
+            made = λ f. (
+                let a = mine.made f in
+                let b = its.made f in
+                let one = sum_by-append f v.made w.made in
+                let two = owned_both m.owner id other f (λ e. apart (sym e)) m.trace.events in
+                omega arith);
+          }
+        where
+          party_is : (o : Option ℕ) (p : ℕ) → o ≡ Some p → IfSome o (λ q. m.owner q ≡ id) → m.owner p ≡ id
+          party_is o p is h = subst (λ (z : Option ℕ). IfSome z (λ q. m.owner q ≡ id)) is h
+
+          go : (o : Option ℕ) → IfSome o (λ q. m.owner q ≡ id) → IfSome o (λ q. handed_on id other m.owner q ≡ id)
+          go None h = tt
+          go (Some q) h = stays q (λ e. apart (sym e ∙ h)) ∙ h
+
+          only : (x : View T) → x.other ≡ [] → (p : ℕ) → IsBeginning x.seen m.trace.events → HasSeenOf p x m.trace.events → events_by p x.seen ≡ events_by p m.trace.events
+          only x none p seen (inl h) = h
+          only x none p seen (inr h) = let nothing_by : events_by p m.trace.events ≡ [] = sym h ∙ ap (events_by p) none in none_before p x.seen m.trace.events seen nothing_by ∙ sym nothing_by
+
+      old : (j : ℕ) (x : View T) → j ≢ other → get_elem? (set s.views id (joined_view v w)) j ≡ some x → Fits (handed_on id other m.owner) m.trace j x
+      old j x apart_too found = ⊎_elim (λ (e : (j ≡ id) × (joined_view v w ≡ x)). subst (λ z. Fits (handed_on id other m.owner) m.trace j z) e.1 (subst (λ n. Fits (handed_on id other m.owner) m.trace n (joined_view v w)) (sym e.0) both)) (λ (e : (j ≢ id) × (get_elem? s.views j ≡ some x)). third j x e.0 apart_too (m.seats j x e.1)) (at_set s.views id j (joined_view v w) x found)
+        where
+          third : (j : ℕ) (x : View T) → j ≢ id → j ≢ other → Fits m.owner m.trace j x → Fits (handed_on id other m.owner) m.trace j x
+          third j x ne apart_too f =
+              record {
+                seen = f.seen;
+                other = f.other;
+                self = λ any. stays j (λ e. apart_too (sym (f.self any) ∙ e)) ∙ f.self any;
+                going = λ p now. f.going p (of_third p j ne now).0;
+                idle = λ p now. f.idle p (of_third p j ne now).0;
+                party = go x.party f.party;
+                own = λ any p now. f.own any p (of_third p j ne now).0;
+                made = λ g. f.made g ∙ owned_third m.owner id other j g ne apart_too m.trace.events;
+              }
+            where
+              go : (o : Option ℕ) → IfSome o (λ q. m.owner q ≡ j) → IfSome o (λ q. handed_on id other m.owner q ≡ j)
+              go None h = tt
+              go (Some q) h = stays q (λ e. apart_too (sym h ∙ e)) ∙ h
+
+      -- apart_too party is left to it
+      never : (p j : ℕ) → j ≡ other → handed_on id other m.owner p ≡ j → ⊥
+      never p j e now = ⊎_elim (λ (h : m.owner p ≡ other). apart (sym e ∙ (sym now ∙ moves p h))) (λ (ne : m.owner p ≢ other). ne (sym (stays p ne) ∙ (now ∙ e))) (cases_eq (m.owner p) other)
+
+      gone : (j : ℕ) → j ≡ other → Fits (handed_on id other m.owner) m.trace j spent_view
+      gone j e =
+          record {
+            seen = nothing m.trace.events;
+            other = nothing m.trace.events;
+            self = λ any. absurd (omega arith);
+            going = λ p now is. absurd (never p j e now);
+            idle = λ p now ne. absurd (never p j e now);
+            party = tt;
+            own = λ any. absurd (omega arith);
+            made = λ f. sym (owned_none (handed_on id other m.owner) j f m.trace.events (λ p now. absurd (never p j e now)));
+          }
+
+  -- a look at this table
+  pub looks_at : (slots id word : ℕ) (v : View T) → 0 < v.share.part → (s : State (Unit {0}) (View T)) → (m : Holds s) → length s.homes ≡ slots → get_elem? s.views id ≡ some v → slice_index s.words word < 18446744073709551616
+      → (w : View T) × (a : table.Act (Unit {0})) × table.Valid s.homes [] a × Holds (table.stepped s word (slice_index s.words word) id [] w a) × (Looks code kind capacity v w × (table.carried_after [] a ≡ [])) × (w.seen ≡ m.trace.events)
+  looks_at slots id word v some_share s m long at small =
       let t = m.trace in
       let f = m.seats id v at in
       let w : View T = record { capacity = v.capacity; party = v.party; share = v.share; seen = t.events; other = []; made = v.made; going = v.going } in (
         w,
         table.keeps,
         tt,
-        reseat (slice_set s.words word (slice_index s.words word)) s m id v w (set_same s.words word) at (record { seen = all_of t.events; other = nothing t.events; going = f.going; party = f.party; own = λ any. refl })
+        reseat (slice_set s.words word (slice_index s.words word)) s m id v w (set_same s.words word) at (record { seen = all_of t.events; other = nothing t.events; self = f.self; going = f.going; idle = f.idle; party = f.party; own = λ any p of_id. inl refl; made = f.made })
             (known_step s.views t.events [] id v w (within s.views id v at) at refl some_share refl (sym (append-nil v.made)) (λ f. (let h = m.known.made f in omega arith)) m.known.spent m.known.shares),
         (
           record {
@@ -137,8 +258,32 @@ module _ {T : Type 0} (code : Coding T) (kind : Kind) (capacity : ℕ) where
             whole = λ all. ⊎_elim (λ (e : v.seen ≡ t.events). inl (sym e)) (λ (e : v.other ≡ t.events). inr (sym e)) (known_whole s.views t.events id v at all m.known);
             all = λ all f. made_whole s.views t.events id v at all m.known f;
             history = record { trace = t; run = m.run; is = refl };
+            parties = record { owner = m.owner; seat = id; sums = f.made };
           },
           refl,
+        ),
+        refl,
+      )
+
+  pub looks : (slots id word : ℕ) (v : View T) → 0 < v.share.part → Allows Holds slots id (v, []) word (λ n. n) (λ found me. Looks code kind capacity v me.0 × (me.1 ≡ []))
+  looks slots id word v some_share s m long at small = (let x = looks_at slots id word v some_share s m long at small in (x.0, x.1, x.2, x.3, x.4))
+
+  pub looks_word : (slots id word : ℕ) (v : View T) → 0 < v.share.part → Allows Holds slots id (v, []) word (λ n. n) (λ found me. LooksAt code kind capacity word v found me.0 × (me.1 ≡ []))
+  looks_word slots id word v some_share s m long at small =
+      let x = looks_at slots id word v some_share s m long at small in (
+        x.0,
+        x.1,
+        x.2,
+        x.3,
+        (
+          record {
+            looks = x.4.0;
+            trace = m.trace;
+            run = m.run;
+            seen = x.5;
+            word_is = λ below. ap (λ ws. slice_index ws word) m.words ∙ get_left m.trace.world.words (0 ∷ []) word below;
+          },
+          x.4.1,
         ),
       )
 
@@ -147,14 +292,17 @@ module _ {T : Type 0} (code : Coding T) (kind : Kind) (capacity : ℕ) where
       let t : Trace T = worlds.opening code kind capacity 0 in
       record {
         trace = t;
-        run = record { reached = reached_on_opening code kind capacity 0 coded admitted; coded = refl; of_kind = refl; sized = refl };
+        run = record { reached = reached_on_opening code kind capacity 0 coded admitted; coded = refl; of_kind = refl; sized = refl; fresh = fresh_opening code kind capacity 0 };
         words = same;
+        owner = λ p. p;
         seats = seats;
+        inside = λ p low. low;
+        fresh = λ p past. refl;
         further = λ j past. refl;
         made_none = λ j past. refl;
         known = known_alone (first_view capacity) refl refl refl;
       }
     where
-      seats : (j : ℕ) (v : View T) → get_elem? (first_view capacity ∷ []) j ≡ some v → Fits (worlds.opening code kind capacity 0) j v
-      seats zero v e = subst (λ z. Fits (worlds.opening code kind capacity 0) zero z) (some-injective (first_view capacity) v e) (record { seen = nothing []; other = nothing []; going = refl; party = refl; own = λ any. refl })
+      seats : (j : ℕ) (v : View T) → get_elem? (first_view capacity ∷ []) j ≡ some v → Fits (λ p. p) (worlds.opening code kind capacity 0) j v
+      seats zero v e = subst (λ z. Fits (λ p. p) (worlds.opening code kind capacity 0) zero z) (some-injective (first_view capacity) v e) (record { seen = nothing []; other = nothing []; self = λ any. refl; going = λ p of_j is. refl; idle = λ p of_j ne. refl; party = refl; own = λ any p of_j. inl refl; made = λ f. refl })
       seats (suc j) v e = absurd (some-ne-none v (sym e))

@@ -1,5 +1,5 @@
 -- What bit sets and counting bit sets owe, from their laws.
-use Rattle.std.proofs.Common.{◌≡◌, ◌≢◌, ℕ, ◌+◌, ◌-◌, ◌^◌, ◌<◌, nat_lt, Bool, true, false, Option, Some, None, IfSome, List, [], ◌∷◌, ◌++◌, length, replicate, refl, sym, ap, subst, ◌∙◌, arith}
+use Rattle.std.proofs.Common.{◌≡◌, ◌≢◌, ℕ, ◌+◌, ◌-◌, ◌^◌, ◌<◌, nat_lt, Bool, true, false, Option, Some, None, IfSome, List, [], ◌∷◌, ◌++◌, length, replicate, refl, sym, ap, subst, ◌∙◌, arith, sum_by}
 use Rattle.std.specs.List.{AllByRecursion}
 use Rattle.std.proofs.lemmas.Bool.Decides.{nat_tests}
 use Rattle.atomic_table.specs.Table.{opening}
@@ -18,7 +18,7 @@ use Rattle.model.specs.declared.party.Party.{Party}
 use Rattle.model.specs.declared.turn.Kind as kinds
 use Rattle.model.specs.declared.turn.Turn.TheVariants.{Next}
 use Rattle.model.specs.Coding.{Coding, one_word}
-use Rattle.model.specs.Families.{opening_of, step_of, beside_of, after_of, goes_of, going_rows}
+use Rattle.model.specs.Families.{opening_of, first_of, begin_rows, step_of, beside_of, after_of, goes_of, going_rows}
 use Rattle.model.specs.Families.Bits.Steps.{effects_of}
 use Rattle.model.specs.Parties.{party_of}
 use Rattle.model.specs.Promises.Turns.{IsEffectOf, IsParty}
@@ -37,6 +37,9 @@ use Rattle.bit_laws.proofs.Counts.Justified.{laws as counts_laws}
 use Rattle.bit_laws.proofs.Bits.Invariant.{bit_set}
 use Rattle.bit_laws.proofs.Bits.Justified.{laws as bits_laws}
 use Rattle.history.specs.History.{IsRun, IsMachine, call_in}
+use Rattle.history.specs.declared.view.View.{View}
+use Rattle.history.specs.Known.{owned}
+use Rattle.history.specs.Stages.{Calling, Starts}
 use Rattle.history.specs.Views.{first_view}
 use Rattle.history.proofs.Known.{AreOf}
 use Rattle.history.proofs.Calls.{stands}
@@ -87,7 +90,7 @@ module _ {T : Type 0} (K : SetKind T) (laws : (code : Coding T) (c : ℕ) → Se
   sound : (t : Trace T) → IsSet t → frame.Sound (family K t.world.coding t.world.capacity) t
   sound t r = sound_on K laws t r.of_kind r.reached
 
-  bare : (t : Trace T) → IsSet t → t.world.kept ≡ (opening_of K.kind).kept capacity
+  pub bare : (t : Trace T) → IsSet t → t.world.kept ≡ (opening_of K.kind).kept capacity
   bare t r = (sound t r).fit.0 ∙ sym ((laws code capacity).bare)
 
   size : (t : Trace T) → IsSet t → length t.world.words ≡ words
@@ -134,7 +137,26 @@ module _ {T : Type 0} (K : SetKind T) (laws : (code : Coding T) (c : ℕ) → Se
       }
 
   pub sets_owe : KindLaws code K.kind capacity words set_effects
-  sets_owe = record { kept = bare; size = size; goes_on = goes_on }
+  sets_owe = record { size = size; goes_on = goes_on }
+
+  -- a call that may begin on a new set may begin at any time, as the party that the pass was last
+  pub set_starts : {C M E : Type 0} → (call : Calling T C M E) (base : View T) (c : C) (m : M) → base.capacity ≡ capacity → ((o : Option ℕ) (p : ℕ) → IfSome o (λ q. q ≡ p) → call.by o p)
+      → first_of K.kind capacity call.start ((opening_of K.kind).kept capacity) ≡ Some (call.flight c m) → ((p : ℕ) → first_row (begin_rows K.kind capacity ((opening_of K.kind).kept capacity) p call.start) ≡ None)
+      → (t : Trace T) (owner : ℕ → ℕ) (j : ℕ) → IsRun code K.kind base.capacity t → owner j ≡ j → IfSome base.party (λ p. owner p ≡ j) → ((f : Event T → ℕ) → sum_by f base.made ≡ sum_by (owned owner j f) t.events) → Starts code K.kind call base c m t owner j
+  set_starts {C} {M} {E} call base c m size by first may t owner j run self party sums = go base.party refl party
+    where
+      kept : t.world.kept ≡ (opening_of K.kind).kept capacity
+      kept = bare t (subst (λ n. IsRun code K.kind n t) size run)
+
+      first_here : first_of K.kind base.capacity call.start t.world.kept ≡ Some (call.flight c m)
+      first_here = subst (λ n. first_of K.kind n call.start t.world.kept ≡ Some (call.flight c m)) (sym size) (subst (λ k. first_of K.kind capacity call.start k ≡ Some (call.flight c m)) (sym kept) first)
+
+      may_here : (p : ℕ) → first_row (begin_rows K.kind base.capacity t.world.kept p call.start) ≡ None
+      may_here p = subst (λ n. first_row (begin_rows K.kind n t.world.kept p call.start) ≡ None) (sym size) (subst (λ k. first_row (begin_rows K.kind capacity k p call.start) ≡ None) (sym kept) (may p))
+
+      go : (o : Option ℕ) → base.party ≡ o → IfSome o (λ p. owner p ≡ j) → Starts code K.kind call base c m t owner j
+      go None e h = record { party = j; mine = self; by = by base.party j (subst (λ (z : Option ℕ). IfSome z (λ q. q ≡ j)) (sym e) tt); first = first_here; may = may_here j }
+      go (Some p) e h = record { party = p; mine = h; by = by base.party p (subst (λ (z : Option ℕ). IfSome z (λ q. q ≡ p)) (sym e) refl); first = first_here; may = may_here p }
 
 module _ {T : Type 0} (code : Coding T) (capacity : ℕ) where
   pub counts_owe : KindLaws code kinds.TheVariants.Counts capacity capacity set_effects
@@ -142,6 +164,17 @@ module _ {T : Type 0} (code : Coding T) (capacity : ℕ) where
 
   pub bits_owe : KindLaws code kinds.TheVariants.Bits capacity (1 + elements capacity) set_effects
   bits_owe = sets_owe bit_set bits_laws code capacity (1 + elements capacity) (λ c ws es turns same holds. holds.sized ∙ ap (λ n. 1 + elements n) same)
+
+module _ {T C M E : Type 0} (code : Coding T) (call : Calling T C M E) (base : View T) (c : C) (m : M) (by : (o : Option ℕ) (p : ℕ) → IfSome o (λ q. q ≡ p) → call.by o p) where
+  abbrev StartsOn : Rattle.model.specs.declared.turn.Kind.Kind → Type 0
+  StartsOn kind =
+      (t : Trace T) (owner : ℕ → ℕ) (j : ℕ) → IsRun code kind base.capacity t → owner j ≡ j → IfSome base.party (λ p. owner p ≡ j) → ((f : Event T → ℕ) → sum_by f base.made ≡ sum_by (owned owner j f) t.events) → Starts code kind call base c m t owner j
+
+  pub counts_starts : first_of kinds.TheVariants.Counts base.capacity call.start ((opening_of kinds.TheVariants.Counts).kept base.capacity) ≡ Some (call.flight c m) → ((p : ℕ) → first_row (begin_rows kinds.TheVariants.Counts base.capacity ((opening_of kinds.TheVariants.Counts).kept base.capacity) p call.start) ≡ None) → StartsOn kinds.TheVariants.Counts
+  counts_starts first may = set_starts counting_set counts_laws code base.capacity base.capacity (λ c ws es turns same holds. holds.sized ∙ same) call base c m refl by first may
+
+  pub bits_starts : first_of kinds.TheVariants.Bits base.capacity call.start ((opening_of kinds.TheVariants.Bits).kept base.capacity) ≡ Some (call.flight c m) → ((p : ℕ) → first_row (begin_rows kinds.TheVariants.Bits base.capacity ((opening_of kinds.TheVariants.Bits).kept base.capacity) p call.start) ≡ None) → StartsOn kinds.TheVariants.Bits
+  bits_starts first may = set_starts bit_set bits_laws code base.capacity (1 + elements base.capacity) (λ c ws es turns same holds. holds.sized ∙ ap (λ n. 1 + elements n) same) call base c m refl by first may
 
 -- ---- how their tables open
 

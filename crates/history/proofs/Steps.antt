@@ -1,5 +1,6 @@
 -- A step of a seat's call, its begin with the first one, is allowed by the rule of a table that is a machine.
-use Rattle.std.proofs.Common.{◌≡◌, ◌≢◌, ⊎_elim, ℕ, ◌<◌, ◌≤◌, Some, List, [], ◌++◌, length, slice_set, refl, sym, ap, subst, append-nil, arith, length-set}
+use Rattle.std.proofs.Common.{◌≡◌, ◌≢◌, inl, ⊎_elim, ℕ, ◌<◌, ◌≤◌, List, [], ◌++◌, length, slice_set, refl, sym, ap, subst, append-nil, arith, length-set, Some, ◌∙◌, sum_by, ◌+◌}
+use Rattle.std.proofs.lemmas.List.Sums.{sum_by-append}
 use mathlib.Core.Option.{some}
 use lib.ListN.{get_elem?}
 use Rattle.atomic_table.specs.Table.{State}
@@ -13,11 +14,11 @@ use Rattle.history.specs.History.{IsBeginning, IsMachine, Fits, call_in}
 use Rattle.history.proofs.Known.{within, known_step}
 use Rattle.history.proofs.Turns.{Between}
 
-module _ {T : Type 0} (code : Coding T) (kind : Kind) (capacity id : ℕ) where
-  -- what the seat knows afterwards
+module _ {T : Type 0} (code : Coding T) (kind : Kind) (capacity id p : ℕ) where
+  -- what the seat knows afterwards, as this party
   abbrev pub view_after : View T → List (Event T) → Trace T → View T
   view_after v gained u =
-      record { capacity = v.capacity; party = Some id; share = v.share; seen = u.events; other = []; made = v.made ++ gained; going = call_in u.world id }
+      record { capacity = v.capacity; party = Some p; share = v.share; seen = u.events; other = []; made = v.made ++ gained; going = call_in u.world p }
 
   pub whole : (u : Trace T) → IsBeginning u.events u.events
   whole u = record { rest = []; is = sym (append-nil u.events) }
@@ -26,28 +27,48 @@ module _ {T : Type 0} (code : Coding T) (kind : Kind) (capacity id : ℕ) where
   none_seen events = record { rest = events; is = refl }
 
   -- the rule, where the seat stands so in it
-  pub settle : (words : List ℕ) (s : State (Unit {0}) (View T)) (v : View T) (gained : List (Event T)) (u : Trace T) → get_elem? s.views id ≡ some v → 0 < v.share.part → Between code kind capacity (record { words = words; homes = s.homes; views = s.views }) id gained u
+  pub settle : (owner : ℕ → ℕ) (words : List ℕ) (s : State (Unit {0}) (View T)) (v : View T) (gained : List (Event T)) (u : Trace T) → get_elem? s.views id ≡ some v → 0 < v.share.part → Between code kind capacity owner (record { words = words; homes = s.homes; views = s.views }) id p gained u
       → IsMachine code kind capacity (record { words = words; homes = s.homes; views = slice_set s.views id (view_after v gained u) })
-  settle words s v gained u at some_share b =
+  settle owner words s v gained u at some_share b =
       record {
         trace = u;
         run = b.run;
         words = b.words;
+        owner = owner;
         seats = λ j x found. ⊎_elim (λ (e : (j ≡ id) × (view_after v gained u ≡ x)). mine j x e.0 e.1) (λ (e : (j ≢ id) × (get_elem? s.views j ≡ some x)). b.others j x e.0 e.1) (at_set s.views id j (view_after v gained u) x found);
-        further = λ j past. (
-            let long = length-set s.views id (view_after v gained u) in
-            let low = within s.views id v at in
-            let beyond : length s.views ≤ j = omega arith in
-            b.further j (λ e. (let no : j ≡ id = e in absurd (omega arith))) beyond);
-        made_none = λ j past. (
-            let long = length-set s.views id (view_after v gained u) in
-            let low = within s.views id v at in
-            let beyond : length s.views ≤ j = omega arith in
-            b.made_none j (λ e. (let no : j ≡ id = e in absurd (omega arith))) beyond);
+        inside = λ q low. (let long = length-set s.views id (view_after v gained u) in let h = b.inside q (omega arith) in omega arith);
+        fresh = λ q past. (let long = length-set s.views id (view_after v gained u) in b.fresh q (omega arith));
+        further = λ j past. b.further j (λ e. absurd (none j past e)) (beyond j past);
+        made_none = λ j past. b.made_none j (λ e. absurd (none j past e)) (beyond j past);
         known = known_step s.views u.events gained id v (view_after v gained u) (within s.views id v at) at refl some_share refl refl b.made b.spent b.shares;
       }
     where
-      mine : (j : ℕ) (x : View T) → j ≡ id → view_after v gained u ≡ x → Fits u j x
+      beyond : (j : ℕ) → length (slice_set s.views id (view_after v gained u)) ≤ j → length s.views ≤ j
+      beyond j past = let long = length-set s.views id (view_after v gained u) in omega arith
+
+      -- the party's number is one of a seat
+      none : (j : ℕ) → length (slice_set s.views id (view_after v gained u)) ≤ j → j ≡ p → ⊥
+      none j past e =
+          let more = beyond j past in
+          let same = b.fresh j more in
+          let is : j ≡ id = sym same ∙ (ap owner e ∙ b.mine) in
+          let low = within s.views id v at in
+          absurd (omega arith)
+
+      mine : (j : ℕ) (x : View T) → j ≡ id → view_after v gained u ≡ x → Fits owner u j x
       mine j x i e =
-          subst (λ z. Fits u j z) e
-          (record { seen = whole u; other = none_seen u.events; going = ap (call_in u.world) i; party = sym i; own = λ some_share. refl })
+          subst (λ z. Fits owner u j z) e
+          (subst (λ n. Fits owner u n (view_after v gained u)) (sym i)
+          (record {
+            seen = whole u;
+            other = none_seen u.events;
+            self = λ any. b.self;
+            going = λ q of_id is. (let same : p ≡ q = cc in ap (call_in u.world) (sym same));
+            idle = λ q of_id ne. b.idle q of_id (λ e. ne (ap Some (sym e)));
+            party = b.mine;
+            own = λ any q of_id. inl refl;
+            made = λ f. (
+                let was = b.made_own v at f in
+                let two = sum_by-append f v.made gained in
+                omega arith);
+          }))

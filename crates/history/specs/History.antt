@@ -1,5 +1,5 @@
 -- The rule of a table that is a machine, and what a caller knows of one history.
-use Rattle.std.specs.Prelude.{◌≡◌, ◌≤◌, ◌<◌, ℕ, Option, Some, None, IfSome, List, [], ◌∷◌, ◌++◌, length}
+use Rattle.std.specs.Prelude.{◌≡◌, ◌≢◌, ◌≤◌, ◌<◌, ℕ, Option, Some, None, IfSome, List, [], ◌∷◌, ◌++◌, length, sum_by}
 use mathlib.Core.Option.{some}
 use lib.ListN.{get_elem?}
 use Rattle.atomic_table.specs.Table.{State}
@@ -16,8 +16,9 @@ use Rattle.model.specs.Coding.{Coding}
 use Rattle.model.specs.Parties.{party_of}
 use Rattle.model.specs.Turns.{IsReachedOn}
 use Rattle.model.specs.World.{World, Trace}
+use Rattle.queue_laws.proofs.Queues.Sound.{IsFreshRun}
 use Rattle.lock_free_sp.specs.Shares.{IsAll}
-use Rattle.history.specs.Known.{Known, events_by}
+use Rattle.history.specs.Known.{Known, events_by, owned, HasSeenOf}
 use Rattle.history.specs.declared.view.View.{View}
 
 module _ {T : Type 0} where
@@ -44,21 +45,25 @@ module _ {T : Type 0} where
 
   -- ---- the rule
 
-  -- what the seat of this number knows is so of the machine; who has a share has seen all that
-  -- its party did
-  pub record Fits (t : Trace T) (j : ℕ) (v : View T) : Type 0 where
+  -- What the seat of this number knows is so of the machine. Its parties are those whose owner it is: its own number,
+  -- and those of the seats that it took in. Who has a share has seen all that its parties did, and has made just that.
+  pub record Fits (owner : ℕ → ℕ) (t : Trace T) (j : ℕ) (v : View T) : Type 0 where
     pub seen : IsBeginning v.seen t.events
     pub other : IsBeginning v.other t.events
-    pub going : call_in t.world j ≡ v.going
-    pub party : IfSome v.party (λ p. p ≡ j)
-    pub own : 0 < v.share.part → events_by j v.seen ≡ events_by j t.events
+    pub self : 0 < v.share.part → owner j ≡ j
+    pub going : (p : ℕ) → owner p ≡ j → v.party ≡ Some p → call_in t.world p ≡ v.going
+    pub idle : (p : ℕ) → owner p ≡ j → v.party ≢ Some p → call_in t.world p ≡ None
+    pub party : IfSome v.party (λ p. owner p ≡ j)
+    pub own : 0 < v.share.part → (p : ℕ) → owner p ≡ j → HasSeenOf p v t.events
+    pub made : (f : Event T → ℕ) → sum_by f v.made ≡ sum_by (owned owner j f) t.events
 
-  -- a reached machine of this kind and capacity
+  -- a reached machine of this kind and capacity, in which no push found the last position
   pub record IsRun (code : Coding T) (kind : Kind) (capacity : ℕ) (t : Trace T) : Type 0 where
     pub reached : IsReachedOn t
     pub coded : t.world.coding ≡ code
     pub of_kind : t.world.kind ≡ kind
     pub sized : t.world.capacity ≡ capacity
+    pub fresh : IsFreshRun t
 
   -- the words of a table: the machine's, and one more, since passes are split at a word
   pub record IsMachine (code : Coding T) (kind : Kind) (capacity : ℕ)
@@ -66,12 +71,21 @@ module _ {T : Type 0} where
     pub trace : Trace T
     pub run : IsRun code kind capacity trace
     pub words : s.words ≡ trace.world.words ++ 0 ∷ []
-    pub seats : (j : ℕ) (v : View T) → get_elem? s.views j ≡ some v → Fits trace j v
+    pub owner : ℕ → ℕ  -- the seat that acts for the party
+    pub seats : (j : ℕ) (v : View T) → get_elem? s.views j ≡ some v → Fits owner trace j v
+    pub inside : (p : ℕ) → p < length s.views → owner p < length s.views
+    pub fresh : (p : ℕ) → length s.views ≤ p → owner p ≡ p
     pub further : (j : ℕ) → length s.views ≤ j → call_in trace.world j ≡ None
     pub made_none : (j : ℕ) → length s.views ≤ j → events_by j trace.events ≡ []
     pub known : Known s.views trace.events
 
   -- ---- what a caller knows
+
+  -- what was made is just the events of some parties in what was seen
+  pub record IsOfParties (v : View T) : Type 0 where
+    pub owner : ℕ → ℕ
+    pub seat : ℕ
+    pub sums : (f : Event T → ℕ) → sum_by f v.made ≡ sum_by (owned owner seat f) v.seen
 
   -- the events of some run of a machine of this kind and capacity
   pub record IsHistory (code : Coding T) (kind : Kind) (capacity : ℕ) (events : List (Event T))

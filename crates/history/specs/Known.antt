@@ -1,11 +1,16 @@
 -- Which events are whose, who has seen all of them, and that the seats have made all of them together.
-use Rattle.std.specs.Prelude.{◌≡◌, ◌<◌, ◌⊎◌, ℕ, ◌+◌, List, [], ◌∷◌, ◌++◌, sum_by, if◌then◌else◌}
+use Rattle.std.specs.Prelude.{◌≡◌, ◌<◌, ◌⊎◌, ℕ, ◌+◌, ◌==◌, Option, Some, None, List, [], ◌∷◌, ◌++◌, sum_by, if◌then◌else◌}
 use mathlib.Core.Option.{some}
 use lib.ListN.{get_elem?}
 use Rattle.lock_free_sp.specs.Shares.{Shares}
 use Rattle.model.specs.declared.event.Event.{Event}
 use Rattle.model.specs.Reading.{whose, is_party}
 use Rattle.history.specs.declared.view.View.{View}
+
+-- a number, where the party is one of this seat's
+abbrev pub if_owned : (ℕ → ℕ) → ℕ → Option ℕ → ℕ → ℕ
+if_owned owner j None n = 0
+if_owned owner j (Some p) n = if owner p == j then n else 0
 
 module _ {T : Type 0} where
   abbrev pub own_of : ℕ → Event T → List (Event T)
@@ -15,6 +20,15 @@ module _ {T : Type 0} where
   abbrev pub events_by : ℕ → List (Event T) → List (Event T)
   events_by p [] = []
   events_by p (e ∷ es) = own_of p e ++ events_by p es
+
+  -- what a measure gives to an event of a party of this seat
+  abbrev pub owned : (ℕ → ℕ) → ℕ → (Event T → ℕ) → Event T → ℕ
+  owned owner j f e = if_owned owner j (whose e) (f e)
+
+  -- all that the party did was seen
+  abbrev pub HasSeenOf : ℕ → View T → List (Event T) → Type 0
+  HasSeenOf p v events =
+      (events_by p v.seen ≡ events_by p events) ⊎ (events_by p v.other ≡ events_by p events)
 
   abbrev pub HasSeen : View T → List (Event T) → Type 0
   HasSeen v events = (v.seen ≡ events) ⊎ (v.other ≡ events)

@@ -1,5 +1,5 @@
 -- What a seat knows while a call is driven on a table that is a machine: the same for any call.
-use Rattle.std.specs.Prelude.{◌≡◌, ◌<◌, ◌⊎◌, ℕ, Option, Some, None, IfSome, List, [], ◌∷◌, ◌++◌, sum_by}
+use Rattle.std.specs.Prelude.{Bool, true, false, ◌≡◌, ◌<◌, ◌⊎◌, ℕ, Option, Some, None, IfSome, List, [], ◌∷◌, ◌++◌, sum_by, slice_index}
 use Rattle.model.specs.declared.event.Answer.{Answer}
 use Rattle.model.specs.declared.event.Event.{Event}
 use Rattle.model.specs.declared.event.Event.TheVariants.{Begun, Finished}
@@ -7,21 +7,30 @@ use Rattle.model.specs.declared.event.Start.{Start}
 use Rattle.model.specs.declared.families.Flight.{Flight}
 use Rattle.model.specs.declared.turn.Kind.{Kind}
 use Rattle.model.specs.Coding.{Coding}
-use Rattle.model.specs.Families.{begin_rows, opening_of, first_of}
+use Rattle.steps.specs.declared.ask.Ask.{Ask}
+use Rattle.steps.specs.declared.ask.Want.TheVariants as wants
+use Rattle.model.specs.Families.{begin_rows, opening_of, first_of, want_of}
 use Rattle.model.specs.Rows.{first_row}
-use Rattle.model.specs.World.{capacity_error}
+use Rattle.model.specs.World.{Trace}
 use Rattle.lock_free_sp.specs.Shares.{IsAll}
 use Rattle.history.specs.declared.view.View.{View}
-use Rattle.history.specs.Known.{events_by}
-use Rattle.history.specs.History.{IsHistory}
+use Rattle.history.specs.Known.{events_by, owned}
+use Rattle.history.specs.History.{IsHistory, IsOfParties, IsRun}
+use Rattle.history.specs.Views.{Looks}
 
 -- A call of the driver as a call of the model.
 pub record Calling (T C M E : Type 0) : Type 1 where
   pub start : Start T
+  -- as which of its parties a pass makes it that was this one last
+  pub by : Option ℕ → ℕ → Type 0
   -- what is so of it on a structure of this capacity
   pub stands : ℕ → C → Type 0
   pub flight : C → M → Flight T
   pub answer : E → M → Answer T
+  -- its first load of this word ends it, and it is no call of the history: the last position
+  pub skips : C → ℕ → Bool
+  -- what it answers then
+  pub left : E → Type 0
   -- what the party's call wrote there since it stood at this place, or since it began
   pub wrote : ℕ → ℕ → Option (Start T × Flight T) → C → M → List (Event T) → Type 0
   pub wrote_all : ℕ → ℕ → Option (Start T × Flight T) → E → M → List (Event T) → Type 0
@@ -46,6 +55,14 @@ module _ {T : Type 0} where
     pub made : v.made ≡ base.made ++ (opened p start base.going ++ (wrote ++ last))
 
 module _ {T C M E : Type 0} (code : Coding T) (kind : Kind) (call : Calling T C M E) where
+  -- on this machine a party of the seat may begin the call
+  pub record Starts (base : View T) (c : C) (m : M) (t : Trace T) (owner : ℕ → ℕ) (j : ℕ) : Type 0 where
+    pub party : ℕ
+    pub mine : owner party ≡ j
+    pub by : call.by base.party party
+    pub first : first_of kind base.capacity call.start t.world.kept ≡ Some (call.flight c m)
+    pub may : first_row (begin_rows kind base.capacity t.world.kept party call.start) ≡ None
+
   -- the call is about to begin, as one that its family has and does not refuse
   pub record IsFirst (base v : View T) (c : C) (m : M) : Type 0 where
     pub is : v ≡ base
@@ -55,10 +72,10 @@ module _ {T C M E : Type 0} (code : Coding T) (kind : Kind) (call : Calling T C 
     pub some : 0 < base.share.part
     pub first : first_of kind base.capacity call.start ((opening_of kind).kept base.capacity)
         ≡ Some (call.flight c m)
-    pub may : (p : ℕ)
-        → first_row
-        (begin_rows kind base.capacity ((opening_of kind).kept base.capacity) p call.start)
-        ≡ None
+    pub starts : (t : Trace T) (owner : ℕ → ℕ) (j : ℕ) → IsRun code kind base.capacity t → owner j ≡ j
+        → IfSome base.party (λ p. owner p ≡ j)
+        → ((f : Event T → ℕ) → sum_by f base.made ≡ sum_by (owned owner j f) t.events)
+        → Starts base c m t owner j
     pub wrote : (p : ℕ) → call.wrote base.capacity p None c m []
 
   -- it is under way
@@ -69,8 +86,9 @@ module _ {T C M E : Type 0} (code : Coding T) (kind : Kind) (call : Calling T C 
     pub some : 0 < v.share.part
     pub party : ℕ
     pub mine : v.party ≡ Some party
-    pub same : IfSome base.party (λ p. p ≡ party)
+    pub same : call.by base.party party
     pub going : v.going ≡ Some (call.start, call.flight c m)
+    pub past : (n : ℕ) → call.skips c n ≡ false
     pub alone : v.other ≡ []
     pub wrote : List (Event T)
     pub tells : call.wrote base.capacity party base.going c m wrote
@@ -80,13 +98,29 @@ module _ {T C M E : Type 0} (code : Coding T) (kind : Kind) (call : Calling T C 
   abbrev pub At : View T → View T → C → M → Type 0
   At base v c m = IsFirst base v c m ⊎ IsUnderWay base v c m
 
+  -- it was a look, at a word where it is no call
+  pub record LeftOut (base : View T) (e : E) (m : M) (w : View T) : Type 0 where
+    pub looked : Looks code kind base.capacity base w
+    pub word : ℕ
+    pub from : C
+    pub skipped : call.skips from word ≡ true
+    pub left : call.left e
+    -- the machine that it looked at had this word there
+    pub room : M
+    pub ask : Ask
+    pub asks : want_of code (call.flight from room) ≡ wants.Ask ask
+    pub trace : Trace T
+    pub run : IsRun code kind base.capacity trace
+    pub seen : w.seen ≡ trace.events
+    pub found : slice_index trace.world.words ask.word ≡ word
+
   -- it has ended
   pub record Ends (base : View T) (e : E) (m : M) (w : View T) : Type 0 where
     pub capacity : w.capacity ≡ base.capacity
     pub share : w.share ≡ base.share
     pub party : ℕ
     pub mine : w.party ≡ Some party
-    pub same : IfSome base.party (λ p. p ≡ party)
+    pub same : call.by base.party party
     pub idle : w.going ≡ None
     pub alone : w.other ≡ []
     pub wrote : List (Event T)
@@ -96,3 +130,8 @@ module _ {T C M E : Type 0} (code : Coding T) (kind : Kind) (call : Calling T C 
     pub history : IsHistory code kind base.capacity w.seen
     -- who has the whole has made all of it
     pub all : IsAll base.share → (f : Event T → ℕ) → sum_by f w.seen ≡ sum_by f w.made
+    pub parties : IsOfParties w
+
+  -- it has ended, or was a look
+  abbrev pub Over : View T → E → M → View T → Type 0
+  Over base e m w = Ends base e m w ⊎ LeftOut base e m w

@@ -1,12 +1,13 @@
 -- The views of passes as they are made, cut, put together and looked through.
-use Rattle.std.specs.Prelude.{◌≡◌, ◌⊎◌, ℕ, Some, None, [], ◌++◌, sum_by}
+use Rattle.std.specs.Prelude.{◌≡◌, ◌⊎◌, ℕ, Some, None, [], ◌++◌, ◌<◌, sum_by, length, slice_index}
 use Rattle.model.specs.declared.event.Event.{Event}
 use Rattle.model.specs.declared.turn.Kind.{Kind}
 use Rattle.model.specs.Coding.{Coding}
+use Rattle.model.specs.World.{Trace}
 use Rattle.lock_free_sp.specs.Shares.{all_shares, no_share, half_of, both_of, IsAll}
 use Rattle.history.specs.declared.view.View.{View}
 use Rattle.history.specs.Known.{events_by}
-use Rattle.history.specs.History.{IsBeginning, IsHistory}
+use Rattle.history.specs.History.{IsBeginning, IsHistory, IsOfParties, IsRun}
 
 module _ {T : Type 0} where
   -- the first seat is the party 0
@@ -75,3 +76,12 @@ module _ {T : Type 0} where
     pub whole : IsAll v.share → (w.seen ≡ v.seen) ⊎ (w.seen ≡ v.other)
     pub all : IsAll v.share → (f : Event T → ℕ) → sum_by f w.seen ≡ sum_by f w.made
     pub history : IsHistory code kind size w.seen
+    pub parties : IsOfParties w
+
+  -- a look at this word, and what the machine had there
+  pub record LooksAt (code : Coding T) (kind : Kind) (size word : ℕ) (v : View T) (found : ℕ) (w : View T) : Type 0 where
+    pub looks : Looks code kind size v w
+    pub trace : Trace T
+    pub run : IsRun code kind size trace
+    pub seen : w.seen ≡ trace.events
+    pub word_is : word < length trace.world.words → found ≡ slice_index trace.world.words word

@@ -8,7 +8,7 @@ use std::collections::LinkedList;
 pub struct View<T> {
     /// The capacity of the structure.
     pub capacity: u32,
-    /// The party that it is in the history. None before its first call.
+    /// The party that its latest call is of. None before its first call.
     pub party: Option<u32>,
     /// Its share of the right to know the whole.
     pub share: Share,

@@ -97,7 +97,7 @@ module _ {T : Type 0} where
   number c (flights.TheVariants.Indices flight) backs = number_of c flight backs
   number c flight backs = 0
 
-  abbrev FlightAt : ℕ → List (Option ℕ) → ℕ → Start T → Flight T → Type 0
+  abbrev pub FlightAt : ℕ → List (Option ℕ) → ℕ → Start T → Flight T → Type 0
   FlightAt c holders p (any_starts.TheVariants.Indices start) (flights.TheVariants.Indices flight) = At c holders p start flight
   FlightAt c holders p start flight = ⊥
 

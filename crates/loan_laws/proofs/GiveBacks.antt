@@ -331,7 +331,7 @@ module _ {T : Type 0} (code : Coding T) (slots queue : ℕ) (s : Channel T) (lat
         queue_then = s.completion;
         step =
             subst (λ a. StepTo s.completion load_of_write a effects.Quiet) (sym goes)
-            (goes_on load_of_write load_of_read s.completion refl refl h.parts.completion on refl refl (omega arith) (omega arith) (λ room stage known. known));
+            (goes_on load_of_write load_of_read s.completion refl refl h.parts.completion on refl (refl, (let low = reached in omega arith)) (omega arith) (omega arith) (λ room stage known. known));
       }
 
   loads_read : x.steps ≤ 1 → Does load_of_read
@@ -345,7 +345,7 @@ module _ {T : Type 0} (code : Coding T) (slots queue : ℕ) (s : Channel T) (lat
         queue_then = s.completion;
         step =
             subst (λ a. StepTo s.completion load_of_read a effects.Quiet) (sym goes)
-            (goes_on load_of_read store_of_cell s.completion refl refl h.parts.completion on refl (refl, room, refl, omega arith, λ i below. absurd (omega arith)) (omega arith) (omega arith) (λ room stage known. known));
+            (goes_on load_of_read store_of_cell s.completion refl refl h.parts.completion on refl (refl, room, refl, omega arith, (λ i below. absurd (omega arith)), (let low = reached in omega arith)) (omega arith) (omega arith) (λ room stage known. known));
       }
 
   stores_cell : x.steps ≤ 2 → Does store_of_cell
@@ -357,14 +357,14 @@ module _ {T : Type 0} (code : Coding T) (slots queue : ℕ) (s : Channel T) (lat
             (completion.fill_good slots some few s.completion h.parts.completion reached index room)
             (completion.cell_on slots some few s.completion h.parts.completion reached s.completion.write)
             (completion.fill_words slots some few s.completion h.parts.completion reached index room)
-            (refl, room, completion.fill_whole slots some few s.completion h.parts.completion reached index room)
+            (refl, room, completion.fill_whole slots some few s.completion h.parts.completion reached index room, (let low = reached in omega arith))
             (omega arith) (omega arith) (fill_keeps slots s.completion index);
       }
 
   -- what a give-back knows leads on
   pub does : (stage : PushStage) → KnowsPush one_word slots s.completion index stage → x.steps ≤ push_number 1 stage → Does stage
   does pushes.TheVariants.LoadsWrite known steps = loads_write steps
-  does (pushes.TheVariants.LoadsRead write) known steps = subst (λ n. Does (pushes.TheVariants.LoadsRead n)) (sym known) (loads_read steps)
+  does (pushes.TheVariants.LoadsRead write) known steps = subst (λ n. Does (pushes.TheVariants.LoadsRead n)) (sym known.0) (loads_read steps)
   does (pushes.TheVariants.StoresCell write cell at) known steps =
       let first : at ≡ 0 = (let below = known.3 in omega arith) in
       subst (λ n. Does (pushes.TheVariants.StoresCell write cell n)) (sym first)

@@ -56,8 +56,8 @@ module _ {T : Type 0} (slots queue : ℕ) (s : Channel T) (rest : List ℕ) (boo
   push_knows index pushes.TheVariants.HandsBack h = h
   push_knows index pushes.TheVariants.LoadsWrite h = h
   push_knows index (pushes.TheVariants.LoadsRead write) h = h
-  push_knows index (pushes.TheVariants.StoresCell write read) h = let low = h.2 in (h.0, h.1, omega arith, h.3)
-  push_knows index (pushes.TheVariants.StoresWrite write read) h = let low = h.2 in (h.0, h.1, omega arith, h.3, h.4)
+  push_knows index (pushes.TheVariants.StoresCell write read) h = let low = h.2 in (h.0, h.1, omega arith, h.3, h.4)
+  push_knows index (pushes.TheVariants.StoresWrite write read) h = let low = h.2 in (h.0, h.1, omega arith, h.3, h.4, h.5)
   push_knows index (pushes.TheVariants.MovesRead read) h = let low = h.1 in (h.0, omega arith, h.2, λ same. absurd (omega arith))
   push_knows index (pushes.TheVariants.LoadsCell read) h = let low = h.1 in (h.0, omega arith, h.2)
 

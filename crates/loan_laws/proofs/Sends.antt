@@ -226,7 +226,7 @@ module _ {T : Type 0} (code : Coding T) (slots queue : ℕ) (s : Channel T) (lat
           channel_then = record s { submission = s.submission; completion = s.completion; book = s.book; events = s.events ++ [] };
           step =
               subst (λ a. StepTo (record s { submission = s.submission; completion = s.completion; book = s.book; events = s.events ++ [] }) [] pushes.TheVariants.LoadsWrite a effects.Quiet) (sym is)
-              (goes_on pushes.TheVariants.LoadsWrite (pushes.TheVariants.LoadsRead s.submission.write) s.submission here tt from refl refl refl h.parts.submission on refl refl refl refl refl (omega arith, refl) passes_on (omega arith) (λ room stage known. known));
+              (goes_on pushes.TheVariants.LoadsWrite (pushes.TheVariants.LoadsRead s.submission.write) s.submission here tt from refl refl refl h.parts.submission on refl refl refl refl refl (omega arith, refl, (let low = reached in omega arith)) passes_on (omega arith) (λ room stage known. known));
         }
 
     pub loads_read : Here (pushes.TheVariants.LoadsRead s.submission.write) → x.steps ≤ 1 → Does (pushes.TheVariants.LoadsRead s.submission.write)
@@ -242,7 +242,7 @@ module _ {T : Type 0} (code : Coding T) (slots queue : ℕ) (s : Channel T) (lat
           channel_then = record s { submission = s.submission; completion = s.completion; book = s.book; events = s.events ++ [] };
           step =
               subst (λ a. StepTo (record s { submission = s.submission; completion = s.completion; book = s.book; events = s.events ++ [] }) [] (pushes.TheVariants.LoadsRead s.submission.write) a effects.Quiet) (sym is)
-              (goes_on (pushes.TheVariants.LoadsRead s.submission.write) (pushes.TheVariants.StoresCell s.submission.write s.submission.read) s.submission here tt from refl refl refl h.parts.submission on refl refl refl refl refl (omega arith, refl, omega arith, omega arith) passes_on (omega arith) (λ room stage known. known));
+              (goes_on (pushes.TheVariants.LoadsRead s.submission.write) (pushes.TheVariants.StoresCell s.submission.write s.submission.read) s.submission here tt from refl refl refl h.parts.submission on refl refl refl refl refl (omega arith, refl, omega arith, omega arith, (let low = reached in omega arith)) passes_on (omega arith) (λ room stage known. known));
         }
 
     pub stores_cell : (read : ℕ) → read ≤ s.submission.read → s.submission.write ≤ read + queue → Here (pushes.TheVariants.StoresCell s.submission.write read) → x.steps ≤ 2 → Does (pushes.TheVariants.StoresCell s.submission.write read)
@@ -258,6 +258,6 @@ module _ {T : Type 0} (code : Coding T) (slots queue : ℕ) (s : Channel T) (lat
               (submission.cell_on queue h.parts.some h.parts.few s.submission h.parts.submission reached s.submission.write)
               (submission.fill_words queue h.parts.some h.parts.few s.submission h.parts.submission reached index)
               refl refl refl refl
-              (omega arith, refl, low, far, submission.fill_whole queue h.parts.some h.parts.few s.submission h.parts.submission reached index below)
+              (omega arith, refl, low, far, submission.fill_whole queue h.parts.some h.parts.few s.submission h.parts.submission reached index below, (let up = reached in omega arith))
               passes_on (omega arith) (fill_keeps_pop queue s.submission 0 index);
         }

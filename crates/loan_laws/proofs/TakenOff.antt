@@ -14,11 +14,11 @@ take_keeps slots k v rest is w (pushes.TheVariants.LoadsRead write) h = h
 take_keeps slots k v rest is w (pushes.TheVariants.StoresCell write cell at) h =
     let long : length k.waiting ≡ suc (length rest) = ap length is in
     let room = h.1 in
-    (h.0, omega arith, h.2, h.3, h.4)
+    (h.0, omega arith, h.2, h.3, h.4, h.5)
 take_keeps slots k v rest is w (pushes.TheVariants.StoresWrite write) h =
     let long : length k.waiting ≡ suc (length rest) = ap length is in
     let room = h.1 in
-    (h.0, omega arith, h.2)
+    (h.0, omega arith, h.2, h.3)
 
 -- a queue that has something has a first one
 pub first_of : (xs : List ℕ) → 0 < length xs → (v : ℕ) × (rest : List ℕ) × (xs ≡ v ∷ rest)

@@ -9,6 +9,7 @@ pub mod Knows
 pub mod Lengths
 pub mod Pending
 pub mod Roles
+pub mod Runs
 pub mod Sound
 pub mod Stages
 pub mod Values

@@ -61,10 +61,10 @@ take_keeps_push c k q rest g few w overflow_pushes.TheVariants.LoadsWrite h = (h
 take_keeps_push c k q rest g few w (overflow_pushes.TheVariants.LoadsRead write) h = (h, refl)
 take_keeps_push c k q rest g few w (overflow_pushes.TheVariants.StoresCell write read) h =
     let low = h.2 in
-    ((h.0, h.1, omega arith, h.3), refl)
+    ((h.0, h.1, omega arith, h.3, h.4), refl)
 take_keeps_push c k q rest g few w (overflow_pushes.TheVariants.StoresWrite write read) h =
     let low = h.2 in
-    ((h.0, h.1, omega arith, h.3, h.4), refl)
+    ((h.0, h.1, omega arith, h.3, h.4, h.5), refl)
 take_keeps_push c k q rest g few w (overflow_pushes.TheVariants.MovesRead read) h =
     let low = h.1 in
     let far = h.2 in

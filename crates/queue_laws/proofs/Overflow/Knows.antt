@@ -1,5 +1,5 @@
 -- What a push and a pop of the overflowing queue know where they stand.
-use Rattle.std.proofs.Common.{◌≡◌, ℕ, ◌+◌, ◌%◌, ◌<◌, ◌≤◌, ◌==◌, Some, List, [], ◌∷◌, ◌++◌, if◌then◌else◌, get_or, arith}
+use Rattle.std.proofs.Common.{◌≡◌, ◌-◌, ◌^◌, ℕ, ◌+◌, ◌%◌, ◌<◌, ◌≤◌, ◌==◌, Some, List, [], ◌∷◌, ◌++◌, if◌then◌else◌, get_or, arith}
 use Rattle.steps.specs.declared.copied.OneWord.{OneWord}
 use Rattle.steps.specs.declared.queues.overflow.PushStage as overflow_pushes
 use Rattle.steps.specs.declared.queues.overflow.PopStage as overflow_pops
@@ -32,14 +32,19 @@ overflow_pop_at c room stage =
 abbrev pub KnowsOverflowPush : ℕ → Core ℕ → ℕ → overflow_pushes.PushStage → Type 0
 KnowsOverflowPush c k v overflow_pushes.TheVariants.HandsBack = c ≡ 0
 KnowsOverflowPush c k v overflow_pushes.TheVariants.LoadsWrite = 0 < c
-KnowsOverflowPush c k v (overflow_pushes.TheVariants.LoadsRead write) = (0 < c) × (write ≡ k.write)
+KnowsOverflowPush c k v (overflow_pushes.TheVariants.LoadsRead write) = (0 < c) × (write ≡ k.write) × (k.write < 2 ^ 64 - 1)
 KnowsOverflowPush c k v (overflow_pushes.TheVariants.StoresCell write read) =
-    (0 < c) × (write ≡ k.write) × (read ≤ k.read) × (k.write ≤ read + c)
+    (0 < c) × (write ≡ k.write) × (read ≤ k.read) × (k.write ≤ read + c) × (k.write < 2 ^ 64 - 1)
 KnowsOverflowPush c k v (overflow_pushes.TheVariants.StoresWrite write read) =
-    (0 < c) × (write ≡ k.write) × (read ≤ k.read) × (k.write ≤ read + c) × Holds 1 words_of_index (c + 1) k.cells k.write v 1
+    (0 < c) × (write ≡ k.write) × (read ≤ k.read) × (k.write ≤ read + c) × Holds 1 words_of_index (c + 1) k.cells k.write v 1 × (k.write < 2 ^ 64 - 1)
 KnowsOverflowPush c k v (overflow_pushes.TheVariants.MovesRead read) =
     (0 < c) × (read ≤ k.read) × (k.write ≡ read + c + 1) × (read ≡ k.read → (others : List ℕ) × (k.waiting ≡ others ++ v ∷ []))
 KnowsOverflowPush c k v (overflow_pushes.TheVariants.LoadsCell read) = (0 < c) × (read < k.read) × (k.write ≡ read + c + 1)
+
+-- a push that is to load the write position does not find the last
+abbrev pub IsFreshOver : ℕ → overflow_pushes.PushStage → Type 0
+IsFreshOver write overflow_pushes.TheVariants.LoadsWrite = write < 2 ^ 64 - 1
+IsFreshOver write stage = Unit {0}
 
 -- once the cell is loaded, the room has the front value, unless the read position has moved
 abbrev pub KnowsOverflowPop : ℕ → Core ℕ → OneWord → overflow_pops.PopStage → Type 0

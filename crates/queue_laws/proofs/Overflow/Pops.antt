@@ -43,7 +43,7 @@ use Rattle.queue_laws.proofs.Queues.Pending.{nothing_waits}
 use Rattle.queue_laws.proofs.Queues.Stages.{party_then, DoesStep, Moves, MovesOf, still_hangs, quiet, alone}
 use Rattle.queue_laws.proofs.Overflow.Takes.{takes_it}
 
-module _ {T : Type 0} (en : Coding T) (scene : Scene T kinds.TheVariants.Overflow) (inv : Inv en kinds.TheVariants.Overflow scene) (small : scene.turns < 2 ^ 64 - 2) (room : OneWord) (holds : scene.roles.consumer ≡ Some scene.party) where
+module _ {T : Type 0} (en : Coding T) (scene : Scene T kinds.TheVariants.Overflow) (inv : Inv en kinds.TheVariants.Overflow scene) (small : scene.core.write < 2 ^ 64) (room : OneWord) (holds : scene.roles.consumer ≡ Some scene.party) where
   open scene use {capacity as c, roles as ro, core as k, party as p, steps, backs, since, changes, latest, events}
 
   -- the push that acts where this party moves the read position
@@ -97,6 +97,7 @@ module _ {T : Type 0} (en : Coding T) (scene : Scene T kinds.TheVariants.Overflo
             up = record { write = omega arith; read = omega arith; paid = omega arith };
             others = λ q ne st f h. (h, refl);
             reached = omega arith;
+            within = omega arith;
           },
         )
 

@@ -41,7 +41,7 @@ use Rattle.queue_laws.proofs.Queues.Pending.{pending_after, none_hangs}
 use Rattle.queue_laws.proofs.Queues.Stages.{party_then, DoesStep}
 use Rattle.queue_laws.proofs.Overflow.Keeping.{publish_keeps_pop}
 
-module _ {T : Type 0} (en : Coding T) (scene : Scene T kinds.TheVariants.Overflow) (inv : Inv en kinds.TheVariants.Overflow scene) (small : scene.turns < 2 ^ 64 - 2) (v : ℕ) (room : OneWord) (holds : scene.roles.producer ≡ Some scene.party) (b : scene.backs ≡ 0) where
+module _ {T : Type 0} (en : Coding T) (scene : Scene T kinds.TheVariants.Overflow) (inv : Inv en kinds.TheVariants.Overflow scene) (small : scene.core.write < 2 ^ 64) (v : ℕ) (room : OneWord) (holds : scene.roles.producer ≡ Some scene.party) (b : scene.backs ≡ 0) where
   open scene use {capacity as c, roles as ro, core as k, party as p, steps, since, latest, events}
 
   abbrev at : overflow_pushes.PushStage → QueueFlight T
@@ -56,7 +56,7 @@ module _ {T : Type 0} (en : Coding T) (scene : Scene T kinds.TheVariants.Overflo
 
   -- ---- the store of the next write position
 
-  module _ (read : ℕ) (some : 0 < c) (low : read ≤ k.read) (far : k.write ≤ read + c) (whole : Holds 1 words_of_index (c + 1) k.cells k.write v 1) (s : steps ≤ 3) where
+  module _ (read : ℕ) (some : 0 < c) (low : read ≤ k.read) (far : k.write ≤ read + c) (whole : Holds 1 words_of_index (c + 1) k.cells k.write v 1) (fresh : k.write < 2 ^ 64 - 1) (s : steps ≤ 3) where
     abbrev next_write : Option Ask
     next_write = Some (record { word = write_word; op = Store (after_position k.write) })
 
@@ -115,6 +115,7 @@ module _ {T : Type 0} (en : Coding T) (scene : Scene T kinds.TheVariants.Overflo
             up = record { write = omega arith; read = omega arith; paid = omega arith };
             others = λ q ne. kept ro ro q (λ h. h) (λ h. h) en c kinds.TheVariants.Overflow k after_publish (record { push = λ mine w stage h. absurd (clash ro.producer p q ne holds mine); pop = λ mine other stage h. publish_keeps_pop c k v other stage h });
             reached = omega arith;
+            within = omega arith;
           },
         )
 
@@ -151,6 +152,7 @@ module _ {T : Type 0} (en : Coding T) (scene : Scene T kinds.TheVariants.Overflo
             up = record { write = omega arith; read = omega arith; paid = omega arith };
             others = λ q ne. kept ro ro q (λ h. h) (λ h. h) en c kinds.TheVariants.Overflow k after_publish (record { push = λ mine w stage h. absurd (clash ro.producer p q ne holds mine); pop = λ mine other stage h. publish_keeps_pop c k v other stage h });
             reached = omega arith;
+            within = omega arith;
           },
         )
 
@@ -189,6 +191,7 @@ module _ {T : Type 0} (en : Coding T) (scene : Scene T kinds.TheVariants.Overflo
             up = record { write = omega arith; read = omega arith; paid = omega arith };
             others = λ q ne. kept ro ro q (λ h. h) (λ h. h) en c kinds.TheVariants.Overflow k after_publish (record { push = λ mine w stage h. absurd (clash ro.producer p q ne holds mine); pop = λ mine other stage h. publish_keeps_pop c k v other stage h });
             reached = omega arith;
+            within = omega arith;
           },
         )
 

@@ -36,7 +36,7 @@ use Rattle.queue_laws.proofs.Queues.Invariant.{Scene, Inv}
 use Rattle.model.specs.Families.Queues.Promises.{load_of_write, load_of_read}
 use Rattle.queue_laws.proofs.Overflow.Core.{none_passes, one_passes, oldest, push_over}
 use Rattle.queue_laws.proofs.Queues.Core.{Holds, filled, taken, fills, one_filled, takes, word_at, set_at}
-use Rattle.queue_laws.proofs.Overflow.Knows.{overflow_push_at, KnowsOverflowPush, overflow_push_number}
+use Rattle.queue_laws.proofs.Overflow.Knows.{overflow_push_at, IsFreshOver, KnowsOverflowPush, overflow_push_number}
 use Rattle.queue_laws.proofs.Queues.Knows.{free, layout, has_written}
 use Rattle.queue_laws.proofs.Queues.Invariant.{Inv}
 use Rattle.queue_laws.proofs.Queues.Keeping.{clash, kept}
@@ -45,7 +45,7 @@ use Rattle.queue_laws.proofs.Queues.Stages.{party_then, DoesStep, Moves, MovesOf
 use Rattle.queue_laws.proofs.Overflow.Publishes.{stores_write}
 use Rattle.queue_laws.proofs.Overflow.Keeping.{fill_keeps_pop, take_keeps_pop}
 
-module _ {T : Type 0} (en : Coding T) (scene : Scene T kinds.TheVariants.Overflow) (inv : Inv en kinds.TheVariants.Overflow scene) (small : scene.turns < 2 ^ 64 - 2) (v : ℕ) (room : OneWord) (holds : scene.roles.producer ≡ Some scene.party) (b : scene.backs ≡ 0) where
+module _ {T : Type 0} (en : Coding T) (scene : Scene T kinds.TheVariants.Overflow) (inv : Inv en kinds.TheVariants.Overflow scene) (small : scene.core.write < 2 ^ 64) (v : ℕ) (room : OneWord) (holds : scene.roles.producer ≡ Some scene.party) (b : scene.backs ≡ 0) where
   open scene use {capacity as c, roles as ro, core as k, party as p, steps, since, latest, events}
 
   abbrev at : overflow_pushes.PushStage → QueueFlight T
@@ -102,33 +102,34 @@ module _ {T : Type 0} (en : Coding T) (scene : Scene T kinds.TheVariants.Overflo
       up = record { write = omega arith; read = omega arith; paid = omega arith };
       others = λ q ne st f h. (h, refl);
       reached = (let low = inv.queue.reached in omega arith);
+      within = omega arith;
     },
   )
 
-  loads_write : 0 < c → steps ≤ 0 → IsCalm → Does [] (Some load_of_write) (after en (at overflow_pushes.TheVariants.LoadsWrite) k.write) Quiet
-  loads_write some s calm =
+  loads_write : k.write < 2 ^ 64 - 1 → 0 < c → steps ≤ 0 → IsCalm → Does [] (Some load_of_write) (after en (at overflow_pushes.TheVariants.LoadsWrite) k.write) Quiet
+  loads_write fresh some s calm =
       let low = inv.queue.reached in
       let t : (k.write == 2 ^ 64 - 1) ≡ false = grind (arith, nat_tests) in
       let goes : after en (at overflow_pushes.TheVariants.LoadsWrite) k.write ≡ GoOn (at (overflow_pushes.TheVariants.LoadsRead k.write)) = rw t refl in
       subst (λ a. Does [] (Some load_of_write) a Quiet) (sym goes)
       (quiet en kinds.TheVariants.Overflow scene inv small calm false (PushIndex v) (Some load_of_write) (at (overflow_pushes.TheVariants.LoadsRead k.write)) k refl refl refl refl inv.queue.good refl
-      (record { span = refl; steps = omega arith; at = (holds, refl, refl, (some, refl)) })
+      (record { span = refl; steps = omega arith; at = (holds, refl, refl, (some, refl, fresh)) })
       (omega arith)
       (λ q ne st f h. (h, refl)))
 
-  loads_read : 0 < c → steps ≤ 1 → IsCalm → Does [] (Some load_of_read) (GoOn (at (overflow_pushes.TheVariants.StoresCell k.write k.read))) Quiet
-  loads_read some s calm =
+  loads_read : k.write < 2 ^ 64 - 1 → 0 < c → steps ≤ 1 → IsCalm → Does [] (Some load_of_read) (GoOn (at (overflow_pushes.TheVariants.StoresCell k.write k.read))) Quiet
+  loads_read fresh some s calm =
       let below = few calm in
       let g = inv.queue.good in
       let write = g.write in
       quiet en kinds.TheVariants.Overflow scene inv small calm false (PushIndex v) (Some load_of_read) (at (overflow_pushes.TheVariants.StoresCell k.write k.read)) k refl refl refl refl inv.queue.good refl
-      (record { span = refl; steps = omega arith; at = (holds, refl, refl, (some, refl, omega arith, omega arith)) })
+      (record { span = refl; steps = omega arith; at = (holds, refl, refl, (some, refl, omega arith, omega arith, fresh)) })
       (omega arith)
       (λ q ne st f h. (h, refl))
 
-  stores_cell : (read : ℕ) → 0 < c → read ≤ k.read → k.write ≤ read + c → steps ≤ 2 → IsCalm
+  stores_cell : k.write < 2 ^ 64 - 1 → (read : ℕ) → 0 < c → read ≤ k.read → k.write ≤ read + c → steps ≤ 2 → IsCalm
       → Does [] (Some (record { word = cell_word c k.write; op = Store v })) (GoOn (at (overflow_pushes.TheVariants.StoresWrite k.write read))) Quiet
-  stores_cell read some low far s calm =
+  stores_cell fresh read some low far s calm =
       let g = inv.queue.good in
       let write = g.write in
       let none : Holds 1 words_of_index (c + 1) k.cells k.write v 0 = λ i h. absurd (omega arith) in
@@ -136,7 +137,7 @@ module _ {T : Type 0} (en : Coding T) (scene : Scene T kinds.TheVariants.Overflo
       let place : cell_word c k.write ≡ 4 + (1 * (k.write % (c + 1)) + 0) = omega arith in
       quiet en kinds.TheVariants.Overflow scene inv small calm false (PushIndex v) (Some (record { word = cell_word c k.write; op = Store v })) (at (overflow_pushes.TheVariants.StoresWrite k.write read)) (filled 1 words_of_index (c + 1) k 0 v) refl refl refl refl good
       (set_at k.write k.read (free ro.producer) (free ro.consumer) k.cells (cell_word c k.write) (1 * (k.write % (c + 1)) + 0) v place)
-      (record { span = refl; steps = omega arith; at = (holds, refl, refl, (some, refl, low, far, one_filled 1 words_of_index (c + 1) k v 0 (omega arith) (omega arith) g none)) })
+      (record { span = refl; steps = omega arith; at = (holds, refl, refl, (some, refl, low, far, one_filled 1 words_of_index (c + 1) k v 0 (omega arith) (omega arith) g none, fresh)) })
       (omega arith)
       (λ q ne. kept ro ro q (λ h. h) (λ h. h) en c kinds.TheVariants.Overflow k (filled 1 words_of_index (c + 1) k 0 v) (record { push = λ mine w stage h. absurd (clash ro.producer p q ne holds mine); pop = λ mine other stage h. fill_keeps_pop c k 0 v other stage h }))
 
@@ -184,6 +185,7 @@ module _ {T : Type 0} (en : Coding T) (scene : Scene T kinds.TheVariants.Overflo
           up = record { write = omega arith; read = omega arith; paid = omega arith };
           others = λ q ne. kept ro ro q (λ h. h) (λ h. h) en c kinds.TheVariants.Overflow k (taken 1 words_of_index (c + 1) k rest) (record { push = λ mine w stage h. absurd (clash ro.producer p q ne holds mine); pop = λ mine other stage h. take_keeps_pop c k rest far other stage h });
           reached = omega arith;
+          within = omega arith;
         },
       )
 
@@ -221,6 +223,7 @@ module _ {T : Type 0} (en : Coding T) (scene : Scene T kinds.TheVariants.Overflo
           up = record { write = omega arith; read = omega arith; paid = omega arith };
           others = λ q ne st f h. (h, refl);
           reached = omega arith;
+          within = omega arith;
         },
       )
 
@@ -261,6 +264,7 @@ module _ {T : Type 0} (en : Coding T) (scene : Scene T kinds.TheVariants.Overflo
           up = record { write = omega arith; read = omega arith; paid = omega arith };
           others = λ q ne st f h. (h, refl);
           reached = omega arith;
+          within = omega arith;
         },
       )
 
@@ -311,22 +315,22 @@ module _ {T : Type 0} (en : Coding T) (scene : Scene T kinds.TheVariants.Overflo
           (subst (λ e. MovesBy (asks_move read) (Done PoppedNone) e) (sym told) all)
 
   pub overflow_push_step :
-      (stage : overflow_pushes.PushStage) → KnowsOverflowPush c k v stage → steps ≤ overflow_push_number stage → flight_of (doing_of (party_of p latest)) ≡ Some (flights.TheVariants.Queues (at stage))
+      (stage : overflow_pushes.PushStage) → IsFreshOver k.write stage → KnowsOverflowPush c k v stage → steps ≤ overflow_push_number stage → flight_of (doing_of (party_of p latest)) ≡ Some (flights.TheVariants.Queues (at stage))
       → span_of p events ≡ Open (Queues (PushIndex v)) (has_written c k p (at stage)) → Moved stage
-  overflow_push_step overflow_pushes.TheVariants.HandsBack knows s found seen = by_itself [] None (Done (PoppedIndex v)) Acts seen (hands_back knows s (calm_at overflow_pushes.TheVariants.HandsBack found refl))
-  overflow_push_step overflow_pushes.TheVariants.LoadsWrite knows s found seen =
-      by_itself [] (Some load_of_write) (after en (at overflow_pushes.TheVariants.LoadsWrite) k.write) Quiet seen (loads_write knows s (calm_at overflow_pushes.TheVariants.LoadsWrite found refl))
-  overflow_push_step (overflow_pushes.TheVariants.LoadsRead write) knows s found seen =
+  overflow_push_step overflow_pushes.TheVariants.HandsBack fresh knows s found seen = by_itself [] None (Done (PoppedIndex v)) Acts seen (hands_back knows s (calm_at overflow_pushes.TheVariants.HandsBack found refl))
+  overflow_push_step overflow_pushes.TheVariants.LoadsWrite fresh knows s found seen =
+      by_itself [] (Some load_of_write) (after en (at overflow_pushes.TheVariants.LoadsWrite) k.write) Quiet seen (loads_write fresh knows s (calm_at overflow_pushes.TheVariants.LoadsWrite found refl))
+  overflow_push_step (overflow_pushes.TheVariants.LoadsRead write) fresh knows s found seen =
       subst (λ w. Moved (overflow_pushes.TheVariants.LoadsRead w)) (sym knows.1)
-      (by_itself [] (Some load_of_read) (GoOn (at (overflow_pushes.TheVariants.StoresCell k.write k.read))) Quiet seen (loads_read knows.0 s (calm_at (overflow_pushes.TheVariants.LoadsRead write) found refl)))
-  overflow_push_step (overflow_pushes.TheVariants.StoresCell write read) knows s found seen =
+      (by_itself [] (Some load_of_read) (GoOn (at (overflow_pushes.TheVariants.StoresCell k.write k.read))) Quiet seen (loads_read knows.2 knows.0 s (calm_at (overflow_pushes.TheVariants.LoadsRead write) found refl)))
+  overflow_push_step (overflow_pushes.TheVariants.StoresCell write read) fresh knows s found seen =
       subst (λ w. Moved (overflow_pushes.TheVariants.StoresCell w read)) (sym knows.1)
-      (by_itself [] (Some (record { word = cell_word c k.write; op = Store v })) (GoOn (at (overflow_pushes.TheVariants.StoresWrite k.write read))) Quiet seen (stores_cell read knows.0 knows.2 knows.3 s (calm_at (overflow_pushes.TheVariants.StoresCell write read) found refl)))
-  overflow_push_step (overflow_pushes.TheVariants.StoresWrite write read) knows s found seen =
+      (by_itself [] (Some (record { word = cell_word c k.write; op = Store v })) (GoOn (at (overflow_pushes.TheVariants.StoresWrite k.write read))) Quiet seen (stores_cell knows.4 read knows.0 knows.2 knows.3 s (calm_at (overflow_pushes.TheVariants.StoresCell write read) found refl)))
+  overflow_push_step (overflow_pushes.TheVariants.StoresWrite write read) fresh knows s found seen =
       subst (λ w. Moved (overflow_pushes.TheVariants.StoresWrite w read)) (sym knows.1)
-      (by_itself [] (Some (record { word = write_word; op = Store (after_position k.write) })) (after en (at (overflow_pushes.TheVariants.StoresWrite k.write read)) k.write) (effect_of en (layout ro k) (pending k.read ro.producer latest) (at (overflow_pushes.TheVariants.StoresWrite k.write read)) k.write) seen (stores_write en scene inv small v room holds b read knows.0 knows.2 knows.3 knows.4 s))
-  overflow_push_step (overflow_pushes.TheVariants.MovesRead read) knows s found seen = moves_read read knows s found seen
-  overflow_push_step (overflow_pushes.TheVariants.LoadsCell read) knows s found seen =
+      (by_itself [] (Some (record { word = write_word; op = Store (after_position k.write) })) (after en (at (overflow_pushes.TheVariants.StoresWrite k.write read)) k.write) (effect_of en (layout ro k) (pending k.read ro.producer latest) (at (overflow_pushes.TheVariants.StoresWrite k.write read)) k.write) seen (stores_write en scene inv small v room holds b read knows.0 knows.2 knows.3 knows.4 knows.5 s))
+  overflow_push_step (overflow_pushes.TheVariants.MovesRead read) fresh knows s found seen = moves_read read knows s found seen
+  overflow_push_step (overflow_pushes.TheVariants.LoadsCell read) fresh knows s found seen =
       let old : get_or (layout ro k) (cell_word c read) 0 ≡ get_or k.cells (read % (c + 1)) 0 = word_at k.write k.read (free ro.producer) (free ro.consumer) k.cells (cell_word c read) (read % (c + 1)) refl in
       subst (λ n. MovesBy (Some (record { word = cell_word c read; op = Load })) (Done (PoppedIndex n)) Quiet) (sym old)
       (by_itself (Published p (Index v) ∷ HandedOut p (Index (oldest_at read)) ∷ Acted p (Queues (PushIndex v)) (PoppedIndex (oldest_at read)) ∷ []) (Some (record { word = cell_word c read; op = Load })) (Done (PoppedIndex (oldest_at read))) Quiet seen (loads_cell read knows.0 s (calm_at (overflow_pushes.TheVariants.LoadsCell read) found refl)))

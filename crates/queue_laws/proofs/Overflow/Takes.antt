@@ -51,7 +51,7 @@ use Rattle.queue_laws.proofs.Queues.Pending.{pending_put, few_wait, none_hangs}
 use Rattle.queue_laws.proofs.Queues.Stages.{party_then, DoesStep, Moves, alone}
 use Rattle.queue_laws.proofs.Overflow.Keeping.{take_keeps_push}
 
-module _ {T : Type 0} (en : Coding T) (scene : Scene T kinds.TheVariants.Overflow) (inv : Inv en kinds.TheVariants.Overflow scene) (small : scene.turns < 2 ^ 64 - 2) (room : OneWord) (holds : scene.roles.consumer ≡ Some scene.party) where
+module _ {T : Type 0} (en : Coding T) (scene : Scene T kinds.TheVariants.Overflow) (inv : Inv en kinds.TheVariants.Overflow scene) (small : scene.core.write < 2 ^ 64) (room : OneWord) (holds : scene.roles.consumer ≡ Some scene.party) where
   open scene use {capacity as c, roles as ro, core as k, party as p, steps, backs, since, changes, latest, events}
 
   -- the push that acts where this party moves the read position
@@ -85,6 +85,7 @@ module _ {T : Type 0} (en : Coding T) (scene : Scene T kinds.TheVariants.Overflo
 
       words_take : words_after (layout ro k) (asks_move k.read) ≡ layout ro after_take
       words_take =
+          let long : length k.waiting ≡ suc (length rest) = ap length first in
           let g = inv.queue.good in
           let write = g.write in
           let reached = inv.queue.reached in
@@ -94,6 +95,7 @@ module _ {T : Type 0} (en : Coding T) (scene : Scene T kinds.TheVariants.Overflo
 
       one : change_of (layout ro k) (asks_move k.read) ≡ 1
       one =
+          let long : length k.waiting ≡ suc (length rest) = ap length first in
           let g = inv.queue.good in
           let write = g.write in
           let reached = inv.queue.reached in
@@ -154,6 +156,7 @@ module _ {T : Type 0} (en : Coding T) (scene : Scene T kinds.TheVariants.Overflo
               up = record { write = omega arith; read = omega arith; paid = omega arith };
               others = λ q ne. kept ro ro q (λ h. h) (λ h. h) en c kinds.TheVariants.Overflow k after_take (record { push = λ mine w stage h. take_keeps_push c k q rest g few w stage h; pop = λ mine other stage h. absurd (clash ro.consumer p q ne holds mine) });
               reached = omega arith;
+              within = omega arith;
             },
           )
 
@@ -310,6 +313,7 @@ module _ {T : Type 0} (en : Coding T) (scene : Scene T kinds.TheVariants.Overflo
                   answers = ap (λ (o : Option (Item T)). answer_of_item o ∷ answer_of_item (cut_off c (drop 1 (map Index (take c k.waiting)) ++ Index w ∷ [])) ∷ []) list.0 ∙ ap (λ (o : Option (Item T)). answer ∷ answer_of_item o ∷ []) list.2;
                   up = up;
                   reached = omega arith;
+                  within = omega arith;
                 },
                 record {
                   stands = (

@@ -1,6 +1,6 @@
 -- What holds of a queue's machine between any two turns beside what the frame says of every machine, and what a turn
 -- must show to keep it. An overflowing queue with a capacity is, as far as its words go, a queue with one cell more.
-use Rattle.std.proofs.Common.{◌≡◌, ◌≢◌, ℕ, ◌+◌, ◌^◌, ◌<◌, ◌≤◌, Some, None, List, [], ◌++◌, length, drop, map, fold, refl, sym, ap, subst, ◌∙◌, append_assoc, length-append, arith}
+use Rattle.std.proofs.Common.{◌≡◌, ◌-◌, ◌≢◌, ℕ, ◌+◌, ◌^◌, ◌<◌, ◌≤◌, Some, None, List, [], ◌++◌, length, drop, map, fold, refl, sym, ap, subst, ◌∙◌, append_assoc, length-append, arith}
 use Rattle.std.proofs.lemmas.List.{drop_at}
 use Rattle.std.proofs.lemmas.List.Concat.{flat_map-append}
 use Rattle.std.proofs.lemmas.List.Sums.{fold-append}
@@ -118,6 +118,7 @@ module _ {T : Type 0} (en : Coding T) where
     pub lengths : Each (TellsLength c) events
     pub grants : Each GrantsRight events
     pub reached : k.write ≤ turns
+    pub within : k.write < 2 ^ 64
 
   -- ---- the family of the queues
 
@@ -168,6 +169,7 @@ module _ {T : Type 0} (en : Coding T) where
     pub answers : answers_from (list_of kd scene.capacity) (listed kd scene.capacity scene.core.waiting) (calls_of (moments es)) ≡ answers_of (moments es)
     pub up : GoesUp scene.core k' scene.changes changes'
     pub reached : k'.write ≤ scene.turns + 1
+    pub within : k'.write < 2 ^ 64
 
   module _ (kd : QueueKind) (scene : Scene T kd) (ro' : Roles) (k' : Core (Val T kd)) (y : Party T) (es : List (Event T)) (changes' : ℕ) where
     pub holds_more : Holds kd scene.capacity scene.roles scene.core scene.latest scene.events scene.turns → ShowsQueue kd scene ro' k' y es changes'
@@ -193,6 +195,7 @@ module _ {T : Type 0} (en : Coding T) where
           lengths = Each-append (TellsLength c) scene.events es inv.lengths s.lengths;
           grants = Each-append GrantsRight scene.events es inv.grants s.grants;
           reached = s.reached;
+          within = s.within;
         }
 
   -- what a turn shows that writes events of its own party alone, where its span was this
@@ -210,6 +213,7 @@ module _ {T : Type 0} (en : Coding T) where
     pub answers : answers_from (list_of kd scene.capacity) (listed kd scene.capacity scene.core.waiting) (calls_of (moments es)) ≡ answers_of (moments es)
     pub up : GoesUp scene.core k' scene.changes changes'
     pub reached : k'.write ≤ scene.turns + 1
+    pub within : k'.write < 2 ^ 64
     pub own : AreOwn scene.party es
     pub stands : AllFollow (Stands (promise kd) scene.capacity) from es
     pub here : frame.Fits (family kd scene.capacity) (record { roles = ro'; core = k' }) scene.party (Some y) (fold own_after from es)
@@ -252,4 +256,5 @@ module _ {T : Type 0} (en : Coding T) where
           answers = s.answers;
           up = s.up;
           reached = s.reached;
+          within = s.within;
         }

@@ -69,7 +69,7 @@ use Rattle.queue_laws.proofs.Overflow.Knows.{overflow_push_at, overflow_pop_at, 
 use Rattle.queue_laws.proofs.Overflow.Waiting.{pending_is}
 use Rattle.queue_laws.proofs.Queues.Core.{Core}
 use Rattle.queue_laws.proofs.Queues.Invariant.{Queue, Fit, machine_kind, family}
-use Rattle.queue_laws.proofs.Queues.Knows.{layout, IndexAt, ValueAt, At}
+use Rattle.queue_laws.proofs.Queues.Knows.{all_fresh, layout, IndexAt, ValueAt, At}
 use Rattle.queue_laws.proofs.Queues.Sound.{kept_is, step_moves, scene_of, inv_of, asks_nothing, reached_sound}
 use Rattle.queue_laws.proofs.Queues.Kept.{kept, promised_by}
 use Rattle.queue_laws.proofs.Queues.Stages.{told_after, any_call}
@@ -423,9 +423,9 @@ waiter_is {T} roles words latest p flight found q w e same = go (holds roles.con
 module _ {T : Type 0} (en : Coding T) (law : IsCoding en) (kd : QueueKind) (c : ℕ) (t : Trace T) (p : ℕ) (s : frame.Sound (family en kd c) t) (small : t.world.turns < 2 ^ 64 - 2) (x : Party T) (since : ℕ) where
   in_order : (start : Start T) (flight : Flight T) → t.world.coding ≡ en → t.world.capacity ≡ c → t.world.words ≡ layout s.state.roles s.state.core → StandsThere (family en kd c) t s p x since start flight → InOrder t p (promise kd) t.world.coding (layout s.state.roles s.state.core) (kepts.TheVariants.Queues s.state.roles) start flight
   in_order (Queues start) (flights.TheVariants.Queues flight) same_coding same_capacity is here =
-      let scene = scene_of en law kd c t s small p x since in
+      let scene = scene_of en law kd c t s p x since in
       let words = layout s.state.roles s.state.core in
-      let moves = step_moves en law kd scene small (inv_of en law kd c t s small p x since) start flight here.at here.steps here.knows (here.found, here.span) in
+      let moves = step_moves en law kd scene s.holds.within (inv_of en law kd c t s p x since) start flight here.at here.steps here.knows (all_fresh s.state.core.write flight (let low = s.holds.reached in omega arith)) (here.found, here.span) in
       let z = t.world.coding in
       let old = old_of words (ask_of (want z flight)) in
       let waits = beside s.state.roles words t.world.latest p in

@@ -1,7 +1,7 @@
 -- What the invariant says of the events, in the promises' words.
 use lib.Seq.{get_or-drop}
 use native.Mathlib.Nat.{mul-le-mul_left}
-use Rattle.std.proofs.Common.{◌≡◌, ℕ, suc, ◌+◌, ◌-◌, ◌%◌, ◌*◌, ◌<◌, ◌≤◌, Some, List, [], ◌∷◌, length, get_or, map, slice_get, take, drop, refl, sym, ap, subst, ◌∙◌, arith, length-append, length-drop}
+use Rattle.std.proofs.Common.{None, ◌≡◌, ℕ, suc, ◌+◌, ◌-◌, ◌%◌, ◌*◌, ◌<◌, ◌≤◌, Some, List, [], ◌∷◌, length, get_or, map, slice_get, take, drop, refl, sym, ap, subst, ◌∙◌, arith, length-append, length-drop}
 use Rattle.std.proofs.lemmas.List.{length-map, take-map}
 use Rattle.steps.specs.declared.copied.Kept as rooms
 use Rattle.steps.specs.declared.copied.OneWord.{OneWord}
@@ -57,7 +57,8 @@ use Rattle.queue_laws.proofs.Queues.Invariant.{Queue, machine_kind, family, wait
 use Rattle.queue_laws.proofs.Queues.Stages.{cell_place}
 use Rattle.queue_laws.proofs.Queues.Values.{Val, encoded, item}
 use Rattle.queue_laws.proofs.Ring.Pops.{same_words}
-use Rattle.queue_laws.proofs.Queues.Sound.{kept_is, cell_size, reached_sound}
+use Rattle.model.specs.World.{capacity_error}
+use Rattle.queue_laws.proofs.Queues.Sound.{kept_is, cell_size, reached_sound, sound_on, IsFreshRun}
 
 -- ---- how many steps a call has taken
 
@@ -304,6 +305,12 @@ module _ {T : Type 0} where
   kept kd t is r =
       subst (λ P. IsKeptBy P t) (sym (ap (promise_of {T = T}) is ∙ promise_is kd))
       (kept_by kd t r.coded (reached_sound kd t is r))
+
+  -- the same where turns have no bound, and no push finds the last position
+  pub kept_on : (kd : QueueKind) (t : Trace T) → t.world.kind ≡ machine_kind kd → IsCoding t.world.coding → capacity_error t.world.kind t.world.capacity ≡ None → IsFreshRun t → IsKept t
+  kept_on kd t is coded admits r =
+      subst (λ P. IsKeptBy P t) (sym (ap (promise_of {T = T}) is ∙ promise_is kd))
+      (kept_by kd t coded (sound_on kd t is coded admits r))
 
   -- a promise of the kind is the queue's
   pub promised_by : (kd : QueueKind) (t : Trace T) → t.world.kind ≡ machine_kind kd → promise_of {T = T} t.world.kind ≡ promise kd

@@ -1,5 +1,5 @@
 -- What a call of a queue knows where it stands: of the words, of the events and of the counts.
-use Rattle.std.proofs.Common.{◌≡◌, ℕ, ◌+◌, ◌*◌, ◌<◌, ◌≤◌, Option, Some, None, List, [], ◌∷◌, ◌++◌, length, take, map, arith}
+use Rattle.std.proofs.Common.{◌≡◌, ℕ, ◌+◌, ◌-◌, ◌*◌, ◌^◌, ◌<◌, ◌≤◌, Option, Some, None, List, [], ◌∷◌, ◌++◌, length, take, map, arith}
 use Rattle.steps.specs.declared.queues.lengths.Len.{Len}
 use Rattle.steps.specs.declared.queues.lengths.LenStage.{LenStage}
 use Rattle.steps.specs.declared.queues.lengths.LenStage as lens
@@ -30,8 +30,12 @@ use Rattle.model.proofs.Moments.{held_later}
 use Rattle.queue_laws.proofs.Queues.Core.{Core}
 use Rattle.queue_laws.proofs.Queues.Core.{GoesUp}
 use Rattle.queue_laws.proofs.Queues.Values.{Val, item}
-use Rattle.queue_laws.proofs.Ring.Knows.{ring_number, PushAt, PopAt}
-use Rattle.queue_laws.proofs.Overflow.Knows.{KnowsBacks, backs_keep, overflow_wrote, overflow_push_number, overflow_pop_number, OverflowAt}
+use Rattle.steps.specs.declared.queues.ring.PushStage as pushes
+use Rattle.steps.specs.declared.queues.overflow.PushStage as overflow_pushes
+use Rattle.model.specs.declared.families.Flight.{Flight}
+use Rattle.model.specs.declared.families.Flight as flights
+use Rattle.queue_laws.proofs.Ring.Knows.{ring_number, IsFresh, PushAt, PopAt}
+use Rattle.queue_laws.proofs.Overflow.Knows.{IsFreshOver, KnowsBacks, backs_keep, overflow_wrote, overflow_push_number, overflow_pop_number, OverflowAt}
 
 -- ---- the words
 
@@ -79,6 +83,21 @@ Hangs T kinds.TheVariants.IndexQueue c k push = Unit {0}
 Hangs T kinds.TheVariants.Overflow c k None = length k.waiting ≤ c
 Hangs T kinds.TheVariants.Overflow c k (Some push) = (0 < c) × (others : List ℕ) × (k.waiting ≡ others ++ push.1 ∷ []) × (length others ≡ c)
 Hangs T kinds.TheVariants.Queue c k push = Unit {0}
+
+fresh_push : (write : ℕ) (stage : pushes.PushStage) → write < 2 ^ 64 - 1 → IsFresh write stage
+fresh_push write pushes.TheVariants.LoadsWrite low = low
+fresh_push write (pushes.TheVariants.LoadsRead w) low = tt
+fresh_push write (pushes.TheVariants.StoresCell w cell at) low = tt
+fresh_push write (pushes.TheVariants.StoresWrite w) low = tt
+
+fresh_over : (write : ℕ) (stage : overflow_pushes.PushStage) → write < 2 ^ 64 - 1 → IsFreshOver write stage
+fresh_over write overflow_pushes.TheVariants.HandsBack low = tt
+fresh_over write overflow_pushes.TheVariants.LoadsWrite low = low
+fresh_over write (overflow_pushes.TheVariants.LoadsRead w) low = tt
+fresh_over write (overflow_pushes.TheVariants.StoresCell w read) low = tt
+fresh_over write (overflow_pushes.TheVariants.StoresWrite w read) low = tt
+fresh_over write (overflow_pushes.TheVariants.MovesRead read) low = tt
+fresh_over write (overflow_pushes.TheVariants.LoadsCell read) low = tt
 
 module _ {T : Type 0} where
   -- the list that the calls answer as
@@ -167,6 +186,33 @@ module _ {T : Type 0} where
     flight_keeps since backs (Overflow (overflows.TheVariants.Push call)) h = h
     flight_keeps since backs (Overflow (overflows.TheVariants.Pop run)) h = backs_keep k k' changes changes' up since backs run.call.stage h
     flight_keeps since backs (Length which run) h = len_keeps since backs run.call.stage h
+
+  -- ---- a push that is to load the write position finds another than the last
+
+  abbrev pub IsFreshAt : ℕ → QueueFlight T → Type 0
+  IsFreshAt write (Indices (rings.TheVariants.Push run)) = IsFresh write run.call.stage
+  IsFreshAt write (Values (rings.TheVariants.Push run)) = IsFresh write run.call.stage
+  IsFreshAt write (Overflow (overflows.TheVariants.Push run)) = IsFreshOver write run.call.stage
+  IsFreshAt write flight = Unit {0}
+
+  pub all_fresh : (write : ℕ) (flight : QueueFlight T) → write < 2 ^ 64 - 1 → IsFreshAt write flight
+  all_fresh write (Role call) low = tt
+  all_fresh write (Indices (rings.TheVariants.Push run)) low = fresh_push write run.call.stage low
+  all_fresh write (Indices (rings.TheVariants.Pop run)) low = tt
+  all_fresh write (Values (rings.TheVariants.Push run)) low = fresh_push write run.call.stage low
+  all_fresh write (Values (rings.TheVariants.Pop run)) low = tt
+  all_fresh write (Overflow (overflows.TheVariants.Push run)) low = fresh_over write run.call.stage low
+  all_fresh write (Overflow (overflows.TheVariants.Pop run)) low = tt
+  all_fresh write (Length which run) low = tt
+
+  -- of any call of the machine
+  abbrev pub IsFreshCall : ℕ → Flight T → Type 0
+  IsFreshCall write (flights.TheVariants.Queues flight) = IsFreshAt write flight
+  IsFreshCall write flight = Unit {0}
+
+  pub any_fresh : (write : ℕ) (flight : Flight T) → write < 2 ^ 64 - 1 → IsFreshCall write flight
+  any_fresh write (flights.TheVariants.Queues flight) low = all_fresh write flight low
+  any_fresh write flight low = tt
 
   -- ---- where a call under way stands
 

@@ -58,7 +58,7 @@ number_is size words_of cells c k g nothing small = go (c == 0) refl
         nothing none
     go false e = let write = g.write in omega arith
 
-module _ {T : Type 0} (en : Coding T) (kd : QueueKind) (scene : Scene T kd) (inv : Inv en kd scene) (small : scene.turns < 2 ^ 64 - 2) (before : IsCalm en kd scene scene.core.read) where
+module _ {T : Type 0} (en : Coding T) (kd : QueueKind) (scene : Scene T kd) (inv : Inv en kd scene) (small : scene.core.write < 2 ^ 64) (before : IsCalm en kd scene scene.core.read) where
   open scene use {capacity as c, roles as ro, core as k, party as p, steps, backs, since, changes, latest, events}
 
   g : Good (encoded en kd).size (encoded en kd).words_of (cells_of kd c) k

@@ -26,7 +26,7 @@ gives word = Some (record { word = word; op = Store 1 })
 abbrev with_roles : {T : Type 0} → {kd : QueueKind} → Scene T kd → Option ℕ → Option ℕ → Scene T kd
 with_roles scene pr co = record scene { roles = record { producer = pr; consumer = co } }
 
-module _ {T : Type 0} (en : Coding T) (kd : QueueKind) (scene : Scene T kd) (small : scene.turns < 2 ^ 64 - 2) (s : scene.steps ≤ 0) (b : scene.backs ≡ 0) where
+module _ {T : Type 0} (en : Coding T) (kd : QueueKind) (scene : Scene T kd) (small : scene.core.write < 2 ^ 64) (s : scene.steps ≤ 0) (b : scene.backs ≡ 0) where
   open scene use {capacity as c, core as k}
 
   abbrev IsQuiet : Option ℕ → Option ℕ → Type 0

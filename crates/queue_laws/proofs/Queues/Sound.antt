@@ -1,5 +1,5 @@
 -- Every turn keeps what holds of a queue's machine: the laws of the family.
-use Rattle.std.proofs.Common.{◌≡◌, ℕ, ◌-◌, ◌*◌, ◌^◌, ◌<◌, ◌≤◌, nat_lt, Bool, true, false, cond, Option, Some, None, option_map, List, [], ◌∷◌, ◌++◌, map, replicate, refl, sym, ap, subst, ◌∙◌, append-nil, arith}
+use Rattle.std.proofs.Common.{◌≡◌, ℕ, ◌-◌, ◌*◌, ◌^◌, ◌<◌, ◌≤◌, nat_lt, Bool, true, false, cond, Option, Some, None, option_map, List, [], ◌∷◌, ◌++◌, map, replicate, get_or, refl, sym, ap, subst, ◌∙◌, append-nil, arith}
 use Rattle.std.proofs.lemmas.Bool.Decides.{nat_tests}
 use Rattle.std.proofs.lemmas.List.{length-replicate}
 use Rattle.std.proofs.Math.Seq.{take-nil}
@@ -34,17 +34,27 @@ use Rattle.model.specs.declared.turn.Refusal.TheVariants.{NoRole}
 use Rattle.model.specs.Coding.{Coding, IsCoding, one_word}
 use Rattle.model.specs.Families.{opening_of, first_of, want_of, ask_of, is_question, kept_after_begin}
 use Rattle.model.specs.Families.Loan.Opening.{is_loan}
-use Rattle.model.specs.Families.Queues.Calls.{acquire_of, release_of, first}
+use Rattle.steps.specs.declared.queues.ring.PushStage as pushes
+use Rattle.steps.specs.declared.queues.overflow.PushStage as overflow_pushes
+use Rattle.steps.specs.Queues.Ring.{push_asks}
+use Rattle.queue_laws.proofs.Overflow.Knows.{IsFreshOver}
+use Rattle.model.specs.Families.Queues.Calls.{want, words_of_index, acquire_of, release_of, first}
 use Rattle.model.specs.Families.Queues.Objects.{list_of}
 use Rattle.model.specs.Families.Queues.Opening.{cells_of, words_of_cell, lacks_role, call_of, kept_rows}
 use Rattle.model.specs.Families.Queues.Steps.{pending_at, pending}
 use Rattle.model.specs.Parties.{party_of, put, doing_of, flight_of}
 use Rattle.model.specs.Reading.{Open, span_of}
 use Rattle.model.specs.Rows.{first_row}
-use Rattle.model.specs.Turns.{old_of, party_at_begin, IsReached}
+use Rattle.model.specs.Turns.{old_of, party_at_begin, IsReached, run_on, attempt_on, unless_refused, after_turn}
+use Rattle.model.specs.Refusals.{call_refusal}
+use Rattle.model.specs.declared.turn.Kind.{Kind}
+use Rattle.model.proofs.Reached.{turn_making}
 use Rattle.steps.specs.declared.enums.UniqueIndexCreationError.{UniqueIndexCreationError}
 use Rattle.steps.specs.declared.enums.UniqueIndexCreationError.TheVariants.{ProvidedCapacityGreaterThanMaxCapacity}
-use Rattle.model.specs.World.{Trace, opening, capacity_error}
+use Rattle.model.specs.declared.turn.Turn.{Turn}
+use Rattle.model.specs.declared.turn.Turn.TheVariants.{Next}
+use Rattle.queue_laws.proofs.Queues.Runs.{LawsAt, AllMay, run_sound}
+use Rattle.model.specs.World.{Trace, opening, capacity_error, flight_in}
 use Rattle.model.proofs.Frame as frame
 use Rattle.model.proofs.Readings.{Each-nil}
 use Rattle.model.proofs.Rows.{row_passed, MayBegin}
@@ -56,7 +66,7 @@ use Rattle.queue_laws.proofs.Queues.Asks.{never_asks}
 use Rattle.queue_laws.proofs.Queues.Begins.{IsFirst, first_is}
 use Rattle.queue_laws.proofs.Queues.Core.{Core}
 use Rattle.queue_laws.proofs.Queues.Invariant.{Queue, Fit, machine_kind, Scene, Inv, Shows, family, holds_more, owes, queue_part}
-use Rattle.queue_laws.proofs.Queues.Knows.{layout, len_at, in_one, in_cell, listed, has_written, KnowsLen, KnowsFlight, number_of, RoleAt, LengthAt, IndexAt, ValueAt, At}
+use Rattle.queue_laws.proofs.Queues.Knows.{IsFreshAt, IsFreshCall, any_fresh, layout, len_at, in_one, in_cell, listed, has_written, KnowsLen, KnowsFlight, number_of, RoleAt, LengthAt, IndexAt, ValueAt, At}
 use Rattle.queue_laws.proofs.Queues.Lengths.{len_step, is_empty_step, is_full_step}
 use Rattle.queue_laws.proofs.Queues.Pending.{pending_put, hangs_same, none_hangs}
 use Rattle.queue_laws.proofs.Queues.Roles.{acquires_producer, acquires_consumer, releases_producer, releases_consumer}
@@ -64,7 +74,7 @@ use Rattle.queue_laws.proofs.Queues.Stages.{IsCalm, DoesStep, StepOf, MovesOf, o
 use Rattle.queue_laws.proofs.Queues.Values.{Val, encoded, item}
 use Rattle.queue_laws.proofs.Ring.Kinds as ring
 use Rattle.queue_laws.proofs.Ring.Kinds.{Ring, of_indices, of_values, kind_of, Room, words_in, ring_want, ring_after, ring_effect}
-use Rattle.queue_laws.proofs.Ring.Knows.{push_at, pop_at, ring_number, PushAt, PopAt}
+use Rattle.queue_laws.proofs.Ring.Knows.{IsFresh, push_at, pop_at, ring_number, PushAt, PopAt}
 use Rattle.queue_laws.proofs.Ring.Pops.{pop_step}
 use Rattle.queue_laws.proofs.Ring.Pushes.{push_step}
 
@@ -74,7 +84,7 @@ kept_is kept words s fit = absurd fit
 
 -- ---- one step of a call
 
-module _ {T : Type 0} (en : Coding T) (kd : QueueKind) (scene : Scene T kd) (small : scene.turns < 2 ^ 64 - 2) (inv : Inv en kd scene) where
+module _ {T : Type 0} (en : Coding T) (kd : QueueKind) (scene : Scene T kd) (small : scene.core.write < 2 ^ 64) (inv : Inv en kd scene) where
   role_step : (start : QueueStart T) (call : RoleCall) → RoleAt scene.roles scene.party start call → scene.steps ≤ 0 → scene.backs ≡ 0 → IsCalm en kd scene scene.core.read → StepOf en kd scene start (Role call)
   role_step AcquireProducer (Acquire run) at s b before =
       subst (λ w. StepOf en kd scene AcquireProducer (acquire_of w)) (sym at) (acquires_producer en kd scene small s b inv before)
@@ -96,8 +106,18 @@ module _ {T : Type 0} (en : Coding T) (kd : QueueKind) (scene : Scene T kd) (sma
       subst (λ n. StepOf en kd scene IsFull (Length measures.TheVariants.IsFull (len_at n run.call.stage))) (sym at) (is_full_step en kd scene inv small before run.call.stage s b)
   length_step start which call at s b before = absurd at
 
+abbrev IsFreshRing : {V R : Type 0} → ℕ → rings.RingCall V R → Type 0
+IsFreshRing write (rings.TheVariants.Push run) = IsFresh write run.call.stage
+IsFreshRing write (rings.TheVariants.Pop run) = Unit {0}
+
+fresh_ring : {T : Type 0} (en : Coding T) (write : ℕ) (r : Ring) (call : rings.RingCall (Val T (kind_of r)) (Room r)) → IsFreshAt {T = T} write (ring.flight r call) → IsFreshRing write call
+fresh_ring en write of_indices (rings.TheVariants.Push run) h = h
+fresh_ring en write of_indices (rings.TheVariants.Pop run) h = tt
+fresh_ring en write of_values (rings.TheVariants.Push run) h = h
+fresh_ring en write of_values (rings.TheVariants.Pop run) h = tt
+
 -- a bounded queue of either kind
-module _ {T : Type 0} (en : Coding T) (law : IsCoding en) (r : Ring) (scene : Scene T (kind_of r)) (small : scene.turns < 2 ^ 64 - 2) (inv : Inv en (kind_of r) scene) (b : scene.backs ≡ 0) (before : IsCalm en (kind_of r) scene scene.core.read) where
+module _ {T : Type 0} (en : Coding T) (law : IsCoding en) (r : Ring) (scene : Scene T (kind_of r)) (small : scene.core.write < 2 ^ 64) (inv : Inv en (kind_of r) scene) (b : scene.backs ≡ 0) (before : IsCalm en (kind_of r) scene scene.core.read) where
   abbrev words : List ℕ
   words = layout scene.roles scene.core
 
@@ -106,11 +126,11 @@ module _ {T : Type 0} (en : Coding T) (law : IsCoding en) (r : Ring) (scene : Sc
       DoesStep en (kind_of r) scene [] start (ask_of (ring_want en r call)) false (ring_after en r call (old_of words (ask_of (ring_want en r call)))) (ring_effect en r call)
 
   push_call : (v : Val T (kind_of r)) (call : rings.RingCall (Val T (kind_of r)) (Room r)) → PushAt (encoded en (kind_of r)) (words_in r) scene.capacity scene.roles scene.core scene.party v call
-      → scene.steps ≤ ring_number (encoded en (kind_of r)) (words_in r) call → RingStep (ring.push r v) call
-  push_call v (rings.TheVariants.Push run) at s =
+      → scene.steps ≤ ring_number (encoded en (kind_of r)) (words_in r) call → IsFreshRing scene.core.write call → RingStep (ring.push r v) call
+  push_call v (rings.TheVariants.Push run) at s fresh =
       subst (λ n. RingStep (ring.push r v) (push_at n run.given run.call.stage)) (sym at.1)
-      (subst (λ n. RingStep (ring.push r v) (push_at scene.capacity n run.call.stage)) (sym at.2) (push_step en r law scene inv small before v at.0 b run.call.stage at.3 s))
-  push_call v (rings.TheVariants.Pop run) at s = absurd at
+      (subst (λ n. RingStep (ring.push r v) (push_at scene.capacity n run.call.stage)) (sym at.2) (push_step en r law scene inv small before v at.0 b run.call.stage fresh at.3 s))
+  push_call v (rings.TheVariants.Pop run) at s fresh = absurd at
 
   pop_call : (call : rings.RingCall (Val T (kind_of r)) (Room r)) → PopAt (encoded en (kind_of r)) (words_in r) scene.capacity scene.roles scene.core scene.party call
       → scene.steps ≤ ring_number (encoded en (kind_of r)) (words_in r) call → RingStep Pop call
@@ -119,17 +139,17 @@ module _ {T : Type 0} (en : Coding T) (law : IsCoding en) (r : Ring) (scene : Sc
       subst (λ n. RingStep Pop (pop_at n run.room run.call.stage)) (sym at.1) (pop_step en r law scene inv small before run.room at.0 b run.call.stage at.2 s)
 
 module _ {T : Type 0} (en : Coding T) (law : IsCoding en) where
-  index_step : (scene : Scene T IndexQueue) → scene.turns < 2 ^ 64 - 2 → Inv en IndexQueue scene → (start : QueueStart T) (call : rings.RingCall ℕ OneWord) → IndexAt IndexQueue scene.capacity scene.roles scene.core scene.party start call
-      → scene.steps ≤ ring_number one_word in_one call → scene.backs ≡ 0 → IsCalm en IndexQueue scene scene.core.read → StepOf en IndexQueue scene start (Indices call)
-  index_step scene small inv (PushIndex v) (rings.TheVariants.Push run) at s b before = push_call en law of_indices scene small inv b before v (rings.TheVariants.Push run) at s
-  index_step scene small inv Pop (rings.TheVariants.Pop run) at s b before = pop_call en law of_indices scene small inv b before (rings.TheVariants.Pop run) at s
-  index_step scene small inv start call at s b before = absurd at
+  index_step : (scene : Scene T IndexQueue) → scene.core.write < 2 ^ 64 → Inv en IndexQueue scene → (start : QueueStart T) (call : rings.RingCall ℕ OneWord) → IndexAt IndexQueue scene.capacity scene.roles scene.core scene.party start call
+      → IsFreshRing scene.core.write call → scene.steps ≤ ring_number one_word in_one call → scene.backs ≡ 0 → IsCalm en IndexQueue scene scene.core.read → StepOf en IndexQueue scene start (Indices call)
+  index_step scene small inv (PushIndex v) (rings.TheVariants.Push run) at fresh s b before = push_call en law of_indices scene small inv b before v (rings.TheVariants.Push run) at s fresh
+  index_step scene small inv Pop (rings.TheVariants.Pop run) at fresh s b before = pop_call en law of_indices scene small inv b before (rings.TheVariants.Pop run) at s
+  index_step scene small inv start call at fresh s b before = absurd at
 
-  value_step : (scene : Scene T kinds.TheVariants.Queue) → scene.turns < 2 ^ 64 - 2 → Inv en kinds.TheVariants.Queue scene → (start : QueueStart T) (call : rings.RingCall T (cells.Kept 128)) → ValueAt en kinds.TheVariants.Queue scene.capacity scene.roles scene.core scene.party start call
-      → scene.steps ≤ ring_number en in_cell call → scene.backs ≡ 0 → IsCalm en kinds.TheVariants.Queue scene scene.core.read → StepOf en kinds.TheVariants.Queue scene start (Values call)
-  value_step scene small inv (Push v) (rings.TheVariants.Push run) at s b before = push_call en law of_values scene small inv b before v (rings.TheVariants.Push run) at s
-  value_step scene small inv Pop (rings.TheVariants.Pop run) at s b before = pop_call en law of_values scene small inv b before (rings.TheVariants.Pop run) at s
-  value_step scene small inv start call at s b before = absurd at
+  value_step : (scene : Scene T kinds.TheVariants.Queue) → scene.core.write < 2 ^ 64 → Inv en kinds.TheVariants.Queue scene → (start : QueueStart T) (call : rings.RingCall T (cells.Kept 128)) → ValueAt en kinds.TheVariants.Queue scene.capacity scene.roles scene.core scene.party start call
+      → IsFreshRing scene.core.write call → scene.steps ≤ ring_number en in_cell call → scene.backs ≡ 0 → IsCalm en kinds.TheVariants.Queue scene scene.core.read → StepOf en kinds.TheVariants.Queue scene start (Values call)
+  value_step scene small inv (Push v) (rings.TheVariants.Push run) at fresh s b before = push_call en law of_values scene small inv b before v (rings.TheVariants.Push run) at s fresh
+  value_step scene small inv Pop (rings.TheVariants.Pop run) at fresh s b before = pop_call en law of_values scene small inv b before (rings.TheVariants.Pop run) at s
+  value_step scene small inv start call at fresh s b before = absurd at
 
 -- where the party's call stands
 abbrev IsCall : {T : Type 0} → {kd : QueueKind} → Scene T kd → QueueStart T → QueueFlight T → Type 0
@@ -137,38 +157,38 @@ IsCall scene start flight =
     (flight_of (doing_of (party_of scene.party scene.latest)) ≡ Some (flights.TheVariants.Queues flight))
     × (span_of scene.party scene.events ≡ Open (Queues start) (has_written scene.capacity scene.core scene.party flight))
 
-module _ {T : Type 0} (en : Coding T) (scene : Scene T kinds.TheVariants.Overflow) (small : scene.turns < 2 ^ 64 - 2) where
+module _ {T : Type 0} (en : Coding T) (scene : Scene T kinds.TheVariants.Overflow) (small : scene.core.write < 2 ^ 64) where
   abbrev MovesFrom : QueueStart T → overflows.OverflowCall → Type 0
   MovesFrom start call = IsCall scene start (Overflow call) → MovesOf en kinds.TheVariants.Overflow scene start (Overflow call)
 
   overflow_step : Inv en kinds.TheVariants.Overflow scene → (start : QueueStart T) (call : overflows.OverflowCall) → OverflowAt scene.capacity scene.roles scene.core scene.party start call → scene.steps ≤ number_of en (Overflow call) scene.backs
-      → KnowsFlight scene.capacity scene.core scene.party scene.events scene.since scene.changes scene.backs (Overflow call) → MovesFrom start call
-  overflow_step inv (PushIndex v) (overflows.TheVariants.Push run) at s b is =
+      → KnowsFlight scene.capacity scene.core scene.party scene.events scene.since scene.changes scene.backs (Overflow call) → IsFreshAt {T = T} scene.core.write (Overflow call) → MovesFrom start call
+  overflow_step inv (PushIndex v) (overflows.TheVariants.Push run) at s b fresh is =
       subst (λ n. MovesFrom (PushIndex v) (overflow_push_at n run.given run.room run.call.stage)) (sym at.1)
       (subst (λ n. MovesFrom (PushIndex v) (overflow_push_at scene.capacity n run.room run.call.stage)) (sym at.2)
-      (λ is. overflow_push_step en scene inv small v run.room at.0 b run.call.stage at.3 s is.0 is.1))
+      (λ is. overflow_push_step en scene inv small v run.room at.0 b run.call.stage fresh at.3 s is.0 is.1))
       is
-  overflow_step inv Pop (overflows.TheVariants.Pop run) at s b is =
+  overflow_step inv Pop (overflows.TheVariants.Pop run) at s b fresh is =
       subst (λ n. MovesFrom Pop (overflow_pop_at n run.room run.call.stage)) (sym at.1) (λ is. overflow_pop_step en scene inv small run.room at.0 run.call.stage at.2 s b is.0 is.1) is
-  overflow_step inv start call at s b is = absurd at
+  overflow_step inv start call at s b fresh is = absurd at
 
 module _ {T : Type 0} (en : Coding T) (law : IsCoding en) where
-  pub step_moves : (kd : QueueKind) (scene : Scene T kd) → scene.turns < 2 ^ 64 - 2 → Inv en kd scene → (start : QueueStart T) (flight : QueueFlight T) → At en kd scene.capacity scene.roles scene.core scene.party start flight → scene.steps ≤ number_of en flight scene.backs
-      → KnowsFlight scene.capacity scene.core scene.party scene.events scene.since scene.changes scene.backs flight → IsCall scene start flight → MovesOf en kd scene start flight
-  step_moves kd scene small inv start (Role call) at s b is =
+  pub step_moves : (kd : QueueKind) (scene : Scene T kd) → scene.core.write < 2 ^ 64 → Inv en kd scene → (start : QueueStart T) (flight : QueueFlight T) → At en kd scene.capacity scene.roles scene.core scene.party start flight → scene.steps ≤ number_of en flight scene.backs
+      → KnowsFlight scene.capacity scene.core scene.party scene.events scene.since scene.changes scene.backs flight → IsFreshAt scene.core.write flight → IsCall scene start flight → MovesOf en kd scene start flight
+  step_moves kd scene small inv start (Role call) at s b fresh is =
       of_step en kd scene inv start (Role call) is.1 (role_step en kd scene small inv start call at s b (ap (pending_at scene.core.read) is.0))
-  step_moves IndexQueue scene small inv start (Indices call) at s b is =
-      of_step en IndexQueue scene inv start (Indices call) is.1 (index_step en law scene small inv start call at s b (ap (pending_at scene.core.read) is.0))
-  step_moves kinds.TheVariants.Overflow scene small inv start (Indices call) at s b is = absurd at
-  step_moves kinds.TheVariants.Queue scene small inv start (Indices call) at s b is = absurd at
-  step_moves IndexQueue scene small inv start (Values call) at s b is = absurd at
-  step_moves kinds.TheVariants.Overflow scene small inv start (Values call) at s b is = absurd at
-  step_moves kinds.TheVariants.Queue scene small inv start (Values call) at s b is =
-      of_step en kinds.TheVariants.Queue scene inv start (Values call) is.1 (value_step en law scene small inv start call at s b (ap (pending_at scene.core.read) is.0))
-  step_moves IndexQueue scene small inv start (Overflow call) at s b is = absurd at
-  step_moves kinds.TheVariants.Overflow scene small inv start (Overflow call) at s b is = overflow_step en scene small inv start call at s b is
-  step_moves kinds.TheVariants.Queue scene small inv start (Overflow call) at s b is = absurd at
-  step_moves kd scene small inv start (Length which call) at s b is =
+  step_moves IndexQueue scene small inv start (Indices call) at s b fresh is =
+      of_step en IndexQueue scene inv start (Indices call) is.1 (index_step en law scene small inv start call at (fresh_ring en scene.core.write of_indices call fresh) s b (ap (pending_at scene.core.read) is.0))
+  step_moves kinds.TheVariants.Overflow scene small inv start (Indices call) at s b fresh is = absurd at
+  step_moves kinds.TheVariants.Queue scene small inv start (Indices call) at s b fresh is = absurd at
+  step_moves IndexQueue scene small inv start (Values call) at s b fresh is = absurd at
+  step_moves kinds.TheVariants.Overflow scene small inv start (Values call) at s b fresh is = absurd at
+  step_moves kinds.TheVariants.Queue scene small inv start (Values call) at s b fresh is =
+      of_step en kinds.TheVariants.Queue scene inv start (Values call) is.1 (value_step en law scene small inv start call at (fresh_ring en scene.core.write of_values call fresh) s b (ap (pending_at scene.core.read) is.0))
+  step_moves IndexQueue scene small inv start (Overflow call) at s b fresh is = absurd at
+  step_moves kinds.TheVariants.Overflow scene small inv start (Overflow call) at s b fresh is = overflow_step en scene small inv start call at s b fresh is
+  step_moves kinds.TheVariants.Queue scene small inv start (Overflow call) at s b fresh is = absurd at
+  step_moves kd scene small inv start (Length which call) at s b fresh is =
       of_step en kd scene inv start (Length which call) is.1 (length_step en kd scene small inv start which call at s b (ap (pending_at scene.core.read) is.0))
 
 -- ---- the laws of the family
@@ -201,7 +221,88 @@ begins_own IndexQueue c kept start flight e = absurd (cc)
 begins_own kinds.TheVariants.Overflow c kept start flight e = absurd (cc)
 begins_own kinds.TheVariants.Queue c kept start flight e = absurd (cc)
 
-module _ {T : Type 0} (en : Coding T) (law : IsCoding en) (kd : QueueKind) (c : ℕ) (t : Trace T) (s : frame.Sound (family en kd c) t) (small : t.world.turns < 2 ^ 64 - 2) (p : ℕ) where
+-- a push loads the write position first
+module _ {T : Type 0} (z : Coding T) where
+  fresh_there : (words : List ℕ) (flight : QueueFlight T) → IsFreshAt {T = T} (old_of words (ask_of (want z flight))) flight → IsFreshAt {T = T} (get_or words 0 0) flight
+  fresh_there words (Role call) h = tt
+  fresh_there words (Indices (rings.TheVariants.Push run)) h = go run.call.stage h
+    where
+      go : (stage : pushes.PushStage) → IsFresh (old_of words (ask_of (push_asks words_of_index stage run.given))) stage → IsFresh (get_or words 0 0) stage
+      go pushes.TheVariants.LoadsWrite h = h
+      go (pushes.TheVariants.LoadsRead w) h = tt
+      go (pushes.TheVariants.StoresCell w cell at) h = tt
+      go (pushes.TheVariants.StoresWrite w) h = tt
+  fresh_there words (Indices (rings.TheVariants.Pop run)) h = tt
+  fresh_there words (Values (rings.TheVariants.Push run)) h = go run.call.stage h
+    where
+      go : (stage : pushes.PushStage) → IsFresh (old_of words (ask_of (push_asks z.words_of stage run.given))) stage → IsFresh (get_or words 0 0) stage
+      go pushes.TheVariants.LoadsWrite h = h
+      go (pushes.TheVariants.LoadsRead w) h = tt
+      go (pushes.TheVariants.StoresCell w cell at) h = tt
+      go (pushes.TheVariants.StoresWrite w) h = tt
+  fresh_there words (Values (rings.TheVariants.Pop run)) h = tt
+  fresh_there words (Overflow (overflows.TheVariants.Push run)) h = go run.call.stage h
+    where
+      go : (stage : overflow_pushes.PushStage) → IsFreshOver (old_of words (ask_of (want z (Overflow (overflow_push_at run.call.capacity run.given run.room stage))))) stage → IsFreshOver (get_or words 0 0) stage
+      go overflow_pushes.TheVariants.HandsBack h = tt
+      go overflow_pushes.TheVariants.LoadsWrite h = h
+      go (overflow_pushes.TheVariants.LoadsRead w) h = tt
+      go (overflow_pushes.TheVariants.StoresCell w read) h = tt
+      go (overflow_pushes.TheVariants.StoresWrite w read) h = tt
+      go (overflow_pushes.TheVariants.MovesRead read) h = tt
+      go (overflow_pushes.TheVariants.LoadsCell read) h = tt
+  fresh_there words (Overflow (overflows.TheVariants.Pop run)) h = tt
+  fresh_there words (Length which run) h = tt
+
+  fresh_asked : (words : List ℕ) (flight : QueueFlight T) → IsFreshAt {T = T} (get_or words 0 0) flight → IsFreshAt {T = T} (old_of words (ask_of (want z flight))) flight
+  fresh_asked words (Role call) h = tt
+  fresh_asked words (Indices (rings.TheVariants.Push run)) h = go run.call.stage h
+    where
+      go : (stage : pushes.PushStage) → IsFresh (get_or words 0 0) stage → IsFresh (old_of words (ask_of (push_asks words_of_index stage run.given))) stage
+      go pushes.TheVariants.LoadsWrite h = h
+      go (pushes.TheVariants.LoadsRead w) h = tt
+      go (pushes.TheVariants.StoresCell w cell at) h = tt
+      go (pushes.TheVariants.StoresWrite w) h = tt
+  fresh_asked words (Indices (rings.TheVariants.Pop run)) h = tt
+  fresh_asked words (Values (rings.TheVariants.Push run)) h = go run.call.stage h
+    where
+      go : (stage : pushes.PushStage) → IsFresh (get_or words 0 0) stage → IsFresh (old_of words (ask_of (push_asks z.words_of stage run.given))) stage
+      go pushes.TheVariants.LoadsWrite h = h
+      go (pushes.TheVariants.LoadsRead w) h = tt
+      go (pushes.TheVariants.StoresCell w cell at) h = tt
+      go (pushes.TheVariants.StoresWrite w) h = tt
+  fresh_asked words (Values (rings.TheVariants.Pop run)) h = tt
+  fresh_asked words (Overflow (overflows.TheVariants.Push run)) h = go run.call.stage h
+    where
+      go : (stage : overflow_pushes.PushStage) → IsFreshOver (get_or words 0 0) stage → IsFreshOver (old_of words (ask_of (want z (Overflow (overflow_push_at run.call.capacity run.given run.room stage))))) stage
+      go overflow_pushes.TheVariants.HandsBack h = tt
+      go overflow_pushes.TheVariants.LoadsWrite h = h
+      go (overflow_pushes.TheVariants.LoadsRead w) h = tt
+      go (overflow_pushes.TheVariants.StoresCell w read) h = tt
+      go (overflow_pushes.TheVariants.StoresWrite w read) h = tt
+      go (overflow_pushes.TheVariants.MovesRead read) h = tt
+      go (overflow_pushes.TheVariants.LoadsCell read) h = tt
+  fresh_asked words (Overflow (overflows.TheVariants.Pop run)) h = tt
+  fresh_asked words (Length which run) h = tt
+
+  fresh_any : (words : List ℕ) (flight : Flight T) → IsFreshCall (get_or words 0 0) flight → IsFreshCall (old_of words (ask_of (want_of z flight))) flight
+  fresh_any words (flights.TheVariants.Queues flight) h = fresh_asked words flight h
+  fresh_any words flight h = tt
+
+-- the turn is no push that finds the last position by its first load
+abbrev pub IsFreshTurn : {T : Type 0} → Trace T → Turn T → Type 0
+IsFreshTurn {T} t (Next p) = (flight : Flight T) → flight_in t.world p ≡ Some flight → IsFreshCall (old_of t.world.words (ask_of (want_of t.world.coding flight))) flight
+IsFreshTurn t turn = Unit {0}
+
+module _ {T : Type 0} (en : Coding T) (law : IsCoding en) (kd : QueueKind) (c : ℕ) (t : Trace T) (s : frame.Sound (family en kd c) t) where
+  pub write_is : get_or t.world.words 0 0 ≡ s.state.core.write
+  write_is = ap (λ ws. get_or ws 0 0) (kept_is t.world.kept t.world.words s.state s.fit).1
+
+  -- few turns are few positions
+  pub few_turns : t.world.turns < 2 ^ 64 - 2 → (p : ℕ) → IsFreshTurn t (Next p)
+  few_turns small p flight here = fresh_any t.world.coding t.world.words flight (any_fresh (get_or t.world.words 0 0) flight (let low = s.holds.reached in let is = write_is in omega arith))
+
+module _ {T : Type 0} (en : Coding T) (law : IsCoding en) (kd : QueueKind) (c : ℕ) (t : Trace T) (s : frame.Sound (family en kd c) t) (p : ℕ) where
   abbrev pub scene_of : Party T → ℕ → Scene T kd
   scene_of x since =
       record {
@@ -223,21 +324,21 @@ module _ {T : Type 0} (en : Coding T) (law : IsCoding en) (kd : QueueKind) (c : 
 
   module _ (x : Party T) (since : ℕ) where
     -- what its step comes to where the words, what is kept, and the call's name are these
-    comes : (start : Start T) (flight : Flight T) → StandsThere (family en kd c) t s p x since start flight → ComesFrom (family en kd c) t s p x since en (layout s.state.roles s.state.core) (kepts.TheVariants.Queues s.state.roles) start flight
-    comes (Queues start) (flights.TheVariants.Queues flight) here =
-        let moves = step_moves en law kd (scene_of x since) small (inv_of x since) start flight here.at here.steps here.knows (here.found, here.span) in
+    comes : IsFreshTurn t (Next p) → (start : Start T) (flight : Flight T) → StandsThere (family en kd c) t s p x since start flight → ComesFrom (family en kd c) t s p x since en (layout s.state.roles s.state.core) (kepts.TheVariants.Queues s.state.roles) start flight
+    comes fresh (Queues start) (flights.TheVariants.Queues flight) here =
+        let moves = step_moves en law kd (scene_of x since) s.holds.within (inv_of x since) start flight here.at here.steps here.knows (subst (λ n. IsFreshAt n flight) (write_is en law kd c t s) (fresh_there t.world.coding t.world.words flight (fresh (flights.TheVariants.Queues flight) here.found))) (here.found, here.span) in
         record {
           state = record { roles = _; core = moves.0 };
           fit = (moves.1, refl);
           holds = holds_more en kd (scene_of x since) _ moves.0 _ _ _ s.holds moves.2;
           owes = moves.3;
         }
-    comes start flight here = absurd here.at
+    comes fresh start flight here = absurd here.at
 
-    pub step_comes : (flight : Flight T) → party_of p t.world.latest ≡ Some x → x.doing ≡ Going flight since → frame.ComesByStep (family en kd c) t p x flight since (asked t.world.coding flight) (old_of t.world.words (asked t.world.coding flight))
-    step_comes flight found doing =
+    pub step_comes : IsFreshTurn t (Next p) → (flight : Flight T) → party_of p t.world.latest ≡ Some x → x.doing ≡ Going flight since → frame.ComesByStep (family en kd c) t p x flight since (asked t.world.coding flight) (old_of t.world.words (asked t.world.coding flight))
+    step_comes fresh flight found doing =
         let is = kept_is t.world.kept t.world.words s.state s.fit in
-        comes_from (family en kd c) t s p x since (layout s.state.roles s.state.core) (kepts.TheVariants.Queues s.state.roles) flight is.1 is.0 (comes x.start flight (stands_there (family en kd c) t s p x since flight found doing))
+        comes_from (family en kd c) t s p x since (layout s.state.roles s.state.core) (kepts.TheVariants.Queues s.state.roles) flight is.1 is.0 (comes fresh x.start flight (stands_there (family en kd c) t s p x since flight found doing))
 
   -- ---- a call begins
 
@@ -265,6 +366,7 @@ module _ {T : Type 0} (en : Coding T) (law : IsCoding en) (kd : QueueKind) (c : 
         answers = refl;
         up = record { write = omega arith; read = omega arith; paid = omega arith };
         reached = omega arith;
+        within = s.holds.within;
         own = (refl, tt);
         stands = (frame.shut (family en kd c) s.state p (party_of p t.world.latest) (span_of p t.events) free (s.inv.calls p), tt);
         here = record { span = ap (λ es. Open (Queues start) es) (sym first.wrote); steps = omega arith; at = first.at };
@@ -322,19 +424,30 @@ small_enough : (c : ℕ) (b : Bool) → nat_lt (2 ^ 32 - 1) c ≡ b → (rest : 
 small_enough c true t rest e = absurd (cc)
 small_enough c false t rest e = grind (arith, nat_tests)
 
-admitted_fits : (kd : QueueKind) (c : ℕ) → capacity_error (machine_kind kd) c ≡ None → c < 2 ^ 32
+pub admitted_fits : (kd : QueueKind) (c : ℕ) → capacity_error (machine_kind kd) c ≡ None → c < 2 ^ 32
 admitted_fits IndexQueue c e = small_enough c (nat_lt (2 ^ 32 - 1) c) refl _ e
 admitted_fits kinds.TheVariants.Overflow c e = small_enough c (nat_lt (2 ^ 32 - 1) c) refl _ e
 admitted_fits kinds.TheVariants.Queue c e = small_enough c (nat_lt (2 ^ 32 - 1) c) refl _ e
 
 module _ {T : Type 0} (en : Coding T) (law : IsCoding en) where
+  pub fresh_laws : (kd : QueueKind) (c : ℕ) → LawsAt (family {T = T} en kd c) IsFreshTurn
+  fresh_laws kd c =
+      record {
+        step = λ t p x flight since s fresh passed found doing. step_comes en law kd c t s p x since fresh flight found doing;
+        decision = λ t p x flight since said s small passed found doing asks. asks_nothing en kd c t p x flight since s found doing asks;
+        begin = λ t p start flight s fresh may e. begin_comes en law kd c t s p start flight may e;
+        death = frame.no_death (family en kd c) (λ kept words state fit. rw (kept_is kept words state fit).0 refl);
+      }
+
+  -- those of a machine that can take a turn more
   pub laws : (kd : QueueKind) (c : ℕ) → frame.Laws (family {T = T} en kd c)
   laws kd c =
+      let on = fresh_laws kd c in
       record {
-        step = λ t p x flight since s small passed found doing. step_comes en law kd c t s small p x since flight found doing;
-        decision = λ t p x flight since said s small passed found doing asks. asks_nothing en kd c t p x flight since s found doing asks;
-        begin = λ t p start flight s small may e. begin_comes en law kd c t s small p start flight may e;
-        death = frame.no_death (family en kd c) (λ kept words state fit. rw (kept_is kept words state fit).0 refl);
+        step = λ t p x flight since s small passed found doing. on.step t p x flight since s (few_turns en law kd c t s small p) passed found doing;
+        decision = λ t p x flight since said s small passed found doing asks. on.decision t p x flight since said s tt passed found doing asks;
+        begin = λ t p start flight s small may e. on.begin t p start flight s tt may e;
+        death = on.death;
       }
 
   empty : (kd : QueueKind) (c : ℕ) → (list_of {T = T} kd c).opening ≡ listed kd c []
@@ -342,7 +455,7 @@ module _ {T : Type 0} (en : Coding T) (law : IsCoding en) where
   empty kinds.TheVariants.Overflow c = sym (ap (map (item kinds.TheVariants.Overflow)) (take-nil {A = ℕ} c))
   empty kinds.TheVariants.Queue c = refl
 
-  opening_sound : (kd : QueueKind) (c parties : ℕ) → c < 2 ^ 32 → frame.Sound (family en kd c) (opening en (machine_kind kd) c parties)
+  pub opening_sound : (kd : QueueKind) (c parties : ℕ) → c < 2 ^ 32 → frame.Sound (family en kd c) (opening en (machine_kind kd) c parties)
   opening_sound kd c parties fits =
       let k : Core (Val T kd) = empty_core en kd c in
       record {
@@ -372,6 +485,7 @@ module _ {T : Type 0} (en : Coding T) (law : IsCoding en) where
               lengths = Each-nil _;
               grants = Each-nil _;
               reached = omega arith;
+              within = omega arith;
             };
         inv = record { spans = Each-nil _; calls = λ p. refl; knows = λ p. tt };
       }
@@ -389,3 +503,45 @@ reached_sound kd t is r =
     frame.reached_sound (family w.coding kd w.capacity) (laws w.coding r.coded kd w.capacity) t (ap is_loan is ∙ no_loan kd)
     (subst (λ kind. frame.Sound (family w.coding kd w.capacity) (opening w.coding kind w.capacity w.parties)) (sym is) first)
     r
+
+-- ---- where turns have no bound, and no push finds the last position
+
+-- some turns lead here from the opening, none of which is a push that finds the last position
+pub record IsFreshRun {T : Type 0} (t : Trace T) : Type 0 where
+  pub turns : List (Turn T)
+  pub is : t ≡ run_on turns (opening t.world.coding t.world.kind t.world.capacity t.world.parties)
+  pub fresh : AllMay IsFreshTurn turns (opening t.world.coding t.world.kind t.world.capacity t.world.parties)
+
+module _ {T : Type 0} where
+  run_more : (turns : List (Turn T)) (turn : Turn T) (t : Trace T) → run_on (turns ++ turn ∷ []) t ≡ attempt_on (run_on turns t) turn
+  run_more [] turn t = refl
+  run_more (x ∷ xs) turn t = run_more xs turn (attempt_on t x)
+
+  may_more : (turns : List (Turn T)) (turn : Turn T) (t : Trace T) → AllMay IsFreshTurn turns t → IsFreshTurn (run_on turns t) turn → AllMay IsFreshTurn (turns ++ turn ∷ []) t
+  may_more [] turn t all one = (λ e. one, tt)
+  may_more (x ∷ xs) turn t all one = (all.0, may_more xs turn (attempt_on t x) all.1 one)
+
+  pub fresh_more : (t : Trace T) (turn : Turn T) → call_refusal t.world turn ≡ None → IsFreshTurn t turn → IsFreshRun t → IsFreshRun (after_turn t turn)
+  fresh_more t turn e one r =
+      let w = t.world in
+      let making = turn_making t.world turn in
+      let first = opening w.coding w.kind w.capacity w.parties in
+      let same : attempt_on t turn ≡ after_turn t turn = ap (unless_refused t (after_turn t turn)) e in
+      let more : after_turn t turn ≡ run_on (r.turns ++ turn ∷ []) first = sym same ∙ (ap (λ u. attempt_on u turn) r.is ∙ sym (run_more r.turns turn first)) in
+      record {
+        turns = r.turns ++ turn ∷ [];
+        is = rw (making.coding, making.kind, making.capacity, making.parties) more;
+        fresh = rw (making.coding, making.kind, making.capacity, making.parties) (may_more r.turns turn first r.fresh (subst (λ z. IsFreshTurn z turn) r.is one));
+      }
+
+  pub fresh_opening : (code : Coding T) (kind : Kind) (capacity parties : ℕ) → IsFreshRun (opening code kind capacity parties)
+  fresh_opening code kind capacity parties = record { turns = []; is = refl; fresh = tt }
+
+pub sound_on : {T : Type 0} (kd : QueueKind) (t : Trace T) → t.world.kind ≡ machine_kind kd → IsCoding t.world.coding → capacity_error t.world.kind t.world.capacity ≡ None → IsFreshRun t → frame.Sound (family t.world.coding kd t.world.capacity) t
+sound_on kd t is coded admits r =
+    let w = t.world in
+    let admitted : capacity_error (machine_kind kd) w.capacity ≡ None = subst (λ kind. capacity_error kind w.capacity ≡ None) is admits in
+    let first = opening_sound w.coding coded kd w.capacity w.parties (admitted_fits kd w.capacity admitted) in
+    subst (frame.Sound (family w.coding kd w.capacity)) (sym r.is)
+    (run_sound (family w.coding kd w.capacity) IsFreshTurn (fresh_laws w.coding coded kd w.capacity) r.turns (opening w.coding w.kind w.capacity w.parties) r.fresh
+    (subst (λ kind. frame.Sound (family w.coding kd w.capacity) (opening w.coding kind w.capacity w.parties)) (sym is) first))

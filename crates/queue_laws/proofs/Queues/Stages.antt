@@ -128,7 +128,7 @@ module _ {T : Type 0} (en : Coding T) (kd : QueueKind) (scene : Scene T kd) wher
   abbrev pub IsCalm : ℕ → Type 0
   IsCalm position = pending_at position (flight_of (doing_of (party_of p scene.latest))) ≡ None
 
-  module _ (inv : Inv en kd scene) (small : scene.turns < 2 ^ 64 - 2) where
+  module _ (inv : Inv en kd scene) (small : scene.core.write < 2 ^ 64) where
     -- none is pending before or after, and the queue stays
     pub still_hangs : (k' : Core (Val T kd)) (y : Party T) → k'.waiting ≡ k.waiting → k'.read ≡ k.read → pending_at k.read (flight_of (Some y.doing)) ≡ None → IsCalm k.read
         → Hangs T kd c k' (pending k'.read ro.producer (put p y scene.latest))
@@ -163,6 +163,7 @@ module _ {T : Type 0} (en : Coding T) (kd : QueueKind) (scene : Scene T kd) wher
             answers = refl;
             up = record { write = omega arith; read = omega arith; paid = omega arith };
             reached = omega arith;
+            within = omega arith;
             own = tt;
             stands = tt;
             here = here;
@@ -195,6 +196,7 @@ module _ {T : Type 0} (en : Coding T) (kd : QueueKind) (scene : Scene T kd) wher
           answers = refl;
           up = record { write = omega arith; read = omega arith; paid = omega arith };
           reached = omega arith;
+          within = omega arith;
           own = (refl, tt);
           stands = ((refl, wrote), tt);
           here = record { answer = answer; wrote = []; span = refl; steps = most };

@@ -1,5 +1,5 @@
 -- What a push and a pop of the bounded queue know where they stand. V is the type of the values, R of the rooms.
-use Rattle.std.proofs.Common.{◌≡◌, ℕ, ◌+◌, ◌<◌, ◌≤◌, Some, List, ◌∷◌, length, get_or}
+use Rattle.std.proofs.Common.{◌≡◌, ℕ, ◌+◌, ◌-◌, ◌^◌, ◌<◌, ◌≤◌, Some, List, ◌∷◌, length, get_or}
 use Rattle.steps.specs.Copied.{value_in}
 use Rattle.steps.specs.declared.queues.ring.PushStage as pushes
 use Rattle.steps.specs.declared.queues.ring.PopStage as pops
@@ -25,12 +25,12 @@ module _ {V R : Type 0} where
 module _ {V : Type 0} (en : Coding V) where
   abbrev pub KnowsPush : ℕ → Core V → V → pushes.PushStage → Type 0
   KnowsPush c k v pushes.TheVariants.LoadsWrite = Unit {0}
-  KnowsPush c k v (pushes.TheVariants.LoadsRead write) = write ≡ k.write
+  KnowsPush c k v (pushes.TheVariants.LoadsRead write) = (write ≡ k.write) × (k.write < 2 ^ 64 - 1)
   KnowsPush c k v (pushes.TheVariants.StoresCell write cell at) =
       (write ≡ k.write) × (length k.waiting < c) × (cell ≡ cell_word c en.size k.write) × (at < en.size)
-      × Holds en.size en.words_of c k.cells k.write v at
+      × Holds en.size en.words_of c k.cells k.write v at × (k.write < 2 ^ 64 - 1)
   KnowsPush c k v (pushes.TheVariants.StoresWrite write) =
-      (write ≡ k.write) × (length k.waiting < c) × Holds en.size en.words_of c k.cells k.write v en.size
+      (write ≡ k.write) × (length k.waiting < c) × Holds en.size en.words_of c k.cells k.write v en.size × (k.write < 2 ^ 64 - 1)
 
   -- the words of the front value that are loaded so far; once all are, the room has that value
   abbrev pub KnowsPop : ℕ → Core V → List ℕ → pops.PopStage → Type 0
@@ -42,6 +42,11 @@ module _ {V : Type 0} (en : Coding V) where
       × ((i : ℕ) → i < at → get_or room i 0 ≡ get_or (en.words_of v) i 0)
   KnowsPop c k room (pops.TheVariants.StoresRead read) =
       (rest : List V) × (read ≡ k.read) × (k.waiting ≡ value_in en.value_of en.size room ∷ rest)
+
+-- a push that is to load the write position does not find the last
+abbrev pub IsFresh : ℕ → pushes.PushStage → Type 0
+IsFresh write pushes.TheVariants.LoadsWrite = write < 2 ^ 64 - 1
+IsFresh write stage = Unit {0}
 
 -- how many steps the call has taken at most, where a value has so many words
 abbrev pub push_number : ℕ → pushes.PushStage → ℕ

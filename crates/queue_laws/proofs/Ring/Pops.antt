@@ -79,13 +79,13 @@ module _ {V : Type 0} (en : Coding V) (law : IsCoding en) where
   take_keeps c k v rest is w (pushes.TheVariants.StoresCell write cell at) h =
       let long : length k.waiting ≡ suc (length rest) = ap length is in
       let room = h.1 in
-      (h.0, omega arith, h.2, h.3, h.4)
+      (h.0, omega arith, h.2, h.3, h.4, h.5)
   take_keeps c k v rest is w (pushes.TheVariants.StoresWrite write) h =
       let long : length k.waiting ≡ suc (length rest) = ap length is in
       let room = h.1 in
-      (h.0, omega arith, h.2)
+      (h.0, omega arith, h.2, h.3)
 
-module _ {T : Type 0} (en : Coding T) (r : Ring) (law : IsCoding en) (scene : Scene T (kind_of r)) (inv : Inv en (kind_of r) scene) (small : scene.turns < 2 ^ 64 - 2) (before : IsCalm en (kind_of r) scene scene.core.read) (room : Room r) (holds : scene.roles.consumer ≡ Some scene.party) (b : scene.backs ≡ 0) where
+module _ {T : Type 0} (en : Coding T) (r : Ring) (law : IsCoding en) (scene : Scene T (kind_of r)) (inv : Inv en (kind_of r) scene) (small : scene.core.write < 2 ^ 64) (before : IsCalm en (kind_of r) scene scene.core.read) (room : Room r) (holds : scene.roles.consumer ≡ Some scene.party) (b : scene.backs ≡ 0) where
   open scene use {capacity as c, roles as ro, core as k, party as p, steps, backs, since, changes, events}
 
   abbrev size : ℕ
@@ -162,6 +162,7 @@ module _ {T : Type 0} (en : Coding T) (r : Ring) (law : IsCoding en) (scene : Sc
           up = record { write = omega arith; read = omega arith; paid = omega arith };
           others = λ q ne st f h. (h, refl);
           reached = omega arith;
+          within = omega arith;
         },
       )
 
@@ -300,6 +301,7 @@ module _ {T : Type 0} (en : Coding T) (r : Ring) (law : IsCoding en) (scene : Sc
           up = record { write = omega arith; read = omega arith; paid = omega arith };
           others = λ q ne. kept ro ro q (λ h. h) (λ h. h) en c (kind_of r) k after (ring_keeps en r c ro k after q (record { push = λ mine w stage h. take_keeps (encoded en (kind_of r)) lawful c k v rest is w stage h; pop = λ mine other stage h. absurd (clash ro.consumer p q ne holds mine) }));
           reached = omega arith;
+          within = omega arith;
         },
       )
 

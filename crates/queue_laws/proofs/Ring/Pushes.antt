@@ -37,7 +37,7 @@ use Rattle.queue_laws.proofs.Queues.Knows.{free, layout, has_written, At}
 use Rattle.queue_laws.proofs.Queues.Stages.{IsCalm, or_true, or_false, cell_asked, asked_place, Leaves, DoesStep, quiet}
 use Rattle.queue_laws.proofs.Queues.Values.{Val, encoded, item}
 use Rattle.queue_laws.proofs.Ring.Kinds.{Ring, kind_of, Room, flight, push, ring_want, ring_after, ring_effect, are_words, calm, wrote_none, knows, number, push_here, ring_keeps, none_hangs, cells_are, list_after_push, list_answers_push, listed_is, push_roles, push_grants, push_tells, push_producer, push_consumer, false_is_right, true_is_right, named, wrote_false, wrote_true, most_push}
-use Rattle.queue_laws.proofs.Ring.Knows.{push_at, KnowsPush, KnowsPop, push_number}
+use Rattle.queue_laws.proofs.Ring.Knows.{push_at, IsFresh, KnowsPush, KnowsPop, push_number}
 
 module _ {V : Type 0} (en : Coding V) (c : ℕ) (k : Core V) where
   -- a store into a cell keeps what a pop knows
@@ -54,7 +54,7 @@ module _ {V : Type 0} (en : Coding V) (c : ℕ) (k : Core V) where
   publish_keeps w room (pops.TheVariants.LoadsCell read cell place) h = (h.0, h.1, h.2 ++ w ∷ [], h.3, ap (λ xs. xs ++ w ∷ []) h.4, h.5, h.6, h.7)
   publish_keeps w room (pops.TheVariants.StoresRead read) h = (h.0 ++ w ∷ [], h.1, ap (λ xs. xs ++ w ∷ []) h.2)
 
-module _ {T : Type 0} (en : Coding T) (r : Ring) (law : IsCoding en) (scene : Scene T (kind_of r)) (inv : Inv en (kind_of r) scene) (small : scene.turns < 2 ^ 64 - 2) (before : IsCalm en (kind_of r) scene scene.core.read) (v : Val T (kind_of r)) (holds : scene.roles.producer ≡ Some scene.party) (b : scene.backs ≡ 0) where
+module _ {T : Type 0} (en : Coding T) (r : Ring) (law : IsCoding en) (scene : Scene T (kind_of r)) (inv : Inv en (kind_of r) scene) (small : scene.core.write < 2 ^ 64) (before : IsCalm en (kind_of r) scene scene.core.read) (v : Val T (kind_of r)) (holds : scene.roles.producer ≡ Some scene.party) (b : scene.backs ≡ 0) where
   open scene use {capacity as c, roles as ro, core as k, party as p, steps, backs, since, changes, events}
 
   abbrev kd : QueueKind
@@ -106,13 +106,12 @@ module _ {T : Type 0} (en : Coding T) (r : Ring) (law : IsCoding en) (scene : Sc
       (knows r c k' p events (since + change_of (layout ro k) ask) (changes + change_of (layout ro k) ask) (backs + 0) (at stage) (omega arith))
       others)
 
-  loads_write : steps ≤ 0 → DoesOf pushes.TheVariants.LoadsWrite
-  loads_write s =
-      let reached = inv.queue.reached in
+  loads_write : k.write < 2 ^ 64 - 1 → steps ≤ 0 → DoesOf pushes.TheVariants.LoadsWrite
+  loads_write fresh s =
       let t : (k.write == 2 ^ 64 - 1) ≡ false = grind (arith, nat_tests) in
       let goes : ring_after en r (at pushes.TheVariants.LoadsWrite) k.write ≡ GoOn (flight r (at (pushes.TheVariants.LoadsRead k.write))) = rw t refl in
       subst (λ a. Does (Some load_of_write) a Quiet) (sym goes)
-      (goes_on (Some load_of_write) (pushes.TheVariants.LoadsRead k.write) k refl refl refl g refl refl (omega arith) (λ q ne st f h. (h, refl)))
+      (goes_on (Some load_of_write) (pushes.TheVariants.LoadsRead k.write) k refl refl refl g refl (refl, fresh) (omega arith) (λ q ne st f h. (h, refl)))
 
   -- how far the read position is behind, as the push computes it
   behind : distance k.write k.read ≡ length k.waiting
@@ -171,14 +170,15 @@ module _ {T : Type 0} (en : Coding T) (r : Ring) (law : IsCoding en) (scene : Sc
           up = record { write = omega arith; read = omega arith; paid = omega arith };
           others = λ q ne st f h. (h, refl);
           reached = omega arith;
+          within = omega arith;
         },
       )
 
   abbrev stores_cell : ℕ → pushes.PushStage
   stores_cell i = pushes.TheVariants.StoresCell k.write (cell_word c size k.write) i
 
-  loads_read : steps ≤ 1 → DoesOf (pushes.TheVariants.LoadsRead k.write)
-  loads_read s = go (c == 0 || distance k.write k.read == c) refl
+  loads_read : k.write < 2 ^ 64 - 1 → steps ≤ 1 → DoesOf (pushes.TheVariants.LoadsRead k.write)
+  loads_read fresh s = go (c == 0 || distance k.write k.read == c) refl
     where
       go : (t : Bool) → (c == 0 || distance k.write k.read == c) ≡ t → DoesOf (pushes.TheVariants.LoadsRead k.write)
       go true t =
@@ -188,11 +188,11 @@ module _ {T : Type 0} (en : Coding T) (r : Ring) (law : IsCoding en) (scene : Sc
           let goes : ring_after en r (at (pushes.TheVariants.LoadsRead k.write)) k.read ≡ GoOn (flight r (at (stores_cell 0))) = rw t refl in
           let some = lawful.some in
           subst (λ a. Does (Some load_of_read) a Acts) (sym goes)
-          (goes_on (Some load_of_read) (stores_cell 0) k refl refl refl g refl (refl, room t, refl, omega arith, λ i h. absurd (omega arith)) (omega arith) (λ q ne st f h. (h, refl)))
+          (goes_on (Some load_of_read) (stores_cell 0) k refl refl refl g refl (refl, room t, refl, omega arith, (λ i h. absurd (omega arith)), fresh) (omega arith) (λ q ne st f h. (h, refl)))
 
   -- the words stored so far are those of the value
-  stores_word : (i : ℕ) → length k.waiting < c → i < size → Holds size words_of c k.cells k.write v i → steps ≤ 2 + i → DoesOf (stores_cell i)
-  stores_word i room below so_far s = go (nat_lt (i + 1) size) refl
+  stores_word : k.write < 2 ^ 64 - 1 → (i : ℕ) → length k.waiting < c → i < size → Holds size words_of c k.cells k.write v i → steps ≤ 2 + i → DoesOf (stores_cell i)
+  stores_word fresh i room below so_far s = go (nat_lt (i + 1) size) refl
     where
       word : ℕ
       word = get_or (words_of v) i 0
@@ -223,15 +223,15 @@ module _ {T : Type 0} (en : Coding T) (r : Ring) (law : IsCoding en) (scene : Sc
           let goes : ring_after en r (at (stores_cell i)) (get_or (layout ro k) (cell_asked size c k.write i) 0) ≡ GoOn (flight r (at (stores_cell (i + 1)))) = rw t refl in
           let further : i + 1 < size = grind (arith, nat_tests) in
           subst (λ a. Does ask a Quiet) (sym goes)
-          (goes_on ask (stores_cell (i + 1)) next refl refl refl good words (refl, room, refl, further, more) (omega arith) others)
+          (goes_on ask (stores_cell (i + 1)) next refl refl refl good words (refl, room, refl, further, more, fresh) (omega arith) others)
       go false t =
           let goes : ring_after en r (at (stores_cell i)) (get_or (layout ro k) (cell_asked size c k.write i) 0) ≡ GoOn (flight r (at (pushes.TheVariants.StoresWrite k.write))) = rw t refl in
           let last : size ≡ i + 1 = (let over : size ≤ i + 1 = grind (arith, nat_tests) in omega arith) in
           subst (λ a. Does ask a Quiet) (sym goes)
-          (goes_on ask (pushes.TheVariants.StoresWrite k.write) next refl refl refl good words (refl, room, subst (λ n. Holds size words_of c next.cells next.write v n) (sym last) more) (omega arith) others)
+          (goes_on ask (pushes.TheVariants.StoresWrite k.write) next refl refl refl good words (refl, room, subst (λ n. Holds size words_of c next.cells next.write v n) (sym last) more, fresh) (omega arith) others)
 
-  stores_write : length k.waiting < c → Holds size words_of c k.cells k.write v size → steps ≤ 2 + size → DoesOf (pushes.TheVariants.StoresWrite k.write)
-  stores_write room whole s =
+  stores_write : k.write < 2 ^ 64 - 1 → length k.waiting < c → Holds size words_of c k.cells k.write v size → steps ≤ 2 + size → DoesOf (pushes.TheVariants.StoresWrite k.write)
+  stores_write fresh room whole s =
       let reached = inv.queue.reached in
       let long : length (items k.waiting) ≡ length k.waiting = length-map k.waiting (item (kind_of r)) in
       let t : nat_lt (length (items k.waiting)) c ≡ true = grind (arith, nat_tests) in
@@ -270,15 +270,16 @@ module _ {T : Type 0} (en : Coding T) (r : Ring) (law : IsCoding en) (scene : Sc
           up = record { write = omega arith; read = omega arith; paid = omega arith };
           others = λ q ne. kept ro ro q (λ h. h) (λ h. h) en c (kind_of r) k after (ring_keeps en r c ro k after q (record { push = λ mine w stage h. absurd (clash ro.producer p q ne holds mine); pop = λ mine other stage h. publish_keeps (encoded en (kind_of r)) c k v other stage h }));
           reached = omega arith;
+          within = omega arith;
         },
       )
 
-  pub push_step : (stage : pushes.PushStage) → KnowsPush (encoded en (kind_of r)) c k v stage → steps ≤ push_number size stage → DoesOf stage
-  push_step pushes.TheVariants.LoadsWrite known s = loads_write s
-  push_step (pushes.TheVariants.LoadsRead write) known s = subst (λ w. DoesOf (pushes.TheVariants.LoadsRead w)) (sym known) (loads_read s)
-  push_step (pushes.TheVariants.StoresCell write cell i) known s =
+  pub push_step : (stage : pushes.PushStage) → IsFresh k.write stage → KnowsPush (encoded en (kind_of r)) c k v stage → steps ≤ push_number size stage → DoesOf stage
+  push_step pushes.TheVariants.LoadsWrite fresh known s = loads_write fresh s
+  push_step (pushes.TheVariants.LoadsRead write) fresh known s = subst (λ w. DoesOf (pushes.TheVariants.LoadsRead w)) (sym known.0) (loads_read known.1 s)
+  push_step (pushes.TheVariants.StoresCell write cell i) fresh known s =
       subst (λ w. DoesOf (pushes.TheVariants.StoresCell w cell i)) (sym known.0)
       (subst (λ n. DoesOf (pushes.TheVariants.StoresCell k.write n i)) (sym known.2)
-      (stores_word i known.1 known.3 known.4 s))
-  push_step (pushes.TheVariants.StoresWrite write) known s =
-      subst (λ w. DoesOf (pushes.TheVariants.StoresWrite w)) (sym known.0) (stores_write known.1 known.2 s)
+      (stores_word known.5 i known.1 known.3 known.4 s))
+  push_step (pushes.TheVariants.StoresWrite write) fresh known s =
+      subst (λ w. DoesOf (pushes.TheVariants.StoresWrite w)) (sym known.0) (stores_write known.3 known.1 known.2 s)

@@ -1,0 +1,176 @@
+-- What the unique index set owes, from its laws.
+use Rattle.std.proofs.Common.{◌≡◌, ◌≢◌, ⊎_elim, ℕ, ◌+◌, ◌-◌, ◌^◌, ◌<◌, ◌≤◌, ◌==◌, nat_le, nat_lt, not, Bool, true, false, Option, Some, None, is_none, IfSome, List, [], ◌∷◌, ◌++◌, length, refl, sym, ap, subst, ◌∙◌, arith, sum_by, slice_index_or}
+use Rattle.std.proofs.lemmas.Bool.Decides.{nat_tests}
+use Rattle.steps.specs.declared.indices.enums.ReleaseMode.{ReleaseMode}
+use Rattle.steps.specs.declared.indices.enums.ReleaseState.TheVariants.{Locked}
+use Rattle.model.specs.declared.event.Answer.{Answer}
+use Rattle.model.specs.declared.event.Answer.TheVariants.{Index, State}
+use Rattle.model.specs.declared.event.Event.{Event}
+use Rattle.model.specs.declared.event.Start.{Start}
+use Rattle.model.specs.declared.event.Start.TheVariants.{Indices}
+use Rattle.model.specs.declared.families.Flight.{Flight}
+use Rattle.model.specs.declared.families.Flight as flights
+use Rattle.model.specs.declared.families.Kept.{Kept}
+use Rattle.model.specs.declared.families.Kept as kepts
+use Rattle.model.specs.declared.families.indices.IndexStart.{IndexStart}
+use Rattle.model.specs.declared.families.indices.IndexStart.TheVariants.{Acquire, Release}
+use Rattle.model.specs.declared.families.indices.calls.IndexFlight.{IndexFlight}
+use Rattle.model.specs.declared.party.Party.{Party}
+use Rattle.model.specs.declared.turn.Kind as kinds
+use Rattle.model.specs.declared.turn.Refusal.TheVariants.{NotHeld}
+use Rattle.model.specs.Coding.{Coding}
+use Rattle.model.specs.Families.{first_of, begin_rows, step_of, beside_of, after_of, going_rows}
+use Rattle.model.specs.Families.Indices.Calls.{after, first}
+use Rattle.model.specs.Families.Indices.Opening.{call_rows, kept_rows}
+use Rattle.model.specs.Families.Indices.Promises.{KeepsHolders, IsIndexSet}
+use Rattle.model.specs.Families.Indices.Reading.{holder_of}
+use Rattle.model.specs.Families.Indices.Steps.{ended, effects, frees, wrote}
+use Rattle.model.specs.Families.Queues.Opening.{holds}
+use Rattle.model.specs.Parties.{party_of}
+use Rattle.model.specs.Promises.{IsKeptBy}
+use Rattle.model.specs.Promises.Families.{promise_of}
+use Rattle.model.specs.Rows.{first_row}
+use Rattle.model.specs.Step.{answer_in}
+use Rattle.model.specs.Turns.{step_in}
+use Rattle.model.specs.World.{Trace}
+use Rattle.model.proofs.Frame as frame
+use Rattle.model.proofs.Scenes.{stands_there}
+use Rattle.index_laws.proofs.Core as core
+use Rattle.index_laws.proofs.Invariant.{IndexSet, Fit, FlightAt, family}
+use Rattle.index_laws.proofs.Kept.{kept_on}
+use Rattle.index_laws.proofs.Sound.{kept_is, reached_on_sound}
+use Rattle.history.specs.declared.view.View.{View}
+use Rattle.history.specs.Held.{Holds}
+use Rattle.history.specs.History.{IsRun, call_in}
+use Rattle.history.specs.Known.{owned}
+use Rattle.history.specs.Stages.{Starts, Calling}
+use Rattle.history.proofs.Calls.{stands}
+use Rattle.history.proofs.Held.{held_by}
+use Rattle.history.proofs.Known.{AreOf}
+use Rattle.history.proofs.Turns.{CallGoesOn, KindLaws}
+
+module _ {T : Type 0} where
+  -- what a step of a set's call writes
+  abbrev pub index_effects : ℕ → Flight T → ℕ → List (Event T)
+  index_effects p (flights.TheVariants.Indices flight) old = wrote p flight old
+  index_effects p flight old = []
+
+  ended_own : (p : ℕ) (o : Option (Answer T)) → AreOf p (ended p o)
+  ended_own p None = tt
+  ended_own p (Some (Index index)) = (refl, tt)
+  ended_own p (Some (State Locked)) = (refl, tt)
+  ended_own p (Some answer) = tt
+
+  effects_own : (p : ℕ) (freed : Option ℕ) (o : Option (Answer T)) → AreOf p (effects p freed o)
+  effects_own p (Some index) o = (refl, tt)
+  effects_own p None o = ended_own p o
+
+  -- the promise of the machine, whatever the number of turns
+  pub is_index_set : (t : Trace T) → t.world.kind ≡ kinds.TheVariants.Indices → Rattle.model.specs.Turns.IsReachedOn t → IsIndexSet t
+  is_index_set t is r = (subst (λ P. IsKeptBy P t) (ap (promise_of {T = T}) is) (kept_on t is r)).promised
+
+module _ {T : Type 0} (code : Coding T) (capacity : ℕ) where
+  abbrev IsIndices : Trace T → Type 0
+  IsIndices t = IsRun code kinds.TheVariants.Indices capacity t
+
+  sound : (t : Trace T) → IsIndices t → frame.Sound (family t.world.coding t.world.capacity) t
+  sound t r = reached_on_sound t r.of_kind r.reached
+
+  size : (t : Trace T) → IsIndices t → length t.world.words ≡ core.size capacity
+  size t r =
+      let s = sound t r in
+      ap length (kept_is t.world.kept t.world.words s.state s.fit).1 ∙ (s.holds.good.wide ∙ ap core.size r.sized)
+
+  no_rows : (z : Coding T) (c : ℕ) (kept : Kept T) (holders : List (Option ℕ)) (p : ℕ) (start : Start T) (flight : Flight T) → FlightAt c holders p start flight → first_row (going_rows z kept (Some flight) None) ≡ None
+  no_rows z c kept holders p (Indices start) (flights.TheVariants.Indices flight) at = refl
+  no_rows z c kept holders p start flight at = absurd at
+
+  writes_there : (z : Coding T) (words ws : List ℕ) (beside : Option (ℕ × ℕ)) (c p old : ℕ) (kept : Kept T) (s : IndexSet) (start : Start T) (flight : Flight T) → Fit kept ws s → FlightAt c s.holders p start flight
+      → (step_of z words beside p start flight old kept).wrote ≡ index_effects p flight old
+  writes_there z words ws beside c p old (kepts.TheVariants.Indices holders) s (Indices start) (flights.TheVariants.Indices flight) fit at = refl
+  writes_there z words ws beside c p old kept s (Indices start) (flights.TheVariants.Indices flight) fit at = absurd fit
+  writes_there z words ws beside c p old kept s start flight fit at = absurd at
+
+  goes_there : (z : Coding T) (words ws : List ℕ) (beside : Option (ℕ × ℕ)) (c p old : ℕ) (kept : Kept T) (s : IndexSet) (start : Start T) (flight : Flight T) → Fit kept ws s → FlightAt c s.holders p start flight
+      → (step_of z words beside p start flight old kept).after ≡ after_of z flight old
+  goes_there z words ws beside c p old (kepts.TheVariants.Indices holders) s (Indices start) (flights.TheVariants.Indices flight) fit at = refl
+  goes_there z words ws beside c p old kept s (Indices start) (flights.TheVariants.Indices flight) fit at = absurd fit
+  goes_there z words ws beside c p old kept s start flight fit at = absurd at
+
+  own_there : (c p old : ℕ) (holders : List (Option ℕ)) (start : Start T) (flight : Flight T) → FlightAt c holders p start flight → AreOf p (index_effects p flight old)
+  own_there c p old holders (Indices start) (flights.TheVariants.Indices flight) at = effects_own p (frees flight) (answer_in (after flight old))
+  own_there c p old holders start flight at = absurd at
+
+  goes_on : (t : Trace T) → IsIndices t → (p : ℕ) (start : Start T) (flight : Flight T) → call_in t.world p ≡ Some (start, flight) → CallGoesOn code kinds.TheVariants.Indices capacity (core.size capacity) index_effects t p flight
+  goes_on t r p start flight at =
+      let w = t.world in
+      let s = sound t r in
+      let here = stands w p start flight at in
+      let there = stands_there (family w.coding w.capacity) t s p here.x here.since flight here.found here.doing in
+      let mine : FlightAt w.capacity s.state.holders p here.x.start flight = there.at in
+      record {
+        may = no_rows w.coding w.capacity w.kept s.state.holders p here.x.start flight mine;
+        own = λ n. own_there w.capacity p n s.state.holders here.x.start flight mine;
+        writes = λ x n found. (
+            let same : here.x ≡ x = (let both : Some here.x ≡ Some x = sym here.found ∙ found in cc) in
+            subst (λ (z : Party T). (step_in w p z flight n).wrote ≡ index_effects p flight n) same (writes_there w.coding w.words w.words (beside_of w.words w.kept w.latest p) w.capacity p n w.kept s.state here.x.start flight s.fit mine));
+        goes = λ x n found. (
+            let same : here.x ≡ x = (let both : Some here.x ≡ Some x = sym here.found ∙ found in cc) in
+            subst (λ (z : Party T). (step_in w p z flight n).after ≡ after_of w.coding flight n) same (goes_there w.coding w.words w.words (beside_of w.words w.kept w.latest p) w.capacity p n w.kept s.state here.x.start flight s.fit mine));
+      }
+
+  pub indices_owe : KindLaws code kinds.TheVariants.Indices capacity (core.size capacity) index_effects
+  indices_owe = record { size = size; goes_on = goes_on }
+
+-- ---- which party may begin a call
+
+module _ {T : Type 0} (code : Coding T) (base : View T) where
+  abbrev IsOn : Trace T → Type 0
+  IsOn t = IsRun code kinds.TheVariants.Indices base.capacity t
+
+  kept_there : (t : Trace T) → IsOn t → (holders : List (Option ℕ)) × (t.world.kept ≡ kepts.TheVariants.Indices holders)
+  kept_there t r = let s = sound code base.capacity t r in (s.state.holders, (kept_is t.world.kept t.world.words s.state s.fit).0)
+
+  -- a call that names no index always may, as the party that the pass was last
+  module _ {C M E : Type 0} (call : Calling T C M E) (start : IndexStart) (c : C) (m : M) (named : call.start ≡ Indices start) (by_last : (o : Option ℕ) (p : ℕ) → IfSome o (λ q. q ≡ p) → call.by o p)
+      (first_is : (kept : Kept T) → first_of kinds.TheVariants.Indices base.capacity (Indices start) kept ≡ Some (call.flight c m)) (free : (holders : List (Option ℕ)) (p : ℕ) → first_row (call_rows base.capacity holders p start) ≡ None) where
+    pub plain_starts : (t : Trace T) (owner : ℕ → ℕ) (j : ℕ) → IsOn t → owner j ≡ j → IfSome base.party (λ p. owner p ≡ j) → ((f : Event T → ℕ) → sum_by f base.made ≡ sum_by (owned owner j f) t.events) → Starts code kinds.TheVariants.Indices call base c m t owner j
+    plain_starts t owner j run self party sums = go base.party refl party
+      where
+        kept : (holders : List (Option ℕ)) × (t.world.kept ≡ kepts.TheVariants.Indices holders)
+        kept = kept_there t run
+
+        is_some : is_none (first_of kinds.TheVariants.Indices base.capacity (Indices start) t.world.kept) ≡ false
+        is_some = ap is_none (first_is t.world.kept)
+
+        may : (p : ℕ) → first_row (begin_rows kinds.TheVariants.Indices base.capacity t.world.kept p call.start) ≡ None
+        may p = rw (named, is_some) (subst (λ k. first_row (kept_rows base.capacity start k p) ≡ None) (sym kept.1) (free kept.0 p))
+
+        first_here : first_of kinds.TheVariants.Indices base.capacity call.start t.world.kept ≡ Some (call.flight c m)
+        first_here = rw named (first_is t.world.kept)
+
+        go : (o : Option ℕ) → base.party ≡ o → IfSome o (λ p. owner p ≡ j) → Starts code kinds.TheVariants.Indices call base c m t owner j
+        go None e h = record { party = j; mine = self; by = by_last base.party j (subst (λ (z : Option ℕ). IfSome z (λ q. q ≡ j)) (sym e) tt); first = first_here; may = may j }
+        go (Some p) e h = record { party = p; mine = h; by = by_last base.party p (subst (λ (z : Option ℕ). IfSome z (λ q. q ≡ p)) (sym e) refl); first = first_here; may = may p }
+
+  -- a release may, as that of the pass's parties which holds the index
+  module _ {C M E : Type 0} (call : Calling T C M E) (index : ℕ) (mode : ReleaseMode) (c : C) (m : M) (named : call.start ≡ Indices (Release index mode)) (by_any : (o : Option ℕ) (p : ℕ) → call.by o p)
+      (first_is : (kept : Kept T) → first_of kinds.TheVariants.Indices base.capacity (Indices (Release index mode)) kept ≡ Some (call.flight c m)) (below : index < base.capacity) (held : Holds index base.made) where
+    pub release_starts : (t : Trace T) (owner : ℕ → ℕ) (j : ℕ) → IsOn t → owner j ≡ j → IfSome base.party (λ p. owner p ≡ j) → ((f : Event T → ℕ) → sum_by f base.made ≡ sum_by (owned owner j f) t.events) → Starts code kinds.TheVariants.Indices call base c m t owner j
+    release_starts t owner j run self party sums =
+        let set = is_index_set t run.of_kind run.reached in
+        let kept = kept_there t run in
+        let by = held_by owner j t.world.capacity index t.events base.made set.holds sums held in
+        let keeps : KeepsHolders (kepts.TheVariants.Indices kept.0) t.events = subst (λ k. KeepsHolders k t.events) kept.1 set.holders in
+        let mine : slice_index_or kept.0 index None ≡ Some by.0 = keeps index ∙ by.2 in
+        let past : nat_le base.capacity index ≡ false = grind (arith, nat_tests) in
+        let it : (by.0 == by.0) ≡ true = grind (arith, nat_tests) in
+        let is_some : is_none (first_of kinds.TheVariants.Indices base.capacity (Indices (Release index mode)) t.world.kept) ≡ false = ap is_none (first_is t.world.kept) in
+        let free : first_row (call_rows base.capacity kept.0 by.0 (Release index mode)) ≡ None = rw (past, mine, it) refl in
+        record {
+          party = by.0;
+          mine = by.1;
+          by = by_any base.party by.0;
+          first = rw named (first_is t.world.kept);
+          may = rw (named, is_some) (subst (λ k. first_row (kept_rows base.capacity (Release index mode) k by.0) ≡ None) (sym kept.1) free);
+        }

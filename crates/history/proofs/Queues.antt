@@ -1,0 +1,241 @@
+-- What the index queue owes, from the laws of the queues, and which party may begin a call on a queue.
+use Rattle.std.proofs.Common.{◌≡◌, ◌≢◌, ℕ, ◌+◌, ◌<◌, ◌==◌, Bool, true, false, Option, Some, None, IfSome, List, [], ◌∷◌, ◌++◌, length, get_or, sum_by, fold, refl, sym, ap, subst, ◌∙◌, arith}
+use Rattle.std.proofs.lemmas.Bool.Decides.{nat_tests}
+use Rattle.steps.specs.declared.copied.OneWord.{OneWord}
+use Rattle.steps.specs.declared.queues.ring.PushStage as pushes
+use Rattle.steps.specs.declared.queues.ring.PopStage as pops
+use Rattle.steps.specs.declared.ask.After.{After}
+use Rattle.model.specs.declared.event.Answer.{Answer}
+use Rattle.model.specs.declared.event.Event.{Event}
+use Rattle.model.specs.declared.event.Item.TheVariants.{Index}
+use Rattle.model.specs.declared.event.Start.{Start}
+use Rattle.model.specs.declared.event.Start.TheVariants.{Queues}
+use Rattle.model.specs.declared.families.Flight.{Flight}
+use Rattle.model.specs.declared.families.Flight as flights
+use Rattle.model.specs.declared.families.Kept.{Kept}
+use Rattle.model.specs.declared.families.Kept as kepts
+use Rattle.model.specs.declared.families.queues.QueueKind.{QueueKind}
+use Rattle.model.specs.declared.families.queues.QueueKind as queues
+use Rattle.model.specs.declared.families.queues.QueueKind.TheVariants.{IndexQueue}
+use Rattle.model.specs.declared.families.queues.QueueStart.{QueueStart}
+use Rattle.model.specs.declared.families.queues.QueueStart as starts
+use Rattle.model.specs.declared.families.queues.QueueStart.TheVariants.{AcquireProducer, ReleaseProducer, AcquireConsumer, ReleaseConsumer, PushIndex, Pop, IsEmpty, IsFull}
+use Rattle.model.specs.declared.families.queues.Roles.{Roles}
+use Rattle.model.specs.declared.families.queues.calls.RoleCall.{RoleCall}
+use Rattle.model.specs.declared.families.queues.calls.RoleCall.TheVariants.{Acquire, Release}
+use Rattle.model.specs.declared.families.queues.calls.RingCall as rings
+use Rattle.model.specs.declared.families.queues.calls.LengthOf as measures
+use Rattle.model.specs.declared.families.queues.calls.QueueFlight.{QueueFlight}
+use Rattle.model.specs.declared.families.queues.calls.QueueFlight.TheVariants.{Role as OnRole, Indices, Values, Overflow, Length}
+use Rattle.model.specs.declared.families.queues.effects.Effect.{Effect}
+use Rattle.model.specs.declared.families.queues.effects.Effect as effects
+use Rattle.model.specs.declared.party.Party.{Party}
+use Rattle.model.specs.declared.turn.Kind as kinds
+use Rattle.model.specs.Coding.{Coding}
+use Rattle.model.specs.Families.{opening_of, first_of, begin_rows, step_of, beside_of, after_of, want_of, ask_of, going_rows, kept_after_begin}
+use Rattle.model.specs.Families.Queues.Calls.{after}
+use Rattle.model.specs.Families.Queues.Opening.{holds, lacks_role, kept_rows}
+use Rattle.model.specs.Families.Queues.Promises.{IsQueue}
+use Rattle.model.specs.Families.Queues.Roles.{KeepsHolders}
+use Rattle.model.specs.Promises.{IsKeptBy}
+use Rattle.steps.specs.declared.queues.roles.Role.{Role}
+use Rattle.steps.specs.declared.queues.roles.Role.TheVariants.{Producer, Consumer}
+use Rattle.model.specs.Families.Queues.Steps.{effects_of, push_effect, pop_effect, acts_if_done}
+use Rattle.model.specs.Parties.{party_of}
+use Rattle.model.specs.Rows.{first_row}
+use Rattle.model.specs.Step.{answer_in, Step}
+use Rattle.model.specs.Turns.{step_in, old_of}
+use Rattle.model.specs.World.{Trace}
+use Rattle.model.proofs.Frame as frame
+use Rattle.model.proofs.Scenes.{stands_there}
+use Rattle.queue_laws.proofs.Queues.Core.{Core}
+use Rattle.queue_laws.proofs.Queues.Invariant.{Queue, family, machine_kind}
+use Rattle.queue_laws.proofs.Queues.Kept.{kept_on, promised_by}
+use Rattle.queue_laws.proofs.Queues.Knows.{layout, free, At}
+use Rattle.queue_laws.proofs.Queues.Sound.{kept_is, sound_on}
+use Rattle.history.specs.declared.view.View.{View}
+use Rattle.history.specs.Known.{owned}
+use Rattle.history.specs.Roles.{holder, role_after, HasRole}
+use Rattle.history.specs.Stages.{Starts, Calling}
+use Rattle.history.proofs.Roles.{role_by}
+use Rattle.history.specs.History.{IsRun, call_in}
+use Rattle.history.proofs.Known.{AreOf}
+use Rattle.history.proofs.Calls.{stands}
+use Rattle.history.proofs.Turns.{CallGoesOn, KindLaws}
+
+held_there : {T : Type 0} (role : Role) (roles : Roles) (events : List (Event T)) → KeepsHolders (kepts.TheVariants.Queues roles) events → holder role roles ≡ fold (role_after role) None events
+held_there Producer roles events keeps = keeps.0
+held_there Consumer roles events keeps = keeps.1
+
+module _ {T : Type 0} (code : Coding T) where
+  -- what a step of a call on an index queue writes
+  abbrev pub index_effects : ℕ → QueueFlight T → ℕ → List (Event T)
+  index_effects p (Indices (rings.TheVariants.Push run)) old = effects_of p (PushIndex run.given) (push_effect (Index run.given) run.call.stage) (answer_in (after code (Indices (rings.TheVariants.Push run)) old))
+  index_effects p (Indices (rings.TheVariants.Pop run)) old = effects_of p Pop (pop_effect (Index run.room.0) run.call.stage) (answer_in (after code (Indices (rings.TheVariants.Pop run)) old))
+  index_effects p flight old = []
+
+  abbrev pub queue_effects : ℕ → Flight T → ℕ → List (Event T)
+  queue_effects p (flights.TheVariants.Queues flight) old = index_effects p flight old
+  queue_effects p flight old = []
+
+  -- ---- they are events of its party
+
+  acts_own : (p : ℕ) (start : QueueStart T) (o : Option (Answer T)) → AreOf p (acts_if_done p start o)
+  acts_own p start None = tt
+  acts_own p start (Some answer) = (refl, tt)
+
+  push_own : (p v : ℕ) (stage : pushes.PushStage) (o : Option (Answer T)) → AreOf p (effects_of p (PushIndex v) (push_effect (Index v) stage) o)
+  push_own p v pushes.TheVariants.LoadsWrite o = tt
+  push_own p v (pushes.TheVariants.LoadsRead write) o = acts_own p (PushIndex v) o
+  push_own p v (pushes.TheVariants.StoresCell write cell at) o = tt
+  push_own p v (pushes.TheVariants.StoresWrite write) o = (refl, acts_own p (PushIndex v) o)
+
+  pop_own : (p v : ℕ) (stage : pops.PopStage) (o : Option (Answer T)) → AreOf p (effects_of p Pop (pop_effect (Index v) stage) o)
+  pop_own p v pops.TheVariants.LoadsRead o = tt
+  pop_own p v (pops.TheVariants.LoadsWrite read) o = acts_own p Pop o
+  pop_own p v (pops.TheVariants.LoadsCell read cell at) o = tt
+  pop_own p v (pops.TheVariants.StoresRead read) o = (refl, acts_own p Pop o)
+
+  effects_own : (p : ℕ) (flight : Flight T) (n : ℕ) → AreOf p (queue_effects p flight n)
+  effects_own p (flights.TheVariants.Queues (Indices (rings.TheVariants.Push run))) n = push_own p run.given run.call.stage _
+  effects_own p (flights.TheVariants.Queues (Indices (rings.TheVariants.Pop run))) n = pop_own p run.room.0 run.call.stage _
+  effects_own p (flights.TheVariants.Queues (OnRole call)) n = tt
+  effects_own p (flights.TheVariants.Queues (Values call)) n = tt
+  effects_own p (flights.TheVariants.Queues (Overflow call)) n = tt
+  effects_own p (flights.TheVariants.Queues (Length which run)) n = tt
+  effects_own p flight n = tt
+
+  -- ---- a step of a call that the queue has
+
+  module _ (words : List ℕ) (waits : Option (ℕ × ℕ)) (c p n : ℕ) (ro : Roles) (k : Core ℕ) where
+    abbrev Stands : QueueStart T → QueueFlight T → Type 0
+    Stands start flight = At {T = T} code IndexQueue c ro k p start flight
+
+    abbrev step_now : QueueStart T → QueueFlight T → Step (Flight T) (Kept T) T
+    step_now start flight = step_of code words waits p (Queues start) (flights.TheVariants.Queues flight) n (kepts.TheVariants.Queues ro)
+
+    writes_it : (start : QueueStart T) (flight : QueueFlight T) → Stands start flight → (step_now start flight).wrote ≡ index_effects p flight n
+    writes_it (PushIndex v) (Indices (rings.TheVariants.Push run)) at = ap (λ w. effects_of p (PushIndex w) (push_effect (Index run.given) run.call.stage) (answer_in (after code (Indices (rings.TheVariants.Push run)) n))) (sym at.2)
+    writes_it Pop (Indices (rings.TheVariants.Pop run)) at = refl
+    writes_it start (Indices call) at = absurd at
+    writes_it start (OnRole call) at = refl
+    writes_it start (Length which run) at = refl
+    writes_it start (Values call) at = absurd at
+    writes_it start (Overflow call) at = absurd at
+
+    goes_it : (start : QueueStart T) (flight : QueueFlight T) → Stands start flight → (step_now start flight).after ≡ after_of code (flights.TheVariants.Queues flight) n
+    goes_it start flight at = refl
+
+-- ---- what the kind owes
+
+module _ {T : Type 0} (code : Coding T) (capacity : ℕ) where
+  abbrev IsIndexQueue : Trace T → Type 0
+  IsIndexQueue t = IsRun code kinds.TheVariants.IndexQueue capacity t
+
+  pub sound : (t : Trace T) → IsIndexQueue t → frame.Sound (family t.world.coding IndexQueue t.world.capacity) t
+  sound t r = sound_on IndexQueue t r.of_kind r.reached.coded r.reached.admitted r.fresh
+
+  size : (t : Trace T) → IsIndexQueue t → length t.world.words ≡ 4 + capacity
+  size t r =
+      let s = sound t r in
+      let cells = s.holds.good.cells in
+      ap length (kept_is t.world.kept t.world.words s.state s.fit).1 ∙ (let long : length s.state.core.cells ≡ capacity = (let sized = r.sized in omega arith) in omega arith)
+
+  -- the step of a call that stands so, whatever its name
+  record Facts (z : Coding T) (words : List ℕ) (waits : Option (ℕ × ℕ)) (p n : ℕ) (start : Start T) (flight : Flight T) (kept : Kept T) : Type 0 where
+    pub may : first_row (going_rows z kept (Some flight) None) ≡ None
+    pub writes : (step_of z words waits p start flight n kept).wrote ≡ queue_effects z p flight n
+    pub goes : (step_of z words waits p start flight n kept).after ≡ after_of z flight n
+
+  facts : (z : Coding T) (words : List ℕ) (waits : Option (ℕ × ℕ)) (c p n : ℕ) (q : Queue ℕ) (start : Start T) (flight : Flight T) (kept : Kept T) → kept ≡ kepts.TheVariants.Queues q.roles → (family z IndexQueue c).At q p start flight
+      → Facts z words waits p n start flight kept
+  facts z words waits c p n q (Queues start) (flights.TheVariants.Queues flight) kept e at =
+      subst (λ k. Facts z words waits p n (Queues start) (flights.TheVariants.Queues flight) k) (sym e)
+      (record {
+        may = refl;
+        writes = writes_it z words waits c p n q.roles q.core start flight at;
+        goes = goes_it z words waits c p n q.roles q.core start flight at;
+      })
+  facts z words waits c p n q start flight kept e at = absurd at
+
+  goes_on : (t : Trace T) → IsIndexQueue t → (p : ℕ) (start : Start T) (flight : Flight T) → call_in t.world p ≡ Some (start, flight) → CallGoesOn code kinds.TheVariants.IndexQueue capacity (4 + capacity) (queue_effects code) t p flight
+  goes_on t r p start flight at =
+      let s = sound t r in
+      let here = stands t.world p start flight at in
+      let there = stands_there (family t.world.coding IndexQueue t.world.capacity) t s p here.x here.since flight here.found here.doing in
+      let is = kept_is t.world.kept t.world.words s.state s.fit in
+      let waits = beside_of t.world.words t.world.kept t.world.latest p in
+      let fact = λ (x : Party T) (n : ℕ) (found : party_of p t.world.latest ≡ Some x).
+      (let same : here.x ≡ x = (let both : Some here.x ≡ Some x = sym here.found ∙ found in cc) in
+      subst (λ (st : Start T). Facts t.world.coding t.world.words waits p n st flight t.world.kept) (ap (λ (y : Party T). y.start) same)
+      (facts t.world.coding t.world.words waits t.world.capacity p n s.state here.x.start flight t.world.kept is.0 there.at))
+      in
+      record {
+        may = (fact here.x 0 here.found).may;
+        own = λ n. effects_own code p flight n;
+        writes = λ x n found. (fact x n found).writes ∙ ap (λ (z : Coding T). queue_effects z p flight n) r.coded;
+        goes = λ x n found. (fact x n found).goes;
+      }
+
+  pub index_owes : KindLaws code kinds.TheVariants.IndexQueue capacity (4 + capacity) (queue_effects code)
+  index_owes = record { size = size; goes_on = goes_on }
+
+-- ---- which party may begin a call on a queue of any kind
+
+module _ {T : Type 0} (code : Coding T) (kd : QueueKind) (base : View T) where
+  abbrev IsOn : Trace T → Type 0
+  IsOn t = IsRun code (machine_kind kd) base.capacity t
+
+  pub queue_goes_on : (t : Trace T) → IsOn t → IsQueue kd t
+  queue_goes_on t r = (subst (λ P. IsKeptBy P t) (promised_by kd t r.of_kind) (kept_on kd t r.of_kind r.reached.coded r.reached.admitted r.fresh)).promised
+
+  kept_there : (t : Trace T) → IsOn t → (roles : Roles) × (t.world.kept ≡ kepts.TheVariants.Queues roles)
+  kept_there t r = let s = sound_on kd t r.of_kind r.reached.coded r.reached.admitted r.fresh in (s.state.roles, (kept_is t.world.kept t.world.words s.state s.fit).0)
+
+  abbrev AllOf : Trace T → (ℕ → ℕ) → ℕ → Type 0
+  AllOf t owner j = (f : Event T → ℕ) → sum_by f base.made ≡ sum_by (owned owner j f) t.events
+
+  -- a party that lacks no role for it may begin
+  module _ {C M E : Type 0} (call : Calling T C M E) (start : QueueStart T) (c : C) (m : M) (named : call.start ≡ Queues start)
+      (first_is : (kept : Kept T) → first_of (machine_kind kd) base.capacity (Queues start) kept ≡ Some (call.flight c m)) (t : Trace T) (owner : ℕ → ℕ) (j p : ℕ) (run : IsOn t) (mine : owner p ≡ j) (by : call.by base.party p) (roles : Roles) (is : t.world.kept ≡ kepts.TheVariants.Queues roles) (lacks : lacks_role roles p start ≡ false) where
+    as_party : Starts code (machine_kind kd) call base c m t owner j
+    as_party =
+        record {
+          party = p;
+          mine = mine;
+          by = by;
+          first = rw named (first_is t.world.kept);
+          may = rw named (rows kd (first_is t.world.kept));
+        }
+      where
+        kept_free : first_row (kept_rows start t.world.kept p) ≡ None
+        kept_free = subst (λ k. first_row (kept_rows start k p) ≡ None) (sym is) (rw lacks refl)
+
+        rows : (k : QueueKind) → first_of (machine_kind k) base.capacity (Queues start) t.world.kept ≡ Some (call.flight c m) → first_row (begin_rows (machine_kind k) base.capacity t.world.kept p (Queues start)) ≡ None
+        rows IndexQueue e = rw e kept_free
+        rows queues.TheVariants.Overflow e = rw e kept_free
+        rows queues.TheVariants.Queue e = rw e kept_free
+
+  module _ {C M E : Type 0} (call : Calling T C M E) (start : QueueStart T) (c : C) (m : M) (named : call.start ≡ Queues start)
+      (first_is : (kept : Kept T) → first_of (machine_kind kd) base.capacity (Queues start) kept ≡ Some (call.flight c m)) where
+    -- a call that needs no role, as the party that the pass was last
+    pub plain_starts : ((o : Option ℕ) (p : ℕ) → IfSome o (λ q. q ≡ p) → call.by o p) → ((roles : Roles) (p : ℕ) → lacks_role roles p start ≡ false)
+        → (t : Trace T) (owner : ℕ → ℕ) (j : ℕ) → IsOn t → owner j ≡ j → IfSome base.party (λ p. owner p ≡ j) → AllOf t owner j → Starts code (machine_kind kd) call base c m t owner j
+    plain_starts by_last free t owner j run self party sums = go base.party refl party
+      where
+        kept : (roles : Roles) × (t.world.kept ≡ kepts.TheVariants.Queues roles)
+        kept = kept_there t run
+
+        go : (o : Option ℕ) → base.party ≡ o → IfSome o (λ p. owner p ≡ j) → Starts code (machine_kind kd) call base c m t owner j
+        go None e h = as_party call start c m named first_is t owner j j run self (by_last base.party j (subst (λ (z : Option ℕ). IfSome z (λ q. q ≡ j)) (sym e) tt)) kept.0 kept.1 (free kept.0 j)
+        go (Some p) e h = as_party call start c m named first_is t owner j p run h (by_last base.party p (subst (λ (z : Option ℕ). IfSome z (λ q. q ≡ p)) (sym e) refl)) kept.0 kept.1 (free kept.0 p)
+
+    -- a call of a role, as that of the pass's parties which holds it
+    pub role_starts : (role : Role) → ((o : Option ℕ) (p : ℕ) → call.by o p) → ((roles : Roles) (p : ℕ) → holder role roles ≡ Some p → lacks_role roles p start ≡ false) → HasRole role base.made
+        → (t : Trace T) (owner : ℕ → ℕ) (j : ℕ) → IsOn t → owner j ≡ j → IfSome base.party (λ p. owner p ≡ j) → AllOf t owner j → Starts code (machine_kind kd) call base c m t owner j
+    role_starts role by_any free has t owner j run self party sums =
+        let queue = queue_goes_on t run in
+        let kept = kept_there t run in
+        let by = role_by owner j role t.events base.made queue.roles sums has in
+        let keeps : KeepsHolders (kepts.TheVariants.Queues kept.0) t.events = subst (λ k. KeepsHolders k t.events) kept.1 queue.holders in
+        as_party call start c m named first_is t owner j by.0 run by.1 (by_any base.party by.0) kept.0 kept.1 (free kept.0 by.0 (held_there role kept.0 t.events keeps ∙ by.2))

@@ -1,0 +1,47 @@
+-- Which party holds a role that a pass holds: one of its own.
+use Rattle.std.proofs.Common.{◌≡◌, ◌≢◌, ◌≤◌, ℕ, ◌+◌, true, false, Bool, Option, Some, None, is_none, List, refl, sym, ap, ◌∙◌, arith, sum_by, fold}
+use Rattle.steps.specs.declared.queues.roles.Role.{Role}
+use Rattle.steps.specs.declared.queues.roles.Role.TheVariants.{Producer, Consumer}
+use Rattle.model.specs.declared.event.Answer.{Answer}
+use Rattle.model.specs.declared.event.Answer.TheVariants.{Truth}
+use Rattle.model.specs.declared.event.Event.{Event}
+use Rattle.model.specs.declared.event.Event.TheVariants.{Finished}
+use Rattle.model.specs.declared.event.Start.TheVariants.{Queues}
+use Rattle.model.specs.declared.families.queues.QueueStart.TheVariants.{AcquireProducer, ReleaseProducer, AcquireConsumer, ReleaseConsumer}
+use Rattle.model.specs.Families.Queues.Reading.{producer_of, consumer_of}
+use Rattle.model.specs.Families.Queues.Roles.{GrantsRight}
+use Rattle.model.specs.Reading.{Each}
+use Rattle.history.specs.declared.view.View.{View}
+use Rattle.history.specs.History.{IsOfParties}
+use Rattle.history.specs.Known.{owned}
+use Rattle.history.specs.Roles.{takes, gives, role_after, HasRole}
+use Rattle.history.proofs.Ledger.{Moves, still, taken, given, held_by_one, at_most}
+
+nobody : (o : Option ℕ) → is_none o ≡ true → o ≡ None
+nobody None e = refl
+nobody (Some p) e = absurd (cc)
+
+granted : {T : Type 0} (o : Option ℕ) → ◌≡◌ {A = Answer T} (Truth true) (Truth (is_none o)) → o ≡ None
+granted o e = nobody o (let b : true ≡ is_none o = cc in sym b)
+
+module _ {T : Type 0} (owner : ℕ → ℕ) (j : ℕ) where
+  abbrev MovesIt : Role → List (Event T) → Event T → Type 0
+  MovesIt role = Moves (takes role) (gives role) (role_after role) owner j
+
+  moves : (role : Role) (before : List (Event T)) (e : Event T) → GrantsRight before e → MovesIt role before e
+  moves Producer before (Finished p (Queues AcquireProducer) (Truth true)) h = taken (takes Producer) (gives Producer) (role_after Producer) owner j before (Finished p (Queues AcquireProducer) (Truth true)) p refl refl refl (granted (producer_of before) h) refl
+  moves Producer before (Finished p (Queues ReleaseProducer) answer) h = given (takes Producer) (gives Producer) (role_after Producer) owner j before (Finished p (Queues ReleaseProducer) answer) p refl refl refl h.1 refl
+  moves Consumer before (Finished p (Queues AcquireConsumer) (Truth true)) h = taken (takes Consumer) (gives Consumer) (role_after Consumer) owner j before (Finished p (Queues AcquireConsumer) (Truth true)) p refl refl refl (granted (consumer_of before) h) refl
+  moves Consumer before (Finished p (Queues ReleaseConsumer) answer) h = given (takes Consumer) (gives Consumer) (role_after Consumer) owner j before (Finished p (Queues ReleaseConsumer) answer) p refl refl refl h.1 refl
+  moves Producer before e h = still (takes Producer) (gives Producer) (role_after Producer) owner j before e refl refl refl
+  moves Consumer before e h = still (takes Consumer) (gives Consumer) (role_after Consumer) owner j before e refl refl refl
+
+  all_move : (role : Role) (all : List (Event T)) → Each GrantsRight all → Each (MovesIt role) all
+  all_move role all each before after e is = moves role before e (each before after e is)
+
+  pub role_by : (role : Role) (all made : List (Event T)) → Each GrantsRight all → ((f : Event T → ℕ) → sum_by f made ≡ sum_by (owned owner j f) all) → HasRole role made → (p : ℕ) × (owner p ≡ j) × (fold (role_after role) None all ≡ Some p)
+  role_by role all made each sums has = held_by_one (takes role) (gives role) (role_after role) owner j all made (all_move role all each) sums has
+
+-- a pass gave back what it had acquired, or has it once
+pub role_once : {T : Type 0} (role : Role) (v : View T) → Each GrantsRight v.seen → IsOfParties v → (sum_by (gives role) v.made ≤ sum_by (takes role) v.made) × (sum_by (takes role) v.made ≤ sum_by (gives role) v.made + 1)
+role_once role v each h = at_most (takes role) (gives role) (role_after role) h.owner h.seat v.seen v.made (all_move h.owner h.seat role v.seen each) h.sums

@@ -1,0 +1,131 @@
+-- The calls on unique index sets as calls of the model: where each stands, and what it has written there.
+use Rattle.std.specs.Prelude.{◌≡◌, ℕ, ◌<◌, Bool, true, false, Option, None, IfSome, Ok, Err, List, [], ◌∷◌, ◌++◌}
+use Rattle.steps.specs.Indices.Head.{proposed}
+use Rattle.steps.specs.Indices.Unique.{Acquired}
+use Rattle.steps.specs.declared.indices.enums.ReleaseMode.{ReleaseMode}
+use Rattle.steps.specs.declared.indices.enums.ReleaseMode.TheVariants as modes
+use Rattle.steps.specs.declared.indices.enums.ReleaseState.{ReleaseState}
+use Rattle.steps.specs.declared.indices.enums.ReleaseState.TheVariants as states
+use Rattle.steps.specs.declared.indices.unique.Acquire.{Acquire as Acquiring}
+use Rattle.steps.specs.declared.indices.unique.AcquireStage as acquires
+use Rattle.steps.specs.declared.indices.unique.Release.{Release as Releasing}
+use Rattle.steps.specs.declared.indices.unique.DefaultMode.{DefaultMode}
+use Rattle.steps.specs.declared.indices.unique.LockMode.{LockMode}
+use Rattle.steps.specs.declared.indices.looks.BorrowedIndices.{BorrowedIndices as Counting}
+use Rattle.steps.specs.declared.indices.looks.IsLocked.{IsLocked as Looking}
+use Rattle.steps.specs.declared.indices.unique.ReleaseStage as releases
+use Rattle.model.specs.declared.event.Answer.{Answer}
+use Rattle.model.specs.declared.event.Answer.TheVariants.{State, Number, Truth}
+use Rattle.model.specs.declared.event.Event.{Event}
+use Rattle.model.specs.declared.event.Event.TheVariants.{Claimed, Freed, Locked}
+use Rattle.model.specs.declared.event.Start.{Start}
+use Rattle.model.specs.declared.event.Start.TheVariants.{Indices}
+use Rattle.model.specs.declared.families.Flight.{Flight}
+use Rattle.model.specs.declared.families.Flight as flights
+use Rattle.model.specs.declared.families.indices.IndexStart.TheVariants.{Acquire, Release, BorrowedIndices, IsLocked}
+use Rattle.model.specs.declared.families.indices.calls.IndexFlight as calls
+use Rattle.model.specs.Families.Indices.Calls.{acquire_answer}
+use Rattle.history.specs.Stages.{Calling}
+
+abbrev pub StandsIn : ℕ → acquires.AcquireStage → Type 0
+StandsIn capacity acquires.TheVariants.LoadsHead = Unit {0}
+StandsIn capacity (acquires.TheVariants.LoadsNext head) = proposed head < capacity
+StandsIn capacity (acquires.TheVariants.ExchangesHead head next) = Unit {0}
+StandsIn capacity (acquires.TheVariants.Claims index) = index < capacity
+StandsIn capacity (acquires.TheVariants.Scans index) = index < capacity
+
+module _ {T : Type 0} where
+  abbrev pub claimed_by : ℕ → Acquired → List (Event T)
+  claimed_by p (Ok index) = Claimed p index ∷ []
+  claimed_by p (Err failure) = []
+
+  abbrev pub takes_index : Calling T Acquiring (Unit {0}) Acquired
+  takes_index =
+      record {
+        start = Indices Acquire;
+        by = λ was p. IfSome was (λ q. q ≡ p);
+        stands = λ capacity c. (c.capacity ≡ capacity) × (0 < capacity) × StandsIn capacity c.stage;
+        flight = λ c m.
+            flights.TheVariants.Indices
+            (calls.TheVariants.Acquire (record { call = c; given = tt; room = m }));
+        answer = λ e m. acquire_answer e;
+        skips = λ c n. false;
+        left = λ e. ⊥;
+        wrote = λ capacity p from c m es. es ≡ [];
+        wrote_all = λ capacity p from e m es. es ≡ claimed_by p e;
+      }
+
+  -- what a release has written at its stages since this one
+  abbrev pub freed_at : ℕ → ℕ → releases.ReleaseStage → List (Event T)
+  freed_at p index releases.TheVariants.ClearsFlag = []
+  freed_at p index stage = Freed p index ∷ []
+
+  abbrev pub gives_index : ℕ → Calling T (Releasing DefaultMode) (Unit {0}) ReleaseState
+  gives_index index =
+      record {
+        start = Indices (Release index modes.Default);
+        by = λ was p. Unit {0};
+        stands = λ capacity c. (c.capacity ≡ capacity) × (index < capacity);
+        flight = λ c m.
+            flights.TheVariants.Indices
+            (calls.TheVariants.ReleaseDefault (record { call = c; given = index; room = m }));
+        answer = λ e m. State e;
+        skips = λ c n. false;
+        left = λ e. ⊥;
+        -- of a call that is told of from its begin on
+        wrote = λ capacity p from c m es. from ≡ None → es ≡ freed_at p index c.stage;
+        wrote_all = λ capacity p from e m es. from ≡ None → es ≡ Freed p index ∷ [];
+      }
+
+  -- what a release has written that may lock, by its answer
+  abbrev pub given_by : ℕ → ℕ → ReleaseState → List (Event T)
+  given_by p index states.Unlocked = Freed p index ∷ []
+  given_by p index states.Locked = Freed p index ∷ Locked p ∷ []
+
+  abbrev pub gives_or_locks : ℕ → Calling T (Releasing LockMode) (Unit {0}) ReleaseState
+  gives_or_locks index =
+      record {
+        start = Indices (Release index modes.LockIfLastIndex);
+        by = λ was p. Unit {0};
+        stands = λ capacity c. (c.capacity ≡ capacity) × (index < capacity);
+        flight = λ c m.
+            flights.TheVariants.Indices
+            (calls.TheVariants.ReleaseLock (record { call = c; given = index; room = m }));
+        answer = λ e m. State e;
+        skips = λ c n. false;
+        left = λ e. ⊥;
+        wrote = λ capacity p from c m es. from ≡ None → es ≡ freed_at p index c.stage;
+        wrote_all = λ capacity p from e m es. from ≡ None → es ≡ given_by p index e;
+      }
+
+  abbrev pub counts_out : Calling T Counting (Unit {0}) ℕ
+  counts_out =
+      record {
+        start = Indices BorrowedIndices;
+        by = λ was p. IfSome was (λ q. q ≡ p);
+        stands = λ capacity c. Unit {0};
+        flight = λ c m.
+            flights.TheVariants.Indices
+            (calls.TheVariants.BorrowedIndices (record { call = c; given = tt; room = m }));
+        answer = λ n m. Number n;
+        skips = λ c n. false;
+        left = λ e. ⊥;
+        wrote = λ capacity p from c m es. es ≡ [];
+        wrote_all = λ capacity p from n m es. es ≡ [];
+      }
+
+  abbrev pub looks_locked : Calling T Looking (Unit {0}) Bool
+  looks_locked =
+      record {
+        start = Indices IsLocked;
+        by = λ was p. IfSome was (λ q. q ≡ p);
+        stands = λ capacity c. Unit {0};
+        flight = λ c m.
+            flights.TheVariants.Indices
+            (calls.TheVariants.IsLocked (record { call = c; given = tt; room = m }));
+        answer = λ b m. Truth b;
+        skips = λ c n. false;
+        left = λ e. ⊥;
+        wrote = λ capacity p from c m es. es ≡ [];
+        wrote_all = λ capacity p from b m es. es ≡ [];
+      }

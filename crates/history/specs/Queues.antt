@@ -1,0 +1,145 @@
+-- The calls on queues of indices as calls of the model.
+use Rattle.std.specs.Prelude.{◌≡◌, ℕ, ◌-◌, ◌^◌, ◌<◌, ◌==◌, Bool, true, false, IfSome, List, [], ◌∷◌}
+use Rattle.history.specs.Stages.{Calling}
+use Rattle.model.specs.Families.Queues.Calls.{popped, length_answer}
+use Rattle.model.specs.declared.event.Answer.TheVariants as answers
+use Rattle.model.specs.declared.event.Answer.TheVariants.{Truth}
+use Rattle.model.specs.declared.event.Answer.{Answer}
+use Rattle.model.specs.declared.event.Event.TheVariants.{Published, HandedOut, Acted}
+use Rattle.model.specs.declared.event.Event.{Event}
+use Rattle.model.specs.declared.event.Item.TheVariants.{Index}
+use Rattle.model.specs.declared.event.Start.TheVariants.{Queues}
+use Rattle.model.specs.declared.event.Start.{Start}
+use Rattle.model.specs.declared.families.Flight as flights
+use Rattle.model.specs.declared.families.Flight.{Flight}
+use Rattle.model.specs.declared.families.queues.QueueStart.{QueueStart}
+use Rattle.model.specs.declared.families.queues.QueueStart.TheVariants.{PushIndex, Pop, Len, IsEmpty, IsFull}
+use Rattle.model.specs.declared.families.queues.calls.LengthOf.{LengthOf}
+use Rattle.model.specs.declared.families.queues.calls.LengthOf as measures
+use Rattle.model.specs.declared.families.queues.calls.QueueFlight as flying
+use Rattle.model.specs.declared.families.queues.calls.RoleCall as roles
+use Rattle.steps.specs.declared.queues.lengths.Len.{Len as Counting}
+use Rattle.steps.specs.declared.queues.roles.AcquireRole.{AcquireRole}
+use Rattle.steps.specs.declared.queues.roles.ReleaseRole.{ReleaseRole}
+use Rattle.steps.specs.declared.queues.roles.Role.{Role}
+use Rattle.history.specs.Roles.{role_word, acquire_start, release_start}
+use Rattle.model.specs.declared.families.queues.calls.QueueFlight.TheVariants.{Indices}
+use Rattle.model.specs.declared.families.queues.calls.RingCall as rings
+use Rattle.steps.specs.Queues.Ring.{cell_word, word_at, at_push, push_asks, push_want, push_takes, push_after, after_position, distance, at_pop, pop_asks, pop_want, pop_takes, pop_after, pop_kept, pop_keeps, pop_answer}
+use Rattle.steps.specs.declared.copied.OneWord.{OneWord}
+use Rattle.steps.specs.declared.queues.ring.Pop as pop_calls
+use Rattle.steps.specs.declared.queues.ring.PopStage as pops
+use Rattle.steps.specs.declared.queues.ring.Push.{Push}
+use Rattle.steps.specs.declared.queues.ring.PushStage as pushes
+
+abbrev pub push_skips : pushes.PushStage → ℕ → Bool
+push_skips pushes.TheVariants.LoadsWrite n = n == 2 ^ 64 - 1
+push_skips stage n = false
+
+abbrev pub PushStage : ℕ → pushes.PushStage → Type 0
+PushStage capacity (pushes.TheVariants.StoresCell write cell at) = (0 < capacity) × (cell ≡ cell_word capacity 1 write) × (at ≡ 0)
+PushStage capacity stage = Unit {0}
+
+abbrev pub PushStands : ℕ → Push ℕ → Type 0
+PushStands capacity c = (capacity < 2 ^ 32) × (c.capacity ≡ capacity) × PushStage capacity c.stage
+
+module _ {T : Type 0} where
+  -- what a push has written once it has ended
+  abbrev pub push_wrote : ℕ → ℕ → Bool → List (Event T)
+  push_wrote p v true = Published p (Index v) ∷ Acted p (Queues (PushIndex v)) (Truth true) ∷ []
+  push_wrote p v false = Acted p (Queues (PushIndex v)) (Truth false) ∷ []
+
+  abbrev pub pushes_index : ℕ → Calling T (Push ℕ) (Unit {0}) Bool
+  pushes_index v =
+      record {
+        start = Queues (PushIndex v);
+        by = λ was p. Unit {0};
+        stands = PushStands;
+        skips = λ c n. push_skips c.stage n;
+        left = λ e. e ≡ false;
+        flight = λ c m. flights.TheVariants.Queues (Indices (rings.TheVariants.Push (record { call = c; given = v; room = m })));
+        answer = λ e m. Truth e;
+        wrote = λ capacity p from c m es. es ≡ [];
+        wrote_all = λ capacity p from e m es. es ≡ push_wrote p v e;
+      }
+
+abbrev pub Taking : Type 0
+Taking = pop_calls.Pop ℕ OneWord
+
+abbrev pub PopStage : ℕ → pops.PopStage → Type 0
+PopStage capacity (pops.TheVariants.LoadsCell read cell at) = (0 < capacity) × (cell ≡ cell_word capacity 1 read) × (at ≡ 0)
+PopStage capacity stage = Unit {0}
+
+abbrev pub PopStands : ℕ → Taking → Type 0
+PopStands capacity c = (capacity < 2 ^ 32) × (c.capacity ≡ capacity) × PopStage capacity c.stage
+
+module _ {T : Type 0} where
+  abbrev pub pop_wrote : ℕ → ℕ → Bool → List (Event T)
+  pop_wrote p v true = HandedOut p (Index v) ∷ Acted p (Queues Pop) (answers.PoppedIndex v) ∷ []
+  pop_wrote p v false = Acted p (Queues Pop) answers.PoppedNone ∷ []
+
+  abbrev pub pops_index : Calling T Taking OneWord Bool
+  pops_index =
+      record {
+        start = Queues Pop;
+        by = λ was p. Unit {0};
+        stands = PopStands;
+        skips = λ c n. false;
+        left = λ e. ⊥;
+        flight = λ c m. flights.TheVariants.Queues (Indices (rings.TheVariants.Pop (record { call = c; given = tt; room = m })));
+        answer = λ e m. popped (pop_answer m.0 e);
+        wrote = λ capacity p from c m es. es ≡ [];
+        wrote_all = λ capacity p from e m es. es ≡ pop_wrote p m.0 e;
+      }
+
+  -- ---- the calls on roles
+
+  abbrev pub takes_role : Role → Calling T AcquireRole (Unit {0}) Bool
+  takes_role role =
+      record {
+        start = Queues (acquire_start role);
+        by = λ was p. IfSome was (λ q. q ≡ p);
+        stands = λ capacity c. c.word ≡ role_word role;
+        flight = λ c m. flights.TheVariants.Queues (flying.TheVariants.Role (roles.TheVariants.Acquire (record { call = c; given = tt; room = m })));
+        answer = λ b m. Truth b;
+        skips = λ c n. false;
+        left = λ e. ⊥;
+        wrote = λ capacity p from c m es. es ≡ [];
+        wrote_all = λ capacity p from b m es. es ≡ [];
+      }
+
+  -- by the party that holds the role
+  abbrev pub gives_role : Role → Calling T ReleaseRole (Unit {0}) (Unit {0})
+  gives_role role =
+      record {
+        start = Queues (release_start role);
+        by = λ was p. Unit {0};
+        stands = λ capacity c. c.word ≡ role_word role;
+        flight = λ c m. flights.TheVariants.Queues (flying.TheVariants.Role (roles.TheVariants.Release (record { call = c; given = tt; room = m })));
+        answer = λ e m. answers.Done;
+        skips = λ c n. false;
+        left = λ e. ⊥;
+        wrote = λ capacity p from c m es. es ≡ [];
+        wrote_all = λ capacity p from e m es. es ≡ [];
+      }
+
+  -- ---- how many wait
+
+  abbrev pub length_start : LengthOf → QueueStart T
+  length_start measures.TheVariants.Len = Len
+  length_start measures.TheVariants.IsEmpty = IsEmpty
+  length_start measures.TheVariants.IsFull = IsFull
+
+  abbrev pub counts_waiting : LengthOf → ℕ → Calling T Counting (Unit {0}) ℕ
+  counts_waiting which size =
+      record {
+        start = Queues (length_start which);
+        by = λ was p. IfSome was (λ q. q ≡ p);
+        stands = λ capacity c. (c.capacity ≡ capacity) × (c.capacity ≡ size);
+        flight = λ c m. flights.TheVariants.Queues (flying.TheVariants.Length which (record { call = c; given = tt; room = m }));
+        answer = λ n m. length_answer which size n;
+        skips = λ c n. false;
+        left = λ e. ⊥;
+        wrote = λ capacity p from c m es. es ≡ [];
+        wrote_all = λ capacity p from n m es. es ≡ [];
+      }

@@ -1,0 +1,63 @@
+-- Which role of a queue a pass holds, by what it made.
+use Rattle.std.specs.Prelude.{◌≡◌, ℕ, ◌+◌, true, Option, Some, None, List, fold, sum_by}
+use Rattle.steps.specs.declared.queues.roles.Role.{Role}
+use Rattle.steps.specs.declared.queues.roles.Role.TheVariants.{Producer, Consumer}
+use Rattle.model.specs.declared.event.Answer.TheVariants.{Truth}
+use Rattle.model.specs.declared.event.Event.{Event}
+use Rattle.model.specs.declared.event.Event.TheVariants.{Published, HandedOut, Acted, Finished}
+use Rattle.model.specs.declared.event.Item.{Item}
+use Rattle.model.specs.declared.event.Start.TheVariants.{Queues}
+use Rattle.model.specs.declared.families.queues.QueueStart.{QueueStart}
+use Rattle.model.specs.declared.families.queues.QueueStart.TheVariants.{AcquireProducer, ReleaseProducer, AcquireConsumer, ReleaseConsumer, PushIndex, Pop}
+use Rattle.model.specs.declared.families.queues.Roles.{Roles}
+use Rattle.model.specs.Families.Queues.Reading.{publishes, hands_out, producer_after, consumer_after, producer_of, consumer_of}
+
+abbrev pub role_word : Role → ℕ
+role_word Producer = 2
+role_word Consumer = 3
+
+-- who holds it, by what a machine keeps
+abbrev pub holder : Role → Roles → Option ℕ
+holder Producer roles = roles.producer
+holder Consumer roles = roles.consumer
+
+module _ {T : Type 0} where
+  abbrev pub acquire_start : Role → QueueStart T
+  acquire_start Producer = AcquireProducer
+  acquire_start Consumer = AcquireConsumer
+
+  abbrev pub release_start : Role → QueueStart T
+  release_start Producer = ReleaseProducer
+  release_start Consumer = ReleaseConsumer
+
+  -- an acquire that answers true
+  abbrev pub takes : Role → Event T → ℕ
+  takes Producer (Finished p (Queues AcquireProducer) (Truth true)) = 1
+  takes Consumer (Finished p (Queues AcquireConsumer) (Truth true)) = 1
+  takes role e = 0
+
+  abbrev pub gives : Role → Event T → ℕ
+  gives Producer (Finished p (Queues ReleaseProducer) answer) = 1
+  gives Consumer (Finished p (Queues ReleaseConsumer) answer) = 1
+  gives role e = 0
+
+  abbrev pub role_after : Role → Option ℕ → Event T → Option ℕ
+  role_after Producer = producer_after
+  role_after Consumer = consumer_after
+
+  -- what the holder of the role alone writes
+  abbrev pub marks : Role → Event T → List (Item T)
+  marks Producer = publishes
+  marks Consumer = hands_out
+
+  -- these events acquired the role once more than they gave it back
+  abbrev pub HasRole : Role → List (Event T) → Type 0
+  HasRole role made = sum_by (takes role) made ≡ sum_by (gives role) made + 1
+
+  -- who publishes, or acts by a push, holds the producer's role, and who takes out, or acts by a pop, the consumer's
+  abbrev pub ByHolder : List (Event T) → Event T → Type 0
+  ByHolder before (Published p item) = producer_of before ≡ Some p
+  ByHolder before (HandedOut p item) = consumer_of before ≡ Some p
+  ByHolder before (Acted p (Queues (PushIndex value)) answer) = producer_of before ≡ Some p
+  ByHolder before (Acted p (Queues Pop) answer) = consumer_of before ≡ Some p
+  ByHolder before e = Unit {0}
