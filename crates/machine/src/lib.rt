@@ -11,13 +11,15 @@ use families::Kept;
 use model::coding::Coded;
 pub use model::{event, families, party, turn};
 use parts::parts::Parts;
-use party::{Progress, flight_of, progress_of};
+use party::Progress;
 use std::alloc::Global;
 use std::marker::Model;
 use steps::container::state::ContainerState;
 use steps::enums::UniqueIndexCreationError;
 use steps::words::Words;
 use turn::{Kind, Refusal, Turn};
+use turns::families::is_asking;
+use turns::party::{flight_of, progress_of};
 
 /// One structure and its parties, with what they have done so far. `T` is the type of the values of the structures
 /// that keep values; the queues of indices keep numbers of 64 bits, whatever `T` is.
@@ -284,7 +286,7 @@ impl<T: Words> Machine<T> {
         ensures { result ≡ is_going (world_in ⟦<T as Coded>⟧.coding self.now) party }
     {
         match flight_of(&self.parts.latest, party) {
-            Some(flight) => !flight.is_asking(),
+            Some(flight) => !is_asking(flight),
             None => false,
         }
     }

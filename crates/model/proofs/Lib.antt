@@ -2,13 +2,11 @@ pub mod Counts
 pub mod Dead
 pub mod Frame
 pub mod Linearizable
-pub mod LoanBooks
 pub mod Looks
 pub mod Moments
 pub mod Openings
 pub mod Orders
 pub mod Parties
-pub mod Places
 pub mod Progress
 pub mod Reached
 pub mod Readings

@@ -1,5 +1,5 @@
-//! What a machine is: its calls, parties, turns and events, and what a turn makes of it. The
-//! definitions that a reader must believe stand in `specs/`.
+//! What a machine is: the types of its calls, parties, turns and events. What a turn makes of it, which a reader must
+//! believe, stands in `specs/`, and the functions that do so in the crate `turns`.
 #![tactic(auto)]
 
 pub mod coding;
@@ -8,4 +8,3 @@ pub mod families;
 pub mod party;
 pub mod room;
 pub mod turn;
-pub mod words;

@@ -1,7 +1,4 @@
 //! The latest call of each party.
-ghost use Rattle.std.specs.Prelude.{◌≡◌, option_copied};
-ghost use Rattle.model.specs.Parties.{party_of, doing_of, flight_of, progress_after};
-
 use crate::event::Start;
 use crate::families::Flight;
 use std::collections::BTreeMap;
@@ -54,39 +51,3 @@ impl<T> Model for Seat<T> {
 
 /// The parties that have begun a call, by number.
 pub type Latest<T> = BTreeMap<u32, Seat<T>>;
-
-/// The call that the party has under way.
-pub fn flight_of<T>(latest: &Latest<T>, number: u32) -> Option<&Flight<T>>
-    ensures { option_copied result ≡ flight_of (doing_of (party_of number latest.now.entries)) }
-{
-    match latest.get(&number) {
-        Some(seat) => match &seat.party.doing {
-            Doing::Going(flight, _) => Some(flight),
-            Doing::Over(_) => None,
-        },
-        None => None,
-    }
-}
-
-/// How far the party's latest call has come, where words were changed so often. None where it has begun none.
-pub fn progress_of<T>(latest: &Latest<T>, changes: u64, number: u32) -> Option<Progress>
-    ensures { result ≡ progress_after changes (party_of number latest.now.entries) }
-{
-    match latest.get(&number) {
-        None => None,
-        Some(seat) => match &seat.party.doing {
-            Doing::Going(_, since) => Some(Progress {
-                steps: seat.party.steps,
-                backs: seat.party.backs,
-                others: changes.saturating_sub(*since),
-                finished: false,
-            }),
-            Doing::Over(others) => Some(Progress {
-                steps: seat.party.steps,
-                backs: seat.party.backs,
-                others: *others,
-                finished: true,
-            }),
-        },
-    }
-}

@@ -11,15 +11,16 @@ ghost use Rattle.parts.specs.Parts.{state_of, trace_of, going_refusal, IsGoingRe
 
 use model::coding::Coded;
 use model::event::{Event, Start};
-use model::families::{self, Beside, Kept};
-use model::party::{Doing, Latest, Party, Seat, flight_of};
+use model::families::{Beside, Kept};
+use model::party::{Doing, Latest, Party, Seat};
 use model::turn::{Kind, Refusal, Turn, capacity_error, loan_error};
-use model::words;
 use std::alloc::Global;
 use std::collections::BTreeMap;
 use steps::ask::Want;
 use steps::enums::{OwnerId, UniqueIndexCreationError};
 use steps::words::Words;
+use turns::party::flight_of;
+use turns::{families, words};
 
 /// As many turns as a machine takes.
 const MOST_TURNS: u64 = u64::MAX - 1;
@@ -135,21 +136,30 @@ fn go_on<T: Words>(
     let Doing::Going(flight, since) = &mut party.doing else {
         return Err(Refusal::Idle);
     };
-    let (want, most) = flight.going();
+    let (want, most) = families::going(flight);
     let (ask, answer) = match (want, said) {
         (Want::Question(_), Some(said)) => (None, number_of(said)),
         (Want::Ask(ask), None) => (Some(ask), words::old(words, Some(ask))),
         (Want::Nothing, None) => (None, 0),
         _ => return Err(Refusal::Undecided),
     };
-    if let Some(refusal) = flight.going_refusal(kept, said) {
+    if let Some(refusal) = families::going_refusal(flight, kept, said) {
         return Err(refusal);
     }
     let Ok(()) = events.reserve(most + 1) else {
         return Err(Refusal::NoMemory);
     };
     let change = words::change(words, ask);
-    let went = flight.go_on(number, &party.start, words, beside, answer, kept, events);
+    let went = families::go_on(
+        flight,
+        number,
+        &party.start,
+        words,
+        beside,
+        answer,
+        kept,
+        events,
+    );
     *changes += change;
     *since += change;
     party.steps += words::count(ask);

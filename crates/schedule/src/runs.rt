@@ -13,7 +13,7 @@ use crate::input::whole_input;
 use crate::output::{flush, put_events, put_refusal};
 use crate::told::status;
 use machine::Machine;
-use machine::families::loan::opening::is_loan;
+use machine::families::loan::is_loan;
 use machine::turn::{Kind, Turn, capacity_error, loan_error};
 use std::alloc::{Allocator, Global};
 use std::io::{BufWriter, Read, Write};

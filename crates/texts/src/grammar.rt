@@ -7,7 +7,7 @@ use crate::error::Cause;
 use crate::families;
 use crate::text::{Rest, number_of, words};
 use model::event::Start;
-use model::families::loan::opening::is_loan;
+use model::families::loan::is_loan;
 use model::turn::{Kind, Turn};
 use steps::enums::OwnerId;
 

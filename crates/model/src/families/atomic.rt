@@ -1,8 +1,9 @@
 //! The single value, which one producer stores and anyone loads: its calls by name, and what stands in the files beside
 //! this one.
 pub mod calls;
-pub mod effects;
-pub mod opening;
+
+/// The least and the greatest capacity: there is one value.
+pub const CAPACITIES: (u64, u64) = (1, 1);
 
 /// A call of the single value by its name and arguments.
 #[derive(Clone, Copy, PartialEq, Eq)]

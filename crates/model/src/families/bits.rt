@@ -1,7 +1,8 @@
 //! The bit sets and the counting bit sets: their calls by name, and what stands in the files beside this one.
 pub mod calls;
-pub mod effects;
-pub mod opening;
+
+/// The least and the greatest capacity of a bit set and of a counting bit set.
+pub const CAPACITIES: (u64, u64) = (0, u32::MAX as u64);
 
 /// A call of a bit set or of a counting bit set by its name and arguments.
 #[derive(Clone, Copy, PartialEq, Eq)]

@@ -1,12 +1,13 @@
 //! The container of values, each of which stands at an index that has an owner: its calls by name, and what stands in
 //! the files beside this one.
 pub mod calls;
-pub mod effects;
-pub mod opening;
 pub mod states;
 
 use steps::enums::OwnerId;
 use steps::indices::enums::ReleaseMode;
+
+/// The least and the greatest capacity of a container.
+pub const CAPACITIES: (u64, u64) = (1, 0xffff_ffff);
 
 /// A call of the container by its name and arguments.
 #[derive(Clone, Copy, PartialEq, Eq)]

@@ -4,13 +4,19 @@
 //! submission queue) to one receiver, and gets them back through a bounded queue with as many cells as slots (the
 //! completion queue). The receiver is party 1 at first. Where it dies, the sender gets all back that it had sent, and the
 //! party of the next number is the receiver.
+ghost use Rattle.std.specs.Prelude.{◌≡◌};
+ghost use Rattle.model.specs.Families.Loan.Opening.{is_loan};
+
 pub mod calls;
 pub mod effects;
-pub mod opening;
 
 use crate::families::indices::holders::Holders;
 use crate::families::indices::robust::dead::Dead;
+use crate::turn::Kind;
 use steps::loan::places::Places;
+
+/// The least and the greatest number of slots.
+pub const CAPACITIES: (u64, u64) = (1, 0xff_fffe);
 
 /// A call of a loan channel by its name and arguments.
 #[derive(Clone, Copy, PartialEq, Eq)]
@@ -44,4 +50,14 @@ pub struct Book {
     pub receiver: u64,
     /// The parties that have died.
     pub dead: Dead,
+}
+
+/// Whether a machine of this kind is a loan channel.
+pub fn is_loan(kind: Kind) -> bool
+    ensures { result ≡ is_loan kind }
+{
+    match kind {
+        Kind::Loan => true,
+        _ => false,
+    }
 }

@@ -1,7 +1,9 @@
 //! The queues: their calls by name, who holds their roles, and what stands in the files beside this one.
 pub mod calls;
 pub mod effects;
-pub mod opening;
+
+/// The least and the greatest capacity of a queue.
+pub const CAPACITIES: (u64, u64) = (0, u32::MAX as u64);
 
 /// Which queue it is.
 #[derive(Clone, Copy)]

@@ -1,18 +1,8 @@
-//! The calls of the single value under way: what each wants, and how it goes on.
-ghost use Rattle.std.specs.Prelude.{◌≡◌, IfOk};
-ghost use Rattle.steps.specs.Ask.{CameTo};
-ghost use Rattle.model.specs.Families.Atomic.Calls.{first, want, after, goes_back};
-
-use super::AtomicStart;
-use crate::coding::Coded;
-use crate::event::Answer;
+//! The calls of the single value under way.
 use crate::room::Apart;
-use std::alloc::{AllocError, Global};
-use steps::ask::Want;
-use steps::atomic::{Load, PRODUCER, Store};
+use steps::atomic::{Load, Store};
 use steps::queues::roles::{AcquireRole, ReleaseRole};
 use steps::routine::Running;
-use steps::words::Words;
 
 /// A call of the single value under way.
 #[derive(Drop)]
@@ -21,89 +11,4 @@ pub enum AtomicFlight<T> {
     Release(Running<ReleaseRole, (), ()>),
     Store(Running<Store<T>, T, ()>),
     Load(Running<Load<T, Apart>, (), Apart>),
-}
-
-/// The call that begins, unless memory for its room is refused.
-pub fn first<T: Words>(alloc: Global, start: &AtomicStart<T>) -> Result<AtomicFlight<T>, AllocError>
-    ensures { IfOk result (λ flight. flight ≡ first start.now) }
-{
-    let flight = match *start {
-        AtomicStart::AcquireProducer => AtomicFlight::Acquire(Running {
-            call: AcquireRole { word: PRODUCER },
-            given: (),
-            room: (),
-        }),
-        AtomicStart::ReleaseProducer => AtomicFlight::Release(Running {
-            call: ReleaseRole { word: PRODUCER },
-            given: (),
-            room: (),
-        }),
-        AtomicStart::Store(value) => AtomicFlight::Store(Running {
-            call: Store::new(),
-            given: value,
-            room: (),
-        }),
-        AtomicStart::Load => AtomicFlight::Load(Running {
-            call: Load::new(),
-            given: (),
-            room: Apart::new(alloc)?,
-        }),
-    };
-    Ok(flight)
-}
-
-impl<T: Words> AtomicFlight<T> {
-    /// What the call wants next.
-    pub fn want(&self) -> Want<()>
-        ensures { result ≡ want ⟦<T as Coded>⟧.coding self.now }
-    {
-        match self {
-            AtomicFlight::Acquire(run) => run.want(),
-            AtomicFlight::Release(run) => run.want(),
-            AtomicFlight::Store(run) => run.want(),
-            AtomicFlight::Load(run) => run.want(),
-        }
-    }
-
-    /// Whether the call begins a turn of its loop again once it is handed this answer.
-    pub fn goes_back(&self, answer: u64) -> bool
-        ensures { result ≡ goes_back self.now answer }
-    {
-        match self {
-            AtomicFlight::Load(run) => run.call.goes_back(answer),
-            _ => false,
-        }
-    }
-
-    /// Lets the call go on from an answer, where it lies: its own answer, where it is done.
-    pub fn resume(&mut self, answer: u64) -> Option<Answer<T>>
-        ensures { CameTo result self.new (after ⟦<T as Coded>⟧.coding self.old answer) }
-    {
-        match self {
-            AtomicFlight::Acquire(run) => {
-                match run.go_on(answer) {
-                    Some(taken) => Some(Answer::Truth(taken)),
-                    None => None
-                }
-            }
-            AtomicFlight::Release(run) => {
-                match run.go_on(answer) {
-                    Some(()) => Some(Answer::Done),
-                    None => None
-                }
-            }
-            AtomicFlight::Store(run) => {
-                match run.go_on(answer) {
-                    Some(stored) => Some(Answer::Truth(stored)),
-                    None => None
-                }
-            }
-            AtomicFlight::Load(run) => {
-                match run.go_on(answer) {
-                    Some(value) => Some(Answer::Loaded(value)),
-                    None => None
-                }
-            }
-        }
-    }
 }

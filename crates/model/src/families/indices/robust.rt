@@ -2,11 +2,12 @@
 //! files beside this one.
 pub mod calls;
 pub mod dead;
-pub mod effects;
-pub mod opening;
 
 use steps::enums::OwnerId;
 use steps::indices::enums::ReleaseMode;
+
+/// The least and the greatest capacity of the set.
+pub const CAPACITIES: (u64, u64) = (1, 0xffff_ffff);
 
 /// A call of the robust index set by its name and arguments.
 #[derive(Clone, Copy, PartialEq, Eq)]

@@ -1,6 +1,0 @@
-use Rattle.model.proofs.families.loan.calls.LoanFlight.go_on.Goals as goal
-use Rattle.model.proofs.LoanBooks.{kept_as}
-
-pub returns-clause-kept : goal.returns-clause-kept
-returns-clause-kept g c =
-    kept_as g.row.T.Denot c.args.words.now.items c.args.push c.args.number c.args.start c.args.self.now c.resume-done.new.self c.args.answer c.args.book.now c.note.new.self c.settle.new.self c.effect_of-effect.result c.resume-done.result c.effect_of-effect.ensures c.resume-done.ensures c.note.ensures c.settle.ensures

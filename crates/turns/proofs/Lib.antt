@@ -1,0 +1,2 @@
+mod LoanBooks
+mod Places

@@ -1,0 +1,291 @@
+//! The families of calls. Each has a room of its own, and here one line where a machine passes on to it.
+ghost use Rattle.std.specs.Prelude.{◌≡◌, ◌+◌, ◌≤◌, ◌++◌, ◌⊎◌, true, false, None, Some, OnOk, IfOk, IfErr, vec_len, vec_capacity};
+ghost use Rattle.steps.specs.Ask.{CameTo};
+ghost use Rattle.model.specs.Families.{opening_of, first_of, begin_rows, want_of, is_question, most_of, beside_of, step_of, going_rows, lacks_party, death_rows, kept_after_death, kept_after_begin};
+ghost use Rattle.model.specs.Rows.{first_row};
+ghost use Rattle.model.specs.declared.turn.Refusal.TheVariants.{NoMemory};
+
+use model::coding::Coded;
+use model::event::{Event, Start};
+use model::families::queues::QueueKind;
+use model::families::{Beside, Flight, Kept, Went};
+use model::party::Latest;
+use model::turn::{Kind, Refusal};
+use std::alloc::{AllocError, Global};
+use steps::ask::Want;
+use steps::enums::OwnerId;
+use steps::words::Words;
+
+pub mod atomic;
+pub mod bits;
+pub mod container;
+pub mod indices;
+pub mod loan;
+pub mod queues;
+
+/// The words at the opening of a structure of this kind and capacity, and what its family keeps beside them.
+pub fn opening<T: Words>(
+    alloc: Global,
+    kind: Kind,
+    capacity: u32,
+) -> Result<(Vec<u64>, Kept<T>), AllocError>
+    ensures words { IfOk result
+        (λ opened. opened.0.items ≡ (opening_of kind).words ⟦<T as Coded>⟧.coding.size capacity) }
+    ensures kept { IfOk result (λ opened. opened.1 ≡ (opening_of kind).kept capacity) }
+{
+    match kind {
+        Kind::IndexQueue => queues::opening::open::<T>(alloc, QueueKind::IndexQueue, capacity),
+        Kind::Overflow => queues::opening::open::<T>(alloc, QueueKind::Overflow, capacity),
+        Kind::Queue => queues::opening::open::<T>(alloc, QueueKind::Queue, capacity),
+        Kind::Atomic => atomic::opening::open::<T>(alloc),
+        Kind::Bits => bits::opening::open_bits::<T>(alloc, capacity),
+        Kind::Counts => bits::opening::open_counts::<T>(alloc, capacity),
+        Kind::Indices => indices::opening::open::<T>(alloc, capacity),
+        Kind::Robust => indices::robust::opening::open::<T>(alloc, capacity),
+        Kind::Container => container::opening::open::<T>(alloc, capacity),
+        Kind::Loan => loan::opening::open::<T>(alloc, capacity, capacity),
+    }
+}
+
+/// The call that this party begins, or why it may not, unless memory for its room is refused.
+pub fn begin<T: Words>(
+    alloc: Global,
+    kind: Kind,
+    capacity: u32,
+    kept: &Kept<T>,
+    number: u32,
+    start: &Start<T>,
+) -> Result<Flight<T>, Refusal>
+    ensures ok { IfOk result (λ flight. first_of kind capacity start.now kept.now ≡ Some flight) }
+    ensures allowed { OnOk result
+        (first_row (begin_rows kind capacity kept.now number start.now) ≡ None) }
+    ensures refused { IfErr result
+        (λ row. (first_row (begin_rows kind capacity kept.now number start.now) ≡ Some row)
+        ⊎ (first_row (begin_rows kind capacity kept.now number start.now) ≡ None)
+        × (row ≡ NoMemory)) }
+{
+    match (start, kept) {
+        (Start::Queues(start), Kept::Queues(roles)) => {
+            let flight = queues::opening::begin(alloc, kind, capacity, roles, number, start)?;
+            Ok(Flight::Queues(flight))
+        }
+        (Start::Atomic(start), Kept::Atomic(producer)) => {
+            let flight = atomic::opening::begin(alloc, kind, *producer, number, start)?;
+            Ok(Flight::Atomic(flight))
+        }
+        (Start::Bits(start), Kept::Nothing) => {
+            let flight = bits::opening::begin(kind, capacity, *start)?;
+            Ok(Flight::Bits(flight))
+        }
+        (Start::Indices(start), Kept::Indices(holders)) => {
+            let flight = indices::opening::begin(kind, capacity, holders, number, start)?;
+            Ok(Flight::Indices(flight))
+        }
+        (Start::Robust(start), Kept::Owners(dead)) => {
+            let flight = indices::robust::opening::begin(kind, capacity, dead, start)?;
+            Ok(Flight::Robust(flight))
+        }
+        (Start::Container(start), Kept::Container(dead, _)) => {
+            let flight = container::opening::begin(alloc, kind, capacity, dead, start)?;
+            Ok(Flight::Container(flight))
+        }
+        (Start::Loan(start), Kept::Loan(book)) => {
+            let flight = loan::opening::begin(kind, capacity, book, number, *start)?;
+            Ok(Flight::Loan(flight))
+        }
+        _ => Err(Refusal::WrongCall),
+    }
+}
+
+/// The party begins this call: what its family keeps from now on, unless memory for it is refused. Then nothing
+/// changes.
+pub fn keep<T: Words>(kept: &mut Kept<T>, capacity: u32, start: &Start<T>, number: u32) -> bool
+    ensures keeps { result ≡ true → kept.new
+        ≡ kept_after_begin ⟦<T as Coded>⟧.coding capacity start.now number kept.old }
+    ensures same { result ≡ false → kept.new ≡ kept.old }
+{
+    match (start, kept) {
+        (Start::Container(start), Kept::Container(_, states)) => {
+            container::opening::keep(capacity, start, number, states)
+        }
+        (Start::Loan(start), Kept::Loan(book)) => {
+            loan::opening::keep(book, *start);
+            true
+        }
+        _ => true,
+    }
+}
+
+/// Whether the owner would be a party, and there is none of this number.
+pub fn lacks_party<T>(kept: &Kept<T>, parties: u32, owner: OwnerId) -> bool
+    ensures { result ≡ lacks_party kept.now parties owner }
+{
+    match kept {
+        Kept::Loan(_) => owner.value() >= parties as u64,
+        _ => false,
+    }
+}
+
+/// Why this owner may not die, or None. Only a structure that has owners keeps who has died.
+pub fn death_refusal<T>(kept: &Kept<T>, owner: OwnerId) -> Option<Refusal>
+    ensures { result ≡ first_row (death_rows kept.now owner) }
+{
+    match kept {
+        Kept::Owners(dead) => {
+            if dead.has(owner) {
+                Some(Refusal::OwnerIsDead)
+            } else {
+                None
+            }
+        }
+        Kept::Container(dead, _) => {
+            if dead.has(owner) {
+                Some(Refusal::OwnerIsDead)
+            } else {
+                None
+            }
+        }
+        Kept::Loan(book) => {
+            if book.dead.has(owner) {
+                Some(Refusal::OwnerIsDead)
+            } else {
+                None
+            }
+        }
+        _ => Some(Refusal::WrongCall),
+    }
+}
+
+/// This owner is dead from now on, unless memory for it is refused. Then nothing changes.
+pub fn die<T>(kept: &mut Kept<T>, owner: OwnerId) -> bool
+    ensures dies { result ≡ true → kept.new ≡ kept_after_death kept.old owner }
+    ensures same { result ≡ false → kept.new ≡ kept.old }
+{
+    match kept {
+        Kept::Owners(dead) => dead.add(owner),
+        Kept::Container(dead, _) => dead.add(owner),
+        Kept::Loan(book) => book.dead.add(owner),
+        _ => true,
+    }
+}
+
+/// What a step of this party has to know of the others.
+pub fn look_beside<T>(kept: &Kept<T>, words: &Vec<u64>, latest: &Latest<T>, number: u32) -> Beside
+    ensures { result ≡ beside_of words.now.items kept.now latest.now.entries number }
+{
+    match kept {
+        Kept::Queues(roles) => queues::effects::look_beside(roles, words, latest, number),
+        Kept::Loan(book) => loan::effects::look_beside(book, words, latest, number),
+        _ => None,
+    }
+}
+
+/// What the call wants next, and the most events that its next step writes, apart from the end of the call.
+pub fn going<T: Words>(flight: &Flight<T>) -> (Want<()>, usize)
+    ensures want { result.0 ≡ want_of ⟦<T as Coded>⟧.coding flight.now }
+    ensures most { result.1 ≡ most_of ⟦<T as Coded>⟧.coding flight.now }
+    ensures few { result.1 ≤ 64 }
+{
+    match flight {
+        Flight::Queues(call) => (queues::calls::want(call), queues::effects::MOST_EFFECTS),
+        Flight::Atomic(call) => (atomic::calls::want(call), atomic::effects::MOST_EFFECTS),
+        Flight::Bits(call) => (bits::calls::want(call), bits::effects::most_effects(call)),
+        Flight::Indices(call) => (indices::calls::want(call), indices::effects::MOST_EFFECTS),
+        Flight::Robust(call) => (
+            indices::robust::calls::want(call),
+            indices::robust::effects::MOST_EFFECTS,
+        ),
+        Flight::Container(call) => (
+            container::calls::want(call),
+            container::effects::MOST_EFFECTS,
+        ),
+        Flight::Loan(call) => (loan::calls::want(call), loan::effects::MOST_EFFECTS),
+    }
+}
+
+/// Whether a decision is due.
+pub fn is_asking<T: Words>(flight: &Flight<T>) -> bool
+    ensures { result ≡ is_question (want_of ⟦<T as Coded>⟧.coding flight.now) }
+{
+    let (want, _) = going(flight);
+    match want {
+        Want::Question(_) => true,
+        _ => false,
+    }
+}
+
+/// Why the call may not go on, by a decision or without, for what its family keeps. None where it may.
+pub fn going_refusal<T: Words>(
+    flight: &Flight<T>,
+    kept: &Kept<T>,
+    said: Option<bool>,
+) -> Option<Refusal>
+    ensures { result ≡ first_row (going_rows ⟦<T as Coded>⟧.coding kept.now (Some flight.now) said) }
+{
+    match (flight, kept) {
+        (Flight::Robust(call), Kept::Owners(dead)) => {
+            indices::robust::opening::going_refusal(call, dead, said)
+        }
+        (Flight::Container(call), Kept::Container(dead, _)) => {
+            container::opening::going_refusal(call, dead)
+        }
+        (Flight::Loan(call), Kept::Loan(book)) => loan::opening::going_refusal(call, book),
+        _ => None,
+    }
+}
+
+/// Lets the call go on from an answer, where it lies, and writes down what its step does, in the room that was kept
+/// for it. The words are those before the step.
+pub fn go_on<T: Words>(
+    flight: &mut Flight<T>,
+    number: u32,
+    start: &Start<T>,
+    words: &Vec<u64>,
+    beside: Beside,
+    answer: u64,
+    kept: &mut Kept<T>,
+    events: &mut Vec<Event<T>>,
+) -> Went<T>
+    requires { vec_len events.old + most_of ⟦<T as Coded>⟧.coding flight.old
+        ≤ vec_capacity events.old }
+    ensures after { CameTo result.done flight.new (step_of ⟦<T as Coded>⟧.coding words.now.items beside
+        number start.now flight.old answer kept.old).after }
+    ensures back { result.back ≡ (step_of ⟦<T as Coded>⟧.coding words.now.items beside
+        number start.now flight.old answer kept.old).back }
+    ensures kept { kept.new ≡ (step_of ⟦<T as Coded>⟧.coding words.now.items beside
+        number start.now flight.old answer kept.old).kept }
+    ensures wrote { events.new.items ≡ events.old.items
+        ++ (step_of ⟦<T as Coded>⟧.coding words.now.items beside
+        number start.now flight.old answer kept.old).wrote }
+    ensures few { vec_len events.new
+        ≤ vec_len events.old + most_of ⟦<T as Coded>⟧.coding flight.old }
+    ensures room { vec_capacity events.new ≡ vec_capacity events.old }
+{
+    match (flight, start, kept) {
+        (Flight::Queues(call), Start::Queues(start), Kept::Queues(roles)) => {
+            queues::effects::go_on(call, number, start, words, beside, answer, roles, events)
+        }
+        (Flight::Atomic(call), Start::Atomic(start), Kept::Atomic(producer)) => {
+            atomic::effects::go_on(call, number, start, answer, producer, events)
+        }
+        (Flight::Bits(call), Start::Bits(_), Kept::Nothing) => {
+            bits::effects::go_on(call, number, answer, events)
+        }
+        (Flight::Indices(call), Start::Indices(_), Kept::Indices(holders)) => {
+            indices::effects::go_on(call, number, answer, holders, events)
+        }
+        (Flight::Robust(call), Start::Robust(_), Kept::Owners(dead)) => {
+            indices::robust::effects::go_on(call, number, answer, dead, events)
+        }
+        (Flight::Container(call), Start::Container(_), Kept::Container(_, states)) => {
+            container::effects::go_on(call, number, answer, states, events)
+        }
+        (Flight::Loan(call), Start::Loan(start), Kept::Loan(book)) => {
+            loan::effects::go_on(call, number, *start, words, beside, answer, book, events)
+        }
+        _ => Went {
+            back: false,
+            done: None,
+        },
+    }
+}

@@ -1,0 +1,82 @@
+//! What a step of a call of the single value writes down.
+ghost use Rattle.std.specs.Prelude.{◌≡◌, ◌+◌, ◌≤◌, ◌++◌, vec_len, vec_capacity};
+ghost use Rattle.steps.specs.Ask.{CameTo};
+ghost use Rattle.model.specs.Families.Atomic.Steps.{acted, producer_after, step};
+
+use super::calls::{goes_back, resume};
+use model::coding::Coded;
+use model::event::{Answer, Event, Start};
+use model::families::Went;
+use model::families::atomic::AtomicStart;
+use model::families::atomic::calls::AtomicFlight;
+use steps::words::Words;
+
+/// The most events that a step writes: an act.
+pub const MOST_EFFECTS: usize = 1;
+
+/// Writes down the act of a call, where it is done and acts.
+fn tell<T: Copy>(
+    events: &mut Vec<Event<T>>,
+    number: u32,
+    start: &AtomicStart<T>,
+    done: Option<Answer<T>>,
+)
+    requires { vec_len events.old + 1 ≤ vec_capacity events.old }
+    ensures items { events.new.items ≡ events.old.items ++ acted number start.now done }
+    ensures few { vec_len events.new ≤ vec_len events.old + 1 }
+    ensures room { vec_capacity events.new ≡ vec_capacity events.old }
+{
+    match (start, done) {
+        (AtomicStart::Store(_), Some(Answer::Truth(true))) => {
+            events.push_reserved(Event::Acted(number, Start::Atomic(*start), Answer::Truth(true)));
+        }
+        (AtomicStart::Load, Some(answer)) => {
+            events.push_reserved(Event::Acted(number, Start::Atomic(*start), answer));
+        }
+        _ => {}
+    }
+}
+
+/// Who holds the producer's role once a party's call went on, with its answer where it is done.
+fn settle<T: Copy>(
+    producer: &mut Option<u32>,
+    number: u32,
+    start: &AtomicStart<T>,
+    done: Option<Answer<T>>,
+)
+    ensures { producer.new ≡ producer_after number start.now done producer.old }
+{
+    match (start, done) {
+        (AtomicStart::AcquireProducer, Some(Answer::Truth(true))) => *producer = Some(number),
+        (AtomicStart::ReleaseProducer, Some(_)) => *producer = None,
+        _ => {}
+    }
+}
+
+/// Lets the call go on from an answer, where it lies, with what its step writes down.
+pub fn go_on<T: Words>(
+    flight: &mut AtomicFlight<T>,
+    number: u32,
+    start: &AtomicStart<T>,
+    answer: u64,
+    producer: &mut Option<u32>,
+    events: &mut Vec<Event<T>>,
+) -> Went<T>
+    requires { vec_len events.old + MOST_EFFECTS ≤ vec_capacity events.old }
+    ensures after { CameTo result.done flight.new
+        (step ⟦<T as Coded>⟧.coding number start.now flight.old answer producer.old).after }
+    ensures back { result.back
+        ≡ (step ⟦<T as Coded>⟧.coding number start.now flight.old answer producer.old).back }
+    ensures kept { producer.new
+        ≡ (step ⟦<T as Coded>⟧.coding number start.now flight.old answer producer.old).kept }
+    ensures wrote { events.new.items ≡ events.old.items
+        ++ (step ⟦<T as Coded>⟧.coding number start.now flight.old answer producer.old).wrote }
+    ensures few { vec_len events.new ≤ vec_len events.old + MOST_EFFECTS }
+    ensures room { vec_capacity events.new ≡ vec_capacity events.old }
+{
+    let back = goes_back(flight, answer);
+    let done = resume(flight, answer);
+    tell(events, number, start, done);
+    settle(producer, number, start, done);
+    Went { back, done }
+}

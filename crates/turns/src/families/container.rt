@@ -1,0 +1,4 @@
+//! The container of values: how it opens, which call begins, how it goes on, and what that writes down.
+pub mod calls;
+pub mod effects;
+pub mod opening;

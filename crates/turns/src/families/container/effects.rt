@@ -1,0 +1,269 @@
+//! What a step of a call of the container writes down.
+ghost use Rattle.std.specs.Prelude.{◌≡◌, ◌+◌, ◌≤◌, ◌++◌, vec_len, vec_capacity, option_to_list};
+ghost use Rattle.steps.specs.Ask.{CameTo};
+ghost use Rattle.model.specs.Families.Container.Calls.{after, goes_back, states_after};
+ghost use Rattle.model.specs.Families.Container.States.{state_of};
+ghost use Rattle.model.specs.Families.Container.Steps.{placed, hidden, copied, shown, checked, add_effects, remove_effects, replace_effects, find_effects, recover_effects, look_effects, copy_in, effects, question_of, questions};
+
+use super::calls::{goes_back, resume};
+use crate::families::indices::robust::effects::{acquire_effect, freed, locked_by, release_effect};
+use model::coding::Coded;
+use model::event::Event;
+use model::families::Went;
+use model::families::container::calls::ContainerFlight;
+use model::families::container::states::States;
+use steps::container::add::{AddStage, Owned};
+use steps::container::find::FindStage;
+use steps::container::look::LookStage;
+use steps::container::recover::{DeadOwner, RecoverStage};
+use steps::container::remove::RemoveStage;
+use steps::container::replace::{ReplaceStage, Replacement};
+use steps::copied::Room;
+use steps::indices::robust::release::GiveBack;
+use steps::words::Words;
+
+/// The most events that a step of a call writes, apart from the end of its call.
+pub const MOST_EFFECTS: usize = 2;
+
+/// What adding 1 to the number of an element does from this answer.
+fn placed<T: Copy>(number: u32, index: u32, value: T, answer: u64) -> Option<Event<T>>
+    ensures { option_to_list result ≡ placed number index value answer }
+{
+    if answer % 2 == 0 {
+        Some(Event::Placed(number, index, value))
+    } else {
+        None
+    }
+}
+
+/// What the exchange of an odd number of an element for the next does.
+fn hidden<T>(number: u32, index: u32, count: u64, answer: u64) -> Option<Event<T>>
+    ensures { option_to_list result ≡ hidden number index count answer }
+{
+    if answer == count {
+        Some(Event::Hidden(number, index))
+    } else {
+        None
+    }
+}
+
+/// What the exchange of the number of an element for itself does, behind the copy of its value.
+fn copied<T: Copy>(number: u32, index: u32, count: u64, value: T, answer: u64) -> Option<Event<T>>
+    ensures { option_to_list result ≡ copied number index count value answer }
+{
+    if answer == count {
+        Some(Event::Copied(number, index, value))
+    } else {
+        None
+    }
+}
+
+/// What a recovery is shown by the number of an element.
+fn shown<T>(number: u32, index: u32, answer: u64) -> Option<Event<T>>
+    ensures { option_to_list result ≡ shown number index answer }
+{
+    if answer % 2 == 0 {
+        Some(Event::Shown(number, index))
+    } else {
+        None
+    }
+}
+
+/// What that exchange does in a recovery.
+fn checked<T: Copy>(number: u32, index: u32, count: u64, value: T, answer: u64) -> Option<Event<T>>
+    ensures { option_to_list result ≡ checked number index count value answer }
+{
+    if answer == count {
+        Some(Event::Copied(number, index, value))
+    } else {
+        shown(number, index, answer)
+    }
+}
+
+/// What the step of an add at this stage does from this answer.
+fn add_effect<T: Copy>(
+    number: u32,
+    given: &Owned<T>,
+    stage: AddStage,
+    answer: u64,
+) -> Option<Event<T>>
+    ensures { option_to_list result ≡ add_effects number given.now stage answer }
+{
+    match stage {
+        AddStage::Acquires { stage } => acquire_effect(number, given.owner, stage, answer),
+        AddStage::Hides { index, count } => hidden(number, index, count, answer),
+        AddStage::AddsCount { index } => placed(number, index, given.value, answer),
+        _ => None,
+    }
+}
+
+/// The same of a remove.
+fn remove_effect<T>(
+    number: u32,
+    given: GiveBack,
+    stage: RemoveStage,
+    answer: u64,
+) -> Option<Event<T>>
+    ensures { option_to_list result ≡ remove_effects number given stage answer }
+{
+    match stage {
+        RemoveStage::Releases { stage, .. } => release_effect(number, given, stage, answer),
+        RemoveStage::Hides { count, .. } => hidden(number, given.index, count, answer),
+        _ => None,
+    }
+}
+
+/// The same of a replace.
+fn replace_effect<T: Copy>(
+    number: u32,
+    given: &Replacement<T>,
+    stage: ReplaceStage,
+    answer: u64,
+) -> Option<Event<T>>
+    ensures { option_to_list result ≡ replace_effects number given.now stage answer }
+{
+    match stage {
+        ReplaceStage::Hides { count } => hidden(number, given.index, count, answer),
+        ReplaceStage::AddsCount => placed(number, given.index, given.value, answer),
+        _ => None,
+    }
+}
+
+/// The same of a find, whose room makes this value.
+fn find_effect<T: Copy>(number: u32, value: T, stage: FindStage, answer: u64) -> Option<Event<T>>
+    ensures { option_to_list result ≡ find_effects number value stage answer }
+{
+    match stage {
+        FindStage::ChecksCount { index, count, .. } => copied(number, index, count, value, answer),
+        _ => None,
+    }
+}
+
+/// The same of a recovery, whose room makes this value.
+fn recover_effect<T: Copy>(
+    number: u32,
+    given: DeadOwner,
+    value: T,
+    stage: RecoverStage,
+    answer: u64,
+) -> Option<Event<T>>
+    ensures { option_to_list result ≡ recover_effects number given value stage answer }
+{
+    match stage {
+        RecoverStage::LoadsCount { index } => shown(number, index, answer),
+        RecoverStage::ChecksCount { index, count } => checked(number, index, count, value, answer),
+        RecoverStage::Asks { index, .. } => {
+            if answer == 0 {
+                None
+            } else {
+                Some(Event::Told(number, index, given.owner))
+            }
+        }
+        RecoverStage::EmptiesCell { index, .. } => freed(number, index, given.owner, answer),
+        RecoverStage::Hides { index, count } => hidden(number, index, count, answer),
+        RecoverStage::Locks { lock, .. } => locked_by(number, lock, answer),
+        _ => None,
+    }
+}
+
+/// The same of a look, in whose state these words make this value.
+fn look_effect<T: Copy>(number: u32, value: T, stage: LookStage, answer: u64) -> Option<Event<T>>
+    ensures { option_to_list result ≡ look_effects number value stage answer }
+{
+    match stage {
+        LookStage::ChecksCount { index, count } => copied(number, index, count, value, answer),
+        _ => None,
+    }
+}
+
+/// The question that the step of a recovery puts.
+fn question_of<T>(
+    number: u32,
+    given: DeadOwner,
+    stage: RecoverStage,
+    answer: u64,
+) -> Option<Event<T>>
+    ensures { option_to_list result ≡ question_of number given stage answer }
+{
+    match stage {
+        RecoverStage::ChecksCount { index, count } => {
+            if answer == count {
+                Some(Event::Asked(number, index, given.owner))
+            } else {
+                None
+            }
+        }
+        _ => None,
+    }
+}
+
+/// What the next step of the call does from this answer.
+fn effect<T: Words>(
+    flight: &ContainerFlight<T>,
+    number: u32,
+    states: &States<T>,
+    answer: u64,
+) -> Option<Event<T>>
+    ensures { option_to_list result ≡ effects ⟦<T as Coded>⟧.coding number
+        (state_of number states.now) flight.now answer }
+{
+    match flight {
+        ContainerFlight::Add(run) => add_effect(number, &run.given, run.call.stage, answer),
+        ContainerFlight::Remove(run) => remove_effect(number, run.given, run.call.stage, answer),
+        ContainerFlight::Replace(run) => {
+            replace_effect(number, &run.given, run.call.stage, answer)
+        }
+        ContainerFlight::Find(run) => {
+            find_effect(number, run.room.value(), run.call.stage, answer)
+        }
+        ContainerFlight::Recover(run) => {
+            recover_effect(number, run.given, run.room.value(), run.call.stage, answer)
+        }
+        ContainerFlight::Look(_, call) => match states.get(number) {
+            Some(state) => look_effect(number, state.shown.copied(), call.stage, answer),
+            None => None,
+        },
+        _ => None,
+    }
+}
+
+/// The question that the next step of the call puts.
+fn question<T: Words>(flight: &ContainerFlight<T>, number: u32, answer: u64) -> Option<Event<T>>
+    ensures { option_to_list result ≡ questions number flight.now answer }
+{
+    match flight {
+        ContainerFlight::Recover(run) => { question_of(number, run.given, run.call.stage, answer) }
+        _ => None,
+    }
+}
+
+/// Lets the call go on from an answer, where it lies, with what its step writes down.
+pub fn go_on<T: Words>(
+    flight: &mut ContainerFlight<T>,
+    number: u32,
+    answer: u64,
+    states: &mut States<T>,
+    events: &mut Vec<Event<T>>,
+) -> Went<T>
+    requires { vec_len events.old + MOST_EFFECTS ≤ vec_capacity events.old }
+    ensures after { CameTo result.done flight.new
+        (after ⟦<T as Coded>⟧.coding (state_of number states.old) flight.old answer) }
+    ensures back { result.back ≡ goes_back flight.old answer }
+    ensures states { states.new
+        ≡ states_after ⟦<T as Coded>⟧.coding number flight.old answer states.old }
+    ensures wrote { events.new.items ≡ events.old.items
+        ++ (effects ⟦<T as Coded>⟧.coding number (state_of number states.old) flight.old answer
+        ++ questions number flight.old answer) }
+    ensures few { vec_len events.new ≤ vec_len events.old + MOST_EFFECTS }
+    ensures room { vec_capacity events.new ≡ vec_capacity events.old }
+{
+    let back = goes_back(flight, answer);
+    if let Some(event) = effect(flight, number, states, answer) {
+        events.push_reserved(event);
+    }
+    if let Some(event) = question(flight, number, answer) {
+        events.push_reserved(event);
+    }
+    let done = resume(flight, number, states, answer);
+    Went { back, done }
+}

@@ -1,0 +1,4 @@
+//! The queues: how one opens, which call begins, how it goes on, and what that writes down.
+pub mod calls;
+pub mod effects;
+pub mod opening;

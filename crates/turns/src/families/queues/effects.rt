@@ -1,0 +1,304 @@
+//! What a step of a call writes down.
+ghost use Rattle.std.specs.Prelude.{◌≡◌, ◌+◌, ◌≤◌, ◌<◌, ◌++◌, vec_len, vec_capacity, option_copied};
+ghost use Rattle.steps.specs.Ask.{CameTo};
+ghost use Rattle.model.specs.Families.Queues.Steps.{pending_at, pending, beside, push_effect, pop_effect, overflow_push_effect, overflow_pop_effect, effect_of, acts_if_done, effects_of, roles_after, step};
+
+use super::calls::{goes_back, resume};
+use super::opening::holds;
+use crate::party::flight_of;
+use crate::words::word_at;
+use model::coding::Coded;
+use model::event::{Answer, Event, Item, Start};
+use model::families::queues::calls::{OverflowCall, QueueFlight, RingCall};
+use model::families::queues::effects::Effect;
+use model::families::queues::{QueueStart, Roles};
+use model::families::{Flight, Went};
+use model::party::Latest;
+use steps::copied::Room;
+use steps::queues::overflow::cell_word;
+use steps::queues::ring::READ;
+use steps::queues::{overflow, ring};
+use steps::words::Words;
+
+/// The most events that a step writes, apart from the end of its call.
+pub const MOST_EFFECTS: usize = 3;
+
+/// The value of the push that has published over a full queue, and acts once the read position goes on from here.
+fn pending_at<T>(position: u64, flight: Option<&Flight<T>>) -> Option<u64>
+    ensures { result ≡ pending_at position (option_copied flight.entry) }
+{
+    match flight {
+        Some(Flight::Queues(QueueFlight::Overflow(OverflowCall::Push(run)))) => match run
+            .call
+            .stage
+        {
+            overflow::PushStage::MovesRead { read } => {
+                if read == position {
+                    Some(run.given)
+                } else {
+                    None
+                }
+            }
+            _ => None,
+        },
+        _ => None,
+    }
+}
+
+/// The party whose push has published over a full queue, and acts once the read position goes on from here, and the
+/// value. Only the holder of the producer's role can have one.
+fn pending<T>(position: u64, producer: Option<u32>, latest: &Latest<T>) -> Option<(u32, u64)>
+    ensures { result ≡ pending position producer latest.now.entries }
+{
+    match producer {
+        None => None,
+        Some(number) => match pending_at(position, flight_of(latest, number)) {
+            None => None,
+            Some(value) => Some((number, value)),
+        },
+    }
+}
+
+/// The push that acts where this party moves the read position, which the consumer alone can do by a pop.
+pub fn look_beside<T>(
+    roles: &Roles,
+    words: &Vec<u64>,
+    latest: &Latest<T>,
+    number: u32,
+) -> Option<(u32, u64)>
+    ensures { result ≡ beside roles.now words.now.items latest.now.entries number }
+{
+    if holds(roles.consumer, number) {
+        pending(word_at(words, READ), roles.producer, latest)
+    } else {
+        None
+    }
+}
+
+/// What a push of the bounded queue does with its value.
+fn push_effect<T: Copy>(item: Item<T>, stage: &ring::PushStage) -> Effect<T>
+    ensures { result ≡ push_effect item stage.now }
+{
+    match stage {
+        ring::PushStage::LoadsWrite => Effect::Quiet,
+        ring::PushStage::LoadsRead { .. } => Effect::Acts,
+        ring::PushStage::StoresCell { .. } => Effect::Quiet,
+        ring::PushStage::StoresWrite { .. } => Effect::Publishes(item),
+    }
+}
+
+/// What a pop of the bounded queue does, where this is the value that it has read.
+fn pop_effect<T: Copy>(item: Item<T>, stage: &ring::PopStage) -> Effect<T>
+    ensures { result ≡ pop_effect item stage.now }
+{
+    match stage {
+        ring::PopStage::LoadsRead => Effect::Quiet,
+        ring::PopStage::LoadsWrite { .. } => Effect::Acts,
+        ring::PopStage::LoadsCell { .. } => Effect::Quiet,
+        ring::PopStage::StoresRead { .. } => Effect::HandsOut(item),
+    }
+}
+
+fn overflow_push_effect<T: Copy>(
+    words: &Vec<u64>,
+    capacity: u32,
+    item: Item<T>,
+    stage: &overflow::PushStage,
+    answer: u64,
+) -> Effect<T>
+    ensures { result ≡ overflow_push_effect words.now.items capacity item stage.now answer }
+{
+    match *stage {
+        overflow::PushStage::HandsBack => Effect::Acts,
+        overflow::PushStage::LoadsWrite => Effect::Quiet,
+        overflow::PushStage::LoadsRead { .. } => Effect::Quiet,
+        overflow::PushStage::StoresCell { .. } => Effect::Quiet,
+        overflow::PushStage::StoresWrite { write, read } => {
+            if write.wrapping_sub(read) == capacity as u64 && word_at(words, READ) != read {
+                Effect::PublishesAndActs(item)
+            } else {
+                Effect::Publishes(item)
+            }
+        }
+        overflow::PushStage::MovesRead { read } => {
+            if answer == read {
+                Effect::TakesOut(word_at(words, cell_word(capacity, read)))
+            } else {
+                Effect::Quiet
+            }
+        }
+        overflow::PushStage::LoadsCell { .. } => Effect::Quiet,
+    }
+}
+
+fn overflow_pop_effect<T: Copy>(
+    words: &Vec<u64>,
+    pending: Option<(u32, u64)>,
+    capacity: u32,
+    stage: &overflow::PopStage,
+    answer: u64,
+) -> Effect<T>
+    ensures { result ≡ overflow_pop_effect words.now.items pending capacity stage.now answer }
+{
+    match *stage {
+        overflow::PopStage::FindsNone => Effect::Acts,
+        overflow::PopStage::LoadsRead => Effect::Quiet,
+        overflow::PopStage::LoadsWrite { .. } => Effect::Acts,
+        overflow::PopStage::LoadsCell { .. } => Effect::Quiet,
+        overflow::PopStage::MovesRead { read } => {
+            if answer != read {
+                return Effect::Quiet;
+            }
+            let oldest = Item::Index(word_at(words, cell_word(capacity, read)));
+            match pending {
+                Some((number, value)) => Effect::MakesRoom(oldest, number, value),
+                None => Effect::HandsOut(oldest),
+            }
+        }
+    }
+}
+
+/// What the next step of the call does, where these are the words, and this push has not acted yet.
+fn effect_of<T: Words>(
+    words: &Vec<u64>,
+    waits: Option<(u32, u64)>,
+    flight: &QueueFlight<T>,
+    answer: u64,
+) -> Effect<T>
+    ensures { result ≡ effect_of ⟦<T as Coded>⟧.coding words.now.items waits flight.now answer }
+{
+    match flight {
+        QueueFlight::Role(_) => Effect::Quiet,
+        QueueFlight::Length(_, _) => Effect::Quiet,
+        QueueFlight::Indices(RingCall::Push(run)) => {
+            push_effect(Item::Index(run.given), &run.call.stage)
+        }
+        QueueFlight::Indices(RingCall::Pop(run)) => {
+            pop_effect(Item::Index(run.room.0), &run.call.stage)
+        }
+        QueueFlight::Values(RingCall::Push(run)) => {
+            push_effect(Item::Value(run.given), &run.call.stage)
+        }
+        QueueFlight::Values(RingCall::Pop(run)) => {
+            pop_effect(Item::Value(run.room.value()), &run.call.stage)
+        }
+        QueueFlight::Overflow(OverflowCall::Push(run)) => {
+            let item = Item::Index(run.given);
+            overflow_push_effect(words, run.call.capacity, item, &run.call.stage, answer)
+        }
+        QueueFlight::Overflow(OverflowCall::Pop(run)) => {
+            overflow_pop_effect(words, waits, run.call.capacity, &run.call.stage, answer)
+        }
+    }
+}
+
+/// Writes down the act of a call, where it is done.
+fn tell_act<T: Copy>(
+    events: &mut Vec<Event<T>>,
+    number: u32,
+    start: &QueueStart<T>,
+    done: Option<Answer<T>>,
+)
+    requires { vec_len events.old + 1 ≤ vec_capacity events.old }
+    ensures items { events.new.items ≡ events.old.items ++ acts_if_done number start.now done }
+    ensures few { vec_len events.new ≤ vec_len events.old + 1 }
+    ensures room { vec_capacity events.new ≡ vec_capacity events.old }
+{
+    match done {
+        None => {}
+        Some(answer) => {
+            events.push_reserved(Event::Acted(number, Start::Queues(*start), answer));
+        }
+    }
+}
+
+/// Writes down what a step did to the structure, and the acts.
+fn tell<T: Copy>(
+    events: &mut Vec<Event<T>>,
+    number: u32,
+    start: &QueueStart<T>,
+    effect: Effect<T>,
+    done: Option<Answer<T>>,
+)
+    requires { vec_len events.old + MOST_EFFECTS ≤ vec_capacity events.old }
+    ensures items { events.new.items ≡ events.old.items ++ effects_of number start.now effect done }
+    ensures few { vec_len events.new ≤ vec_len events.old + MOST_EFFECTS }
+    ensures room { vec_capacity events.new ≡ vec_capacity events.old }
+{
+    match effect {
+        Effect::Quiet => {}
+        Effect::Acts => tell_act(events, number, start, done),
+        Effect::Publishes(item) => {
+            events.push_reserved(Event::Published(number, item));
+            tell_act(events, number, start, done);
+        }
+        Effect::PublishesAndActs(item) => {
+            events.push_reserved(Event::Published(number, item));
+            let start = Start::Queues(*start);
+            events.push_reserved(Event::Acted(number, start, Answer::PoppedNone));
+        }
+        Effect::HandsOut(item) => {
+            events.push_reserved(Event::HandedOut(number, item));
+            tell_act(events, number, start, done);
+        }
+        Effect::TakesOut(index) => {
+            events.push_reserved(Event::HandedOut(number, Item::Index(index)));
+            let start = Start::Queues(*start);
+            events.push_reserved(Event::Acted(number, start, Answer::PoppedIndex(index)));
+        }
+        Effect::MakesRoom(item, other, pushed) => {
+            events.push_reserved(Event::HandedOut(number, item));
+            tell_act(events, number, start, done);
+            let push = Start::Queues(QueueStart::PushIndex(pushed));
+            events.push_reserved(Event::Acted(other, push, Answer::PoppedNone));
+        }
+    }
+}
+
+/// A party's call went on, with its answer where it is done.
+fn settle<T: Copy>(roles: &mut Roles, number: u32, start: &QueueStart<T>, done: Option<Answer<T>>)
+    ensures { roles.new ≡ roles_after number start.now done roles.old }
+{
+    match (start, done) {
+        (QueueStart::AcquireProducer, Some(Answer::Truth(true))) => {
+            roles.producer = Some(number);
+        }
+        (QueueStart::ReleaseProducer, Some(_)) => roles.producer = None,
+        (QueueStart::AcquireConsumer, Some(Answer::Truth(true))) => {
+            roles.consumer = Some(number);
+        }
+        (QueueStart::ReleaseConsumer, Some(_)) => roles.consumer = None,
+        _ => {}
+    }
+}
+
+/// Lets the call go on from an answer, where it lies, with what its step writes down.
+pub fn go_on<T: Words>(
+    flight: &mut QueueFlight<T>,
+    number: u32,
+    start: &QueueStart<T>,
+    words: &Vec<u64>,
+    waits: Option<(u32, u64)>,
+    answer: u64,
+    roles: &mut Roles,
+    events: &mut Vec<Event<T>>,
+) -> Went<T>
+    requires { vec_len events.old + MOST_EFFECTS ≤ vec_capacity events.old }
+    ensures after { CameTo result.done flight.new
+        (step ⟦<T as Coded>⟧.coding words.now.items waits number start.now flight.old answer roles.old).after }
+    ensures back { result.back
+        ≡ (step ⟦<T as Coded>⟧.coding words.now.items waits number start.now flight.old answer roles.old).back }
+    ensures kept { roles.new
+        ≡ (step ⟦<T as Coded>⟧.coding words.now.items waits number start.now flight.old answer roles.old).kept }
+    ensures wrote { events.new.items ≡ events.old.items ++ (step ⟦<T as Coded>⟧.coding words.now.items
+        waits number start.now flight.old answer roles.old).wrote }
+    ensures few { vec_len events.new ≤ vec_len events.old + MOST_EFFECTS }
+    ensures room { vec_capacity events.new ≡ vec_capacity events.old }
+{
+    let effect = effect_of(words, waits, flight, answer);
+    let back = goes_back(flight, answer);
+    let done = resume(flight, answer);
+    tell(events, number, start, effect, done);
+    settle(roles, number, start, done);
+    Went { back, done }
+}

@@ -1,0 +1,155 @@
+//! The words of a queue at its opening, and who may begin which call.
+ghost use Rattle.std.specs.Prelude.{◌≡◌, ◌∷◌, ◌⊎◌, ℕ, None, Some, is_none, OnOk, IfOk, IfErr};
+ghost use Rattle.model.specs.Families.Queues.Calls.{first};
+ghost use Rattle.model.specs.Families.Queues.Opening.{cells_of, words_of_cell, opening, queue_kind, call_of, holds, lacks_role, call_rows};
+ghost use Rattle.model.specs.Rows.{first_row};
+ghost use Rattle.model.specs.declared.turn.Refusal.TheVariants.{WrongCall, NoMemory};
+
+use super::calls::first;
+use model::coding::Coded;
+use model::families::Kept;
+use model::families::queues::calls::QueueFlight;
+use model::families::queues::{QueueKind, QueueStart, Roles};
+use model::turn::{Kind, Refusal};
+use std::alloc::{AllocError, Global};
+use steps::words::Words;
+
+/// How many cells a queue of this capacity has.
+fn cells_of(kind: QueueKind, capacity: u32) -> usize
+    ensures { result ≡ cells_of kind capacity }
+{
+    match kind {
+        QueueKind::IndexQueue => capacity as usize,
+        QueueKind::Overflow => capacity as usize + 1,
+        QueueKind::Queue => capacity as usize,
+    }
+}
+
+/// How many words a cell has.
+fn words_of_cell<T: Words>(kind: QueueKind) -> usize
+    ensures { result ≡ words_of_cell ⟦<T as Coded>⟧.coding.size kind }
+{
+    match kind {
+        QueueKind::IndexQueue => 1,
+        QueueKind::Overflow => 1,
+        QueueKind::Queue => T::WORDS,
+    }
+}
+
+/// The words at the opening of a queue of this capacity. Nobody holds a role.
+pub fn open<T: Words>(
+    alloc: Global,
+    kind: QueueKind,
+    capacity: u32,
+) -> Result<(Vec<u64>, Kept<T>), AllocError>
+    ensures words { IfOk result
+        (λ opened. opened.0.items ≡ (opening kind).words ⟦<T as Coded>⟧.coding.size capacity) }
+    ensures kept { IfOk result (λ opened. opened.1 ≡ (opening kind).kept capacity) }
+{
+    let cells = words_of_cell::<T>(kind) * cells_of(kind, capacity);
+    let mut words = Vec::with_capacity(alloc, 4 + cells)?;
+    words.push_reserved(0);
+    words.push_reserved(0);
+    words.push_reserved(1);
+    words.push_reserved(1);
+    words.resize(4 + cells, 0)?;
+    let roles = Roles {
+        producer: None,
+        consumer: None,
+    };
+    Ok((words, Kept::Queues(roles)))
+}
+
+/// Whether this party holds the role.
+pub fn holds(holder: Option<u32>, number: u32) -> bool
+    ensures { result ≡ holds holder number }
+{
+    match holder {
+        Some(party) => party == number,
+        None => false,
+    }
+}
+
+/// Whether the call asks for a role that the party lacks.
+fn lacks_role<T: Copy>(roles: &Roles, number: u32, start: &QueueStart<T>) -> bool
+    ensures { result ≡ lacks_role roles.now number start.now }
+{
+    match start {
+        QueueStart::AcquireProducer => false,
+        QueueStart::ReleaseProducer => !holds(roles.producer, number),
+        QueueStart::AcquireConsumer => false,
+        QueueStart::ReleaseConsumer => !holds(roles.consumer, number),
+        QueueStart::PushIndex(_) => !holds(roles.producer, number),
+        QueueStart::Push(_) => !holds(roles.producer, number),
+        QueueStart::Pop => !holds(roles.consumer, number),
+        QueueStart::Len => false,
+        QueueStart::IsEmpty => false,
+        QueueStart::IsFull => false,
+    }
+}
+
+/// Which queue a machine of this kind has, if any.
+fn queue_kind(kind: Kind) -> Option<QueueKind>
+    ensures { result ≡ queue_kind kind }
+{
+    match kind {
+        Kind::IndexQueue => Some(QueueKind::IndexQueue),
+        Kind::Overflow => Some(QueueKind::Overflow),
+        Kind::Queue => Some(QueueKind::Queue),
+        _ => None,
+    }
+}
+
+/// Whether the queue has no such call.
+fn lacks_call<T: Words>(kind: QueueKind, start: &QueueStart<T>) -> bool
+    ensures { (capacity : ℕ) → result ≡ is_none (first kind capacity start.now) }
+{
+    match start {
+        QueueStart::PushIndex(_) => match kind {
+            QueueKind::IndexQueue => false,
+            QueueKind::Overflow => false,
+            QueueKind::Queue => true,
+        },
+        QueueStart::Push(_) => match kind {
+            QueueKind::IndexQueue => true,
+            QueueKind::Overflow => true,
+            QueueKind::Queue => false,
+        },
+        _ => false,
+    }
+}
+
+/// The call that this party begins, or why it may not, unless memory for its room is refused.
+pub fn begin<T: Words>(
+    alloc: Global,
+    kind: Kind,
+    capacity: u32,
+    roles: &Roles,
+    number: u32,
+    start: &QueueStart<T>,
+) -> Result<QueueFlight<T>, Refusal>
+    ensures ok { IfOk result (λ flight. call_of kind capacity start.now ≡ Some flight) }
+    ensures allowed { OnOk result (first_row
+        ((is_none (call_of kind capacity start.now), WrongCall)
+        ∷ call_rows roles.now number start.now) ≡ None) }
+    ensures refused { IfErr result (λ row. (first_row
+        ((is_none (call_of kind capacity start.now), WrongCall)
+        ∷ call_rows roles.now number start.now) ≡ Some row) ⊎ (first_row
+        ((is_none (call_of kind capacity start.now), WrongCall)
+        ∷ call_rows roles.now number start.now) ≡ None) × (row ≡ NoMemory)) }
+{
+    let Some(kind) = queue_kind(kind) else {
+        return Err(Refusal::WrongCall);
+    };
+    if lacks_call(kind, start) {
+        return Err(Refusal::WrongCall);
+    }
+    if lacks_role(roles, number, start) {
+        return Err(Refusal::NoRole);
+    }
+    match first(alloc, kind, capacity, start) {
+        Ok(Some(flight)) => Ok(flight),
+        Ok(None) => Err(Refusal::WrongCall),
+        Err(_) => Err(Refusal::NoMemory),
+    }
+}
