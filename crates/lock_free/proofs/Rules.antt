@@ -1,3 +1,1 @@
 pub mod Unique
-pub mod Robust
-pub mod Container

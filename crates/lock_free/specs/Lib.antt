@@ -6,6 +6,9 @@ pub use Rattle.lock_free_sp.specs.UnrestrictedAtomic
 pub use Rattle.lock_free_sp.specs.Shares
 pub use Rattle.lock_free_sp.specs.Parts
 pub use Rattle.lock_free_sp.specs.Orders
+pub use Rattle.lock_free_owners.specs.Robust
+pub use Rattle.lock_free_owners.specs.RobustUniqueIndexSet
+pub use Rattle.lock_free_owners.specs.Container
 pub use Rattle.steps.specs.Enums
 pub use Rattle.steps.specs.Container.State as ContainerState
 pub use Rattle.history.specs.History
@@ -18,6 +21,7 @@ pub use Rattle.lock_free_sp.specs.declared.ring.view as QueueView
 pub use Rattle.lock_free_sp.specs.declared.ring.ends as QueueEnds
 pub use Rattle.lock_free_sp.specs.declared.value.view as ValueView
 pub use Rattle.lock_free.specs.declared.unique.view as UniqueView
+pub use Rattle.lock_free_owners.specs.declared.robust.view as RobustView
 pub use Rattle.lock_free.specs.declared.spsc.loan.places.Place
 pub use Rattle.lock_free_sp.specs.declared.share.Share
 pub use Rattle.steps.specs.declared.enums.UniqueIndexCreationError
@@ -27,9 +31,6 @@ pub use Rattle.steps.specs.declared.indices.enums.ReleaseState
 pub use Rattle.steps.specs.declared.indices.enums.UniqueIndexSetAcquireFailure
 pub use Rattle.steps.specs.declared.bits.counting_bit_set.BitState
 pub use Rattle.steps.specs.declared.words.Words
-pub mod Container
-pub mod Robust
-pub mod RobustUniqueIndexSet
 pub mod Unique
 pub mod UniqueIndexSet
 pub mod Bits

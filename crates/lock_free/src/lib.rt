@@ -1,9 +1,7 @@
 //! Lock-free containers for zero-copy middleware, after the Rust crate iceoryx2-bb-lock-free, under its module paths.
 #![tactic(auto)]
 
-mod container;
 pub mod mpmc;
-mod robust;
 pub mod spsc;
 mod unique;
 

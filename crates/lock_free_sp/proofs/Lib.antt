@@ -4,4 +4,5 @@ pub mod Whole
 pub mod Fractions
 pub mod WholeValue
 pub mod Driving
+pub mod Callable
 pub mod Rules

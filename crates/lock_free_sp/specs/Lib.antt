@@ -1,5 +1,7 @@
 pub mod Driver
 pub mod Seats
+pub mod Sets
+pub mod Callable
 pub mod Shares
 pub mod Parts
 pub mod Orders

@@ -284,7 +284,7 @@ module _ {F : Type 0} (R : F → ℕ → F → Type 0) (cap : ℕ) (visit : F) w
               mine = ends.mine;
               called = subst (λ es. Called ends.party emptying answers.Done es base w) (all.1 ∙ same_events ends.party) (called one_word kinds.Bits clears_all base w tt room idle ends);
             },
-            done kinds.Bits clears_all base w tt room ends,
+            done kinds.Bits clears_all (λ o p h. h) base w tt room ends,
           )
 
 -- nothing that stood was missed
@@ -309,6 +309,3 @@ cleared_none R visit base w m idle ends =
       mine = ends.mine;
       called = subst (λ es. Called ends.party emptying answers.Done es base w) ends.tells (called one_word kinds.Bits (empties_none clearing) base w tt m idle ends);
     }
-
-pub takes_places_at : {F : Type 0} {pre : F → ℕ → Type 0} {step : F → ℕ → F → Type 0} {a b : ℕ} {f : F} → a ≡ b → TakesPlaces pre step a f → TakesPlaces pre step b f
-takes_places_at {F} {pre} {step} {a} {b} {f} e h = subst (λ z. TakesPlaces pre step z f) e h

@@ -17,8 +17,8 @@ use Rattle.lock_free_sp.specs.Driver.{KeepsRule}
 use Rattle.history.specs.declared.view.View.{View}
 use Rattle.history.specs.History.{IsMachine}
 use Rattle.history.specs.Stages.{At, Ends}
-use Rattle.history.proofs.Drives.{goes, keeps, at_once}
-use Rattle.history.proofs.Sets.{set_effects, bits_owe}
+use Rattle.history.proofs.Drives.{goes, keeps_all, at_once}
+use Rattle.history.proofs.Sets.{bits_starts, set_effects, bits_owe}
 use Rattle.lock_free.specs.Counts.Driven.{IsIdle}
 use Rattle.lock_free.specs.Counts.Stages.{empties_none}
 use Rattle.lock_free.specs.Bits.Stages.{clearing, clears_all}
@@ -33,11 +33,11 @@ after_clearing c m n = go (nat_lt (c.word + 1) c.end) refl
 
 pub clear_keeps : KeepsRule (λ (z : View ℕ). z.capacity) (At one_word kinds.Bits clears_all) (Ends one_word kinds.Bits clears_all) (λ key. 1 + elements key + 1) (λ key. key) (λ key. IsMachine one_word kinds.Bits key) reset_all_want reset_all_after (λ c m n. reset_all_kept m n)
 clear_keeps =
-    keeps one_word kinds.Bits set_effects (λ capacity. 1 + elements capacity) (bits_owe one_word) reset_all_want reset_all_after (λ c m n. reset_all_kept m n) clears_all
-    (empties_call clearing clear_events 1 (λ capacity. 1 + elements capacity) (λ c m. refl) after_clearing (λ p c m n. refl))
+    keeps_all one_word kinds.Bits set_effects (λ capacity. 1 + elements capacity) (bits_owe one_word) reset_all_want reset_all_after (λ c m n. reset_all_kept m n) clears_all
+    (empties_call clearing clear_events 1 (λ capacity. 1 + elements capacity) (λ c m. refl) after_clearing (λ p c m n. refl) (λ c m n. tt)) (λ c n. refl)
 
 pub clear_first : (v : View ℕ) → IsIdle v.capacity v → 0 < v.capacity → At one_word kinds.Bits clears_all v v (all_bits v.capacity) fresh
-clear_first v idle some = inl (record { is = refl; idle = idle.idle; fresh = idle.alone; standing = (refl, omega arith, (let l : 1 < 1 + elements v.capacity = omega arith in l)); some = idle.some; first = refl; may = λ p. refl; wrote = λ p. (omega arith, λ e. refl, λ e. absurd (omega arith)) })
+clear_first v idle some = inl (record { is = refl; idle = idle.idle; fresh = idle.alone; standing = (refl, omega arith, (let l : 1 < 1 + elements v.capacity = omega arith in l)); some = idle.some; first = refl; starts = bits_starts one_word clears_all v (all_bits v.capacity) fresh (λ o p h. h) refl (λ p. refl); wrote = λ p. (omega arith, λ e. refl, λ e. absurd (omega arith)) })
 
 module _ (v : View ℕ) (slots id word : ℕ) (idle : IsIdle v.capacity v) (none : v.capacity ≡ 0) where
   no_bit : nat_lt 1 (1 + elements v.capacity) ≡ false
@@ -49,5 +49,5 @@ module _ (v : View ℕ) (slots id word : ℕ) (idle : IsIdle v.capacity v) (none
   pub clear_none : Allows (IsMachine one_word kinds.Bits v.capacity) slots id (v, []) word (λ n. n) (λ found me. Ends one_word kinds.Bits (empties_none clearing) v tt (record { 0 = 0 }) me.0 × (me.1 ≡ []))
   clear_none =
       at_once one_word kinds.Bits set_effects (λ capacity. 1 + elements capacity) (bits_owe one_word) (empties_none clearing) v (all_bits v.capacity) fresh fresh tt v.capacity slots id word refl
-      (record { is = refl; idle = idle.idle; fresh = idle.alone; standing = tt; some = idle.some; first = refl; may = λ p. refl; wrote = λ p. refl })
-      (rw no_bit refl) (rw one_bit refl) (λ p. ap (map (λ b. Cleared p b)) (no_places 1)) (λ p wrote h. h)
+      (record { is = refl; idle = idle.idle; fresh = idle.alone; standing = tt; some = idle.some; first = refl; starts = bits_starts one_word (empties_none clearing) v (all_bits v.capacity) fresh (λ o p h. h) refl (λ p. refl); wrote = λ p. refl })
+      (rw no_bit refl) tt (rw one_bit refl) (λ p. ap (map (λ b. Cleared p b)) (no_places 1)) (λ p wrote h. h)

@@ -30,8 +30,8 @@ use Rattle.lock_free_sp.specs.Driver.{answered, KeepsRule}
 use Rattle.history.specs.declared.view.View.{View}
 use Rattle.history.specs.History.{IsMachine, Called}
 use Rattle.history.specs.Stages.{At, Ends}
-use Rattle.history.proofs.Drives.{IsCallOf, goes, keeps, called}
-use Rattle.history.proofs.Sets.{set_effects, bits_owe}
+use Rattle.history.proofs.Drives.{IsCallOf, goes, keeps_all, called}
+use Rattle.history.proofs.Sets.{bits_starts, set_effects, bits_owe}
 use Rattle.lock_free.specs.Counts.Driven.{IsIdle}
 use Rattle.lock_free.specs.Bits.Stages.{ResetStands, reset_so_far, reset_wrote, IsPlace, resets_next}
 use Rattle.lock_free.specs.Bits.Told.{HasReset, AllClearOnce}
@@ -129,21 +129,24 @@ is_call : IsCallOf one_word set_effects (λ capacity. 1 + elements capacity) res
 is_call =
     record {
       same_want = λ c m. refl;
-      same_after = same_after;
+      same_after = λ capacity c m n h. same_after c m n;
       hears = λ c m a n e. (hears c a n e, refl);
       stays = λ capacity c d n stands e. (let h = subst (λ a. Stands capacity 0 a (reset_so_far 0 c.stage ++ set_effects 0 (resets_next.flight c tt) n)) e (stands_on capacity 0 n tt c stands) in (h.0, h.1));
       asks = asks;
+      past = λ capacity c d n k h e. refl;
+      finds = λ c m n small t. tt;
+      leaves = λ c a n t e. absurd (cc);
       tells = λ capacity p from c d m n es stands wrote e none. (let h = subst (λ a. Stands capacity p a (reset_so_far p c.stage ++ set_effects p (resets_next.flight c m) n)) e (stands_on capacity p n m c stands) in ap (λ zs. zs ++ set_effects p (resets_next.flight c m) n) (wrote none) ∙ h.2);
-      tells_all = λ capacity p from c o m n es stands wrote e. (
+      tells_all = λ capacity p from c o m n es stands skip wrote e. (
           let h = subst (λ a. Stands capacity p a (reset_so_far p c.stage ++ set_effects p (resets_next.flight c m) n)) e (stands_on capacity p n m c stands) in
           (h.0, λ none. ap (λ zs. zs ++ set_effects p (resets_next.flight c m) n) (wrote none) ∙ h.1));
     }
 
 pub next_keeps : KeepsRule (λ (z : View ℕ). z.capacity) (At one_word kinds.Bits resets_next) (Ends one_word kinds.Bits resets_next) (λ key. 1 + elements key + 1) (λ key. key) (λ key. IsMachine one_word kinds.Bits key) reset_want reset_after (λ c m n. m)
-next_keeps = keeps one_word kinds.Bits set_effects (λ capacity. 1 + elements capacity) (bits_owe one_word) reset_want reset_after (λ c m n. m) resets_next is_call
+next_keeps = keeps_all one_word kinds.Bits set_effects (λ capacity. 1 + elements capacity) (bits_owe one_word) reset_want reset_after (λ c m n. m) resets_next is_call (λ c n. refl)
 
 pub next_first : (v : View ℕ) (m : Unit {0}) → IsIdle v.capacity v → At one_word kinds.Bits resets_next v v (first_reset v.capacity) m
-next_first v m idle = inl (record { is = refl; idle = idle.idle; fresh = idle.alone; standing = (refl, tt); some = idle.some; first = refl; may = λ p. refl; wrote = λ p e. refl })
+next_first v m idle = inl (record { is = refl; idle = idle.idle; fresh = idle.alone; standing = (refl, tt); some = idle.some; first = refl; starts = bits_starts one_word resets_next v (first_reset v.capacity) m (λ o p h. h) refl (λ p. refl); wrote = λ p e. refl })
 
 module _ (base w : View ℕ) (o : Option ℕ) (m : Unit {0}) (idle : base.going ≡ None) (ends : Ends one_word kinds.Bits resets_next base o m w) where
   pub cleared : HasReset o base w

@@ -25,8 +25,8 @@ use Rattle.lock_free_sp.specs.Driver.{answered, KeepsRule}
 use Rattle.history.specs.declared.view.View.{View}
 use Rattle.history.specs.History.{IsMachine, Called}
 use Rattle.history.specs.Stages.{At, Ends}
-use Rattle.history.proofs.Drives.{IsCallOf, goes, keeps, called}
-use Rattle.history.proofs.Sets.{set_effects, bits_owe}
+use Rattle.history.proofs.Drives.{IsCallOf, goes, keeps_all, called}
+use Rattle.history.proofs.Sets.{bits_starts, set_effects, bits_owe}
 use Rattle.lock_free.specs.Counts.Driven.{IsIdle}
 use Rattle.lock_free.specs.Bits.Stages.{set_wrote, sets_place}
 use Rattle.lock_free.specs.Bits.Told.{HasSet, StoodOnce}
@@ -100,21 +100,24 @@ module _ (place : ℕ) where
   is_call =
       record {
         same_want = λ c m. refl;
-        same_after = same_after;
+        same_after = λ capacity c m n h. same_after c m n;
         hears = λ c m a n e. (hears c a n e, refl);
         stays = λ capacity c d n stands e. stands;
         asks = asks;
+        past = λ capacity c d n k h e. refl;
+        finds = λ c m n small t. tt;
+        leaves = λ c a n t e. absurd (cc);
         tells = λ capacity p from c d m n es stands wrote e. ap (λ zs. zs ++ set_effects p ((sets_place place).flight c m) n) wrote ∙ subst (λ a. Wrote p a (set_effects p ((sets_place place).flight c m) n)) e (writes p c m n);
-        tells_all = λ capacity p from c b m n es stands wrote e. ap (λ zs. zs ++ set_effects p ((sets_place place).flight c m) n) wrote ∙ subst (λ a. Wrote p a (set_effects p ((sets_place place).flight c m) n)) e (writes p c m n);
+        tells_all = λ capacity p from c b m n es stands skip wrote e. ap (λ zs. zs ++ set_effects p ((sets_place place).flight c m) n) wrote ∙ subst (λ a. Wrote p a (set_effects p ((sets_place place).flight c m) n)) e (writes p c m n);
       }
 
   pub set_keeps : KeepsRule (λ (z : View ℕ). z.capacity) (At one_word kinds.Bits (sets_place place)) (Ends one_word kinds.Bits (sets_place place)) (λ key. 1 + elements key + 1) (λ key. key) (λ key. IsMachine one_word kinds.Bits key) (λ c. set_want c place) (λ c n. set_after c place n) (λ c m n. m)
-  set_keeps = keeps one_word kinds.Bits set_effects (λ capacity. 1 + elements capacity) (bits_owe one_word) (λ c. set_want c place) (λ c n. set_after c place n) (λ c m n. m) (sets_place place) is_call
+  set_keeps = keeps_all one_word kinds.Bits set_effects (λ capacity. 1 + elements capacity) (bits_owe one_word) (λ c. set_want c place) (λ c n. set_after c place n) (λ c m n. m) (sets_place place) is_call (λ c n. refl)
 
   pub set_first : (v : View ℕ) (m : Unit {0}) → IsIdle v.capacity v → place < v.capacity → At one_word kinds.Bits (sets_place place) v v first_set m
   set_first v m idle below =
       let past : nat_le v.capacity place ≡ false = grind (arith, nat_tests) in
-      inl (record { is = refl; idle = idle.idle; fresh = idle.alone; standing = below; some = idle.some; first = refl; may = λ p. rw past refl; wrote = λ p. refl })
+      inl (record { is = refl; idle = idle.idle; fresh = idle.alone; standing = below; some = idle.some; first = refl; starts = bits_starts one_word (sets_place place) v first_set m (λ o p h. h) refl (λ p. rw past refl); wrote = λ p. refl })
 
   module _ (base w : View ℕ) (b : Bool) (m : Unit {0}) (idle : base.going ≡ None) (ends : Ends one_word kinds.Bits (sets_place place) base b m w) where
     pub added : HasSet place b base w

@@ -20,8 +20,8 @@ use Rattle.lock_free_sp.specs.Driver.{answered, KeepsRule}
 use Rattle.history.specs.declared.view.View.{View}
 use Rattle.history.specs.History.{IsMachine, Called}
 use Rattle.history.specs.Stages.{At, Ends}
-use Rattle.history.proofs.Drives.{IsCallOf, keeps, called}
-use Rattle.history.proofs.Sets.{set_effects, counts_owe}
+use Rattle.history.proofs.Drives.{IsCallOf, keeps_all, called}
+use Rattle.history.proofs.Sets.{counts_starts, set_effects, counts_owe}
 use Rattle.lock_free.specs.Counts.Driven.{IsIdle}
 use Rattle.lock_free.specs.Counts.Stages.{counts_place}
 use Rattle.lock_free.specs.Counts.Told.{HasCounted, AnswersCount}
@@ -32,12 +32,15 @@ module _ (place : ℕ) where
   is_call =
       record {
         same_want = λ c m. refl;
-        same_after = λ c m n. refl;
+        same_after = λ capacity c m n h. refl;
         hears = λ c m a n e. (hears c a n e, refl);
         stays = λ capacity c d n stands e. absurd (cc);
         asks = λ capacity c stands. (record { word = place; op = Add 1 }, stands, refl);
+        past = λ capacity c d n k h e. refl;
+        finds = λ c m n small t. tt;
+        leaves = λ c a n t e. absurd (cc);
         tells = λ capacity p from c d m n es stands wrote e. absurd (cc);
-        tells_all = λ capacity p from c e m n es stands wrote is. ap (λ zs. zs ++ Counted p place ∷ []) wrote;
+        tells_all = λ capacity p from c e m n es stands skip wrote is. ap (λ zs. zs ++ Counted p place ∷ []) wrote;
       }
     where
       hears : (c : counting.Set) (a : Ask) (n : ℕ) → set_want c place ≡ wants.Ask a → set_after c (answered a.op n) ≡ set_after c n
@@ -46,12 +49,12 @@ module _ (place : ℕ) where
           ap (λ (z : Ask). set_after c (answered z.op n)) (sym same)
 
   pub count_keeps : KeepsRule (λ (z : View ℕ). z.capacity) (At one_word kinds.Counts (counts_place place)) (Ends one_word kinds.Counts (counts_place place)) (λ key. key + 1) (λ key. key) (λ key. IsMachine one_word kinds.Counts key) (λ c. set_want c place) (λ c n. set_after c n) (λ c m n. m)
-  count_keeps = keeps one_word kinds.Counts set_effects (λ capacity. capacity) (counts_owe one_word) (λ c. set_want c place) (λ c n. set_after c n) (λ c m n. m) (counts_place place) is_call
+  count_keeps = keeps_all one_word kinds.Counts set_effects (λ capacity. capacity) (counts_owe one_word) (λ c. set_want c place) (λ c n. set_after c n) (λ c m n. m) (counts_place place) is_call (λ c n. refl)
 
   pub count_first : (v : View ℕ) (c : counting.Set) (m : Unit {0}) → IsIdle v.capacity v → place < v.capacity → At one_word kinds.Counts (counts_place place) v v c m
   count_first v c m idle below =
       let past : nat_le v.capacity place ≡ false = grind (arith, nat_tests) in
-      inl (record { is = refl; idle = idle.idle; fresh = idle.alone; standing = below; some = idle.some; first = refl; may = λ p. rw past refl; wrote = λ p. refl })
+      inl (record { is = refl; idle = idle.idle; fresh = idle.alone; standing = below; some = idle.some; first = refl; starts = counts_starts one_word (counts_place place) v c m (λ o p h. h) refl (λ p. rw past refl); wrote = λ p. refl })
 
   module _ (base w : View ℕ) (number : ℕ) (m : Unit {0}) (idle : base.going ≡ None) (ends : Ends one_word kinds.Counts (counts_place place) base number m w) where
     pub counted : HasCounted place number base w

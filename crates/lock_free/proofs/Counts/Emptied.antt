@@ -41,7 +41,7 @@ module _ (kind : Kind) (flight : Emptying → OneWord → Flight ℕ) (writes : 
   -- where it stands is its word
   pub itself : (base v : View ℕ) (c : Emptying) (m : OneWord) → AtWord base v c m → AtWord v v c m
   itself base v c m at =
-      at_itself one_word kind (empties flight writes first end_of) base v c m
+      at_itself one_word kind (empties flight writes first end_of) base v c m (λ p. refl)
       (λ n p. let here = has_word c m in (omega arith, λ e. refl, λ e. absurd (omega arith))) at
 
   pub word_now : (base v : View ℕ) (c : Emptying) (m : OneWord) → base.going ≡ v.going → AtWord base v c m → word_of first v.going ≡ c.word

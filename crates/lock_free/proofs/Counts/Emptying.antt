@@ -28,8 +28,8 @@ use Rattle.lock_free_sp.specs.Driver.{answered, KeepsRule}
 use Rattle.history.specs.declared.view.View.{View}
 use Rattle.history.specs.History.{IsMachine}
 use Rattle.history.specs.Stages.{At, Ends}
-use Rattle.history.proofs.Drives.{IsCallOf, goes, keeps, at_once}
-use Rattle.history.proofs.Sets.{set_effects, counts_owe}
+use Rattle.history.proofs.Drives.{NeverPushes, IsCallOf, goes, keeps_all, at_once}
+use Rattle.history.proofs.Sets.{counts_starts, set_effects, counts_owe}
 use Rattle.lock_free.specs.Counts.Driven.{IsIdle}
 use Rattle.lock_free.specs.Counts.Stages.{HasEmptied, word_of, empties, taking, takes_all, empties_none}
 
@@ -81,12 +81,13 @@ hears_word c m a n e = go (nat_lt c.word c.end) refl
 module _ (flight : Emptying → OneWord → Flight ℕ) (writes : ℕ → ℕ → ℕ → List (Event ℕ)) (first : ℕ) (end_of : ℕ → ℕ)
     (same_want : (c : Emptying) (m : OneWord) → want_of one_word (flight c m) ≡ reset_all_want c)
     (same_after : (c : Emptying) (m : OneWord) (n : ℕ) → after_of one_word (flight c m) n ≡ goes (empties flight writes first end_of) (reset_all_after c n) (reset_all_kept m n))
-    (same_effects : (p : ℕ) (c : Emptying) (m : OneWord) (n : ℕ) → set_effects p (flight c m) n ≡ writes p c.word n) where
+    (same_effects : (p : ℕ) (c : Emptying) (m : OneWord) (n : ℕ) → set_effects p (flight c m) n ≡ writes p c.word n)
+    (never : NeverPushes flight) where
   pub empties_call : IsCallOf one_word set_effects end_of reset_all_want reset_all_after (λ c m n. reset_all_kept m n) (empties flight writes first end_of)
   empties_call =
       record {
         same_want = same_want;
-        same_after = same_after;
+        same_after = λ capacity c m n h. same_after c m n;
         hears = hears_word;
         stays = λ capacity c d n stands e. (
             let next = goes_next c n d e in
@@ -95,6 +96,9 @@ module _ (flight : Emptying → OneWord → Flight ℕ) (writes : ℕ → ℕ �
             let low = stands.1 in
             (end ∙ stands.0, omega arith, next.1));
         asks = λ capacity c stands. (record { word = c.word; op = Swap 0 }, subst (λ z. c.word < z) stands.0 stands.2, wants_word c stands.2);
+        past = λ capacity c d n k h e. refl;
+        finds = λ c m n small t. never c m n;
+        leaves = λ c a n t e. absurd (cc);
         tells = λ capacity p from c d m n es stands wrote e. (
             let next = goes_next c n d e in
             let word : d.word ≡ c.word + 1 = ap (λ (z : Emptying). z.word) next.0 in
@@ -105,7 +109,7 @@ module _ (flight : Emptying → OneWord → Flight ℕ) (writes : ℕ → ℕ �
                   let here : c.word ≡ word_of first from = omega arith in
                   all_of p c m n (word_of first from) here es (wrote.1 here),
             ));
-        tells_all = λ capacity p from c e m n es stands wrote is last. (
+        tells_all = λ capacity p from c e m n es stands skip wrote is last. (
             let far = ends_last c n e is in
             let within = stands.2 in
             let end : c.end ≡ end_of capacity = stands.0 in
@@ -125,13 +129,13 @@ after_taking c m n = go (nat_lt (c.word + 1) c.end) refl
 
 pub take_keeps : KeepsRule (λ (z : View ℕ). z.capacity) (At one_word kinds.Counts takes_all) (Ends one_word kinds.Counts takes_all) (λ key. key + 1) (λ key. key) (λ key. IsMachine one_word kinds.Counts key) reset_all_want reset_all_after (λ c m n. reset_all_kept m n)
 take_keeps =
-    keeps one_word kinds.Counts set_effects (λ capacity. capacity) (counts_owe one_word) reset_all_want reset_all_after (λ c m n. reset_all_kept m n) takes_all
-    (empties_call taking take_events 0 (λ capacity. capacity) (λ c m. refl) after_taking (λ p c m n. refl))
+    keeps_all one_word kinds.Counts set_effects (λ capacity. capacity) (counts_owe one_word) reset_all_want reset_all_after (λ c m n. reset_all_kept m n) takes_all
+    (empties_call taking take_events 0 (λ capacity. capacity) (λ c m. refl) after_taking (λ p c m n. refl) (λ c m n. tt)) (λ c n. refl)
 
 -- ---- its begin
 
 pub take_first : (v : View ℕ) → IsIdle v.capacity v → 0 < v.capacity → At one_word kinds.Counts takes_all v v (all_counts v.capacity) fresh
-take_first v idle some = inl (record { is = refl; idle = idle.idle; fresh = idle.alone; standing = (refl, omega arith, some); some = idle.some; first = refl; may = λ p. refl; wrote = λ p. (omega arith, λ e. refl, λ e. absurd (omega arith)) })
+take_first v idle some = inl (record { is = refl; idle = idle.idle; fresh = idle.alone; standing = (refl, omega arith, some); some = idle.some; first = refl; starts = counts_starts one_word takes_all v (all_counts v.capacity) fresh (λ o p h. h) refl (λ p. refl); wrote = λ p. (omega arith, λ e. refl, λ e. absurd (omega arith)) })
 
 -- ---- a set of no place
 
@@ -145,5 +149,5 @@ module _ (v : View ℕ) (slots id word : ℕ) (idle : IsIdle v.capacity v) (none
   pub take_none : Allows (IsMachine one_word kinds.Counts v.capacity) slots id (v, []) word (λ n. n) (λ found me. Ends one_word kinds.Counts (empties_none taking) v tt (record { 0 = 0 }) me.0 × (me.1 ≡ []))
   take_none =
       at_once one_word kinds.Counts set_effects (λ capacity. capacity) (counts_owe one_word) (empties_none taking) v (all_counts v.capacity) fresh fresh tt v.capacity slots id word refl
-      (record { is = refl; idle = idle.idle; fresh = idle.alone; standing = tt; some = idle.some; first = refl; may = λ p. refl; wrote = λ p. refl })
-      (rw no_count refl) (rw one_count refl) (λ p. refl) (λ p wrote h. h)
+      (record { is = refl; idle = idle.idle; fresh = idle.alone; standing = tt; some = idle.some; first = refl; starts = counts_starts one_word (empties_none taking) v (all_counts v.capacity) fresh (λ o p h. h) refl (λ p. refl); wrote = λ p. refl })
+      (rw no_count refl) tt (rw one_count refl) (λ p. refl) (λ p wrote h. h)

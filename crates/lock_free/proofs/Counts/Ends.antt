@@ -11,13 +11,13 @@ use Rattle.history.specs.History.{Called}
 use Rattle.history.specs.Stages.{Calling, Ends}
 use Rattle.lock_free.specs.Counts.Driven.{HasDone}
 
-module _ {C M E : Type 0} (kind : Kind) (call : Calling ℕ C M E) (base w : View ℕ) (e : E) (m : M) (ends : Ends one_word kind call base e m w) where
+module _ {C M E : Type 0} (kind : Kind) (call : Calling ℕ C M E) (own : (o : Option ℕ) (p : ℕ) → call.by o p → IfSome o (λ q. q ≡ p)) (base w : View ℕ) (e : E) (m : M) (ends : Ends one_word kind call base e m w) where
   pub done : HasDone kind base w
   done =
       record {
         capacity = ends.capacity;
         share = ends.share;
-        party = go base.party ends.same;
+        party = go base.party (own base.party ends.party ends.same);
         idle = ends.idle;
         alone = ends.alone;
         history = ends.history;

@@ -97,7 +97,7 @@ module _ {F : Type 0} (R : F → BitState → F → Type 0) (cap : ℕ) (visit :
             mine = ends.mine;
             called = subst (λ es. Called ends.party emptying answers.Done es base w) (all.1 ∙ same_events ends.party) (called one_word kinds.Counts takes_all base w tt room idle ends);
           },
-          done kinds.Counts takes_all base w tt room ends,
+          done kinds.Counts takes_all (λ o p h. h) base w tt room ends,
         )
 
 -- nothing that counted was missed

@@ -1,19 +1,8 @@
 -- What a closure is called with: places that ascend below the capacity, each at most once.
-use Rattle.std.specs.Prelude.{ℕ, ◌<◌, List, All, AllPairs, filter}
+use Rattle.std.specs.Prelude.{ℕ, filter}
 use Rattle.std.specs.List.{FoldsTo, range_with_len}
 use Rattle.steps.specs.Bits.Words.{has_flag}
-
--- each place is below the capacity, and above the one before
-abbrev pub Ascends : ℕ → List ℕ → Type 0
-Ascends capacity places = AllPairs (λ x y. x < y) places × All (λ place. place < capacity) places
-
--- after calls at places that ascend, the closure may be called at any place above them
--- and below the capacity
-pub record TakesPlaces {F : Type 0} (pre : F → ℕ → Type 0) (step : F → ℕ → F → Type 0)
-    (capacity : ℕ) (f : F) : Type 0 where
-  pub at : (before : List ℕ) (now : F) (place : ℕ) → FoldsTo step f before now
-      → Ascends capacity before → All (λ p. p < place) before → place < capacity
-      → pre now place
+pub use Rattle.lock_free_sp.specs.Callable.{Ascends, TakesPlaces}
 
 -- the closure as it is after the places of the range whose flags were found
 abbrev pub Visited : {F : Type 0} → (F → ℕ → F → Type 0) → ℕ → ℕ → F → ℕ → F → Type 0

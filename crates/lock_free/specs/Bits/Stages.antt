@@ -1,5 +1,5 @@
 -- The calls on bit sets as calls of the model: where each stands, and what it has written there.
-use Rattle.std.specs.Prelude.{◌≡◌, ℕ, ◌+◌, ◌<◌, ◌≤◌, Bool, true, false, Option, Some, None, List, [], ◌∷◌}
+use Rattle.std.specs.Prelude.{◌≡◌, ℕ, ◌+◌, ◌<◌, ◌≤◌, Bool, true, false, Option, Some, None, IfSome, List, [], ◌∷◌}
 use Rattle.steps.specs.Bits.Words.{elements}
 use Rattle.steps.specs.declared.bits.bit_set.Set.{Set as Setting}
 use Rattle.steps.specs.declared.bits.bit_set.ResetNext.{ResetNext as Resetting}
@@ -43,11 +43,14 @@ module _ {T : Type 0} where
   sets_place place =
       record {
         start = Bits (Set place);
+        by = λ was p. IfSome was (λ q. q ≡ p);
         stands = λ capacity c. place < capacity;
         flight = λ c m.
             flights.TheVariants.Bits
             (calls.TheVariants.Set (record { call = c; given = place; room = m }));
         answer = λ b m. Truth b;
+        skips = λ c n. false;
+        left = λ e. ⊥;
         wrote = λ capacity p from c m es. es ≡ [];
         wrote_all = λ capacity p from b m es. es ≡ set_wrote p place b;
       }
@@ -69,11 +72,14 @@ module _ {T : Type 0} where
   resets_next =
       record {
         start = Bits ResetNext;
+        by = λ was p. IfSome was (λ q. q ≡ p);
         stands = λ capacity c. (c.capacity ≡ capacity) × ResetStands capacity c.stage;
         flight = λ c m.
             flights.TheVariants.Bits
             (calls.TheVariants.ResetNext (record { call = c; given = tt; room = m }));
         answer = λ o m. reset_answer o;
+        skips = λ c n. false;
+        left = λ e. ⊥;
         wrote = λ capacity p from c m es. from ≡ None → es ≡ reset_so_far p c.stage;
         wrote_all = λ capacity p from o m es.
             IsPlace capacity o × (from ≡ None → es ≡ reset_wrote p o);

@@ -1,22 +1,17 @@
 -- Which counting bit set a pass is for, and what it knows of the set's history.
 use Rattle.std.specs.Prelude.{◌≡◌, ℕ, Option, Some, IfSome, List, sum_by}
 use Rattle.std.specs.Arc.{arc_value}
-use Rattle.atomic_table.specs.Seated.{TableId}
 use Rattle.model.specs.declared.event.Event.{Event}
 use Rattle.model.specs.declared.turn.Kind.TheVariants as kinds
 use Rattle.model.specs.Coding.{one_word}
 use Rattle.lock_free_sp.specs.declared.share.Share.{Share}
 use Rattle.lock_free_sp.specs.Shares.{IsAll}
+pub use Rattle.lock_free_sp.specs.Sets.{SetId}
 use Rattle.history.specs.declared.view.View.{View}
 use Rattle.history.specs.History.{IsHistory}
 use Rattle.lock_free.specs.declared.mpmc.counting_bit_set.CountingBitSet.{CountingBitSet}
 use Rattle.lock_free.specs.declared.mpmc.counting_bit_set.FixedSizeCountingBitSet.{FixedSizeCountingBitSet}
 use Rattle.lock_free.specs.declared.mpmc.counting_bit_set.Pass.{Pass}
-
--- what names a set
-pub record SetId : Type 0 where
-  pub table : TableId
-  pub capacity : ℕ
 
 abbrev pub set_id : CountingBitSet → SetId
 set_id s = record { table = (arc_value s.table).shared.table_id; capacity = s.capacity }

@@ -1,5 +1,5 @@
 -- The calls on counting bit sets as calls of the model: where each stands, and what it has written there.
-use Rattle.std.specs.Prelude.{◌≡◌, ℕ, ◌+◌, ◌<◌, ◌≤◌, Option, Some, None, List, [], ◌∷◌}
+use Rattle.std.specs.Prelude.{◌≡◌, ℕ, ◌+◌, ◌<◌, ◌≤◌, Option, Some, None, IfSome, List, [], ◌∷◌, false}
 use Rattle.steps.specs.declared.bits.counting_bit_set.Set as counting
 use Rattle.steps.specs.declared.bits.reset_all.ResetAll.{ResetAll as Emptying}
 use Rattle.steps.specs.declared.copied.OneWord.{OneWord}
@@ -29,11 +29,14 @@ module _ {T : Type 0} where
   counts_place place =
       record {
         start = Bits (Set place);
+        by = λ was p. IfSome was (λ q. q ≡ p);
         stands = λ capacity c. place < capacity;
         flight = λ c m.
             flights.TheVariants.Bits
             (calls.TheVariants.Count (record { call = c; given = place; room = m }));
         answer = λ n m. Number n;
+        skips = λ c n. false;
+        left = λ e. ⊥;
         wrote = λ capacity p from c m es. es ≡ [];
         wrote_all = λ capacity p from n m es. es ≡ events.TheVariants.Counted p place ∷ [];
       }
@@ -61,9 +64,12 @@ module _ {T : Type 0} where
     empties =
         record {
           start = Bits ResetAll;
+          by = λ was p. IfSome was (λ q. q ≡ p);
           stands = λ capacity c. (c.end ≡ end_of capacity) × (first ≤ c.word) × (c.word < c.end);
           flight = flight;
           answer = λ e m. Done;
+          skips = λ c n. false;
+          left = λ e. ⊥;
           wrote = λ capacity p from c m es. HasEmptied writes p (word_of first from) c.word m es;
           wrote_all = λ capacity p from e m es.
               word_of first from + 1 ≡ end_of capacity → es ≡ writes p (word_of first from) m.0;
@@ -74,9 +80,12 @@ module _ {T : Type 0} where
   empties_none flight =
       record {
         start = Bits ResetAll;
+        by = λ was p. IfSome was (λ q. q ≡ p);
         stands = λ capacity c. Unit {0};
         flight = flight;
         answer = λ e m. Done;
+        skips = λ c n. false;
+        left = λ e. ⊥;
         wrote = λ capacity p from c m es. es ≡ [];
         wrote_all = λ capacity p from e m es. es ≡ [];
       }

@@ -18,7 +18,7 @@ join_seat-requires c =
       search rules,
       search rules,
       subst (λ (t : TableId). 0 < t.words) at (let size = mine.sized in omega arith),
-      joins one_word kinds.Bits _ mine.seated.seat.id c.args.other.seated.seat.id mine.seated.seat.me.0 c.args.other.seated.seat.me.0 mine.some.0 c.args.other.idle mine.alone c.args.other.alone,
+      joins one_word kinds.Bits _ mine.seated.seat.id c.args.other.seated.seat.id mine.seated.seat.me.0 c.args.other.seated.seat.me.0 mine.some.0 c.args.other.some.0 c.args.other.idle mine.alone c.args.other.alone,
     )
 
 -- what a look owes, where the seat knows this

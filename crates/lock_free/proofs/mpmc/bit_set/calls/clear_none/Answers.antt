@@ -35,7 +35,7 @@ load-requires g c =
     )
 
 pub returns-clause-done : goal.returns-clause-done
-returns-clause-done g c = done kinds.Bits (empties_none clearing) (seen c.args.seated.now) c.load.new.seat.me.0 tt (record { 0 = 0 }) c.load.ensures.2.0
+returns-clause-done g c = done kinds.Bits (empties_none clearing) (λ o p h. h) (seen c.args.seated.now) c.load.new.seat.me.0 tt (record { 0 = 0 }) c.load.ensures.2.0
 
 pub returns-clause-cleared : goal.returns-clause-cleared
 returns-clause-cleared g c =

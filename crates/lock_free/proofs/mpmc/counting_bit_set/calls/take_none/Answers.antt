@@ -34,7 +34,7 @@ load-requires g c =
     )
 
 pub returns-clause-done : goal.returns-clause-done
-returns-clause-done g c = done kinds.Counts (empties_none taking) (seen c.args.seated.now) c.load.new.seat.me.0 tt (record { 0 = 0 }) c.load.ensures.2.0
+returns-clause-done g c = done kinds.Counts (empties_none taking) (λ o p h. h) (seen c.args.seated.now) c.load.new.seat.me.0 tt (record { 0 = 0 }) c.load.ensures.2.0
 
 pub returns-clause-taken : goal.returns-clause-taken
 returns-clause-taken g c =

@@ -1,0 +1,62 @@
+-- The words of the contracts of a container: what names it, which pass, handle and state are for it,
+-- and what a pass knows. T is the type of its values.
+use Rattle.std.specs.Prelude.{◌≡◌, ℕ, ◌-◌, ◌^◌, ◌<◌, Option}
+use Rattle.std.specs.Arc.{arc_value}
+use Rattle.steps.specs.Enums.{capacity_refusal}
+use Rattle.steps.specs.declared.enums.UniqueIndexCreationError.{UniqueIndexCreationError}
+use Rattle.steps.specs.declared.words.Words.{Ghosts}
+use Rattle.steps.specs.declared.container.handle.ContainerHandle.{ContainerHandle}
+use Rattle.steps.specs.declared.container.state.ContainerState.{ContainerState}
+use Rattle.lock_free_sp.specs.Sets.{SetId}
+use Rattle.lock_free_owners.specs.declared.robust.view.View.{View}
+use Rattle.lock_free_owners.specs.declared.mpmc.container.Container.{Container}
+use Rattle.lock_free_owners.specs.declared.mpmc.container.FixedSizeContainer.{FixedSizeContainer}
+use Rattle.lock_free_owners.specs.declared.mpmc.container.Pass.{Pass}
+
+-- a capacity from 1 to 2^32 - 1 is admitted
+abbrev pub container_refusal : ℕ → Option UniqueIndexCreationError
+container_refusal capacity = capacity_refusal 1 (2 ^ 32 - 1) capacity
+
+module _ {T : Type 0} where
+  -- what names a container
+  abbrev pub container_id : Container T → SetId
+  container_id s = record { table = (arc_value s.table).shared.table_id; capacity = s.capacity }
+
+  abbrev pub capacity_of : Container T → ℕ
+  capacity_of s = s.capacity
+
+  -- the number that it was made with, which its handles and states carry
+  abbrev pub number_of : Container T → ℕ
+  number_of s = s.id
+
+  -- the handle has this container's number, and an index below its capacity
+  abbrev pub IsOwn : Container T → ContainerHandle → Type 0
+  IsOwn s h = (h.container ≡ number_of s) × (h.index < capacity_of s)
+
+  -- the same, and it is this owner's
+  abbrev pub IsHandleFor : Container T → ℕ → ContainerHandle → Type 0
+  IsHandleFor s owner h = IsOwn s h × (h.owner ≡ owner)
+
+  -- the state has this container's number and capacity
+  abbrev pub IsStateOf : Container T → ContainerState T → Type 0
+  IsStateOf s state = (state.container ≡ number_of s) × (state.capacity ≡ capacity_of s)
+
+  -- the state shows what it showed, and has seen what it had seen
+  abbrev pub IsLeft : ContainerState T → ContainerState T → Type 0
+  IsLeft old new = (new.shown.elements ≡ old.shown.elements) × (new.seen ≡ old.seen)
+
+module _ {T : Type 0} {words : Ghosts T} where
+  -- what a pass knows, and which container it is for
+  abbrev pub view : Pass T words → View
+  view p = p.token.seated.seat.me.0
+
+  abbrev pub container_of : Pass T words → SetId
+  container_of p = record { table = p.token.seated.seat.table_id; capacity = p.token.capacity }
+
+  abbrev pub IsPassOf : Container T → Pass T words → Type 0
+  IsPassOf s p = container_of p ≡ container_id s
+
+module _ {T : Type 0} {CAPACITY : ℕ} where
+  -- the container of one whose capacity is part of its type
+  abbrev pub container_in : FixedSizeContainer T CAPACITY → Container T
+  container_in s = s.container

@@ -1,0 +1,3 @@
+pub mod Robust
+pub mod RobustUniqueIndexSet
+pub mod Container

@@ -1,0 +1,91 @@
+-- What the closures of a find and of a recovery are called with: indices that ascend below the
+-- capacity, each at most once.
+use Rattle.std.specs.Prelude.{◌≡◌, ℕ, ◌+◌, ◌<◌, ◌⊎◌, Bool, true, List, [], ◌∷◌, ◌++◌, length, All, AllPairs, Contains}
+use Rattle.std.specs.List.{FoldsTo}
+use Rattle.steps.specs.Indices.Robust.Parts.{empty}
+use Rattle.steps.specs.declared.enums.CallbackProgression.{CallbackProgression}
+use Rattle.steps.specs.declared.enums.CallbackProgression.TheVariants.{Continue, Stop}
+use Rattle.lock_free_sp.specs.Callable.{Ascends}
+
+-- ---- find
+
+-- a find came to n indices: to these, after each of which it was told to go on, and to no more or to
+-- one more, on which it was told to stop; these calls made the closure what it is at the end
+pub record HasFound {F : Type 0} (step : F → ℕ → CallbackProgression → F → Type 0)
+    (capacity : ℕ) (f : F) (n : ℕ) (last : F) : Type 0 where
+  pub indices : List ℕ
+  pub now : F
+  pub calls : FoldsTo (λ p x q. step p x Continue q) f indices now
+  pub ascend : Ascends capacity indices
+  pub ended : ((now ≡ last) × (length indices ≡ n))
+      ⊎ ((index : ℕ) × step now index Stop last × Ascends capacity (indices ++ index ∷ [])
+      × (length indices + 1 ≡ n))
+
+-- ---- recover
+
+-- an index with its owner
+pub record Owned : Type 0 where
+  pub owner : ℕ
+  pub index : ℕ
+
+-- a question about it, and the answer
+pub record Asked : Type 0 where
+  pub of : Owned
+  pub yes : Bool
+
+abbrev pub IsOwned : ℕ → Owned → Type 0
+IsOwned capacity o = (o.owner < empty) × (o.index < capacity)
+
+-- each index is below the capacity, and above the one before
+abbrev pub TheyAscend : ℕ → List Owned → Type 0
+TheyAscend capacity told =
+    AllPairs (λ (x y : Owned). x.index < y.index) told × All (IsOwned capacity) told
+
+-- the same of questions
+abbrev pub QuestionsAscend : ℕ → List Asked → Type 0
+QuestionsAscend capacity asked =
+    AllPairs (λ (x y : Asked). x.of.index < y.of.index) asked
+    × All (λ (a : Asked). IsOwned capacity a.of) asked
+
+-- there was a yes about it
+abbrev pub WasAgreed : List Asked → Owned → Type 0
+WasAgreed asked o = Contains asked (record { of = o; yes = true })
+
+-- the calls of a closure that is asked, and of one that is told
+abbrev pub asks : {F : Type 0} → (F → ℕ → ℕ → Bool → F → Type 0) → F → Asked → F → Type 0
+asks step p a q = step p a.of.owner a.of.index a.yes q
+
+abbrev pub tells : {S : Type 0} → (S → ℕ → ℕ → S → Type 0) → S → Owned → S → Type 0
+tells step p o q = step p o.owner o.index q
+
+-- after questions that ascend, the closure may be asked about any index above them and below the
+-- capacity, of any owner
+pub record TakesQuestions {F : Type 0} (pre : F → ℕ → ℕ → Type 0)
+    (step : F → ℕ → ℕ → Bool → F → Type 0) (capacity : ℕ) (f : F) : Type 0 where
+  pub at : (before : List Asked) (now : F) (o : Owned) → FoldsTo (asks step) f before now
+      → QuestionsAscend capacity before → All (λ (a : Asked). a.of.index < o.index) before
+      → IsOwned capacity o → pre now o.owner o.index
+
+-- after a yes about an index, and after calls for indices below it, the closure may be told of it
+pub record TakesFreed {F S : Type 0} (step : F → ℕ → ℕ → Bool → F → Type 0)
+    (pre : S → ℕ → ℕ → Type 0) (tell : S → ℕ → ℕ → S → Type 0) (capacity : ℕ)
+    (f : F) (s : S) : Type 0 where
+  pub at : (asked : List Asked) (p : F) (before : List Owned) (now : S) (o : Owned)
+      → FoldsTo (asks step) f asked p → QuestionsAscend capacity asked → WasAgreed asked o
+      → FoldsTo (tells tell) s before now → TheyAscend capacity before
+      → All (λ (x : Owned). x.index < o.index) before
+      → IsOwned capacity o → pre now o.owner o.index
+
+-- what a recovery asked about, and what it told of: only that about which there was a yes, and
+-- nothing where the lock was seen before; these calls made the closures what they are at the end
+pub record HasVisited {F S : Type 0} (step : F → ℕ → ℕ → Bool → F → Type 0)
+    (tell : S → ℕ → ℕ → S → Type 0) (capacity : ℕ) (locked : Bool) (f : F) (s : S)
+    (f_last : F) (s_last : S) : Type 0 where
+  pub asked : List Asked
+  pub told : List Owned
+  pub questions : FoldsTo (asks step) f asked f_last
+  pub calls : FoldsTo (tells tell) s told s_last
+  pub asked_ascend : QuestionsAscend capacity asked
+  pub told_ascend : TheyAscend capacity told
+  pub agreed : All (WasAgreed asked) told
+  pub nothing : locked ≡ true → asked ≡ []

@@ -1,0 +1,255 @@
+-- What is known at each stage of a call on a robust unique index set, and how the call ends: of the
+-- view with which it began, and the view now.
+use Rattle.std.specs.Prelude.{◌≡◌, ℕ, ◌+◌, ◌<◌, ◌≤◌, Bool, true, false, Ok, Err, if◌then◌else◌}
+use Rattle.steps.specs.Indices.Robust.Parts.{empty, locked, greatest}
+use Rattle.steps.specs.Indices.Robust.Acquire.{Acquired}
+use Rattle.steps.specs.Indices.Robust.Release.{Released}
+use Rattle.steps.specs.Indices.Robust.Find.{find_after}
+use Rattle.steps.specs.Indices.Robust.Recover.{recover_after}
+use Rattle.steps.specs.declared.ask.After.{After}
+use Rattle.steps.specs.declared.ask.After.TheVariants.{GoOn, Done}
+use Rattle.steps.specs.declared.enums.CallbackProgression.{CallbackProgression}
+use Rattle.steps.specs.declared.enums.CallbackProgression.TheVariants.{Continue, Stop}
+use Rattle.steps.specs.declared.indices.enums.ReleaseMode.{ReleaseMode}
+use Rattle.steps.specs.declared.indices.enums.ReleaseMode.TheVariants.{LockIfLastIndex}
+use Rattle.steps.specs.declared.indices.enums.ReleaseState.{ReleaseState}
+use Rattle.steps.specs.declared.indices.robust.parts.Raise as raises
+use Rattle.steps.specs.declared.indices.robust.parts.Count as counts
+use Rattle.steps.specs.declared.indices.robust.parts.Lock as locks
+use Rattle.steps.specs.declared.indices.robust.acquire.Acquire.{Acquire}
+use Rattle.steps.specs.declared.indices.robust.acquire.AcquireStage as acquires
+use Rattle.steps.specs.declared.indices.robust.release.Release.{Release}
+use Rattle.steps.specs.declared.indices.robust.release.GiveBack.{GiveBack}
+use Rattle.steps.specs.declared.indices.robust.release.ReleaseStage as releases
+use Rattle.steps.specs.declared.indices.robust.find.Find.{Find}
+use Rattle.steps.specs.declared.indices.robust.find.FindStage as finds
+use Rattle.steps.specs.declared.indices.robust.recover.Recover.{Recover}
+use Rattle.steps.specs.declared.indices.robust.recover.RecoverStage as recovers
+use Rattle.steps.specs.declared.indices.robust.looks.BorrowedIndices.{BorrowedIndices}
+use Rattle.steps.specs.declared.indices.robust.looks.IsLocked.{IsLocked}
+use Rattle.lock_free_owners.specs.declared.robust.view.View.{View}
+use Rattle.lock_free_owners.specs.Robust.Calls.{FoundOpen, FoundLocked, WasRefused, HasReleased, HasRecovered, WasCounted}
+
+-- until its end a call leaves what is known
+module _ {C M : Type 0} where
+  abbrev pub At : (View → C → Type 0) → View → View → C → M → Type 0
+  At stands base v call room = (v ≡ base) × stands v call
+
+-- ---- the parts
+
+-- the counter that a raise exchanges is neither that of a locked set nor at its end
+abbrev pub RaiseStands : raises.Raise → Type 0
+RaiseStands raises.TheVariants.LoadsCounter = Unit {0}
+RaiseStands (raises.TheVariants.ExchangesCounter counter) = counter < greatest
+
+-- a count goes on only from a counter that does not say locked
+abbrev pub CountStands : View → counts.Count → Type 0
+CountStands v counts.TheVariants.LoadsCounter = Unit {0}
+CountStands v (counts.TheVariants.LoadsCell counter index filled) =
+    (v.locked ≡ false) × (counter < locked) × (index < v.capacity) × (filled ≤ index)
+CountStands v (counts.TheVariants.ExchangesCounter counter filled) =
+    (v.locked ≡ false) × (counter < greatest) × (filled ≤ v.capacity)
+
+abbrev pub LockStands : View → locks.Lock → Type 0
+LockStands v (locks.TheVariants.Counts count) = CountStands v count
+LockStands v (locks.TheVariants.ExchangesCounter counter) = v.locked ≡ false
+
+-- ---- acquire
+
+abbrev pub AcquireStage : View → acquires.AcquireStage → Type 0
+AcquireStage v acquires.TheVariants.LoadsCounter = Unit {0}
+AcquireStage v (acquires.TheVariants.FillsCell counter index) =
+    (v.locked ≡ false) × (counter < greatest) × (index < v.capacity)
+AcquireStage v (acquires.TheVariants.ChecksCounter counter) =
+    (v.locked ≡ false) × (counter < greatest)
+AcquireStage v (acquires.TheVariants.Raises index raise) =
+    (v.locked ≡ false) × (index < v.capacity) × RaiseStands raise
+
+abbrev pub AcquireStands : View → Acquire → Type 0
+AcquireStands v call = (call.capacity ≡ v.capacity) × AcquireStage v call.stage
+
+abbrev pub AcquireEnds : View → Acquired → Unit {0} → View → Type 0
+AcquireEnds base (Ok index) room w = FoundOpen base w × (index < base.capacity)
+AcquireEnds base (Err failure) room w = WasRefused failure base w
+
+-- how a step of it ends, which leaves the view unless the acquire ends
+abbrev pub AcquireGoes : View → After Acquire Acquired → View → Type 0
+AcquireGoes v (GoOn d) w = (w ≡ v) × AcquireStands w d
+AcquireGoes v (Done end) w = AcquireEnds v end tt w
+
+-- ---- release
+
+-- it locks in the mode for that alone
+abbrev pub ReleaseStage : ReleaseMode → View → releases.ReleaseStage → Type 0
+ReleaseStage mode v releases.TheVariants.EmptiesCell = Unit {0}
+ReleaseStage mode v (releases.TheVariants.Raises raise) = RaiseStands raise
+ReleaseStage mode v (releases.TheVariants.Locks lock) =
+    (mode ≡ LockIfLastIndex) × LockStands v lock
+
+abbrev pub ReleaseStands : GiveBack → View → Release → Type 0
+ReleaseStands given v call =
+    (call.capacity ≡ v.capacity) × (given.index < v.capacity)
+    × ReleaseStage given.mode v call.stage
+
+abbrev pub ReleaseEnds : GiveBack → View → Released → Unit {0} → View → Type 0
+ReleaseEnds given base (Ok state) room w = HasReleased state given.mode base w
+ReleaseEnds given base (Err error) room w = w ≡ base
+
+-- ---- find
+
+-- how many it has found is at most how many cells it has come to
+abbrev pub FindStage : View → finds.FindStage → Type 0
+FindStage v (finds.TheVariants.LoadsCell index found) = (index < v.capacity) × (found ≤ index)
+FindStage v (finds.TheVariants.Asks index found) = (index < v.capacity) × (found ≤ index + 1)
+
+abbrev pub FindStands : View → Find → Type 0
+FindStands v call = (call.capacity ≡ v.capacity) × FindStage v call.stage
+
+abbrev pub FindEnds : View → ℕ → Unit {0} → View → Type 0
+FindEnds base found room w = w ≡ base
+
+-- ---- recover
+
+abbrev pub RecoverStage : View → recovers.RecoverStage → Type 0
+RecoverStage v recovers.TheVariants.LoadsCounter = Unit {0}
+RecoverStage v (recovers.TheVariants.LoadsCell index) = (v.locked ≡ false) × (index < v.capacity)
+RecoverStage v (recovers.TheVariants.Asks index owner) =
+    (v.locked ≡ false) × (index < v.capacity) × (owner < empty)
+RecoverStage v (recovers.TheVariants.EmptiesCell index owner) =
+    (v.locked ≡ false) × (index < v.capacity) × (owner < empty)
+RecoverStage v (recovers.TheVariants.Raises index raise) =
+    (v.locked ≡ false) × (index < v.capacity) × RaiseStands raise
+RecoverStage v (recovers.TheVariants.Locks index lock) =
+    (v.locked ≡ false) × (index < v.capacity) × LockStands v lock
+RecoverStage v recovers.TheVariants.LoadsCounterAgain = v.locked ≡ false
+
+abbrev pub RecoverStands : View → Recover → Type 0
+RecoverStands v call = (call.capacity ≡ v.capacity) × RecoverStage v call.stage
+
+abbrev pub RecoverEnds : View → ReleaseState → Unit {0} → View → Type 0
+RecoverEnds base state room w = HasRecovered state base w
+
+-- ---- looks
+
+abbrev pub BorrowedStands : View → BorrowedIndices → Type 0
+BorrowedStands v call = (call.capacity ≡ v.capacity) × CountStands v call.count
+
+-- the number tells nothing of the lock, so that the view stays where it is 0
+abbrev pub BorrowedEnds : View → ℕ → Unit {0} → View → Type 0
+BorrowedEnds base n room w = (w ≡ base) × WasCounted base n
+
+-- how a step of it ends
+abbrev pub BorrowedGoes : View → After BorrowedIndices ℕ → Type 0
+BorrowedGoes v (GoOn d) = BorrowedStands v d
+BorrowedGoes v (Done n) = WasCounted v n
+
+abbrev pub LookStands : View → IsLocked → Type 0
+LookStands v call = Unit {0}
+
+abbrev pub LookEnds : View → Bool → Unit {0} → View → Type 0
+LookEnds base true room w = FoundLocked base w
+LookEnds base false room w = FoundOpen base w
+
+-- ---- the steps of a find and of a recovery between which their closures are called
+
+abbrev pub says : CallbackProgression → ℕ
+says Continue = 1
+says Stop = 0
+
+module _ {F : Type 0} where
+  -- what a step asks of the closure
+  abbrev pub FindAsks : (F → ℕ → Type 0) → finds.FindStage → F → Type 0
+  FindAsks pre (finds.TheVariants.LoadsCell index found) f = Unit {0}
+  FindAsks pre (finds.TheVariants.Asks index found) f = pre f index
+
+  -- how the call goes on, and what becomes of the closure
+  abbrev pub FindMoves : (F → ℕ → CallbackProgression → F → Type 0) → Find → ℕ
+      → finds.FindStage → F → After Find ℕ → F → Type 0
+  FindMoves step call owner (finds.TheVariants.LoadsCell index found) f after g =
+      (g ≡ f) × ((k : ℕ) × (after ≡ find_after call owner k))
+  FindMoves step call owner (finds.TheVariants.Asks index found) f after g =
+      (a : CallbackProgression) × step f index a g × (after ≡ find_after call owner (says a))
+
+-- how a step of a recovery ends, which leaves the view unless the recovery ends
+abbrev pub RecoverGoes : View → After Recover ReleaseState → View → Type 0
+RecoverGoes v (GoOn d) w = (w ≡ v) × RecoverStands w d
+RecoverGoes v (Done state) w = HasRecovered state v w
+
+-- where loads of cells lead from this one on: to a cell or an owner there or further on, or to the end
+abbrev pub HasPassedTo : ℕ → recovers.RecoverStage → Type 0
+HasPassedTo first recovers.TheVariants.LoadsCounter = ⊥
+HasPassedTo first (recovers.TheVariants.LoadsCell index) = first ≤ index
+HasPassedTo first (recovers.TheVariants.Asks index owner) = first ≤ index
+HasPassedTo first (recovers.TheVariants.EmptiesCell index owner) = ⊥
+HasPassedTo first (recovers.TheVariants.Raises index raise) = ⊥
+HasPassedTo first (recovers.TheVariants.Locks index lock) = ⊥
+HasPassedTo first recovers.TheVariants.LoadsCounterAgain = Unit {0}
+
+abbrev pub HasPassed : ℕ → After Recover ReleaseState → Type 0
+HasPassed first (GoOn d) = HasPassedTo first d.stage
+HasPassed first (Done state) = ⊥
+
+-- a call that has come to a cell goes past it, and any other stays
+abbrev pub PassesCells : Recover → recovers.RecoverStage → After Recover ReleaseState → Type 0
+PassesCells call (recovers.TheVariants.LoadsCell index) after = HasPassed index after
+PassesCells call stage after = after ≡ GoOn call
+
+-- a call that has come past its last cell takes its last step, and any other stays
+abbrev pub LooksAgain : Recover → ReleaseMode → recovers.RecoverStage
+    → After Recover ReleaseState → Type 0
+LooksAgain call mode recovers.TheVariants.LoadsCounterAgain after =
+    (k : ℕ) × (after ≡ recover_after call mode k)
+LooksAgain call mode stage after = after ≡ GoOn call
+
+-- an exchange that emptied its cell
+abbrev pub stage_frees : recovers.RecoverStage → Bool
+stage_frees recovers.TheVariants.LoadsCounter = false
+stage_frees (recovers.TheVariants.LoadsCell index) = false
+stage_frees (recovers.TheVariants.Asks index owner) = false
+stage_frees (recovers.TheVariants.EmptiesCell index owner) = false
+stage_frees (recovers.TheVariants.Raises index raise) = true
+stage_frees (recovers.TheVariants.Locks index lock) = false
+stage_frees recovers.TheVariants.LoadsCounterAgain = false
+
+abbrev pub has_freed : After Recover ReleaseState → Bool
+has_freed (GoOn d) = stage_frees d.stage
+has_freed (Done state) = false
+
+module _ {F S : Type 0} where
+  -- what a step asks of the closures: of the second one it may be told after the exchange
+  abbrev pub RecoverAsks : (F → ℕ → ℕ → Type 0) → (S → ℕ → ℕ → Type 0)
+      → recovers.RecoverStage → F → S → Type 0
+  RecoverAsks pre may recovers.TheVariants.LoadsCounter p s = Unit {0}
+  RecoverAsks pre may (recovers.TheVariants.LoadsCell index) p s = Unit {0}
+  RecoverAsks pre may (recovers.TheVariants.Asks index owner) p s = pre p owner index
+  RecoverAsks pre may (recovers.TheVariants.EmptiesCell index owner) p s = may s owner index
+  RecoverAsks pre may (recovers.TheVariants.Raises index raise) p s = Unit {0}
+  RecoverAsks pre may (recovers.TheVariants.Locks index lock) p s = Unit {0}
+  RecoverAsks pre may recovers.TheVariants.LoadsCounterAgain p s = Unit {0}
+
+  -- it goes on as its table says, and leaves the closures
+  abbrev pub GoesQuietly : Recover → ReleaseMode → F → S → After Recover ReleaseState → F → S
+      → Type 0
+  GoesQuietly call mode p s after q t =
+      (q ≡ p) × (t ≡ s) × ((k : ℕ) × (after ≡ recover_after call mode k))
+
+  -- how the call goes on, and what becomes of the closures
+  abbrev pub RecoverMoves : (F → ℕ → ℕ → Bool → F → Type 0) → (S → ℕ → ℕ → S → Type 0)
+      → Recover → ReleaseMode → recovers.RecoverStage → F → S → After Recover ReleaseState
+      → F → S → Type 0
+  RecoverMoves step tell call mode recovers.TheVariants.LoadsCounter p s after q t =
+      GoesQuietly call mode p s after q t
+  RecoverMoves step tell call mode (recovers.TheVariants.LoadsCell index) p s after q t =
+      (q ≡ p) × (t ≡ s) × HasPassed index after
+  RecoverMoves step tell call mode (recovers.TheVariants.Asks index owner) p s after q t =
+      (t ≡ s) × ((yes : Bool) × step p owner index yes q
+      × (after ≡ recover_after call mode (if yes then 1 else 0)))
+  RecoverMoves step tell call mode (recovers.TheVariants.EmptiesCell index owner) p s after q t =
+      (q ≡ p) × ((k : ℕ) × (after ≡ recover_after call mode k))
+      × (has_freed after ≡ true → tell s owner index t) × (has_freed after ≡ false → t ≡ s)
+  RecoverMoves step tell call mode (recovers.TheVariants.Raises index raise) p s after q t =
+      GoesQuietly call mode p s after q t
+  RecoverMoves step tell call mode (recovers.TheVariants.Locks index lock) p s after q t =
+      GoesQuietly call mode p s after q t
+  RecoverMoves step tell call mode recovers.TheVariants.LoadsCounterAgain p s after q t =
+      GoesQuietly call mode p s after q t

@@ -1,0 +1,171 @@
+//! The calls on a container by a pass that ask nothing of their caller, but those of states.
+ghost use Rattle.std.specs.Prelude.{◌≡◌, ◌<◌, ◌≤◌, ◌↔◌, true, IsTrue, IsFalse, IfOk, IfErr, OnOk, OnErr};
+ghost use Rattle.lock_free_owners.specs.Robust.Calls.{FoundOpen, FoundLocked, HasReleased};
+ghost use Rattle.lock_free_owners.specs.Container.Calls.{WasNotAdded};
+ghost use Rattle.lock_free_owners.specs.Container.Names.{view, container_of, capacity_of, IsPassOf, IsHandleFor, IsOwn};
+
+use super::{Container, ContainerAddFailure, ContainerHandle, ContainerRemoveError, OwnerId, Pass};
+use crate::container::drives::{Adds, Removes, Replaces};
+use crate::robust::drives::Looks;
+use std::sync::Wait;
+use steps::container::add::{Add, Owned};
+use steps::container::remove::Remove;
+use steps::container::replace::{Replace, Replacement};
+use steps::indices::enums::{ReleaseMode, ReleaseState};
+use steps::indices::robust::looks::IsLocked;
+use steps::indices::robust::release::GiveBack;
+use steps::words::Words;
+
+impl<T: Words> Container<T> {
+    /// Adds `value` for `owner`, at the lowest index that it finds without an owner: the handle that names it.
+    /// `OutOfSpace` where each index had an owner when the call came to it, or the generation counter is at its end (no
+    /// clause says so); then nothing has changed. `IsLocked` where the container is locked, which leaves the lock seen.
+    ///
+    /// A pass that has seen the lock gets `IsLocked`. A call that meets the lock only after it has given the index its
+    /// owner answers `IsLocked` too: the index keeps that owner, and `value` is placed nowhere; what an earlier owner's
+    /// remove has not hidden yet stands there still. At most 7 + `T::WORDS` atomic steps more than the capacity where
+    /// nobody else steps in between; else it may try again for as long as others step. After `add` of the Rust crate.
+    pub fn add(
+        &self,
+        rt: &impl Wait,
+        value: T,
+        owner: OwnerId,
+        pass: &mut Pass<T>,
+    ) -> Result<ContainerHandle, ContainerAddFailure>
+        requires { IsPassOf self.now pass.old }
+        ensures container { container_of pass.new ≡ container_of pass.old }
+        ensures handle { IfOk result (IsHandleFor self.now owner) }
+        ensures added { OnOk result (FoundOpen (view pass.old) (view pass.new)) }
+        ensures refused { IfErr result (λ e. WasNotAdded e (view pass.old) (view pass.new)) }
+    {
+        let call = Add::new(pass.token.capacity);
+        let given = Owned { value, owner };
+        let end = pass
+            .token
+            .seated
+            .drive_on::<Add<T>, Adds>(rt, call, &given, &mut ());
+        match end {
+            Ok(index) => Ok(ContainerHandle {
+                index,
+                owner,
+                container: self.id,
+            }),
+            Err(failure) => Err(failure),
+        }
+    }
+
+    /// Removes the value that `handle` names. `ContainerHandleNotOwnedByContainer` where the handle is of another
+    /// container, where its index is not below the capacity (both without an atomic step), or where its owner does not
+    /// have the index (no clause says so); then nothing has changed.
+    ///
+    /// In mode `Default` the answer is `Unlocked`, also where the container is locked. In mode `LockIfLastIndex` the
+    /// container is locked where no index has an owner by then, unless the generation counter is at its end, where
+    /// nothing locks any more; `Locked` says that it is locked, by this call or an earlier one, and leaves the lock
+    /// seen. A pass that has seen the lock gets no `Unlocked` in that mode. In mode `Default` at most 6 atomic steps
+    /// where nobody else steps in between, in mode `LockIfLastIndex` at most 9 more than the capacity; else it may try
+    /// again for as long as others step. After `remove` of the Rust crate.
+    pub fn remove(
+        &self,
+        rt: &impl Wait,
+        handle: ContainerHandle,
+        mode: ReleaseMode,
+        pass: &mut Pass<T>,
+    ) -> Result<ReleaseState, ContainerRemoveError>
+        requires { IsPassOf self.now pass.old }
+        ensures container { container_of pass.new ≡ container_of pass.old }
+        ensures own { OnOk result (IsOwn self.now handle) }
+        ensures removed { IfOk result (λ s. HasReleased s mode (view pass.old) (view pass.new)) }
+        ensures refused { OnErr result (view pass.new ≡ view pass.old) }
+    {
+        if handle.container != self.id {
+            return Err(ContainerRemoveError::ContainerHandleNotOwnedByContainer);
+        }
+        let call = Remove::new(pass.token.capacity, handle.index);
+        let given = GiveBack {
+            index: handle.index,
+            owner: handle.owner,
+            mode,
+        };
+        pass.token
+            .seated
+            .drive_on::<Remove, Removes>(rt, call, &given, &mut ())
+    }
+
+    /// Puts `value` in the place of the one that `handle` names. `ContainerHandleNotOwnedByContainer` where the handle is
+    /// of another container, where its index is not below the capacity (both without an atomic step), or where its owner
+    /// does not have the index (no clause says so); then nothing has changed.
+    ///
+    /// From its third step, which hides the value that stood there, to the last but one, behind the new value's words,
+    /// the index shows no value. At most 5 + `T::WORDS` atomic steps. This project's own.
+    pub fn replace(
+        &self,
+        handle: ContainerHandle,
+        value: T,
+        pass: &mut Pass<T>,
+    ) -> Result<(), ContainerRemoveError>
+        requires { IsPassOf self.now pass.old }
+        ensures container { container_of pass.new ≡ container_of pass.old }
+        ensures view { view pass.new ≡ view pass.old }
+        ensures own { OnOk result (IsOwn self.now handle) }
+    {
+        if handle.container != self.id {
+            return Err(ContainerRemoveError::ContainerHandleNotOwnedByContainer);
+        }
+        let call = Replace::new(pass.token.capacity, handle.index);
+        let given = Replacement {
+            index: handle.index,
+            owner: handle.owner,
+            value,
+        };
+        pass.token
+            .seated
+            .drive::<Replace<T>, Replaces>(call, &given, &mut ())
+    }
+
+    /// How many indices have an owner: as many as had one when the call came to them, where the generation counter did
+    /// not move meanwhile (no clause says so). At most the capacity, and 0 where the container is locked: so where the
+    /// pass has seen the lock.
+    ///
+    /// At most 2 atomic steps more than the capacity where nobody else steps in between; else it may try again for as
+    /// long as others step. Where the generation counter is at its end the number is that of one pass over the indices,
+    /// whatever has changed meanwhile. After `len` of the Rust crate.
+    pub fn len(&self, rt: &impl Wait, pass: &mut Pass<T>) -> usize
+        requires { IsPassOf self.now pass.old }
+        ensures container { container_of pass.new ≡ container_of pass.old }
+        ensures view { view pass.new ≡ view pass.old }
+        ensures most { result ≤ capacity_of self.now }
+        ensures lock { (view pass.old).locked ≡ true → result ≡ 0 }
+    {
+        pass.borrowed_indices(rt)
+    }
+
+    /// Whether `len` is 0: so where the pass has seen the lock. As many atomic steps. After `is_empty` of the Rust crate.
+    pub fn is_empty(&self, rt: &impl Wait, pass: &mut Pass<T>) -> bool
+        requires { IsPassOf self.now pass.old }
+        ensures container { container_of pass.new ≡ container_of pass.old }
+        ensures view { view pass.new ≡ view pass.old }
+        ensures lock { (view pass.old).locked ≡ true → result ≡ true }
+    {
+        self.len(rt, pass) == 0
+    }
+
+    /// Whether the container is locked. True leaves the lock seen, and is the answer to each pass that has seen it. One
+    /// atomic step. After `is_locked` of the Rust crate.
+    pub fn is_locked(&self, pass: &mut Pass<T>) -> bool
+        requires { IsPassOf self.now pass.old }
+        ensures container { container_of pass.new ≡ container_of pass.old }
+        ensures locked { IsTrue result → FoundLocked (view pass.old) (view pass.new) }
+        ensures open { IsFalse result → FoundOpen (view pass.old) (view pass.new) }
+    {
+        pass.token
+            .seated
+            .drive::<IsLocked, Looks>(IsLocked, &(), &mut ())
+    }
+
+    /// The capacity that it was made with. After `capacity` of the Rust crate.
+    pub fn capacity(&self) -> usize
+        ensures { result ≡ capacity_of self.now }
+    {
+        self.capacity as usize
+    }
+}

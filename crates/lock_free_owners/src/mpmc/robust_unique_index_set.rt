@@ -1,0 +1,60 @@
+//! A set of indices of which each is handed out to one owner at a time, shared between threads. The indices of an owner
+//! that is dead are recovered.
+//!
+//! Each call but `capacity` is made with a pass of its set, which is the caller's concern. A pass tells whether the lock
+//! was seen: from then on the calls that are made with it find the set locked.
+//!
+//! Two things are the caller's concern besides, which no contract asks for: an index is given back at most once, by its
+//! holder; and nobody acts for an owner once its recovery has begun. Where a caller breaks them each call still answers
+//! as its contract says, but an index may be handed out that somebody still uses.
+//!
+//! The generation counter of a set ends at `u64::MAX - 1`. From there on no index is handed out, and the set is locked
+//! no more.
+ghost use Rattle.std.specs.Prelude.{◌≡◌, ◌<◌};
+ghost use Rattle.std.specs.Arc.{arc_value};
+ghost use Rattle.lock_free_owners.specs.Robust.Kept.{size};
+
+use crate::robust::rule::{Board, RobustRule};
+use crate::robust::view::View;
+use lock_free_sp::driver::seated::Seated;
+use std::alloc::Global;
+use std::sync::Arc;
+
+mod acquires;
+mod calls;
+mod cells;
+mod counts;
+mod fixed;
+mod make;
+mod passes;
+mod visits;
+
+pub use steps::enums::{CallbackProgression, OwnerId, OwnerIdNewError};
+pub use steps::indices::enums::RobustUniqueIndexSetReleaseError;
+
+/// A set of the indices below its capacity, which threads share by reference. After `RobustUniqueIndexSet` of the Rust
+/// crate.
+#[derive(Drop)]
+pub struct RobustUniqueIndexSet {
+    table: Arc<Board, Global>,
+    capacity: u32,
+}
+
+/// The same with a capacity of at most CAPACITY, which is from 1 to 2^32 - 1. It is used as the set that it has. After
+/// `StaticRobustUniqueIndexSet` of the Rust crate.
+#[derive(Drop)]
+pub struct StaticRobustUniqueIndexSet<const CAPACITY: usize> {
+    set: RobustUniqueIndexSet,
+}
+
+/// What a caller knows of a set: whether it has seen the lock. Each call is made with a pass of its set, which is the
+/// caller's concern, and only the caller's own calls change it. This project's own.
+#[derive(Drop)]
+pub struct Pass {
+    seated: Seated<View, u64, RobustRule>,
+    capacity: u32,
+    ghost sized: { seated.seat.table_id.words ≡ size capacity },
+    ghost keyed: { (arc_value seated.table).shared.key ≡ capacity },
+    ghost known: { seated.seat.me.0.capacity ≡ capacity },
+    ghost some: { 0 < capacity },
+}

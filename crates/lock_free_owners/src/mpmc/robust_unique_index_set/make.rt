@@ -1,0 +1,62 @@
+//! How a set is made.
+ghost use Rattle.std.specs.Prelude.{◌≡◌, ◌⊎◌, ◌<◌, None, Some, IfOk, IfErr, OnOk};
+ghost use Rattle.steps.specs.declared.enums.UniqueIndexCreationError.TheVariants.{NoMemory};
+ghost use Rattle.lock_free_owners.specs.Robust.Views.{blank};
+ghost use Rattle.lock_free_owners.specs.RobustUniqueIndexSet.{view, capacity_of, IsPassOf, set_refusal};
+
+use super::{Pass, RobustUniqueIndexSet};
+use atomic_table::Table;
+use lock_free_sp::driver::seated::Seated;
+use std::alloc::{AllocError, Global};
+use std::sync::Arc;
+use steps::enums::{UniqueIndexCreationError, capacity_refusal};
+use steps::indices::robust::parts::{COUNTER, EMPTY, FIRST_CELL};
+
+/// A set of which no index is out, and its first pass.
+fn open(alloc: Global, capacity: u32) -> Result<(RobustUniqueIndexSet, Pass), AllocError>
+    requires { 0 < capacity }
+    ensures pass { IfOk result (λ r. IsPassOf r.0 r.1) }
+    ensures view { IfOk result (λ r. view r.1 ≡ blank capacity) }
+    ensures capacity { IfOk result (λ r. capacity_of r.0 ≡ capacity) }
+{
+    let mut words = Vec::from_elem(alloc, EMPTY, FIRST_CELL + capacity as usize)?;
+    words[COUNTER] = 0;
+    let (table, seat) = Table::of_words(alloc, words.as_slice(), &(capacity as u64))?;
+    let table = Arc::new(alloc, table)?;
+    let shared = Arc::try_clone(&table)?;
+    let seated = Seated {
+        seat,
+        table: shared,
+    };
+    Ok((
+        RobustUniqueIndexSet { table, capacity },
+        Pass { seated, capacity },
+    ))
+}
+
+impl RobustUniqueIndexSet {
+    /// A set of the indices below `capacity`, none of which is out (tests say so, no clause does), and its first pass,
+    /// which has not seen the lock.
+    ///
+    /// Refused are, in this order, a capacity above 2^32 - 1 (`ProvidedCapacityGreaterThanMaxCapacity`), 0
+    /// (`ProvidedCapacityIsZero`) and memory (`NoMemory`). This project's own, after `RobustUniqueIndexSet` of the Rust
+    /// crate, which is made in memory that it is given.
+    pub fn new(
+        alloc: Global,
+        capacity: usize,
+    ) -> Result<(RobustUniqueIndexSet, Pass), UniqueIndexCreationError>
+        ensures pass { IfOk result (λ r. IsPassOf r.0 r.1 × (view r.1 ≡ blank capacity)) }
+        ensures capacity { IfOk result (λ r. capacity_of r.0 ≡ capacity) }
+        ensures admitted { OnOk result (set_refusal capacity ≡ None) }
+        ensures refused { IfErr result (λ e. (set_refusal capacity ≡ Some e)
+            ⊎ (set_refusal capacity ≡ None) × (e ≡ NoMemory)) }
+    {
+        if let Some(error) = capacity_refusal(capacity as u64, 1, u32::MAX as u64) {
+            return Err(error);
+        }
+        match open(alloc, capacity as u32) {
+            Ok(made) => Ok(made),
+            Err(_) => Err(UniqueIndexCreationError::NoMemory),
+        }
+    }
+}
