@@ -5,8 +5,7 @@ ghost use Rattle.lock_free.specs.Counts.Calls as of_counts;
 use crate::error::BenchError;
 use crate::hand::bits as by_hand;
 use crate::hand::bits::Calls;
-use crate::timing::{Row, Timed, Wanted};
-use crate::together::{Many, print_any};
+use crate::timing::{Row, Timed, compare};
 use lock_free::mpmc::bit_set::{BitSet, Pass};
 use lock_free::mpmc::counting_bit_set;
 use lock_free::mpmc::counting_bit_set::{BitState, CountingBitSet};
@@ -20,7 +19,6 @@ use std::time::CpuClock;
 struct Bits<'a> {
     set: &'a BitSet,
     pass: Pass,
-    next: usize,
     calls: Calls,
     ghost of: { of_bits.IsPassOf set.now pass },
 }
@@ -51,17 +49,10 @@ impl<'a> Bits<'a> {
 }
 
 impl<'a> Timed for Bits<'a> {
-    fn call<R: Wait>(&mut self, rt: &R) -> u64 {
+    fn call<R: Wait>(&mut self, rt: &R, number: u64) -> u64 {
         match self.calls {
             Calls::SetAndResetNext => {
-                let next = self.next;
-                let following = next.wrapping_add(1);
-                self.next = if following < self.set.capacity() {
-                    following
-                } else {
-                    0
-                };
-                let set = self.set(rt, next);
+                let set = self.set(rt, (number % 64) as usize);
                 match self.reset_next(rt) {
                     Some(place) if set => place as u64,
                     _ => 0,
@@ -73,6 +64,15 @@ impl<'a> Timed for Bits<'a> {
                 self.reset_all()
             }
         }
+    }
+
+    fn another(&mut self) -> Option<Bits<'a>> {
+        let pass = self.pass.split()?;
+        Some(Bits {
+            set: self.set,
+            pass,
+            calls: self.calls,
+        })
     }
 }
 
@@ -107,20 +107,8 @@ impl<'a> Counts<'a> {
     }
 }
 
-impl<'a> Many for Bits<'a> {
-    fn another(&mut self) -> Option<Bits<'a>> {
-        let pass = self.pass.split()?;
-        Some(Bits {
-            set: self.set,
-            pass,
-            next: 0,
-            calls: self.calls,
-        })
-    }
-}
-
 impl<'a> Timed for Counts<'a> {
-    fn call<R: Wait>(&mut self, _rt: &R) -> u64 {
+    fn call<R: Wait>(&mut self, _rt: &R, _number: u64) -> u64 {
         let before = self.set(5);
         if self.takes_all {
             self.reset_all()
@@ -128,9 +116,7 @@ impl<'a> Timed for Counts<'a> {
             before
         }
     }
-}
 
-impl<'a> Many for Counts<'a> {
     fn another(&mut self) -> Option<Counts<'a>> {
         let pass = self.pass.split()?;
         Some(Counts {
@@ -142,99 +128,35 @@ impl<'a> Many for Counts<'a> {
 }
 
 /// Prints a row of the bit set, of which no place stands.
-fn bits_row<R: Wait + Threads + CpuClock + Print + Sync>(
+pub fn bits_row<R: Wait + Threads + CpuClock + Print + Sync>(
     rt: &R,
     alloc: Global,
     row: &Row<'_>,
-    capacity: u32,
     calls: Calls,
 ) -> Result<(), BenchError> {
-    let (set, pass) = BitSet::new(alloc, capacity as usize)?;
+    let (set, pass) = BitSet::new(alloc, row.capacity as usize)?;
     let driven = Bits {
         set: &set,
         pass,
-        next: 0,
         calls,
     };
-    let hand = by_hand::Bits::new(alloc, capacity, calls)?;
-    print_any(rt, row, driven, hand)?;
-    Ok(())
+    let hand = by_hand::Bits::new(alloc, row.capacity, calls);
+    compare(rt, alloc, row, Some(driven), hand)
 }
 
 /// Prints a row of the counts, in which no place counts.
-fn counts_row<R: Wait + Threads + CpuClock + Print + Sync>(
+pub fn counts_row<R: Wait + Threads + CpuClock + Print + Sync>(
     rt: &R,
     alloc: Global,
     row: &Row<'_>,
-    capacity: u32,
     takes_all: bool,
 ) -> Result<(), BenchError> {
-    let (set, pass) = CountingBitSet::new(alloc, capacity as usize)?;
+    let (set, pass) = CountingBitSet::new(alloc, row.capacity as usize)?;
     let driven = Counts {
         set: &set,
         pass,
         takes_all,
     };
-    let hand = by_hand::Counts::new(alloc, capacity, takes_all)?;
-    print_any(rt, row, driven, hand)?;
-    Ok(())
-}
-
-/// The rows whose names begin so.
-pub fn rows<R: Wait + Threads + CpuClock + Print + Sync>(
-    rt: &R,
-    alloc: Global,
-    wanted: Wanted<'_>,
-) -> Result<(), BenchError> {
-    for capacity in [64u32, 1024, 65536] {
-        let changing = "bit set: set and reset_next";
-        let none = "bit set: reset_next, no place stands";
-        let emptying = "bit set: set and reset_all";
-        let all = [
-            (changing, Calls::SetAndResetNext, 6, false),
-            (changing, Calls::SetAndResetNext, 6, true),
-            (none, Calls::ResetNext, 1 + capacity as u64, false),
-            (
-                emptying,
-                Calls::SetAndResetAll,
-                2 + capacity as u64 / 64,
-                false,
-            ),
-        ];
-        for (name, calls, steps, together) in all {
-            let row = Row {
-                name,
-                capacity: capacity as u64,
-                steps,
-                together,
-            };
-            if row.is_wanted(wanted) {
-                bits_row(rt, alloc, &row, capacity, calls)?;
-            }
-        }
-    }
-    for capacity in [64u32, 1024] {
-        let all = [
-            ("counts: set", false, 1, false),
-            ("counts: set", false, 1, true),
-            (
-                "counts: set and reset_all",
-                true,
-                1 + capacity as u64,
-                false,
-            ),
-        ];
-        for (name, takes_all, steps, together) in all {
-            let row = Row {
-                name,
-                capacity: capacity as u64,
-                steps,
-                together,
-            };
-            if row.is_wanted(wanted) {
-                counts_row(rt, alloc, &row, capacity, takes_all)?;
-            }
-        }
-    }
-    Ok(())
+    let hand = by_hand::Counts::new(alloc, row.capacity, takes_all);
+    compare(rt, alloc, row, Some(driven), hand)
 }

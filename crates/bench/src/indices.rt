@@ -5,8 +5,7 @@ ghost use Rattle.lock_free.specs.RobustUniqueIndexSet as of_robust;
 
 use crate::error::BenchError;
 use crate::hand::{robust, unique};
-use crate::timing::{Row, Timed, Wanted, time};
-use crate::together::{Many, print_any};
+use crate::timing::{Row, Timed, compare};
 use lock_free::mpmc::robust_unique_index_set;
 use lock_free::mpmc::robust_unique_index_set::{
     CallbackProgression, OwnerId, RobustUniqueIndexSet,
@@ -56,7 +55,7 @@ impl<'a> Unique<'a> {
 }
 
 impl<'a> Timed for Unique<'a> {
-    fn call<R: Wait>(&mut self, rt: &R) -> u64 {
+    fn call<R: Wait>(&mut self, rt: &R, _number: u64) -> u64 {
         match self.calls {
             unique::Calls::AcquireAndRelease => match acquire_unique(rt, self.set, &mut self.pass) {
                 Some(index) => {
@@ -68,9 +67,7 @@ impl<'a> Timed for Unique<'a> {
             unique::Calls::BorrowedIndices => self.borrowed_indices() as u64,
         }
     }
-}
 
-impl<'a> Many for Unique<'a> {
     fn another(&mut self) -> Option<Unique<'a>> {
         let pass = self.pass.split()?;
         Some(Unique {
@@ -93,6 +90,13 @@ struct Robust<'a> {
 }
 
 impl<'a> Robust<'a> {
+    /// Makes the first so many calls.
+    fn fill<R: Wait>(&mut self, rt: &R, calls: u64) {
+        for number in 0..calls {
+            self.call(rt, number);
+        }
+    }
+
     #[inline(never)]
     fn acquire<R: Wait>(&mut self, rt: &R) -> Option<usize> {
         self.set.acquire(rt, self.owner, &mut self.pass).ok()
@@ -145,7 +149,7 @@ impl<'a> Robust<'a> {
 }
 
 impl<'a> Timed for Robust<'a> {
-    fn call<R: Wait>(&mut self, rt: &R) -> u64 {
+    fn call<R: Wait>(&mut self, rt: &R, _number: u64) -> u64 {
         match self.calls {
             robust::Calls::AcquireAndRelease => match self.acquire(rt) {
                 Some(index) => self.release(rt, index) as u64,
@@ -160,9 +164,7 @@ impl<'a> Timed for Robust<'a> {
             robust::Calls::Recover => self.recover(rt) as u64,
         }
     }
-}
 
-impl<'a> Many for Robust<'a> {
     fn another(&mut self) -> Option<Robust<'a>> {
         let pass = self.pass.split()?;
         Some(Robust {
@@ -176,44 +178,32 @@ impl<'a> Many for Robust<'a> {
 }
 
 /// Prints a row of the unique index set, of which no index is out.
-fn unique_row<R: Wait + Threads + CpuClock + Print + Sync>(
+pub fn unique_row<R: Wait + Threads + CpuClock + Print + Sync>(
     rt: &R,
     alloc: Global,
     row: &Row<'_>,
-    capacity: u32,
     calls: unique::Calls,
 ) -> Result<(), BenchError> {
-    let (set, pass) = UniqueIndexSet::new(alloc, capacity as usize)?;
+    let (set, pass) = UniqueIndexSet::new(alloc, row.capacity as usize)?;
     let driven = Unique {
         set: &set,
         pass,
         calls,
     };
-    let hand = unique::Unique::new(alloc, capacity, calls)?;
-    print_any(rt, row, driven, hand)?;
-    Ok(())
+    let hand = unique::Unique::new(alloc, row.capacity, calls);
+    compare(rt, alloc, row, Some(driven), hand)
 }
 
-/// The owner of this number.
-fn owner_of(number: u64) -> Result<OwnerId, BenchError> {
-    match OwnerId::new(number) {
-        Ok(owner) => Ok(owner),
-        Err(_) => Err(BenchError::Taken),
-    }
-}
-
-/// Prints a row of the robust set, of which no index is out, or each.
-fn robust_row<R: Wait + Threads + CpuClock + Print + Sync>(
+/// Prints a row of the robust set, of which no index is out, or each where an index is sought in vain.
+pub fn robust_row<R: Wait + Threads + CpuClock + Print + Sync>(
     rt: &R,
     alloc: Global,
     row: &Row<'_>,
-    capacity: u32,
-    is_full: bool,
     calls: robust::Calls,
 ) -> Result<(), BenchError> {
-    let owner = owner_of(7)?;
-    let dead = owner_of(9)?;
-    let (set, pass) = RobustUniqueIndexSet::new(alloc, capacity as usize)?;
+    let owner = OwnerId::new(7).map_err(|_| BenchError::Taken)?;
+    let dead = OwnerId::new(9).map_err(|_| BenchError::Taken)?;
+    let (set, pass) = RobustUniqueIndexSet::new(alloc, row.capacity as usize)?;
     let mut driven = Robust {
         set: &set,
         pass,
@@ -221,82 +211,11 @@ fn robust_row<R: Wait + Threads + CpuClock + Print + Sync>(
         dead,
         calls,
     };
-    let in_each = if is_full { 7 } else { robust::EMPTY };
-    let hand = robust::Robust::new(alloc, capacity, in_each, calls)?;
-    if is_full {
-        time(rt, &mut driven, capacity as u64)?;
+    let mut in_each = robust::EMPTY;
+    if let robust::Calls::Acquire = calls {
+        in_each = 7;
+        driven.fill(rt, row.capacity as u64);
     }
-    print_any(rt, row, driven, hand)?;
-    Ok(())
-}
-
-/// The rows whose names begin so.
-pub fn rows<R: Wait + Threads + CpuClock + Print + Sync>(
-    rt: &R,
-    alloc: Global,
-    wanted: Wanted<'_>,
-) -> Result<(), BenchError> {
-    let taking = "unique index set: acquire and release";
-    let asking = "unique index set: borrowed_indices";
-    let all = [
-        (taking, unique::Calls::AcquireAndRelease, 8, false),
-        (taking, unique::Calls::AcquireAndRelease, 8, true),
-        (asking, unique::Calls::BorrowedIndices, 1, false),
-    ];
-    for (name, calls, steps, together) in all {
-        for capacity in [64u32, 65536] {
-            let row = Row {
-                name,
-                capacity: capacity as u64,
-                steps,
-                together,
-            };
-            if row.is_wanted(wanted) {
-                unique_row(rt, alloc, &row, capacity, calls)?;
-            }
-        }
-    }
-    robust_rows(rt, alloc, wanted)
-}
-
-/// The rows of the robust set.
-fn robust_rows<R: Wait + Threads + CpuClock + Print + Sync>(
-    rt: &R,
-    alloc: Global,
-    wanted: Wanted<'_>,
-) -> Result<(), BenchError> {
-    let taking = "robust index set: acquire and release";
-    let failing = "robust index set: acquire, none is left";
-    let asking = "robust index set: borrowed_indices";
-    let finding = "robust index set: find, of nothing";
-    let freeing = "robust index set: recover, of nothing";
-    for capacity in [8u32, 64, 1024] {
-        let cells = capacity as u64;
-        let all = [
-            (taking, false, robust::Calls::AcquireAndRelease, 7, false),
-            (taking, false, robust::Calls::AcquireAndRelease, 7, true),
-            (failing, true, robust::Calls::Acquire, cells + 2, false),
-            (
-                asking,
-                false,
-                robust::Calls::BorrowedIndices,
-                cells + 2,
-                false,
-            ),
-            (finding, false, robust::Calls::Find, cells, false),
-            (freeing, false, robust::Calls::Recover, cells + 2, false),
-        ];
-        for (name, is_full, calls, steps, together) in all {
-            let row = Row {
-                name,
-                capacity: cells,
-                steps,
-                together,
-            };
-            if row.is_wanted(wanted) {
-                robust_row(rt, alloc, &row, capacity, is_full, calls)?;
-            }
-        }
-    }
-    Ok(())
+    let hand = robust::Robust::new(alloc, row.capacity, in_each, calls);
+    compare(rt, alloc, row, Some(driven), hand)
 }

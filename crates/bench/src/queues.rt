@@ -1,15 +1,17 @@
 //! The rows of the queues.
-ghost use Rattle.std.specs.Prelude.{◌<◌, ◌^◌};
-ghost use Rattle.lock_free.specs.Ends.{IsPassOf};
+ghost use Rattle.std.specs.Prelude.{◌≡◌};
+ghost use Rattle.lock_free.specs.Ends as ends;
 
 use crate::error::BenchError;
 use crate::hand;
-use crate::timing::{Row, Timed, Wanted, print_row};
+use crate::timing::{Row, Timed, compare};
 use lock_free::spsc::index_queue::{Consumer, IndexQueue, Pass, Producer};
 use lock_free::spsc::queue::Queue;
+use lock_free::spsc::safely_overflowing_index_queue::SafelyOverflowingIndexQueue;
 use lock_free::spsc::{queue, safely_overflowing_index_queue as overflow};
 use std::alloc::Global;
 use std::sync::Wait;
+use std::thread::Threads;
 use std::time::CpuClock;
 
 /// The two ends of an index queue.
@@ -17,7 +19,17 @@ use std::time::CpuClock;
 struct Numbers<'a> {
     producer: Producer<'a>,
     consumer: Consumer<'a>,
-    next: u64,
+}
+
+impl<'a> Numbers<'a> {
+    fn of(queue: &'a IndexQueue, mut pass: Pass) -> Option<Numbers<'a>>
+        requires { ends.IsPassOf queue.now pass }
+    {
+        let other = pass.split()?;
+        let producer = queue.acquire_producer(pass).ok()?;
+        let consumer = queue.acquire_consumer(other).ok()?;
+        Some(Numbers { producer, consumer })
+    }
 }
 
 #[inline(never)]
@@ -32,9 +44,8 @@ fn pop(consumer: &mut Consumer<'_>) -> Option<u64> {
 
 /// A push and a pop.
 impl<'a> Timed for Numbers<'a> {
-    fn call<R: Wait>(&mut self, _rt: &R) -> u64 {
-        self.next = self.next.wrapping_add(1);
-        let pushed = push(&mut self.producer, self.next);
+    fn call<R: Wait>(&mut self, _rt: &R, number: u64) -> u64 {
+        let pushed = push(&mut self.producer, number);
         match pop(&mut self.consumer) {
             Some(value) if pushed => value,
             _ => 0,
@@ -47,7 +58,17 @@ impl<'a> Timed for Numbers<'a> {
 struct Pairs<'a> {
     producer: queue::Producer<'a, (u64, u64)>,
     consumer: queue::Consumer<'a, (u64, u64)>,
-    next: u64,
+}
+
+impl<'a> Pairs<'a> {
+    fn of(queue: &'a Queue<(u64, u64), 64>, mut pass: queue::Pass<(u64, u64)>) -> Option<Pairs<'a>>
+        requires { ends.IsPassOf (ends.ring_of queue.now) pass }
+    {
+        let other = pass.split()?;
+        let producer = queue.acquire_producer(pass).ok()?;
+        let consumer = queue.acquire_consumer(other).ok()?;
+        Some(Pairs { producer, consumer })
+    }
 }
 
 #[inline(never)]
@@ -62,9 +83,8 @@ fn pop_pair(consumer: &mut queue::Consumer<'_, (u64, u64)>) -> Option<(u64, u64)
 
 /// A push and a pop.
 impl<'a> Timed for Pairs<'a> {
-    fn call<R: Wait>(&mut self, _rt: &R) -> u64 {
-        self.next = self.next.wrapping_add(1);
-        let pushed = push_pair(&mut self.producer, &(self.next, 7));
+    fn call<R: Wait>(&mut self, _rt: &R, number: u64) -> u64 {
+        let pushed = push_pair(&mut self.producer, &(number, 7));
         match pop_pair(&mut self.consumer) {
             Some((value, _)) if pushed => value,
             _ => 0,
@@ -77,7 +97,25 @@ impl<'a> Timed for Pairs<'a> {
 struct Overflowing<'a> {
     producer: overflow::Producer<'a>,
     consumer: overflow::Consumer<'a>,
-    next: u64,
+}
+
+impl<'a> Overflowing<'a> {
+    /// Of one that so many numbers are pushed into.
+    fn of(
+        queue: &'a SafelyOverflowingIndexQueue,
+        mut pass: overflow::Pass,
+        number: u32,
+    ) -> Option<Overflowing<'a>>
+        requires { ends.IsPassOf queue.now pass }
+    {
+        let other = pass.split()?;
+        let mut producer = queue.acquire_producer(pass).ok()?;
+        let consumer = queue.acquire_consumer(other).ok()?;
+        for _ in 0..number {
+            producer.push(0);
+        }
+        Some(Overflowing { producer, consumer })
+    }
 }
 
 #[inline(never)]
@@ -92,176 +130,79 @@ fn pop_over<R: Wait>(rt: &R, consumer: &mut overflow::Consumer<'_>) -> Option<u6
 
 /// A push into the full queue; then a pop, and a push where there is room.
 impl<'a> Timed for Overflowing<'a> {
-    fn call<R: Wait>(&mut self, rt: &R) -> u64 {
-        self.next = self.next.wrapping_add(1);
-        let next = self.next;
-        let oldest = push_over(&mut self.producer, next).unwrap_or(0);
+    fn call<R: Wait>(&mut self, rt: &R, number: u64) -> u64 {
+        let oldest = push_over(&mut self.producer, number).unwrap_or(0);
         let popped = pop_over(rt, &mut self.consumer).unwrap_or(0);
-        let none = push_over(&mut self.producer, next).unwrap_or(1);
+        let none = push_over(&mut self.producer, number).unwrap_or(1);
         oldest.wrapping_add(popped).wrapping_add(none)
     }
 }
 
 /// An index queue with a pass.
 #[derive(Drop)]
-struct Length {
-    queue: IndexQueue,
+struct Length<'a> {
+    queue: &'a IndexQueue,
     pass: Pass,
-    ghost of: { IsPassOf queue pass },
+    ghost of: { ends.IsPassOf queue.now pass },
 }
 
-impl Length {
+impl<'a> Timed for Length<'a> {
     #[inline(never)]
-    fn len<R: Wait>(&mut self, rt: &R) -> u64 {
+    fn call<R: Wait>(&mut self, rt: &R, _number: u64) -> u64 {
         self.queue.len(rt, &mut self.pass) as u64
     }
 }
 
-impl Timed for Length {
-    fn call<R: Wait>(&mut self, rt: &R) -> u64 {
-        self.len(rt)
-    }
-}
-
 /// Prints the row of a push and a pop of the index queue.
-fn numbers_row<R: Wait + CpuClock + Print>(
+pub fn numbers_row<R: Wait + Threads + CpuClock + Print + Sync>(
     rt: &R,
     alloc: Global,
     row: &Row<'_>,
-    capacity: u32,
 ) -> Result<(), BenchError> {
-    let (queue, mut mine) = IndexQueue::new(alloc, capacity as usize)?;
-    let other = mine.split().ok_or(BenchError::Taken)?;
-    let Ok(producer) = queue.acquire_producer(mine) else {
-        return Err(BenchError::Taken);
-    };
-    let Ok(consumer) = queue.acquire_consumer(other) else {
-        return Err(BenchError::Taken);
-    };
-    let mut driven = Numbers {
-        producer,
-        consumer,
-        next: 0,
-    };
-    let mut by_hand = hand::queues::Numbers::new(alloc, capacity, false)?;
-    print_row(rt, row, &mut driven, &mut by_hand)?;
-    Ok(())
+    let (queue, pass) = IndexQueue::new(alloc, row.capacity as usize)?;
+    let hand = hand::queues::Numbers::new(alloc, row.capacity);
+    compare(rt, alloc, row, Numbers::of(&queue, pass), hand)
 }
 
 /// Prints the row of the length of the index queue.
-fn length_row<R: Wait + CpuClock + Print>(
+pub fn length_row<R: Wait + Threads + CpuClock + Print + Sync>(
     rt: &R,
     alloc: Global,
     row: &Row<'_>,
 ) -> Result<(), BenchError> {
-    let (queue, pass) = IndexQueue::new(alloc, 64)?;
-    let mut driven = Length { queue, pass };
-    let mut by_hand = hand::queues::Numbers::new(alloc, 64, true)?;
-    print_row(rt, row, &mut driven, &mut by_hand)?;
-    Ok(())
+    let (queue, pass) = IndexQueue::new(alloc, row.capacity as usize)?;
+    let driven = Length {
+        queue: &queue,
+        pass,
+    };
+    compare(
+        rt,
+        alloc,
+        row,
+        Some(driven),
+        hand::queues::Length::new(alloc),
+    )
 }
 
-/// Prints the row of a queue of pairs.
-fn pairs_row<const CAPACITY: usize, R: Wait + CpuClock + Print>(
+/// Prints the row of a queue of pairs, of which there are 64 at most.
+pub fn pairs_row<R: Wait + Threads + CpuClock + Print + Sync>(
     rt: &R,
     alloc: Global,
-    wanted: Wanted<'_>,
-) -> Result<(), BenchError>
-    requires { CAPACITY < 2 ^ 32 }
-{
-    let row = Row {
-        name: "queue of pairs: push and pop",
-        capacity: CAPACITY as u64,
-        steps: 10,
-        together: false,
-    };
-    if !row.is_wanted(wanted) {
-        return Ok(());
-    }
-    let (queue, mut mine) = Queue::<(u64, u64), CAPACITY>::new(alloc)?;
-    let other = mine.split().ok_or(BenchError::Taken)?;
-    let Ok(producer) = queue.acquire_producer(mine) else {
-        return Err(BenchError::Taken);
-    };
-    let Ok(consumer) = queue.acquire_consumer(other) else {
-        return Err(BenchError::Taken);
-    };
-    let mut driven = Pairs {
-        producer,
-        consumer,
-        next: 0,
-    };
-    let mut by_hand = hand::pairs::Pairs::new(alloc, CAPACITY as u32)?;
-    print_row(rt, &row, &mut driven, &mut by_hand)?;
-    Ok(())
+    row: &Row<'_>,
+) -> Result<(), BenchError> {
+    let (queue, pass) = Queue::<(u64, u64), 64>::new(alloc)?;
+    let hand = hand::pairs::Pairs::new(alloc, 64);
+    compare(rt, alloc, row, Pairs::of(&queue, pass), hand)
 }
 
 /// Prints the row of an overflowing queue, which is full before the first call.
-fn overflowing_row<R: Wait + CpuClock + Print>(
+pub fn overflowing_row<R: Wait + Threads + CpuClock + Print + Sync>(
     rt: &R,
     alloc: Global,
     row: &Row<'_>,
-    capacity: u32,
 ) -> Result<(), BenchError> {
-    let (queue, mut mine) = overflow::SafelyOverflowingIndexQueue::new(alloc, capacity as usize)?;
-    let other = mine.split().ok_or(BenchError::Taken)?;
-    let Ok(producer) = queue.acquire_producer(mine) else {
-        return Err(BenchError::Taken);
-    };
-    let Ok(consumer) = queue.acquire_consumer(other) else {
-        return Err(BenchError::Taken);
-    };
-    let mut driven = Overflowing {
-        producer,
-        consumer,
-        next: 0,
-    };
-    for _ in 0..capacity {
-        driven.producer.push(0);
-    }
-    let mut by_hand = hand::pairs::Overflowing::full(alloc, capacity)?;
-    print_row(rt, row, &mut driven, &mut by_hand)?;
-    Ok(())
-}
-
-/// The rows whose names begin so.
-pub fn rows<R: Wait + CpuClock + Print>(
-    rt: &R,
-    alloc: Global,
-    wanted: Wanted<'_>,
-) -> Result<(), BenchError> {
-    for capacity in [8u32, 64, 1024, 65536] {
-        let row = Row {
-            name: "index queue: push and pop",
-            capacity: capacity as u64,
-            steps: 8,
-            together: false,
-        };
-        if row.is_wanted(wanted) {
-            numbers_row(rt, alloc, &row, capacity)?;
-        }
-    }
-    let row = Row {
-        name: "index queue: len",
-        capacity: 64,
-        steps: 4,
-        together: false,
-    };
-    if row.is_wanted(wanted) {
-        length_row(rt, alloc, &row)?;
-    }
-    pairs_row::<64, R>(rt, alloc, wanted)?;
-    pairs_row::<65536, R>(rt, alloc, wanted)?;
-    for capacity in [8u32, 64, 1024, 65536] {
-        let row = Row {
-            name: "overflowing queue: push into the full one, pop, push",
-            capacity: capacity as u64,
-            steps: 14,
-            together: false,
-        };
-        if row.is_wanted(wanted) {
-            overflowing_row(rt, alloc, &row, capacity)?;
-        }
-    }
-    Ok(())
+    let (queue, pass) = SafelyOverflowingIndexQueue::new(alloc, row.capacity as usize)?;
+    let driven = Overflowing::of(&queue, pass, row.capacity);
+    let hand = hand::pairs::Overflowing::full(alloc, row.capacity);
+    compare(rt, alloc, row, driven, hand)
 }

@@ -1,76 +1,53 @@
-//! Two that do the same are timed by turns.
+//! Two that do the same are timed by turns, each in one thread or in several at once.
 
-use std::io;
+use crate::error::BenchError;
+use std::alloc::{AllocError, Global};
 use std::sync::Wait;
+use std::thread::Threads;
 use std::time::CpuClock;
+use std::{io, thread};
 
 /// How often each of the two is timed.
-pub const ROUNDS: usize = 11;
+const ROUNDS: usize = 11;
 
 /// How many nanoseconds of the processor one timing takes at least.
 const LONG_ENOUGH: u64 = 2_000_000;
 
-/// A call that is timed. It answers a number, so that two can be seen to do the same.
-pub trait Timed {
-    fn call<R: Wait>(&mut self, rt: &R) -> u64;
-}
+/// Who makes a call that is timed, on what others may call too.
+pub trait Timed: Drop + Sized {
+    /// Makes the call, given how many came before it in its round. It answers a number, so that two can be seen to do the
+    /// same.
+    fn call<R: Wait>(&mut self, rt: &R, number: u64) -> u64;
 
-/// Which rows are wanted.
-#[derive(Clone, Copy)]
-pub struct Wanted<'a> {
-    /// What the name begins with, or `all`.
-    pub beginning: &'a str,
-    /// Those in which several threads make the calls at once, or those of one thread.
-    pub together: bool,
-}
-
-/// What a row is about: a call, the capacity of what it is called on, how many atomic steps it takes where nobody steps
-/// in between, and whether several threads make it at once.
-#[derive(Clone, Copy)]
-pub struct Row<'a> {
-    pub name: &'a str,
-    pub capacity: u64,
-    pub steps: u64,
-    pub together: bool,
-}
-
-impl<'a> Row<'a> {
-    /// Whether its name begins so, or each is wanted.
-    pub fn is_wanted(&self, wanted: Wanted<'_>) -> bool {
-        self.together == wanted.together
-            && (wanted.beginning == "all" || self.name.starts_with(wanted.beginning))
+    /// Another one who makes it. None where there is none.
+    fn another(&mut self) -> Option<Self> {
+        None
     }
 }
 
+/// What a row is about: a call, the capacity of what it is called on, how many atomic steps it takes where nobody steps
+/// in between, and how many threads make it at once.
+#[derive(Clone, Copy)]
+pub struct Row<'a> {
+    pub name: &'a str,
+    pub capacity: u32,
+    pub steps: u64,
+    pub threads: usize,
+}
+
 /// The nanoseconds of the processor that so many calls take, and the sum of their answers.
-pub fn time<T: Timed, R: Wait + CpuClock>(
-    rt: &R,
-    timed: &mut T,
-    calls: u64,
-) -> io::Result<(u64, u64)> {
+fn time<T: Timed, R: Wait + CpuClock>(rt: &R, timed: &mut T, calls: u64) -> io::Result<(u64, u64)> {
     let mut sum = 0u64;
     let start = rt.thread_cpu_time()?;
-    for _ in 0..calls {
-        sum = sum.wrapping_add(timed.call(rt));
+    for number in 0..calls {
+        sum = sum.wrapping_add(timed.call(rt, number));
     }
     let taken = rt.thread_cpu_time()?.saturating_sub(start).as_nanos();
     Ok((u64::try_from(taken).unwrap_or(u64::MAX), sum))
 }
 
-/// The middle one.
-fn median(numbers: &[u64; ROUNDS]) -> u64 {
-    let mut sorted = *numbers;
-    sorted.sort_unstable();
-    sorted[ROUNDS / 2]
-}
-
-/// The number with one digit behind the point, of tenths.
-fn print_tenths<R: Print>(rt: &R, tenths: u64) -> io::Result<()> {
-    print!(rt; "{}.{} | ", tenths / 10, tenths % 10)
-}
-
 /// How many calls of either take long enough: a power of two. Each of the two makes as many.
-pub fn enough<D: Timed, H: Timed, R: Wait + CpuClock>(
+fn enough<D: Timed, H: Timed, R: Wait + CpuClock>(
     rt: &R,
     driven: &mut D,
     hand: &mut H,
@@ -87,66 +64,137 @@ pub fn enough<D: Timed, H: Timed, R: Wait + CpuClock>(
     Ok(calls)
 }
 
-/// What the rounds of a row took, in nanoseconds of the processor.
+/// One of those who make the calls: what its calls of a round took, and the sum of their answers.
 #[derive(Drop)]
-pub struct Rounds {
-    /// How many calls each of the two made in a round, in all its threads.
+struct Caller<T> {
+    timed: T,
+    taken: u64,
+    sum: u64,
+    // (no two of them write to one line of a cache)
+    _apart: [u64; 16],
+}
+
+impl<T: Timed> Caller<T> {
+    fn new(timed: T) -> Caller<T> {
+        Caller {
+            timed,
+            taken: 0,
+            sum: 0,
+            _apart: [0; 16],
+        }
+    }
+
+    /// Makes so many calls. They took nothing where the clock does not tell.
+    fn make<R: Wait + CpuClock>(&mut self, rt: &R, calls: u64) {
+        let (taken, sum) = time(rt, &mut self.timed, calls).unwrap_or((0, 0));
+        self.taken = taken;
+        self.sum = sum;
+    }
+}
+
+/// So many callers, of which this is the first.
+fn callers<T: Timed>(alloc: Global, first: T, number: usize) -> Result<Vec<Caller<T>>, BenchError> {
+    let mut first = first;
+    let mut all = Vec::new(alloc);
+    for _ in 1..number {
+        let other = first.another().ok_or(BenchError::Taken)?;
+        if all.push(Caller::new(other)).is_err() {
+            return Err(BenchError::NoMemory);
+        }
+    }
+    match all.push(Caller::new(first)) {
+        Ok(()) => Ok(all),
+        Err(_) => Err(BenchError::NoMemory),
+    }
+}
+
+/// What so many calls of each take together, and the sum of all answers. They make them at once, each in a thread.
+fn time_all<T: Timed + Send, R: Wait + Threads + CpuClock + Sync>(
+    rt: &R,
+    callers: &mut [Caller<T>],
     calls: u64,
-    driven: [u64; ROUNDS],
-    hand: [u64; ROUNDS],
-    ratios: [u64; ROUNDS],
+) -> (u64, u64) {
+    thread::for_each_mut(
+        rt,
+        callers,
+        4,
+        &|_, caller: &mut Caller<T>| { caller.make(rt, calls) },
+    );
+    let mut taken = 0u64;
+    let mut sum = 0u64;
+    for caller in callers.iter() {
+        taken = taken.saturating_add(caller.taken);
+        sum = sum.wrapping_add(caller.sum);
+    }
+    (taken, sum)
 }
 
-impl Rounds {
-    pub fn new(calls: u64) -> Rounds {
-        Rounds {
-            calls,
-            driven: [0; ROUNDS],
-            hand: [0; ROUNDS],
-            ratios: [0; ROUNDS],
-        }
-    }
-
-    /// Keeps what a round took.
-    pub fn keep(&mut self, round: usize, driven: u64, hand: u64) {
-        let calls = self.calls;
-        if round < ROUNDS {
-            self.driven[round] = driven.saturating_mul(10).checked_div(calls).unwrap_or(0);
-            self.hand[round] = hand.saturating_mul(10).checked_div(calls).unwrap_or(0);
-            self.ratios[round] = driven.saturating_mul(100).checked_div(hand).unwrap_or(0);
-        }
-    }
-
-    /// Prints medians of the nanoseconds of a call, driven and by hand, and of the ratio of the two.
-    pub fn print<R: Print>(&self, rt: &R) -> io::Result<()> {
-        let ratio = median(&self.ratios);
-        print_tenths(rt, median(&self.driven))?;
-        print_tenths(rt, median(&self.hand))?;
-        print!(rt; "{}.{}{} |", ratio / 100, ratio / 10 % 10, ratio % 10)
-    }
+/// The middle one.
+fn median(numbers: &[u64; ROUNDS]) -> u64 {
+    let mut sorted = *numbers;
+    sorted.sort_unstable();
+    sorted[ROUNDS / 2]
 }
 
-/// Prints the row of two that make the same calls, of one thread.
-pub fn print_row<D: Timed, H: Timed, R: Wait + CpuClock + Print>(
+/// The quotient in units of one part of so many, 0 where there is none.
+fn quotient(number: u64, by: u64, parts: u64) -> u64 {
+    number.saturating_mul(parts).checked_div(by).unwrap_or(0)
+}
+
+/// Prints the row of two that make so many calls a round, in each thread.
+fn print_row<D: Timed + Send, H: Timed + Send, R: Wait + Threads + CpuClock + Print + Sync>(
     rt: &R,
     row: &Row<'_>,
-    driven: &mut D,
-    hand: &mut H,
+    driven: &mut [Caller<D>],
+    hand: &mut [Caller<H>],
+    calls: u64,
 ) -> io::Result<()> {
-    let calls = enough(rt, driven, hand)?;
+    let all = calls.saturating_mul(row.threads as u64);
     let mut same = true;
-    let mut rounds = Rounds::new(calls);
+    let mut of_driven = [0u64; ROUNDS];
+    let mut of_hand = [0u64; ROUNDS];
+    let mut ratios = [0u64; ROUNDS];
     for round in 0..ROUNDS {
-        let (first, answers) = time(rt, driven, calls)?;
-        let (second, others) = time(rt, hand, calls)?;
-        same = same && answers == others;
-        rounds.keep(round, first, second);
+        let (first, answers) = time_all(rt, driven, calls);
+        let (second, others) = time_all(rt, hand, calls);
+        same = same && (row.threads > 1 || answers == others);
+        of_driven[round] = quotient(first, all, 10);
+        of_hand[round] = quotient(second, all, 10);
+        ratios[round] = quotient(first, second, 100);
     }
-    print!(rt; "| {} | {} | {} | ", row.name, row.capacity, row.steps)?;
-    rounds.print(rt)?;
-    if same {
-        println!(rt; "")
-    } else {
-        println!(rt; " not the same answers")
+    let (driven, hand, ratio) = (median(&of_driven), median(&of_hand), median(&ratios));
+    print!(rt; "| {}", row.name)?;
+    if row.threads > 1 {
+        print!(rt; ", {} threads", row.threads)?;
     }
+    let said = if same { "" } else { " not the same answers" };
+    println!(rt;
+        " | {} | {} | {}.{} | {}.{} | {}.{}{} |{said}",
+        row.capacity,
+        row.steps,
+        driven / 10,
+        driven % 10,
+        hand / 10,
+        hand % 10,
+        ratio / 100,
+        ratio / 10 % 10,
+        ratio % 10
+    )
+}
+
+/// Times two that make the call of a row, if there are both, and prints it.
+pub fn compare<D: Timed + Send, H: Timed + Send, R: Wait + Threads + CpuClock + Print + Sync>(
+    rt: &R,
+    alloc: Global,
+    row: &Row<'_>,
+    driven: Option<D>,
+    hand: Result<H, AllocError>,
+) -> Result<(), BenchError> {
+    let mut driven = driven.ok_or(BenchError::Taken)?;
+    let mut hand = hand?;
+    let calls = enough(rt, &mut driven, &mut hand)?;
+    let mut driven = callers(alloc, driven, row.threads)?;
+    let mut hand = callers(alloc, hand, row.threads)?;
+    print_row(rt, row, &mut driven, &mut hand, calls)?;
+    Ok(())
 }

@@ -3,7 +3,6 @@ ghost use Rattle.std.specs.Prelude.{◌≡◌, ◌+◌, ◌*◌, ◌<◌, ◌≤
 
 use super::Words;
 use crate::timing::Timed;
-use crate::together::Many;
 use std::alloc::{AllocError, Global};
 use std::sync::Wait;
 
@@ -24,7 +23,6 @@ pub struct Bits {
     words: Words,
     capacity: u32,
     elements: u32,
-    next: u32,
     calls: Calls,
     ghost some: { 0 < capacity },
     ghost all: { capacity ≤ 64 * elements },
@@ -44,7 +42,6 @@ impl Bits {
             words,
             capacity,
             elements,
-            next: 0,
             calls,
         })
     }
@@ -137,16 +134,10 @@ impl Bits {
 }
 
 impl Timed for Bits {
-    fn call<R: Wait>(&mut self, rt: &R) -> u64 {
+    fn call<R: Wait>(&mut self, rt: &R, number: u64) -> u64 {
         match self.calls {
             Calls::SetAndResetNext => {
-                let next = self.next;
-                self.next = if (next as u64) + 1 < self.capacity as u64 {
-                    next + 1
-                } else {
-                    0
-                };
-                let set = self.set(rt, next);
+                let set = self.set(rt, (number % 64) as u32);
                 match self.reset_next(rt) {
                     Some(place) if set => place as u64,
                     _ => 0,
@@ -159,16 +150,13 @@ impl Timed for Bits {
             }
         }
     }
-}
 
-impl Many for Bits {
     fn another(&mut self) -> Option<Bits> {
         let words = self.words.another()?;
         Some(Bits {
             words,
             capacity: self.capacity,
             elements: self.elements,
-            next: 0,
             calls: self.calls,
         })
     }
@@ -218,7 +206,7 @@ impl Counts {
 }
 
 impl Timed for Counts {
-    fn call<R: Wait>(&mut self, _rt: &R) -> u64 {
+    fn call<R: Wait>(&mut self, _rt: &R, _number: u64) -> u64 {
         let before = self.set(5);
         if self.takes_all {
             self.reset_all()
@@ -226,9 +214,7 @@ impl Timed for Counts {
             before
         }
     }
-}
 
-impl Many for Counts {
     fn another(&mut self) -> Option<Counts> {
         if self.capacity == 0 {
             return None;

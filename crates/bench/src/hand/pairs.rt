@@ -12,7 +12,6 @@ use std::sync::Wait;
 pub struct Pairs {
     words: Words,
     capacity: u32,
-    next: u64,
     ghost some: { 0 < capacity },
     ghost sized: { words.size ≡ 4 + 2 * capacity },
 }
@@ -25,11 +24,7 @@ impl Pairs {
         }
         let numbers = Vec::from_elem(alloc, 0u64, 4 + 2 * capacity as usize)?;
         let words = Words::new(alloc, numbers.as_slice())?;
-        Ok(Pairs {
-            words,
-            capacity,
-            next: 0,
-        })
+        Ok(Pairs { words, capacity })
     }
 
     #[inline(never)]
@@ -66,10 +61,8 @@ impl Pairs {
 
 /// A push and a pop.
 impl Timed for Pairs {
-    fn call<R: Wait>(&mut self, _rt: &R) -> u64 {
-        self.next = self.next.wrapping_add(1);
-        let pair = (self.next, 7);
-        let pushed = self.push(&pair);
+    fn call<R: Wait>(&mut self, _rt: &R, number: u64) -> u64 {
+        let pushed = self.push(&(number, 7));
         match self.pop() {
             Some((value, _)) if pushed => value,
             _ => 0,
@@ -82,7 +75,6 @@ impl Timed for Pairs {
 pub struct Overflowing {
     words: Words,
     capacity: u32,
-    next: u64,
     ghost few: { capacity + 1 < 2 ^ 32 },
     ghost some: { 0 < capacity },
     ghost sized: { words.size ≡ 4 + (capacity + 1) },
@@ -97,11 +89,7 @@ impl Overflowing {
         let mut numbers = Vec::from_elem(alloc, 0u64, 4 + (capacity as usize + 1))?;
         numbers[0] = capacity as u64;
         let words = Words::new(alloc, numbers.as_slice())?;
-        Ok(Overflowing {
-            words,
-            capacity,
-            next: 0,
-        })
+        Ok(Overflowing { words, capacity })
     }
 
     #[inline(never)]
@@ -142,12 +130,10 @@ impl Overflowing {
 
 /// A push into the full queue; then a pop, and a push where there is room.
 impl Timed for Overflowing {
-    fn call<R: Wait>(&mut self, rt: &R) -> u64 {
-        self.next = self.next.wrapping_add(1);
-        let next = self.next;
-        let oldest = self.push(next).unwrap_or(0);
+    fn call<R: Wait>(&mut self, rt: &R, number: u64) -> u64 {
+        let oldest = self.push(number).unwrap_or(0);
         let popped = self.pop(rt).unwrap_or(0);
-        let none = self.push(next).unwrap_or(1);
+        let none = self.push(number).unwrap_or(1);
         oldest.wrapping_add(popped).wrapping_add(none)
     }
 }

@@ -15,31 +15,24 @@ pub fn slot(slots: u32, position: u64) -> usize
     (position % slots as u64) as usize
 }
 
-/// A queue of numbers. A call asks for its length, or pushes a number and pops it.
+/// A queue of numbers. A call pushes a number and pops it.
 #[derive(Drop)]
 pub struct Numbers {
     words: Words,
     capacity: u32,
-    next: u64,
-    is_measured: bool,
     ghost some: { 0 < capacity },
     ghost sized: { words.size ≡ 4 + capacity },
 }
 
 impl Numbers {
     /// An empty one.
-    pub fn new(alloc: Global, capacity: u32, is_measured: bool) -> Result<Numbers, AllocError> {
+    pub fn new(alloc: Global, capacity: u32) -> Result<Numbers, AllocError> {
         if capacity == 0 {
             return Err(AllocError);
         }
         let numbers = Vec::from_elem(alloc, 0u64, 4 + capacity as usize)?;
         let words = Words::new(alloc, numbers.as_slice())?;
-        Ok(Numbers {
-            words,
-            capacity,
-            next: 0,
-            is_measured,
-        })
+        Ok(Numbers { words, capacity })
     }
 
     #[inline(never)]
@@ -68,9 +61,35 @@ impl Numbers {
         self.words.store(1, read.wrapping_add(1));
         Some(value)
     }
+}
 
+impl Timed for Numbers {
+    fn call<R: Wait>(&mut self, _rt: &R, number: u64) -> u64 {
+        let pushed = self.push(number);
+        match self.pop() {
+            Some(value) if pushed => value,
+            _ => 0,
+        }
+    }
+}
+
+/// The positions of an empty queue. A call asks for its length.
+#[derive(Drop)]
+pub struct Length {
+    words: Words,
+    ghost sized: { words.size ≡ 4 },
+}
+
+impl Length {
+    pub fn new(alloc: Global) -> Result<Length, AllocError> {
+        let words = Words::new(alloc, &[0, 0, 0, 0])?;
+        Ok(Length { words })
+    }
+}
+
+impl Timed for Length {
     #[inline(never)]
-    fn len<R: Wait>(&mut self, rt: &R) -> u64 {
+    fn call<R: Wait>(&mut self, rt: &R, _number: u64) -> u64 {
         for _ in rt.forever() {
             let write = self.words.load(0);
             let read = self.words.load(1);
@@ -79,20 +98,5 @@ impl Numbers {
             }
         }
         unreachable!()
-    }
-}
-
-impl Timed for Numbers {
-    fn call<R: Wait>(&mut self, rt: &R) -> u64 {
-        if self.is_measured {
-            return self.len(rt);
-        }
-        self.next = self.next.wrapping_add(1);
-        let next = self.next;
-        let pushed = self.push(next);
-        match self.pop() {
-            Some(value) if pushed => value,
-            _ => 0,
-        }
     }
 }

@@ -1,17 +1,16 @@
-//! The robust index set by hand, of which no index is out or each one is.
-ghost use Rattle.std.specs.Prelude.{◌≡◌, ◌+◌};
+//! The robust index set by hand, of which no index is out or each one is. The container has its first words too.
+ghost use Rattle.std.specs.Prelude.{◌≡◌, ◌+◌, ◌≤◌};
 
 use super::Words;
 use crate::timing::Timed;
-use crate::together::Many;
 use std::alloc::{AllocError, Global};
 use std::sync::Wait;
 
 pub const EMPTY: u64 = u64::MAX;
 
-pub const LOCKED: u64 = u64::MAX;
+const LOCKED: u64 = u64::MAX;
 
-pub const GREATEST: u64 = u64::MAX - 1;
+const GREATEST: u64 = u64::MAX - 1;
 
 /// The calls on a set that are timed.
 #[derive(Clone, Copy)]
@@ -28,37 +27,20 @@ pub enum Calls {
     Recover,
 }
 
-/// A set of indices: the counter, and the owner of each.
+/// The counter, the owner of each index, and further words.
 #[derive(Drop)]
-pub struct Robust {
-    words: Words,
-    capacity: u32,
-    calls: Calls,
-    ghost sized: { words.size ≡ 1 + capacity },
+pub struct Owners {
+    pub words: Words,
+    pub capacity: u32,
+    ghost sized: { 1 + capacity ≤ words.size },
 }
 
-impl Robust {
-    /// One in which each index has this owner, or `EMPTY`.
-    pub fn new(
-        alloc: Global,
-        capacity: u32,
-        owner: u64,
-        calls: Calls,
-    ) -> Result<Robust, AllocError> {
-        let mut numbers = Vec::from_elem(alloc, owner, 1 + capacity as usize)?;
-        numbers[0] = 0;
-        let words = Words::new(alloc, numbers.as_slice())?;
-        Ok(Robust {
-            words,
-            capacity,
-            calls,
-        })
-    }
-
+impl Owners {
     /// Raises the counter: false where the set is locked.
     #[inline(always)]
     fn raise<R: Wait>(&mut self, rt: &R) -> bool
-        ensures { self.new.capacity ≡ self.old.capacity }
+        ensures capacity { self.new.capacity ≡ self.old.capacity }
+        ensures size { self.new.words.size ≡ self.old.words.size }
     {
         let mut counter = self.words.load(0);
         for _ in rt.forever() {
@@ -77,8 +59,12 @@ impl Robust {
         unreachable!()
     }
 
-    #[inline(never)]
-    fn acquire<R: Wait>(&mut self, rt: &R, owner: u64) -> Option<u32> {
+    /// Takes the lowest index without an owner.
+    #[inline(always)]
+    pub fn acquire<R: Wait>(&mut self, rt: &R, owner: u64) -> Option<u32>
+        ensures capacity { self.new.capacity ≡ self.old.capacity }
+        ensures size { self.new.words.size ≡ self.old.words.size }
+    {
         let mut counter = self.words.load(0);
         for _ in rt.forever() {
             if counter == LOCKED || counter == GREATEST {
@@ -98,8 +84,11 @@ impl Robust {
         unreachable!()
     }
 
-    #[inline(never)]
-    fn release<R: Wait>(&mut self, rt: &R, index: u32, owner: u64) -> bool {
+    #[inline(always)]
+    pub fn release<R: Wait>(&mut self, rt: &R, index: u32, owner: u64) -> bool
+        ensures capacity { self.new.capacity ≡ self.old.capacity }
+        ensures size { self.new.words.size ≡ self.old.words.size }
+    {
         if index >= self.capacity {
             return false;
         }
@@ -110,8 +99,12 @@ impl Robust {
         true
     }
 
-    #[inline(never)]
-    fn borrowed_indices<R: Wait>(&mut self, rt: &R) -> u64 {
+    /// How many indices have an owner.
+    #[inline(always)]
+    pub fn filled<R: Wait>(&mut self, rt: &R) -> u64
+        ensures capacity { self.new.capacity ≡ self.old.capacity }
+        ensures size { self.new.words.size ≡ self.old.words.size }
+    {
         for _ in rt.forever() {
             let counter = self.words.load(0);
             if counter == LOCKED {
@@ -161,8 +154,46 @@ impl Robust {
     }
 }
 
+/// A set of indices.
+#[derive(Drop)]
+pub struct Robust {
+    owners: Owners,
+    calls: Calls,
+}
+
+impl Robust {
+    /// One in which each index has this owner, or `EMPTY`.
+    pub fn new(
+        alloc: Global,
+        capacity: u32,
+        owner: u64,
+        calls: Calls,
+    ) -> Result<Robust, AllocError> {
+        let mut numbers = Vec::from_elem(alloc, owner, 1 + capacity as usize)?;
+        numbers[0] = 0;
+        let words = Words::new(alloc, numbers.as_slice())?;
+        let owners = Owners { words, capacity };
+        Ok(Robust { owners, calls })
+    }
+
+    #[inline(never)]
+    fn acquire<R: Wait>(&mut self, rt: &R, owner: u64) -> Option<u32> {
+        self.owners.acquire(rt, owner)
+    }
+
+    #[inline(never)]
+    fn release<R: Wait>(&mut self, rt: &R, index: u32, owner: u64) -> bool {
+        self.owners.release(rt, index, owner)
+    }
+
+    #[inline(never)]
+    fn borrowed_indices<R: Wait>(&mut self, rt: &R) -> u64 {
+        self.owners.filled(rt)
+    }
+}
+
 impl Timed for Robust {
-    fn call<R: Wait>(&mut self, rt: &R) -> u64 {
+    fn call<R: Wait>(&mut self, rt: &R, _number: u64) -> u64 {
         match self.calls {
             Calls::AcquireAndRelease => match self.acquire(rt, 7) {
                 Some(index) => self.release(rt, index, 7) as u64,
@@ -173,18 +204,16 @@ impl Timed for Robust {
                 None => 1 << 32,
             },
             Calls::BorrowedIndices => self.borrowed_indices(rt),
-            Calls::Find => self.find(7),
-            Calls::Recover => self.recover(rt, 9) as u64,
+            Calls::Find => self.owners.find(7),
+            Calls::Recover => self.owners.recover(rt, 9) as u64,
         }
     }
-}
 
-impl Many for Robust {
     fn another(&mut self) -> Option<Robust> {
-        let words = self.words.another()?;
+        let words = self.owners.words.another()?;
+        let capacity = self.owners.capacity;
         Some(Robust {
-            words,
-            capacity: self.capacity,
+            owners: Owners { words, capacity },
             calls: self.calls,
         })
     }

@@ -3,7 +3,6 @@ ghost use Rattle.std.specs.Prelude.{◌≡◌, ◌+◌, ◌*◌, ◌<◌, ◌≤
 
 use super::Words;
 use crate::timing::Timed;
-use crate::together::Many;
 use std::alloc::{AllocError, Global};
 use std::sync::Wait;
 
@@ -120,7 +119,7 @@ impl Unique {
 }
 
 impl Timed for Unique {
-    fn call<R: Wait>(&mut self, rt: &R) -> u64 {
+    fn call<R: Wait>(&mut self, rt: &R, _number: u64) -> u64 {
         match self.calls {
             Calls::AcquireAndRelease => match self.acquire(rt) {
                 Some(index) => {
@@ -132,9 +131,7 @@ impl Timed for Unique {
             Calls::BorrowedIndices => self.borrowed_indices(),
         }
     }
-}
 
-impl Many for Unique {
     fn another(&mut self) -> Option<Unique> {
         let words = self.words.another()?;
         Some(Unique {

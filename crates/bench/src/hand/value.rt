@@ -3,7 +3,6 @@ ghost use Rattle.std.specs.Prelude.{◌≡◌, ◌+◌, ◌<◌, ◌≤◌};
 
 use super::Words;
 use crate::timing::Timed;
-use crate::together::Many;
 use std::alloc::{AllocError, Global};
 use std::sync::Wait;
 
@@ -11,7 +10,6 @@ use std::sync::Wait;
 #[derive(Drop)]
 pub struct Value<const N: usize> {
     words: Words,
-    next: u64,
     stores: bool,
     ghost some: { (0 < N) × (N < 1000) },
     ghost sized: { words.size ≡ 2 + (N + N) },
@@ -26,11 +24,7 @@ impl<const N: usize> Value<N> {
         let mut numbers = Vec::from_elem(alloc, 0u64, 2 + (N + N))?;
         numbers[0] = 1;
         let words = Words::new(alloc, numbers.as_slice())?;
-        Ok(Value {
-            words,
-            next: 0,
-            stores,
-        })
+        Ok(Value { words, stores })
     }
 
     /// The first word of the cell in which the value of this version stands.
@@ -76,23 +70,18 @@ impl<const N: usize> Value<N> {
 }
 
 impl<const N: usize> Timed for Value<N> {
-    fn call<R: Wait>(&mut self, rt: &R) -> u64 {
+    fn call<R: Wait>(&mut self, rt: &R, number: u64) -> u64 {
         if self.stores {
-            self.next = self.next.wrapping_add(1);
-            let words = [self.next; N];
-            return self.store(&words) as u64;
+            return self.store(&[number; N]) as u64;
         }
         let value = self.load(rt);
         if N > 0 { value[0] } else { 0 }
     }
-}
 
-impl<const N: usize> Many for Value<N> {
     fn another(&mut self) -> Option<Value<N>> {
         let words = self.words.another()?;
         Some(Value {
             words,
-            next: self.next,
             stores: self.stores,
         })
     }

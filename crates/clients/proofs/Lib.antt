@@ -1,0 +1,6 @@
+pub mod Left
+mod Merging
+pub mod Rings
+pub mod Rows
+pub mod Tallied
+mod Versions

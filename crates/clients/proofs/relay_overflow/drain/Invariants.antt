@@ -1,0 +1,11 @@
+use Rattle.std.proofs.Common.{◌≡◌, ℕ, List, ◌++◌}
+use Rattle.lock_free.specs.Ends.{consumer_view, consumer_queue}
+use Rattle.clients.specs.Overflow.{HasTaken}
+use Rattle.clients.proofs.relay_overflow.drain.Given as goal
+
+abbrev pub invariant-loop : goal.invariant-loop
+invariant-loop g l =
+    (consumer_queue l.consumer ≡ consumer_queue l.fn.consumer)
+    × (more : List ℕ)
+    × (l.numbers.items ≡ l.fn.numbers.items ++ more)
+    × HasTaken more (consumer_view l.fn.consumer) (consumer_view l.consumer)

@@ -1,9 +1,0 @@
-use Rattle.std.proofs.Common.{◌≡◌}
-use Rattle.lock_free.specs.Ends.{view, queue_of, consumer_view, consumer_queue}
-use Rattle.relay_overflow.specs.Overflow.{HasTaken}
-use Rattle.relay_overflow.proofs.pop_some.Given as goal
-
-abbrev pub invariant-loop : goal.invariant-loop
-invariant-loop g l =
-    (consumer_queue l.consumer ≡ queue_of l.fn.pass)
-    × HasTaken l.numbers.items (view l.fn.pass) (consumer_view l.consumer)
