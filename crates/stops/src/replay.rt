@@ -48,9 +48,6 @@ pub fn places_in(mask: u64) -> u64 {
     count
 }
 
-/// How many parties the runs have.
-pub const PARTIES: u32 = 3;
-
 /// A party's latest call, as its events tell it.
 #[derive(Copy)]
 pub struct Span {

@@ -1,5 +1,5 @@
 //! What an answer says of what its call has done, and of what was so at moments of it: a table.
-use super::{Book, Shown, Span, at, owned};
+use super::{Book, Span, at, owned};
 use crate::replay::{Right, bit, places_in, want};
 use crate::told::{Name, Said, Told, What};
 
@@ -45,7 +45,10 @@ pub enum Needs {
 /// A call, its answer, what has to be so, whether only in a proper run, and how that is told.
 type End = (Name, Said, Needs, bool, &'static str);
 
-const ENDS: [End; 39] = [
+/// How many endings the table has.
+pub const ENDINGS: usize = 39;
+
+static ENDS: [End; ENDINGS] = [
     (
         Name::Add,
         Said::Place,
@@ -328,7 +331,7 @@ fn counts(always: u64, once: u64, number: u64) -> bool {
 
 impl Book {
     /// Of the call alone.
-    fn has_done(&self, needs: Needs, span: &Span, told: &Told, shown: &Shown) -> bool {
+    fn has_done(&self, needs: Needs, span: &Span, told: &Told) -> bool {
         let it = bit(told.place);
         let its = bit(span.call.place);
         match needs {
@@ -348,14 +351,15 @@ impl Book {
             Needs::WasUnlocked => span.unlocked_once,
             Needs::NoneMissed => span.still_its & !(span.asked | span.shown) == 0,
             Needs::ShowsCopied => {
-                shown.stands == span.copied && places_in(shown.stands) == told.place
+                let stands = self.shown.stands;
+                stands == span.copied && places_in(stands) == told.place
             }
-            _ => self.stood(needs, span, told, shown),
+            _ => self.stood(needs, span, told),
         }
     }
 
     /// Of what stood at moments of it.
-    fn stood(&self, needs: Needs, span: &Span, told: &Told, shown: &Shown) -> bool {
+    fn stood(&self, needs: Needs, span: &Span, told: &Told) -> bool {
         match needs {
             Needs::WasFull => {
                 !self.is_locked && span.filled == 0 && span.filled_once == self.all()
@@ -380,7 +384,7 @@ impl Book {
                 let stood = span.its_always & span.stood_always & self.below(span);
                 stood & !span.copied == 0
             }
-            _ => self.looks_right(needs, span, told.party, shown),
+            _ => self.looks_right(needs, span, told.party),
         }
     }
 
@@ -393,19 +397,21 @@ impl Book {
         }
     }
 
-    /// Whether the call of this span may end with this answer, where the state of its party shows this.
-    pub fn ends_right(&self, span: &Span, told: &Told, shown: &Shown) -> Right {
+    /// Whether the call of this span may end with this answer.
+    pub fn ends_right(&mut self, span: &Span, told: &Told) -> Right {
         let left = span.freed & !span.gone;
         want(
             left == 0 || !self.is_proper,
             "what stood where it freed is hidden",
         )?;
         let mut is_answer = false;
-        for (name, said, needs, is_strict, promise) in &ENDS {
+        for number in 0..ENDINGS {
+            let (name, said, needs, is_strict, promise) = &ENDS[number];
             if *name == span.call.name && *said == told.said {
                 is_answer = true;
+                self.ended[number] = self.ended[number].wrapping_add(1);
                 let is_due = self.is_proper || !*is_strict;
-                want(!is_due || self.has_done(*needs, span, told, shown), promise)?;
+                want(!is_due || self.has_done(*needs, span, told), promise)?;
             }
         }
         want(is_answer, "a call answers as calls of its name do")

@@ -1,25 +1,21 @@
 //! Which turns are taken, and what the machine shows behind each.
-use super::{Book, Shown, Span, at, put_value, value_at};
+use super::{Book, SHOWS_NOTHING, Shown, at, is_look, value_at};
+use crate::cut::under_way;
 use crate::replay::{Right, bit, want};
-use crate::stops::under_way;
-use crate::told::{Call, Name, Said, told_of};
+use crate::told::{Call, Name, Said, What, told_of};
 use machine::Machine;
-use machine::event::Event;
 use machine::party::Progress;
 use schedule::bare;
 use steps::words::Words;
 
 /// What the state of the party shows.
-pub fn shown_by(machine: &Machine<u128>, party: u32) -> Shown {
-    let mut shown = Shown {
-        stands: 0,
-        values: [0; 4],
-    };
+fn shown_by(machine: &Machine<u128>, party: u32) -> Shown {
+    let mut shown = SHOWS_NOTHING;
     if let Some(state) = bare::state(machine, party) {
         for index in 0..4usize {
             if let Some(value) = state.get(index) {
-                shown.stands |= bit(index as u64);
-                put_value(&mut shown.values, index as u64, *value);
+                shown.stands |= 1 << index;
+                shown.values[index] = *value;
             }
         }
     }
@@ -28,9 +24,10 @@ pub fn shown_by(machine: &Machine<u128>, party: u32) -> Shown {
 
 /// The word at this place, or a number that none has here.
 fn word(words: &[u64], place: u64) -> u64 {
-    match words.get(place as usize) {
-        Some(word) => *word,
-        None => 77,
+    if place < words.len() as u64 {
+        words[place as usize]
+    } else {
+        77
     }
 }
 
@@ -69,6 +66,12 @@ impl Book {
         span.is_open
     }
 
+    /// Whether its call waits for a yes or a no.
+    pub fn is_asking(&self, party: u32) -> bool {
+        let span = self.span(party as u64);
+        span.asks
+    }
+
     /// Whether a replace of this index is under way.
     pub fn is_replaced(&self, index: u64) -> bool {
         let mut is_replaced = false;
@@ -83,7 +86,6 @@ impl Book {
     pub fn may_begin(&self, call: &Call) -> bool {
         let is_dead = self.is_dead(call.owner);
         match call.name {
-            Name::Dies => !is_dead,
             Name::RecoverOf => is_dead,
             _ => !self.is_stopped(call),
         }
@@ -98,9 +100,7 @@ impl Book {
     /// The turn comes now, with this decision.
     pub fn hear(&mut self, party: u32, said: Said) {
         self.said = said;
-        if let Some(span) = self.spans.get_mut(party as usize) {
-            span.asks &= said == Said::Nothing;
-        }
+        self.spans[party as usize % 4].asks &= said == Said::Nothing;
     }
 
     /// A no ends a find, and a yes is told.
@@ -114,44 +114,61 @@ impl Book {
         }
     }
 
-    /// The events of a turn, which are few.
-    pub fn read(&mut self, events: &[Event<u128>], shown: &Shown) -> Right {
+    /// The events of a turn of this party, which are few.
+    pub fn read(&mut self, machine: &Machine<u128>, party: u32) -> Right {
         for _ in 0..4 {
-            match events.get(self.now as usize) {
-                Some(event) => self.take(&told_of(event), shown)?,
+            match machine.events().get(self.now as usize) {
+                Some(event) => {
+                    let told = told_of(event);
+                    if told.what == What::Finished {
+                        self.shown = shown_by(machine, party);
+                    }
+                    self.take(&told)?;
+                }
                 None => return Ok(()),
             }
         }
         Err("a turn writes at most three events")
     }
 
-    /// Whether the party is as the book has it: a state changes by looks of its party alone.
-    fn is_party_right(&self, machine: &Machine<u128>, party: u32, span: &Span) -> bool {
+    /// Whether the state of the party shows what it did behind its latest look.
+    fn is_state_kept(&self, machine: &Machine<u128>, party: u32) -> bool {
+        let Some(state) = bare::state(machine, party) else {
+            return true;
+        };
+        let kept = &self.states[party as usize % 4];
+        let mut is_kept = true;
+        for index in 0..4usize {
+            let stands = kept.stands & (1 << index) != 0;
+            match state.get(index) {
+                Some(value) => is_kept &= stands && *value == kept.values[index],
+                None => is_kept &= !stands,
+            }
+        }
+        is_kept
+    }
+
+    /// Whether the party is as the book has it: a state changes by looks of its party alone. A replace that has found its
+    /// owner, where it was not to replace, makes the run improper.
+    fn is_party_right(&mut self, machine: &Machine<u128>, party: u32) -> bool {
         let progress = under_way(machine, party);
-        let goes = span.is_open && !span.asks;
+        let span = &self.spans[party as usize % 4];
         let is_under_way = progress.finished != span.is_open;
+        let goes = span.is_open && !span.asks;
         let is_asking_right = bare::is_going(machine, party) == goes;
-        let is_look = span.call.name == Name::GetState || span.call.name == Name::UpdateState;
-        let is_same = (span.is_open && is_look)
-            || self.has_state(party as u64, &shown_by(machine, party));
         let is_in_bounds = is_bounded(&span.call, self.capacity, &progress);
+        let is_looking = span.is_open && is_look(span.call.name);
+        let is_replacing = span.is_open && span.call.name == Name::Replace;
+        self.is_proper &= !is_replacing || span.is_proper || progress.steps == 0;
+        let is_same = is_looking || self.is_state_kept(machine, party);
         is_under_way && is_asking_right && is_in_bounds && is_same
     }
 
-    /// A replace that has found its owner, where it was not to replace, makes the run improper.
-    fn is_still_proper(&self, machine: &Machine<u128>, party: u32, span: &Span) -> bool {
-        let is_replace = span.is_open && span.call.name == Name::Replace;
-        !is_replace || span.is_proper || under_way(machine, party).steps == 0
-    }
-
-    /// Whether all parties are as the book has them, and whether the run is still proper.
-    pub fn parties_right(&mut self, machine: &Machine<u128>) -> bool {
+    /// Whether all parties are as the book has them.
+    pub fn parties_right(&mut self, machine: &Machine<u128>, parties: u32) -> bool {
         let mut are_right = true;
-        for party in 0..4u32 {
-            let span = self.span(party as u64);
-            are_right &= self.is_party_right(machine, party, &span);
-            let is_proper = self.is_still_proper(machine, party, &span);
-            self.is_proper &= is_proper;
+        for party in 0..parties {
+            are_right &= self.is_party_right(machine, party);
         }
         are_right
     }
@@ -162,10 +179,13 @@ impl Book {
         let first = self.capacity.wrapping_add(count).wrapping_add(index);
         let is_odd = word(words, count) & 1 == 1;
         let stands = self.stands & bit(index) != 0;
+        if !stands {
+            return !is_odd;
+        }
         let value = value_at(&self.values, index);
         let is_whole = word(words, first) == value.word(0)
             && word(words, first.wrapping_add(1)) == value.word(1);
-        is_odd == stands && (!stands || is_whole)
+        is_odd && is_whole
     }
 
     fn is_cell_right(&self, words: &[u64], index: u64) -> bool {

@@ -1,12 +1,7 @@
 //! What the state of a party shows where a look of it has come to its end.
 use super::ends::Needs;
-use super::{Book, Copying, Shown, Span, at, put, value_at};
+use super::{Book, Copying, Shown, Span, value_at};
 use crate::replay::bit;
-
-/// Where the book keeps what is shown to the party at this index.
-fn place_of(party: u64, index: u64) -> usize {
-    party.wrapping_mul(4).wrapping_add(index) as usize
-}
 
 /// Whether this value is shown at this index.
 fn is_shown(shown: &Shown, index: u64, value: u128) -> bool {
@@ -14,22 +9,12 @@ fn is_shown(shown: &Shown, index: u64, value: u128) -> bool {
 }
 
 impl Book {
-    /// The state of the party shows this from here on.
-    pub fn keep_state(&mut self, party: u64, shown: &Shown) {
-        put(&mut self.state_stands, party, shown.stands);
-        for index in 0..4 {
-            if let Some(kept) = self.state_values.get_mut(place_of(party, index)) {
-                *kept = value_at(&shown.values, index);
-            }
-        }
-    }
-
-    /// Whether it has shown this.
-    pub fn has_state(&self, party: u64, shown: &Shown) -> bool {
-        let mut is_same = party < 4 && at(&self.state_stands, party) == shown.stands;
-        for index in 0..4 {
-            let value = value_at(&shown.values, index);
-            is_same &= self.state_values.get(place_of(party, index)) == Some(&value);
+    /// Whether the state of the party has shown this behind its latest look.
+    fn has_state(&self, party: u64, shown: &Shown) -> bool {
+        let state = &self.states[party as usize % 4];
+        let mut is_same = state.stands == shown.stands;
+        for index in 0..4usize {
+            is_same &= state.values[index] == shown.values[index];
         }
         is_same
     }
@@ -70,7 +55,8 @@ impl Book {
     }
 
     /// What a state says that was taken anew, brought up to date, or was so.
-    pub fn looks_right(&self, needs: Needs, span: &Span, party: u64, shown: &Shown) -> bool {
+    pub fn looks_right(&self, needs: Needs, span: &Span, party: u64) -> bool {
+        let shown = &self.shown;
         match needs {
             Needs::IsAsItWas => self.has_state(party, shown) && span.copied == 0,
             Needs::StoodOnce => self.stood_in(span, shown) & self.all() == self.all(),

@@ -1,10 +1,12 @@
 //! Schedules of a loan channel that are drawn from a seed, with parties that die at any step, reclaims and the receivers
 //! after them, and judged by the reading at each turn.
+use crate::channel::ends::{ENDINGS, ENDS};
 use crate::channel::moves::{WITH, spot};
 use crate::channel::{Channel, at};
 use crate::drawn::{Draws, SEED};
+use crate::judged::{Judged, Place, Wrong};
 use crate::replay::{Right, want};
-use crate::told::{ANY, Call, Name, Said, What, told_of, turn_of};
+use crate::told::{self, ANY, Call, Name, Said, loan_turn};
 use machine::Machine;
 use machine::turn::{Refusal, Turn};
 use schedule::bare;
@@ -23,33 +25,19 @@ struct Run {
     refused: [u64; 8],
     /// Of three runs the sender takes nothing back in one, and in one the receiver receives nothing.
     leaves: Name,
+    turns: u64,
 }
 
 /// How often each refusal came, and each answer.
 #[derive(Drop)]
 struct Tally {
     refused: [u64; 8],
-    ended: [u64; 11],
+    ended: [u64; ENDINGS],
     /// The most receivers that a run had, and the most indices that a reclaim handed out, and took back.
     receivers: u64,
     handed_out: u64,
     taken_back: u64,
 }
-
-/// The calls of a channel and their answers.
-const ANSWERS: [(Name, Said); 11] = [
-    (Name::Loan, Said::Place),
-    (Name::Loan, Said::OutOfIndices),
-    (Name::Send, Said::NoValue),
-    (Name::Send, Said::Value),
-    (Name::GiveUp, Said::Done),
-    (Name::TakeBack, Said::Value),
-    (Name::TakeBack, Said::NoValue),
-    (Name::Receive, Said::Value),
-    (Name::Receive, Said::NoValue),
-    (Name::GiveBack, Said::True),
-    (Name::Reclaim, Said::Number),
-];
 
 /// What a sender begins, and a receiver.
 const SENDS: [Name; 12] = [
@@ -77,7 +65,7 @@ const RECEIVES: [Name; 6] = [
 ];
 
 /// The refusals that a channel has.
-const REFUSALS: [Refusal; 8] = [
+static REFUSALS: [Refusal; 8] = [
     Refusal::NoParty,
     Refusal::Busy,
     Refusal::Idle,
@@ -113,6 +101,14 @@ fn one_of(draws: &mut Draws, names: &[Name]) -> Name {
 }
 
 impl Run {
+    fn count(&mut self, refusal: Refusal) {
+        for number in 0..8usize {
+            if REFUSALS[number] == refusal {
+                self.refused[number] = self.refused[number].wrapping_add(1);
+            }
+        }
+    }
+
     /// A turn of this party, of which the reading expects this.
     fn turn(&mut self, party: u64, turn: Turn<u128>, expected: Option<Refusal>) -> Right {
         let refused = refusal(&mut self.machine, turn);
@@ -120,10 +116,9 @@ impl Run {
             refused == expected,
             "a turn is refused for the first test that it does not meet",
         )?;
-        for (one, count) in REFUSALS.iter().zip(self.refused.iter_mut()) {
-            if refused == Some(*one) {
-                *count = count.wrapping_add(1);
-            }
+        self.turns = self.turns.wrapping_add(1);
+        if let Some(refusal) = refused {
+            self.count(refusal);
         }
         self.channel.right(&self.machine, party_of(party))
     }
@@ -166,7 +161,7 @@ impl Run {
             value: 0,
         };
         let expected = self.channel.begin_refusal(party, &call);
-        match turn_of(party_of(party), &call) {
+        match loan_turn(party_of(party), &call) {
             Some(turn) => self.turn(party, turn, expected),
             None => Err("a call has a turn"),
         }
@@ -194,15 +189,8 @@ impl Run {
         if self.draws.once_in(6) {
             party = self.draws.below(self.channel.parties.wrapping_add(2));
         }
-        let death = Call {
-            name: Name::Dies,
-            place: ANY,
-            owner: party,
-            may_lock: false,
-            value: 0,
-        };
         let expected = self.channel.death_refusal(party);
-        match turn_of(0, &death) {
+        match told::death(party) {
             Some(turn) => self.turn(party, turn, expected),
             None => Ok(()),
         }
@@ -263,6 +251,7 @@ fn opened(alloc: Global, slots: u64, queue: u64, seed: u64) -> Option<Run> {
             draws,
             refused: [0; 8],
             leaves,
+            turns: 0,
         }),
         None => None,
     }
@@ -270,32 +259,14 @@ fn opened(alloc: Global, slots: u64, queue: u64, seed: u64) -> Option<Run> {
 
 impl Tally {
     fn take(&mut self, run: &Run) {
-        for (more, count) in run.refused.iter().zip(self.refused.iter_mut()) {
-            *count = count.wrapping_add(*more);
+        for number in 0..8usize {
+            self.refused[number] = self.refused[number].wrapping_add(run.refused[number]);
         }
-        let mut handed_out = 0u64;
-        let mut taken_back = 0u64;
-        for event in run.machine.events() {
-            let told = told_of(event);
-            match told.what {
-                What::Begun => {
-                    handed_out = 0;
-                    taken_back = 0;
-                }
-                What::HandedOut => handed_out = handed_out.wrapping_add(1),
-                What::TakenBack => taken_back = taken_back.wrapping_add(1),
-                What::Finished if told.call.name == Name::Reclaim => {
-                    self.handed_out = self.handed_out.max(handed_out);
-                    self.taken_back = self.taken_back.max(taken_back);
-                }
-                _ => {}
-            }
-            for (row, count) in ANSWERS.iter().zip(self.ended.iter_mut()) {
-                if told.what == What::Finished && row.0 == told.call.name && row.1 == told.said {
-                    *count = count.wrapping_add(1);
-                }
-            }
+        for number in 0..ENDINGS {
+            self.ended[number] = self.ended[number].wrapping_add(run.channel.ended[number]);
         }
+        self.handed_out = self.handed_out.max(run.channel.handed_out);
+        self.taken_back = self.taken_back.max(run.channel.taken_back);
         self.receivers = self.receivers.max(run.channel.receiver);
     }
 
@@ -304,13 +275,13 @@ impl Tally {
     fn is_whole(&self, slots: u64, queue: u64) -> Right {
         let is_short = queue < slots;
         let mut are_answers = true;
-        for (row, count) in ANSWERS.iter().zip(&self.ended) {
-            let comes = is_short || row.0 != Name::Send || row.1 != Said::Value;
-            are_answers &= comes == (*count > 0);
+        for number in 0..ENDINGS {
+            let is_back = ENDS[number].0 == Name::Send && ENDS[number].1 == Said::Value;
+            are_answers &= (is_short || !is_back) == (self.ended[number] > 0);
         }
         let mut are_refusals = true;
-        for count in &self.refused {
-            are_refusals &= *count > 0;
+        for number in 0..8usize {
+            are_refusals &= self.refused[number] > 0;
         }
         want(are_answers, "each answer comes")?;
         want(are_refusals, "each refusal comes")?;
@@ -322,52 +293,48 @@ impl Tally {
     }
 }
 
-/// The seed of the first schedule that breaks a promise, and that promise.
-fn first_wrong(alloc: Global, slots: u64, queue: u64) -> Option<(u64, &'static str)> {
+/// The schedule of this seed.
+fn schedule(
+    alloc: Global,
+    slots: u64,
+    queue: u64,
+    seed: u64,
+    tally: &mut Tally,
+    judged: &mut Judged,
+) -> Right {
+    match opened(alloc, slots, queue, seed) {
+        Some(mut run) => {
+            run.rows()?;
+            tally.take(&run);
+            judged.schedules = judged.schedules.wrapping_add(1);
+            judged.turns = judged.turns.wrapping_add(run.turns);
+            Ok(())
+        }
+        None => Err("a channel is made where there is memory"),
+    }
+}
+
+/// All schedules of a channel of so many slots with a queue of this capacity, up to the first that breaks a promise.
+pub fn schedules(alloc: Global, slots: u64, queue: u64, judged: &mut Judged) -> Result<(), Wrong> {
     let mut tally = Tally {
         refused: [0; 8],
-        ended: [0; 11],
+        ended: [0; ENDINGS],
         receivers: 0,
         handed_out: 0,
         taken_back: 0,
     };
     for number in 0..SCHEDULES {
         let seed = SEED ^ (slots << 40) ^ (queue << 32) ^ number;
-        let Some(mut run) = opened(alloc, slots, queue, seed) else {
-            return Some((seed, "a channel is made where there is memory"));
-        };
-        if let Err(promise) = run.rows() {
-            return Some((seed, promise));
+        if let Err(promise) = schedule(alloc, slots, queue, seed, &mut tally, judged) {
+            let place = Place::Seed(seed);
+            return Err(Wrong { place, promise });
         }
-        tally.take(&run);
     }
     match tally.is_whole(slots, queue) {
-        Ok(()) => None,
-        Err(promise) => Some((0, promise)),
+        Ok(()) => Ok(()),
+        Err(promise) => Err(Wrong {
+            place: Place::All,
+            promise,
+        }),
     }
-}
-
-#[test]
-fn drawn_schedules_of_one_slot(rt: HostRuntime) {
-    assert_eq!(rt; first_wrong(rt.alloc(), 1, 1), None);
-}
-
-#[test]
-fn drawn_schedules_of_two_slots_and_a_queue_of_one(rt: HostRuntime) {
-    assert_eq!(rt; first_wrong(rt.alloc(), 2, 1), None);
-}
-
-#[test]
-fn drawn_schedules_of_three_slots_and_a_queue_of_two(rt: HostRuntime) {
-    assert_eq!(rt; first_wrong(rt.alloc(), 3, 2), None);
-}
-
-#[test]
-fn drawn_schedules_of_four_slots_and_a_queue_of_one(rt: HostRuntime) {
-    assert_eq!(rt; first_wrong(rt.alloc(), 4, 1), None);
-}
-
-#[test]
-fn drawn_schedules_of_four_slots_and_a_longer_queue(rt: HostRuntime) {
-    assert_eq!(rt; first_wrong(rt.alloc(), 4, 5), None);
 }

@@ -5,23 +5,25 @@ ghost use Rattle.std.specs.Prelude.{◌≡◌, ⊤};
 
 use crate::replay::{Right, bit, want};
 use crate::told::{Call, NO_CALL, Name, Said, Told, What};
+use ends::ENDINGS;
 use std::alloc::AllocError;
 
-mod ends;
+pub mod ends;
 pub mod moves;
 pub mod turns;
 
 /// The number at this place, 0 past the last.
 pub fn at(numbers: &[u64; 8], place: u64) -> u64 {
-    match numbers.get(place as usize) {
-        Some(number) => *number,
-        None => 0,
+    if place < 8 {
+        numbers[place as usize]
+    } else {
+        0
     }
 }
 
 pub fn put(numbers: &mut [u64; 8], place: u64, number: u64) {
-    if let Some(stands) = numbers.get_mut(place as usize) {
-        *stands = number;
+    if place < 8 {
+        numbers[place as usize] = number;
     }
 }
 
@@ -51,10 +53,9 @@ impl Line {
         if self.length == 0 {
             return u64::MAX;
         }
-        let first = at(&self.indices, 0);
-        for place in 0..7u64 {
-            let next = at(&self.indices, place.wrapping_add(1));
-            put(&mut self.indices, place, next);
+        let first = self.indices[0];
+        for place in 0..7usize {
+            self.indices[place] = self.indices[place + 1];
         }
         self.length = self.length.wrapping_sub(1);
         first
@@ -135,6 +136,11 @@ pub struct Channel {
     pub now: u64,
     /// The words as they were last.
     pub words: [u64; 32],
+    /// How often each ending came that the table of them has, and the most indices that a reclaim handed out, and took
+    /// back.
+    pub ended: [u64; ENDINGS],
+    pub handed_out: u64,
+    pub taken_back: u64,
 }
 
 impl Channel {
@@ -153,6 +159,9 @@ impl Channel {
             list: Line::new(),
             now: 0,
             words: [0; 32],
+            ended: [0; ENDINGS],
+            handed_out: 0,
+            taken_back: 0,
         }
     }
 
@@ -160,18 +169,9 @@ impl Channel {
         self.dead & bit(party) != 0
     }
 
-    /// The latest call of the party.
-    pub fn span(&self, party: u64) -> Span {
-        match self.spans.get(party as usize) {
-            Some(span) => *span,
-            None => span_of(NO_CALL, false),
-        }
-    }
-
-    fn keep(&mut self, party: u64, span: Span) {
-        if let Some(latest) = self.spans.get_mut(party as usize) {
-            *latest = span;
-        }
+    /// The latest call of one of at most eight parties.
+    pub fn span(&self, party: u64) -> &Span {
+        &self.spans[party as usize % 8]
     }
 
     /// What the list answers to a push of this index: the oldest where it was full, or a number that is no index.
@@ -239,17 +239,19 @@ impl Channel {
 
     /// The one event, in a turn of this party.
     fn take(&mut self, told: &Told, party: u64) -> Right {
-        let span = self.span(told.party);
+        want(told.party < 8, "an event is of one of eight parties")?;
+        let span = *self.span(told.party);
         self.is_of_turn(&span, told, party)?;
         let next = self.span_after(&span, told)?;
         self.moves(&span, told)?;
         self.act(&span, told)?;
         if told.what == What::Finished {
             self.ends_right(&span, told)?;
+            self.tally(&span, told);
         }
         self.wait(told)?;
         if told.what != What::Died {
-            self.keep(told.party, next);
+            self.spans[told.party as usize % 8] = next;
         }
         self.now = self.now.wrapping_add(1);
         Ok(())

@@ -5,53 +5,58 @@ ghost use Rattle.std.specs.Prelude.{◌≡◌, ⊤};
 
 use crate::replay::{Right, bit, want};
 use crate::told::{Call, NO_CALL, Name, Said, Told, What};
+use ends::ENDINGS;
 use std::alloc::{AllocError, Global};
 
-mod ends;
+pub mod ends;
 mod looks;
 mod promises;
 pub mod turns;
 
 /// Values at those indices that are in the mask, and 0 elsewhere.
-#[derive(Drop)]
+#[derive(Clone, Copy)]
 pub struct Shown {
     pub stands: u64,
     pub values: [u128; 4],
 }
 
+pub const SHOWS_NOTHING: Shown = Shown {
+    stands: 0,
+    values: [0; 4],
+};
+
 /// The number at this index, 0 past the last.
 pub fn at(numbers: &[u64; 4], index: u64) -> u64 {
-    match numbers.get(index as usize) {
-        Some(number) => *number,
-        None => 0,
+    if index < 4 {
+        numbers[index as usize]
+    } else {
+        0
     }
 }
 
 pub fn put(numbers: &mut [u64; 4], index: u64, number: u64) {
-    if let Some(place) = numbers.get_mut(index as usize) {
-        *place = number;
+    if index < 4 {
+        numbers[index as usize] = number;
     }
 }
 
 pub fn value_at(values: &[u128; 4], index: u64) -> u128 {
-    match values.get(index as usize) {
-        Some(value) => *value,
-        None => 0,
-    }
+    if index < 4 { values[index as usize] } else { 0 }
 }
 
 pub fn put_value(values: &mut [u128; 4], index: u64, value: u128) {
-    if let Some(place) = values.get_mut(index as usize) {
-        *place = value;
+    if index < 4 {
+        values[index as usize] = value;
     }
 }
 
 /// Those indices that have this owner, or any where he is 0.
 fn owned(owners: &[u64; 4], owner: u64) -> u64 {
     let mut mask = 0u64;
-    for (index, of) in owners.iter().enumerate() {
-        if *of != 0 && (owner == 0 || *of == owner) {
-            mask |= bit(index as u64);
+    for index in 0..4usize {
+        let of = owners[index];
+        if of != 0 && (owner == 0 || of == owner) {
+            mask |= 1 << index;
         }
     }
     mask
@@ -141,6 +146,11 @@ fn span_of(call: Call, begun: u64) -> Span {
     }
 }
 
+/// Whether it is a call that writes into the state of its party.
+pub fn is_look(name: Name) -> bool {
+    name == Name::GetState || name == Name::UpdateState
+}
+
 /// No call yet.
 fn no_span() -> Span {
     let mut span = span_of(NO_CALL, 0);
@@ -219,10 +229,13 @@ pub struct Book {
     pub dead: u64,
     /// No index was given back or its value replaced by two calls at once.
     pub is_proper: bool,
+    /// How often each ending came that the table of them has.
+    pub ended: [u64; ENDINGS],
     pub spans: [Span; 4],
-    /// What the state of each party showed when no look of it was under way, four indices a party.
-    pub state_stands: [u64; 4],
-    pub state_values: [u128; 16],
+    /// What the state of each party showed behind its latest look.
+    pub states: [Shown; 4],
+    /// What the state of the party shows whose call comes to its end.
+    pub shown: Shown,
     pub stays: Vec<Stay>,
     pub copies: Vec<Copying>,
     /// The decision that the turn makes, if it does.
@@ -243,9 +256,10 @@ impl Book {
             is_locked: false,
             dead: 0,
             is_proper: true,
+            ended: [0; ENDINGS],
             spans: [no_span(); 4],
-            state_stands: [0; 4],
-            state_values: [0; 16],
+            states: [SHOWS_NOTHING; 4],
+            shown: SHOWS_NOTHING,
             stays: Vec::new(alloc),
             copies: Vec::new(alloc),
             said: Said::Nothing,
@@ -262,18 +276,13 @@ impl Book {
         self.dead & bit(owner) != 0
     }
 
-    /// The latest call of the party.
-    pub fn span(&self, party: u64) -> Span {
-        match self.spans.get(party as usize) {
-            Some(span) => *span,
-            None => no_span(),
-        }
+    /// The latest call of one of the four parties.
+    pub fn span(&self, party: u64) -> &Span {
+        &self.spans[party as usize % 4]
     }
 
     fn keep(&mut self, party: u64, span: Span) {
-        if let Some(latest) = self.spans.get_mut(party as usize) {
-            *latest = span;
-        }
+        self.spans[party as usize % 4] = span;
     }
 
     /// A call begins: those under way are no longer alone, and a replace is not where a remove or a replace begins.
@@ -368,14 +377,16 @@ impl Book {
         }
     }
 
-    /// What the event has made of the book, where the state of its party shows this.
-    fn write(&mut self, span: &Span, told: &Told, shown: &Shown) {
+    /// What the event has made of the book.
+    fn write(&mut self, span: &Span, told: &Told) {
         match told.what {
             What::Begun => self.begin(told),
             What::Died => self.dead |= bit(told.owner),
             What::Finished => {
                 self.settle(told);
-                self.keep_state(told.party, shown);
+                if is_look(span.call.name) {
+                    self.states[told.party as usize % 4] = self.shown;
+                }
                 let mut closed = *span;
                 closed.is_open = false;
                 self.keep(told.party, closed);
@@ -407,15 +418,16 @@ impl Book {
         }
     }
 
-    /// The one event, and what the state of its party shows behind its turn.
-    pub fn take(&mut self, told: &Told, shown: &Shown) -> Right {
-        let span = self.span(told.party);
+    /// The one event.
+    pub fn take(&mut self, told: &Told) -> Right {
+        want(told.party < 4, "an event is of one of four parties")?;
+        let span = *self.span(told.party);
         let mut told = *told;
         if told.what == What::Locked {
             told.place = span.index;
         }
-        self.promised(&span, &told, shown)?;
-        self.write(&span, &told, shown);
+        self.promised(&span, &told)?;
+        self.write(&span, &told);
         self.mark();
         self.now = self.now.wrapping_add(1);
         want(self.has_memory, "there is memory")

@@ -1,5 +1,5 @@
 //! What has to be so as an event comes: tables, and what their words mean.
-use super::{Book, Shown, Span, at, value_at};
+use super::{Book, Span, at, value_at};
 use crate::replay::{Right, bit, fits, want};
 use crate::told::{Name, Said, Told, What};
 
@@ -290,7 +290,7 @@ impl Book {
     }
 
     /// Whether all is so that is promised of the event, whose party's latest call is this.
-    pub fn promised(&self, span: &Span, told: &Told, shown: &Shown) -> Right {
+    pub fn promised(&mut self, span: &Span, told: &Told) -> Right {
         let is_written = !matches!(told.what, What::Begun | What::Died | What::Finished);
         want(
             !is_written || self.is_its(span, told),
@@ -307,7 +307,7 @@ impl Book {
             }
         }
         if told.what == What::Finished {
-            return self.ends_right(span, told, shown);
+            return self.ends_right(span, told);
         }
         Ok(())
     }

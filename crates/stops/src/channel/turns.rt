@@ -1,11 +1,10 @@
 //! Which turns are taken, and what the machine shows behind each.
 use super::moves::{FREE, PASSING, RETURNING, WAITING, WITH, spot};
 use super::{Channel, Line, at};
+use crate::cut::under_way;
 use crate::replay::{Right, bit, want};
-use crate::stops::under_way;
 use crate::told::{Call, Name, told_of};
 use machine::Machine;
-use machine::event::Event;
 use machine::turn::Refusal;
 
 /// A call, the most steps that it takes, how many more for each slot, and for each turn back.
@@ -81,9 +80,10 @@ impl Channel {
     }
 
     fn word(&self, place: u64) -> u64 {
-        match self.words.get(place as usize) {
-            Some(word) => *word,
-            None => 77,
+        if place < 32 {
+            self.words[place as usize]
+        } else {
+            77
         }
     }
 
@@ -101,8 +101,8 @@ impl Channel {
             is_queue &= at(&self.spots, index) == place;
         }
         let mut there = 0u64;
-        for stands in &self.spots {
-            if *stands == place {
+        for index in 0..8usize {
+            if self.spots[index] == place {
                 there = there.wrapping_add(1);
             }
         }
@@ -205,28 +205,26 @@ impl Channel {
     /// Keeps the words. Where one has changed, in a turn of this party, that is counted for the calls of the others.
     fn look(&mut self, words: &[u64], party: u64) {
         let mut changes = 0u64;
-        for (word, kept) in words.iter().zip(self.words.iter_mut()) {
-            if *kept != *word {
+        for place in 0..words.len() {
+            if place < 32 && self.words[place] != words[place] {
                 changes = changes.wrapping_add(1);
-                *kept = *word;
+                self.words[place] = words[place];
             }
         }
         if changes == 0 {
             return;
         }
-        for number in 0..8u64 {
-            let mut span = self.span(number);
-            if span.is_open && number != party {
-                span.others = span.others.wrapping_add(changes);
-                self.keep(number, span);
+        for number in 0..8usize {
+            if self.spans[number].is_open && number as u64 != party {
+                self.spans[number].others = self.spans[number].others.wrapping_add(changes);
             }
         }
     }
 
     /// The events of a turn of this party, which are few.
-    fn read(&mut self, events: &[Event<u128>], party: u64) -> Right {
+    fn read(&mut self, machine: &Machine<u128>, party: u64) -> Right {
         for _ in 0..6 {
-            match events.get(self.now as usize) {
+            match machine.events().get(self.now as usize) {
                 Some(event) => self.take(&told_of(event), party)?,
                 None => return Ok(()),
             }
@@ -237,7 +235,7 @@ impl Channel {
     /// All that holds behind a turn of this party.
     pub fn right(&mut self, machine: &Machine<u128>, party: u32) -> Right {
         self.look(machine.words(), party as u64);
-        self.read(machine.events(), party as u64)?;
+        self.read(machine, party as u64)?;
         self.words_right()?;
         self.list_right()?;
         self.spots_right()?;

@@ -12,7 +12,7 @@ mod calls;
 mod turns;
 
 use calls::call_of;
-pub use turns::turn_of;
+pub use turns::{container_turn, death, loan_turn};
 
 /// Any number.
 pub const ANY: u64 = u64::MAX;

@@ -1,13 +1,15 @@
 //! Schedules of a container that are drawn from a seed, and judged by the book at each turn.
-use crate::book::turns::shown_by;
+use crate::book::ends::ENDINGS;
 use crate::book::{Book, at, put};
+use crate::cut::step;
+use crate::judged::{Judged, Place, Wrong};
 use crate::replay::{Right, want};
-use crate::stops::{made, step};
-use crate::told::{ANY, Call, Name, Said, Told, What, told_of, turn_of};
+use crate::told::{self, ANY, Call, Name, Said, container_turn};
 use machine::Machine;
 use machine::turn::{Kind, Turn};
 use schedule::bare;
 use std::alloc::Global;
+use steps::enums::UniqueIndexCreationError;
 
 /// How many schedules are drawn at each of four capacities, and what their seeds are made of.
 const SCHEDULES: u64 = 2_500;
@@ -68,9 +70,10 @@ struct Run {
     machine: Machine<u128>,
     book: Book,
     draws: Draws,
-    parties: u64,
+    parties: u32,
     /// Those that take no more turns.
     stopped: [u64; 4],
+    turns: u64,
 }
 
 /// An index and its owner.
@@ -145,20 +148,10 @@ fn drawn_call(draws: &mut Draws, book: &Book, name: Name) -> Call {
     }
 }
 
-/// The death of an owner.
-fn death(owner: u64) -> Call {
-    Call {
-        name: Name::Dies,
-        place: ANY,
-        owner,
-        may_lock: false,
-        value: 0,
-    }
-}
-
 impl Run {
     /// One turn, and what it has left.
     fn turn(&mut self, party: u32, turn: Turn<u128>, is_allowed: bool, said: Said) -> Right {
+        self.turns = self.turns.wrapping_add(1);
         if is_allowed {
             self.book.hear(party, said);
         }
@@ -166,21 +159,30 @@ impl Run {
             step(&mut self.machine, turn) == is_allowed,
             "a turn is refused just where an owner is dead, or lives",
         )?;
-        let shown = shown_by(&self.machine, party);
-        self.book.read(self.machine.events(), &shown)?;
+        self.book.read(&self.machine, party)?;
         let heeds = !is_allowed || self.book.heeds(party);
         want(heeds, "a no ends a find, and a yes is told")?;
         want(
-            self.book.parties_right(&self.machine),
+            self.book.parties_right(&self.machine, self.parties),
             "calls and states of the parties are as the events say, and within their steps",
         )?;
         self.book.words_right(self.machine.words())
     }
 
-    /// The party begins this call, or its owner dies.
+    /// An owner dies.
+    fn dies(&mut self) -> Right {
+        let owner = self.draws.owner();
+        let is_allowed = !self.book.is_dead(owner);
+        match told::death(owner) {
+            Some(turn) => self.turn(0, turn, is_allowed, Said::Nothing),
+            None => Err("an owner has a number"),
+        }
+    }
+
+    /// The party begins this call.
     fn begins(&mut self, party: u32, call: &Call) -> Right {
         let is_allowed = self.book.may_begin(call);
-        match turn_of(party, call) {
+        match container_turn(party, call) {
             Some(turn) => self.turn(party, turn, is_allowed, Said::Nothing),
             None => Err("a call names an owner"),
         }
@@ -188,11 +190,11 @@ impl Run {
 
     /// The next turn of a call that is under way.
     fn goes(&mut self, party: u32) -> Right {
-        if bare::is_going(&self.machine, party) {
-            let is_allowed = self.book.may_go(party, false);
+        let asks = self.book.is_asking(party);
+        let is_allowed = self.book.may_go(party, asks);
+        if !asks {
             return self.turn(party, Turn::Next(party), is_allowed, Said::Nothing);
         }
-        let is_allowed = self.book.may_go(party, true);
         let is_no = self.draws.once_in(3);
         let said = if is_no { Said::False } else { Said::True };
         self.turn(party, Turn::Decide(party, !is_no), is_allowed, said)
@@ -227,10 +229,9 @@ impl Run {
     /// A drawn row: an owner dies, or a party that has not stopped plays.
     fn row(&mut self) -> Right {
         if self.draws.once_in(32) {
-            let owner = self.draws.owner();
-            return self.begins(0, &death(owner));
+            return self.dies();
         }
-        let number = self.draws.below(self.parties);
+        let number = self.draws.below(u64::from(self.parties));
         if number >= 4 {
             return Ok(());
         }
@@ -248,6 +249,16 @@ impl Run {
     }
 }
 
+/// A new container, or None.
+fn made(
+    alloc: Global,
+    capacity: u64,
+    parties: u32,
+) -> Result<Machine<u128>, UniqueIndexCreationError> {
+    bare::made_of(alloc, Kind::Container, capacity as usize, parties)
+}
+
+/// A run before its first turn, made once more where memory is refused to it.
 fn opened(alloc: Global, capacity: u64, seed: u64) -> Option<Run> {
     let mut draws = Draws { state: seed };
     let parties = match draws.below(3) {
@@ -255,123 +266,86 @@ fn opened(alloc: Global, capacity: u64, seed: u64) -> Option<Run> {
         1 => 3,
         _ => 4,
     };
-    match made(alloc, Kind::Container, capacity as usize, parties) {
-        Some(machine) => Some(Run {
-            machine,
-            book: Book::new(alloc, capacity),
-            draws,
-            parties: u64::from(parties),
-            stopped: [0; 4],
-        }),
-        None => None,
-    }
+    let machine = made(alloc, capacity, parties)
+        .or_else(|_| made(alloc, capacity, parties))
+        .ok()?;
+    Some(Run {
+        machine,
+        book: Book::new(alloc, capacity),
+        draws,
+        parties,
+        stopped: [0; 4],
+        turns: 0,
+    })
 }
 
-/// How often each answer came, and how many runs were proper, and ended locked.
+/// How often each ending came, and how many runs were proper, and ended locked.
 #[derive(Drop)]
 struct Tally {
-    answers: [u64; 19],
+    ended: [u64; ENDINGS],
     proper: u64,
     locked: u64,
 }
 
-const ANSWERS: [(Name, Said); 19] = [
-    (Name::Add, Said::Place),
-    (Name::Add, Said::OutOfIndices),
-    (Name::Add, Said::IsLocked),
-    (Name::Remove, Said::Unlocked),
-    (Name::Remove, Said::Locked),
-    (Name::Remove, Said::NotOwned),
-    (Name::Replace, Said::Done),
-    (Name::Replace, Said::NotOwned),
-    (Name::FindOf, Said::Number),
-    (Name::RecoverOf, Said::Unlocked),
-    (Name::RecoverOf, Said::Locked),
-    (Name::GetState, Said::Number),
-    (Name::UpdateState, Said::True),
-    (Name::UpdateState, Said::False),
-    (Name::LenOf, Said::Number),
-    (Name::IsEmptyOf, Said::True),
-    (Name::IsEmptyOf, Said::False),
-    (Name::IsLockedOf, Said::True),
-    (Name::IsLockedOf, Said::False),
-];
-
 impl Tally {
-    fn count(&mut self, told: &Told) {
-        for (row, count) in ANSWERS.iter().zip(self.answers.iter_mut()) {
-            if row.0 == told.call.name && row.1 == told.said {
-                *count = count.wrapping_add(1);
-            }
+    fn take(&mut self, book: &Book) {
+        for number in 0..ENDINGS {
+            self.ended[number] = self.ended[number].wrapping_add(book.ended[number]);
         }
+        self.proper = self.proper.wrapping_add(book.is_proper as u64);
+        self.locked = self.locked.wrapping_add(book.is_locked as u64);
     }
 
-    fn take(&mut self, run: &Run) {
-        for event in run.machine.events() {
-            let told = told_of(event);
-            if told.what == What::Finished {
-                self.count(&told);
-            }
-        }
-        self.proper = self.proper.wrapping_add(run.book.is_proper as u64);
-        self.locked = self.locked.wrapping_add(run.book.is_locked as u64);
-    }
-
-    /// Whether each answer came, most runs were proper, and some ended locked.
+    /// Whether each ending came, most runs were proper, and some ended locked.
     fn is_whole(&self) -> bool {
-        let mut least = u64::MAX;
-        for count in &self.answers {
-            least = least.min(*count);
+        let mut are_all = true;
+        for number in 0..ENDINGS {
+            are_all &= self.ended[number] > 0;
         }
-        least > 0 && self.proper > SCHEDULES / 2 && self.locked > 0
+        are_all && self.proper > SCHEDULES / 2 && self.locked > 0
     }
 }
 
-fn schedule(alloc: Global, capacity: u64, seed: u64, tally: &mut Tally) -> Right {
-    let Some(mut run) = opened(alloc, capacity, seed) else {
-        return Err("a machine is made where there is memory");
-    };
-    run.rows()?;
-    tally.take(&run);
-    Ok(())
+/// The schedule of this seed.
+fn schedule(
+    alloc: Global,
+    capacity: u64,
+    seed: u64,
+    tally: &mut Tally,
+    judged: &mut Judged,
+) -> Right {
+    match opened(alloc, capacity, seed) {
+        Some(mut run) => {
+            run.rows()?;
+            tally.take(&run.book);
+            judged.schedules = judged.schedules.wrapping_add(1);
+            judged.turns = judged.turns.wrapping_add(run.turns);
+            Ok(())
+        }
+        None => Err("a machine is made where there is memory"),
+    }
 }
 
-/// The seed of the first schedule that breaks a promise, and that promise.
-fn first_wrong(alloc: Global, capacity: u64) -> Option<(u64, &'static str)> {
+/// All schedules of this capacity, up to the first that breaks a promise.
+pub fn schedules(alloc: Global, capacity: u64, judged: &mut Judged) -> Result<(), Wrong> {
     let mut tally = Tally {
-        answers: [0; 19],
+        ended: [0; ENDINGS],
         proper: 0,
         locked: 0,
     };
     for number in 0..SCHEDULES {
         let seed = SEED ^ (capacity << 32) ^ number;
-        if let Err(promise) = schedule(alloc, capacity, seed, &mut tally) {
-            return Some((seed, promise));
+        if let Err(promise) = schedule(alloc, capacity, seed, &mut tally, judged) {
+            let place = Place::Seed(seed);
+            return Err(Wrong { place, promise });
         }
     }
     if tally.is_whole() {
-        None
+        Ok(())
     } else {
-        Some((0, "each answer comes, and most runs are proper"))
+        Err(Wrong {
+            place: Place::All,
+            promise: "each answer comes, and most runs are proper",
+        })
     }
-}
-
-#[test]
-fn drawn_schedules_of_one_element(rt: HostRuntime) {
-    assert_eq!(rt; first_wrong(rt.alloc(), 1), None);
-}
-
-#[test]
-fn drawn_schedules_of_two_elements(rt: HostRuntime) {
-    assert_eq!(rt; first_wrong(rt.alloc(), 2), None);
-}
-
-#[test]
-fn drawn_schedules_of_three_elements(rt: HostRuntime) {
-    assert_eq!(rt; first_wrong(rt.alloc(), 3), None);
-}
-
-#[test]
-fn drawn_schedules_of_four_elements(rt: HostRuntime) {
-    assert_eq!(rt; first_wrong(rt.alloc(), 4), None);
 }

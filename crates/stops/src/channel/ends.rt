@@ -15,9 +15,12 @@ const ANY_OF: u64 = 3;
 
 /// A call, its answer, how often it has acted, what it has claimed, published, handed out, returned, taken back and
 /// freed, and how that is told.
-type End = (Name, Said, u64, [u64; 6], &'static str);
+pub type End = (Name, Said, u64, [u64; 6], &'static str);
 
-const ENDS: [End; 11] = [
+/// How many endings the table has.
+pub const ENDINGS: usize = 11;
+
+pub static ENDS: [End; ENDINGS] = [
     (
         Name::Loan,
         Said::Place,
@@ -113,8 +116,9 @@ impl Channel {
     /// Whether each index is free or with the sender.
     fn are_home(&self) -> bool {
         let mut are_home = true;
-        for place in &self.spots {
-            are_home &= *place == FREE || *place == spot(WITH, 0);
+        for index in 0..8usize {
+            let place = self.spots[index];
+            are_home &= place == FREE || place == spot(WITH, 0);
         }
         are_home
     }
@@ -151,6 +155,19 @@ impl Channel {
             !is_empty || none_returned,
             "a take-back of nothing finds nothing returned",
         )
+    }
+
+    /// Counts the ending.
+    pub fn tally(&mut self, span: &Span, told: &Told) {
+        for number in 0..ENDINGS {
+            if ENDS[number].0 == told.call.name && ENDS[number].1 == told.said {
+                self.ended[number] = self.ended[number].wrapping_add(1);
+            }
+        }
+        if told.call.name == Name::Reclaim {
+            self.handed_out = self.handed_out.max(span.moved[2]);
+            self.taken_back = self.taken_back.max(span.moved[4]);
+        }
     }
 
     /// Whether the call of this span may end with this answer.
