@@ -1,0 +1,123 @@
+//! What a call that is stopped would do next.
+use crate::text::number;
+use machine::families::Flight;
+use machine::families::bits::calls::BitsFlight;
+use machine::families::indices::calls::IndexFlight;
+use machine::families::indices::robust::calls::RobustFlight;
+use machine::families::queues::calls::{OverflowCall, QueueFlight};
+use steps::ask::{Ask, Op, Question, Want};
+use steps::indices::unique::AcquireStage;
+use turns::families::{atomic, bits, container, going, indices, loan, queues};
+
+/// Whether the call begins a turn of its loop again once it is handed this.
+fn goes_back(flight: &Flight<u128>, answer: u64) -> bool {
+    match flight {
+        Flight::Queues(call) => queues::calls::goes_back(call, answer),
+        Flight::Atomic(call) => atomic::calls::goes_back(call, answer),
+        Flight::Bits(call) => bits::calls::goes_back(call, answer),
+        Flight::Indices(call) => indices::calls::goes_back(call, answer),
+        Flight::Robust(call) => indices::robust::calls::goes_back(call, answer),
+        Flight::Container(call) => container::calls::goes_back(call, answer),
+        Flight::Loan(call) => loan::calls::goes_back(call, answer),
+    }
+}
+
+/// `7 yes`: whether it does so where it is handed 7.
+fn is_back(flight: &Flight<u128>, rest: &str) -> Option<bool> {
+    let (answer, back) = rest.split_once(' ')?;
+    Some(goes_back(flight, number(answer)?) == (back == "yes"))
+}
+
+/// The index at which an acquire scans the claim flags.
+fn scanned(flight: &Flight<u128>) -> Option<u32> {
+    let Flight::Indices(IndexFlight::Acquire(run)) = flight else {
+        return None;
+    };
+    match run.call.stage {
+        AcquireStage::Scans { index } => Some(index),
+        _ => None,
+    }
+}
+
+/// Whose index a recovery frees where it is handed this, and which.
+fn freed(flight: &Flight<u128>, answer: u64) -> Option<(u64, u32)> {
+    let Flight::Robust(RobustFlight::Recover(run)) = flight else {
+        return None;
+    };
+    let (owner, index) = run.call.frees(answer)?;
+    Some((owner.value(), index))
+}
+
+/// `1 -> 2 0`: that of owner 2, index 0; or `1 -> none`.
+fn frees(flight: &Flight<u128>, rest: &str) -> Option<bool> {
+    let (answer, freed_so) = rest.split_once(" -> ")?;
+    let freed = freed(flight, number(answer)?);
+    match freed_so.split_once(' ') {
+        Some((owner, index)) => Some(freed == Some((number(owner)?, index.parse().ok()?))),
+        None => Some(freed_so == "none" && freed.is_none()),
+    }
+}
+
+/// The word in the room of a call that has one.
+fn room(flight: &Flight<u128>) -> Option<u64> {
+    match flight {
+        Flight::Queues(QueueFlight::Overflow(OverflowCall::Pop(run))) => Some(run.room.0),
+        Flight::Bits(BitsFlight::TakeAll(run)) => Some(run.room.0),
+        _ => None,
+    }
+}
+
+fn asks(question: Question<()>, rest: &str) -> Option<bool> {
+    match question {
+        Question::Index(at) => Some(rest.parse() == Ok(at)),
+        Question::Value(at, ()) => Some(rest.parse() == Ok(at)),
+        Question::Owned(owner, at) => {
+            let (index, of) = rest.split_once(" of ")?;
+            Some(index.parse() == Ok(at) && number(of)? == owner.value())
+        }
+    }
+}
+
+/// `0`, or `0 of 1` with its owner: the index about which the call asks.
+fn is_asking(flight: &Flight<u128>, rest: &str) -> Option<bool> {
+    match going(flight) {
+        (Want::Question(question), _) => asks(question, rest),
+        _ => Some(false),
+    }
+}
+
+/// `load 4`, or `exchange 4 0 1`: the word, what it has to be and what it becomes.
+fn operation(rest: &str) -> Option<Ask> {
+    let (name, rest) = rest.split_once(' ')?;
+    if name == "load" {
+        let word = rest.parse().ok()?;
+        return Some(Ask { word, op: Op::Load });
+    }
+    let (word, rest) = rest.split_once(' ')?;
+    let (old, new) = rest.split_once(' ')?;
+    let op = Op::Exchange(number(old)?, number(new)?);
+    let word = word.parse().ok()?;
+    Some(Ask { word, op })
+}
+
+/// What the call wants next: an operation, or `nothing`.
+fn wants(flight: &Flight<u128>, rest: &str) -> Option<bool> {
+    match going(flight) {
+        (Want::Ask(ask), _) => Some(ask == operation(rest)?),
+        (Want::Nothing, _) => Some(rest == "nothing"),
+        (Want::Question(_), _) => Some(false),
+    }
+}
+
+/// A row of a call under way.
+pub fn row(flight: &Flight<u128>, word: &str, rest: &str) -> Option<bool> {
+    match word {
+        "back" => is_back(flight, rest),
+        "scans" => Some(scanned(flight)? == rest.parse().ok()?),
+        "frees" => frees(flight, rest),
+        "room" => Some(room(flight)? == number(rest)?),
+        "asks" => is_asking(flight, rest),
+        "wants" => wants(flight, rest),
+        _ => None,
+    }
+}

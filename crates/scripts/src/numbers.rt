@@ -1,0 +1,61 @@
+//! Which capacities are admitted, and how many words there are.
+use crate::blocks::Rows;
+use machine::Machine;
+use machine::turn::{capacity_error, loan_error};
+use schedule::bare::{made, made_of, read_words};
+use schedule::grammar::Setup;
+use std::alloc::Global;
+use steps::enums::UniqueIndexCreationError;
+
+#[derive(Drop)]
+pub struct Numbers {
+    pub alloc: Global,
+}
+
+/// How a refusal is written.
+fn name(error: Option<UniqueIndexCreationError>) -> &'static str {
+    match error {
+        None => "admitted",
+        Some(UniqueIndexCreationError::ProvidedCapacityIsZero) => "ProvidedCapacityIsZero",
+        Some(UniqueIndexCreationError::ProvidedCapacityGreaterThanMaxCapacity) => {
+            "ProvidedCapacityGreaterThanMaxCapacity"
+        }
+        Some(UniqueIndexCreationError::NoMemory) => "NoMemory",
+    }
+}
+
+impl Numbers {
+    /// Why no machine is made, where it is really tried.
+    fn error_making(&self, setup: Setup) -> Option<UniqueIndexCreationError> {
+        let machine: Result<Machine<u128>, UniqueIndexCreationError> = made_of(
+            self.alloc,
+            setup.kind,
+            setup.capacity as usize,
+            setup.parties,
+        );
+        machine.err()
+    }
+
+    fn words(&self, setup: Setup) -> Option<u64> {
+        Some(made(self.alloc, setup)?.words().len() as u64)
+    }
+
+    fn is_so(&self, word: &str, setup: Setup, wanted: &str) -> Option<bool> {
+        let capacity = setup.capacity as usize;
+        match word {
+            "capacity" => Some(name(capacity_error(setup.kind, capacity)) == wanted),
+            "numbers" => Some(name(loan_error(capacity, setup.queue as usize)) == wanted),
+            "made" => Some(name(self.error_making(setup)) == wanted),
+            "words" => Some(Ok(self.words(setup)?) == wanted.parse::<u64>()),
+            _ => None,
+        }
+    }
+}
+
+impl Rows for Numbers {
+    fn row(&mut self, line: &str) -> Option<bool> {
+        let (word, rest) = line.split_once(' ')?;
+        let (first, wanted) = rest.split_once(" -> ")?;
+        self.is_so(word, read_words(first.as_bytes()).ok()?, wanted)
+    }
+}
