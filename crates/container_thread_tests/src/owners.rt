@@ -1,16 +1,12 @@
-//! What a find of a container comes to, and what a recovery asks and frees, alone and between threads.
+//! What a find of a container comes to, and what a recovery asks and frees.
 use crate::user::User;
-use crate::values::two_change;
 use lock_free::mpmc::container::{
     CallbackProgression, Container, ContainerAddFailure, ContainerState, OwnerId,
 };
 use lock_free::mpmc::unique_index_set_enums::{ReleaseMode, ReleaseState};
-use std::alloc::Global;
 use std::process::Abort;
 use std::sync::Wait;
 use std::test::Fail;
-use std::thread;
-use std::thread::Threads;
 
 const KEEP: ReleaseMode = ReleaseMode::Default;
 
@@ -156,122 +152,5 @@ fn a_recovery_that_does_not_lock(rt: HostRuntime) -> Result<(), Fail> {
         (5, ReleaseState::Unlocked)
     );
     assert!(rt; user.adds(&rt, 6, one).is_ok());
-    Ok(())
-}
-
-/// A state of a container that is gone.
-fn left_over(rt: &impl Wait, alloc: Global, owner: OwnerId) -> Option<ContainerState<u32>> {
-    let (container, pass) = Container::new(alloc, 3, 5).ok()?;
-    let mut user = User::new(&container, pass);
-    user.adds(rt, 5, owner).ok()?;
-    user.adds(rt, 6, owner).ok()?;
-    user.state(rt)
-}
-
-#[test]
-fn state_without_container(rt: HostRuntime) -> Result<(), Fail> {
-    let owner = OwnerId::new(1)?;
-    let state = left_over(&rt, rt.alloc(), owner).ok_or("no state")?;
-    assert_eq!(rt; (shown(&state), state.get(1)), (516, Some(&6)));
-    Ok(())
-}
-
-impl<'a> User<'a, (u64, u64)> {
-    /// Whether each copy that a find of the owner hands over is whole and each handle the owner's, at most as often as
-    /// it comes to an index.
-    fn finds_whole(&mut self, owner: OwnerId) -> bool {
-        let mut number = 0usize;
-        let mut well = true;
-        let found = self.container.find(
-            owner,
-            |pair, handle| {
-                number = number.wrapping_add(1);
-                well &= pair.0 == pair.1 && handle.owner == owner && handle.index() < 5;
-                CallbackProgression::Continue
-            },
-            &mut self.pass,
-        );
-        well && number <= found && found <= 5
-    }
-}
-
-/// Finds of an owner, many times: whether each went well.
-fn find_many(mut user: User<'_, (u64, u64)>, owner: OwnerId) -> bool {
-    let mut well = true;
-    for _ in 0..600u64 {
-        let whole = user.finds_whole(owner);
-        well = well && whole;
-        thread::yield_now();
-    }
-    well
-}
-
-/// Recovers the owner: the sum of what it asked about, and the answer.
-fn recover_all(rt: &impl Wait, user: User<'_, (u64, u64)>, dead: OwnerId) -> (u64, ReleaseState) {
-    let User {
-        container,
-        mut pass,
-    } = user;
-    let mut sum = 0u64;
-    let state = container.recover(
-        rt,
-        dead,
-        |pair| {
-            sum = sum.wrapping_add(pair.0);
-            pair.0 == pair.1
-        },
-        KEEP,
-        &mut pass,
-    );
-    (sum, state)
-}
-
-/// Finds the values of one owner, and recovers another, each in a thread: whether the finds went well, and what the
-/// recovery came to.
-fn find_and_recover<R: Threads + Wait + Sync>(
-    rt: &R,
-    third: User<'_, (u64, u64)>,
-    fourth: User<'_, (u64, u64)>,
-    alive: OwnerId,
-    dead: OwnerId,
-) -> (bool, (u64, ReleaseState)) {
-    thread::join(
-        rt,
-        move || find_many(third, alive),
-        move || recover_all(rt, fourth, dead),
-    )
-}
-
-/// Two who add, replace and remove, one who finds the values of one, and one who recovers a third owner: whether all went
-/// well, what the recovery came to, and how many indices have an owner in the end.
-fn between<R: Threads + Wait + Sync>(
-    rt: &R,
-    mut user: User<'_, (u64, u64)>,
-    owners: (OwnerId, OwnerId),
-    dead: OwnerId,
-) -> Option<(bool, (u64, ReleaseState), usize)> {
-    let first = user.another()?;
-    let second = user.another()?;
-    let third = user.another()?;
-    let fourth = user.another()?;
-    let (changed, (found, recovered)) = thread::join(
-        rt,
-        move || two_change(rt, first, second, owners),
-        move || find_and_recover(rt, third, fourth, owners.0, dead),
-    );
-    Some((changed && found, recovered, user.says(rt).0))
-}
-
-#[test]
-fn owners_between_threads(rt: HostRuntime) -> Result<(), Fail> {
-    let (container, pass) = Container::new(rt.alloc(), 5, 1)?;
-    let mut user = User::new(&container, pass);
-    let owners = (OwnerId::new(1)?, OwnerId::new(2)?);
-    let dead = OwnerId::new(3)?;
-    for n in [40u64, 2] {
-        user.adds(&rt, (n, n), dead)?;
-    }
-    let comes = Some((true, (42, ReleaseState::Unlocked), 0));
-    assert!(rt; between(&rt, user, owners, dead) == comes);
     Ok(())
 }

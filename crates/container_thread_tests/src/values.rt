@@ -1,8 +1,8 @@
-//! Values in containers, alone and between threads.
+//! Values in containers.
 use crate::user::User;
 use lock_free::mpmc::container::{
     CallbackProgression, Container, ContainerAddFailure, ContainerHandle, ContainerRemoveError,
-    ContainerState, FixedSizeContainer, OwnerId, Pass,
+    ContainerState, FixedSizeContainer, OwnerId,
 };
 use lock_free::mpmc::unique_index_set_enums::{
     ReleaseMode, ReleaseState, UniqueIndexCreationError,
@@ -10,8 +10,6 @@ use lock_free::mpmc::unique_index_set_enums::{
 use std::process::Abort;
 use std::sync::Wait;
 use std::test::Fail;
-use std::thread;
-use std::thread::Threads;
 
 const FOREIGN: ContainerRemoveError = ContainerRemoveError::ContainerHandleNotOwnedByContainer;
 
@@ -78,39 +76,6 @@ fn one_replaced(rt: HostRuntime) -> Result<(), Fail> {
     Ok(())
 }
 
-fn may_be_sent<T: Send>() {}
-
-fn may_be_shared<T: Sync>() {}
-
-#[test]
-fn what_of_containers_crosses_threads(rt: HostRuntime) {
-    may_be_sent::<Container<u32>>();
-    may_be_shared::<Container<u32>>();
-    may_be_sent::<FixedSizeContainer<u32, 8>>();
-    may_be_shared::<FixedSizeContainer<u32, 8>>();
-    may_be_sent::<Pass<u32>>();
-    may_be_sent::<ContainerState<u32>>();
-    may_be_sent::<ContainerHandle>();
-    may_be_shared::<ContainerHandle>();
-}
-
-/// Where memory is refused to a second state the test fails by that alone: the first one tells that nothing has changed.
-#[test]
-fn a_refused_state(rt: HostRuntime) -> Result<(), Fail> {
-    let (container, pass) = Container::new(rt.alloc(), 3, 5)?;
-    let mut user = User::new(&container, pass);
-    let owner = OwnerId::new(1)?;
-    for value in [5u32, 6] {
-        user.adds(&rt, value, owner)?;
-    }
-    let mut first = user.state(&rt).ok_or("no memory")?;
-    let second = user.state(&rt);
-    assert_eq!(rt; user.updates(&rt, &mut first), Some(false));
-    assert_eq!(rt; user.says(&rt), (2, false, false));
-    assert_eq!(rt; shown(&second.ok_or("no memory")?), (2, 11));
-    Ok(())
-}
-
 /// Whether neither a remove nor a replace takes the handle.
 fn refuses(rt: &impl Wait, user: &mut User<'_, u32>, wrong: &ContainerHandle) -> bool {
     let removed = user.removes(rt, wrong, ReleaseMode::LockIfLastIndex);
@@ -161,93 +126,5 @@ fn foreign_and_locked(rt: HostRuntime) -> Result<(), Fail> {
         Container::<u32>::new(rt.alloc(), 4294967296, 1).err(),
         Some(above)
     );
-    Ok(())
-}
-
-/// Adds a pair of equal numbers, replaces it by another such, and removes it, many times: whether each went well.
-fn change_many(rt: &impl Wait, mut user: User<'_, (u64, u64)>, owner: OwnerId) -> bool {
-    let mut well = true;
-    for n in 0..300u64 {
-        match user.adds(rt, (n, n), owner) {
-            Ok(handle) => {
-                let replaced = user.replaces(&handle, (n ^ 1000, n ^ 1000)).is_ok();
-                let removed = user.removes(rt, &handle, ReleaseMode::Default).is_ok();
-                well = well && replaced && removed;
-            }
-            Err(_) => well = false,
-        }
-        thread::yield_now();
-    }
-    well
-}
-
-/// Whether each pair that a state shows has equal halves.
-fn is_whole(state: &ContainerState<(u64, u64)>) -> bool {
-    let mut whole = true;
-    state.for_each(|_, pair| {
-        whole = whole && pair.0 == pair.1;
-        CallbackProgression::Continue
-    });
-    whole
-}
-
-/// Keeps a state up to date: the state, and whether each pair that it showed was whole.
-fn look_many(
-    rt: &impl Wait,
-    mut user: User<'_, (u64, u64)>,
-) -> Option<(ContainerState<(u64, u64)>, bool)> {
-    let mut state = user.state(rt)?;
-    let mut whole = true;
-    for _ in 0..600 {
-        let own = user.updates(rt, &mut state).is_some();
-        let shown = is_whole(&state);
-        whole = whole && own && shown;
-        thread::yield_now();
-    }
-    Some((state, whole))
-}
-
-/// Whether all went well for two, each in a thread.
-pub fn two_change<R: Threads + Wait + Sync>(
-    rt: &R,
-    first: User<'_, (u64, u64)>,
-    second: User<'_, (u64, u64)>,
-    owners: (OwnerId, OwnerId),
-) -> bool {
-    let (one, two) = thread::join(
-        rt,
-        move || change_many(rt, first, owners.0),
-        move || change_many(rt, second, owners.1),
-    );
-    one && two
-}
-
-/// Two who add, replace and remove beside one who looks: whether all that was seen was whole, and how much stands at the
-/// end in the state that was brought up to date once more.
-fn between<R: Threads + Wait + Sync>(
-    rt: &R,
-    mut user: User<'_, (u64, u64)>,
-    owners: (OwnerId, OwnerId),
-) -> Option<(bool, usize)> {
-    let first = user.another()?;
-    let second = user.another()?;
-    let third = user.another()?;
-    let (well, seen) = thread::join(
-        rt,
-        move || two_change(rt, first, second, owners),
-        move || look_many(rt, third),
-    );
-    let (mut state, whole) = seen?;
-    user.updates(rt, &mut state)?;
-    Some((well && whole, state.number()))
-}
-
-#[test]
-fn whole_pairs(rt: HostRuntime) -> Result<(), Fail> {
-    let (container, pass) = Container::new(rt.alloc(), 3, 1)?;
-    let owners = (OwnerId::new(1)?, OwnerId::new(2)?);
-    let user = User::new(&container, pass);
-    let comes = between(&rt, user, owners).ok_or("no state")?;
-    assert_eq!(rt; comes, (true, 0));
     Ok(())
 }

@@ -1,4 +1,4 @@
-//! The tests of the index sets between threads: real calls, by the paths that a caller names.
+//! The tests of the index sets of threads: real calls, by the paths that a caller names.
 #![tactic(auto)]
 
 #[cfg(test)]

@@ -1,10 +1,7 @@
 //! The robust unique index set: real calls.
-ghost use Rattle.lock_free.specs.RobustUniqueIndexSet.{capacity_of, set_of, IsPassOf};
-ghost use Rattle.std.specs.Prelude.{◌≡◌};
-
 use lock_free::mpmc::robust_unique_index_set::{
-    CallbackProgression, OwnerId, OwnerIdNewError, Pass, RobustUniqueIndexSet,
-    RobustUniqueIndexSetReleaseError, StaticRobustUniqueIndexSet,
+    OwnerId, OwnerIdNewError, RobustUniqueIndexSet, RobustUniqueIndexSetReleaseError,
+    StaticRobustUniqueIndexSet,
 };
 use lock_free::mpmc::unique_index_set_enums::{
     ReleaseMode, ReleaseState, UniqueIndexCreationError, UniqueIndexSetAcquireFailure,
@@ -15,7 +12,6 @@ use std::test::Fail;
 use users::{Acquired, Released, User};
 
 mod rows;
-mod threads;
 mod users;
 
 const NOT_OWNED: Released = Err(RobustUniqueIndexSetReleaseError::IndexIsNotOwnedByProvidedOwner);
@@ -119,49 +115,6 @@ fn refused_capacities_and_owners(rt: HostRuntime) {
     assert!(rt; OwnerId::new(u64::MAX).err() == Some(OwnerIdNewError::InvalidOwnerValue));
 }
 
-/// Marks the indices of the owner: how many.
-fn marks(
-    set: &RobustUniqueIndexSet,
-    pass: &mut Pass,
-    owner: OwnerId,
-    marks: &mut [bool; 100],
-) -> usize
-    requires pass { IsPassOf set.now pass.old }
-    requires capacity { capacity_of set.now ≡ 100 }
-    ensures { set_of pass.new ≡ set_of pass.old }
-{
-    set.find(
-        owner,
-        |index| {
-            marks[index] = true;
-            CallbackProgression::Continue
-        },
-        pass,
-    )
-}
-
-/// Frees the indices of the owner that have no mark: how many.
-fn frees(
-    rt: &impl Wait,
-    set: &RobustUniqueIndexSet,
-    pass: &mut Pass,
-    dead: OwnerId,
-    marks: &[bool; 100],
-) -> usize
-    requires pass { IsPassOf set.now pass.old }
-    requires capacity { capacity_of set.now ≡ 100 }
-{
-    let mut freed = 0usize;
-    set.recover(
-        rt,
-        KEEP,
-        |owner, index| owner == dead && !marks[index],
-        |_, _| freed = freed.wrapping_add(1),
-        pass,
-    );
-    freed
-}
-
 /// At capacity 128, by the first user, by the second and so on in turn.
 const LAST_LOCKS: [&[Row]; 6] = [
     &[
@@ -218,31 +171,5 @@ fn three_owners_of_a_hundred(rt: HostRuntime) -> Result<(), Fail> {
     let mut user = User::new(&set, pass);
     assert!(rt; three_owners(&rt, &mut user, owners, 100));
     user.play(&rt, &OF_A_HUNDRED);
-    Ok(())
-}
-
-/// How many marks are at the places of the first of three owners, and at no other.
-fn right_marks(marks: &[bool; 100]) -> u64 {
-    let mut right = 0u64;
-    for index in 0..100usize {
-        if marks[index] == (index % 3 == 0) {
-            right = right.wrapping_add(1);
-        }
-    }
-    right
-}
-
-#[test]
-fn closures_that_index(rt: HostRuntime) -> Result<(), Fail> {
-    let (set, mut pass) = RobustUniqueIndexSet::new(rt.alloc(), 100)?;
-    let owners = [owner(&rt, 1), owner(&rt, 2), owner(&rt, 3)];
-    let mut other = pass.split().ok_or("no further pass")?;
-    let mut user = User::new(&set, pass);
-    assert!(rt; three_owners(&rt, &mut user, owners, 100));
-    let mut table = [false; 100];
-    assert!(rt; marks(&set, &mut other, owners[0], &mut table) == 34);
-    assert!(rt; frees(&rt, &set, &mut other, owners[2], &table) == 33);
-    assert!(rt; right_marks(&table) == 100);
-    assert!(rt; user.finds(owners[1], 33) && user.finds(owners[2], 0));
     Ok(())
 }

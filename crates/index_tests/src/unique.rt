@@ -1,9 +1,7 @@
 //! The unique index set: real calls, by one thread.
 ghost use Rattle.lock_free.specs.UniqueIndexSet.{IsPassOf};
 
-use lock_free::mpmc::unique_index_set::{
-    FixedSizeUniqueIndexSet, Pass, UniqueIndex, UniqueIndexSet,
-};
+use lock_free::mpmc::unique_index_set::{FixedSizeUniqueIndexSet, Pass, UniqueIndexSet};
 use lock_free::mpmc::unique_index_set_enums::{
     ReleaseState, UniqueIndexCreationError, UniqueIndexSetAcquireFailure,
 };
@@ -164,18 +162,4 @@ fn a_set_of_a_million(rt: HostRuntime) -> Result<(), Fail> {
     let (set, pass) = UniqueIndexSet::new(rt.alloc(), 1_000_000)?;
     assert!(rt; runs_out(&rt, &set, pass, 1_000_000));
     Ok(())
-}
-
-fn may_be_sent<T: Send>() {}
-
-fn may_be_shared<T: Sync>() {}
-
-#[test]
-fn what_of_a_set_crosses_threads(rt: HostRuntime) {
-    may_be_sent::<UniqueIndexSet>();
-    may_be_shared::<UniqueIndexSet>();
-    may_be_sent::<FixedSizeUniqueIndexSet<8>>();
-    may_be_shared::<FixedSizeUniqueIndexSet<8>>();
-    may_be_sent::<Pass>();
-    may_be_sent::<UniqueIndex<'_>>();
 }

@@ -57,15 +57,11 @@ impl Channel {
 pub struct Sends<'a> {
     set: &'a UniqueIndexSet,
     looks: Pass,
-    submission: &'a SafelyOverflowingIndexQueue,
-    receives: overflow::Pass,
     completion: &'a IndexQueue,
     last: index_queue::Pass,
     sender: LoanSender<'a>,
     ghost of_set: { IsPassOf set.now looks },
-    ghost of_submission: { ends.IsPassOf submission.now receives },
     ghost of_completion: { ends.IsPassOf completion.now last },
-    ghost through: { submission_of sender ≡ ends.queue_id submission.now },
     ghost from: { IsSenderOf set.now sender },
 }
 
@@ -115,11 +111,6 @@ impl<'a> Receives<'a> {
         Some(Receives { consumer, producer })
     }
 
-    /// The next that came, if any.
-    pub fn receive(&mut self, rt: &impl Wait) -> Option<u64> {
-        self.consumer.pop(rt)
-    }
-
     /// Whether this could be given back.
     pub fn give_back(&mut self, value: u64) -> bool {
         self.producer.push(value)
@@ -143,7 +134,6 @@ impl<'a> Sends<'a> {
     {
         let (mut slots, mut sends, mut returns) = (slots, sends, returns);
         let looks = slots.split()?;
-        let receives = sends.split()?;
         let last = returns.split()?;
         let Ok(producer) = submission.acquire_producer(sends) else {
             return None;
@@ -155,8 +145,6 @@ impl<'a> Sends<'a> {
         Some(Sends {
             set,
             looks,
-            submission,
-            receives,
             completion,
             last,
             sender,
@@ -195,16 +183,6 @@ impl<'a> Sends<'a> {
 
     pub fn borrowed(&mut self) -> usize {
         self.set.borrowed_indices(&mut self.looks)
-    }
-
-    /// How many a reclaim frees, once the receiver has ended, and whether nothing waits to be received then.
-    pub fn reclaim(&mut self, rt: &impl Wait) -> Option<(usize, bool)> {
-        let pass = self.receives.split()?;
-        let Ok(mut receiver) = self.submission.acquire_consumer(pass) else {
-            return None;
-        };
-        let freed = self.sender.reclaim(rt, &mut receiver);
-        Some((freed, receiver.pop(rt).is_none()))
     }
 
     /// How many indices are borrowed, by the pass that the sender had, and whether nothing waits to be taken back.

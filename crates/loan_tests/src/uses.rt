@@ -1,12 +1,10 @@
 //! What a channel is made for, from its beginning to its end.
 use crate::calls::{Row, overflows, play};
 use crate::channel::{Channel, Receives, Sends, both};
-use crate::threads::{ends_early, pass_all};
 use lock_free::mpmc::unique_index_set_enums::UniqueIndexCreationError;
 use std::alloc::Global;
 use std::process::Abort;
 use std::sync::Wait;
-use std::thread::Threads;
 
 /// What is done with a channel.
 #[derive(Drop)]
@@ -15,14 +13,10 @@ pub enum Use<'a> {
     Rows(&'a str, &'a [Row]),
     /// Sends of which each hands the one before back.
     Overflow,
-    /// Loans that all pass from one thread to another.
-    AllPass,
-    /// Loans to a receiver that ends early.
-    EndEarly,
 }
 
 /// Does this: whether it went well, and the sender.
-fn does<'a, R: Wait + Threads + Abort + Sync>(
+fn does<'a, R: Wait + Abort>(
     rt: &R,
     mut sends: Sends<'a>,
     mut receives: Receives<'_>,
@@ -34,14 +28,12 @@ fn does<'a, R: Wait + Threads + Abort + Sync>(
             (true, sends)
         }
         Use::Overflow => (overflows(rt, &mut sends) == Some(true), sends),
-        Use::AllPass => pass_all(rt, sends, receives),
-        Use::EndEarly => ends_early(rt, sends, receives),
     }
 }
 
 /// Makes a channel of so many slots and places in each queue, and does this with it: whether it went well and nothing
 /// waits to be taken back in the end, and how many indices are borrowed then. None where there are no further passes.
-pub fn uses<R: Wait + Threads + Abort + Sync>(
+pub fn uses<R: Wait + Abort>(
     rt: &R,
     alloc: Global,
     numbers: [usize; 3],

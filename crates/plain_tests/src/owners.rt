@@ -1,7 +1,6 @@
 //! Rows of a container's find and recovery, for one caller.
 use crate::container::{Call, plays};
 use crate::rows::{KEEP, LOCK, SHUT};
-use long_values::long_values::Greatest;
 use std::test::Fail;
 
 const FINDS: [(Call, u64); 10] = [
@@ -63,16 +62,4 @@ const IN_DEFAULT_MODE: [(Call, u64); 8] = [
 #[test]
 fn a_recovery_in_default_mode(rt: HostRuntime) -> Result<(), Fail> {
     plays::<u64>(&rt, rt.alloc(), (3, 9), &IN_DEFAULT_MODE)
-}
-
-const WIDE: [(Call, u64); 4] = [
-    (Call::Add(1, 1), 9_000),
-    (Call::Add(4, 1), 9_001),
-    (Call::Find(1, 0), 2_000_109_419),
-    (Call::Recover(1, 0, LOCK), 141),
-];
-
-#[test]
-fn values_of_128_words(rt: HostRuntime) -> Result<(), Fail> {
-    plays::<Greatest>(&rt, rt.alloc(), (2, 9), &WIDE)
 }

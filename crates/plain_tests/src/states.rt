@@ -1,5 +1,5 @@
 //! Rows of the states of a container, for one caller.
-use crate::container::{Call, does, play, shown, shown_at, stands, state_of};
+use crate::container::{Call, does, shown_at, state_of};
 use crate::rows::{KEEP, OPEN, REFUSED, YES};
 use long_values::numbered::Numbered;
 use plain::Container;
@@ -107,21 +107,6 @@ const THREE: [(Call, u64); 4] = [
 #[test]
 fn a_new_state_shows_all(rt: HostRuntime) -> Result<(), Fail> {
     crate::container::plays::<u64>(&rt, rt.alloc(), (3, 5), &THREE)
-}
-
-const TWO: [(Call, u64); 2] = [(Call::Add(5, 1), 5_000), (Call::Add(6, 1), 5_001)];
-
-/// Where memory is refused to a second state the test fails by that alone: the first one tells that nothing has changed.
-#[test]
-fn a_refused_state(rt: HostRuntime) -> Result<(), Fail> {
-    let mut container = Container::<u64>::new(rt.alloc(), 3, 5)?;
-    play(&rt, &mut container, &TWO)?;
-    let mut first = state_of(&mut container)?;
-    let second = state_of(&mut container);
-    assert_eq!(rt; updates(&mut container, &mut first), Some(false));
-    assert_eq!(rt; stands(&mut container), 200);
-    assert_eq!(rt; shown(&second?), 5600);
-    Ok(())
 }
 
 /// What a new container of this capacity and number makes of a state.

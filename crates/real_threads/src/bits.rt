@@ -2,6 +2,7 @@
 ghost use Rattle.lock_free.specs.Bits.Calls.{IsPassOf};
 ghost use Rattle.lock_free.specs.Counts.Calls.{IsPassOf as IsCountsPassOf};
 
+use crate::tasks::{Task, three_run};
 use lock_free::mpmc::bit_set::BitSet;
 use lock_free::mpmc::counting_bit_set::CountingBitSet;
 use lock_free::mpmc::{bit_set, counting_bit_set};
@@ -10,9 +11,10 @@ use std::sync::Wait;
 use std::test::Fail;
 use std::thread;
 use std::thread::Threads;
+use std::time::Clock;
 
 /// How often each place is set, and how often places are taken out.
-const ROUNDS: u64 = 300;
+const ROUNDS: u64 = 100;
 
 /// A number for each place.
 #[derive(Drop)]
@@ -91,58 +93,66 @@ trait Places: Drop + Sized {
 }
 
 /// Sets each place, round for round.
-fn sets<P: Places>(rt: &impl Wait, mut user: P, mut sums: Sums) -> Sums {
-    let places = user.number();
-    for _ in 0..ROUNDS {
-        for place in 0..places {
-            user.set(rt, place, &mut sums);
+#[derive(Drop)]
+struct Sets<'s, P: Places> {
+    user: P,
+    sums: &'s mut Sums,
+}
+
+impl<'s, P: Places> Task for Sets<'s, P> {
+    fn run(self, rt: &(impl Wait + Clock)) -> bool {
+        let Sets { mut user, sums } = self;
+        let places = user.number();
+        for _ in 0..ROUNDS {
+            for place in 0..places {
+                user.set(rt, place, sums);
+            }
+            thread::yield_now();
         }
-        thread::yield_now();
+        true
     }
-    sums
 }
 
 /// Takes places out, round for round.
-fn takes<P: Places>(rt: &impl Wait, mut user: P, mut sums: Sums) -> Sums {
-    for _ in 0..ROUNDS {
-        user.take(rt, &mut sums);
-        thread::yield_now();
+#[derive(Drop)]
+struct Takes<'s, P: Places> {
+    user: P,
+    sums: &'s mut Sums,
+}
+
+impl<'s, P: Places> Task for Takes<'s, P> {
+    fn run(self, rt: &(impl Wait + Clock)) -> bool {
+        let Takes { mut user, sums } = self;
+        for _ in 0..ROUNDS {
+            user.take(rt, sums);
+            thread::yield_now();
+        }
+        true
     }
-    sums
 }
 
-/// What two threads do: where the first set places, and where the second took them out.
-fn set_and_take<R: Threads + Wait + Sync, P: Places + Send>(
-    rt: &R,
-    first: P,
-    second: P,
-    set: Sums,
-    out: Sums,
-) -> (Sums, Sums) {
-    thread::join(
-        rt,
-        move || sets(rt, first, set),
-        move || takes(rt, second, out),
-    )
-}
-
-/// What two threads set while a third takes places out, and what is left. None where there are no further passes.
-fn between<R: Threads + Wait + Sync, P: Places + Send>(
+/// Two set while a third takes places out, and what is left is taken out too. None where there are no further passes.
+fn between<R: Threads + Wait + Clock + Sync, P: Places + Send>(
     rt: &R,
     mut user: P,
-    sums: Three,
-) -> Option<Three> {
-    let first = user.another()?;
-    let second = user.another()?;
-    let third = user.another()?;
-    let Three { one, two, out } = sums;
-    let (one, (two, mut out)) = thread::join(
-        rt,
-        move || sets(rt, first, one),
-        move || set_and_take(rt, second, third, two, out),
-    );
-    user.empty(&mut out);
-    Some(Three { one, two, out })
+    sums: &mut Three,
+) -> Option<bool> {
+    let (first, second, third) = (user.another()?, user.another()?, user.another()?);
+    let one = Sets {
+        user: first,
+        sums: &mut sums.one,
+    };
+    let two = Sets {
+        user: second,
+        sums: &mut sums.two,
+    };
+    let out = Takes {
+        user: third,
+        sums: &mut sums.out,
+    };
+    let went = three_run(rt, one, two, out);
+    user.empty(&mut sums.out);
+    Some(went)
 }
 
 /// One who uses a bit set.
@@ -237,41 +247,38 @@ impl<'a> Places for CountUser<'a> {
     }
 }
 
-/// The first place, if any, of a bit set of this capacity where what was set is not what was taken out.
-fn bits_differ<R: Threads + Wait + Sync>(
+/// Whether at each place of a bit set of this capacity what was set was taken out.
+fn bits_agree<R: Threads + Wait + Clock + Sync>(
     rt: &R,
     alloc: Global,
     capacity: usize,
-) -> Result<Option<usize>, Fail> {
+) -> Result<bool, Fail> {
+    let mut sums = Three::new(alloc, capacity)?;
     let (set, pass) = BitSet::new(alloc, capacity)?;
     let user = BitUser { set: &set, pass };
-    let sums = between(rt, user, Three::new(alloc, capacity)?).ok_or("no further pass")?;
-    Ok(sums.differs())
+    let went = between(rt, user, &mut sums);
+    Ok(went == Some(true) && sums.differs().is_none())
 }
 
 /// The same of a counting bit set.
-fn counts_differ<R: Threads + Wait + Sync>(
+fn counts_agree<R: Threads + Wait + Clock + Sync>(
     rt: &R,
     alloc: Global,
     capacity: usize,
-) -> Result<Option<usize>, Fail> {
+) -> Result<bool, Fail> {
+    let mut sums = Three::new(alloc, capacity)?;
     let (set, pass) = CountingBitSet::new(alloc, capacity)?;
     let user = CountUser { set: &set, pass };
-    let sums = between(rt, user, Three::new(alloc, capacity)?).ok_or("no further pass")?;
-    Ok(sums.differs())
+    let went = between(rt, user, &mut sums);
+    Ok(went == Some(true) && sums.differs().is_none())
 }
 
 #[test]
 fn sets_between_threads(rt: HostRuntime) -> Result<(), Fail> {
     for capacity in [9, 64, 65, 1000] {
-        assert_eq!(rt;
-            bits_differ(&rt, rt.alloc(), capacity)?,
-            None,
-            "bits, {capacity}"
-        );
-        assert_eq!(rt;
-            counts_differ(&rt, rt.alloc(), capacity)?,
-            None,
+        assert!(rt; bits_agree(&rt, rt.alloc(), capacity)?, "bits, {capacity}");
+        assert!(rt;
+            counts_agree(&rt, rt.alloc(), capacity)?,
             "counts, {capacity}"
         );
     }

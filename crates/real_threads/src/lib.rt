@@ -1,10 +1,18 @@
-//! Threads that run at once, on the containers that they share: each gives up, and its test fails, at a limit of turns.
+//! Threads that run side by side, on what they share: each gives up, and its test fails, after half a minute.
 #![tactic(auto)]
 
 #[cfg(test)]
 mod bits;
 #[cfg(test)]
+mod containers;
+#[cfg(test)]
+mod ends;
+#[cfg(test)]
+mod holders;
+#[cfg(test)]
 mod limit;
+#[cfg(test)]
+mod loan;
 #[cfg(test)]
 mod overflowing;
 #[cfg(test)]
@@ -12,8 +20,12 @@ mod owners;
 #[cfg(test)]
 mod pairs;
 #[cfg(test)]
+mod queues;
+#[cfg(test)]
 mod roles;
+#[cfg(test)]
+mod tasks;
 #[cfg(test)]
 mod unique;
 #[cfg(test)]
-mod users;
+mod value;

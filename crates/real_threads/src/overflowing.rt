@@ -2,50 +2,87 @@
 ghost use Rattle.std.specs.Prelude.{◌≡◌};
 ghost use Rattle.lock_free.specs.Ends.{queue_of, IsPassOf};
 
-use crate::limit::{LIMIT, pause};
+use crate::limit::{Limit, SECONDS};
+use crate::tasks::{Task, two_run};
 use lock_free::spsc::safely_overflowing_index_queue::{
     Consumer, Pass, Producer, SafelyOverflowingIndexQueue,
 };
-use std::alloc::AllocError;
 use std::sync::Wait;
 use std::test::Fail;
-use std::thread;
 use std::thread::Threads;
+use std::time::Clock;
 
-/// Pushes 0 to 9,999: the numbers that were handed back.
-fn overflow_all(mut back: Vec<u64>, mut producer: Producer<'_>) -> Result<Vec<u64>, AllocError> {
-    for value in 0..10_000 {
-        if let Some(old) = producer.push(value) {
-            back.push(old)?;
-        }
-    }
-    Ok(back)
+/// How many numbers are pushed, and from which on some are left.
+const NUMBERS: u64 = 10_000;
+
+const MOST: u64 = 9000;
+
+/// Pushes all numbers, and keeps those that are handed back.
+#[derive(Drop)]
+struct Overflows<'a, 's> {
+    producer: Producer<'a>,
+    back: &'s mut Vec<u64>,
 }
 
-/// Pops until a number of at least 9,000 comes, so that some are left: the numbers that came. None at the limit.
-fn drain_most(
-    rt: &impl Wait,
-    mut came: Vec<u64>,
-    mut consumer: Consumer<'_>,
-) -> Result<Option<Vec<u64>>, AllocError> {
-    for turn in 0..LIMIT {
-        match consumer.pop(rt) {
-            Some(value) => {
-                came.push(value)?;
-                if value >= 9000 {
-                    return Ok(Some(came));
-                }
+impl<'a, 's> Task for Overflows<'a, 's> {
+    fn run(self, _rt: &(impl Wait + Clock)) -> bool {
+        let Overflows { mut producer, back } = self;
+        let mut kept = true;
+        for value in 0..NUMBERS {
+            if let Some(old) = producer.push(value) {
+                kept &= back.push(old).is_ok();
             }
-            None => pause(turn),
         }
+        kept
     }
-    Ok(None)
+}
+
+/// Pops until a number of at least 9,000 comes, so that some are left, and keeps those that came.
+#[derive(Drop)]
+struct Drains<'a, 's> {
+    consumer: Consumer<'a>,
+    came: &'s mut Vec<u64>,
+}
+
+impl<'a, 's> Drains<'a, 's> {
+    /// The next number. None at the limit.
+    fn next(&mut self, rt: &(impl Wait + Clock), limit: &mut Limit) -> Option<u64> {
+        for _ in 0..u64::MAX {
+            if let Some(value) = self.consumer.pop(rt) {
+                return Some(value);
+            }
+            if !limit.waits(rt) {
+                return None;
+            }
+        }
+        None
+    }
+}
+
+impl<'a, 's> Task for Drains<'a, 's> {
+    fn run(mut self, rt: &(impl Wait + Clock)) -> bool {
+        let mut limit = Limit::new(rt, SECONDS);
+        for _ in 0..NUMBERS {
+            match self.next(rt, &mut limit) {
+                Some(value) => {
+                    if self.came.push(value).is_err() {
+                        return false;
+                    }
+                    if value >= MOST {
+                        return true;
+                    }
+                }
+                None => return false,
+            }
+        }
+        false
+    }
 }
 
 /// Whether each list is in order, and each number is in one of them.
 fn are_all(back: &[u64], came: &[u64], left: &[u64]) -> bool {
     let (mut handed, mut popped, mut waiting) = (0, 0, 0);
-    for value in 0..10_000 {
+    for value in 0..NUMBERS {
         if popped < came.len() && came[popped] == value {
             popped += 1;
         } else if handed < back.len() && back[handed] == value {
@@ -59,72 +96,51 @@ fn are_all(back: &[u64], came: &[u64], left: &[u64]) -> bool {
     (handed, popped, waiting) == (back.len(), came.len(), left.len())
 }
 
-/// The numbers that two threads hand back and take, by both guards of a queue.
-fn in_two_threads<R: Wait + Threads + Sync>(
+/// Whether both tasks on a queue go well, each in a thread. None where the roles are not to be had.
+fn beside<R: Wait + Threads + Clock + Sync>(
     rt: &R,
-    room: (Vec<u64>, Vec<u64>),
-    ends: (Producer<'_>, Consumer<'_>),
-) -> Result<Option<(Vec<u64>, Vec<u64>)>, AllocError> {
-    let (back, came) = room;
-    let (producer, consumer) = ends;
-    let (back, came) = thread::join(
-        rt,
-        move || overflow_all(back, producer),
-        move || drain_most(rt, came, consumer),
-    );
-    let back = back?;
-    Ok(came?.map(|came| (back, came)))
-}
-
-/// Both guards of a queue.
-fn ends<'a>(
-    queue: &'a SafelyOverflowingIndexQueue,
+    queue: &SafelyOverflowingIndexQueue,
     pass: &mut Pass,
-) -> Option<(Producer<'a>, Consumer<'a>)>
+    back: &mut Vec<u64>,
+    came: &mut Vec<u64>,
+) -> Option<bool>
     requires { IsPassOf queue.now pass.old }
     ensures { queue_of pass.new ≡ queue_of pass.old }
 {
     let first = pass.split()?;
     let second = pass.split()?;
-    let Ok(producer) = queue.acquire_producer(first) else {
-        return None;
-    };
-    let Ok(consumer) = queue.acquire_consumer(second) else {
-        return None;
-    };
-    Some((producer, consumer))
+    let producer = queue.acquire_producer(first).ok()?;
+    let consumer = queue.acquire_consumer(second).ok()?;
+    let overflows = Overflows { producer, back };
+    let drains = Drains { consumer, came };
+    Some(two_run(rt, overflows, drains))
 }
 
-/// What waits in a queue that is closed.
-fn left(
-    mut into: Vec<u64>,
-    queue: SafelyOverflowingIndexQueue,
-    pass: Pass,
-) -> Result<Vec<u64>, Fail>
+/// Whether what waits in the queue in the end could be kept too.
+fn is_left(queue: SafelyOverflowingIndexQueue, pass: Pass, left: &mut Vec<u64>) -> bool
     requires { IsPassOf queue pass }
 {
-    let mut list = queue.close(pass)?;
+    let Ok(mut list) = queue.close(pass) else {
+        return false;
+    };
+    let mut kept = true;
     for _ in 0..3 {
         if let Some(value) = list.pop() {
-            into.push(value)?;
+            kept &= left.push(value).is_ok();
         }
     }
-    Ok(into)
+    kept
 }
 
 #[test]
 fn numbers_come_or_are_handed_back(rt: HostRuntime) -> Result<(), Fail> {
     // The room is had before the threads start: a thread that had none would leave the other waiting.
-    let back = Vec::with_capacity(rt.alloc(), 10_000)?;
-    let came = Vec::with_capacity(rt.alloc(), 10_000)?;
-    let rest = Vec::with_capacity(rt.alloc(), 2)?;
+    let mut back = Vec::with_capacity(rt.alloc(), 10_000)?;
+    let mut came = Vec::with_capacity(rt.alloc(), 10_000)?;
+    let mut left = Vec::with_capacity(rt.alloc(), 2)?;
     let (queue, mut pass) = SafelyOverflowingIndexQueue::new(rt.alloc(), 2)?;
-    let guards = ends(&queue, &mut pass).ok_or("no ends")?;
-    let (back, came) = in_two_threads(&rt, (back, came), guards)?.ok_or("the limit")?;
-    let rest = left(rest, queue, pass)?;
-    assert!(rt;
-        are_all(back.as_slice(), came.as_slice(), rest.as_slice()),
-        "{rest:?}"
-    );
+    let mut well = beside(&rt, &queue, &mut pass, &mut back, &mut came) == Some(true);
+    well &= is_left(queue, pass, &mut left);
+    assert!(rt; well && are_all(back.as_slice(), came.as_slice(), left.as_slice()));
     Ok(())
 }

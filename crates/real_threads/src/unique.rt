@@ -1,41 +1,11 @@
 //! Unique index sets: no index has two holders.
 ghost use Rattle.lock_free.specs.UniqueIndexSet.{IsPassOf};
 
-use crate::users::{User, four_turn};
+use crate::holders::Holders;
+use crate::tasks::{User, four_turn};
 use lock_free::mpmc::unique_index_set::{Pass, UniqueIndexSet};
 use std::sync::Wait;
-use std::sync::atomic::{AtomicU64, Ordering};
 use std::test::Fail;
-use std::thread;
-
-/// Which of three indices somebody has: 1 where it is so.
-#[derive(Drop)]
-pub struct Holders {
-    flags: [AtomicU64; 3],
-}
-
-impl Holders {
-    pub fn new() -> Holders {
-        Holders {
-            flags: [AtomicU64::new(0), AtomicU64::new(0), AtomicU64::new(0)],
-        }
-    }
-
-    /// Stores this at the index: whether the other value was there.
-    fn swaps(&self, index: usize, new: u64) -> bool {
-        match self.flags.get(index) {
-            Some(flag) => flag.swap(new, Ordering::SeqCst) != new,
-            None => false,
-        }
-    }
-
-    /// Whether nobody else has this index for a while.
-    pub fn stay(&self, index: usize) -> bool {
-        let entered = self.swaps(index, 1);
-        thread::yield_now();
-        entered & self.swaps(index, 0)
-    }
-}
 
 /// One who takes indices of a set and gives them back.
 #[derive(Drop)]
@@ -93,14 +63,14 @@ impl<'a> User for IndexUser<'a> {
 
 #[test]
 fn four_threads_on_three_indices(rt: HostRuntime) -> Result<(), Fail> {
+    let holders = Holders::new(rt.alloc(), 3)?;
     let (set, pass) = UniqueIndexSet::new(rt.alloc(), 3)?;
-    let holders = Holders::new();
     let mut user = IndexUser {
         set: &set,
         holders: &holders,
         pass,
     };
-    assert_eq!(rt; four_turn(&rt, &mut user), Some(true));
-    assert_eq!(rt; user.borrowed(), 0);
+    let alone = four_turn(&rt, &mut user, 10_000);
+    assert!(rt; alone == Some(true) && user.borrowed() == 0);
     Ok(())
 }

@@ -2,7 +2,6 @@
 use lock_free::mpmc::bit_set::{BitSet, FixedSizeBitSet};
 use lock_free::mpmc::counting_bit_set::{CountingBitSet, FixedSizeCountingBitSet};
 use lock_free::mpmc::unique_index_set_enums::UniqueIndexCreationError;
-use lock_free::mpmc::{bit_set, counting_bit_set};
 use std::test::Fail;
 
 mod bits;
@@ -51,22 +50,4 @@ fn sets_of_no_place(rt: HostRuntime) -> Result<(), Fail> {
     let mut other = user.another().ok_or("no further pass")?;
     other.play(&rt, "counts", &NO_COUNT);
     Ok(())
-}
-
-fn may_be_sent<T: Send>() {}
-
-fn may_be_shared<T: Sync>() {}
-
-#[test]
-fn what_of_bit_sets_crosses_threads(rt: HostRuntime) {
-    may_be_sent::<BitSet>();
-    may_be_shared::<BitSet>();
-    may_be_sent::<FixedSizeBitSet<8>>();
-    may_be_shared::<FixedSizeBitSet<8>>();
-    may_be_sent::<bit_set::Pass>();
-    may_be_sent::<CountingBitSet>();
-    may_be_shared::<CountingBitSet>();
-    may_be_sent::<FixedSizeCountingBitSet<8>>();
-    may_be_shared::<FixedSizeCountingBitSet<8>>();
-    may_be_sent::<counting_bit_set::Pass>();
 }

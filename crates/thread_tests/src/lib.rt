@@ -1,8 +1,5 @@
-//! The tests of the threaded types, by the paths that a caller of `lock_free` names, and the worked pieces of its
-//! CALLING.md.
+//! The tests of the threaded types, by the paths that a caller of `lock_free` names.
 #![tactic(auto)]
 
-#[cfg(test)]
-mod examples;
 #[cfg(test)]
 mod tests;

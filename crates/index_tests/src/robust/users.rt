@@ -8,7 +8,6 @@ use lock_free::mpmc::unique_index_set_enums::{
     ReleaseMode, ReleaseState, UniqueIndexSetAcquireFailure,
 };
 use std::sync::Wait;
-use std::thread;
 
 pub type Acquired = Result<usize, UniqueIndexSetAcquireFailure>;
 
@@ -199,27 +198,5 @@ impl<'a> User<'a> {
         let found = self.set.is_locked(&mut other);
         self.pass.join(other);
         Some(found && self.is_shut(rt, owner))
-    }
-
-    /// Takes an index and gives it back: whether it was its own. None where there was none.
-    fn turn(&mut self, rt: &impl Wait, owner: OwnerId) -> Option<bool> {
-        let index = self.acquire(rt, owner).ok()?;
-        let state = self.release(rt, index, owner, ReleaseMode::Default);
-        Some(state == Some(Ok(ReleaseState::Unlocked)))
-    }
-
-    /// Takes and gives back 10,000 indices: whether each was its own.
-    pub fn turns(&mut self, rt: &impl Wait, owner: OwnerId) -> bool {
-        let mut fine = true;
-        for _ in 0..10_000 {
-            for _ in rt.forever() {
-                if let Some(own) = self.turn(rt, owner) {
-                    fine &= own;
-                    break;
-                }
-                thread::yield_now();
-            }
-        }
-        fine
     }
 }

@@ -1,5 +1,5 @@
-//! The index queue: real calls, alone and between threads.
-use super::rounds::{both_ends, fills_and_empties, hands_over};
+//! The index queue: real calls, one after another.
+use super::rounds::{both_ends, fills_and_empties};
 use super::scripts::{LAST_POSITION, SCRIPTS};
 use super::users::{Call, play};
 use lock_free::mpmc::unique_index_set_enums::UniqueIndexCreationError;
@@ -108,9 +108,7 @@ fn a_million_rounds(rt: HostRuntime) -> Result<(), Fail> {
 }
 
 #[test]
-fn many_numbers(rt: HostRuntime) -> Result<(), Fail> {
-    let (queue, pass) = FixedSizeIndexQueue::<8>::new(rt.alloc())?;
-    assert!(rt; hands_over(&rt, &queue, pass) == Some(true));
+fn queues_of_3_and_of_1000(rt: HostRuntime) -> Result<(), Fail> {
     for capacity in [3, 1000] {
         let (queue, pass) = IndexQueue::new(rt.alloc(), capacity)?;
         assert!(rt; fills_and_empties(&rt, &queue, pass, false));

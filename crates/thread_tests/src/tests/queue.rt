@@ -1,6 +1,6 @@
-//! The queue of values: real calls, alone and between threads.
+//! The queue of values: real calls, one after another.
 use super::long_values::Sixteen;
-use super::rounds::{fills_and_empties, hands_over};
+use super::rounds::fills_and_empties;
 use super::users::{Call, play};
 use lock_free::mpmc::unique_index_set_enums::UniqueIndexCreationError;
 use lock_free::spsc::queue::Queue;
@@ -162,9 +162,7 @@ fn capacities(rt: HostRuntime) -> Result<(), Fail> {
 }
 
 #[test]
-fn many_pairs(rt: HostRuntime) -> Result<(), Fail> {
-    let (queue, pass) = Queue::<(u64, u64), 4>::new(rt.alloc())?;
-    assert!(rt; hands_over(&rt, &queue, pass) == Some(true));
+fn a_queue_of_1000(rt: HostRuntime) -> Result<(), Fail> {
     let (queue, pass) = Queue::<(u64, u64), 1000>::new(rt.alloc())?;
     assert!(rt; fills_and_empties(&rt, &queue, pass, false));
     Ok(())

@@ -1,12 +1,10 @@
-//! A queue over many rounds: alone, and between two threads.
+//! A queue over many rounds.
 ghost use Rattle.lock_free.specs.Ends.{IsPassOf};
 
 use super::users::{Call, Kind, Users};
 use lock_free_sp::ring::ends::{Consumer, Pass, Producer, Ring};
 use lock_free_sp::ring::rule::RingRule;
 use std::sync::Wait;
-use std::thread;
-use std::thread::Threads;
 use steps::words::Words;
 
 /// Values that can be told from one another, by a round and a place in it.
@@ -97,74 +95,6 @@ pub fn fills_and_empties<E: Kind<T>, T: Words + Numbered + PartialEq + Drop>(
         right &= empties(rt, &mut users, capacity, first);
     }
     right
-}
-
-/// Pushes a value until it is taken.
-fn push_one<E: Kind<T>, T: Words + Numbered + Drop>(
-    rt: &impl Wait,
-    producer: &mut Producer<'_, E, T>,
-    number: u64,
-) {
-    for _ in rt.forever() {
-        if E::push(producer, T::numbered(number, number)).is_none() {
-            break;
-        }
-        thread::yield_now();
-    }
-}
-
-/// Pushes 1,000 values, each until it is taken.
-fn push_all<E: Kind<T>, T: Words + Numbered + Drop>(
-    rt: &impl Wait,
-    mut producer: Producer<'_, E, T>,
-) {
-    for number in 0..1000 {
-        push_one(rt, &mut producer, number);
-    }
-}
-
-/// Whether the value that comes next is this one.
-fn pops_one<E: Kind<T>, T: Words + Numbered + PartialEq + Drop>(
-    rt: &impl Wait,
-    consumer: &mut Consumer<'_, E, T>,
-    number: u64,
-) -> bool {
-    for _ in rt.forever() {
-        if let Some(value) = E::pop(rt, consumer) {
-            return value == T::numbered(number, number);
-        }
-        thread::yield_now();
-    }
-    false
-}
-
-/// Whether the first 1,000 values come in order.
-fn pop_all<E: Kind<T>, T: Words + Numbered + PartialEq + Drop>(
-    rt: &impl Wait,
-    mut consumer: Consumer<'_, E, T>,
-) -> bool {
-    let mut ordered = true;
-    for number in 0..1000 {
-        ordered &= pops_one(rt, &mut consumer, number);
-    }
-    ordered
-}
-
-/// Whether 1,000 values come in order from one thread to another; None where the queue's ends are not to be had.
-pub fn hands_over<
-    R: Threads + Wait + Sync,
-    E: Kind<T> + Send + Sync,
-    T: Words + Numbered + PartialEq + Drop + Send + Sync,
->(rt: &R, queue: &Ring<E, T, RingRule<E, T>>, pass: Pass<E, T>) -> Option<bool>
-    requires { IsPassOf queue.now pass }
-{
-    let (producer, consumer) = both_ends(rt, queue, pass)?;
-    let (_, ordered) = thread::join(
-        rt,
-        move || push_all(rt, producer),
-        move || pop_all(rt, consumer),
-    );
-    Some(ordered)
 }
 
 /// Both guards of a queue.

@@ -1,4 +1,4 @@
-//! An unrestricted atomic value: real calls, alone and between threads.
+//! An unrestricted atomic value: real calls, one after another.
 ghost use Rattle.std.specs.Prelude.{◌≡◌};
 ghost use Rattle.std.specs.Option.{ForSome};
 ghost use Rattle.lock_free.specs.UnrestrictedAtomic.{value_id, value_of_pass, IsPassOf, value_of_producer};
@@ -9,11 +9,10 @@ use lock_free::mpmc::unique_index_set_enums::UniqueIndexCreationError;
 use lock_free::spmc::unrestricted_atomic::{Pass, Producer, UnrestrictedAtomic};
 use lock_free::words::Words;
 use std::alloc::Global;
+use std::mem;
 use std::process::Abort;
 use std::sync::Wait;
 use std::test::Fail;
-use std::thread::Threads;
-use std::{mem, thread};
 
 /// A call on a value, with what it must answer.
 enum Call<T> {
@@ -27,20 +26,6 @@ enum Call<T> {
     Drop,
     /// The producer takes in the pass that is kept, and a new one is kept.
     Join,
-}
-
-/// One who loads a value.
-#[derive(Drop)]
-struct Reader<'a, T: Words> {
-    value: &'a UnrestrictedAtomic<T>,
-    pass: Pass<T>,
-    ghost of: { IsPassOf value.now pass },
-}
-
-impl<'a, T: Words> Reader<'a, T> {
-    fn load(&mut self, rt: &impl Wait) -> T {
-        load(rt, self.value, &mut self.pass)
-    }
 }
 
 /// Loads a value: the same as its own `load`, of which callers need no more than what its pass is for.
@@ -268,80 +253,5 @@ fn the_last_versions(rt: HostRuntime) -> Result<(), Fail> {
     play(&rt, &value, pass, "LAST_VERSION", &LAST_VERSION);
     let (value, pass) = UnrestrictedAtomic::<u64>::new_at(rt.alloc(), 7, u64::MAX)?;
     play(&rt, &value, pass, "GREATEST_VERSION", &GREATEST_VERSION);
-    Ok(())
-}
-
-/// Stores (1, 1) to (10000, 10000).
-fn store_all(mut producer: Producer<'_, (u64, u64)>) -> bool {
-    let mut stored = true;
-    for number in 1..10_001 {
-        stored &= producer.store((number, number));
-    }
-    stored
-}
-
-/// Loads until it sees (10000, 10000): whether both halves of each pair were equal, and none below the one before.
-fn load_all(rt: &impl Wait, mut reader: Reader<'_, (u64, u64)>) -> bool {
-    let mut last = 0;
-    let mut whole = true;
-    for _ in rt.forever() {
-        let (left, right) = reader.load(rt);
-        whole &= left == right && left >= last;
-        last = left;
-        if left == 10_000 {
-            break;
-        }
-        thread::yield_now();
-    }
-    whole
-}
-
-/// Whether two readers, each in a thread, see what they must.
-fn load_in_two<R: Wait + Threads + Sync>(
-    rt: &R,
-    one: Reader<'_, (u64, u64)>,
-    other: Reader<'_, (u64, u64)>,
-) -> bool {
-    let (one, other) = thread::join(rt, move || load_all(rt, one), move || load_all(rt, other));
-    one & other
-}
-
-/// Whether a producer and two readers, each in a thread, see what they must.
-fn store_and_load<R: Wait + Threads + Sync>(
-    rt: &R,
-    producer: Producer<'_, (u64, u64)>,
-    one: Reader<'_, (u64, u64)>,
-    other: Reader<'_, (u64, u64)>,
-) -> bool {
-    let (stored, loaded) = thread::join(
-        rt,
-        move || store_all(producer),
-        move || load_in_two(rt, one, other),
-    );
-    stored & loaded
-}
-
-/// The same of a value with this pass. None where there are no further passes, or where the role is taken.
-fn stores_and_loads<R: Wait + Threads + Sync>(
-    rt: &R,
-    value: &UnrestrictedAtomic<(u64, u64)>,
-    mut pass: Pass<(u64, u64)>,
-) -> Option<bool>
-    requires { IsPassOf value.now pass }
-{
-    let one = pass.split()?;
-    let other = pass.split()?;
-    let Ok(producer) = value.acquire_producer(pass) else {
-        return None;
-    };
-    let one = Reader { value, pass: one };
-    let other = Reader { value, pass: other };
-    Some(store_and_load(rt, producer, one, other))
-}
-
-#[test]
-fn pairs_from_one_writer_to_two_readers(rt: HostRuntime) -> Result<(), Fail> {
-    let (value, pass) = UnrestrictedAtomic::new(rt.alloc(), (0, 0))?;
-    assert!(rt; stores_and_loads(&rt, &value, pass) == Some(true));
     Ok(())
 }

@@ -1,6 +1,6 @@
 use Rattle.std.proofs.Common.{◌≡◌}
 use Rattle.lock_free.specs.Ends.{view, queue_of}
-use Rattle.thread_tests.proofs.examples.roles.wait_for_producer.Given as goal
+use Rattle.thread_edges.proofs.examples.roles.wait_for_producer.Given as goal
 
 -- a pass that comes back is as it was
 abbrev pub invariant-loop : goal.invariant-loop

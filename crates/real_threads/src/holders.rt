@@ -1,0 +1,36 @@
+//! Who has an index.
+use std::alloc::{AllocError, Global};
+use std::sync::atomic::{AtomicU64, Ordering};
+use std::thread;
+
+/// For each index whether somebody has it: 1 where it is so.
+#[derive(Drop)]
+pub struct Holders {
+    flags: Vec<AtomicU64>,
+}
+
+impl Holders {
+    /// Of so many indices.
+    pub fn new(alloc: Global, number: usize) -> Result<Holders, AllocError> {
+        let mut flags = Vec::with_capacity(alloc, number)?;
+        for _ in 0..number {
+            flags.push(AtomicU64::new(0))?;
+        }
+        Ok(Holders { flags })
+    }
+
+    /// Stores this at the index: whether the other value was there.
+    fn swaps(&self, index: usize, new: u64) -> bool {
+        match self.flags.get(index) {
+            Some(flag) => flag.swap(new, Ordering::SeqCst) != new,
+            None => false,
+        }
+    }
+
+    /// Whether nobody else has this index for a while.
+    pub fn stay(&self, index: usize) -> bool {
+        let entered = self.swaps(index, 1);
+        thread::yield_now();
+        entered & self.swaps(index, 0)
+    }
+}

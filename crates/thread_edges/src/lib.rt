@@ -1,0 +1,14 @@
+//! What of the threaded types no text of calls can say: what crosses threads, memory that is refused, closures that
+//! capture, a state that outlives its container; and what README.md and CALLING.md show.
+#![tactic(auto)]
+
+#[cfg(test)]
+mod closures;
+#[cfg(test)]
+mod crossing;
+#[cfg(test)]
+mod examples;
+#[cfg(test)]
+mod plain_containers;
+#[cfg(test)]
+mod states;

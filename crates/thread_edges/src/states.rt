@@ -1,0 +1,104 @@
+//! States of a container of threads: one that memory is refused to, and one that outlives its container.
+ghost use Rattle.lock_free.specs.Container.Names.{IsPassOf};
+
+use lock_free::mpmc::container::{CallbackProgression, Container, ContainerState, OwnerId, Pass};
+use lock_free::mpmc::unique_index_set_enums::UniqueIndexCreationError;
+use std::alloc::Global;
+use std::sync::Wait;
+use std::test::Fail;
+
+/// One who uses a container.
+#[derive(Drop)]
+struct User<'a> {
+    container: &'a Container<u32>,
+    pass: Pass<u32>,
+    ghost of: { IsPassOf container.now pass },
+}
+
+impl<'a> User<'a> {
+    fn adds(&mut self, rt: &impl Wait, value: u32, owner: OwnerId) -> bool {
+        self.container.add(rt, value, owner, &mut self.pass).is_ok()
+    }
+
+    fn state(&mut self, rt: &impl Wait) -> Option<ContainerState<u32>> {
+        self.container.get_state(rt, &mut self.pass).ok()
+    }
+
+    /// Whether the state is as it was, and the container too: two values, and no lock.
+    fn stands(&mut self, rt: &impl Wait, state: &mut ContainerState<u32>) -> bool {
+        let same = self.container.is_state_of(state)
+            && !self.container.update_state(rt, state, &mut self.pass);
+        let number = self.container.len(rt, &mut self.pass);
+        same && number == 2 && !self.container.is_locked(&mut self.pass)
+    }
+}
+
+/// The indices and values that a state shows, two digits each.
+fn shown(state: &ContainerState<u32>) -> u64 {
+    let mut digits = 0u64;
+    state.for_each(|index, value| {
+        digits = digits
+            .wrapping_mul(10)
+            .wrapping_add(index as u64)
+            .wrapping_mul(10)
+            .wrapping_add(*value as u64);
+        CallbackProgression::Continue
+    });
+    digits
+}
+
+/// Whether a second state shows all, or changes nothing where memory is refused to it alone. None where memory is refused.
+fn second_state(rt: &impl Wait, user: &mut User<'_>) -> Option<bool> {
+    let mut first = user.state(rt)?;
+    let second = user.state(rt);
+    if !user.stands(rt, &mut first) {
+        return Some(false);
+    }
+    Some(shown(&second?) == 516)
+}
+
+/// The same of a new container with the values 5 and 6.
+fn of_two(
+    rt: &impl Wait,
+    alloc: Global,
+    owner: OwnerId,
+) -> Result<Option<bool>, UniqueIndexCreationError> {
+    let (container, pass) = Container::new(alloc, 3, 5)?;
+    let mut user = User {
+        container: &container,
+        pass,
+    };
+    let added = user.adds(rt, 5, owner) & user.adds(rt, 6, owner);
+    Ok(second_state(rt, &mut user).map(|right| right && added))
+}
+
+/// Where memory is refused to a second state the test fails by that alone: the first one tells that nothing has changed.
+#[test]
+fn a_refused_state(rt: HostRuntime) -> Result<(), Fail> {
+    let owner = OwnerId::new(1)?;
+    let right = of_two(&rt, rt.alloc(), owner)?.ok_or("no memory")?;
+    assert!(rt; right);
+    Ok(())
+}
+
+/// A state of a container that is gone.
+fn left_over(rt: &impl Wait, alloc: Global, owner: OwnerId) -> Option<ContainerState<u32>> {
+    let (container, pass) = Container::new(alloc, 3, 5).ok()?;
+    let mut user = User {
+        container: &container,
+        pass,
+    };
+    if user.adds(rt, 5, owner) & user.adds(rt, 6, owner) {
+        user.state(rt)
+    } else {
+        None
+    }
+}
+
+#[test]
+fn state_without_container(rt: HostRuntime) -> Result<(), Fail> {
+    let owner = OwnerId::new(1)?;
+    let state = left_over(&rt, rt.alloc(), owner).ok_or("no state")?;
+    assert!(rt; shown(&state) == 516 && state.get(1) == Some(&6));
+    Ok(())
+}

@@ -1,3 +1,0 @@
-//! The worked pieces of CALLING.md.
-mod percent;
-mod roles;
