@@ -8,10 +8,10 @@ use crate::told::{Call, NO_CALL, Name, Said, Told, What};
 use ends::ENDINGS;
 use std::alloc::{AllocError, Global};
 
+pub mod behind;
 pub mod ends;
 mod looks;
 mod promises;
-pub mod turns;
 
 /// Values at those indices that are in the mask, and 0 elsewhere.
 #[derive(Clone, Copy)]

@@ -8,9 +8,9 @@ use crate::told::{Call, NO_CALL, Name, Said, Told, What};
 use ends::ENDINGS;
 use std::alloc::AllocError;
 
+pub mod behind;
 pub mod ends;
 pub mod moves;
-pub mod turns;
 
 /// The number at this place, 0 past the last.
 pub fn at(numbers: &[u64; 8], place: u64) -> u64 {

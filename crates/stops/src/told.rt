@@ -9,10 +9,10 @@ use steps::enums::OwnerId;
 use steps::indices::enums::{ReleaseState, UniqueIndexSetAcquireFailure};
 
 mod calls;
-mod turns;
+mod starts;
 
 use calls::call_of;
-pub use turns::{container_turn, death, loan_turn};
+pub use starts::{container_turn, death, loan_turn};
 
 /// Any number.
 pub const ANY: u64 = u64::MAX;
