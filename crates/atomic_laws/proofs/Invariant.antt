@@ -1,6 +1,6 @@
 -- What holds of a value's machine between any two turns beside what the frame says of every machine, and what a turn must
 -- show to keep it.
-use Rattle.std.proofs.Common.{◌≡◌, ◌≢◌, ℕ, ◌+◌, ◌≤◌, Option, Some, None, List, [], ◌++◌, fold, refl, sym, ap, subst, ◌∙◌, arith}
+use Rattle.std.proofs.Common.{◌≡◌, ◌≢◌, ℕ, ◌+◌, ◌^◌, ◌<◌, ◌≤◌, Option, Some, None, List, [], ◌++◌, fold, length, length-append, arith, refl, sym, ap, subst, ◌∙◌}
 use Rattle.std.proofs.lemmas.List.Concat.{flat_map-append}
 use Rattle.std.proofs.lemmas.List.Sums.{fold-append}
 use Rattle.model.specs.declared.event.Event.{Event}
@@ -26,6 +26,7 @@ use Rattle.model.proofs.Frame as frame
 use Rattle.model.proofs.Frame.{Family}
 use Rattle.model.proofs.Readings.{AreRight, Each-append, AreOwn, AllFollow}
 use Rattle.model.proofs.Replays.{calls_of, answers_of, standing_more, legal_more}
+use Rattle.atomic_laws.specs.Stored.{stores, stored}
 use Rattle.atomic_laws.proofs.Core.{Core, Good, GoesUp, layout}
 use Rattle.atomic_laws.proofs.Knows.{number_of, At, KnowsFlight, flight_keeps}
 
@@ -65,6 +66,8 @@ module _ {T : Type 0} where
     pub holders : holder_of events ≡ holder
     pub grants : Each GrantsRight events
     pub reached : k.version ≤ turns + 1
+    pub within : k.version < 2 ^ 64
+    pub counted : k.version ≡ length (stored events) + 1
 
   -- ---- the family of the single value
 
@@ -113,6 +116,8 @@ module _ {T : Type 0} where
     pub answers : answers_from (value_of_zeros scene.coding) (scene.coding.value_of scene.core.now) (calls_of (moments es)) ≡ answers_of (moments es)
     pub up : GoesUp scene.core k' scene.changes changes'
     pub reached : k'.version ≤ scene.turns + 1 + 1
+    pub within : k'.version < 2 ^ 64
+    pub counted : k'.version ≡ scene.core.version + length (stored es)
     pub own : AreOwn scene.party es
     pub stands : AllFollow (Stands promise scene.capacity) from es
     pub here : frame.Fits (family scene.coding scene.capacity) (record { holder = holder'; core = k' }) scene.party (Some y) (fold own_after from es)
@@ -160,4 +165,6 @@ module _ {T : Type 0} where
           holders = fold-append holder_after None scene.events es ∙ (ap (λ o. fold holder_after o es) h.holders ∙ s.holders);
           grants = Each-append GrantsRight scene.events es h.grants s.grants;
           reached = reached;
+          within = s.within;
+          counted = (let a = h.counted in let b = s.counted in let c : length (stored (scene.events ++ es)) ≡ length (stored scene.events) + length (stored es) = ap length (flat_map-append stores scene.events es) ∙ length-append (stored scene.events) (stored es) in omega arith);
         }

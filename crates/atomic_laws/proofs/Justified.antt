@@ -43,6 +43,7 @@ use Rattle.model.proofs.Frame as frame
 use Rattle.model.proofs.Orders.{Orders, Keeps, ends_end, turn_is}
 use Rattle.model.proofs.Readings.{AreRight}
 use Rattle.model.proofs.Scenes.{StandsThere, stands_there, InOrder, in_order_from}
+use Rattle.queue_laws.proofs.Queues.Knows.{any_fresh}
 use Rattle.atomic_laws.proofs.Core.{Core, layout}
 use Rattle.atomic_laws.proofs.Invariant.{Value, Fit, family}
 use Rattle.atomic_laws.proofs.Kept.{kept}
@@ -123,7 +124,8 @@ module _ {T : Type 0} (code : Coding T) (c : ℕ) (t : Trace T) (p : ℕ) (s : f
   in_order : (start : Start T) (flight : Flight T) → t.world.words ≡ layout s.state.holder s.state.core → StandsThere (family code c) t s p x since start flight → InOrder t p promise t.world.coding (layout s.state.holder s.state.core) (kepts.TheVariants.Atomic s.state.holder) start flight
   in_order (Atomic start) (flights.TheVariants.Atomic flight) is here =
       let words = layout s.state.holder s.state.core in
-      let moves = step_moves (scene_of code c t s p x since) small (inv_of code c t s p x since) start flight here.at here.steps here.knows in
+      let low = s.holds.reached in
+      let moves = step_moves (scene_of code c t s p x since) (inv_of code c t s p x since) start flight here.at here.steps here.knows (any_fresh s.state.core.version (flights.TheVariants.Atomic flight) (omega arith)) in
       let z = t.world.coding in
       let old = old_of words (ask_of (want z flight)) in
       let outcome : Option (Answer T) = answer_in (after z flight old) in

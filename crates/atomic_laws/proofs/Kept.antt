@@ -1,5 +1,5 @@
 -- What the invariant says of the events, in the promises' words.
-use Rattle.std.proofs.Common.{◌≡◌, ℕ, zero, suc, ◌+◌, ◌-◌, ◌*◌, ◌%◌, ◌<◌, ◌≤◌, Option, List, [], ◌∷◌, drop, length, get_or, take, refl, sym, ap, subst, ◌∙◌, arith}
+use Rattle.std.proofs.Common.{◌≡◌, ℕ, zero, suc, ◌+◌, ◌-◌, ◌*◌, ◌%◌, ◌≤◌, Option, List, drop, take, refl, sym, ap, subst, ◌∙◌, arith}
 use Rattle.std.proofs.lemmas.List.{get_or-drop, length-drop}
 use Rattle.steps.specs.declared.atomic.StoreStage.{StoreStage}
 use Rattle.steps.specs.declared.atomic.StoreStage as storing
@@ -17,9 +17,9 @@ use Rattle.model.specs.declared.families.atomic.AtomicStart.TheVariants.{Acquire
 use Rattle.model.specs.declared.families.atomic.calls.AtomicFlight.{AtomicFlight}
 use Rattle.model.specs.declared.families.atomic.calls.AtomicFlight as calls
 use Rattle.model.specs.declared.turn.Kind as kinds
-use Rattle.model.specs.Coding.{Coding}
+use Rattle.model.specs.Coding.{Coding, IsCoding}
 use Rattle.model.specs.Families.Atomic.Bounds.{most_steps}
-use Rattle.model.specs.Families.Atomic.Promises.{cell_in, value_in, IsValue, most, promise}
+use Rattle.model.specs.Families.Atomic.Promises.{cell_in, IsValue, most, promise}
 use Rattle.model.specs.Families.Atomic.Roles.{KeepsHolder}
 use Rattle.model.specs.Parties.{party_of}
 use Rattle.model.specs.Promises.{IsKeptBy, IsKept}
@@ -32,7 +32,8 @@ use Rattle.model.proofs.Frame as frame
 use Rattle.atomic_laws.proofs.Core.{Core, Good, layout, cell_within, same_words}
 use Rattle.atomic_laws.proofs.Invariant.{Value, family}
 use Rattle.atomic_laws.proofs.Knows.{KnowsStore, KnowsLoad, KnowsBacks, KnowsFlight, At, store_number, load_number, number_of}
-use Rattle.atomic_laws.proofs.Sound.{kept_is, reached_sound}
+use Rattle.queue_laws.proofs.Queues.Sound.{IsFreshRun}
+use Rattle.atomic_laws.proofs.Sound.{kept_is, reached_sound, sound_on}
 
 -- ---- how many steps a call has taken
 
@@ -125,3 +126,7 @@ module _ {T : Type 0} where
 
   pub kept : (t : Trace T) → t.world.kind ≡ kinds.TheVariants.Atomic → IsReached t → IsKept t
   kept t is r = subst (λ P. IsKeptBy P t) (sym (ap (promise_of {T = T}) is)) (kept_by t.world.coding t (reached_sound t is r))
+
+  -- the same where turns have no bound, and no store finds the last version
+  pub kept_on : (t : Trace T) → t.world.kind ≡ kinds.TheVariants.Atomic → IsCoding t.world.coding → IsFreshRun t → IsKept t
+  kept_on t is coded r = subst (λ P. IsKeptBy P t) (sym (ap (promise_of {T = T}) is)) (kept_by t.world.coding t (sound_on t is coded r))

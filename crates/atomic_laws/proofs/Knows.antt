@@ -1,5 +1,5 @@
 -- What a call of the single value knows where it stands: of the words, and of the counts.
-use Rattle.std.proofs.Common.{◌≡◌, ◌≢◌, ℕ, ◌+◌, ◌*◌, ◌<◌, ◌≤◌, Option, Some, List, length, get_or, arith}
+use Rattle.std.proofs.Common.{◌≡◌, ℕ, ◌+◌, ◌-◌, ◌*◌, ◌^◌, ◌<◌, ◌≤◌, Option, Some, List, length, get_or, arith}
 use Rattle.steps.specs.declared.atomic.StoreStage.{StoreStage}
 use Rattle.steps.specs.declared.atomic.StoreStage as storing
 use Rattle.steps.specs.declared.atomic.LoadStage.{LoadStage}
@@ -43,12 +43,12 @@ number_of size (Load run) backs = load_number size run.call.stage backs
 
 -- ---- what they know of the words
 
--- of a store of these words
+-- of a store of these words: the version that it found is not the last
 abbrev pub KnowsStore : ℕ → Core → List ℕ → StoreStage → Type 0
 KnowsStore size k words storing.TheVariants.LoadsVersion = Unit {0}
 KnowsStore size k words (storing.TheVariants.StoresCell cell at) =
-    (cell ≡ cell_word size k.version) × (at < size) × IsFilled size k words at
-KnowsStore size k words storing.TheVariants.AddsVersion = IsFilled size k words size
+    (cell ≡ cell_word size k.version) × (at < size) × IsFilled size k words at × (k.version < 2 ^ 64 - 1)
+KnowsStore size k words storing.TheVariants.AddsVersion = IsFilled size k words size × (k.version < 2 ^ 64 - 1)
 
 -- so many words of the value that stands are in the room
 abbrev pub IsCopied : Core → rooms.Kept 128 → ℕ → Type 0

@@ -1,5 +1,5 @@
 -- The steps of a load.
-use Rattle.std.proofs.Common.{◌≡◌, ◌≢◌, ℕ, ◌+◌, ◌-◌, ◌*◌, ◌%◌, ◌^◌, ◌<◌, ◌≤◌, ◌==◌, nat_lt, Bool, true, false, not, cond, ⊎_elim, Option, Some, List, [], ◌∷◌, length, get_or, set, take, refl, sym, ap, subst, ◌∙◌, arith, length-set, get_or-set_same, get_or-set_other}
+use Rattle.std.proofs.Common.{◌≡◌, ◌≢◌, ℕ, ◌+◌, ◌-◌, ◌*◌, ◌%◌, ◌^◌, ◌<◌, ◌≤◌, ◌==◌, nat_lt, Bool, true, false, cond, ⊎_elim, Option, Some, [], ◌∷◌, length, get_or, set, take, refl, sym, ap, subst, ◌∙◌, arith, length-set, get_or-set_same, get_or-set_other}
 use Rattle.std.proofs.lemmas.Bool.{cases_lt}
 use Rattle.std.proofs.lemmas.Bool.Decides.{nat_tests}
 use Rattle.std.proofs.lemmas.List.{set-get_or}
@@ -33,7 +33,7 @@ use Rattle.atomic_laws.proofs.Stores.{asked_place}
 whole_room : (size : ℕ) (k : Core) (room : rooms.Kept 128) → size ≤ 128 → length room.words ≡ 128 → length k.now ≡ size → IsCopied k room size → take size room.words ≡ k.now
 whole_room size k room few long sized copied = same_words size room.words k.now sized (omega arith) copied
 
-module _ {T : Type 0} (scene : Scene T) (inv : Inv scene) (small : scene.turns < 2 ^ 64 - 2) where
+module _ {T : Type 0} (scene : Scene T) (inv : Inv scene) (small : scene.core.version < 2 ^ 64) where
   open scene use {coding as code, holder as ho, core as k, party as p, steps, backs, since, changes}
 
   g : Good code.size k
@@ -80,7 +80,6 @@ module _ {T : Type 0} (scene : Scene T) (inv : Inv scene) (small : scene.turns <
     found_is : version ≡ k.version → found ≡ get_or k.now at 0
     found_is same =
         let some = g.some in
-        let low = inv.value.reached in
         let before : before_version version ≡ k.version - 1 = omega arith in
         let here : place ≡ 2 + (code.size * ((k.version - 1) % 2) + at) = rw before (asked_place code.size (k.version - 1) at coded.few below) in
         core.word_at k.version (free ho) k.cells place (code.size * ((k.version - 1) % 2) + at) here ∙ g.held at below
@@ -160,6 +159,8 @@ module _ {T : Type 0} (scene : Scene T) (inv : Inv scene) (small : scene.turns <
           answers = refl;
           up = record { version = omega arith; paid = omega arith };
           reached = omega arith;
+          within = small;
+          counted = omega arith;
           own = (refl, (refl, tt));
           stands = ((refl, refl), ((refl, refl), tt));
           here =

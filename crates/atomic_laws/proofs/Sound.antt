@@ -1,5 +1,5 @@
 -- Every turn keeps what holds of a value's machine: the laws of the family.
-use Rattle.std.proofs.Common.{◌≡◌, ℕ, ◌-◌, ◌*◌, ◌^◌, ◌<◌, ◌≤◌, ◌==◌, Bool, true, false, not, Option, Some, None, List, [], ◌∷◌, replicate, refl, sym, ap, subst, ◌∙◌, arith}
+use Rattle.std.proofs.Common.{◌≡◌, ℕ, ◌+◌, ◌-◌, ◌*◌, ◌^◌, ◌<◌, ◌≤◌, ◌==◌, Bool, true, false, not, Option, Some, None, List, [], ◌∷◌, get_or, length, replicate, refl, sym, ap, subst, ◌∙◌, arith}
 use Rattle.std.proofs.lemmas.Bool.Decides.{nat_tests}
 use Rattle.std.proofs.lemmas.List.{length-replicate}
 use Rattle.steps.specs.declared.atomic.StoreStage.{StoreStage}
@@ -22,8 +22,9 @@ use Rattle.model.specs.declared.party.Doing.TheVariants.{Going}
 use Rattle.model.specs.declared.party.Party.{Party}
 use Rattle.model.specs.declared.turn.Kind as kinds
 use Rattle.model.specs.declared.turn.Refusal.TheVariants.{NoRole}
+use Rattle.model.specs.declared.turn.Turn.TheVariants.{Next}
 use Rattle.model.specs.Coding.{Coding, IsCoding}
-use Rattle.model.specs.Families.{first_of, want_of, is_question, kept_after_begin}
+use Rattle.model.specs.Families.{first_of, want_of, ask_of, is_question, kept_after_begin}
 use Rattle.model.specs.Families.Atomic.Calls.{first, want}
 use Rattle.model.specs.Families.Atomic.Opening.{lacks_role, kept_rows}
 use Rattle.model.specs.Families.Loan.Opening.{is_loan}
@@ -37,6 +38,10 @@ use Rattle.model.proofs.Frame as frame
 use Rattle.model.proofs.Readings.{Each-nil}
 use Rattle.model.proofs.Rows.{row_passed, MayBegin}
 use Rattle.model.proofs.Scenes.{asked, StandsThere, stands_there, ComesFrom, comes_from}
+use Rattle.queue_laws.proofs.Queues.Knows.{IsFreshStore, IsFreshCall, any_fresh}
+use Rattle.queue_laws.proofs.Queues.Runs.{LawsAt, run_sound}
+use Rattle.queue_laws.proofs.Queues.Sound.{IsFreshTurn, IsFreshRun, fresh_any}
+use Rattle.atomic_laws.specs.Stored.{stored}
 use Rattle.atomic_laws.proofs.Core.{Core, layout, zeros}
 use Rattle.atomic_laws.proofs.Invariant.{Value, Fit, Scene, Inv, Shows, family, owes, holds_more}
 use Rattle.atomic_laws.proofs.Knows.{At, KnowsFlight, number_of, store_at, load_at}
@@ -59,18 +64,18 @@ kept_is kept words s fit = absurd fit
 
 -- ---- one step of a call
 
-module _ {T : Type 0} (scene : Scene T) (small : scene.turns < 2 ^ 64 - 2) (inv : Inv scene) where
+module _ {T : Type 0} (scene : Scene T) (inv : Inv scene) where
   open scene use {coding as code, holder as ho, core as k, party as p}
 
-  pub step_moves : (start : AtomicStart T) (flight : AtomicFlight T) → At code ho k p start flight → scene.steps ≤ number_of code.size flight scene.backs → KnowsFlight k scene.since scene.changes scene.backs flight → StepOf scene start flight
-  step_moves AcquireProducer (calls.TheVariants.Acquire run) at s b =
+  pub step_moves : (start : AtomicStart T) (flight : AtomicFlight T) → At code ho k p start flight → scene.steps ≤ number_of code.size flight scene.backs → KnowsFlight k scene.since scene.changes scene.backs flight → IsFreshCall k.version (flights.TheVariants.Atomic flight) → StepOf scene start flight
+  step_moves AcquireProducer (calls.TheVariants.Acquire run) at s b fresh =
       subst (λ w. StepOf scene AcquireProducer (calls.TheVariants.Acquire (record { call = record { word = w }; given = tt; room = tt }))) (sym at) (acquires scene s b inv)
-  step_moves ReleaseProducer (calls.TheVariants.Release run) at s b =
+  step_moves ReleaseProducer (calls.TheVariants.Release run) at s b fresh =
       subst (λ w. StepOf scene ReleaseProducer (calls.TheVariants.Release (record { call = record { word = w }; given = tt; room = tt }))) (sym at.0) (releases scene s b at.1 inv)
-  step_moves (Store value) (calls.TheVariants.Store run) at s b =
-      subst (λ v. StepOf scene (Store value) (store_at v run.call.stage)) (sym at.1) (store_step scene inv small value at.0 b run.call.stage at.2 s)
-  step_moves Load (calls.TheVariants.Load run) at s b = load_step scene inv small run.room run.call.stage at b s
-  step_moves start flight at s b = absurd at
+  step_moves (Store value) (calls.TheVariants.Store run) at s b fresh =
+      subst (λ v. StepOf scene (Store value) (store_at v run.call.stage)) (sym at.1) (store_step scene inv value at.0 b run.call.stage fresh at.2 s)
+  step_moves Load (calls.TheVariants.Load run) at s b fresh = load_step scene inv inv.value.within run.room run.call.stage at b s
+  step_moves start flight at s b fresh = absurd at
 
 -- ---- what the first stage of a call knows
 
@@ -115,6 +120,32 @@ never_due : {A T : Type 0} → (code z : Coding T) (c : ℕ) (s : Value) (p : �
 never_due code z c s p (Atomic start) (flights.TheVariants.Atomic flight) at e = let none = never_asks z flight in absurd (cc)
 never_due code z c s p start flight at e = absurd at
 
+-- ---- a store that is to load the version finds another than the last
+
+-- what a store was found to find by the word that it asks for
+fresh_there : {T : Type 0} (z : Coding T) (words : List ℕ) (value : T) (stage : StoreStage) → IsFreshStore (old_of words (ask_of (want z (store_at value stage)))) stage → IsFreshStore (get_or words 0 0) stage
+fresh_there z words value storing.TheVariants.LoadsVersion h = h
+fresh_there z words value (storing.TheVariants.StoresCell cell at) h = tt
+fresh_there z words value storing.TheVariants.AddsVersion h = tt
+
+found_fresh : {T : Type 0} (z : Coding T) (words : List ℕ) (flight : AtomicFlight T) → IsFreshCall (old_of words (ask_of (want z flight))) (flights.TheVariants.Atomic flight) → IsFreshCall (get_or words 0 0) (flights.TheVariants.Atomic flight)
+found_fresh z words (calls.TheVariants.Acquire run) h = tt
+found_fresh z words (calls.TheVariants.Release run) h = tt
+found_fresh z words (calls.TheVariants.Store run) h = fresh_there z words run.given run.call.stage h
+found_fresh z words (calls.TheVariants.Load run) h = tt
+
+module _ {T : Type 0} (code : Coding T) (c : ℕ) (t : Trace T) (s : frame.Sound (family code c) t) where
+  pub version_is : get_or t.world.words 0 0 ≡ s.state.core.version
+  version_is = ap (λ ws. get_or ws 0 0) (kept_is t.world.kept t.world.words s.state s.fit).1
+
+  -- the version counts the stores
+  pub version_counts : get_or t.world.words 0 0 ≡ length (stored t.events) + 1
+  version_counts = version_is ∙ s.holds.counted
+
+  -- few turns are few versions
+  few_turns : t.world.turns < 2 ^ 64 - 2 → (p : ℕ) → IsFreshTurn t (Next p)
+  few_turns small p flight here = fresh_any t.world.coding t.world.words flight (any_fresh (get_or t.world.words 0 0) flight (let low = s.holds.reached in let is = version_is in omega arith))
+
 -- ---- the laws of the family
 
 module _ {T : Type 0} (code : Coding T) (c : ℕ) (t : Trace T) (s : frame.Sound (family code c) t) (p : ℕ) where
@@ -142,23 +173,24 @@ module _ {T : Type 0} (code : Coding T) (c : ℕ) (t : Trace T) (s : frame.Sound
   pub inv_of : (x : Party T) (since : ℕ) → Inv (scene_of x since)
   inv_of x since = record { value = s.holds; frame = s.inv }
 
-  module _ (small : t.world.turns < 2 ^ 64 - 2) (x : Party T) (since : ℕ) where
+  module _ (x : Party T) (since : ℕ) where
     -- what its step comes to where the words, what is kept, and the call's name are these
-    comes : (start : Start T) (flight : Flight T) → StandsThere (family code c) t s p x since start flight → ComesFrom (family code c) t s p x since code (layout s.state.holder s.state.core) (kepts.TheVariants.Atomic s.state.holder) start flight
-    comes (Atomic start) (flights.TheVariants.Atomic flight) here =
-        let moves = step_moves (scene_of x since) small (inv_of x since) start flight here.at here.steps here.knows in
+    comes : IsFreshTurn t (Next p) → (start : Start T) (flight : Flight T) → StandsThere (family code c) t s p x since start flight → ComesFrom (family code c) t s p x since code (layout s.state.holder s.state.core) (kepts.TheVariants.Atomic s.state.holder) start flight
+    comes fresh (Atomic start) (flights.TheVariants.Atomic flight) here =
+        let low = subst (λ n. IsFreshCall n (flights.TheVariants.Atomic flight)) (version_is code c t s) (found_fresh t.world.coding t.world.words flight (fresh (flights.TheVariants.Atomic flight) here.found)) in
+        let moves = step_moves (scene_of x since) (inv_of x since) start flight here.at here.steps here.knows low in
         record {
           state = record { holder = _; core = moves.0 };
           fit = (moves.1, refl);
           holds = holds_more (scene_of x since) _ moves.0 (Open (Atomic start) []) _ _ _ moves.2 s.holds;
           owes = owes (scene_of x since) _ moves.0 (Open (Atomic start) []) _ _ _ moves.2 here.span (inv_of x since);
         }
-    comes start flight here = absurd here.at
+    comes fresh start flight here = absurd here.at
 
-    pub step_comes : (flight : Flight T) → party_of p t.world.latest ≡ Some x → x.doing ≡ Going flight since → frame.ComesByStep (family code c) t p x flight since (asked t.world.coding flight) (old_of t.world.words (asked t.world.coding flight))
-    step_comes flight found doing =
+    pub step_comes : IsFreshTurn t (Next p) → (flight : Flight T) → party_of p t.world.latest ≡ Some x → x.doing ≡ Going flight since → frame.ComesByStep (family code c) t p x flight since (asked t.world.coding flight) (old_of t.world.words (asked t.world.coding flight))
+    step_comes fresh flight found doing =
         let is = kept_is t.world.kept t.world.words s.state s.fit in
-        comes_from (family code c) t s p x since (layout s.state.holder s.state.core) (kepts.TheVariants.Atomic s.state.holder) flight is.1 is.0 (comes x.start flight (stands_there (family code c) t s p x since flight found doing))
+        comes_from (family code c) t s p x since (layout s.state.holder s.state.core) (kepts.TheVariants.Atomic s.state.holder) flight is.1 is.0 (comes fresh x.start flight (stands_there (family code c) t s p x since flight found doing))
 
   -- ---- a call begins
 
@@ -179,6 +211,8 @@ module _ {T : Type 0} (code : Coding T) (c : ℕ) (t : Trace T) (s : frame.Sound
         answers = refl;
         up = record { version = omega arith; paid = omega arith };
         reached = omega arith;
+        within = s.holds.within;
+        counted = omega arith;
         own = (refl, tt);
         stands = (frame.shut (family code c) s.state p (party_of p t.world.latest) (span_of p t.events) may.free (s.inv.calls p), tt);
         here = record { span = refl; steps = omega arith; at = first.at };
@@ -206,16 +240,27 @@ module _ {T : Type 0} (code : Coding T) (c : ℕ) (t : Trace T) (s : frame.Sound
       absurd (begins_own t.world.capacity t.world.kept start flight named)
 
 module _ {T : Type 0} where
-  laws : (code : Coding T) (c : ℕ) → frame.Laws (family code c)
-  laws code c =
+  pub fresh_laws : (code : Coding T) (c : ℕ) → LawsAt (family code c) IsFreshTurn
+  fresh_laws code c =
       record {
-        step = λ t p x flight since s small passed found doing. step_comes code c t s p small x since flight found doing;
-        decision = λ t p x flight since said s small passed found doing asks. asks_nothing code c t s p x flight since found doing asks;
-        begin = λ t p start flight s small may e. begin_comes code c t s p start flight may e;
+        step = λ t p x flight since s fresh passed found doing. step_comes code c t s p x since fresh flight found doing;
+        decision = λ t p x flight since said s may passed found doing asks. asks_nothing code c t s p x flight since found doing asks;
+        begin = λ t p start flight s fresh may e. begin_comes code c t s p start flight may e;
         death = frame.no_death (family code c) (λ kept words state fit. rw (kept_is kept words state fit).0 refl);
       }
 
-  opening_sound : (code : Coding T) (c parties : ℕ) → IsCoding code → frame.Sound (family code c) (opening code kinds.TheVariants.Atomic c parties)
+  -- those of a machine that can take a turn more
+  laws : (code : Coding T) (c : ℕ) → frame.Laws (family code c)
+  laws code c =
+      let on = fresh_laws code c in
+      record {
+        step = λ t p x flight since s small passed found doing. on.step t p x flight since s (few_turns code c t s small p) passed found doing;
+        decision = λ t p x flight since said s small passed found doing asks. on.decision t p x flight since said s tt passed found doing asks;
+        begin = λ t p start flight s small may e. on.begin t p start flight s tt may e;
+        death = on.death;
+      }
+
+  pub opening_sound : (code : Coding T) (c parties : ℕ) → IsCoding code → frame.Sound (family code c) (opening code kinds.TheVariants.Atomic c parties)
   opening_sound code c parties coded =
       record {
         coding = refl;
@@ -239,6 +284,8 @@ module _ {T : Type 0} where
               holders = refl;
               grants = Each-nil _;
               reached = omega arith;
+              within = omega arith;
+              counted = refl;
             };
         inv = record { spans = Each-nil _; calls = λ p. refl; knows = λ p. tt };
       }
@@ -250,3 +297,12 @@ module _ {T : Type 0} where
       frame.reached_sound (family w.coding w.capacity) (laws w.coding w.capacity) t (ap is_loan is)
       (subst (λ kind. frame.Sound (family w.coding w.capacity) (opening w.coding kind w.capacity w.parties)) (sym is) first)
       r
+
+-- where turns have no bound, and no store finds the last version
+pub sound_on : {T : Type 0} (t : Trace T) → t.world.kind ≡ kinds.TheVariants.Atomic → IsCoding t.world.coding → IsFreshRun t → frame.Sound (family t.world.coding t.world.capacity) t
+sound_on t is coded r =
+    let w = t.world in
+    let first = opening_sound w.coding w.capacity w.parties coded in
+    subst (frame.Sound (family w.coding w.capacity)) (sym r.is)
+    (run_sound (family w.coding w.capacity) IsFreshTurn (fresh_laws w.coding w.capacity) r.turns (opening w.coding w.kind w.capacity w.parties) r.fresh
+    (subst (λ kind. frame.Sound (family w.coding w.capacity) (opening w.coding kind w.capacity w.parties)) (sym is) first))

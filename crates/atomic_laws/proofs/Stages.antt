@@ -1,5 +1,5 @@
 -- What a step of a call of the single value has to show.
-use Rattle.std.proofs.Common.{◌≡◌, ◌≢◌, ℕ, ◌+◌, ◌-◌, ◌^◌, ◌<◌, ◌≤◌, Bool, false, Option, Some, None, List, [], ◌∷◌, ◌++◌, fold, refl, sym, ap, subst, ◌∙◌, append-nil, arith}
+use Rattle.std.proofs.Common.{◌≡◌, ◌≢◌, ℕ, ◌+◌, ◌≤◌, Bool, false, Option, Some, List, [], ◌∷◌, ◌++◌, fold, refl, sym, ap, ◌∙◌, arith}
 use Rattle.steps.specs.declared.ask.Ask.{Ask}
 use Rattle.steps.specs.declared.ask.After.{After}
 use Rattle.steps.specs.declared.ask.After.TheVariants.{GoOn, Done}
@@ -24,10 +24,9 @@ use Rattle.model.specs.Families.Atomic.Steps.{acted, producer_after}
 use Rattle.model.specs.Reading.{Open}
 use Rattle.model.specs.Step.{as_call, answer_in}
 use Rattle.model.specs.Turns.{one_if, old_of, words_after, change_of, step_count, party_after, ending_of}
-use Rattle.model.proofs.Frame as frame
 use Rattle.atomic_laws.proofs.Core.{Core, Good, layout}
 use Rattle.atomic_laws.proofs.Invariant.{Scene, Inv, Shows, family}
-use Rattle.atomic_laws.proofs.Knows.{At, KnowsFlight, Keeps, kept}
+use Rattle.atomic_laws.proofs.Knows.{At, KnowsFlight}
 
 -- a role has one holder
 pub clash : (o : Option ℕ) (p q : ℕ) → q ≢ p → o ≡ Some p → o ≡ Some q → ⊥
@@ -88,7 +87,8 @@ module _ {T : Type 0} (scene : Scene T) where
         → ((q : ℕ) → q ≢ p → (s : AtomicStart T) (f : AtomicFlight T) → At code ho k q s f → At code ho k' q s f)
         → Leaves ho [] start ask back (GoOn flight)
     quiet back start ask flight k' version now good is_words steps at knows others =
-        let reached = inv.value.reached in (
+        let reached = inv.value.reached in
+        let within = inv.value.within in (
           k',
           is_words,
           record {
@@ -100,6 +100,8 @@ module _ {T : Type 0} (scene : Scene T) where
             answers = refl;
             up = record { version = omega arith; paid = omega arith };
             reached = omega arith;
+            within = omega arith;
+            counted = omega arith;
             own = tt;
             stands = tt;
             here = record { span = refl; steps = steps; at = at };
@@ -127,6 +129,8 @@ module _ {T : Type 0} (scene : Scene T) where
             answers = refl;
             up = record { version = omega arith; paid = omega arith };
             reached = omega arith;
+            within = inv.value.within;
+            counted = omega arith;
             own = (refl, tt);
             stands = ((refl, none), tt);
             here = record { answer = answer; wrote = []; span = refl; steps = most };

@@ -1,10 +1,10 @@
 -- The steps of a store.
-use Rattle.std.proofs.Common.{◌≡◌, ℕ, ◌+◌, ◌-◌, ◌*◌, ◌%◌, ◌^◌, ◌<◌, ◌≤◌, ◌==◌, nat_lt, Bool, true, false, cond, Option, Some, [], ◌∷◌, get_or, refl, sym, ap, subst, ◌∙◌, arith}
+use Rattle.std.proofs.Common.{◌≡◌, ℕ, ◌+◌, ◌-◌, ◌*◌, ◌%◌, ◌^◌, ◌<◌, ◌≤◌, ◌==◌, nat_lt, Bool, true, false, Option, Some, [], ◌∷◌, get_or, refl, sym, ap, subst, arith}
 use Rattle.std.proofs.lemmas.Bool.Decides.{nat_tests}
 use Rattle.steps.specs.declared.ask.Ask.{Ask}
 use Rattle.steps.specs.declared.ask.Op.TheVariants.{Load, Store, Add}
 use Rattle.steps.specs.declared.ask.After.{After}
-use Rattle.steps.specs.declared.ask.After.TheVariants.{GoOn, Done}
+use Rattle.steps.specs.declared.ask.After.TheVariants.{GoOn}
 use Rattle.steps.specs.declared.atomic.StoreStage.{StoreStage}
 use Rattle.steps.specs.declared.atomic.StoreStage as storing
 use Rattle.steps.specs.Atomic.{cell_word}
@@ -18,11 +18,12 @@ use Rattle.model.specs.declared.families.atomic.calls.AtomicFlight.{AtomicFlight
 use Rattle.model.specs.Coding.{IsCoding}
 use Rattle.model.specs.Families.Atomic.Calls.{after}
 use Rattle.model.specs.Turns.{change_of}
+use Rattle.queue_laws.proofs.Queues.Knows.{IsFreshStore}
 use Rattle.atomic_laws.proofs.Core as core
 use Rattle.atomic_laws.proofs.Core.{Core, Good, IsFilled, layout, free, filled, fills, one_filled, cell_within}
 use Rattle.atomic_laws.proofs.Invariant.{Scene, Inv}
 use Rattle.atomic_laws.proofs.Knows.{KnowsStore, store_at, store_number, load_stays, load_passed, kept}
-use Rattle.atomic_laws.proofs.Stages.{clash, Comes, StepOf, quiet, changes_then}
+use Rattle.atomic_laws.proofs.Stages.{clash, Comes, StepOf, quiet}
 
 -- the word of a cell as a call asks for it, which wraps
 pub asked_place : (size n at : ℕ) → size ≤ 128 → at < size → word_at (cell_word size n) at ≡ 2 + (size * (n % 2) + at)
@@ -30,7 +31,7 @@ asked_place size n at few below =
     let low = cell_within size n at below in
     omega arith
 
-module _ {T : Type 0} (scene : Scene T) (inv : Inv scene) (small : scene.turns < 2 ^ 64 - 2) (value : T) (holds : scene.holder ≡ Some scene.party) (b : scene.backs ≡ 0) where
+module _ {T : Type 0} (scene : Scene T) (inv : Inv scene) (value : T) (holds : scene.holder ≡ Some scene.party) (b : scene.backs ≡ 0) where
   open scene use {coding as code, holder as ho, core as k, party as p, steps, backs}
 
   g : Good code.size k
@@ -54,14 +55,13 @@ module _ {T : Type 0} (scene : Scene T) (inv : Inv scene) (small : scene.turns <
   abbrev first_cell : StoreStage
   first_cell = storing.TheVariants.StoresCell (cell_word code.size k.version) 0
 
-  loads : steps ≤ 0 → DoesOf storing.TheVariants.LoadsVersion
-  loads s =
-      let low = inv.value.reached in
+  loads : k.version < 2 ^ 64 - 1 → steps ≤ 0 → DoesOf storing.TheVariants.LoadsVersion
+  loads fresh s =
       let some = coded.some in
       let t : (k.version == 2 ^ 64 - 1) ≡ false = grind (arith, nat_tests) in
       let goes : after code (store_at value storing.TheVariants.LoadsVersion) k.version ≡ GoOn (store_at value first_cell) = rw t refl in
       subst (λ a. Does loads_version a) (sym goes)
-      (quiet scene inv false (starts.TheVariants.Store value) loads_version (store_at value first_cell) k refl refl g refl (omega arith) (holds, refl, (refl, omega arith, λ i h. absurd (omega arith))) (omega arith) (λ q ne st f h. h))
+      (quiet scene inv false (starts.TheVariants.Store value) loads_version (store_at value first_cell) k refl refl g refl (omega arith) (holds, refl, (refl, omega arith, (λ i h. absurd (omega arith)), fresh)) (omega arith) (λ q ne st f h. h))
 
   abbrev cell : ℕ → StoreStage
   cell at = storing.TheVariants.StoresCell (cell_word code.size k.version) at
@@ -85,8 +85,8 @@ module _ {T : Type 0} (scene : Scene T) (inv : Inv scene) (small : scene.turns <
       (omega arith)
       (λ q ne. kept code ho ho k (then_core at) q (record { holder = λ h. h; store = λ h words stage other. absurd (clash ho p q ne holds h); load = λ room stage other. load_stays code.size k (then_core at) room stage refl refl other }))
 
-  stores_cell : (at : ℕ) → at < code.size → IsFilled code.size k (code.words_of value) at → steps ≤ 1 + at → DoesOf (cell at)
-  stores_cell at below so_far s = go (nat_lt (at + 1) code.size) refl
+  stores_cell : (at : ℕ) → at < code.size → IsFilled code.size k (code.words_of value) at → k.version < 2 ^ 64 - 1 → steps ≤ 1 + at → DoesOf (cell at)
+  stores_cell at below so_far fresh s = go (nat_lt (at + 1) code.size) refl
     where
       filled_more : IsFilled code.size (then_core at) (code.words_of value) (at + 1)
       filled_more = one_filled code.size k (code.words_of value) at below g so_far
@@ -95,15 +95,15 @@ module _ {T : Type 0} (scene : Scene T) (inv : Inv scene) (small : scene.turns <
       go true t =
           let next : at + 1 < code.size = grind (arith, nat_tests) in
           let goes : after code (store_at value (cell at)) (get_or (layout ho k) (word_at (cell_word code.size k.version) at) 0) ≡ GoOn (store_at value (cell (at + 1))) = rw t refl in
-          subst (λ a. Does (stores_word at) a) (sym goes) (stored_word at below s (cell (at + 1)) (refl, next, filled_more) (omega arith))
+          subst (λ a. Does (stores_word at) a) (sym goes) (stored_word at below s (cell (at + 1)) (refl, next, filled_more, fresh) (omega arith))
       go false t =
           let last : at + 1 ≡ code.size = grind (arith, nat_tests) in
           let goes : after code (store_at value (cell at)) (get_or (layout ho k) (word_at (cell_word code.size k.version) at) 0) ≡ GoOn (store_at value storing.TheVariants.AddsVersion) = rw t refl in
           subst (λ a. Does (stores_word at) a) (sym goes)
-          (stored_word at below s storing.TheVariants.AddsVersion (subst (λ n. IsFilled code.size (then_core at) (code.words_of value) n) last filled_more) (omega arith))
+          (stored_word at below s storing.TheVariants.AddsVersion (subst (λ n. IsFilled code.size (then_core at) (code.words_of value) n) last filled_more, fresh) (omega arith))
 
-  adds : IsFilled code.size k (code.words_of value) code.size → steps ≤ 1 + code.size → DoesOf storing.TheVariants.AddsVersion
-  adds whole s =
+  adds : IsFilled code.size k (code.words_of value) code.size → k.version < 2 ^ 64 - 1 → steps ≤ 1 + code.size → DoesOf storing.TheVariants.AddsVersion
+  adds whole fresh s =
       let low = inv.value.reached in
       let next : (k.version + 1) % 2 ^ 64 ≡ k.version + 1 = omega arith in
       let moved : ((k.version + 1) % 2 ^ 64 == k.version) ≡ false = grind (arith, nat_tests) in
@@ -121,6 +121,8 @@ module _ {T : Type 0} (scene : Scene T) (inv : Inv scene) (small : scene.turns <
           answers = refl;
           up = record { version = omega arith; paid = omega arith };
           reached = omega arith;
+          within = omega arith;
+          counted = refl;
           own = (refl, (refl, tt));
           stands = ((refl, refl), ((refl, refl), tt));
           here =
@@ -135,8 +137,8 @@ module _ {T : Type 0} (scene : Scene T) (inv : Inv scene) (small : scene.turns <
         },
       )
 
-  pub store_step : (stage : StoreStage) → KnowsStore code.size k (code.words_of value) stage → steps ≤ store_number code.size stage → DoesOf stage
-  store_step storing.TheVariants.LoadsVersion knows s = loads s
-  store_step (storing.TheVariants.StoresCell at_word at) knows s =
-      subst (λ n. DoesOf (storing.TheVariants.StoresCell n at)) (sym knows.0) (stores_cell at knows.1 knows.2 s)
-  store_step storing.TheVariants.AddsVersion knows s = adds knows s
+  pub store_step : (stage : StoreStage) → IsFreshStore k.version stage → KnowsStore code.size k (code.words_of value) stage → steps ≤ store_number code.size stage → DoesOf stage
+  store_step storing.TheVariants.LoadsVersion fresh knows s = loads fresh s
+  store_step (storing.TheVariants.StoresCell at_word at) fresh knows s =
+      subst (λ n. DoesOf (storing.TheVariants.StoresCell n at)) (sym knows.0) (stores_cell at knows.1 knows.2 knows.3 s)
+  store_step storing.TheVariants.AddsVersion fresh knows s = adds knows.0 knows.1 s

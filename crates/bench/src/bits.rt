@@ -2,10 +2,8 @@
 ghost use Rattle.lock_free.specs.Bits.Calls as of_bits;
 ghost use Rattle.lock_free.specs.Counts.Calls as of_counts;
 
-use crate::error::BenchError;
 use crate::hand::bits as by_hand;
-use crate::hand::bits::Calls;
-use crate::timing::{Row, Timed, compare};
+use crate::timing::{Row, Timed, print_timed};
 use lock_free::mpmc::bit_set::{BitSet, Pass};
 use lock_free::mpmc::counting_bit_set;
 use lock_free::mpmc::counting_bit_set::{BitState, CountingBitSet};
@@ -14,16 +12,25 @@ use std::sync::Wait;
 use std::thread::Threads;
 use std::time::CpuClock;
 
-/// A bit set with a pass.
+/// Sets a place, and resets the next one that stands, which it is.
+pub const SET_AND_RESET_NEXT: usize = 0;
+
+/// Looks in vain for a place that stands.
+pub const RESET_NEXT: usize = 1;
+
+/// Sets a place, and resets all.
+pub const SET_AND_RESET_ALL: usize = 2;
+
+/// A bit set with a pass, on which these calls are made.
 #[derive(Drop)]
-struct Bits<'a> {
+struct Bits<'a, const CALLS: usize> {
     set: &'a BitSet,
     pass: Pass,
-    calls: Calls,
+    hand: by_hand::Bits,
     ghost of: { of_bits.IsPassOf set.now pass },
 }
 
-impl<'a> Bits<'a> {
+impl<'a, const CALLS: usize> Bits<'a, CALLS> {
     #[inline(never)]
     fn set<R: Wait>(&mut self, rt: &R, place: usize) -> bool {
         if place >= self.set.capacity() {
@@ -48,54 +55,85 @@ impl<'a> Bits<'a> {
     }
 }
 
-impl<'a> Timed for Bits<'a> {
-    fn call<R: Wait>(&mut self, rt: &R, number: u64) -> u64 {
-        match self.calls {
-            Calls::SetAndResetNext => {
+impl<'a, const CALLS: usize> Timed for Bits<'a, CALLS> {
+    #[inline(never)]
+    fn ours<R: Wait>(&mut self, rt: &R, number: u64) -> u64 {
+        match CALLS {
+            SET_AND_RESET_NEXT => {
                 let set = self.set(rt, (number % 64) as usize);
                 match self.reset_next(rt) {
                     Some(place) if set => place as u64,
                     _ => 0,
                 }
             }
-            Calls::ResetNext => self.reset_next(rt).is_some() as u64,
-            Calls::SetAndResetAll => {
+            RESET_NEXT => self.reset_next(rt).is_some() as u64,
+            _ => {
                 self.set(rt, 5);
                 self.reset_all()
             }
         }
     }
 
-    fn another(&mut self) -> Option<Bits<'a>> {
+    #[inline(never)]
+    fn by_hand<R: Wait>(&mut self, rt: &R, number: u64) -> u64 {
+        match CALLS {
+            SET_AND_RESET_NEXT => {
+                let set = self.hand.set(rt, (number % 64) as u32);
+                match self.hand.reset_next(rt) {
+                    Some(place) if set => place as u64,
+                    _ => 0,
+                }
+            }
+            RESET_NEXT => self.hand.reset_next(rt).is_some() as u64,
+            _ => {
+                self.hand.set(rt, 5);
+                self.hand.reset_all()
+            }
+        }
+    }
+
+    fn another(&mut self) -> Option<Bits<'a, CALLS>> {
         let pass = self.pass.split()?;
+        let hand = self.hand.another()?;
         Some(Bits {
             set: self.set,
             pass,
-            calls: self.calls,
+            hand,
         })
     }
 }
 
-/// Counts with a pass.
+/// Prints a row of the bit set, of which no place stands.
+pub fn bits_row<const CALLS: usize, R: Wait + Threads + CpuClock + Print + Sync>(
+    rt: &R,
+    alloc: Global,
+    row: &Row<'_>,
+) -> Option<()> {
+    let (set, pass) = BitSet::new(alloc, row.capacity as usize).ok()?;
+    let hand = by_hand::Bits::new(alloc, row.capacity).ok()?;
+    let timed = Bits::<'_, CALLS> {
+        set: &set,
+        pass,
+        hand,
+    };
+    print_timed(rt, alloc, row, timed)
+}
+
+/// Counts with a pass. A call counts a place, and takes all counts out.
 #[derive(Drop)]
 struct Counts<'a> {
     set: &'a CountingBitSet,
     pass: counting_bit_set::Pass,
-    takes_all: bool,
+    hand: by_hand::Counts,
     ghost of: { of_counts.IsPassOf set.now pass },
 }
 
-impl<'a> Counts<'a> {
+impl<'a> Timed for Counts<'a> {
     #[inline(never)]
-    fn set(&mut self, place: usize) -> u64 {
-        if place >= self.set.capacity() {
-            return 0;
+    fn ours<R: Wait>(&mut self, _rt: &R, _number: u64) -> u64 {
+        if self.set.capacity() > 5 {
+            self.set.set(5, &mut self.pass);
         }
-        self.set.set(place, &mut self.pass)
-    }
-
-    #[inline(never)]
-    fn reset_all(&mut self) -> u64 {
         let mut sum = 0u64;
         self.set.reset_all(
             |state: BitState| {
@@ -105,43 +143,22 @@ impl<'a> Counts<'a> {
         );
         sum
     }
-}
 
-impl<'a> Timed for Counts<'a> {
-    fn call<R: Wait>(&mut self, _rt: &R, _number: u64) -> u64 {
-        let before = self.set(5);
-        if self.takes_all {
-            self.reset_all()
-        } else {
-            before
-        }
+    #[inline(never)]
+    fn by_hand<R: Wait>(&mut self, _rt: &R, _number: u64) -> u64 {
+        self.hand.set(5);
+        self.hand.reset_all()
     }
 
     fn another(&mut self) -> Option<Counts<'a>> {
         let pass = self.pass.split()?;
+        let hand = self.hand.another()?;
         Some(Counts {
             set: self.set,
             pass,
-            takes_all: self.takes_all,
+            hand,
         })
     }
-}
-
-/// Prints a row of the bit set, of which no place stands.
-pub fn bits_row<R: Wait + Threads + CpuClock + Print + Sync>(
-    rt: &R,
-    alloc: Global,
-    row: &Row<'_>,
-    calls: Calls,
-) -> Result<(), BenchError> {
-    let (set, pass) = BitSet::new(alloc, row.capacity as usize)?;
-    let driven = Bits {
-        set: &set,
-        pass,
-        calls,
-    };
-    let hand = by_hand::Bits::new(alloc, row.capacity, calls);
-    compare(rt, alloc, row, Some(driven), hand)
 }
 
 /// Prints a row of the counts, in which no place counts.
@@ -149,14 +166,13 @@ pub fn counts_row<R: Wait + Threads + CpuClock + Print + Sync>(
     rt: &R,
     alloc: Global,
     row: &Row<'_>,
-    takes_all: bool,
-) -> Result<(), BenchError> {
-    let (set, pass) = CountingBitSet::new(alloc, row.capacity as usize)?;
-    let driven = Counts {
+) -> Option<()> {
+    let (set, pass) = CountingBitSet::new(alloc, row.capacity as usize).ok()?;
+    let hand = by_hand::Counts::new(alloc, row.capacity).ok()?;
+    let timed = Counts {
         set: &set,
         pass,
-        takes_all,
+        hand,
     };
-    let hand = by_hand::Counts::new(alloc, row.capacity, takes_all);
-    compare(rt, alloc, row, Some(driven), hand)
+    print_timed(rt, alloc, row, timed)
 }

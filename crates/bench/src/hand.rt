@@ -8,7 +8,6 @@ use std::sync::Arc;
 
 pub mod bits;
 pub mod container;
-pub mod pairs;
 pub mod queues;
 pub mod robust;
 pub mod unique;

@@ -1,11 +1,9 @@
 //! The rows of the sets of indices.
-ghost use Rattle.std.specs.Prelude.{◌≡◌, Contains, IfSome};
 ghost use Rattle.lock_free.specs.UniqueIndexSet as of_unique;
 ghost use Rattle.lock_free.specs.RobustUniqueIndexSet as of_robust;
 
-use crate::error::BenchError;
 use crate::hand::{robust, unique};
-use crate::timing::{Row, Timed, compare};
+use crate::timing::{Row, Timed, print_timed};
 use lock_free::mpmc::robust_unique_index_set;
 use lock_free::mpmc::robust_unique_index_set::{
     CallbackProgression, OwnerId, RobustUniqueIndexSet,
@@ -17,108 +15,122 @@ use std::sync::Wait;
 use std::thread::Threads;
 use std::time::CpuClock;
 
-/// A unique index set with a pass.
+/// Takes an index, and gives it back where there was one.
+pub const ACQUIRE_AND_RELEASE: usize = 0;
+
+/// Asks how many are out.
+pub const BORROWED_INDICES: usize = 1;
+
+/// Finds what an owner has.
+pub const FIND: usize = 2;
+
+/// Frees what a dead owner has.
+pub const RECOVER: usize = 3;
+
+/// A unique index set with a pass, on which these calls are made.
 #[derive(Drop)]
-struct Unique<'a> {
+struct Unique<'a, const CALLS: usize> {
     set: &'a UniqueIndexSet,
     pass: Pass,
-    calls: unique::Calls,
+    hand: unique::Unique,
     ghost of: { of_unique.IsPassOf set.now pass },
 }
 
-#[inline(never)]
-fn acquire_unique<R: Wait>(rt: &R, set: &UniqueIndexSet, pass: &mut Pass) -> Option<u32>
-    requires { of_unique.IsPassOf set.now pass.old }
-    ensures set { of_unique.set_of pass.new ≡ of_unique.set_of pass.old }
-    ensures held { IfSome result (λ i. Contains (of_unique.view pass.new).held i) }
-{
-    match set.acquire_raw_index(rt, pass) {
-        Ok(index) => Some(index),
-        Err(_) => None,
-    }
-}
-
-#[inline(never)]
-fn release_unique(set: &UniqueIndexSet, index: u32, pass: &mut Pass)
-    requires pass { of_unique.IsPassOf set.now pass.old }
-    requires held { Contains (of_unique.view pass.old).held index }
-    ensures { of_unique.set_of pass.new ≡ of_unique.set_of pass.old }
-{
-    set.release_raw_index(index, pass);
-}
-
-impl<'a> Unique<'a> {
+impl<'a, const CALLS: usize> Timed for Unique<'a, CALLS> {
     #[inline(never)]
-    fn borrowed_indices(&mut self) -> usize {
-        self.set.borrowed_indices(&mut self.pass)
-    }
-}
-
-impl<'a> Timed for Unique<'a> {
-    fn call<R: Wait>(&mut self, rt: &R, _number: u64) -> u64 {
-        match self.calls {
-            unique::Calls::AcquireAndRelease => match acquire_unique(rt, self.set, &mut self.pass) {
-                Some(index) => {
-                    release_unique(self.set, index, &mut self.pass);
-                    index as u64
-                }
-                None => 1 << 32,
-            },
-            unique::Calls::BorrowedIndices => self.borrowed_indices() as u64,
+    fn ours<R: Wait>(&mut self, rt: &R, _number: u64) -> u64 {
+        if CALLS == BORROWED_INDICES {
+            return self.set.borrowed_indices(&mut self.pass) as u64;
+        }
+        match self.set.acquire_raw_index(rt, &mut self.pass) {
+            Ok(index) => {
+                self.set.release_raw_index(index, &mut self.pass);
+                index as u64
+            }
+            Err(_) => 1 << 32,
         }
     }
 
-    fn another(&mut self) -> Option<Unique<'a>> {
+    #[inline(never)]
+    fn by_hand<R: Wait>(&mut self, rt: &R, _number: u64) -> u64 {
+        if CALLS == BORROWED_INDICES {
+            return self.hand.borrowed_indices();
+        }
+        match self.hand.acquire(rt) {
+            Some(index) => {
+                self.hand.release(index);
+                index as u64
+            }
+            None => 1 << 32,
+        }
+    }
+
+    fn another(&mut self) -> Option<Unique<'a, CALLS>> {
         let pass = self.pass.split()?;
+        let hand = self.hand.another()?;
         Some(Unique {
             set: self.set,
             pass,
-            calls: self.calls,
+            hand,
         })
     }
 }
 
-/// A robust set with a pass, and the owner that acquires.
+/// Prints a row of the unique index set, of which no index is out.
+pub fn unique_row<const CALLS: usize, R: Wait + Threads + CpuClock + Print + Sync>(
+    rt: &R,
+    alloc: Global,
+    row: &Row<'_>,
+) -> Option<()> {
+    let (set, pass) = UniqueIndexSet::new(alloc, row.capacity as usize).ok()?;
+    let hand = unique::Unique::new(alloc, row.capacity).ok()?;
+    let timed = Unique::<'_, CALLS> {
+        set: &set,
+        pass,
+        hand,
+    };
+    print_timed(rt, alloc, row, timed)
+}
+
+/// A robust set with a pass, on which these calls are made, the owner that acquires, and the dead one.
 #[derive(Drop)]
-struct Robust<'a> {
+struct Robust<'a, const CALLS: usize> {
     set: &'a RobustUniqueIndexSet,
     pass: robust_unique_index_set::Pass,
     owner: OwnerId,
     dead: OwnerId,
-    calls: robust::Calls,
+    hand: robust::Owners,
     ghost of: { of_robust.IsPassOf set.now pass },
 }
 
-impl<'a> Robust<'a> {
-    /// Makes the first so many calls.
-    fn fill<R: Wait>(&mut self, rt: &R, calls: u64) {
-        for number in 0..calls {
-            self.call(rt, number);
-        }
-    }
-
+impl<'a, const CALLS: usize> Robust<'a, CALLS> {
     #[inline(never)]
-    fn acquire<R: Wait>(&mut self, rt: &R) -> Option<usize> {
+    fn acquires<R: Wait>(&mut self, rt: &R) -> Option<usize> {
         self.set.acquire(rt, self.owner, &mut self.pass).ok()
     }
 
-    #[inline(never)]
-    fn release<R: Wait>(&mut self, rt: &R, index: usize) -> bool {
-        if index >= self.set.capacity() {
-            return false;
+    /// Takes so many indices.
+    fn fill<R: Wait>(&mut self, rt: &R, number: u32) {
+        for _ in 0..number {
+            self.acquires(rt);
         }
-        self.set
-            .release(rt, index, self.owner, ReleaseMode::Default, &mut self.pass)
-            .is_ok()
+    }
+
+    /// Takes an index, and gives it back.
+    fn takes<R: Wait>(&mut self, rt: &R) -> u64 {
+        match self.acquires(rt) {
+            Some(index) if index < self.set.capacity() => {
+                let mode = ReleaseMode::Default;
+                self.set
+                    .release(rt, index, self.owner, mode, &mut self.pass)
+                    .is_ok() as u64
+            }
+            _ => 2,
+        }
     }
 
     #[inline(never)]
-    fn borrowed_indices<R: Wait>(&mut self, rt: &R) -> usize {
-        self.set.borrowed_indices(rt, &mut self.pass)
-    }
-
-    #[inline(never)]
-    fn find(&mut self) -> u64 {
+    fn finds(&mut self) -> u64 {
         let mut sum = 0u64;
         self.set.find(
             self.owner,
@@ -132,7 +144,7 @@ impl<'a> Robust<'a> {
     }
 
     #[inline(never)]
-    fn recover<R: Wait>(&mut self, rt: &R) -> bool {
+    fn recovers<R: Wait>(&mut self, rt: &R) -> u64 {
         let dead = self.dead;
         let state = self.set.recover(
             rt,
@@ -142,80 +154,70 @@ impl<'a> Robust<'a> {
             &mut self.pass,
         );
         match state {
-            ReleaseState::Unlocked => true,
-            ReleaseState::Locked => false,
+            ReleaseState::Unlocked => 1,
+            ReleaseState::Locked => 0,
         }
     }
 }
 
-impl<'a> Timed for Robust<'a> {
-    fn call<R: Wait>(&mut self, rt: &R, _number: u64) -> u64 {
-        match self.calls {
-            robust::Calls::AcquireAndRelease => match self.acquire(rt) {
-                Some(index) => self.release(rt, index) as u64,
-                None => 2,
-            },
-            robust::Calls::Acquire => match self.acquire(rt) {
-                Some(index) => index as u64,
-                None => 1 << 32,
-            },
-            robust::Calls::BorrowedIndices => self.borrowed_indices(rt) as u64,
-            robust::Calls::Find => self.find(),
-            robust::Calls::Recover => self.recover(rt) as u64,
+impl<'a, const CALLS: usize> Timed for Robust<'a, CALLS> {
+    #[inline(never)]
+    fn ours<R: Wait>(&mut self, rt: &R, _number: u64) -> u64 {
+        match CALLS {
+            ACQUIRE_AND_RELEASE => self.takes(rt),
+            BORROWED_INDICES => self.set.borrowed_indices(rt, &mut self.pass) as u64,
+            FIND => self.finds(),
+            _ => self.recovers(rt),
         }
     }
 
-    fn another(&mut self) -> Option<Robust<'a>> {
+    #[inline(never)]
+    fn by_hand<R: Wait>(&mut self, rt: &R, _number: u64) -> u64 {
+        match CALLS {
+            ACQUIRE_AND_RELEASE => match self.hand.acquire(rt, 7) {
+                Some(index) => self.hand.release(rt, index, 7) as u64,
+                None => 2,
+            },
+            BORROWED_INDICES => self.hand.filled(rt),
+            FIND => self.hand.find(7),
+            _ => self.hand.recover(rt, 9) as u64,
+        }
+    }
+
+    fn another(&mut self) -> Option<Robust<'a, CALLS>> {
         let pass = self.pass.split()?;
+        let hand = self.hand.another()?;
         Some(Robust {
             set: self.set,
             pass,
             owner: self.owner,
             dead: self.dead,
-            calls: self.calls,
+            hand,
         })
     }
 }
 
-/// Prints a row of the unique index set, of which no index is out.
-pub fn unique_row<R: Wait + Threads + CpuClock + Print + Sync>(
-    rt: &R,
-    alloc: Global,
-    row: &Row<'_>,
-    calls: unique::Calls,
-) -> Result<(), BenchError> {
-    let (set, pass) = UniqueIndexSet::new(alloc, row.capacity as usize)?;
-    let driven = Unique {
-        set: &set,
-        pass,
-        calls,
-    };
-    let hand = unique::Unique::new(alloc, row.capacity, calls);
-    compare(rt, alloc, row, Some(driven), hand)
-}
-
 /// Prints a row of the robust set, of which no index is out, or each where an index is sought in vain.
-pub fn robust_row<R: Wait + Threads + CpuClock + Print + Sync>(
+pub fn robust_row<const CALLS: usize, R: Wait + Threads + CpuClock + Print + Sync>(
     rt: &R,
     alloc: Global,
     row: &Row<'_>,
-    calls: robust::Calls,
-) -> Result<(), BenchError> {
-    let owner = OwnerId::new(7).map_err(|_| BenchError::Taken)?;
-    let dead = OwnerId::new(9).map_err(|_| BenchError::Taken)?;
-    let (set, pass) = RobustUniqueIndexSet::new(alloc, row.capacity as usize)?;
-    let mut driven = Robust {
+    is_full: bool,
+) -> Option<()> {
+    let (set, pass) = RobustUniqueIndexSet::new(alloc, row.capacity as usize).ok()?;
+    let in_each = if is_full { 7 } else { robust::EMPTY };
+    let owner = OwnerId::new(7).ok()?;
+    let dead = OwnerId::new(9).ok()?;
+    let hand = robust::Owners::new(alloc, row.capacity, in_each).ok()?;
+    let mut timed = Robust::<'_, CALLS> {
         set: &set,
         pass,
         owner,
         dead,
-        calls,
+        hand,
     };
-    let mut in_each = robust::EMPTY;
-    if let robust::Calls::Acquire = calls {
-        in_each = 7;
-        driven.fill(rt, row.capacity as u64);
+    if is_full {
+        timed.fill(rt, row.capacity);
     }
-    let hand = robust::Robust::new(alloc, row.capacity, in_each, calls);
-    compare(rt, alloc, row, Some(driven), hand)
+    print_timed(rt, alloc, row, timed)
 }

@@ -3,10 +3,8 @@
 //! which several threads make the calls at once. `bin/bench` builds it and runs it.
 #![tactic(auto)]
 
-mod alone;
 mod bits;
 mod container;
-mod error;
 mod hand;
 mod indices;
 mod queues;
@@ -14,7 +12,9 @@ mod table;
 mod timing;
 mod value;
 
-use error::BenchError;
+use bits::{RESET_NEXT, SET_AND_RESET_ALL, SET_AND_RESET_NEXT};
+use container::{ADD_AND_REMOVE, LEN};
+use indices::{ACQUIRE_AND_RELEASE, BORROWED_INDICES, FIND, RECOVER};
 use std::alloc::Global;
 use std::sync::Wait;
 use std::thread::Threads;
@@ -22,7 +22,6 @@ use std::time::CpuClock;
 use std::{env, io};
 use table::{ALONE, Call, TOGETHER};
 use timing::Row;
-use value::Sixteen;
 
 /// Times the call of a row, and prints it.
 fn print_row<R: Wait + Threads + CpuClock + Print + Sync>(
@@ -30,21 +29,26 @@ fn print_row<R: Wait + Threads + CpuClock + Print + Sync>(
     alloc: Global,
     row: &Row<'_>,
     call: Call,
-) -> Result<(), BenchError> {
+) -> Option<()> {
     match call {
-        Call::Step(step) => alone::step_row(rt, alloc, row, step),
         Call::Numbers => queues::numbers_row(rt, alloc, row),
         Call::Length => queues::length_row(rt, alloc, row),
-        Call::Pairs => queues::pairs_row(rt, alloc, row),
         Call::Overflowing => queues::overflowing_row(rt, alloc, row),
-        Call::Word(calls) => value::value_row::<u64, 1, R>(rt, alloc, row, calls),
-        Call::Pair(calls) => value::value_row::<(u64, u64), 2, R>(rt, alloc, row, calls),
-        Call::SixteenWords(calls) => value::value_row::<Sixteen, 16, R>(rt, alloc, row, calls),
-        Call::Bits(calls) => bits::bits_row(rt, alloc, row, calls),
-        Call::Counts { takes_all } => bits::counts_row(rt, alloc, row, takes_all),
-        Call::Unique(calls) => indices::unique_row(rt, alloc, row, calls),
-        Call::Robust(calls) => indices::robust_row(rt, alloc, row, calls),
-        Call::Container { is_counted } => container::values_row(rt, alloc, row, is_counted),
+        Call::Store => value::value_row(rt, alloc, row, true),
+        Call::Load => value::value_row(rt, alloc, row, false),
+        Call::SetAndResetNext => bits::bits_row::<SET_AND_RESET_NEXT, R>(rt, alloc, row),
+        Call::ResetNext => bits::bits_row::<RESET_NEXT, R>(rt, alloc, row),
+        Call::SetAndResetAll => bits::bits_row::<SET_AND_RESET_ALL, R>(rt, alloc, row),
+        Call::Counts => bits::counts_row(rt, alloc, row),
+        Call::Unique => indices::unique_row::<ACQUIRE_AND_RELEASE, R>(rt, alloc, row),
+        Call::UniqueBorrowed => indices::unique_row::<BORROWED_INDICES, R>(rt, alloc, row),
+        Call::Robust => indices::robust_row::<ACQUIRE_AND_RELEASE, R>(rt, alloc, row, false),
+        Call::NoneLeft => indices::robust_row::<ACQUIRE_AND_RELEASE, R>(rt, alloc, row, true),
+        Call::RobustBorrowed => indices::robust_row::<BORROWED_INDICES, R>(rt, alloc, row, false),
+        Call::Find => indices::robust_row::<FIND, R>(rt, alloc, row, false),
+        Call::Recover => indices::robust_row::<RECOVER, R>(rt, alloc, row, false),
+        Call::Container => container::values_row::<ADD_AND_REMOVE, R>(rt, alloc, row),
+        Call::ContainerLength => container::values_row::<LEN, R>(rt, alloc, row),
     }
 }
 
@@ -55,7 +59,7 @@ fn print_rows<R: Wait + Threads + CpuClock + Print + Sync>(
     beginning: &str,
     rows: &[(&str, Call, u32, u64)],
     threads: &[usize],
-) -> Result<(), BenchError> {
+) -> io::Result<()> {
     for (name, call, capacity, steps) in rows.iter() {
         if beginning != "all" && !name.starts_with(beginning) {
             continue;
@@ -67,26 +71,12 @@ fn print_rows<R: Wait + Threads + CpuClock + Print + Sync>(
                 steps: *steps,
                 threads: *threads,
             };
-            print_row(rt, alloc, &row, *call)?;
+            if print_row(rt, alloc, &row, *call).is_none() {
+                println!(rt; "{name}: no memory, no further pass or no clock")?;
+            }
         }
     }
     Ok(())
-}
-
-/// Prints the table: the rows of one thread, or those of several.
-fn print_table<R: Wait + Threads + CpuClock + Print + Sync>(
-    rt: &R,
-    alloc: Global,
-    beginning: &str,
-    together: bool,
-) -> Result<(), BenchError> {
-    println!(rt; "| call | capacity | steps | driven, ns | by hand, ns | ratio |")?;
-    println!(rt; "|---|---|---|---|---|---|")?;
-    if together {
-        print_rows(rt, alloc, beginning, &TOGETHER, &[2, 4])
-    } else {
-        print_rows(rt, alloc, beginning, &ALONE, &[1])
-    }
 }
 
 fn main(rt: HostRuntime) -> io::Result<()> {
@@ -95,9 +85,11 @@ fn main(rt: HostRuntime) -> io::Result<()> {
     let Some(wanted) = args.next() else {
         return println!(rt; "bench: what does the name of a row begin with? `all` is every row");
     };
-    let together = args.next().is_some();
-    match print_table(&rt, rt.alloc(), wanted.as_str(), together) {
-        Ok(()) => Ok(()),
-        Err(error) => println!(rt; "{error}"),
+    println!(rt; "| call | capacity | steps | driven, ns | by hand, ns | ratio |")?;
+    println!(rt; "|---|---|---|---|---|---|")?;
+    if args.next().is_some() {
+        print_rows(&rt, rt.alloc(), wanted.as_str(), &TOGETHER, &[2, 4])
+    } else {
+        print_rows(&rt, rt.alloc(), wanted.as_str(), &ALONE, &[1])
     }
 }

@@ -1,9 +1,8 @@
-//! The rows of the single value.
+//! The rows of the single value, of 16 words.
 ghost use Rattle.lock_free.specs.UnrestrictedAtomic.{IsPassOf};
 
-use crate::error::BenchError;
 use crate::hand::value as by_hand;
-use crate::timing::{Row, Timed, compare};
+use crate::timing::{Row, Timed, print_timed};
 use lock_free::spmc::unrestricted_atomic::{Pass, Producer, UnrestrictedAtomic};
 use lock_free::words::Words;
 use std::alloc::Global;
@@ -11,16 +10,9 @@ use std::sync::Wait;
 use std::thread::Threads;
 use std::time::CpuClock;
 
-/// The calls on a value that are timed.
-#[derive(Clone, Copy)]
-pub enum Calls {
-    Store,
-    Load,
-}
-
 /// A value of 16 words: these four, four times.
 #[derive(Clone, Copy)]
-pub struct Sixteen(u64, u64, u64, u64);
+struct Sixteen(u64, u64, u64, u64);
 
 impl Words for Sixteen {
     ghost use Rattle.std.specs.Prelude.{ℕ, refl, [], ◌∷◌, slice_index};
@@ -64,114 +56,73 @@ impl Words for Sixteen {
     }
 }
 
-/// A value made of a number, of which the number is told again.
-pub trait Numbered: Words {
-    fn of(number: u64) -> Self;
-
-    fn number(&self) -> u64;
-}
-
-impl Numbered for u64 {
-    #[inline(always)]
-    fn of(number: u64) -> u64 {
-        number
-    }
-
-    #[inline(always)]
-    fn number(&self) -> u64 {
-        *self
-    }
-}
-
-impl Numbered for (u64, u64) {
-    #[inline(always)]
-    fn of(number: u64) -> (u64, u64) {
-        (number, number)
-    }
-
-    #[inline(always)]
-    fn number(&self) -> u64 {
-        self.0
-    }
-}
-
-impl Numbered for Sixteen {
-    #[inline(always)]
-    fn of(number: u64) -> Sixteen {
-        Sixteen(number, number, number, number)
-    }
-
-    #[inline(always)]
-    fn number(&self) -> u64 {
-        self.0
-    }
-}
-
 /// Stores a value.
 #[derive(Drop)]
-struct Stores<'a, T: Words> {
-    producer: Producer<'a, T>,
+struct Stores<'a> {
+    producer: Producer<'a, Sixteen>,
+    hand: by_hand::Value<16>,
 }
 
-impl<'a, T: Numbered> Timed for Stores<'a, T> {
+impl<'a> Timed for Stores<'a> {
     #[inline(never)]
-    fn call<R: Wait>(&mut self, _rt: &R, number: u64) -> u64 {
-        self.producer.store(T::of(number)) as u64
+    fn ours<R: Wait>(&mut self, _rt: &R, number: u64) -> u64 {
+        self.producer.store(Sixteen(number, number, number, number)) as u64
+    }
+
+    #[inline(never)]
+    fn by_hand<R: Wait>(&mut self, _rt: &R, number: u64) -> u64 {
+        self.hand.store(&[number; 16]) as u64
     }
 }
 
 /// Loads the value.
 #[derive(Drop)]
-struct Loads<'a, T: Words> {
-    value: &'a UnrestrictedAtomic<T>,
-    pass: Pass<T>,
+struct Loads<'a> {
+    value: &'a UnrestrictedAtomic<Sixteen>,
+    pass: Pass<Sixteen>,
+    hand: by_hand::Value<16>,
     ghost of: { IsPassOf value.now pass },
 }
 
-impl<'a, T: Numbered> Loads<'a, T> {
+impl<'a> Timed for Loads<'a> {
     #[inline(never)]
-    fn load<R: Wait>(&mut self, rt: &R) -> T {
-        self.value.load(rt, &mut self.pass)
-    }
-}
-
-impl<'a, T: Numbered> Timed for Loads<'a, T> {
-    fn call<R: Wait>(&mut self, rt: &R, _number: u64) -> u64 {
-        self.load(rt).number()
+    fn ours<R: Wait>(&mut self, rt: &R, _number: u64) -> u64 {
+        self.value.load(rt, &mut self.pass).0
     }
 
-    fn another(&mut self) -> Option<Loads<'a, T>> {
+    #[inline(never)]
+    fn by_hand<R: Wait>(&mut self, rt: &R, _number: u64) -> u64 {
+        self.hand.load(rt)[0]
+    }
+
+    fn another(&mut self) -> Option<Loads<'a>> {
         let pass = self.pass.split()?;
+        let hand = self.hand.another()?;
         Some(Loads {
             value: self.value,
             pass,
+            hand,
         })
     }
 }
 
-/// Prints the row of a call on a value of so many words.
-pub fn value_row<
-    T: Numbered + Drop + Send + Sync,
-    const N: usize,
-    R: Wait + Threads + CpuClock + Print + Sync,
->(rt: &R, alloc: Global, row: &Row<'_>, calls: Calls) -> Result<(), BenchError> {
-    let (value, pass) = UnrestrictedAtomic::new(alloc, T::of(0))?;
-    match calls {
-        Calls::Store => {
-            let hand = by_hand::Value::<N>::new(alloc, true);
-            let driven = value.acquire_producer(pass).ok();
-            compare(
-                rt,
-                alloc,
-                row,
-                driven.map(|producer| Stores { producer }),
-                hand,
-            )
-        }
-        Calls::Load => {
-            let hand = by_hand::Value::<N>::new(alloc, false);
-            let value = &value;
-            compare(rt, alloc, row, Some(Loads { value, pass }), hand)
-        }
+/// Prints the row of a store or a load of the value.
+pub fn value_row<R: Wait + Threads + CpuClock + Print + Sync>(
+    rt: &R,
+    alloc: Global,
+    row: &Row<'_>,
+    stores: bool,
+) -> Option<()> {
+    let hand = by_hand::Value::<16>::new(alloc).ok()?;
+    let (value, pass) = UnrestrictedAtomic::new(alloc, Sixteen(0, 0, 0, 0)).ok()?;
+    if stores {
+        let producer = value.acquire_producer(pass).ok()?;
+        return print_timed(rt, alloc, row, Stores { producer, hand });
     }
+    let timed = Loads {
+        value: &value,
+        pass,
+        hand,
+    };
+    print_timed(rt, alloc, row, timed)
 }

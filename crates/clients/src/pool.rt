@@ -1,8 +1,9 @@
 //! Two threads take buffers of one pool at the same time, each as many as it asks for, and fill them. Proved: of all
 //! buffers that both hold then no two are the same one, and once they are given back none is out.
 
-ghost use Rattle.std.specs.Prelude.{◌≡◌, ◌≢◌, [], AllPairs, IfSome};
-ghost use Rattle.lock_free.specs.UniqueIndexSet.{view, set_of, IsPassOf};
+ghost use Rattle.std.specs.Prelude.{◌≡◌, ◌≢◌, AllPairs, IfSome};
+ghost use Rattle.lock_free.specs.UniqueIndexSet.{view, made, share, set_of, IsPassOf};
+ghost use Rattle.lock_free.specs.Unique.Held.{HeldBy, HoldsNothing, IsSound};
 
 use lock_free::mpmc::unique_index_set::{Pass, UniqueIndexSet};
 use std::alloc::Global;
@@ -44,10 +45,10 @@ fn take(
     byte: u8,
 ) -> Option<(Pass, Vec<u32>)>
     requires pass { IsPassOf set.now pass }
-    requires none { (view pass).held ≡ [] }
+    requires none { HoldsNothing (made pass) }
     ensures set { IfSome result (λ t. set_of t.0 ≡ set_of pass) }
-    ensures share { IfSome result (λ t. (view t.0).share ≡ (view pass).share) }
-    ensures held { IfSome result (λ t. (view t.0).held ≡ t.1.items) }
+    ensures share { IfSome result (λ t. share t.0 ≡ share pass) }
+    ensures held { IfSome result (λ t. HeldBy t.1.items (made t.0)) }
 {
     let mut indices = Vec::new(alloc);
     for _ in 0..number {
@@ -61,10 +62,11 @@ fn take(
 /// Gives these buffers back, which are all that the pass holds.
 fn give_back(set: &UniqueIndexSet, pass: &mut Pass, indices: &[u32])
     requires pass { IsPassOf set.now pass.old }
-    requires held { (view pass.old).held ≡ indices.now }
+    requires sound { IsSound (view pass.old) }
+    requires held { HeldBy indices.now (made pass.old) }
     ensures set { set_of pass.new ≡ set_of pass.old }
-    ensures share { (view pass.new).share ≡ (view pass.old).share }
-    ensures held { (view pass.new).held ≡ [] }
+    ensures share { share pass.new ≡ share pass.old }
+    ensures held { HoldsNothing (made pass.new) }
 {
     for at in 0..indices.len() {
         set.release_raw_index(indices[at], pass);

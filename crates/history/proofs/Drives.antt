@@ -28,7 +28,7 @@ use Rattle.lock_free_sp.specs.Driver.{answered, Owes, Next as NextKnown, Told, K
 use Rattle.lock_free_sp.specs.Shares.{IsAll}
 use Rattle.history.specs.declared.view.View.{View}
 use Rattle.history.specs.Known.{events_by, owned}
-use Rattle.history.specs.History.{IsRun, IsMachine, IsHistory, Fits, Called, call_in}
+use Rattle.history.specs.History.{IsRun, IsMachine, Fits, call_in}
 use Rattle.history.specs.Stages.{Calling, Since, opened, Starts, IsFirst, IsUnderWay, At, Ends, LeftOut, Over}
 use Rattle.history.specs.Views.{Looks}
 use Rattle.queue_laws.proofs.Queues.Knows.{IsFreshCall}
@@ -37,6 +37,8 @@ use Rattle.history.proofs.Calls.{call_then, get_left}
 use Rattle.history.proofs.Turns.{KindLaws, Between, want_for, at_ask, at_first, begun, begun_at, gone, goes_to, told as turn_told, made_between}
 use Rattle.history.proofs.Steps.{view_after, settle}
 use Rattle.history.proofs.Passes.{set_same, looks_at}
+pub use Rattle.history.proofs.Called.{called, at_itself}
+pub use Rattle.history.proofs.Sized.{AtSized, EndsSized, keeps_sized}
 
 by_bool : {A : Type 0} → (b : Bool) → (b ≡ true → A) → (b ≡ false → A) → A
 by_bool true t f = t refl
@@ -482,88 +484,3 @@ module _ {T C M E : Type 0} (code : Coding T) (kind : Kind) (effects : ℕ → F
         go (wants.Ask a) h = (h.0, λ s r long at small. (let x = h.1 s r long at small in (x.0, x.1, x.2, x.3, (told_all c m v _ x.0 x.4.0, x.4.1))))
         go (wants.Question q) h = told_all c m v 0 v h
         go wants.Nothing h = told_all c m v 0 v h
-
--- ---- calls whose answer names the capacity
-
-module _ {T C M E : Type 0} (code : Coding T) (kind : Kind) (size_of : ℕ → ℕ) (want : C → Want (Unit {0})) (after : C → ℕ → After C E) (kept : C → M → ℕ → M) (call : ℕ → Calling T C M E) where
-  abbrev pub AtSized : View T → View T → C → M → Type 0
-  AtSized base v c m = At code kind (call base.capacity) base v c m
-
-  abbrev pub EndsSized : View T → E → M → View T → Type 0
-  EndsSized base e m w = Ends code kind (call base.capacity) base e m w
-
-  one_size : (n : ℕ) (base v : View T) (c : C) (m : M) → At code kind (call n) base v c m → v.capacity ≡ base.capacity
-  one_size n base v c m (inl first) = ap (λ (z : View T). z.capacity) first.is
-  one_size n base v c m (inr under) = under.capacity
-
-  sized_next : (n : ℕ) (base w : View T) (r : After C E) (m : M) → base.capacity ≡ n → NextKnown (λ (z : View T). z.capacity) (At code kind (call n)) (Ends code kind (call n)) base r m w → NextKnown (λ (z : View T). z.capacity) AtSized EndsSized base r m w
-  sized_next n base w (GoOn d) m same h = subst (λ k. At code kind (call k) base w d m) (sym same) h
-  sized_next n base w (Done e) m same h = subst (λ k. Ends code kind (call k) base e m w) (sym same) h
-
-  told_sized : (base : View T) (c : C) (m : M) (x : View T) (n : ℕ) (w : View T) → x.capacity ≡ base.capacity → Told (λ (z : View T). z.capacity) (At code kind (call base.capacity)) (Ends code kind (call base.capacity)) after kept c m x n w → Told (λ (z : View T). z.capacity) AtSized EndsSized after kept c m x n w
-  told_sized base c m x n w same h = (
-    h.0,
-    λ other stage. (
-        let size : other.capacity ≡ base.capacity = sym (one_size other.capacity other x c m stage) ∙ same in
-        sized_next base.capacity other w (after c n) (kept c m n) size (h.1 other (subst (λ k. At code kind (call k) other x c m) size stage))),
-  )
-
-  pub keeps_sized : ((n : ℕ) → KeepsRule (λ (z : View T). z.capacity) (At code kind (call n)) (Ends code kind (call n)) (λ key. size_of key + 1) (λ key. key) (λ key. IsMachine code kind key) want after kept) → KeepsRule (λ (z : View T). z.capacity) AtSized EndsSized (λ key. size_of key + 1) (λ key. key) (λ key. IsMachine code kind key) want after kept
-  keeps_sized keeps_for base v c m key words slots id wide known at₀ = go (want c) (keeps_for base.capacity base v c m key words slots id wide known at₀)
-    where
-      same : v.capacity ≡ base.capacity
-      same = one_size base.capacity base v c m at₀
-
-      go : (w : Want (Unit {0})) → Owes (IsMachine code kind key) words slots id (Told (λ (z : View T). z.capacity) (At code kind (call base.capacity)) (Ends code kind (call base.capacity)) after kept c m) w (v, []) → Owes (IsMachine code kind key) words slots id (Told (λ (z : View T). z.capacity) AtSized EndsSized after kept c m) w (v, [])
-      go (wants.Ask a) h = (h.0, λ s r long at small. (let x = h.1 s r long at small in (x.0, x.1, x.2, x.3, (told_sized base c m v _ x.0 same x.4.0, x.4.1))))
-      go (wants.Question q) h = told_sized base c m v 0 v same h
-      go wants.Nothing h = told_sized base c m v 0 v same h
-
--- ---- what a caller knows of a whole call
-
-module _ {T C M E : Type 0} (code : Coding T) (kind : Kind) (call : Calling T C M E) where
-  -- where no call was under way before it, it began
-  pub called : (base w : View T) (e : E) (m : M) → base.going ≡ None → (ends : Ends code kind call base e m w) → Called ends.party call.start (call.answer e m) ends.wrote base w
-  called base w e m idle ends =
-      let since = ends.since in
-      let opens : opened ends.party call.start base.going ≡ Begun ends.party call.start ∷ [] = ap (opened ends.party call.start) idle in
-      let last : List (Event T) = Finished ends.party call.start (call.answer e m) ∷ [] in
-      record {
-        others = since.others;
-        during = since.during;
-        is = since.is ∙ ap (λ os. (base.seen ++ since.others) ++ (os ++ (since.during ++ last))) opens;
-        alone = since.alone;
-        others_own = since.others_own;
-        during_own = since.during_own;
-        made = since.made ∙ ap (λ os. base.made ++ (os ++ (ends.wrote ++ last))) opens;
-      }
-
-  -- a call may be told of from where it stands as well
-  pub at_itself : (base v : View T) (c : C) (m : M) → ((p : ℕ) → call.by (Some p) p) → ((n p : ℕ) → call.wrote n p (Some (call.start, call.flight c m)) c m []) → At code kind call base v c m → At code kind call v v c m
-  at_itself base v c m own none (inl first) = subst (λ z. At code kind call z z c m) (sym first.is) (inl (record { is = refl; idle = first.idle; fresh = first.fresh; standing = first.standing; some = first.some; first = first.first; starts = first.starts; wrote = first.wrote }))
-  at_itself base v c m own none (inr under) =
-      let opens : opened under.party call.start v.going ≡ [] = ap (opened under.party call.start) under.going in
-      inr (record {
-        capacity = refl;
-        standing = subst (λ n. call.stands n c) (sym under.capacity) under.standing;
-        share = refl;
-        some = under.some;
-        party = under.party;
-        mine = under.mine;
-        same = subst (λ (o : Option ℕ). call.by o under.party) (sym under.mine) (own under.party);
-        going = under.going;
-        past = under.past;
-        alone = under.alone;
-        wrote = [];
-        tells = subst (λ (o : Option (Start T × Flight T)). call.wrote v.capacity under.party o c m []) (sym under.going) (none v.capacity under.party);
-        history = subst (λ n. IsHistory code kind n v.seen) (sym under.capacity) under.history;
-        since = record {
-          others = [];
-          during = [];
-          is = sym (append-nil v.seen) ∙ (sym (append-nil (v.seen ++ [])) ∙ ap (λ os. (v.seen ++ []) ++ (os ++ [])) (sym opens));
-          alone = λ all. refl;
-          others_own = refl;
-          during_own = refl;
-          made = sym (append-nil v.made) ∙ ap (λ os. v.made ++ (os ++ [])) (sym opens);
-        };
-      })

@@ -1,5 +1,8 @@
--- In an index queue only the holder of a role publishes, or takes out.
-use Rattle.std.proofs.Common.{◌≡◌, ◌≢◌, ℕ, Bool, true, false, Option, Some, None, is_none, List, [], ◌∷◌, ◌++◌, ◌==◌, fold, refl, sym, ap, subst, ◌∙◌, append-nil, append_assoc, arith}
+-- In a bounded queue only the holder of a role publishes, or takes out; there is room for what is published, and what is
+-- taken out waited first.
+use Rattle.std.proofs.Common.{◌≡◌, ◌<◌, ◌≤◌, ℕ, Bool, true, false, Option, Some, None, is_none, List, [], ◌∷◌, ◌++◌, ◌==◌, length, map, fold, refl, sym, ap, subst, ◌∙◌, append-nil, append_assoc, length-append, arith}
+use Rattle.std.proofs.lemmas.List.{length-map}
+use Rattle.std.proofs.lemmas.Grind.{flat_map-append}
 use Rattle.std.proofs.lemmas.Bool.Decides.{nat_tests}
 use Rattle.std.proofs.lemmas.List.Sums.{fold-append}
 use Rattle.std.specs.List.{flat_map}
@@ -9,17 +12,18 @@ use Rattle.steps.specs.declared.queues.ring.PushStage as pushes
 use Rattle.steps.specs.declared.queues.ring.PopStage as pops
 use Rattle.model.specs.declared.event.Answer.{Answer}
 use Rattle.model.specs.declared.event.Event.{Event}
-use Rattle.model.specs.declared.event.Event.TheVariants.{Begun, Died, Published, HandedOut, Acted, Finished}
+use Rattle.model.specs.declared.event.Event.TheVariants.{Published, HandedOut, Finished}
 use Rattle.model.specs.declared.event.Item.{Item}
+use Rattle.model.specs.declared.event.Item.TheVariants.{Index}
 use Rattle.model.specs.declared.event.Start.{Start}
 use Rattle.model.specs.declared.event.Start.TheVariants.{Queues}
 use Rattle.model.specs.declared.families.Flight.{Flight}
 use Rattle.model.specs.declared.families.Flight as flights
 use Rattle.model.specs.declared.families.Kept.{Kept}
 use Rattle.model.specs.declared.families.Kept as kepts
-use Rattle.model.specs.declared.families.queues.QueueKind.TheVariants.{IndexQueue}
+use Rattle.model.specs.declared.families.queues.QueueKind.TheVariants.{IndexQueue, Queue}
 use Rattle.model.specs.declared.families.queues.QueueStart.{QueueStart}
-use Rattle.model.specs.declared.families.queues.QueueStart.TheVariants.{AcquireProducer, ReleaseProducer, AcquireConsumer, ReleaseConsumer, PushIndex, Pop}
+use Rattle.model.specs.declared.families.queues.QueueStart.TheVariants.{AcquireProducer, ReleaseProducer, AcquireConsumer, ReleaseConsumer, PushIndex, Push, Pop}
 use Rattle.model.specs.declared.families.queues.Roles.{Roles}
 use Rattle.model.specs.declared.families.queues.calls.RingCall as rings
 use Rattle.model.specs.declared.families.queues.calls.QueueFlight.{QueueFlight}
@@ -31,9 +35,9 @@ use Rattle.model.specs.declared.turn.Refusal.{Refusal}
 use Rattle.model.specs.declared.turn.Turn.{Turn}
 use Rattle.model.specs.declared.turn.Turn.TheVariants.{Begin, Next, Decide, Die}
 use Rattle.model.specs.declared.turn.Kind.TheVariants as kinds
-use Rattle.model.specs.Coding.{Coding}
+use Rattle.model.specs.Coding.{Coding, one_word}
 use Rattle.model.specs.Families.{step_of}
-use Rattle.model.specs.Families.Queues.Reading.{producer_after, consumer_after, producer_of, consumer_of, publishes, hands_out}
+use Rattle.model.specs.Families.Queues.Reading.{producer_after, consumer_after, producer_of, consumer_of, publishes, hands_out, published, handed_out, waiting}
 use Rattle.model.specs.Families.Queues.Roles.{GrantsRight}
 use Rattle.model.specs.Families.Queues.Steps.{effects_of, push_effect, pop_effect, acts_if_done}
 use Rattle.model.specs.Parties.{party_of}
@@ -47,7 +51,12 @@ use Rattle.model.proofs.Frame as frame
 use Rattle.model.proofs.Readings.{AreRight, Each-append, Each-nil}
 use Rattle.model.proofs.Scenes.{stands_there}
 use Rattle.queue_laws.proofs.Queues.Core.{Core}
-use Rattle.queue_laws.proofs.Queues.Invariant.{Queue, family}
+use Rattle.queue_laws.proofs.Queues.Invariant.{family, machine_kind, waiting_is}
+use Rattle.queue_laws.proofs.Queues.Values as values
+use Rattle.queue_laws.proofs.Queues.Values.{Val}
+use Rattle.queue_laws.proofs.Ring.Kinds.{Ring, of_indices, of_values, kind_of}
+use Rattle.steps.specs.Copied.{value_in}
+use Rattle.queue_laws.proofs.Ring.Knows.{KnowsPush, KnowsPop}
 use Rattle.queue_laws.proofs.Queues.Knows.{At}
 use Rattle.queue_laws.proofs.Queues.Runs.{AllMay, attempt_sound}
 use Rattle.queue_laws.proofs.Queues.Sound.{kept_is, opening_sound, admitted_fits, fresh_laws, IsFreshTurn}
@@ -55,63 +64,106 @@ use Rattle.history.specs.History.{IsRun, IsHistory}
 use Rattle.history.specs.Roles.{ByHolder, role_after, marks}
 use Rattle.history.specs.Known.{events_by}
 
-module _ {T : Type 0} where
+module _ {T : Type 0} (c : ℕ) where
+  -- a value is published only where fewer than the capacity wait, and taken out where it waits first
+  abbrev pub KeepsList : List (Event T) → Event T → Type 0
+  KeepsList before (Published p item) = length (waiting before) < c
+  KeepsList before (HandedOut p item) = (rest : List (Item T)) × (waiting before ≡ item ∷ rest)
+  KeepsList before e = Unit {0}
+
+  abbrev Rightly : List (Event T) → Event T → Type 0
+  Rightly before e = ByHolder before e × KeepsList before e
+
+  abbrev RoomAt : List (Event T) → pushes.PushStage → Type 0
+  RoomAt before (pushes.TheVariants.StoresWrite write) = length (waiting before) < c
+  RoomAt before stage = Unit {0}
+
+  abbrev FirstAt : List (Event T) → Item T → pops.PopStage → Type 0
+  FirstAt before item (pops.TheVariants.StoresRead read) = (rest : List (Item T)) × (waiting before ≡ item ∷ rest)
+  FirstAt before item stage = Unit {0}
+
   abbrev Right : List (Event T) → List (Event T) → Type 0
-  Right before es = AreRight ByHolder before es
+  Right before es = AreRight Rightly before es
 
   both : (before xs ys : List (Event T)) → Right before xs → ((b : List (Event T)) → Right b ys) → Right before (xs ++ ys)
   both before [] ys a b = b before
   both before (x ∷ xs) ys a b = (a.0, both (before ++ x ∷ []) xs ys a.1 b)
 
-  push_acts : (p v : ℕ) (o : Option (Answer T)) (before : List (Event T)) → producer_of before ≡ Some p → Right before (acts_if_done p (PushIndex v) o)
-  push_acts p v None before holds = tt
-  push_acts p v (Some answer) before holds = (holds, tt)
+  -- a push of its kind
+  abbrev push_of : (r : Ring) → Val T (kind_of r) → QueueStart T
+  push_of of_indices v = PushIndex v
+  push_of of_values v = Push v
+
+  push_acts : (r : Ring) (p : ℕ) (v : Val T (kind_of r)) (o : Option (Answer T)) (before : List (Event T)) → producer_of before ≡ Some p → Right before (acts_if_done p (push_of r v) o)
+  push_acts r p v None before holds = tt
+  push_acts of_indices p v (Some answer) before holds = ((holds, tt), tt)
+  push_acts of_values p v (Some answer) before holds = ((holds, tt), tt)
 
   pop_acts : (p : ℕ) (o : Option (Answer T)) (before : List (Event T)) → consumer_of before ≡ Some p → Right before (acts_if_done p Pop o)
   pop_acts p None before holds = tt
-  pop_acts p (Some answer) before holds = (holds, tt)
+  pop_acts p (Some answer) before holds = ((holds, tt), tt)
 
   ending_right : (p : ℕ) (start : Start T) (o : Option (Answer T)) (before : List (Event T)) → Right before (ending_of p start o)
   ending_right p start None before = tt
-  ending_right p start (Some answer) before = (tt, tt)
+  ending_right p start (Some answer) before = ((tt, tt), tt)
 
-  push_right : (p v : ℕ) (item : Item T) (stage : pushes.PushStage) (o : Option (Answer T)) (before : List (Event T)) → producer_of before ≡ Some p → Right before (effects_of p (PushIndex v) (push_effect item stage) o)
-  push_right p v item pushes.TheVariants.LoadsWrite o before holds = tt
-  push_right p v item (pushes.TheVariants.LoadsRead write) o before holds = push_acts p v o before holds
-  push_right p v item (pushes.TheVariants.StoresCell write cell at) o before holds = tt
-  push_right p v item (pushes.TheVariants.StoresWrite write) o before holds = (holds, push_acts p v o (before ++ Published p item ∷ []) (fold-append producer_after None before (Published p item ∷ []) ∙ holds))
+  push_right : (r : Ring) (p : ℕ) (v : Val T (kind_of r)) (item : Item T) (stage : pushes.PushStage) (o : Option (Answer T)) (before : List (Event T)) → producer_of before ≡ Some p → RoomAt before stage → Right before (effects_of p (push_of r v) (push_effect item stage) o)
+  push_right r p v item pushes.TheVariants.LoadsWrite o before holds room = tt
+  push_right r p v item (pushes.TheVariants.LoadsRead write) o before holds room = push_acts r p v o before holds
+  push_right r p v item (pushes.TheVariants.StoresCell write cell at) o before holds room = tt
+  push_right r p v item (pushes.TheVariants.StoresWrite write) o before holds room = ((holds, room), push_acts r p v o (before ++ Published p item ∷ []) (fold-append producer_after None before (Published p item ∷ []) ∙ holds))
 
-  pop_right : (p : ℕ) (item : Item T) (stage : pops.PopStage) (o : Option (Answer T)) (before : List (Event T)) → consumer_of before ≡ Some p → Right before (effects_of p Pop (pop_effect item stage) o)
-  pop_right p item pops.TheVariants.LoadsRead o before holds = tt
-  pop_right p item (pops.TheVariants.LoadsWrite read) o before holds = pop_acts p o before holds
-  pop_right p item (pops.TheVariants.LoadsCell read cell at) o before holds = tt
-  pop_right p item (pops.TheVariants.StoresRead read) o before holds = (holds, pop_acts p o (before ++ HandedOut p item ∷ []) (fold-append consumer_after None before (HandedOut p item ∷ []) ∙ holds))
+  pop_right : (p : ℕ) (item : Item T) (stage : pops.PopStage) (o : Option (Answer T)) (before : List (Event T)) → consumer_of before ≡ Some p → FirstAt before item stage → Right before (effects_of p Pop (pop_effect item stage) o)
+  pop_right p item pops.TheVariants.LoadsRead o before holds first = tt
+  pop_right p item (pops.TheVariants.LoadsWrite read) o before holds first = pop_acts p o before holds
+  pop_right p item (pops.TheVariants.LoadsCell read cell at) o before holds first = tt
+  pop_right p item (pops.TheVariants.StoresRead read) o before holds first = ((holds, first), pop_acts p o (before ++ HandedOut p item ∷ []) (fold-append consumer_after None before (HandedOut p item ∷ []) ∙ holds))
 
-  module _ (z en : Coding T) (words : List ℕ) (waits : Option (ℕ × ℕ)) (c p n : ℕ) (ro : Roles) (k : Core ℕ) (before : List (Event T)) (producers : producer_of before ≡ ro.producer) (consumers : consumer_of before ≡ ro.consumer) where
-    flight_right : (start : QueueStart T) (flight : QueueFlight T) → At {T = T} en IndexQueue c ro k p start flight → Right before (step_of z words waits p (Queues start) (flights.TheVariants.Queues flight) n (kepts.TheVariants.Queues ro)).wrote
-    flight_right (PushIndex v) (Indices (rings.TheVariants.Push run)) at = push_right p v _ run.call.stage _ before (producers ∙ at.0)
-    flight_right Pop (Indices (rings.TheVariants.Pop run)) at = pop_right p _ run.call.stage _ before (consumers ∙ at.0)
-    flight_right start (Indices call) at = absurd at
-    flight_right start (Role call) at = tt
-    flight_right start (Length which run) at = tt
-    flight_right start (Values call) at = absurd at
-    flight_right start (Overflow call) at = absurd at
+  -- what a push and a pop know of the list, where these values wait
+  module _ {V : Type 0} (code : Coding V) (named : V → Item T) (k : Core V) (before : List (Event T)) (same : waiting before ≡ map named k.waiting) where
+    room_at : (v : V) (stage : pushes.PushStage) → KnowsPush code c k v stage → RoomAt before stage
+    room_at v pushes.TheVariants.LoadsWrite knows = tt
+    room_at v (pushes.TheVariants.LoadsRead write) knows = tt
+    room_at v (pushes.TheVariants.StoresCell write cell at) knows = tt
+    room_at v (pushes.TheVariants.StoresWrite write) knows = (let room = knows.1 in let long : length (waiting before) ≡ length k.waiting = ap length same ∙ length-map k.waiting named in omega arith)
 
-  module _ (en : Coding T) (c : ℕ) where
+    first_at : (words : List ℕ) (stage : pops.PopStage) → KnowsPop code c k words stage → FirstAt before (named (value_in code.value_of code.size words)) stage
+    first_at words pops.TheVariants.LoadsRead knows = tt
+    first_at words (pops.TheVariants.LoadsWrite read) knows = tt
+    first_at words (pops.TheVariants.LoadsCell read cell at) knows = tt
+    first_at words (pops.TheVariants.StoresRead read) knows = (map named knows.0, same ∙ ap (map named) knows.2)
+
+  module _ (en : Coding T) (words : List ℕ) (waits : Option (ℕ × ℕ)) (p n : ℕ) (ro : Roles) (before : List (Event T)) (producers : producer_of before ≡ ro.producer) (consumers : consumer_of before ≡ ro.consumer) where
+    flight_right : (r : Ring) (k : Core (Val T (kind_of r))) → waiting before ≡ map (values.item (kind_of r)) k.waiting → (start : QueueStart T) (flight : QueueFlight T) → At {T = T} en (kind_of r) c ro k p start flight → Right before (step_of en words waits p (Queues start) (flights.TheVariants.Queues flight) n (kepts.TheVariants.Queues ro)).wrote
+    flight_right of_indices k same (PushIndex v) (Indices (rings.TheVariants.Push run)) at = push_right of_indices p v _ run.call.stage _ before (producers ∙ at.0) (room_at one_word (values.item IndexQueue) k before same v run.call.stage at.3)
+    flight_right of_indices k same Pop (Indices (rings.TheVariants.Pop run)) at = pop_right p _ run.call.stage _ before (consumers ∙ at.0) (first_at one_word (values.item IndexQueue) k before same (run.room.0 ∷ []) run.call.stage at.2)
+    flight_right of_indices k same start (Indices call) at = absurd at
+    flight_right of_indices k same start (Values call) at = absurd at
+    flight_right of_indices k same start (Overflow call) at = absurd at
+    flight_right of_values k same (Push v) (Values (rings.TheVariants.Push run)) at = push_right of_values p v _ run.call.stage _ before (producers ∙ at.0) (room_at en (values.item Queue) k before same v run.call.stage at.3)
+    flight_right of_values k same Pop (Values (rings.TheVariants.Pop run)) at = pop_right p _ run.call.stage _ before (consumers ∙ at.0) (first_at en (values.item Queue) k before same run.room.words run.call.stage at.2)
+    flight_right of_values k same start (Indices call) at = absurd at
+    flight_right of_values k same start (Values call) at = absurd at
+    flight_right of_values k same start (Overflow call) at = absurd at
+    flight_right r k same start (Role call) at = tt
+    flight_right r k same start (Length which run) at = tt
+
+  module _ (en : Coding T) (r : Ring) where
     abbrev SoundAt : Trace T → Type 0
-    SoundAt t = frame.Sound (family en IndexQueue c) t
+    SoundAt t = frame.Sound (family en (kind_of r) c) t
 
     module _ (t : Trace T) (s : SoundAt t) where
-      any_right : (p n : ℕ) (waits : Option (ℕ × ℕ)) (start : Start T) (flight : Flight T) (kept : Kept T) → kept ≡ kepts.TheVariants.Queues s.state.roles → (family en IndexQueue c).At s.state p start flight → Right t.events (step_of t.world.coding t.world.words waits p start flight n kept).wrote
+      any_right : (p n : ℕ) (waits : Option (ℕ × ℕ)) (start : Start T) (flight : Flight T) (kept : Kept T) → kept ≡ kepts.TheVariants.Queues s.state.roles → (family en (kind_of r) c).At s.state p start flight → Right t.events (step_of t.world.coding t.world.words waits p start flight n kept).wrote
       any_right p n waits (Queues start) (flights.TheVariants.Queues flight) kept e at =
-          subst (λ k. Right t.events (step_of t.world.coding t.world.words waits p (Queues start) (flights.TheVariants.Queues flight) n k).wrote) (sym e)
-          (flight_right t.world.coding en t.world.words waits c p n s.state.roles s.state.core t.events s.holds.producers s.holds.consumers start flight at)
+          subst (λ z. Right t.events (step_of z t.world.words waits p (Queues start) (flights.TheVariants.Queues flight) n kept).wrote) (sym s.coding)
+          (subst (λ k. Right t.events (step_of en t.world.words waits p (Queues start) (flights.TheVariants.Queues flight) n k).wrote) (sym e)
+          (flight_right en t.world.words waits p n s.state.roles t.events s.holds.producers s.holds.consumers r s.state.core (waiting_is t.events (map (values.item (kind_of r)) s.state.core.waiting) s.holds.book) start flight at))
       any_right p n waits start flight kept e at = absurd at
 
       answer_right : (p n : ℕ) (x : Party T) → party_of p t.world.latest ≡ Some x → (doing : Doing T) → x.doing ≡ doing → Right t.events (events_of_answer t.world p x n doing)
       answer_right p n x found (Over others) d = tt
       answer_right p n x found (Going flight since) d =
-          let there = stands_there (family en IndexQueue c) t s p x since flight found d in
+          let there = stands_there (family en (kind_of r) c) t s p x since flight found d in
           let is = kept_is t.world.kept t.world.words s.state s.fit in
           both t.events (step_in t.world p x flight n).wrote (ending_of p x.start (answer_in (step_in t.world p x flight n).after))
           (any_right p n _ x.start flight t.world.kept is.0 there.at) (λ b. ending_right p x.start (answer_in (step_in t.world p x flight n).after) b)
@@ -125,35 +177,82 @@ module _ {T : Type 0} where
       decision_right p said (Some x) e = answer_right p (number_of said) x e x.doing refl
 
       turn_right : (turn : Turn T) → Right t.events (events_of t.world turn)
-      turn_right (Begin p start) = (tt, tt)
+      turn_right (Begin p start) = ((tt, tt), tt)
       turn_right (Next p) = next_right p (party_of p t.world.latest) refl
       turn_right (Decide p said) = decision_right p said (party_of p t.world.latest) refl
-      turn_right (Die owner) = (tt, tt)
+      turn_right (Die owner) = ((tt, tt), tt)
 
     abbrev AllBy : Trace T → Type 0
-    AllBy t = Each ByHolder t.events
+    AllBy t = Each Rightly t.events
 
     attempt_right : (t : Trace T) (turn : Turn T) (o : Option Refusal) → SoundAt t → AllBy t → AllBy (unless_refused t (after_turn t turn) o)
-    attempt_right t turn None s all = Each-append ByHolder t.events (events_of t.world turn) all (turn_right t s turn)
+    attempt_right t turn None s all = Each-append Rightly t.events (events_of t.world turn) all (turn_right t s turn)
     attempt_right t turn (Some refusal) s all = all
 
     runs_right : (law : Rattle.model.specs.Coding.IsCoding en) (turns : List (Turn T)) (t : Trace T) → AllMay IsFreshTurn turns t → SoundAt t → AllBy t → AllBy (run_on turns t)
     runs_right law [] t may s all = all
     runs_right law (turn ∷ turns) t may s all =
-        runs_right law turns (attempt_on t turn) may.1 (attempt_sound (family en IndexQueue c) IsFreshTurn (fresh_laws en law IndexQueue c) t turn (call_refusal t.world turn) refl may.0 s)
+        runs_right law turns (attempt_on t turn) may.1 (attempt_sound (family en (kind_of r) c) IsFreshTurn (fresh_laws en law (kind_of r) c) t turn (call_refusal t.world turn) refl may.0 s)
         (attempt_right t turn (call_refusal t.world turn) s all)
 
-module _ {T : Type 0} (code : Coding T) (capacity : ℕ) where
-  pub by_holders : (t : Trace T) → IsRun code kinds.IndexQueue capacity t → Each ByHolder t.events
-  by_holders t r =
-      let w = t.world in
-      let first : Trace T = opening w.coding w.kind w.capacity w.parties in
-      let admitted : capacity_error kinds.IndexQueue w.capacity ≡ None = subst (λ kind. capacity_error kind w.capacity ≡ None) r.of_kind r.reached.admitted in
-      let sound : frame.Sound (family w.coding IndexQueue w.capacity) first = subst (λ kind. frame.Sound (family w.coding IndexQueue w.capacity) (opening w.coding kind w.capacity w.parties)) (sym r.of_kind) (opening_sound w.coding r.reached.coded IndexQueue w.capacity w.parties (admitted_fits IndexQueue w.capacity admitted)) in
-      subst (λ z. Each ByHolder z.events) (sym r.fresh.is) (runs_right w.coding w.capacity r.reached.coded r.fresh.turns first r.fresh.fresh sound (Each-nil ByHolder))
+module _ {T : Type 0} (code : Coding T) (r : Ring) (capacity : ℕ) where
+  abbrev IsOn : Trace T → Type 0
+  IsOn t = IsRun code (machine_kind (kind_of r)) capacity t
 
-  pub history_by_holders : (events : List (Event T)) → IsHistory code kinds.IndexQueue capacity events → Each ByHolder events
+  rightly : (t : Trace T) → IsOn t → Each (Rightly t.world.capacity) t.events
+  rightly t run =
+      let w = t.world in
+      let kd = kind_of r in
+      let first : Trace T = opening w.coding w.kind w.capacity w.parties in
+      let admitted : capacity_error (machine_kind kd) w.capacity ≡ None = subst (λ kind. capacity_error kind w.capacity ≡ None) run.of_kind run.reached.admitted in
+      let sound : frame.Sound (family w.coding kd w.capacity) first = subst (λ kind. frame.Sound (family w.coding kd w.capacity) (opening w.coding kind w.capacity w.parties)) (sym run.of_kind) (opening_sound w.coding run.reached.coded kd w.capacity w.parties (admitted_fits kd w.capacity admitted)) in
+      subst (λ z. Each (Rightly w.capacity) z.events) (sym run.fresh.is) (runs_right w.capacity w.coding r run.reached.coded run.fresh.turns first run.fresh.fresh sound (Each-nil (Rightly w.capacity)))
+
+  pub by_holders : (t : Trace T) → IsOn t → Each ByHolder t.events
+  by_holders t run before after e is = (rightly t run before after e is).0
+
+  pub lists_kept : (t : Trace T) → IsOn t → Each (KeepsList capacity) t.events
+  lists_kept t run before after e is = subst (λ n. KeepsList n before e) run.sized (rightly t run before after e is).1
+
+  pub history_by_holders : (events : List (Event T)) → IsHistory code (machine_kind (kind_of r)) capacity events → Each ByHolder events
   history_by_holders events h = subst (Each ByHolder) (sym h.is) (by_holders h.trace h.run)
+
+-- ---- at any time what was taken out is a beginning of what was published, and no more than the capacity is left
+
+module _ {T : Type 0} (c : ℕ) where
+  pub record IsListed (events : List (Event T)) : Type 0 where
+    pub book : published events ≡ handed_out events ++ waiting events
+    pub few : length (waiting events) ≤ c
+
+  one_more : (before : List (Event T)) (e : Event T) → KeepsList c before e → IsListed before → IsListed (before ++ e ∷ [])
+  one_more before (Published p x) room l =
+      let more : published (before ++ Published p x ∷ []) ≡ published before ++ x ∷ [] = flat_map-append publishes before (Published p x ∷ []) in
+      let same : handed_out (before ++ Published p x ∷ []) ≡ handed_out before = flat_map-append hands_out before (Published p x ∷ []) ∙ append-nil (handed_out before) in
+      let book : published (before ++ Published p x ∷ []) ≡ handed_out (before ++ Published p x ∷ []) ++ (waiting before ++ x ∷ []) = more ∙ (ap (λ xs. xs ++ x ∷ []) l.book ∙ (append_assoc (handed_out before) (waiting before) (x ∷ []) ∙ ap (λ xs. xs ++ (waiting before ++ x ∷ [])) (sym same))) in
+      let rest = waiting_is (before ++ Published p x ∷ []) (waiting before ++ x ∷ []) book in
+      record { book = book ∙ ap (λ xs. handed_out (before ++ Published p x ∷ []) ++ xs) (sym rest); few = (let long = length-append (waiting before) (x ∷ []) in let all = ap length rest in omega arith) }
+  one_more before (HandedOut p x) first l =
+      let more : handed_out (before ++ HandedOut p x ∷ []) ≡ handed_out before ++ x ∷ [] = flat_map-append hands_out before (HandedOut p x ∷ []) in
+      let same : published (before ++ HandedOut p x ∷ []) ≡ published before = flat_map-append publishes before (HandedOut p x ∷ []) ∙ append-nil (published before) in
+      let book : published (before ++ HandedOut p x ∷ []) ≡ handed_out (before ++ HandedOut p x ∷ []) ++ first.0 = same ∙ (l.book ∙ (ap (λ xs. handed_out before ++ xs) first.1 ∙ (sym (append_assoc (handed_out before) (x ∷ []) first.0) ∙ ap (λ xs. xs ++ first.0) (sym more)))) in
+      let rest = waiting_is (before ++ HandedOut p x ∷ []) first.0 book in
+      record { book = book ∙ ap (λ xs. handed_out (before ++ HandedOut p x ∷ []) ++ xs) (sym rest); few = (let long = ap length first.1 in let all = ap length rest in let was = l.few in omega arith) }
+  one_more before e room l =
+      let out : published (before ++ e ∷ []) ≡ published before = flat_map-append publishes before (e ∷ []) ∙ append-nil (published before) in
+      let same : handed_out (before ++ e ∷ []) ≡ handed_out before = flat_map-append hands_out before (e ∷ []) ∙ append-nil (handed_out before) in
+      let book : published (before ++ e ∷ []) ≡ handed_out (before ++ e ∷ []) ++ waiting before = out ∙ (l.book ∙ ap (λ xs. xs ++ waiting before) (sym same)) in
+      let rest = waiting_is (before ++ e ∷ []) (waiting before) book in
+      record { book = book ∙ ap (λ xs. handed_out (before ++ e ∷ []) ++ xs) (sym rest); few = (let all = ap length rest in let was = l.few in omega arith) }
+
+  listed_from : (before es : List (Event T)) → Each (KeepsList c) (before ++ es) → IsListed before → IsListed (before ++ es)
+  listed_from before [] each l = subst IsListed (sym (append-nil before)) l
+  listed_from before (e ∷ es) each l =
+      let longer : (before ++ e ∷ []) ++ es ≡ before ++ e ∷ es = append_assoc before (e ∷ []) es in
+      subst IsListed longer (listed_from (before ++ e ∷ []) es (subst (Each (KeepsList c)) (sym longer) each) (one_more before e (each before es e refl) l))
+
+  pub always_listed : (code : Coding T) (r : Ring) (events : List (Event T)) → IsHistory code (machine_kind (kind_of r)) c events → (part rest : List (Event T)) → events ≡ part ++ rest → IsListed part
+  always_listed code r events h part rest is =
+      listed_from [] part (λ before after e at. lists_kept code r c h.trace h.run before (after ++ rest) e (sym h.is ∙ (is ∙ (ap (λ xs. xs ++ rest) at ∙ append_assoc before (e ∷ after) rest)))) (record { book = refl; few = omega arith })
 
 is_other : (p q : ℕ) (A : Type 0) → (q == p) ≡ false → ◌≡◌ {A = Option ℕ} (Some q) (Some p) → A
 is_other p q A ne e = (let same : q ≡ p = cc in absurd (grind (arith, nat_tests)))

@@ -1,18 +1,17 @@
 -- That an acquire and a release of the unique index set are calls of the model.
-use Rattle.std.proofs.Common.{◌≡◌, ◌≢◌, inl, inr, ℕ, ◌+◌, ◌<◌, ◌==◌, nat_lt, Bool, true, false, Option, Some, None, IfSome, Ok, Err, List, [], ◌∷◌, ◌++◌, refl, sym, ap, subst, ◌∙◌, arith, append-nil, if◌then◌else◌}
+use Rattle.std.proofs.Common.{◌≡◌, inl, ℕ, ◌+◌, ◌<◌, ◌==◌, nat_lt, Bool, true, false, None, Ok, Err, List, [], ◌∷◌, ◌++◌, refl, sym, ap, subst, ◌∙◌, arith}
 use Rattle.std.proofs.lemmas.Bool.Decides.{nat_tests}
-use Rattle.steps.specs.Indices.Head.{next_word, flag_word, flag, has_flag, proposed, borrowed, says_locked}
-use Rattle.steps.specs.Indices.Unique.{locks, borrowed_after, locked_after, Acquired, at_acquire, first_acquire, head_taken, acquire_asks, acquire_want, acquire_sees, acquire_takes, first_claim, scanned_next, acquire_after, at_release, first_release, head_released, release_asks, release_want, release_takes, release_after, state_after}
-use Rattle.steps.specs.Picks.{by_test, by_eq}
+use Rattle.steps.specs.Indices.Head.{flag_word, has_flag, proposed, borrowed, says_locked}
+use Rattle.steps.specs.Indices.Unique.{borrowed_after, locked_after, Acquired, first_acquire, acquire_asks, acquire_want, acquire_sees, acquire_takes, first_claim, scanned_next, acquire_after, at_release, first_release, head_released, release_asks, release_want, release_takes, release_after}
+use Rattle.steps.specs.Picks.{by_test}
 use Rattle.steps.specs.Routine.{went_on}
 use Rattle.steps.specs.declared.ask.Ask.{Ask}
 use Rattle.steps.specs.declared.ask.After.{After}
 use Rattle.steps.specs.declared.ask.After.TheVariants.{GoOn, Done}
-use Rattle.steps.specs.declared.ask.Op.TheVariants.{Load, Store, Sub, And, Or, Exchange}
+use Rattle.steps.specs.declared.ask.Op.TheVariants.{Load, Exchange}
 use Rattle.steps.specs.declared.ask.Want.{Want}
 use Rattle.steps.specs.declared.ask.Want.TheVariants as wants
 use Rattle.steps.specs.declared.indices.enums.ReleaseState.{ReleaseState}
-use Rattle.steps.specs.declared.indices.enums.ReleaseState.TheVariants.{Locked, Unlocked}
 use Rattle.steps.specs.declared.indices.unique.Acquire.{Acquire as Acquiring}
 use Rattle.steps.specs.declared.indices.unique.AcquireStage as acquires
 use Rattle.steps.specs.declared.indices.unique.Release.{Release as Releasing}
@@ -25,16 +24,13 @@ use Rattle.steps.specs.declared.indices.enums.ReleaseMode.TheVariants as modes
 use Rattle.steps.specs.Queues.Ring.{load}
 use Rattle.model.specs.declared.event.Answer.{Answer}
 use Rattle.model.specs.declared.event.Event.{Event}
-use Rattle.model.specs.declared.event.Event as events
-use Rattle.model.specs.declared.event.Event.TheVariants.{Claimed, Freed}
-use Rattle.model.specs.declared.event.Start.{Start}
+use Rattle.model.specs.declared.event.Event.TheVariants.{Freed}
 use Rattle.model.specs.declared.families.Flight.{Flight}
 use Rattle.model.specs.declared.families.Flight as flights
-use Rattle.model.specs.declared.families.indices.IndexStart.TheVariants.{Acquire, Release, BorrowedIndices, IsLocked}
+use Rattle.model.specs.declared.families.indices.IndexStart.TheVariants.{Acquire, BorrowedIndices, IsLocked}
 use Rattle.model.specs.declared.families.indices.calls.IndexFlight as calls
 use Rattle.model.specs.declared.turn.Kind.TheVariants as kinds
 use Rattle.model.specs.Coding.{Coding}
-use Rattle.model.specs.Families.{want_of, after_of}
 use Rattle.model.specs.Families.Indices.Calls.{acquire_answer}
 use Rattle.model.specs.Families.Indices.Steps.{ended}
 use Rattle.model.specs.Families.Queues.Calls.{as_it_is}

@@ -1,5 +1,5 @@
 -- What the unique index set owes, from its laws.
-use Rattle.std.proofs.Common.{◌≡◌, ◌≢◌, ⊎_elim, ℕ, ◌+◌, ◌-◌, ◌^◌, ◌<◌, ◌≤◌, ◌==◌, nat_le, nat_lt, not, Bool, true, false, Option, Some, None, is_none, IfSome, List, [], ◌∷◌, ◌++◌, length, refl, sym, ap, subst, ◌∙◌, arith, sum_by, slice_index_or}
+use Rattle.std.proofs.Common.{◌≡◌, ℕ, ◌<◌, ◌==◌, nat_le, true, false, Option, Some, None, is_none, IfSome, List, [], length, refl, sym, ap, subst, ◌∙◌, arith, sum_by, slice_index_or}
 use Rattle.std.proofs.lemmas.Bool.Decides.{nat_tests}
 use Rattle.steps.specs.declared.indices.enums.ReleaseMode.{ReleaseMode}
 use Rattle.steps.specs.declared.indices.enums.ReleaseState.TheVariants.{Locked}
@@ -13,20 +13,15 @@ use Rattle.model.specs.declared.families.Flight as flights
 use Rattle.model.specs.declared.families.Kept.{Kept}
 use Rattle.model.specs.declared.families.Kept as kepts
 use Rattle.model.specs.declared.families.indices.IndexStart.{IndexStart}
-use Rattle.model.specs.declared.families.indices.IndexStart.TheVariants.{Acquire, Release}
-use Rattle.model.specs.declared.families.indices.calls.IndexFlight.{IndexFlight}
+use Rattle.model.specs.declared.families.indices.IndexStart.TheVariants.{Release}
 use Rattle.model.specs.declared.party.Party.{Party}
 use Rattle.model.specs.declared.turn.Kind as kinds
-use Rattle.model.specs.declared.turn.Refusal.TheVariants.{NotHeld}
 use Rattle.model.specs.Coding.{Coding}
 use Rattle.model.specs.Families.{first_of, begin_rows, step_of, beside_of, after_of, going_rows}
-use Rattle.model.specs.Families.Indices.Calls.{after, first}
+use Rattle.model.specs.Families.Indices.Calls.{after}
 use Rattle.model.specs.Families.Indices.Opening.{call_rows, kept_rows}
 use Rattle.model.specs.Families.Indices.Promises.{KeepsHolders, IsIndexSet}
-use Rattle.model.specs.Families.Indices.Reading.{holder_of}
 use Rattle.model.specs.Families.Indices.Steps.{ended, effects, frees, wrote}
-use Rattle.model.specs.Families.Queues.Opening.{holds}
-use Rattle.model.specs.Parties.{party_of}
 use Rattle.model.specs.Promises.{IsKeptBy}
 use Rattle.model.specs.Promises.Families.{promise_of}
 use Rattle.model.specs.Rows.{first_row}

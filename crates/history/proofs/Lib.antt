@@ -4,6 +4,8 @@ pub mod Calls
 pub mod Turns
 pub mod Steps
 pub mod Passes
+pub mod Called
+pub mod Sized
 pub mod Drives
 pub mod Made
 pub mod Sets
@@ -12,8 +14,18 @@ pub mod Held
 pub mod Roles
 pub mod Indices
 pub mod IndexCalls
+pub mod Rooms
+pub mod Values
 pub mod Queues
 pub mod QueueLaws
 pub mod QueueCalls
+pub mod ValueCalls
+pub mod ValueLaws
+pub mod Alone
+pub mod ValueOpened
+pub mod EachEvent
+pub mod ValueHolders
+pub mod ValueQueueCalls
+pub mod ValueQueueRoles
 pub mod Holders
 pub mod Cells

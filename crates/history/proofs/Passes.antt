@@ -22,7 +22,7 @@ use Rattle.history.specs.History.{IsBeginning, IsMachine, Fits, call_in}
 use Rattle.history.specs.Views.{first_view, left_view, right_view, joined_view, spent_view, Looks, LooksAt}
 use Rattle.history.specs.Known.{Known, HasSeenOf, events_by}
 use Rattle.history.proofs.Calls.{get_left}
-use Rattle.history.proofs.Known.{within, handed_on, owned_none, owned_both, owned_third, idle_seat, nat_cases, known_alone, known_step, known_whole, made_whole, known_split, known_join, none_before}
+use Rattle.history.proofs.Known.{by_more, nil_right, within, handed_on, owned_none, owned_both, owned_third, idle_seat, nat_cases, known_alone, known_step, known_whole, made_whole, known_split, known_join, none_before}
 
 pub set_same : (xs : List ℕ) (i : ℕ) → set xs i (get_or xs i 0) ≡ xs
 set_same [] i = refl
@@ -46,6 +46,15 @@ at_end (z ∷ zs) x y (suc j) e = ⊎_elim (λ h. inl h) (λ h. inr (ap suc h.0,
 length_end : {A : Type 0} → (xs : List A) (x : A) → length (xs ++ x ∷ []) ≡ length xs + 1
 length_end [] x = refl
 length_end (z ∷ zs) x = let h = length_end zs x in omega arith
+
+-- what was not seen has nothing of a party of which all was seen
+nothing_left : {A : Type 0} → (xs rest : List A) → xs ≡ xs ++ rest → rest ≡ []
+nothing_left [] rest e = sym e
+nothing_left (x ∷ xs) rest e = let same : xs ≡ xs ++ rest = cc in nothing_left xs rest same
+
+rest_apart : {T : Type 0} (v : View T) (events : List (Event T)) (seen : IsBeginning v.seen events) (p : ℕ) → v.other ≡ [] → HasSeenOf p v events → events_by p seen.rest ≡ []
+rest_apart v events seen p alone (inl e) = nothing_left (events_by p v.seen) (events_by p seen.rest) (e ∙ (ap (events_by p) seen.is ∙ by_more p v.seen seen.rest))
+rest_apart v events seen p alone (inr e) = nil_right (events_by p v.seen) (events_by p seen.rest) (sym (by_more p v.seen seen.rest) ∙ (sym (ap (events_by p) seen.is) ∙ (sym e ∙ ap (events_by p) alone)))
 
 module _ {T : Type 0} (code : Coding T) (kind : Kind) (capacity : ℕ) where
   abbrev Holds : State (Unit {0}) (View T) → Type 0
@@ -259,6 +268,7 @@ module _ {T : Type 0} (code : Coding T) (kind : Kind) (capacity : ℕ) where
             all = λ all f. made_whole s.views t.events id v at all m.known f;
             history = record { trace = t; run = m.run; is = refl };
             parties = record { owner = m.owner; seat = id; sums = f.made };
+            apart = λ alone any p of_id. rest_apart v t.events f.seen p alone (f.own any p of_id);
           },
           refl,
         ),

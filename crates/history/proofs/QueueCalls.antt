@@ -61,7 +61,7 @@ use Rattle.history.proofs.Drives.{IsCallOf, goes, keeps, keeps_all, AtSized, End
 use Rattle.history.proofs.Queues.{queue_effects, index_owes, plain_starts, role_starts}
 
 -- the holder lacks no role
-holds_it : (o : Option ℕ) (p : ℕ) → o ≡ Some p → not (holds o p) ≡ false
+pub holds_it : (o : Option ℕ) (p : ℕ) → o ≡ Some p → not (holds o p) ≡ false
 holds_it o p is = (let same : (p == p) ≡ true = grind (arith, nat_tests) in rw (is, same) refl)
 
 module _ {T : Type 0} (code : Coding T) (v : ℕ) where

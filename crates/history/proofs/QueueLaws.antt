@@ -1,5 +1,5 @@
 -- A history of an index queue is linearizable as the bounded list.
-use Rattle.std.proofs.Common.{◌≡◌, ℕ, List, refl, sym, ap, subst, ◌∙◌}
+use Rattle.std.proofs.Common.{ℕ, List, sym, subst}
 use Rattle.model.specs.declared.event.Event.{Event}
 use Rattle.model.specs.declared.families.queues.QueueKind.TheVariants.{IndexQueue}
 use Rattle.model.specs.declared.turn.Kind.TheVariants as kinds

@@ -1,13 +1,11 @@
--- What the index queue owes, from the laws of the queues, and which party may begin a call on a queue.
-use Rattle.std.proofs.Common.{◌≡◌, ◌≢◌, ℕ, ◌+◌, ◌<◌, ◌==◌, Bool, true, false, Option, Some, None, IfSome, List, [], ◌∷◌, ◌++◌, length, get_or, sum_by, fold, refl, sym, ap, subst, ◌∙◌, arith}
-use Rattle.std.proofs.lemmas.Bool.Decides.{nat_tests}
-use Rattle.steps.specs.declared.copied.OneWord.{OneWord}
+-- What the bounded queues owe, from the laws of the queues, and which party may begin a call on a queue.
+use Rattle.std.proofs.Common.{◌≡◌, ℕ, ◌+◌, ◌*◌, false, Option, Some, None, IfSome, List, [], length, sum_by, fold, refl, sym, ap, subst, ◌∙◌, arith}
 use Rattle.steps.specs.declared.queues.ring.PushStage as pushes
 use Rattle.steps.specs.declared.queues.ring.PopStage as pops
-use Rattle.steps.specs.declared.ask.After.{After}
 use Rattle.model.specs.declared.event.Answer.{Answer}
 use Rattle.model.specs.declared.event.Event.{Event}
-use Rattle.model.specs.declared.event.Item.TheVariants.{Index}
+use Rattle.model.specs.declared.event.Item.{Item}
+use Rattle.model.specs.declared.event.Item.TheVariants.{Index, Value}
 use Rattle.model.specs.declared.event.Start.{Start}
 use Rattle.model.specs.declared.event.Start.TheVariants.{Queues}
 use Rattle.model.specs.declared.families.Flight.{Flight}
@@ -18,23 +16,17 @@ use Rattle.model.specs.declared.families.queues.QueueKind.{QueueKind}
 use Rattle.model.specs.declared.families.queues.QueueKind as queues
 use Rattle.model.specs.declared.families.queues.QueueKind.TheVariants.{IndexQueue}
 use Rattle.model.specs.declared.families.queues.QueueStart.{QueueStart}
-use Rattle.model.specs.declared.families.queues.QueueStart as starts
-use Rattle.model.specs.declared.families.queues.QueueStart.TheVariants.{AcquireProducer, ReleaseProducer, AcquireConsumer, ReleaseConsumer, PushIndex, Pop, IsEmpty, IsFull}
+use Rattle.model.specs.declared.families.queues.QueueStart.TheVariants.{PushIndex, Push, Pop}
 use Rattle.model.specs.declared.families.queues.Roles.{Roles}
-use Rattle.model.specs.declared.families.queues.calls.RoleCall.{RoleCall}
-use Rattle.model.specs.declared.families.queues.calls.RoleCall.TheVariants.{Acquire, Release}
 use Rattle.model.specs.declared.families.queues.calls.RingCall as rings
-use Rattle.model.specs.declared.families.queues.calls.LengthOf as measures
 use Rattle.model.specs.declared.families.queues.calls.QueueFlight.{QueueFlight}
 use Rattle.model.specs.declared.families.queues.calls.QueueFlight.TheVariants.{Role as OnRole, Indices, Values, Overflow, Length}
-use Rattle.model.specs.declared.families.queues.effects.Effect.{Effect}
-use Rattle.model.specs.declared.families.queues.effects.Effect as effects
 use Rattle.model.specs.declared.party.Party.{Party}
 use Rattle.model.specs.declared.turn.Kind as kinds
 use Rattle.model.specs.Coding.{Coding}
-use Rattle.model.specs.Families.{opening_of, first_of, begin_rows, step_of, beside_of, after_of, want_of, ask_of, going_rows, kept_after_begin}
-use Rattle.model.specs.Families.Queues.Calls.{after}
-use Rattle.model.specs.Families.Queues.Opening.{holds, lacks_role, kept_rows}
+use Rattle.model.specs.Families.{first_of, begin_rows, step_of, beside_of, after_of, going_rows}
+use Rattle.model.specs.Families.Queues.Calls.{after, read_in}
+use Rattle.model.specs.Families.Queues.Opening.{lacks_role, kept_rows, cells_of, words_of_cell}
 use Rattle.model.specs.Families.Queues.Promises.{IsQueue}
 use Rattle.model.specs.Families.Queues.Roles.{KeepsHolders}
 use Rattle.model.specs.Promises.{IsKeptBy}
@@ -44,15 +36,16 @@ use Rattle.model.specs.Families.Queues.Steps.{effects_of, push_effect, pop_effec
 use Rattle.model.specs.Parties.{party_of}
 use Rattle.model.specs.Rows.{first_row}
 use Rattle.model.specs.Step.{answer_in, Step}
-use Rattle.model.specs.Turns.{step_in, old_of}
 use Rattle.model.specs.World.{Trace}
 use Rattle.model.proofs.Frame as frame
 use Rattle.model.proofs.Scenes.{stands_there}
 use Rattle.queue_laws.proofs.Queues.Core.{Core}
 use Rattle.queue_laws.proofs.Queues.Invariant.{Queue, family, machine_kind}
 use Rattle.queue_laws.proofs.Queues.Kept.{kept_on, promised_by}
-use Rattle.queue_laws.proofs.Queues.Knows.{layout, free, At}
+use Rattle.queue_laws.proofs.Queues.Knows.{free, At}
 use Rattle.queue_laws.proofs.Queues.Sound.{kept_is, sound_on}
+use Rattle.queue_laws.proofs.Queues.Values.{Val, encoded}
+use Rattle.queue_laws.proofs.Ring.Kinds.{Ring, of_indices, of_values, kind_of}
 use Rattle.history.specs.declared.view.View.{View}
 use Rattle.history.specs.Known.{owned}
 use Rattle.history.specs.Roles.{holder, role_after, HasRole}
@@ -68,14 +61,16 @@ held_there Producer roles events keeps = keeps.0
 held_there Consumer roles events keeps = keeps.1
 
 module _ {T : Type 0} (code : Coding T) where
-  -- what a step of a call on an index queue writes
-  abbrev pub index_effects : ℕ → QueueFlight T → ℕ → List (Event T)
-  index_effects p (Indices (rings.TheVariants.Push run)) old = effects_of p (PushIndex run.given) (push_effect (Index run.given) run.call.stage) (answer_in (after code (Indices (rings.TheVariants.Push run)) old))
-  index_effects p (Indices (rings.TheVariants.Pop run)) old = effects_of p Pop (pop_effect (Index run.room.0) run.call.stage) (answer_in (after code (Indices (rings.TheVariants.Pop run)) old))
-  index_effects p flight old = []
+  -- what a step of a call on a bounded queue writes
+  abbrev pub ring_effects : ℕ → QueueFlight T → ℕ → List (Event T)
+  ring_effects p (Indices (rings.TheVariants.Push run)) old = effects_of p (PushIndex run.given) (push_effect (Index run.given) run.call.stage) (answer_in (after code (Indices (rings.TheVariants.Push run)) old))
+  ring_effects p (Indices (rings.TheVariants.Pop run)) old = effects_of p Pop (pop_effect (Index run.room.0) run.call.stage) (answer_in (after code (Indices (rings.TheVariants.Pop run)) old))
+  ring_effects p (Values (rings.TheVariants.Push run)) old = effects_of p (Push run.given) (push_effect (Value run.given) run.call.stage) (answer_in (after code (Values (rings.TheVariants.Push run)) old))
+  ring_effects p (Values (rings.TheVariants.Pop run)) old = effects_of p Pop (pop_effect (Value (read_in code run.room)) run.call.stage) (answer_in (after code (Values (rings.TheVariants.Pop run)) old))
+  ring_effects p flight old = []
 
   abbrev pub queue_effects : ℕ → Flight T → ℕ → List (Event T)
-  queue_effects p (flights.TheVariants.Queues flight) old = index_effects p flight old
+  queue_effects p (flights.TheVariants.Queues flight) old = ring_effects p flight old
   queue_effects p flight old = []
 
   -- ---- they are events of its party
@@ -84,62 +79,72 @@ module _ {T : Type 0} (code : Coding T) where
   acts_own p start None = tt
   acts_own p start (Some answer) = (refl, tt)
 
-  push_own : (p v : ℕ) (stage : pushes.PushStage) (o : Option (Answer T)) → AreOf p (effects_of p (PushIndex v) (push_effect (Index v) stage) o)
-  push_own p v pushes.TheVariants.LoadsWrite o = tt
-  push_own p v (pushes.TheVariants.LoadsRead write) o = acts_own p (PushIndex v) o
-  push_own p v (pushes.TheVariants.StoresCell write cell at) o = tt
-  push_own p v (pushes.TheVariants.StoresWrite write) o = (refl, acts_own p (PushIndex v) o)
+  push_own : (p : ℕ) (start : QueueStart T) (item : Item T) (stage : pushes.PushStage) (o : Option (Answer T)) → AreOf p (effects_of p start (push_effect item stage) o)
+  push_own p start item pushes.TheVariants.LoadsWrite o = tt
+  push_own p start item (pushes.TheVariants.LoadsRead write) o = acts_own p start o
+  push_own p start item (pushes.TheVariants.StoresCell write cell at) o = tt
+  push_own p start item (pushes.TheVariants.StoresWrite write) o = (refl, acts_own p start o)
 
-  pop_own : (p v : ℕ) (stage : pops.PopStage) (o : Option (Answer T)) → AreOf p (effects_of p Pop (pop_effect (Index v) stage) o)
-  pop_own p v pops.TheVariants.LoadsRead o = tt
-  pop_own p v (pops.TheVariants.LoadsWrite read) o = acts_own p Pop o
-  pop_own p v (pops.TheVariants.LoadsCell read cell at) o = tt
-  pop_own p v (pops.TheVariants.StoresRead read) o = (refl, acts_own p Pop o)
+  pop_own : (p : ℕ) (item : Item T) (stage : pops.PopStage) (o : Option (Answer T)) → AreOf p (effects_of p Pop (pop_effect item stage) o)
+  pop_own p item pops.TheVariants.LoadsRead o = tt
+  pop_own p item (pops.TheVariants.LoadsWrite read) o = acts_own p Pop o
+  pop_own p item (pops.TheVariants.LoadsCell read cell at) o = tt
+  pop_own p item (pops.TheVariants.StoresRead read) o = (refl, acts_own p Pop o)
 
   effects_own : (p : ℕ) (flight : Flight T) (n : ℕ) → AreOf p (queue_effects p flight n)
-  effects_own p (flights.TheVariants.Queues (Indices (rings.TheVariants.Push run))) n = push_own p run.given run.call.stage _
-  effects_own p (flights.TheVariants.Queues (Indices (rings.TheVariants.Pop run))) n = pop_own p run.room.0 run.call.stage _
+  effects_own p (flights.TheVariants.Queues (Indices (rings.TheVariants.Push run))) n = push_own p (PushIndex run.given) (Index run.given) run.call.stage _
+  effects_own p (flights.TheVariants.Queues (Indices (rings.TheVariants.Pop run))) n = pop_own p (Index run.room.0) run.call.stage _
+  effects_own p (flights.TheVariants.Queues (Values (rings.TheVariants.Push run))) n = push_own p (Push run.given) (Value run.given) run.call.stage _
+  effects_own p (flights.TheVariants.Queues (Values (rings.TheVariants.Pop run))) n = pop_own p (Value (read_in code run.room)) run.call.stage _
   effects_own p (flights.TheVariants.Queues (OnRole call)) n = tt
-  effects_own p (flights.TheVariants.Queues (Values call)) n = tt
   effects_own p (flights.TheVariants.Queues (Overflow call)) n = tt
   effects_own p (flights.TheVariants.Queues (Length which run)) n = tt
   effects_own p flight n = tt
 
   -- ---- a step of a call that the queue has
 
-  module _ (words : List ℕ) (waits : Option (ℕ × ℕ)) (c p n : ℕ) (ro : Roles) (k : Core ℕ) where
-    abbrev Stands : QueueStart T → QueueFlight T → Type 0
-    Stands start flight = At {T = T} code IndexQueue c ro k p start flight
-
+  module _ (words : List ℕ) (waits : Option (ℕ × ℕ)) (c p n : ℕ) (ro : Roles) where
     abbrev step_now : QueueStart T → QueueFlight T → Step (Flight T) (Kept T) T
     step_now start flight = step_of code words waits p (Queues start) (flights.TheVariants.Queues flight) n (kepts.TheVariants.Queues ro)
 
-    writes_it : (start : QueueStart T) (flight : QueueFlight T) → Stands start flight → (step_now start flight).wrote ≡ index_effects p flight n
-    writes_it (PushIndex v) (Indices (rings.TheVariants.Push run)) at = ap (λ w. effects_of p (PushIndex w) (push_effect (Index run.given) run.call.stage) (answer_in (after code (Indices (rings.TheVariants.Push run)) n))) (sym at.2)
-    writes_it Pop (Indices (rings.TheVariants.Pop run)) at = refl
-    writes_it start (Indices call) at = absurd at
-    writes_it start (OnRole call) at = refl
-    writes_it start (Length which run) at = refl
-    writes_it start (Values call) at = absurd at
-    writes_it start (Overflow call) at = absurd at
+    writes_it : (r : Ring) (k : Core (Val T (kind_of r))) (start : QueueStart T) (flight : QueueFlight T) → At {T = T} code (kind_of r) c ro k p start flight → (step_now start flight).wrote ≡ ring_effects p flight n
+    writes_it of_indices k (PushIndex v) (Indices (rings.TheVariants.Push run)) at = ap (λ w. effects_of p (PushIndex w) (push_effect (Index run.given) run.call.stage) (answer_in (after code (Indices (rings.TheVariants.Push run)) n))) (sym at.2)
+    writes_it of_indices k Pop (Indices (rings.TheVariants.Pop run)) at = refl
+    writes_it of_indices k start (Indices call) at = absurd at
+    writes_it of_indices k start (Values call) at = absurd at
+    writes_it of_indices k start (Overflow call) at = absurd at
+    writes_it of_values k (Push v) (Values (rings.TheVariants.Push run)) at = ap (λ w. effects_of p (Push w) (push_effect (Value run.given) run.call.stage) (answer_in (after code (Values (rings.TheVariants.Push run)) n))) (sym at.2)
+    writes_it of_values k Pop (Values (rings.TheVariants.Pop run)) at = refl
+    writes_it of_values k start (Indices call) at = absurd at
+    writes_it of_values k start (Values call) at = absurd at
+    writes_it of_values k start (Overflow call) at = absurd at
+    writes_it r k start (OnRole call) at = refl
+    writes_it r k start (Length which run) at = refl
 
-    goes_it : (start : QueueStart T) (flight : QueueFlight T) → Stands start flight → (step_now start flight).after ≡ after_of code (flights.TheVariants.Queues flight) n
-    goes_it start flight at = refl
+-- ---- what a bounded queue owes, of indices or of values
 
--- ---- what the kind owes
+module _ {T : Type 0} (code : Coding T) (capacity : ℕ) (r : Ring) where
+  abbrev IsBounded : Trace T → Type 0
+  IsBounded t = IsRun code (machine_kind (kind_of r)) capacity t
 
-module _ {T : Type 0} (code : Coding T) (capacity : ℕ) where
-  abbrev IsIndexQueue : Trace T → Type 0
-  IsIndexQueue t = IsRun code kinds.TheVariants.IndexQueue capacity t
+  pub sound : (t : Trace T) → IsBounded t → frame.Sound (family t.world.coding (kind_of r) t.world.capacity) t
+  sound t run = sound_on (kind_of r) t run.of_kind run.reached.coded run.reached.admitted run.fresh
 
-  pub sound : (t : Trace T) → IsIndexQueue t → frame.Sound (family t.world.coding IndexQueue t.world.capacity) t
-  sound t r = sound_on IndexQueue t r.of_kind r.reached.coded r.reached.admitted r.fresh
+  -- the words of the table
+  abbrev pub ring_words : ℕ
+  ring_words = 4 + words_of_cell code.size (kind_of r) * capacity
 
-  size : (t : Trace T) → IsIndexQueue t → length t.world.words ≡ 4 + capacity
-  size t r =
-      let s = sound t r in
-      let cells = s.holds.good.cells in
-      ap length (kept_is t.world.kept t.world.words s.state s.fit).1 ∙ (let long : length s.state.core.cells ≡ capacity = (let sized = r.sized in omega arith) in omega arith)
+  cell_sizes : (q : Ring) (z : Coding T) → (encoded z (kind_of q)).size * cells_of (kind_of q) capacity ≡ words_of_cell z.size (kind_of q) * capacity
+  cell_sizes of_indices z = refl
+  cell_sizes of_values z = refl
+
+  size : (t : Trace T) → IsBounded t → length t.world.words ≡ ring_words
+  size t run =
+      let s = sound t run in
+      let cells : length s.state.core.cells ≡ words_of_cell code.size (kind_of r) * capacity =
+      s.holds.good.cells ∙ (ap (λ (n : ℕ). (encoded t.world.coding (kind_of r)).size * cells_of (kind_of r) n) run.sized ∙ (cell_sizes r t.world.coding ∙ ap (λ (z : Coding T). words_of_cell z.size (kind_of r) * capacity) run.coded))
+      in
+      ap length (kept_is t.world.kept t.world.words s.state s.fit).1 ∙ omega arith
 
   -- the step of a call that stands so, whatever its name
   record Facts (z : Coding T) (words : List ℕ) (waits : Option (ℕ × ℕ)) (p n : ℕ) (start : Start T) (flight : Flight T) (kept : Kept T) : Type 0 where
@@ -147,22 +152,22 @@ module _ {T : Type 0} (code : Coding T) (capacity : ℕ) where
     pub writes : (step_of z words waits p start flight n kept).wrote ≡ queue_effects z p flight n
     pub goes : (step_of z words waits p start flight n kept).after ≡ after_of z flight n
 
-  facts : (z : Coding T) (words : List ℕ) (waits : Option (ℕ × ℕ)) (c p n : ℕ) (q : Queue ℕ) (start : Start T) (flight : Flight T) (kept : Kept T) → kept ≡ kepts.TheVariants.Queues q.roles → (family z IndexQueue c).At q p start flight
+  facts : (z : Coding T) (words : List ℕ) (waits : Option (ℕ × ℕ)) (c p n : ℕ) (q : Queue (Val T (kind_of r))) (start : Start T) (flight : Flight T) (kept : Kept T) → kept ≡ kepts.TheVariants.Queues q.roles → (family z (kind_of r) c).At q p start flight
       → Facts z words waits p n start flight kept
   facts z words waits c p n q (Queues start) (flights.TheVariants.Queues flight) kept e at =
       subst (λ k. Facts z words waits p n (Queues start) (flights.TheVariants.Queues flight) k) (sym e)
       (record {
         may = refl;
-        writes = writes_it z words waits c p n q.roles q.core start flight at;
-        goes = goes_it z words waits c p n q.roles q.core start flight at;
+        writes = writes_it z words waits c p n q.roles r q.core start flight at;
+        goes = refl;
       })
   facts z words waits c p n q start flight kept e at = absurd at
 
-  goes_on : (t : Trace T) → IsIndexQueue t → (p : ℕ) (start : Start T) (flight : Flight T) → call_in t.world p ≡ Some (start, flight) → CallGoesOn code kinds.TheVariants.IndexQueue capacity (4 + capacity) (queue_effects code) t p flight
-  goes_on t r p start flight at =
-      let s = sound t r in
+  goes_on : (t : Trace T) → IsBounded t → (p : ℕ) (start : Start T) (flight : Flight T) → call_in t.world p ≡ Some (start, flight) → CallGoesOn code (machine_kind (kind_of r)) capacity ring_words (queue_effects code) t p flight
+  goes_on t run p start flight at =
+      let s = sound t run in
       let here = stands t.world p start flight at in
-      let there = stands_there (family t.world.coding IndexQueue t.world.capacity) t s p here.x here.since flight here.found here.doing in
+      let there = stands_there (family t.world.coding (kind_of r) t.world.capacity) t s p here.x here.since flight here.found here.doing in
       let is = kept_is t.world.kept t.world.words s.state s.fit in
       let waits = beside_of t.world.words t.world.kept t.world.latest p in
       let fact = λ (x : Party T) (n : ℕ) (found : party_of p t.world.latest ≡ Some x).
@@ -173,12 +178,19 @@ module _ {T : Type 0} (code : Coding T) (capacity : ℕ) where
       record {
         may = (fact here.x 0 here.found).may;
         own = λ n. effects_own code p flight n;
-        writes = λ x n found. (fact x n found).writes ∙ ap (λ (z : Coding T). queue_effects z p flight n) r.coded;
+        writes = λ x n found. (fact x n found).writes ∙ ap (λ (z : Coding T). queue_effects z p flight n) run.coded;
         goes = λ x n found. (fact x n found).goes;
       }
 
+  pub ring_owes : KindLaws code (machine_kind (kind_of r)) capacity ring_words (queue_effects code)
+  ring_owes = record { size = size; goes_on = goes_on }
+
+module _ {T : Type 0} (code : Coding T) (capacity : ℕ) where
   pub index_owes : KindLaws code kinds.TheVariants.IndexQueue capacity (4 + capacity) (queue_effects code)
-  index_owes = record { size = size; goes_on = goes_on }
+  index_owes = let one : 4 + 1 * capacity ≡ 4 + capacity = omega arith in subst (λ n. KindLaws code kinds.TheVariants.IndexQueue capacity n (queue_effects code)) one (ring_owes code capacity of_indices)
+
+  pub values_owe : KindLaws code kinds.TheVariants.Queue capacity (4 + code.size * capacity) (queue_effects code)
+  values_owe = ring_owes code capacity of_values
 
 -- ---- which party may begin a call on a queue of any kind
 

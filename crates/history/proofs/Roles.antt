@@ -1,5 +1,5 @@
 -- Which party holds a role that a pass holds: one of its own.
-use Rattle.std.proofs.Common.{◌≡◌, ◌≢◌, ◌≤◌, ℕ, ◌+◌, true, false, Bool, Option, Some, None, is_none, List, refl, sym, ap, ◌∙◌, arith, sum_by, fold}
+use Rattle.std.proofs.Common.{◌≡◌, ◌≤◌, ℕ, ◌+◌, true, Option, Some, None, is_none, List, refl, sym, sum_by, fold}
 use Rattle.steps.specs.declared.queues.roles.Role.{Role}
 use Rattle.steps.specs.declared.queues.roles.Role.TheVariants.{Producer, Consumer}
 use Rattle.model.specs.declared.event.Answer.{Answer}
@@ -21,7 +21,7 @@ nobody : (o : Option ℕ) → is_none o ≡ true → o ≡ None
 nobody None e = refl
 nobody (Some p) e = absurd (cc)
 
-granted : {T : Type 0} (o : Option ℕ) → ◌≡◌ {A = Answer T} (Truth true) (Truth (is_none o)) → o ≡ None
+pub granted : {T : Type 0} (o : Option ℕ) → ◌≡◌ {A = Answer T} (Truth true) (Truth (is_none o)) → o ≡ None
 granted o e = nobody o (let b : true ≡ is_none o = cc in sym b)
 
 module _ {T : Type 0} (owner : ℕ → ℕ) (j : ℕ) where

@@ -1,5 +1,5 @@
 -- What bit sets and counting bit sets owe, from their laws.
-use Rattle.std.proofs.Common.{◌≡◌, ◌≢◌, ℕ, ◌+◌, ◌-◌, ◌^◌, ◌<◌, nat_lt, Bool, true, false, Option, Some, None, IfSome, List, [], ◌∷◌, ◌++◌, length, replicate, refl, sym, ap, subst, ◌∙◌, arith, sum_by}
+use Rattle.std.proofs.Common.{◌≡◌, ℕ, ◌+◌, ◌-◌, ◌^◌, ◌<◌, nat_lt, false, Option, Some, None, IfSome, List, [], ◌∷◌, length, replicate, refl, sym, ap, subst, ◌∙◌, arith, sum_by}
 use Rattle.std.specs.List.{AllByRecursion}
 use Rattle.std.proofs.lemmas.Bool.Decides.{nat_tests}
 use Rattle.atomic_table.specs.Table.{opening}
@@ -20,8 +20,7 @@ use Rattle.model.specs.declared.turn.Turn.TheVariants.{Next}
 use Rattle.model.specs.Coding.{Coding, one_word}
 use Rattle.model.specs.Families.{opening_of, first_of, begin_rows, step_of, beside_of, after_of, goes_of, going_rows}
 use Rattle.model.specs.Families.Bits.Steps.{effects_of}
-use Rattle.model.specs.Parties.{party_of}
-use Rattle.model.specs.Promises.Turns.{IsEffectOf, IsParty}
+use Rattle.model.specs.Promises.Turns.{IsEffectOf}
 use Rattle.model.specs.Reading.{whose, span_of}
 use Rattle.model.specs.Rows.{first_row}
 use Rattle.model.specs.Turns.{step_in}

@@ -1,5 +1,5 @@
 -- A step of a seat's call, its begin with the first one, is allowed by the rule of a table that is a machine.
-use Rattle.std.proofs.Common.{◌≡◌, ◌≢◌, inl, ⊎_elim, ℕ, ◌<◌, ◌≤◌, List, [], ◌++◌, length, slice_set, refl, sym, ap, subst, append-nil, arith, length-set, Some, ◌∙◌, sum_by, ◌+◌}
+use Rattle.std.proofs.Common.{◌≡◌, ◌≢◌, inl, ⊎_elim, ℕ, ◌<◌, ◌≤◌, List, [], ◌++◌, length, slice_set, refl, sym, ap, subst, append-nil, arith, length-set, Some, ◌∙◌}
 use Rattle.std.proofs.lemmas.List.Sums.{sum_by-append}
 use mathlib.Core.Option.{some}
 use lib.ListN.{get_elem?}

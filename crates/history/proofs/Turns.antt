@@ -2,13 +2,11 @@
 use Rattle.std.proofs.Common.{◌≡◌, ◌≢◌, inl, inr, ℕ, ◌+◌, ◌<◌, ◌≤◌, ◌==◌, true, false, Option, Some, None, IfSome, List, [], ◌∷◌, ◌++◌, length, slice_index, slice_set, refl, sym, ap, subst, ◌∙◌, append_assoc, arith, sum_by}
 use Rattle.std.proofs.lemmas.List.Sums.{sum_by-append}
 use Rattle.std.proofs.lemmas.Bool.Decides.{nat_tests}
-use Rattle.std.specs.List.{AllByRecursion}
 use mathlib.Core.Option.{some}
 use lib.ListN.{get_elem?}
 use Rattle.atomic_table.specs.Table.{State}
 use Rattle.steps.specs.Ask.{written}
 use Rattle.steps.specs.declared.ask.Ask.{Ask}
-use Rattle.steps.specs.declared.ask.After.{After}
 use Rattle.steps.specs.declared.ask.Want.{Want}
 use Rattle.steps.specs.declared.ask.Want.TheVariants as wants
 use Rattle.model.specs.declared.event.Answer.{Answer}

@@ -57,7 +57,7 @@ module _ {T : Type 0} where
     pub own : 0 < v.share.part → (p : ℕ) → owner p ≡ j → HasSeenOf p v t.events
     pub made : (f : Event T → ℕ) → sum_by f v.made ≡ sum_by (owned owner j f) t.events
 
-  -- a reached machine of this kind and capacity, in which no push found the last position
+  -- a reached machine of this kind and capacity, in which no push found the last position, and no store the last version
   pub record IsRun (code : Coding T) (kind : Kind) (capacity : ℕ) (t : Trace T) : Type 0 where
     pub reached : IsReachedOn t
     pub coded : t.world.coding ≡ code

@@ -1,8 +1,7 @@
 -- The calls on unique index sets as calls of the model: where each stands, and what it has written there.
-use Rattle.std.specs.Prelude.{◌≡◌, ℕ, ◌<◌, Bool, true, false, Option, None, IfSome, Ok, Err, List, [], ◌∷◌, ◌++◌}
+use Rattle.std.specs.Prelude.{◌≡◌, ℕ, ◌<◌, Bool, false, None, IfSome, Ok, Err, List, [], ◌∷◌}
 use Rattle.steps.specs.Indices.Head.{proposed}
 use Rattle.steps.specs.Indices.Unique.{Acquired}
-use Rattle.steps.specs.declared.indices.enums.ReleaseMode.{ReleaseMode}
 use Rattle.steps.specs.declared.indices.enums.ReleaseMode.TheVariants as modes
 use Rattle.steps.specs.declared.indices.enums.ReleaseState.{ReleaseState}
 use Rattle.steps.specs.declared.indices.enums.ReleaseState.TheVariants as states
@@ -14,11 +13,9 @@ use Rattle.steps.specs.declared.indices.unique.LockMode.{LockMode}
 use Rattle.steps.specs.declared.indices.looks.BorrowedIndices.{BorrowedIndices as Counting}
 use Rattle.steps.specs.declared.indices.looks.IsLocked.{IsLocked as Looking}
 use Rattle.steps.specs.declared.indices.unique.ReleaseStage as releases
-use Rattle.model.specs.declared.event.Answer.{Answer}
 use Rattle.model.specs.declared.event.Answer.TheVariants.{State, Number, Truth}
 use Rattle.model.specs.declared.event.Event.{Event}
 use Rattle.model.specs.declared.event.Event.TheVariants.{Claimed, Freed, Locked}
-use Rattle.model.specs.declared.event.Start.{Start}
 use Rattle.model.specs.declared.event.Start.TheVariants.{Indices}
 use Rattle.model.specs.declared.families.Flight.{Flight}
 use Rattle.model.specs.declared.families.Flight as flights

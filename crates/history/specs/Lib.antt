@@ -3,6 +3,10 @@ pub mod Held
 pub mod Roles
 pub mod Indices
 pub mod History
+pub mod Rooms
 pub mod Stages
 pub mod Queues
+pub mod Value
+pub mod ValueQueue
+pub mod ValueOpened
 pub mod Views

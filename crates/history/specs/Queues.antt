@@ -4,12 +4,10 @@ use Rattle.history.specs.Stages.{Calling}
 use Rattle.model.specs.Families.Queues.Calls.{popped, length_answer}
 use Rattle.model.specs.declared.event.Answer.TheVariants as answers
 use Rattle.model.specs.declared.event.Answer.TheVariants.{Truth}
-use Rattle.model.specs.declared.event.Answer.{Answer}
 use Rattle.model.specs.declared.event.Event.TheVariants.{Published, HandedOut, Acted}
 use Rattle.model.specs.declared.event.Event.{Event}
 use Rattle.model.specs.declared.event.Item.TheVariants.{Index}
 use Rattle.model.specs.declared.event.Start.TheVariants.{Queues}
-use Rattle.model.specs.declared.event.Start.{Start}
 use Rattle.model.specs.declared.families.Flight as flights
 use Rattle.model.specs.declared.families.Flight.{Flight}
 use Rattle.model.specs.declared.families.queues.QueueStart.{QueueStart}
@@ -25,7 +23,7 @@ use Rattle.steps.specs.declared.queues.roles.Role.{Role}
 use Rattle.history.specs.Roles.{role_word, acquire_start, release_start}
 use Rattle.model.specs.declared.families.queues.calls.QueueFlight.TheVariants.{Indices}
 use Rattle.model.specs.declared.families.queues.calls.RingCall as rings
-use Rattle.steps.specs.Queues.Ring.{cell_word, word_at, at_push, push_asks, push_want, push_takes, push_after, after_position, distance, at_pop, pop_asks, pop_want, pop_takes, pop_after, pop_kept, pop_keeps, pop_answer}
+use Rattle.steps.specs.Queues.Ring.{cell_word, pop_answer}
 use Rattle.steps.specs.declared.copied.OneWord.{OneWord}
 use Rattle.steps.specs.declared.queues.ring.Pop as pop_calls
 use Rattle.steps.specs.declared.queues.ring.PopStage as pops

@@ -1,5 +1,5 @@
 -- Which role of a queue a pass holds, by what it made.
-use Rattle.std.specs.Prelude.{◌≡◌, ℕ, ◌+◌, true, Option, Some, None, List, fold, sum_by}
+use Rattle.std.specs.Prelude.{◌≡◌, ℕ, ◌+◌, true, Option, Some, List, sum_by}
 use Rattle.steps.specs.declared.queues.roles.Role.{Role}
 use Rattle.steps.specs.declared.queues.roles.Role.TheVariants.{Producer, Consumer}
 use Rattle.model.specs.declared.event.Answer.TheVariants.{Truth}
@@ -8,7 +8,7 @@ use Rattle.model.specs.declared.event.Event.TheVariants.{Published, HandedOut, A
 use Rattle.model.specs.declared.event.Item.{Item}
 use Rattle.model.specs.declared.event.Start.TheVariants.{Queues}
 use Rattle.model.specs.declared.families.queues.QueueStart.{QueueStart}
-use Rattle.model.specs.declared.families.queues.QueueStart.TheVariants.{AcquireProducer, ReleaseProducer, AcquireConsumer, ReleaseConsumer, PushIndex, Pop}
+use Rattle.model.specs.declared.families.queues.QueueStart.TheVariants.{AcquireProducer, ReleaseProducer, AcquireConsumer, ReleaseConsumer, PushIndex, Push, Pop}
 use Rattle.model.specs.declared.families.queues.Roles.{Roles}
 use Rattle.model.specs.Families.Queues.Reading.{publishes, hands_out, producer_after, consumer_after, producer_of, consumer_of}
 
@@ -59,5 +59,6 @@ module _ {T : Type 0} where
   ByHolder before (Published p item) = producer_of before ≡ Some p
   ByHolder before (HandedOut p item) = consumer_of before ≡ Some p
   ByHolder before (Acted p (Queues (PushIndex value)) answer) = producer_of before ≡ Some p
+  ByHolder before (Acted p (Queues (Push value)) answer) = producer_of before ≡ Some p
   ByHolder before (Acted p (Queues Pop) answer) = consumer_of before ≡ Some p
   ByHolder before e = Unit {0}

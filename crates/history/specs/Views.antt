@@ -77,6 +77,9 @@ module _ {T : Type 0} where
     pub all : IsAll v.share → (f : Event T → ℕ) → sum_by f w.seen ≡ sum_by f w.made
     pub history : IsHistory code kind size w.seen
     pub parties : IsOfParties w
+    -- what it had not seen is of other parties
+    pub apart : v.other ≡ [] → 0 < v.share.part → (p : ℕ) → parties.owner p ≡ parties.seat
+        → events_by p mine.rest ≡ []
 
   -- a look at this word, and what the machine had there
   pub record LooksAt (code : Coding T) (kind : Kind) (size word : ℕ) (v : View T) (found : ℕ) (w : View T) : Type 0 where

@@ -2,11 +2,12 @@
 
 use super::view::View;
 use atomic_table::{Join, Split};
+use steps::words::Words;
 
 /// A new seat of the same table.
 pub struct Cut;
 
-impl Split<View<u64>> for Cut {
+impl<T: Words> Split<View<T>> for Cut {
     ghost use Rattle.history.specs.Views.{left_view, right_view};
 
     ghost left = { left_view };
@@ -17,7 +18,7 @@ impl Split<View<u64>> for Cut {
 /// One seat in place of two.
 pub struct Both;
 
-impl Join<View<u64>> for Both {
+impl<T: Words> Join<View<T>> for Both {
     ghost use Rattle.history.specs.Views.{joined_view, spent_view};
 
     ghost both = { joined_view };

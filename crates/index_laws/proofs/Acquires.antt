@@ -24,12 +24,11 @@ use Rattle.model.specs.declared.event.Start.TheVariants.{Indices}
 use Rattle.model.specs.declared.families.indices.IndexStart.TheVariants.{Acquire}
 use Rattle.model.specs.declared.families.indices.calls.IndexFlight.TheVariants as flights
 use Rattle.model.specs.Families.Indices.Calls.{acquire_answer, after, goes_back}
-use Rattle.model.specs.Families.Indices.Promises.{AnswersRight}
-use Rattle.model.specs.Families.Indices.Reading.{tally_of, in_use}
+use Rattle.model.specs.Families.Indices.Reading.{is_locked, tally_of, in_use}
 use Rattle.model.specs.Families.Queues.Calls.{as_it_is}
 use Rattle.model.specs.Turns.{words_after}
 use Rattle.index_laws.proofs.Core.{head_of, counted_in, is_claimed, head_stays, Good}
-use Rattle.index_laws.proofs.Invariant.{Scene, Inv}
+use Rattle.index_laws.proofs.Invariant.{Scene, Inv, AnswersFew}
 use Rattle.index_laws.proofs.Knows.{acquire_at, acquire_number, acquire_counts, AcquireAt, AcquireKnows, IsOpen, IsPaid, PaidUnless, AllClaimed}
 use Rattle.index_laws.proofs.Moves.{takes, counts_right, unlocked_for, some_free, was_free, still_claimed, claims, claims_again}
 use Rattle.index_laws.proofs.Stages.{busy, IsHere, busy_here, all_in_use, Comes, StepOf, since_then, changes_then, backs_then, paid_of, unless_then, goes_on, ends, claims_index, same_tally, open_says}
@@ -60,7 +59,7 @@ module _ {T : Type 0} (scene : Scene T) (inv : Inv scene) where
     good_then : (busy' : ℕ) → busy' ≡ busy scene → Good c (words_after ws (Some ask)) hs busy'
     good_then busy' e = subst (λ n. Good c (words_after ws (Some ask)) hs n) (sym e) (subst (λ w. Good c w hs (busy scene)) (sym same) g)
 
-    fails : (failure : UniqueIndexSetAcquireFailure) → AnswersRight c events (Finished p (Indices Acquire) (NoIndex failure)) → Does stage ask back (Done (Err failure))
+    fails : (failure : UniqueIndexSetAcquireFailure) → AnswersFew c events (Finished p (Indices Acquire) (NoIndex failure)) → Does stage ask back (Done (Err failure))
     fails failure right =
         ends scene inv Acquire (acquire_at c stage) (NoIndex failure) (Some ask) back (λ busy' e. good_then busy' (omega arith))
         (λ h t g t' g' a b. same_tally h h (t - 1) t' g g' refl (omega arith) (omega arith)) refl right (ap (λ w. says_locked (head_of w)) same) tt (omega arith) (omega arith)
@@ -70,13 +69,13 @@ module _ {T : Type 0} (scene : Scene T) (inv : Inv scene) where
     goes_to stage' light' at s knows =
         goes_on scene inv Acquire (acquire_at c stage) (acquire_at c stage') (Some ask) back (λ busy' e. good_then busy' (omega arith)) refl refl refl (ap (λ w. says_locked (head_of w)) same) tt s (refl, at) knows
 
-    -- as many indices are in use as there are, without this call
-    out_of : borrowed (head_of ws) ≢ locked → borrowed (head_of ws) ≡ c → c + 1 ≤ in_use (tally_of events)
+    -- as many indices are in use as there are, without this call, and the set is not locked
+    out_of : borrowed (head_of ws) ≢ locked → borrowed (head_of ws) ≡ c → (c + 1 ≤ in_use (tally_of events)) × (is_locked events ≡ false)
     out_of unlocked full =
         let is = counts_right c ws hs (busy scene) g unlocked in
         let number = is.0 in
         let all = all_in_use scene (acquire_at c stage) here in
-        rw inv.holds.tally (omega arith)
+        (rw inv.holds.tally (omega arith), inv.holds.lock ∙ open_says (head_of ws) unlocked)
 
     pub sees : Does stage ask back (acquire_sees (call_at stage) (head_of ws))
     sees =

@@ -5,19 +5,23 @@ use Rattle.std.proofs.lemmas.Bool.{cases_eq}
 use Rattle.std.proofs.lemmas.Bool.Decides.{nat_tests}
 use Rattle.std.proofs.lemmas.List.Sums.{fold-append}
 use Rattle.steps.specs.Indices.Head.{says_locked}
+use Rattle.steps.specs.declared.indices.enums.UniqueIndexSetAcquireFailure.TheVariants.{OutOfIndices}
+use Rattle.model.specs.declared.event.Answer.TheVariants.{NoIndex, Number}
 use Rattle.model.specs.declared.event.Event.{Event}
+use Rattle.model.specs.declared.event.Event.TheVariants.{Finished}
 use Rattle.model.specs.declared.event.Start.{Start}
 use Rattle.model.specs.declared.event.Start as any_starts
 use Rattle.model.specs.declared.families.Flight.{Flight}
 use Rattle.model.specs.declared.families.Flight as flights
 use Rattle.model.specs.declared.families.Kept.{Kept}
 use Rattle.model.specs.declared.families.Kept as kepts
+use Rattle.model.specs.declared.families.indices.IndexStart.TheVariants.{Acquire, BorrowedIndices}
 use Rattle.model.specs.declared.families.indices.calls.IndexFlight.{IndexFlight}
 use Rattle.model.specs.declared.party.Party.{Party}
 use Rattle.model.specs.declared.turn.Kind as kinds
 use Rattle.model.specs.Coding.{Coding}
-use Rattle.model.specs.Families.Indices.Promises.{HoldsRight, AnswersRight, GoesStraight, promise}
-use Rattle.model.specs.Families.Indices.Reading.{holder_after, holder_of, locked_after, is_locked, Tally, tally_after, tally_of}
+use Rattle.model.specs.Families.Indices.Promises.{HoldsRight, CountsRight, AnswersRight, GoesStraight, promise}
+use Rattle.model.specs.Families.Indices.Reading.{holder_after, holder_of, locked_after, is_locked, Tally, tally_after, tally_of, in_use}
 use Rattle.model.specs.Parties.{party_of, put, doing_of, flight_of}
 use Rattle.model.specs.Promises.Spans.{Stands}
 use Rattle.model.specs.Reading.{Each, Span, own_after, span_of}
@@ -76,6 +80,14 @@ module _ {T : Type 0} where
   abbrev pub all_giving : List (ℕ × Party T) → ℕ → ℕ
   all_giving latest n = total (of_any gives) latest n
 
+  -- An answer says what is promised of it. Beside that, who finds none left finds no lock, and a number of borrowed
+  -- indices is at most the capacity.
+  abbrev pub AnswersFew : ℕ → List (Event T) → Event T → Type 0
+  AnswersFew c before (Finished p (any_starts.TheVariants.Indices Acquire) (NoIndex OutOfIndices)) =
+      (c + 1 ≤ in_use (tally_of before)) × (is_locked before ≡ false)
+  AnswersFew c before (Finished p (any_starts.TheVariants.Indices BorrowedIndices) (Number number)) = CountsRight before number × (number ≤ c)
+  AnswersFew c before e = AnswersRight c before e
+
   -- what is so of the set, of the latest calls and of the events
   pub record Holds (c : ℕ) (s : IndexSet) (latest : List (ℕ × Party T)) (events : List (Event T)) : Type 0 where
     pub bounded : (p : ℕ) (x : Party T) → party_of p latest ≡ Some x → p < s.seats
@@ -85,7 +97,7 @@ module _ {T : Type 0} where
     pub lock : is_locked events ≡ says_locked (head_of s.words)
     pub straight : (p : ℕ) (x : Party T) → party_of p latest ≡ Some x → GoesStraight x.start x.backs
     pub holds : Each (HoldsRight c) events
-    pub answers : Each (AnswersRight c) events
+    pub answers : Each (AnswersFew c) events
 
   -- ---- the family of the unique index set
 
@@ -133,7 +145,7 @@ module _ {T : Type 0} where
   -- its span was this
   pub record Shows (scene : Scene T) (words' : List ℕ) (holders' : List (Option ℕ)) (was : Option (Flight T)) (from : Span T) (y : Party T) (es : List (Event T)) (changes' : ℕ) : Type 0 where
     pub right : AreRight (HoldsRight scene.capacity) scene.events es
-    pub answers : AreRight (AnswersRight scene.capacity) scene.events es
+    pub answers : AreRight (AnswersFew scene.capacity) scene.events es
     pub good : (busy' : ℕ) → busy' + weight_of (of_any counts) was ≡ all_counted scene.latest scene.set.seats + weight_of (of_any counts) (flight_of (Some y.doing)) → Good scene.capacity words' holders' busy'
     pub tally : (taking' giving' : ℕ) → taking' + weight_of (of_any takes) was ≡ all_taking scene.latest scene.set.seats + weight_of (of_any takes) (flight_of (Some y.doing))
         → giving' + weight_of (of_any gives) was ≡ all_giving scene.latest scene.set.seats + weight_of (of_any gives) (flight_of (Some y.doing))
@@ -224,5 +236,5 @@ module _ {T : Type 0} where
             lock = fold-append locked_after false events es ∙ (ap (λ b. fold locked_after b es) h.lock ∙ s.lock);
             straight = of_each (λ q x. GoesStraight x.start x.backs) s.straight h.straight;
             holds = Each-append (HoldsRight c) events es h.holds s.right;
-            answers = Each-append (AnswersRight c) events es h.answers s.answers;
+            answers = Each-append (AnswersFew c) events es h.answers s.answers;
           }

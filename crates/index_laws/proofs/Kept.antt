@@ -6,7 +6,10 @@ use Rattle.steps.specs.declared.indices.unique.AcquireStage.{AcquireStage}
 use Rattle.steps.specs.declared.indices.unique.AcquireStage as acquires
 use Rattle.steps.specs.declared.indices.unique.ReleaseStage.{ReleaseStage}
 use Rattle.steps.specs.declared.indices.unique.ReleaseStage as releases
+use Rattle.steps.specs.declared.indices.enums.UniqueIndexSetAcquireFailure.TheVariants.{OutOfIndices}
+use Rattle.model.specs.declared.event.Answer.TheVariants.{NoIndex, Number}
 use Rattle.model.specs.declared.event.Event.{Event}
+use Rattle.model.specs.declared.event.Event.TheVariants.{Finished}
 use Rattle.model.specs.declared.event.Start.{Start}
 use Rattle.model.specs.declared.event.Start.TheVariants.{Indices}
 use Rattle.model.specs.declared.families.Flight.{Flight}
@@ -18,7 +21,7 @@ use Rattle.model.specs.declared.families.indices.calls.IndexFlight.TheVariants.{
 use Rattle.model.specs.declared.turn.Kind as kinds
 use Rattle.model.specs.Coding.{Coding}
 use Rattle.model.specs.Families.Indices.Bounds.{most_steps}
-use Rattle.model.specs.Families.Indices.Promises.{KeepsHolders, IsIndexSet, most, promise}
+use Rattle.model.specs.Families.Indices.Promises.{KeepsHolders, AnswersRight, IsIndexSet, most, promise}
 use Rattle.model.specs.Parties.{party_of}
 use Rattle.model.specs.Promises.{IsKeptBy, IsKept}
 use Rattle.model.specs.Promises.Families.{promise_of}
@@ -28,7 +31,7 @@ use Rattle.model.specs.Turns.{IsReached, IsReachedOn}
 use Rattle.model.specs.World.{Trace, progress_in}
 use Rattle.model.proofs.Frame as frame
 use Rattle.index_laws.proofs.Core.{is_claimed}
-use Rattle.index_laws.proofs.Invariant.{IndexSet, family}
+use Rattle.index_laws.proofs.Invariant.{IndexSet, AnswersFew, family}
 use Rattle.index_laws.proofs.Knows.{acquire_number, release_number, number_of, PaidUnless, AcquireAt, AcquireKnows, LockKnows, FlightKnows, At}
 use Rattle.index_laws.proofs.Sound.{kept_is, reached_sound, reached_on_sound}
 
@@ -96,6 +99,11 @@ module _ {T : Type 0} where
 
   -- ---- what is promised
 
+  promised_of : (c : ℕ) (before : List (Event T)) (e : Event T) → AnswersFew c before e → AnswersRight c before e
+  promised_of c before (Finished p (Indices starts.TheVariants.Acquire) (NoIndex OutOfIndices)) h = h.0
+  promised_of c before (Finished p (Indices starts.TheVariants.BorrowedIndices) (Number number)) h = h.0
+  promised_of c before e h = h
+
   set_kept : (code : Coding T) (t : Trace T) → (s : frame.Sound (family code t.world.capacity) t) → IsIndexSet t
   set_kept code t s =
       let w = t.world in
@@ -103,7 +111,7 @@ module _ {T : Type 0} where
       let held = s.holds.holders in
       record {
         holds = s.holds.holds;
-        answers = s.holds.answers;
+        answers = λ before after e is. promised_of w.capacity before e (s.holds.answers before after e is);
         flags = λ index below.
             ap (λ ws. is_claimed w.capacity ws index) is.1
             ∙ (s.holds.good.flags index below ∙ sym (ap is_some (held index)));

@@ -1,5 +1,5 @@
 -- The steps of the calls that look at the head: how many indices are borrowed, and whether the set is locked.
-use Rattle.std.proofs.Common.{◌≡◌, ◌≢◌, ℕ, ◌+◌, ◌≤◌, true, false, Option, Some, List, refl, sym, ap, subst, ◌∙◌, arith}
+use Rattle.std.proofs.Common.{◌≡◌, ◌≢◌, ℕ, ◌+◌, ◌≤◌, Bool, true, false, Option, Some, List, refl, sym, ap, subst, ◌∙◌, arith}
 use Rattle.std.proofs.lemmas.Bool.Decides.{nat_tests}
 use Rattle.std.proofs.lemmas.List.{set-get_or}
 use Rattle.steps.specs.declared.ask.Ask.{Ask}
@@ -68,9 +68,22 @@ module _ {T : Type 0} (scene : Scene T) (inv : Inv scene) (straight : scene.back
   told : (h t g t' g' : ℕ) → t' + 0 ≡ t + 0 → g' + 0 ≡ g + 0 → ◌≡◌ {A = Tally} (record { held = h; taking = t; giving = g }) (record { held = h; taking = t'; giving = g' })
   told h t g t' g' a b = same_tally h h t t' g g' refl (omega arith) (omega arith)
 
+  -- and is at most the capacity
+  counts_few : borrowed_number (head_of ws) ≤ c
+  counts_few = go (says_locked (head_of ws)) refl
+    where
+      go : (b : Bool) → says_locked (head_of ws) ≡ b → borrowed_number (head_of ws) ≤ c
+      go true t = rw t (omega arith)
+      go false t =
+          let not_locked : borrowed (head_of ws) ≢ locked = grind (arith, nat_tests) in
+          let is = counts_right c ws hs (busy scene) g not_locked in
+          let same = is.0 in
+          let most = is.1 in
+          rw t (omega arith)
+
   pub counts_step : IsHere scene borrowed_at → StepOf scene starts.TheVariants.BorrowedIndices borrowed_at
   counts_step here =
-      ends scene inv starts.TheVariants.BorrowedIndices borrowed_at (Number (borrowed_number (head_of ws))) (Some loads) false good_same told refl (counts_so here) (ap (λ w. says_locked (head_of w)) same) tt (omega arith) (omega arith)
+      ends scene inv starts.TheVariants.BorrowedIndices borrowed_at (Number (borrowed_number (head_of ws))) (Some loads) false good_same told refl (counts_so here, counts_few) (ap (λ w. says_locked (head_of w)) same) tt (omega arith) (omega arith)
 
   pub looks_step : StepOf scene starts.TheVariants.IsLocked locked_at
   looks_step =

@@ -28,7 +28,7 @@ use Rattle.model.specs.declared.party.Party.{Party}
 use Rattle.model.specs.Families.{ask_of}
 use Rattle.model.specs.Families.Indices.Bounds.{most_steps}
 use Rattle.model.specs.Families.Indices.Calls.{want, after, goes_back}
-use Rattle.model.specs.Families.Indices.Promises.{AnswersRight, GoesStraight}
+use Rattle.model.specs.Families.Indices.Promises.{GoesStraight}
 use Rattle.model.specs.Families.Indices.Reading.{Tally, tally_after, locked_after}
 use Rattle.model.specs.Families.Indices.Spans.{deeds, done_by}
 use Rattle.model.specs.Families.Indices.Steps.{frees, effects, holders_after}
@@ -38,7 +38,7 @@ use Rattle.model.specs.Step.{as_call, answer_in}
 use Rattle.model.specs.Turns.{one_if, old_of, words_after, change_of, step_count, party_after, ending_of}
 use Rattle.model.proofs.Turns.{kept_words}
 use Rattle.index_laws.proofs.Core.{head_of, counted_in, holder, one_held, held_below, held_below_set, Good}
-use Rattle.index_laws.proofs.Invariant.{Scene, Inv, Shows, of_any, all_counted, all_taking, all_giving}
+use Rattle.index_laws.proofs.Invariant.{Scene, Inv, Shows, AnswersFew, of_any, all_counted, all_taking, all_giving}
 use Rattle.index_laws.proofs.Knows.{counts, takes, gives, flight_wrote, number_of, At, FlightKnows, IsPaid, PaidUnless, IsSeen, counts_less}
 use Rattle.index_laws.proofs.Sums.{sum_one, sum_over}
 use Rattle.index_laws.proofs.Totals.{weight_of, weight_at}
@@ -223,7 +223,7 @@ module _ {T : Type 0} (scene : Scene T) where
         → ((h t g t' g' : ℕ) → t' + takes flight ≡ t + 0 → g' + gives flight ≡ g + 0
         → tally_after (record { held = h; taking = t; giving = g }) (Finished p (Indices start) answer) ≡ record { held = h; taking = t'; giving = g' })
         → done_by start answer ≡ Some (deeds (flight_wrote {T = T} p flight))
-        → AnswersRight c events (Finished p (Indices start) answer)
+        → AnswersFew c events (Finished p (Indices start) answer)
         → says_locked (head_of (words_after words ask)) ≡ says_locked (head_of words)
         → GoesStraight {T = T} (Indices start) (backs_then back)
         → scene.steps + step_count ask ≤ most_steps c start (backs_then back)

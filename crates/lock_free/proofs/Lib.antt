@@ -6,8 +6,7 @@ pub use Rattle.lock_free_sp.proofs.Orders
 pub use Rattle.lock_free_sp.proofs.Shares
 pub use Rattle.lock_free_sp.proofs.Rules.Ring.Lists
 pub mod Sums
-pub mod Held
+pub mod Unique
 pub mod Loan
-pub mod Rules
 pub mod Bits
 pub mod Counts

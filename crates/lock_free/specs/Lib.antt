@@ -12,6 +12,9 @@ pub use Rattle.lock_free_owners.specs.Container
 pub use Rattle.steps.specs.Enums
 pub use Rattle.steps.specs.Container.State as ContainerState
 pub use Rattle.history.specs.History
+pub use Rattle.history.specs.Held as HistoryHeld
+pub use Rattle.model.specs.Families.Indices.Reading as IndexReading
+pub use Rattle.model.specs.Families.Indices.Promises as IndexPromises
 pub use Rattle.model.specs.Families.Bits.Reading as Sums
 -- The types that they speak of.
 pub use Rattle.atomic_table.specs.Seated.{TableId}
@@ -20,7 +23,6 @@ pub use Rattle.history.specs.declared.view as HistoryView
 pub use Rattle.lock_free_sp.specs.declared.ring.view as QueueView
 pub use Rattle.lock_free_sp.specs.declared.ring.ends as QueueEnds
 pub use Rattle.lock_free_sp.specs.declared.value.view as ValueView
-pub use Rattle.lock_free.specs.declared.unique.view as UniqueView
 pub use Rattle.lock_free_owners.specs.declared.robust.view as RobustView
 pub use Rattle.lock_free.specs.declared.spsc.loan.places.Place
 pub use Rattle.lock_free_sp.specs.declared.share.Share

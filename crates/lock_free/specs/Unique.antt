@@ -1,6 +1,3 @@
-pub mod Views
-pub mod Between
-pub mod Tells
-pub mod Kept
-pub mod Calls
-pub mod Stages
+-- The words of the contracts of unique index sets.
+pub mod Held
+pub mod Told

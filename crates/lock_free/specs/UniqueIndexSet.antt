@@ -1,43 +1,73 @@
 -- The words of the contracts of a unique index set: what names it, which pass is for it, and
--- what a pass or a held index knows.
-use Rattle.std.specs.Prelude.{◌≡◌, ℕ, ◌-◌, ◌^◌, ◌||◌, Option, Some, if◌then◌else◌, nat_lt}
+-- what a pass or a held index knows of the set's history.
+use Rattle.std.specs.Prelude.{◌≡◌, ℕ, ◌-◌, ◌^◌, ◌||◌, Option, Some, List, sum_by, if◌then◌else◌, nat_lt}
 use Rattle.std.specs.Arc.{arc_value}
-use Rattle.atomic_table.specs.Seated.{TableId}
 use Rattle.steps.specs.Enums.{capacity_refusal}
 use Rattle.steps.specs.declared.enums.UniqueIndexCreationError.{UniqueIndexCreationError}
 use Rattle.steps.specs.declared.enums.UniqueIndexCreationError.TheVariants.{ProvidedCapacityGreaterThanMaxCapacity}
-use Rattle.lock_free.specs.declared.unique.view.View.{View}
+use Rattle.model.specs.declared.event.Event.{Event}
+use Rattle.model.specs.declared.turn.Kind.TheVariants as kinds
+use Rattle.model.specs.Coding.{one_word}
+use Rattle.lock_free_sp.specs.declared.share.Share.{Share}
+use Rattle.lock_free_sp.specs.Shares.{IsAll}
+pub use Rattle.lock_free_sp.specs.Sets.{SetId}
+use Rattle.history.specs.declared.view.View.{View}
+use Rattle.history.specs.History.{IsHistory}
 use Rattle.lock_free.specs.declared.mpmc.unique_index_set.UniqueIndexSet.{UniqueIndexSet}
 use Rattle.lock_free.specs.declared.mpmc.unique_index_set.FixedSizeUniqueIndexSet.{FixedSizeUniqueIndexSet}
 use Rattle.lock_free.specs.declared.mpmc.unique_index_set.Pass.{Pass}
 use Rattle.lock_free.specs.declared.mpmc.unique_index_set.UniqueIndex.{UniqueIndex}
 
 -- what names a set
-abbrev pub set_id : UniqueIndexSet → TableId
-set_id s = (arc_value s.table).shared.table_id
+abbrev pub set_id : UniqueIndexSet → SetId
+set_id s = record { table = (arc_value s.table).shared.table_id; capacity = s.capacity }
 
 abbrev pub capacity_of : UniqueIndexSet → ℕ
 capacity_of s = s.capacity
 
--- what a pass knows, and which set it is for
-abbrev pub view : Pass → View
-view p = p.token.seated.seat.me.0
-
-abbrev pub set_of : Pass → TableId
-set_of p = p.token.seated.seat.table_id
+-- which set a pass is for
+abbrev pub set_of : Pass → SetId
+set_of p = record { table = p.seated.seat.table_id; capacity = p.capacity }
 
 abbrev pub IsPassOf : UniqueIndexSet → Pass → Type 0
 IsPassOf s p = set_of p ≡ set_id s
 
--- the same of a held index
+-- all that a pass knows
+abbrev pub view : Pass → View ℕ
+view p = p.seated.seat.me.0
+
+-- the beginning of the history that it has seen
+abbrev pub history : Pass → List (Event ℕ)
+history p = p.seated.seat.me.0.seen
+
+-- the events of its own calls, and of those of the passes that it took in
+abbrev pub made : Pass → List (Event ℕ)
+made p = p.seated.seat.me.0.made
+
+-- its share of the right to know the whole
+abbrev pub share : Pass → Share
+share p = p.seated.seat.me.0.share
+
+-- it has seen a history of its set
+abbrev pub HasHistory : Pass → Type 0
+HasHistory p = IsHistory one_word kinds.Indices (set_of p).capacity (history p)
+
+-- with the whole share, the history is what it made: every measure of the events says so
+abbrev pub MissesNothing : Pass → Type 0
+MissesNothing p = IsAll (share p) → (f : Event ℕ → ℕ) → sum_by f (history p) ≡ sum_by f (made p)
+
+-- a held index, with the pass that it owns
 abbrev pub value_of : UniqueIndex → ℕ
 value_of i = i.index
 
-abbrev pub index_view : UniqueIndex → View
-index_view i = i.token.seated.seat.me.0
+abbrev pub index_pass : UniqueIndex → Pass
+index_pass i = i.pass
 
-abbrev pub index_set : UniqueIndex → TableId
-index_set i = i.token.seated.seat.table_id
+abbrev pub index_view : UniqueIndex → View ℕ
+index_view i = view i.pass
+
+abbrev pub index_set : UniqueIndex → SetId
+index_set i = set_of i.pass
 
 -- a capacity from 1 to 2^24 - 2 is admitted
 abbrev pub set_refusal : ℕ → Option UniqueIndexCreationError

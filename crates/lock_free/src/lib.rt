@@ -3,7 +3,6 @@
 
 pub mod mpmc;
 pub mod spsc;
-mod unique;
 
 pub use lock_free_sp::{laws, spmc};
 pub use steps::words;

@@ -5,7 +5,7 @@
 //! and a close load words by themselves.
 //! What a caller knows of a structure is the view of its pass; the rule of the table says
 //! how the views of all passes fit together. No contract here counts the steps of a call.
-//! The tests stand in crates of their own, as `thread_tests`, `real_threads` and `drawn_tests`.
+//! The tests stand in crates of their own: `calls`, `real_threads` and `thread_edges`.
 #![tactic(auto)]
 
 pub mod driver;

@@ -63,6 +63,8 @@ impl<T: Words> Machine<T> {
     ghost use Rattle.model.specs.Turns.{after_turn, after_turns, AreAllowed};
     ghost use Rattle.model.specs.Linearized.{IsLinearizableRun};
     ghost use Rattle.model.specs.Progress.{KeepsGuarantees};
+    ghost use Rattle.model.specs.declared.families.Kept.TheVariants as kepts;
+    ghost use Rattle.model.specs.declared.families.loan.Book.{Book};
     ghost use Rattle.machine.specs.States.{IsStateIn};
     ghost use Rattle.model.specs.Promises.{IsKept, WritesEvents, TellsBeside, AreTurns};
     ghost use Rattle.model.specs.Promises.Turns.{IsOneTurnLater, WritesOneWord, GoesOn, CountsTurn, CountsOthers};
@@ -110,6 +112,7 @@ impl<T: Words> Machine<T> {
     ) -> Result<Machine<T>, UniqueIndexCreationError>
         ensures ok { IfOk result (λ m. trace_in ⟦<T as Coded>⟧.coding m
             ≡ loan_opening ⟦<T as Coded>⟧.coding slots queue parties) }
+        ensures queue { IfOk result (λ m. (book : Book) × (m.kept ≡ kepts.Loan book) × (book.queue ≡ queue)) }
         ensures admitted { OnOk result (loan_error slots queue ≡ None) }
         ensures refused { IfErr result (IsLoanError slots queue) }
     {

@@ -1,6 +1,7 @@
 pub mod Asks
 pub mod Begins
 pub mod Core
+pub mod Fresh
 pub mod Invariant
 pub mod Justified
 pub mod Keeping

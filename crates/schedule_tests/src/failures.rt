@@ -1,5 +1,5 @@
 //! Reads and writes that fail, and what is told of them.
-use crate::rows::{STOPPED_PUSH, STOPPED_PUSH_OUTPUT};
+use crate::stopped::{STOPPED_PUSH, STOPPED_PUSH_OUTPUT};
 use schedule::bare::{ran_and_told, ran_in, told};
 use schedule::error::{Cause, ScheduleError};
 use std::alloc::{AllocError, Global};

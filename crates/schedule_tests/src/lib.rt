@@ -1,25 +1,16 @@
-//! The tests of the crate `schedule`: whole runs, of worked schedules and of broken texts.
+//! What no text of `scripts` can say of runs and machines: reads, writes and memory that fail, values of other types,
+//! and calls that a line cannot name.
 #![tactic(auto)]
 
 #[cfg(test)]
-mod atomic;
-#[cfg(test)]
-mod bits;
-#[cfg(test)]
-mod container;
-#[cfg(test)]
 mod failures;
-#[cfg(test)]
-mod indices;
-#[cfg(test)]
-mod loan;
 #[cfg(test)]
 mod memory;
 #[cfg(test)]
-mod robust;
+mod sizes;
 #[cfg(test)]
-mod rows;
-#[cfg(test)]
-mod size;
+mod stopped;
 #[cfg(test)]
 mod values;
+#[cfg(test)]
+mod wrong;

@@ -1,7 +1,7 @@
 //! What a run answers where memory is refused.
 ghost use Rattle.std.specs.Borrow.{ffalse};
 
-use crate::rows::{STOPPED_PUSH, STOPPED_PUSH_OUTPUT};
+use crate::stopped::{STOPPED_PUSH, STOPPED_PUSH_OUTPUT};
 use schedule::bare::{ran_and_told, ran_in};
 use schedule::error::{Cause, ScheduleError};
 use std::alloc::{AllocError, Allocator};

@@ -1,5 +1,6 @@
 //! The blocks of a text, and the loop that plays the rows of one.
 use crate::bare::Bare;
+use crate::listed::Listed;
 use crate::numbers::Numbers;
 use crate::on_machine::OnMachine;
 use crate::played::Played;
@@ -29,6 +30,15 @@ impl Group {
         }
     }
 
+    /// Whether a group begins so. None stands in another.
+    fn opens(&mut self, times: &str) -> bool {
+        if self.times.is_some() {
+            return false;
+        }
+        self.times = times.parse().ok();
+        self.times.is_some()
+    }
+
     fn add(&mut self, line: &str) -> Result<(), AllocError> {
         self.lines.push_str(line)?;
         self.lines.push_str("\n")
@@ -50,6 +60,12 @@ fn plays<P: Rows>(
     Ok(false)
 }
 
+/// A line that is no row.
+fn is_unread(title: &str, line: &str, report: &mut Report) -> Result<bool, AllocError> {
+    report.is_wrong(title, line)?;
+    Ok(false)
+}
+
 /// The rows of one round of a group.
 fn plays_round<P: Rows>(
     alloc: Global,
@@ -60,7 +76,9 @@ fn plays_round<P: Rows>(
     report: &mut Report,
 ) -> Result<bool, AllocError> {
     for line in lines.lines() {
-        let row = in_round(alloc, line, round).ok_or(AllocError)?;
+        let Some(row) = in_round(alloc, line, round) else {
+            return is_unread(title, line, report);
+        };
         if !plays(player, title, row.as_str(), report)? {
             return Ok(false);
         }
@@ -75,7 +93,10 @@ fn plays_group<P: Rows>(
     group: &Group,
     report: &mut Report,
 ) -> Result<bool, AllocError> {
-    for round in 0..group.times.unwrap_or(0) {
+    let Some(times) = group.times else {
+        return is_unread(title, "end", report);
+    };
+    for round in 0..times {
         if !plays_round(alloc, player, title, group.lines.as_str(), round, report)? {
             return Ok(false);
         }
@@ -96,8 +117,10 @@ fn plays_line<P: Rows>(
         return Ok(true);
     }
     if let Some(times) = line.strip_prefix("times ") {
-        group.times = times.parse().ok();
-        return Ok(group.times.is_some());
+        if group.opens(times) {
+            return Ok(true);
+        }
+        return is_unread(title, line, report);
     }
     if line == "end" {
         let whole = std::mem::replace(group, Group::new(alloc));
@@ -185,6 +208,10 @@ fn play_on(
 ) -> Result<(), AllocError> {
     if head == "run" {
         return play(alloc, &mut Run::new(alloc), title, rows, report);
+    }
+    if let Some(rest) = head.strip_prefix("outcomes") {
+        let mut listed = Listed::new(alloc, rest == " stops");
+        return play(alloc, &mut listed, title, rows, report);
     }
     if head == "numbers" {
         return play(alloc, &mut Numbers { alloc }, title, rows, report);

@@ -1,14 +1,16 @@
-//! Plays the blocks of texts on whole runs, on machines and on calls over written words, and says of each text how many
-//! of its rows come out otherwise than they say.
+//! Plays the blocks of texts on whole runs, on machines, on calls over written words and on lists of outcomes, and says of
+//! each text how many of its rows come out otherwise than they say.
 #![tactic(auto)]
 
 mod bare;
 mod blocks;
 mod calls;
+mod listed;
 mod numbers;
 mod on_machine;
 mod pieces;
 mod played;
+mod replayed;
 mod report;
 mod run;
 mod shows;

@@ -1,7 +1,7 @@
 //! Whole runs: a schedule, its output, what is told of it and its exit.
 use crate::blocks::Rows;
 use crate::pieces::Pieces;
-use crate::text::{adds_bytes, adds_line, number};
+use crate::text::{adds_bytes, adds_line, behind_space, number};
 use schedule::bare::ran_and_told;
 use std::alloc::Global;
 
@@ -12,10 +12,6 @@ fn runs_so(alloc: Global, input: &[u8], output: &[u8], told: &[u8], exit: u64) -
     let mut errors = Vec::new(alloc);
     let ended = ran_and_told(alloc, alloc, &mut reader, &mut written, &mut errors);
     written.as_slice() == output && errors.as_slice() == told && u64::from(ended) == exit
-}
-
-fn behind_space(text: &str) -> &str {
-    text.strip_prefix(' ').unwrap_or(text)
 }
 
 /// What the rows say so far.

@@ -40,6 +40,11 @@ pub fn perhaps(word: &str) -> Option<Option<u128>> {
     }
 }
 
+/// The text behind a space that may stand before it.
+pub fn behind_space(text: &str) -> &str {
+    text.strip_prefix(' ').unwrap_or(text)
+}
+
 /// So many of one byte, as `5000*48;`, and the text behind it.
 fn adds_many(bytes: &mut Vec<u8>, text: &str) -> Option<()> {
     let (many, rest) = text.split_once(';')?;

@@ -1,21 +1,15 @@
-//! The tests of the crate `steps`: calls driven alone over a list of words, by value and in place, at values of one,
-//! two, three and 128 words.
+//! What no text of `scripts` can say of the calls of `steps`: driven alone over a list of words, by value and in place,
+//! at values of one, two, three and 128 words, and the small items.
 #![tactic(auto)]
 
 #[cfg(test)]
-mod bits;
-#[cfg(test)]
 mod calls;
 #[cfg(test)]
-mod indices;
+mod container;
 #[cfg(test)]
-mod loan;
-#[cfg(test)]
-mod overflow;
+mod drive;
 #[cfg(test)]
 mod queues;
-#[cfg(test)]
-mod robust;
 #[cfg(test)]
 mod rows;
 #[cfg(test)]

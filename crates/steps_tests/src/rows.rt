@@ -1,6 +1,6 @@
 //! Rows of calls on one list of words, each with what it must answer and the steps that it must take.
-use crate::calls::{load, overflow_pop, overflow_push, pop, push, store};
-use alone::drive::{bare, ends};
+use crate::calls::{load, pop, push, store};
+use crate::drive::{bare, ends};
 use std::process::Abort;
 use steps::queues::lengths::Len;
 use steps::words::Words;
@@ -41,39 +41,6 @@ pub fn play<T: Words + PartialEq + Drop, const N: usize>(
     let mut words = words;
     for (at, row) in rows.iter().enumerate() {
         assert!(rt; does(capacity, &mut words, row), "{name}: row {at}");
-    }
-    assert!(rt; words == after, "{name}: words");
-}
-
-/// A call of the overflowing queue, likewise.
-pub enum Over {
-    Push(u64, Option<u64>, u64),
-    Pop(Option<u64>, u64),
-    Len(u64, u64),
-}
-
-fn does_over<const N: usize>(capacity: u32, words: &mut [u64; N], row: &Over) -> bool {
-    match *row {
-        Over::Push(value, back, steps) => {
-            ends(overflow_push(capacity, value), words, back, steps)
-        }
-        Over::Pop(value, steps) => ends(overflow_pop(capacity), words, value, steps),
-        Over::Len(number, steps) => ends(bare(Len::new(capacity)), words, number, steps),
-    }
-}
-
-/// Makes these calls, each of which has to come out so, and the words then have to be these.
-pub fn play_over<const N: usize>(
-    rt: &impl Abort,
-    name: &str,
-    capacity: u32,
-    words: [u64; N],
-    rows: &[Over],
-    after: [u64; N],
-) {
-    let mut words = words;
-    for (at, row) in rows.iter().enumerate() {
-        assert!(rt; does_over(capacity, &mut words, row), "{name}: row {at}");
     }
     assert!(rt; words == after, "{name}: words");
 }

@@ -1,34 +1,14 @@
-//! Roles, operations and the small items.
-use alone::drive::{bare, ends};
+//! Operations, the places of words, and the small items.
 use std::test::Fail;
 use steps::ask::Op;
 use steps::enums::{OwnerId, OwnerIdNewError, UniqueIndexCreationError, capacity_refusal};
-use steps::queues::ring::{CONSUMER, PRODUCER};
-use steps::queues::roles::{AcquireRole, ReleaseRole};
+use steps::indices::enums::ReleaseMode;
+use steps::indices::layout::{flag, flag_word, next_word};
+use steps::indices::robust::parts;
+use steps::loan::layout::total_words;
+use steps::queues::lengths::number_waiting;
+use steps::queues::overflow;
 use steps::words::Words;
-
-#[test]
-fn roles(rt: HostRuntime) {
-    let mut words = [0, 0, 1, 1];
-    // A role that is asked for, whether it is given, and the words then.
-    let rows = [
-        (PRODUCER, true, [0, 0, 0, 1]),
-        (PRODUCER, false, [0, 0, 0, 1]),
-        (CONSUMER, true, [0, 0, 0, 0]),
-    ];
-    for (word, taken, after) in rows {
-        assert!(rt;
-            ends(bare(AcquireRole { word }), &mut words, taken, 1),
-            "{word}"
-        );
-        assert!(rt; words == after, "{word}");
-    }
-    let release = bare(ReleaseRole { word: PRODUCER });
-    assert!(rt; ends(release, &mut words, (), 1));
-    assert!(rt; words == [0, 0, 1, 0]);
-    let acquire = bare(AcquireRole { word: PRODUCER });
-    assert!(rt; ends(acquire, &mut words, true, 1));
-}
 
 #[test]
 fn operations(rt: HostRuntime) {
@@ -61,4 +41,27 @@ fn small_items(rt: HostRuntime) -> Result<(), Fail> {
     assert!(rt; u32::of_words(&[0x1_0000_0007]) == 7);
     assert!(rt; u128::of_words(&[3, 4]) == 55340232221128654852);
     Ok(())
+}
+
+const PLACES: [(u32, usize, usize, u64); 3] = [
+    (0, 1, 131, 1),
+    (63, 64, 131, 1 << 63),
+    (64, 65, 132, 1),
+];
+
+#[test]
+fn places(rt: HostRuntime) {
+    for (index, next, word, bit) in &PLACES {
+        assert!(rt; next_word(*index) == *next && flag_word(130, *index) == *word);
+        assert!(rt; flag(*index) == *bit);
+    }
+}
+
+#[test]
+fn places_of_words(rt: HostRuntime) {
+    assert!(rt; overflow::cell_word(u32::MAX, 4294967295) == 4294967299);
+    assert!(rt; (parts::COUNTER, parts::cell_word(0)) == (0, 1));
+    assert!(rt; total_words(2, 1) == 16);
+    assert!(rt; number_waiting(2, 1, u64::MAX) == 2);
+    assert!(rt; ReleaseMode::default() == ReleaseMode::Default);
 }

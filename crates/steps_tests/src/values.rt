@@ -1,8 +1,8 @@
 //! The single value, step by step.
 use crate::calls::{load, load_one, store};
+use crate::drive::{ends, partly, with};
 use crate::rows::{Row, play};
-use alone::drive::{ends, partly, with};
-use alone::long_values::{Three, Wide};
+use long_values::long_values::{Greatest, Three};
 use std::process::Abort;
 use steps::atomic::LoadStage;
 
@@ -25,11 +25,11 @@ const THREE_WORDS: [Row<Three>; 4] = [
     Row::Load(Three(4, 5, 6), 5),
 ];
 
-const MOST_WORDS: [Row<Wide>; 4] = [
-    Row::Store(Wide(1, 2), true, 130),
-    Row::Load(Wide(1, 2), 130),
-    Row::Store(Wide(3, 4), true, 130),
-    Row::Load(Wide(3, 4), 130),
+const MOST_WORDS: [Row<Greatest>; 4] = [
+    Row::Store(Greatest(1, 9, 2), true, 130),
+    Row::Load(Greatest(1, 9, 2), 130),
+    Row::Store(Greatest(3, 9, 4), true, 130),
+    Row::Load(Greatest(3, 9, 4), 130),
 ];
 
 const ONE_WORD: [Row<u64>; 2] = [Row::Load(8, 3), Row::Store(9, true, 3)];
@@ -51,7 +51,7 @@ fn values_of_many_words(rt: HostRuntime) {
     play(&rt, "THREE_WORDS", 0, words, &THREE_WORDS, stored);
     let words = with([0; 258], &[(0, 1)]);
     let stored = with(
-        [7; 258],
+        [9; 258],
         &[(0, 3), (1, 0), (2, 3), (129, 4), (130, 1), (257, 2)],
     );
     play(&rt, "MOST_WORDS", 0, words, &MOST_WORDS, stored);
@@ -87,20 +87,20 @@ fn a_load_goes_back_where_stores_moved_the_version(rt: &impl Abort) -> Option<()
 
 fn a_load_of_128_words_goes_back(rt: &impl Abort) -> Option<()> {
     let mut words = with([0; 258], &[(0, 1)]);
-    let call = partly(load::<Wide>(), 60, &mut words)?;
-    for value in [Wide(1, 2), Wide(3, 4)] {
+    let call = partly(load::<Greatest>(), 60, &mut words)?;
+    for value in [Greatest(1, 9, 2), Greatest(3, 9, 4)] {
         assert!(rt; ends(store(value), &mut words, true, 130));
     }
     let call = partly(call, 69, &mut words)?;
     assert!(rt; matches!(call.call.stage, LoadStage::ChecksVersion { version: 1 }));
     // The first 59 words are the opening value's, the others the second store's.
-    let mut mixed = [7; 128];
+    let mut mixed = [9; 128];
     for at in 0..59 {
         mixed[at] = 0;
     }
     mixed[127] = 4;
     assert!(rt; call.room.words == mixed);
-    assert!(rt; ends(call, &mut words, Wide(3, 4), 130));
+    assert!(rt; ends(call, &mut words, Greatest(3, 9, 4), 130));
     Some(())
 }
 

@@ -2,20 +2,8 @@
 ghost use Rattle.std.specs.Prelude.{◌≡◌, ◌+◌, ◌*◌, ◌<◌, ◌≤◌};
 
 use super::Words;
-use crate::timing::Timed;
 use std::alloc::{AllocError, Global};
 use std::sync::Wait;
-
-/// The calls on a bit set that are timed.
-#[derive(Clone, Copy)]
-pub enum Calls {
-    /// Sets a place, and resets the next one that stands, which it is.
-    SetAndResetNext,
-    /// Looks in vain for a place that stands.
-    ResetNext,
-    /// Sets a place, and resets all.
-    SetAndResetAll,
-}
 
 /// A bit set: the reset position, and 64 flags to a word.
 #[derive(Drop)]
@@ -23,7 +11,6 @@ pub struct Bits {
     words: Words,
     capacity: u32,
     elements: u32,
-    calls: Calls,
     ghost some: { 0 < capacity },
     ghost all: { capacity ≤ 64 * elements },
     ghost sized: { words.size ≡ 1 + elements },
@@ -31,7 +18,7 @@ pub struct Bits {
 
 impl Bits {
     /// One of which no place stands.
-    pub fn new(alloc: Global, capacity: u32, calls: Calls) -> Result<Bits, AllocError> {
+    pub fn new(alloc: Global, capacity: u32) -> Result<Bits, AllocError> {
         if capacity == 0 {
             return Err(AllocError);
         }
@@ -42,12 +29,20 @@ impl Bits {
             words,
             capacity,
             elements,
-            calls,
+        })
+    }
+
+    pub fn another(&mut self) -> Option<Bits> {
+        let words = self.words.another()?;
+        Some(Bits {
+            words,
+            capacity: self.capacity,
+            elements: self.elements,
         })
     }
 
     #[inline(never)]
-    fn set<R: Wait>(&mut self, rt: &R, place: u32) -> bool {
+    pub fn set<R: Wait>(&mut self, rt: &R, place: u32) -> bool {
         if place >= self.capacity {
             return false;
         }
@@ -91,7 +86,7 @@ impl Bits {
     }
 
     #[inline(never)]
-    fn reset_next<R: Wait>(&mut self, rt: &R) -> Option<u32> {
+    pub fn reset_next<R: Wait>(&mut self, rt: &R) -> Option<u32> {
         let found = self.words.load(0);
         let start = if found > self.capacity as u64 {
             self.capacity
@@ -113,7 +108,7 @@ impl Bits {
 
     /// How many places stood, and their sum.
     #[inline(never)]
-    fn reset_all(&mut self) -> u64 {
+    pub fn reset_all(&mut self) -> u64 {
         let mut sum = 0u64;
         for element in 0..self.elements {
             let mut flags = self.words.swap(1 + element as usize, 0);
@@ -133,58 +128,36 @@ impl Bits {
     }
 }
 
-impl Timed for Bits {
-    fn call<R: Wait>(&mut self, rt: &R, number: u64) -> u64 {
-        match self.calls {
-            Calls::SetAndResetNext => {
-                let set = self.set(rt, (number % 64) as u32);
-                match self.reset_next(rt) {
-                    Some(place) if set => place as u64,
-                    _ => 0,
-                }
-            }
-            Calls::ResetNext => self.reset_next(rt).is_some() as u64,
-            Calls::SetAndResetAll => {
-                self.set(rt, 5);
-                self.reset_all()
-            }
-        }
-    }
-
-    fn another(&mut self) -> Option<Bits> {
-        let words = self.words.another()?;
-        Some(Bits {
-            words,
-            capacity: self.capacity,
-            elements: self.elements,
-            calls: self.calls,
-        })
-    }
-}
-
 /// Counts, each of one place.
 #[derive(Drop)]
 pub struct Counts {
     words: Words,
     capacity: u32,
-    takes_all: bool,
+    ghost some: { 0 < capacity },
     ghost sized: { words.size ≡ capacity },
 }
 
 impl Counts {
-    /// One in which no place counts. A call counts a place, and may then take all counts out.
-    pub fn new(alloc: Global, capacity: u32, takes_all: bool) -> Result<Counts, AllocError> {
+    /// One in which no place counts.
+    pub fn new(alloc: Global, capacity: u32) -> Result<Counts, AllocError> {
+        if capacity == 0 {
+            return Err(AllocError);
+        }
         let numbers = Vec::from_elem(alloc, 0u64, capacity as usize)?;
         let words = Words::new(alloc, numbers.as_slice())?;
-        Ok(Counts {
+        Ok(Counts { words, capacity })
+    }
+
+    pub fn another(&mut self) -> Option<Counts> {
+        let words = self.words.another()?;
+        Some(Counts {
             words,
-            capacity,
-            takes_all,
+            capacity: self.capacity,
         })
     }
 
     #[inline(never)]
-    fn set(&mut self, place: u32) -> u64 {
+    pub fn set(&mut self, place: u32) -> u64 {
         if place < self.capacity {
             self.words.add(place as usize, 1)
         } else {
@@ -193,7 +166,7 @@ impl Counts {
     }
 
     #[inline(never)]
-    fn reset_all(&mut self) -> u64 {
+    pub fn reset_all(&mut self) -> u64 {
         let mut sum = 0u64;
         for place in 0..self.capacity {
             let count = self.words.swap(place as usize, 0);
@@ -202,28 +175,5 @@ impl Counts {
             }
         }
         sum
-    }
-}
-
-impl Timed for Counts {
-    fn call<R: Wait>(&mut self, _rt: &R, _number: u64) -> u64 {
-        let before = self.set(5);
-        if self.takes_all {
-            self.reset_all()
-        } else {
-            before
-        }
-    }
-
-    fn another(&mut self) -> Option<Counts> {
-        if self.capacity == 0 {
-            return None;
-        }
-        let words = self.words.another()?;
-        Some(Counts {
-            words,
-            capacity: self.capacity,
-            takes_all: self.takes_all,
-        })
     }
 }

@@ -3,22 +3,19 @@ ghost use Rattle.std.specs.Prelude.{◌≡◌, ◌+◌};
 
 use super::Words;
 use super::robust::{EMPTY, Owners};
-use crate::timing::Timed;
 use std::alloc::{AllocError, Global};
 use std::sync::Wait;
 
-/// The counter, the owner of each index, how many changes there were, the number of each element, and the elements. A
-/// call asks how many indices have an owner, or adds a number and removes it.
+/// The counter, the owner of each index, how many changes there were, the number of each element, and the elements.
 #[derive(Drop)]
 pub struct Values {
     owners: Owners,
-    is_counted: bool,
     ghost sized: { owners.words.size ≡ 2 + (owners.capacity + owners.capacity) + owners.capacity },
 }
 
 impl Values {
     /// One in which no value stands.
-    pub fn new(alloc: Global, capacity: u32, is_counted: bool) -> Result<Values, AllocError> {
+    pub fn new(alloc: Global, capacity: u32) -> Result<Values, AllocError> {
         let cells = capacity as usize;
         let mut numbers = Vec::from_elem(alloc, 0u64, 2 + (cells + cells) + cells)?;
         for index in 0..cells {
@@ -26,11 +23,11 @@ impl Values {
         }
         let words = Words::new(alloc, numbers.as_slice())?;
         let owners = Owners { words, capacity };
-        Ok(Values { owners, is_counted })
+        Ok(Values { owners })
     }
 
     #[inline(never)]
-    fn add<R: Wait>(&mut self, rt: &R, value: u64, owner: u64) -> Option<u32> {
+    pub fn add<R: Wait>(&mut self, rt: &R, value: u64, owner: u64) -> Option<u32> {
         let index = self.owners.acquire(rt, owner)?;
         if index >= self.owners.capacity {
             return None;
@@ -49,7 +46,7 @@ impl Values {
     }
 
     #[inline(never)]
-    fn remove<R: Wait>(&mut self, rt: &R, index: u32, owner: u64) -> bool {
+    pub fn remove<R: Wait>(&mut self, rt: &R, index: u32, owner: u64) -> bool {
         if index >= self.owners.capacity {
             return false;
         }
@@ -67,29 +64,15 @@ impl Values {
         true
     }
 
-    #[inline(never)]
-    fn len<R: Wait>(&mut self, rt: &R) -> u64 {
+    pub fn len<R: Wait>(&mut self, rt: &R) -> u64 {
         self.owners.filled(rt)
     }
-}
 
-impl Timed for Values {
-    fn call<R: Wait>(&mut self, rt: &R, number: u64) -> u64 {
-        if self.is_counted {
-            return self.len(rt);
-        }
-        match self.add(rt, number, 7) {
-            Some(index) => self.remove(rt, index, 7) as u64,
-            None => 2,
-        }
-    }
-
-    fn another(&mut self) -> Option<Values> {
+    pub fn another(&mut self) -> Option<Values> {
         let words = self.owners.words.another()?;
         let capacity = self.owners.capacity;
         Some(Values {
             owners: Owners { words, capacity },
-            is_counted: self.is_counted,
         })
     }
 }

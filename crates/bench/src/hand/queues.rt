@@ -1,8 +1,7 @@
 //! The queues by hand. The words are those that `steps::queues` names.
-ghost use Rattle.std.specs.Prelude.{◌≡◌, ◌+◌, ◌<◌};
+ghost use Rattle.std.specs.Prelude.{◌≡◌, ◌+◌, ◌<◌, ◌^◌};
 
 use super::Words;
-use crate::timing::Timed;
 use std::alloc::{AllocError, Global};
 use std::sync::Wait;
 
@@ -15,7 +14,7 @@ pub fn slot(slots: u32, position: u64) -> usize
     (position % slots as u64) as usize
 }
 
-/// A queue of numbers. A call pushes a number and pops it.
+/// A queue of numbers.
 #[derive(Drop)]
 pub struct Numbers {
     words: Words,
@@ -36,7 +35,7 @@ impl Numbers {
     }
 
     #[inline(never)]
-    fn push(&mut self, value: u64) -> bool {
+    pub fn push(&mut self, value: u64) -> bool {
         let write = self.words.load(0);
         if write == u64::MAX {
             return false;
@@ -51,7 +50,7 @@ impl Numbers {
     }
 
     #[inline(never)]
-    fn pop(&mut self) -> Option<u64> {
+    pub fn pop(&mut self) -> Option<u64> {
         let read = self.words.load(1);
         let write = self.words.load(0);
         if write == read {
@@ -61,41 +60,72 @@ impl Numbers {
         self.words.store(1, read.wrapping_add(1));
         Some(value)
     }
-}
 
-impl Timed for Numbers {
-    fn call<R: Wait>(&mut self, _rt: &R, number: u64) -> u64 {
-        let pushed = self.push(number);
-        match self.pop() {
-            Some(value) if pushed => value,
-            _ => 0,
-        }
-    }
-}
-
-/// The positions of an empty queue. A call asks for its length.
-#[derive(Drop)]
-pub struct Length {
-    words: Words,
-    ghost sized: { words.size ≡ 4 },
-}
-
-impl Length {
-    pub fn new(alloc: Global) -> Result<Length, AllocError> {
-        let words = Words::new(alloc, &[0, 0, 0, 0])?;
-        Ok(Length { words })
-    }
-}
-
-impl Timed for Length {
-    #[inline(never)]
-    fn call<R: Wait>(&mut self, rt: &R, _number: u64) -> u64 {
+    pub fn len<R: Wait>(&mut self, rt: &R) -> u64 {
         for _ in rt.forever() {
             let write = self.words.load(0);
             let read = self.words.load(1);
             if self.words.load(0) == write && self.words.load(1) == read {
                 return write.wrapping_sub(read);
             }
+        }
+        unreachable!()
+    }
+}
+
+/// The overflowing queue of numbers.
+#[derive(Drop)]
+pub struct Overflowing {
+    words: Words,
+    capacity: u32,
+    ghost few: { capacity + 1 < 2 ^ 32 },
+    ghost some: { 0 < capacity },
+    ghost sized: { words.size ≡ 4 + (capacity + 1) },
+}
+
+impl Overflowing {
+    /// A full one, of zeros.
+    pub fn full(alloc: Global, capacity: u32) -> Result<Overflowing, AllocError> {
+        if capacity == 0 || capacity == u32::MAX {
+            return Err(AllocError);
+        }
+        let mut numbers = Vec::from_elem(alloc, 0u64, 4 + (capacity as usize + 1))?;
+        numbers[0] = capacity as u64;
+        let words = Words::new(alloc, numbers.as_slice())?;
+        Ok(Overflowing { words, capacity })
+    }
+
+    #[inline(never)]
+    pub fn push(&mut self, value: u64) -> Option<u64> {
+        let write = self.words.load(0);
+        if write == u64::MAX {
+            return Some(value);
+        }
+        let read = self.words.load(1);
+        self.words.store(4 + slot(self.capacity + 1, write), value);
+        self.words.store(0, write.wrapping_add(1));
+        if write.wrapping_sub(read) != self.capacity as u64 {
+            return None;
+        }
+        if self.words.exchange(1, read, read.wrapping_add(1)) != read {
+            return None;
+        }
+        Some(self.words.load(4 + slot(self.capacity + 1, read)))
+    }
+
+    #[inline(never)]
+    pub fn pop<R: Wait>(&mut self, rt: &R) -> Option<u64> {
+        let mut read = self.words.load(1);
+        if self.words.load(0) == read {
+            return None;
+        }
+        for _ in rt.forever() {
+            let value = self.words.load(4 + slot(self.capacity + 1, read));
+            let found = self.words.exchange(1, read, read.wrapping_add(1));
+            if found == read {
+                return Some(value);
+            }
+            read = found;
         }
         unreachable!()
     }

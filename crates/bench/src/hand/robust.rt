@@ -2,7 +2,6 @@
 ghost use Rattle.std.specs.Prelude.{◌≡◌, ◌+◌, ◌≤◌};
 
 use super::Words;
-use crate::timing::Timed;
 use std::alloc::{AllocError, Global};
 use std::sync::Wait;
 
@@ -11,21 +10,6 @@ pub const EMPTY: u64 = u64::MAX;
 const LOCKED: u64 = u64::MAX;
 
 const GREATEST: u64 = u64::MAX - 1;
-
-/// The calls on a set that are timed.
-#[derive(Clone, Copy)]
-pub enum Calls {
-    /// Takes an index, and gives it back where there was one.
-    AcquireAndRelease,
-    /// Takes an index.
-    Acquire,
-    /// Asks how many are out.
-    BorrowedIndices,
-    /// Finds what an owner has.
-    Find,
-    /// Frees what a dead owner has.
-    Recover,
-}
 
 /// The counter, the owner of each index, and further words.
 #[derive(Drop)]
@@ -36,6 +20,20 @@ pub struct Owners {
 }
 
 impl Owners {
+    /// A set in which each index has this owner, or `EMPTY`.
+    pub fn new(alloc: Global, capacity: u32, owner: u64) -> Result<Owners, AllocError> {
+        let mut numbers = Vec::from_elem(alloc, owner, 1 + capacity as usize)?;
+        numbers[0] = 0;
+        let words = Words::new(alloc, numbers.as_slice())?;
+        Ok(Owners { words, capacity })
+    }
+
+    pub fn another(&mut self) -> Option<Owners> {
+        let words = self.words.another()?;
+        let capacity = self.capacity;
+        Some(Owners { words, capacity })
+    }
+
     /// Raises the counter: false where the set is locked.
     #[inline(always)]
     fn raise<R: Wait>(&mut self, rt: &R) -> bool
@@ -60,7 +58,6 @@ impl Owners {
     }
 
     /// Takes the lowest index without an owner.
-    #[inline(always)]
     pub fn acquire<R: Wait>(&mut self, rt: &R, owner: u64) -> Option<u32>
         ensures capacity { self.new.capacity ≡ self.old.capacity }
         ensures size { self.new.words.size ≡ self.old.words.size }
@@ -84,7 +81,6 @@ impl Owners {
         unreachable!()
     }
 
-    #[inline(always)]
     pub fn release<R: Wait>(&mut self, rt: &R, index: u32, owner: u64) -> bool
         ensures capacity { self.new.capacity ≡ self.old.capacity }
         ensures size { self.new.words.size ≡ self.old.words.size }
@@ -100,7 +96,6 @@ impl Owners {
     }
 
     /// How many indices have an owner.
-    #[inline(always)]
     pub fn filled<R: Wait>(&mut self, rt: &R) -> u64
         ensures capacity { self.new.capacity ≡ self.old.capacity }
         ensures size { self.new.words.size ≡ self.old.words.size }
@@ -126,7 +121,7 @@ impl Owners {
     }
 
     #[inline(never)]
-    fn find(&mut self, owner: u64) -> u64 {
+    pub fn find(&mut self, owner: u64) -> u64 {
         let mut found = 0u64;
         for index in 0..self.capacity {
             if self.words.load(1 + index as usize) == owner {
@@ -138,7 +133,7 @@ impl Owners {
 
     /// Asks of each owner whether it is this dead one.
     #[inline(never)]
-    fn recover<R: Wait>(&mut self, rt: &R, dead: u64) -> bool {
+    pub fn recover<R: Wait>(&mut self, rt: &R, dead: u64) -> bool {
         if self.words.load(0) == LOCKED {
             return false;
         }
@@ -151,70 +146,5 @@ impl Owners {
             }
         }
         self.words.load(0) != LOCKED
-    }
-}
-
-/// A set of indices.
-#[derive(Drop)]
-pub struct Robust {
-    owners: Owners,
-    calls: Calls,
-}
-
-impl Robust {
-    /// One in which each index has this owner, or `EMPTY`.
-    pub fn new(
-        alloc: Global,
-        capacity: u32,
-        owner: u64,
-        calls: Calls,
-    ) -> Result<Robust, AllocError> {
-        let mut numbers = Vec::from_elem(alloc, owner, 1 + capacity as usize)?;
-        numbers[0] = 0;
-        let words = Words::new(alloc, numbers.as_slice())?;
-        let owners = Owners { words, capacity };
-        Ok(Robust { owners, calls })
-    }
-
-    #[inline(never)]
-    fn acquire<R: Wait>(&mut self, rt: &R, owner: u64) -> Option<u32> {
-        self.owners.acquire(rt, owner)
-    }
-
-    #[inline(never)]
-    fn release<R: Wait>(&mut self, rt: &R, index: u32, owner: u64) -> bool {
-        self.owners.release(rt, index, owner)
-    }
-
-    #[inline(never)]
-    fn borrowed_indices<R: Wait>(&mut self, rt: &R) -> u64 {
-        self.owners.filled(rt)
-    }
-}
-
-impl Timed for Robust {
-    fn call<R: Wait>(&mut self, rt: &R, _number: u64) -> u64 {
-        match self.calls {
-            Calls::AcquireAndRelease => match self.acquire(rt, 7) {
-                Some(index) => self.release(rt, index, 7) as u64,
-                None => 2,
-            },
-            Calls::Acquire => match self.acquire(rt, 7) {
-                Some(index) => index as u64,
-                None => 1 << 32,
-            },
-            Calls::BorrowedIndices => self.borrowed_indices(rt),
-            Calls::Find => self.owners.find(7),
-            Calls::Recover => self.owners.recover(rt, 9) as u64,
-        }
-    }
-
-    fn another(&mut self) -> Option<Robust> {
-        let words = self.owners.words.another()?;
-        let capacity = self.owners.capacity;
-        Some(Robust {
-            owners: Owners { words, capacity },
-            calls: self.calls,
-        })
     }
 }

@@ -2,18 +2,8 @@
 ghost use Rattle.std.specs.Prelude.{◌≡◌, ◌+◌, ◌*◌, ◌<◌, ◌≤◌, ◌^◌};
 
 use super::Words;
-use crate::timing::Timed;
 use std::alloc::{AllocError, Global};
 use std::sync::Wait;
-
-/// The calls on a set that are timed.
-#[derive(Clone, Copy)]
-pub enum Calls {
-    /// Takes an index, and gives it back.
-    AcquireAndRelease,
-    /// Asks how many are out.
-    BorrowedIndices,
-}
 
 /// A set of indices: the head, a next index for each, and 64 claim flags to a word.
 #[derive(Drop)]
@@ -21,7 +11,6 @@ pub struct Unique {
     words: Words,
     capacity: u32,
     flags: u32,
-    calls: Calls,
     ghost few: { capacity < 2 ^ 24 },
     ghost all: { capacity ≤ 64 * flags },
     ghost sized: { words.size ≡ 1 + capacity + flags },
@@ -29,7 +18,7 @@ pub struct Unique {
 
 impl Unique {
     /// One of which no index is out.
-    pub fn new(alloc: Global, capacity: u32, calls: Calls) -> Result<Unique, AllocError> {
+    pub fn new(alloc: Global, capacity: u32) -> Result<Unique, AllocError> {
         if capacity >= 0x100_0000 {
             return Err(AllocError);
         }
@@ -43,7 +32,15 @@ impl Unique {
             words,
             capacity,
             flags,
-            calls,
+        })
+    }
+
+    pub fn another(&mut self) -> Option<Unique> {
+        let words = self.words.another()?;
+        Some(Unique {
+            words,
+            capacity: self.capacity,
+            flags: self.flags,
         })
     }
 
@@ -61,7 +58,7 @@ impl Unique {
     }
 
     #[inline(never)]
-    fn acquire<R: Wait>(&mut self, rt: &R) -> Option<u32> {
+    pub fn acquire<R: Wait>(&mut self, rt: &R) -> Option<u32> {
         let mut head = self.words.load(0);
         for _ in rt.forever() {
             let borrowed = (head % 0x100_0000) as u32;
@@ -94,7 +91,7 @@ impl Unique {
     }
 
     #[inline(never)]
-    fn release(&mut self, index: u32) {
+    pub fn release(&mut self, index: u32) {
         if index >= self.capacity {
             return;
         }
@@ -111,34 +108,8 @@ impl Unique {
         }
     }
 
-    #[inline(never)]
-    fn borrowed_indices(&mut self) -> u64 {
+    pub fn borrowed_indices(&mut self) -> u64 {
         let borrowed = self.words.load(0) % 0x100_0000;
         if borrowed == 0xff_ffff { 0 } else { borrowed }
-    }
-}
-
-impl Timed for Unique {
-    fn call<R: Wait>(&mut self, rt: &R, _number: u64) -> u64 {
-        match self.calls {
-            Calls::AcquireAndRelease => match self.acquire(rt) {
-                Some(index) => {
-                    self.release(index);
-                    index as u64
-                }
-                None => 1 << 32,
-            },
-            Calls::BorrowedIndices => self.borrowed_indices(),
-        }
-    }
-
-    fn another(&mut self) -> Option<Unique> {
-        let words = self.words.another()?;
-        Some(Unique {
-            words,
-            capacity: self.capacity,
-            flags: self.flags,
-            calls: self.calls,
-        })
     }
 }

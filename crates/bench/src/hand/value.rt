@@ -2,29 +2,32 @@
 ghost use Rattle.std.specs.Prelude.{◌≡◌, ◌+◌, ◌<◌, ◌≤◌};
 
 use super::Words;
-use crate::timing::Timed;
 use std::alloc::{AllocError, Global};
 use std::sync::Wait;
 
-/// A value of so many words. A call stores it or loads it.
+/// A value of so many words.
 #[derive(Drop)]
 pub struct Value<const N: usize> {
     words: Words,
-    stores: bool,
     ghost some: { (0 < N) × (N < 1000) },
     ghost sized: { words.size ≡ 2 + (N + N) },
 }
 
 impl<const N: usize> Value<N> {
     /// One of zeros, at version 1.
-    pub fn new(alloc: Global, stores: bool) -> Result<Value<N>, AllocError> {
+    pub fn new(alloc: Global) -> Result<Value<N>, AllocError> {
         if N == 0 || N >= 1000 {
             return Err(AllocError);
         }
         let mut numbers = Vec::from_elem(alloc, 0u64, 2 + (N + N))?;
         numbers[0] = 1;
         let words = Words::new(alloc, numbers.as_slice())?;
-        Ok(Value { words, stores })
+        Ok(Value { words })
+    }
+
+    pub fn another(&mut self) -> Option<Value<N>> {
+        let words = self.words.another()?;
+        Some(Value { words })
     }
 
     /// The first word of the cell in which the value of this version stands.
@@ -36,8 +39,7 @@ impl<const N: usize> Value<N> {
         if version % 2 == 1 { 2 } else { 2 + N }
     }
 
-    #[inline(never)]
-    fn store(&mut self, value: &[u64; N]) -> bool {
+    pub fn store(&mut self, value: &[u64; N]) -> bool {
         let version = self.words.load(0);
         if version == u64::MAX {
             return false;
@@ -50,8 +52,7 @@ impl<const N: usize> Value<N> {
         true
     }
 
-    #[inline(never)]
-    fn load<R: Wait>(&mut self, rt: &R) -> [u64; N] {
+    pub fn load<R: Wait>(&mut self, rt: &R) -> [u64; N] {
         let mut value = [0u64; N];
         let mut version = self.words.load(0);
         for _ in rt.forever() {
@@ -66,23 +67,5 @@ impl<const N: usize> Value<N> {
             version = found;
         }
         unreachable!()
-    }
-}
-
-impl<const N: usize> Timed for Value<N> {
-    fn call<R: Wait>(&mut self, rt: &R, number: u64) -> u64 {
-        if self.stores {
-            return self.store(&[number; N]) as u64;
-        }
-        let value = self.load(rt);
-        if N > 0 { value[0] } else { 0 }
-    }
-
-    fn another(&mut self) -> Option<Value<N>> {
-        let words = self.words.another()?;
-        Some(Value {
-            words,
-            stores: self.stores,
-        })
     }
 }

@@ -3,8 +3,9 @@
 //! ghost field of the record, which each that takes the slot may rely on. Which of the records that were written there
 //! it is no clause says, since none follows a value from one thread to another: that they come in order, the stored run
 //! shows.
-ghost use Rattle.std.specs.Prelude.{◌≡◌, [], All, IfOk, length};
-ghost use Rattle.lock_free.specs.UniqueIndexSet.{view, set_of, IsPassOf};
+ghost use Rattle.std.specs.Prelude.{◌≡◌, All, IfOk, length};
+ghost use Rattle.lock_free.specs.UniqueIndexSet.{made, set_of, IsPassOf};
+ghost use Rattle.lock_free.specs.Unique.Held.{HoldsNothing};
 ghost use Rattle.lock_free.specs.Ends as ends;
 ghost use Rattle.lock_free.specs.Loan.Sender.{set_of_sender, IsLoaned};
 ghost use Rattle.clients.specs.Records.{IsWritten};
@@ -95,7 +96,7 @@ fn send_records(
     count: u32,
 ) -> Result<Pass, LoansError>
     requires set { IsPassOf set.now pass }
-    requires nothing { (view pass).held ≡ [] }
+    requires nothing { HoldsNothing (made pass) }
     requires submission { ends.IsPassOf submission.now into }
     requires completion { ends.IsPassOf completion.now from }
     ensures { IfOk result (λ p. set_of p ≡ set_of pass) }

@@ -1,5 +1,5 @@
 -- The call that empties a bit set: a call of the model, a word at each step.
-use Rattle.std.proofs.Common.{◌≡◌, inl, ℕ, ◌+◌, ◌/◌, ◌^◌, ◌<◌, nat_lt, Bool, true, false, List, [], map, refl, ap, arith}
+use Rattle.std.proofs.Common.{◌≡◌, inl, ℕ, ◌+◌, ◌<◌, nat_lt, Bool, true, false, [], map, refl, ap, arith}
 use Rattle.std.proofs.lemmas.Bool.Decides.{nat_tests}
 use Rattle.atomic_table.specs.Table.{Allows}
 use Rattle.steps.specs.Bits.ResetAll.{all_bits, reset_all_want, reset_all_after, reset_all_kept}

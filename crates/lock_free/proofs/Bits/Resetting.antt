@@ -1,9 +1,9 @@
 -- Resetting the next place: a call of the model, and what it answers.
-use Rattle.std.proofs.Common.{◌≡◌, inl, ℕ, ◌+◌, ◌-◌, ◌/◌, ◌<◌, ◌≤◌, ◌==◌, nat_lt, Bool, true, false, Option, Some, None, IfSome, List, [], ◌∷◌, ◌++◌, refl, sym, ap, subst, ◌∙◌, arith, append-nil}
+use Rattle.std.proofs.Common.{◌≡◌, inl, ℕ, ◌+◌, ◌-◌, ◌<◌, ◌≤◌, ◌==◌, nat_lt, Bool, true, false, Option, Some, None, IfSome, List, [], ◌++◌, refl, sym, ap, subst, ◌∙◌, arith}
 use Rattle.std.proofs.lemmas.Bool.Decides.{nat_tests}
-use Rattle.steps.specs.Picks.{by_test, by_eq}
+use Rattle.steps.specs.Picks.{by_test}
 use Rattle.steps.specs.Queues.Ring.{after_position}
-use Rattle.steps.specs.Bits.BitSet.{first_reset, at_reset, place_after, at_most, reset_asks, reset_want, reset_comes_to, reset_tests, reset_takes, reset_after}
+use Rattle.steps.specs.Bits.BitSet.{first_reset, place_after, at_most, reset_asks, reset_want, reset_comes_to, reset_tests, reset_takes, reset_after}
 use Rattle.steps.specs.Bits.Words.{element_of, elements, has_flag, without_flag}
 use Rattle.steps.specs.declared.ask.Ask.{Ask}
 use Rattle.steps.specs.declared.ask.Op.TheVariants.{Load, Store, Exchange}
@@ -15,7 +15,7 @@ use Rattle.steps.specs.declared.bits.bit_set.ResetNextStage.{ResetNextStage}
 use Rattle.steps.specs.declared.bits.bit_set.ResetNextStage as resets
 use Rattle.model.specs.declared.event.Answer.TheVariants.{ResetNone}
 use Rattle.model.specs.declared.event.Event.{Event}
-use Rattle.model.specs.declared.event.Event.TheVariants.{Cleared, Finished}
+use Rattle.model.specs.declared.event.Event.TheVariants.{Finished}
 use Rattle.model.specs.declared.event.Start.TheVariants.{Bits}
 use Rattle.model.specs.declared.families.bits.BitsStart.TheVariants.{ResetNext}
 use Rattle.model.specs.declared.turn.Kind.TheVariants as kinds

@@ -1,5 +1,5 @@
 -- Setting a place: a call of the model, and what it answers.
-use Rattle.std.proofs.Common.{◌≡◌, inl, ℕ, ◌+◌, ◌/◌, ◌^◌, ◌<◌, ◌==◌, nat_le, Bool, true, false, true≢false, Some, None, List, [], ◌∷◌, ◌++◌, refl, sym, ap, subst, ◌∙◌, arith}
+use Rattle.std.proofs.Common.{◌≡◌, inl, ℕ, ◌+◌, ◌<◌, ◌==◌, nat_le, Bool, true, false, None, List, [], ◌++◌, refl, sym, ap, subst, ◌∙◌, arith}
 use Rattle.std.proofs.lemmas.Bool.Decides.{nat_tests}
 use Rattle.steps.specs.Bits.BitSet.{first_set, set_want, set_tests, set_after}
 use Rattle.steps.specs.Bits.Words.{element_of, elements, has_flag, with_flag}

@@ -1,6 +1,6 @@
 -- For clients: what each call on a bit set adds to what its pass made, place by place, and that nothing stands where a
 -- pass with the whole share found none to reset.
-use Rattle.std.proofs.Common.{◌≡◌, ◌==◌, ℕ, ◌+◌, ◌-◌, ◌<◌, ◌≤◌, Bool, true, false, cond, Some, None, List, [], ◌∷◌, ◌++◌, refl, sym, ap, subst, ◌∙◌, append_assoc, append-nil, arith, ⊎_elim}
+use Rattle.std.proofs.Common.{◌≡◌, ◌==◌, ℕ, ◌+◌, ◌<◌, ◌≤◌, Bool, true, false, cond, Some, None, List, [], ◌∷◌, ◌++◌, refl, sym, ap, subst, ◌∙◌, append_assoc, arith, ⊎_elim}
 use Rattle.std.proofs.lemmas.Bool.{cases_lt}
 use Rattle.std.proofs.lemmas.Bool.Decides.{nat_tests}
 use Rattle.std.specs.List.{sum_by}
@@ -14,8 +14,8 @@ use Rattle.model.specs.declared.turn.Kind.TheVariants as kinds
 use Rattle.model.specs.Coding.{one_word}
 use Rattle.model.specs.Families.Bits.Calls.{reset_answer}
 use Rattle.model.specs.Families.Bits.Promises.{IsBitSet}
-use Rattle.model.specs.Families.Bits.Reading.{is_set_of, is_clear_of, sets, clears, standing}
-use Rattle.model.specs.Moments.{HeldOnce, BeginsNone}
+use Rattle.model.specs.Families.Bits.Reading.{is_set_of, is_clear_of, sets, clears}
+use Rattle.model.specs.Moments.{BeginsNone}
 use Rattle.model.proofs.Moments.{begins_none_more}
 use Rattle.bit_laws.proofs.Bits.Core.{sets_more, clears_more}
 use Rattle.bit_laws.proofs.Bits.Justified.{bits_go_on}

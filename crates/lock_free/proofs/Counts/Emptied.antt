@@ -1,5 +1,5 @@
 -- What one step of the call that empties a set adds to what it has made, for either kind.
-use Rattle.std.proofs.Common.{◌≡◌, inl, inr, ℕ, ◌+◌, ◌<◌, ◌≤◌, Option, Some, None, IfSome, List, [], ◌∷◌, ◌++◌, refl, sym, ap, subst, ◌∙◌, arith}
+use Rattle.std.proofs.Common.{◌≡◌, inl, inr, ℕ, ◌+◌, ◌<◌, ◌≤◌, Some, None, List, [], ◌∷◌, ◌++◌, refl, sym, ap, subst, ◌∙◌, arith}
 use Rattle.steps.specs.Bits.ResetAll.{reset_all_after, reset_all_kept}
 use Rattle.steps.specs.declared.ask.After.{After}
 use Rattle.steps.specs.declared.ask.After.TheVariants.{GoOn, Done}
@@ -17,7 +17,7 @@ use Rattle.model.specs.Coding.{one_word}
 use Rattle.model.specs.Families.{opening_of, first_of}
 use Rattle.lock_free_sp.specs.Driver.{Next}
 use Rattle.history.specs.declared.view.View.{View}
-use Rattle.history.specs.History.{Called, IsHistory}
+use Rattle.history.specs.History.{IsHistory}
 use Rattle.history.specs.Stages.{At, Ends, Since, Calling}
 use Rattle.history.proofs.Drives.{called, at_itself}
 use Rattle.history.proofs.Made.{MadeSoFar, made_with, made_more, same_between}

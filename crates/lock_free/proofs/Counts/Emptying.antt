@@ -1,5 +1,5 @@
 -- The call that empties a set: a call of the model, a word at each step.
-use Rattle.std.proofs.Common.{◌≡◌, inl, inr, ⊎_elim, ℕ, ◌+◌, ◌^◌, ◌<◌, ◌≤◌, nat_lt, Bool, true, false, true≢false, Option, Some, None, List, [], ◌∷◌, ◌++◌, map, refl, sym, ap, subst, ◌∙◌, arith}
+use Rattle.std.proofs.Common.{◌≡◌, inl, ℕ, ◌+◌, ◌<◌, ◌≤◌, nat_lt, Bool, true, false, true≢false, List, [], ◌++◌, refl, sym, ap, subst, ◌∙◌, arith}
 use Rattle.std.proofs.lemmas.Bool.Decides.{nat_tests}
 use Rattle.steps.specs.Picks.{by_test}
 use Rattle.steps.specs.Bits.ResetAll.{all_counts, reset_all_want, reset_all_after, reset_all_kept}
@@ -11,13 +11,8 @@ use Rattle.steps.specs.declared.ask.Want.{Want}
 use Rattle.steps.specs.declared.ask.Want.TheVariants as wants
 use Rattle.steps.specs.declared.bits.reset_all.ResetAll.{ResetAll as Emptying}
 use Rattle.steps.specs.declared.copied.OneWord.{OneWord}
-use Rattle.model.specs.declared.event.Answer.{Answer}
-use Rattle.model.specs.declared.event.Answer.TheVariants as answers
 use Rattle.model.specs.declared.event.Event.{Event}
-use Rattle.model.specs.declared.event.Start.{Start}
-use Rattle.model.specs.declared.event.Start.TheVariants.{Bits}
 use Rattle.model.specs.declared.families.Flight.{Flight}
-use Rattle.model.specs.declared.families.bits.BitsStart.TheVariants.{ResetAll}
 use Rattle.model.specs.declared.turn.Kind.TheVariants as kinds
 use Rattle.model.specs.Coding.{one_word}
 use Rattle.model.specs.Families.{want_of, after_of}
@@ -31,7 +26,7 @@ use Rattle.history.specs.Stages.{At, Ends}
 use Rattle.history.proofs.Drives.{NeverPushes, IsCallOf, goes, keeps_all, at_once}
 use Rattle.history.proofs.Sets.{counts_starts, set_effects, counts_owe}
 use Rattle.lock_free.specs.Counts.Driven.{IsIdle}
-use Rattle.lock_free.specs.Counts.Stages.{HasEmptied, word_of, empties, taking, takes_all, empties_none}
+use Rattle.lock_free.specs.Counts.Stages.{word_of, empties, taking, takes_all, empties_none}
 
 -- ---- how it goes on
 

@@ -1,5 +1,5 @@
 -- What a closure was called with so far, while a set is emptied, and that it is what the call wrote.
-use Rattle.std.proofs.Common.{◌≡◌, ◌==◌, false, ◌-◌, ℕ, zero, suc, ◌+◌, ◌<◌, ◌≤◌, List, [], ◌∷◌, ◌++◌, sym, refl, subst, arith, map, append-nil}
+use Rattle.std.proofs.Common.{◌≡◌, ◌==◌, false, ℕ, zero, suc, ◌+◌, ◌<◌, List, [], ◌∷◌, ◌++◌, sym, refl, subst, arith, map, append-nil}
 use Rattle.std.specs.List.{All, FoldsTo}
 use Rattle.std.proofs.lemmas.Bool.Decides.{nat_tests}
 use Rattle.std.proofs.lemmas.Fn.{FoldsTo-push}

@@ -1,6 +1,6 @@
 -- For clients: what each call on a counting bit set adds to what its pass made, place by place, and what a set answers
 -- where all that was seen is what its pass made.
-use Rattle.std.proofs.Common.{◌≡◌, ◌==◌, ℕ, ◌+◌, ◌-◌, ◌*◌, ◌%◌, ◌^◌, ◌≤◌, true, cond, List, [], ◌∷◌, ◌++◌, map, refl, sym, ap, ◌∙◌, arith}
+use Rattle.std.proofs.Common.{◌≡◌, ◌==◌, ℕ, ◌+◌, ◌-◌, ◌%◌, ◌^◌, ◌≤◌, true, cond, List, [], ◌∷◌, ◌++◌, map, refl, sym, ap, ◌∙◌, arith}
 use Rattle.std.specs.List.{sum_by}
 use Rattle.std.proofs.lemmas.Bool.Decides.{nat_tests}
 use Rattle.std.proofs.lemmas.List.Sums.{sum_by-cons, sum_by_push}
@@ -13,7 +13,7 @@ use Rattle.model.specs.declared.families.bits.BitsStart.TheVariants.{Set, ResetA
 use Rattle.model.specs.declared.turn.Kind.TheVariants as kinds
 use Rattle.model.specs.Coding.{one_word}
 use Rattle.model.specs.Families.Bits.Promises.{IsCountingOn}
-use Rattle.model.specs.Families.Bits.Reading.{is_count_of, take_of, counts, takes, count_at}
+use Rattle.model.specs.Families.Bits.Reading.{is_count_of, take_of, counts, takes}
 use Rattle.bit_laws.proofs.Counts.Justified.{counts_go_on}
 use Rattle.history.specs.declared.view.View.{View}
 use Rattle.history.specs.History.{IsHistory}

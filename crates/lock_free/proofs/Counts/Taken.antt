@@ -1,18 +1,15 @@
 -- Taking all counts out: the closure is called with just what the call takes.
-use Rattle.std.proofs.Common.{◌≡◌, inl, ℕ, ◌+◌, ◌<◌, Some, None, List, [], ◌∷◌, ◌++◌, map, refl, sym, ap, subst, ◌∙◌, arith}
+use Rattle.std.proofs.Common.{◌≡◌, inl, ℕ, ◌+◌, ◌<◌, Some, None, [], ◌++◌, map, refl, sym, ap, subst, ◌∙◌, arith}
 use Rattle.std.proofs.lemmas.List.{map-append}
 use Rattle.std.proofs.lemmas.List.Elements.{All-nil}
-use Rattle.std.specs.List.{FoldsTo}
 use Rattle.steps.specs.Bits.ResetAll.{all_counts, reset_all_after, reset_all_kept}
 use Rattle.steps.specs.declared.ask.After.TheVariants.{GoOn, Done}
 use Rattle.steps.specs.declared.bits.counting_bit_set.BitState.{BitState}
 use Rattle.steps.specs.declared.bits.reset_all.ResetAll.{ResetAll as Emptying}
 use Rattle.steps.specs.declared.copied.OneWord.{OneWord}
 use Rattle.model.specs.declared.event.Answer.TheVariants as answers
-use Rattle.model.specs.declared.event.Event.{Event}
 use Rattle.model.specs.declared.event.Event.TheVariants.{Finished}
 use Rattle.model.specs.declared.event.Start.TheVariants.{Bits}
-use Rattle.model.specs.declared.families.Flight.{Flight}
 use Rattle.model.specs.declared.families.bits.BitsStart.TheVariants.{ResetAll}
 use Rattle.model.specs.declared.turn.Kind.TheVariants as kinds
 use Rattle.model.specs.Coding.{one_word}
@@ -32,7 +29,7 @@ use Rattle.lock_free.specs.Counts.Stages.{flight_word, taking, takes_all, emptie
 use Rattle.lock_free.specs.Counts.Told.{taken_by, HasTakenOut, MissedNoCount}
 use Rattle.lock_free.proofs.Counts.Ends.{done, before_end, to_end}
 use Rattle.lock_free.proofs.Counts.Emptying.{take_first}
-use Rattle.lock_free.proofs.Counts.Emptied.{emptying, Goes, goes_on, ends_all}
+use Rattle.lock_free.proofs.Counts.Emptied.{emptying, goes_on, ends_all}
 use Rattle.lock_free.proofs.Counts.Handed.{Counted, none_counted, none_states, counted_found, found, found_events}
 
 first_word : (n : ℕ) (c : Emptying) (m : OneWord) → first_of kinds.Counts n emptying ((opening_of kinds.Counts).kept n) ≡ Some (taking {T = ℕ} c m) → c.word ≡ 0

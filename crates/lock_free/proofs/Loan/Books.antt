@@ -1,14 +1,16 @@
 -- A sender's book stays right.
-use Rattle.std.proofs.Common.{◌≡◌, ◌≢◌, ℕ, zero, suc, ◌+◌, ◌<◌, true, false, true≢false, List, [], ◌∷◌, ◌++◌, length, set, map, take, drop, count_by, add-one, get_or-set_same, get_or-set_other, length-set, subst, sym, refl, ap, ◌∙◌, ⊎_elim, arith}
-use Rattle.std.specs.List.{AllPairs, Contains}
+use Rattle.std.proofs.Common.{◌≡◌, ◌≢◌, ℕ, zero, suc, ◌+◌, ◌<◌, ◌==◌, Bool, true, false, true≢false, if◌then◌else◌, List, [], ◌∷◌, ◌++◌, length, set, map, take, drop, replicate, count_by, sum_by, add-one, get_or-set_same, get_or-set_other, length-set, subst, sym, refl, ap, ◌∙◌, ⊎_elim, arith}
+use Rattle.std.proofs.lemmas.List.{length-replicate}
 use Rattle.std.proofs.lemmas.List.Sums.{count_by_more_yes, count_by_more_no}
 use Rattle.std.proofs.lemmas.Bool.{cases_eq}
-use Rattle.lock_free.proofs.Held.{has_contained, has_acquired, has_beside, was_not_there, is_gone, has_kept, once_without}
-use Rattle.lock_free.specs.declared.unique.view.View.{View}
-use Rattle.lock_free.specs.Unique.Views.{has, without, released}
-use Rattle.lock_free.specs.Unique.Calls.{HasAcquired, WasRefused}
+use Rattle.std.proofs.lemmas.Bool.Decides.{nat_tests}
+use Rattle.steps.specs.declared.indices.enums.ReleaseState.{ReleaseState}
 use Rattle.steps.specs.declared.indices.enums.UniqueIndexSetAcquireFailure.{UniqueIndexSetAcquireFailure}
-use Rattle.steps.specs.declared.indices.enums.UniqueIndexSetAcquireFailure.TheVariants.{OutOfIndices, IsLocked}
+use Rattle.history.specs.declared.view.View.{View}
+use Rattle.history.specs.Held.{claims, frees, Holds}
+use Rattle.lock_free.specs.Unique.Held.{one_if, HoldsNothing}
+use Rattle.lock_free.specs.Unique.Told.{HasAcquired, WasRefused, HasGiven}
+use Rattle.lock_free.proofs.Unique.Holding.{taken_moves, refused_moves, given_moves}
 use Rattle.lock_free.specs.declared.spsc.loan.places.Place.{Place}
 use Rattle.lock_free.specs.declared.spsc.loan.places.Place.TheVariants.{Free, Loaned, Sent}
 use Rattle.lock_free.specs.Loan.Places.{IsBookOf, is_out, is_sent, place_at, reclaimed}
@@ -35,63 +37,118 @@ sent_out Sent h = refl
 
 -- ---- the book
 
-module _ {v : View} {ps : List Place} (book : IsBookOf v ps) where
+abbrev counts : Bool → ℕ
+counts b = if b then 1 else 0
+
+module _ {v : View ℕ} {ps : List Place} (book : IsBookOf v ps) where
   pub out_within : (i : ℕ) → is_out (place_at ps i) ≡ true → i < length ps
   out_within i out = within ps i out
 
   -- what is out can be given back
-  pub out_held : (i : ℕ) → is_out (place_at ps i) ≡ true → Contains v.held i
-  out_held i out = has_contained i v.held (book.held i ∙ out)
+  pub out_held : (i : ℕ) → is_out (place_at ps i) ≡ true → Holds i v.made
+  out_held i out = book.held i ∙ ap (λ b. sum_by (frees i) v.made + counts b) out
+
+  module _ (i : ℕ) (p : Place) (lt : i < length ps) where
+    -- one place more or less is out, as one index is
+    moved : (w : View ℕ) → w.capacity ≡ v.capacity → ((j : ℕ) → sum_by (claims j) w.made + (sum_by (frees j) v.made + (if i == j then counts (is_out (place_at ps i)) else 0)) ≡ sum_by (claims j) v.made + (sum_by (frees j) w.made + (if i == j then counts (is_out p) else 0))) → IsBookOf w (set ps i p)
+    moved w same moves =
+        record {
+          long = length-set ps i p ∙ (book.long ∙ sym same);
+          held = λ j. ⊎_elim (here j) (there j) (cases_eq j i);
+        }
+      where
+        here : (j : ℕ) → j ≡ i → sum_by (claims j) w.made ≡ sum_by (frees j) w.made + counts (is_out (place_at (set ps i p) j))
+        here j e =
+            let t : (i == i) ≡ true = grind (arith, nat_tests) in
+            let m : sum_by (claims i) w.made + (sum_by (frees i) v.made + counts (is_out (place_at ps i))) ≡ sum_by (claims i) v.made + (sum_by (frees i) w.made + counts (is_out p)) = (let it = moves i in rw t at it) in
+            let was = book.held i in
+            let now : counts (is_out (place_at (set ps i p) i)) ≡ counts (is_out p) = ap (λ z. counts (is_out z)) (get_or-set_same ps i p Free lt) in
+            subst (λ k. sum_by (claims k) w.made ≡ sum_by (frees k) w.made + counts (is_out (place_at (set ps i p) k))) (sym e) (omega arith)
+
+        there : (j : ℕ) → j ≢ i → sum_by (claims j) w.made ≡ sum_by (frees j) w.made + counts (is_out (place_at (set ps i p) j))
+        there j ne =
+            let t : (i == j) ≡ false = grind (arith, nat_tests) in
+            let m : sum_by (claims j) w.made + (sum_by (frees j) v.made + 0) ≡ sum_by (claims j) v.made + (sum_by (frees j) w.made + 0) = (let it = moves j in rw t at it) in
+            let was = book.held j in
+            let now : counts (is_out (place_at (set ps i p) j)) ≡ counts (is_out (place_at ps j)) = ap (λ z. counts (is_out z)) (get_or-set_other ps i j p Free ne) in
+            omega arith
 
   -- what is out stays out
   pub stays_out : (i : ℕ) (p : Place) → is_out (place_at ps i) ≡ true → is_out p ≡ true → IsBookOf v (set ps i p)
-  stays_out i p out outside =
-      let lt = within ps i out in record {
-        long = length-set ps i p ∙ book.long;
-        once = book.once;
-        held = λ j. ⊎_elim
-            (λ e. subst (λ k. has k v.held ≡ is_out (place_at (set ps i p) k)) (sym e)
-            (book.held i ∙ out ∙ sym (ap is_out (get_or-set_same ps i p Free lt) ∙ outside)))
-            (λ ne. book.held j ∙ sym (ap is_out (get_or-set_other ps i j p Free ne)))
-            (cases_eq j i);
-      }
+  stays_out i p out outside = moved i p (within ps i out) v refl (λ j. ap (λ n. sum_by (claims j) v.made + (sum_by (frees j) v.made + (if i == j then n else 0))) (ap counts (out ∙ sym outside)))
 
   -- what is given back is free
-  pub is_freed : (i : ℕ) (w : View) → is_out (place_at ps i) ≡ true → w ≡ released i v → IsBookOf w (set ps i Free)
-  is_freed i w out e =
-      let lt = within ps i out in
-      subst (λ u. IsBookOf u (set ps i Free)) (sym e) (record {
-        long = length-set ps i Free ∙ book.long;
-        once = once_without i v.held book.once;
-        held = λ j. ⊎_elim
-            (λ e. subst (λ k. has k (without i v.held) ≡ is_out (place_at (set ps i Free) k)) (sym e)
-            (is_gone i v.held book.once ∙ sym (ap is_out (get_or-set_same ps i Free Free lt))))
-            (λ ne. has_kept i j (λ same. ne (sym same)) v.held ∙ book.held j ∙ sym (ap is_out (get_or-set_other ps i j Free Free ne)))
-            (cases_eq j i);
-      })
+  pub is_freed : (i : ℕ) (state : ReleaseState) (w : View ℕ) → is_out (place_at ps i) ≡ true → w.capacity ≡ v.capacity → HasGiven i state v w → IsBookOf w (set ps i Free)
+  is_freed i state w out same h = moved i Free (within ps i out) w same go
+    where
+      go : (j : ℕ) → sum_by (claims j) w.made + (sum_by (frees j) v.made + (if i == j then counts (is_out (place_at ps i)) else 0)) ≡ sum_by (claims j) v.made + (sum_by (frees j) w.made + (if i == j then zero else zero))
+      go j =
+          let m = given_moves v w j i state h in
+          let a = m.claimed in
+          let b = m.freed in
+          let x : (if i == j then counts (is_out (place_at ps i)) else 0) ≡ (if i == j then 1 else 0) = ap (λ n. if i == j then n else 0) (ap counts out) in
+          let y : (if i == j then zero else zero) ≡ 0 = none (i == j) in
+          omega arith
+        where
+          none : (b : Bool) → (if b then zero else zero) ≡ 0
+          none true = refl
+          none false = refl
 
   -- what is acquired was free
-  pub was_free : (i : ℕ) (w : View) → HasAcquired i v w → is_out (place_at ps i) ≡ false
+  pub was_free : (i : ℕ) (w : View ℕ) → HasAcquired i v w → is_out (place_at ps i) ≡ false
   was_free i w h =
-      sym (book.held i) ∙ was_not_there i v.held (subst (λ u. AllPairs (λ x y. x ≢ y) u.held) h.adds h.sound.once)
+      let m = taken_moves v w i i h.taken in
+      let holds = h.holds in
+      let a = m.claimed in
+      let b = m.freed in
+      let t : (i == i) ≡ true = grind (arith, nat_tests) in
+      let one_is : one_if i i ≡ 1 = rw t refl in
+      let was = book.held i in
+      go (is_out (place_at ps i)) (omega arith)
+    where
+      go : (b : Bool) → counts b ≡ 0 → b ≡ false
+      go false e = refl
+      go true e = absurd (omega arith)
 
   -- a refused loan leaves the book
-  pub is_refused : (e : UniqueIndexSetAcquireFailure) (w : View) → WasRefused e v w → IsBookOf w ps
-  is_refused OutOfIndices w h = subst (λ u. IsBookOf u ps) (sym h.0) book
-  is_refused IsLocked w h = subst (λ u. IsBookOf u ps) (sym h.0) (record { long = book.long; once = book.once; held = book.held })
+  pub is_refused : (e : UniqueIndexSetAcquireFailure) (w : View ℕ) → w.capacity ≡ v.capacity → WasRefused e v w → IsBookOf w ps
+  is_refused e w same h =
+      record {
+        long = book.long ∙ sym same;
+        held = λ j. (let m = refused_moves v w j e h.taken in let a = m.claimed in let b = m.freed in let was = book.held j in omega arith);
+      }
 
-  pub is_loaned : (i : ℕ) (w : View) → HasAcquired i v w → IsBookOf w (set ps i Loaned)
-  is_loaned i w h =
-      let lt : i < length ps = let n = book.long in let m = h.within in omega arith in
-      subst (λ u. IsBookOf u (set ps i Loaned)) (sym h.adds) (record {
-        long = length-set ps i Loaned ∙ book.long;
-        once = subst (λ u. AllPairs (λ x y. x ≢ y) u.held) h.adds h.sound.once;
-        held = λ j. ⊎_elim
-            (λ e. subst (λ k. has k (v.held ++ i ∷ []) ≡ is_out (place_at (set ps i Loaned) k)) (sym e)
-            (has_acquired i v.held ∙ sym (ap is_out (get_or-set_same ps i Loaned Free lt))))
-            (λ ne. has_beside i j (λ same. ne (sym same)) v.held ∙ book.held j ∙ sym (ap is_out (get_or-set_other ps i j Loaned Free ne)))
-            (cases_eq j i);
-      })
+  pub is_loaned : (i : ℕ) (w : View ℕ) → w.capacity ≡ v.capacity → i < v.capacity → HasAcquired i v w → IsBookOf w (set ps i Loaned)
+  is_loaned i w same below h = moved i Loaned (let n = book.long in omega arith) w same go
+    where
+      free : is_out (place_at ps i) ≡ false
+      free = was_free i w h
+
+      go : (j : ℕ) → sum_by (claims j) w.made + (sum_by (frees j) v.made + (if i == j then counts (is_out (place_at ps i)) else 0)) ≡ sum_by (claims j) v.made + (sum_by (frees j) w.made + (if i == j then 1 else 0))
+      go j =
+          let m = taken_moves v w j i h.taken in
+          let a = m.claimed in
+          let b = m.freed in
+          let x : (if i == j then counts (is_out (place_at ps i)) else 0) ≡ (if i == j then zero else zero) = ap (λ n. if i == j then n else 0) (ap counts free) in
+          let y : (if i == j then zero else zero) ≡ 0 = none (i == j) in
+          omega arith
+        where
+          none : (b : Bool) → (if b then zero else zero) ≡ 0
+          none true = refl
+          none false = refl
+
+-- a sender that holds nothing
+pub book_opens : (v : View ℕ) (n : ℕ) → n ≡ v.capacity → HoldsNothing v.made → IsBookOf v (replicate n Free)
+book_opens v n same none =
+    record {
+      long = length-replicate n Free ∙ same;
+      held = λ i. (let was = none i in let out : is_out (place_at (replicate n Free) i) ≡ false = ap is_out (get_or-replicate_all n i) in let z = ap counts out in omega arith);
+    }
+  where
+    get_or-replicate_all : (n i : ℕ) → place_at (replicate n Free) i ≡ Free
+    get_or-replicate_all zero i = refl
+    get_or-replicate_all (suc n) zero = refl
+    get_or-replicate_all (suc n) (suc i) = get_or-replicate_all n i
 
 -- ---- reclaiming
 

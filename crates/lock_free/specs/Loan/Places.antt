@@ -1,7 +1,7 @@
 -- The table that a sender keeps of its indices, and what it says of its pass.
-use Rattle.std.specs.Prelude.{◌≡◌, ◌≢◌, ℕ, Bool, true, false, List, length, AllPairs, slice_index_or, slice_set, if◌then◌else◌}
-use Rattle.lock_free.specs.Unique.Views.{has}
-use Rattle.lock_free.specs.declared.unique.view.View.{View}
+use Rattle.std.specs.Prelude.{◌≡◌, ℕ, ◌+◌, Bool, true, false, List, length, sum_by, slice_index_or, slice_set, if◌then◌else◌}
+use Rattle.history.specs.declared.view.View.{View}
+use Rattle.history.specs.Held.{claims, frees}
 use Rattle.lock_free.specs.declared.spsc.loan.places.Place.{Place}
 use Rattle.lock_free.specs.declared.spsc.loan.places.Place.TheVariants.{Free, Loaned, Sent}
 
@@ -31,7 +31,7 @@ reclaimed Loaned = Loaned
 reclaimed Sent = Free
 
 -- a pass holds exactly the indices that are loaned or sent, each once
-pub record IsBookOf (v : View) (ps : List Place) : Type 0 where
+pub record IsBookOf (v : View ℕ) (ps : List Place) : Type 0 where
   pub long : length ps ≡ v.capacity
-  pub once : AllPairs (λ x y. x ≢ y) v.held
-  pub held : (i : ℕ) → has i v.held ≡ is_out (place_at ps i)
+  pub held : (i : ℕ) → sum_by (claims i) v.made
+      ≡ sum_by (frees i) v.made + (if is_out (place_at ps i) then 1 else 0)

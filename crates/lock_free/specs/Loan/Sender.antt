@@ -1,8 +1,8 @@
 -- What clauses see of a sender.
 use Rattle.std.specs.Prelude.{◌≡◌, ℕ, List}
 use Rattle.atomic_table.specs.Seated.{TableId}
-use Rattle.lock_free.specs.UniqueIndexSet.{view, set_of, IsPassOf}
-use Rattle.lock_free.specs.declared.unique.view.View.{View}
+use Rattle.lock_free.specs.UniqueIndexSet.{SetId, view, set_of, IsPassOf}
+use Rattle.history.specs.declared.view.View.{View}
 use Rattle.lock_free_sp.specs.declared.share.Share.{Share}
 use Rattle.lock_free_sp.specs.declared.ring.view.View as queue
 use Rattle.lock_free_sp.specs.Ends.{producer_view, producer_queue, consumer_view}
@@ -20,13 +20,13 @@ abbrev pub IsLoaned : ℕ → LoanSender → Type 0
 IsLoaned i s = place_at (places_of s) i ≡ Loaned
 
 -- what its pass knows, and of which set it is
-abbrev pub pass_view : LoanSender → View
+abbrev pub pass_view : LoanSender → View ℕ
 pass_view s = view s.pass
 
 abbrev pub share_of : LoanSender → Share
 share_of s = (pass_view s).share
 
-abbrev pub set_of_sender : LoanSender → TableId
+abbrev pub set_of_sender : LoanSender → SetId
 set_of_sender s = set_of s.pass
 
 abbrev pub IsSenderOf : UniqueIndexSet → LoanSender → Type 0

@@ -1,28 +1,32 @@
 //! A set of indices of which each is handed out to one caller at a time, shared between threads.
 //!
-//! What a caller holds is told by its pass, which each call but `capacity` is made with. Passes of one set never hold
-//! the same index, and once any of them has seen the lock, none holds one.
-ghost use Rattle.std.specs.Prelude.{◌≡◌, IsTrue};
+//! Each call but `capacity` is made with a pass, and what a caller holds is told by what its pass made. Passes of one set
+//! never hold the same index, and once any of them has seen the lock, none holds one.
+ghost use Rattle.std.specs.Prelude.{◌≡◌, ◌<◌, ◌+◌, [], None};
 ghost use Rattle.std.specs.Arc.{arc_value};
-ghost use Rattle.lock_free.specs.Unique.Kept.{size};
-ghost use Rattle.lock_free.specs.Unique.Views.{IsIdle, has};
+ghost use Rattle.history.specs.Held.{Holds};
+ghost use Rattle.lock_free.specs.Unique.Held.{size, IsSound, IsDone};
 
-use crate::unique::rule::Board;
-use crate::unique::token::Token;
+use self::rule::IndicesRule;
+use atomic_table::Table;
+use history::view::View;
+use lock_free_sp::driver::seated::Seated;
 use std::alloc::Global;
 use std::sync::Arc;
 
 mod calls;
+mod drives;
 mod fixed;
 mod index;
 mod make;
+mod passes;
+pub mod rule;
 
 /// A set of the indices below its capacity, which threads share by reference. After `UniqueIndexSet` of the Rust crate.
 #[derive(Drop)]
 pub struct UniqueIndexSet {
-    table: Arc<Board, Global>,
+    table: Arc<Table<(), View<u64>, u64, IndicesRule, Global>, Global>,
     capacity: u32,
-    ghost sized: { (arc_value table).shared.table_id.words ≡ size capacity },
 }
 
 /// The same with a capacity of at most CAPACITY, which is from 1 to 2^24 - 2. It is used as the set that it has. After
@@ -32,33 +36,43 @@ pub struct FixedSizeUniqueIndexSet<const CAPACITY: usize> {
     set: UniqueIndexSet,
 }
 
-/// What a caller knows of a set: the indices that it holds, whether it has seen the lock, and its share of the right to
-/// know the whole. Each call is made with a pass of its set, which is the caller's concern, and only the caller's own
-/// calls change it. An index that a dropped pass holds stays out for good. This project's own.
+/// What a caller makes each call on a set with: it says which set it is for, how much of the set's history it has seen,
+/// and what of it is its own doing, so which indices it holds. Each call is made with a pass of its set, which is the
+/// caller's concern. An index that a dropped pass holds stays out for good. This project's own.
 #[derive(Drop)]
 pub struct Pass {
-    token: Token,
-    ghost idle: { IsIdle token.seated.seat.me.0 },
+    seated: Seated<View<u64>, u64, IndicesRule>,
+    capacity: u32,
+    ghost sized: { seated.seat.table_id.words ≡ size capacity + 1 },
+    ghost keyed: { (arc_value seated.table).shared.key ≡ capacity },
+    ghost known: { seated.seat.me.0.capacity ≡ capacity },
+    ghost places: { 0 < capacity },
+    ghost idle: { seated.seat.me.0.going ≡ None },
+    ghost alone: { seated.seat.me.0.other ≡ [] },
+    ghost some: { (0 < seated.seat.me.0.share.part) × (0 < seated.seat.me.0.share.parts) },
+    ghost sound: { IsSound seated.seat.me.0 },
+    ghost done: { IsDone seated.seat.me.0.made },
 }
 
 /// An index that is held. It owns the pass that it was acquired with, and gives the index back in mode `Default` when
 /// it is dropped. After `UniqueIndex` of the Rust crate.
 pub struct UniqueIndex<'a> {
     set: &'a UniqueIndexSet,
-    token: Token,
+    pass: Pass,
     index: u32,
-    ghost idle: { IsIdle token.seated.seat.me.0 },
-    ghost held: { IsTrue (has index token.seated.seat.me.0.held) },
+    ghost table: { pass.seated.seat.table_id ≡ (arc_value set.now.table).shared.table_id },
+    ghost size: { pass.capacity ≡ set.now.capacity },
+    ghost held: { Holds index pass.seated.seat.me.0.made },
 }
 
 impl<'a> Drop for UniqueIndex<'a> {
     /// Gives the index back. At most 5 atomic steps.
     fn drop(self) {
         let Self {
-            set: _,
-            mut token,
+            set,
+            mut pass,
             index,
         } = self;
-        token.release(index);
+        set.release_raw_index(index, &mut pass);
     }
 }

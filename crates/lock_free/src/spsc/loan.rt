@@ -1,8 +1,7 @@
 //! A loan channel: a sender loans indices of a set, sends them through an overflowing queue, and gets them back through
 //! an index queue as long as the set. The receiver's end is the two other guards: it pops what is sent, and pushes it
 //! back. Not of the Rust crate.
-ghost use Rattle.std.specs.Prelude.{◌≡◌};
-ghost use Rattle.lock_free.specs.UniqueIndexSet.{view, capacity_of, IsPassOf};
+ghost use Rattle.lock_free.specs.UniqueIndexSet.{view, IsPassOf};
 ghost use Rattle.lock_free.specs.Loan.Places.{IsBookOf};
 
 use self::places::Place;
@@ -23,7 +22,6 @@ pub struct LoanSender<'a> {
     completion: index_queue::Consumer<'a>,
     places: Vec<Place>,
     ghost of: { IsPassOf set.now pass },
-    ghost sized: { (view pass).capacity ≡ capacity_of set.now },
     ghost book: { IsBookOf (view pass) places.items },
 }
 

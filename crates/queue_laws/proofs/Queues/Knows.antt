@@ -30,10 +30,12 @@ use Rattle.model.proofs.Moments.{held_later}
 use Rattle.queue_laws.proofs.Queues.Core.{Core}
 use Rattle.queue_laws.proofs.Queues.Core.{GoesUp}
 use Rattle.queue_laws.proofs.Queues.Values.{Val, item}
+use Rattle.steps.specs.declared.atomic.StoreStage as stores
 use Rattle.steps.specs.declared.queues.ring.PushStage as pushes
 use Rattle.steps.specs.declared.queues.overflow.PushStage as overflow_pushes
 use Rattle.model.specs.declared.families.Flight.{Flight}
 use Rattle.model.specs.declared.families.Flight as flights
+use Rattle.model.specs.declared.families.atomic.calls.AtomicFlight as values
 use Rattle.queue_laws.proofs.Ring.Knows.{ring_number, IsFresh, PushAt, PopAt}
 use Rattle.queue_laws.proofs.Overflow.Knows.{IsFreshOver, KnowsBacks, backs_keep, overflow_wrote, overflow_push_number, overflow_pop_number, OverflowAt}
 
@@ -98,6 +100,16 @@ fresh_over write (overflow_pushes.TheVariants.StoresCell w read) low = tt
 fresh_over write (overflow_pushes.TheVariants.StoresWrite w read) low = tt
 fresh_over write (overflow_pushes.TheVariants.MovesRead read) low = tt
 fresh_over write (overflow_pushes.TheVariants.LoadsCell read) low = tt
+
+-- of a store of the single value
+abbrev pub IsFreshStore : ℕ → stores.StoreStage → Type 0
+IsFreshStore version stores.TheVariants.LoadsVersion = version < 2 ^ 64 - 1
+IsFreshStore version stage = Unit {0}
+
+fresh_store : (version : ℕ) (stage : stores.StoreStage) → version < 2 ^ 64 - 1 → IsFreshStore version stage
+fresh_store version stores.TheVariants.LoadsVersion low = low
+fresh_store version (stores.TheVariants.StoresCell cell at) low = tt
+fresh_store version stores.TheVariants.AddsVersion low = tt
 
 module _ {T : Type 0} where
   -- the list that the calls answer as
@@ -187,7 +199,7 @@ module _ {T : Type 0} where
     flight_keeps since backs (Overflow (overflows.TheVariants.Pop run)) h = backs_keep k k' changes changes' up since backs run.call.stage h
     flight_keeps since backs (Length which run) h = len_keeps since backs run.call.stage h
 
-  -- ---- a push that is to load the write position finds another than the last
+  -- ---- a call that is to load the number which it moves finds another than the last
 
   abbrev pub IsFreshAt : ℕ → QueueFlight T → Type 0
   IsFreshAt write (Indices (rings.TheVariants.Push run)) = IsFresh write run.call.stage
@@ -205,14 +217,16 @@ module _ {T : Type 0} where
   all_fresh write (Overflow (overflows.TheVariants.Pop run)) low = tt
   all_fresh write (Length which run) low = tt
 
-  -- of any call of the machine
+  -- of any call of a machine: a push finds the write position, a store of the single value its version
   abbrev pub IsFreshCall : ℕ → Flight T → Type 0
-  IsFreshCall write (flights.TheVariants.Queues flight) = IsFreshAt write flight
-  IsFreshCall write flight = Unit {0}
+  IsFreshCall found (flights.TheVariants.Queues flight) = IsFreshAt found flight
+  IsFreshCall found (flights.TheVariants.Atomic (values.TheVariants.Store run)) = IsFreshStore found run.call.stage
+  IsFreshCall found flight = Unit {0}
 
-  pub any_fresh : (write : ℕ) (flight : Flight T) → write < 2 ^ 64 - 1 → IsFreshCall write flight
-  any_fresh write (flights.TheVariants.Queues flight) low = all_fresh write flight low
-  any_fresh write flight low = tt
+  pub any_fresh : (found : ℕ) (flight : Flight T) → found < 2 ^ 64 - 1 → IsFreshCall found flight
+  any_fresh found (flights.TheVariants.Queues flight) low = all_fresh found flight low
+  any_fresh found (flights.TheVariants.Atomic (values.TheVariants.Store run)) low = fresh_store found run.call.stage low
+  any_fresh found flight low = tt
 
   -- ---- where a call under way stands
 

@@ -34,27 +34,19 @@ use Rattle.model.specs.declared.turn.Refusal.TheVariants.{NoRole}
 use Rattle.model.specs.Coding.{Coding, IsCoding, one_word}
 use Rattle.model.specs.Families.{opening_of, first_of, want_of, ask_of, is_question, kept_after_begin}
 use Rattle.model.specs.Families.Loan.Opening.{is_loan}
-use Rattle.steps.specs.declared.queues.ring.PushStage as pushes
-use Rattle.steps.specs.declared.queues.overflow.PushStage as overflow_pushes
-use Rattle.steps.specs.Queues.Ring.{push_asks}
-use Rattle.queue_laws.proofs.Overflow.Knows.{IsFreshOver}
-use Rattle.model.specs.Families.Queues.Calls.{want, words_of_index, acquire_of, release_of, first}
+use Rattle.model.specs.Families.Queues.Calls.{acquire_of, release_of, first}
 use Rattle.model.specs.Families.Queues.Objects.{list_of}
 use Rattle.model.specs.Families.Queues.Opening.{cells_of, words_of_cell, lacks_role, call_of, kept_rows}
 use Rattle.model.specs.Families.Queues.Steps.{pending_at, pending}
 use Rattle.model.specs.Parties.{party_of, put, doing_of, flight_of}
 use Rattle.model.specs.Reading.{Open, span_of}
 use Rattle.model.specs.Rows.{first_row}
-use Rattle.model.specs.Turns.{old_of, party_at_begin, IsReached, run_on, attempt_on, unless_refused, after_turn}
-use Rattle.model.specs.Refusals.{call_refusal}
-use Rattle.model.specs.declared.turn.Kind.{Kind}
-use Rattle.model.proofs.Reached.{turn_making}
+use Rattle.model.specs.Turns.{old_of, party_at_begin, IsReached}
 use Rattle.steps.specs.declared.enums.UniqueIndexCreationError.{UniqueIndexCreationError}
 use Rattle.steps.specs.declared.enums.UniqueIndexCreationError.TheVariants.{ProvidedCapacityGreaterThanMaxCapacity}
-use Rattle.model.specs.declared.turn.Turn.{Turn}
 use Rattle.model.specs.declared.turn.Turn.TheVariants.{Next}
-use Rattle.queue_laws.proofs.Queues.Runs.{LawsAt, AllMay, run_sound}
-use Rattle.model.specs.World.{Trace, opening, capacity_error, flight_in}
+use Rattle.queue_laws.proofs.Queues.Runs.{LawsAt, run_sound}
+use Rattle.model.specs.World.{Trace, opening, capacity_error}
 use Rattle.model.proofs.Frame as frame
 use Rattle.model.proofs.Readings.{Each-nil}
 use Rattle.model.proofs.Rows.{row_passed, MayBegin}
@@ -64,9 +56,10 @@ use Rattle.queue_laws.proofs.Overflow.Pops.{overflow_pop_step}
 use Rattle.queue_laws.proofs.Overflow.Pushes.{overflow_push_step}
 use Rattle.queue_laws.proofs.Queues.Asks.{never_asks}
 use Rattle.queue_laws.proofs.Queues.Begins.{IsFirst, first_is}
+pub use Rattle.queue_laws.proofs.Queues.Fresh.{IsFreshTurn, IsFreshRun, fresh_there, fresh_any, fresh_more, fresh_opening}
 use Rattle.queue_laws.proofs.Queues.Core.{Core}
 use Rattle.queue_laws.proofs.Queues.Invariant.{Queue, Fit, machine_kind, Scene, Inv, Shows, family, holds_more, owes, queue_part}
-use Rattle.queue_laws.proofs.Queues.Knows.{IsFreshAt, IsFreshCall, any_fresh, layout, len_at, in_one, in_cell, listed, has_written, KnowsLen, KnowsFlight, number_of, RoleAt, LengthAt, IndexAt, ValueAt, At}
+use Rattle.queue_laws.proofs.Queues.Knows.{IsFreshAt, any_fresh, layout, len_at, in_one, in_cell, listed, has_written, KnowsLen, KnowsFlight, number_of, RoleAt, LengthAt, IndexAt, ValueAt, At}
 use Rattle.queue_laws.proofs.Queues.Lengths.{len_step, is_empty_step, is_full_step}
 use Rattle.queue_laws.proofs.Queues.Pending.{pending_put, hangs_same, none_hangs}
 use Rattle.queue_laws.proofs.Queues.Roles.{acquires_producer, acquires_consumer, releases_producer, releases_consumer}
@@ -220,79 +213,6 @@ begins_own kd c kept (Queues start) flight e = mapped_own start (call_of (machin
 begins_own IndexQueue c kept start flight e = absurd (cc)
 begins_own kinds.TheVariants.Overflow c kept start flight e = absurd (cc)
 begins_own kinds.TheVariants.Queue c kept start flight e = absurd (cc)
-
--- a push loads the write position first
-module _ {T : Type 0} (z : Coding T) where
-  fresh_there : (words : List ℕ) (flight : QueueFlight T) → IsFreshAt {T = T} (old_of words (ask_of (want z flight))) flight → IsFreshAt {T = T} (get_or words 0 0) flight
-  fresh_there words (Role call) h = tt
-  fresh_there words (Indices (rings.TheVariants.Push run)) h = go run.call.stage h
-    where
-      go : (stage : pushes.PushStage) → IsFresh (old_of words (ask_of (push_asks words_of_index stage run.given))) stage → IsFresh (get_or words 0 0) stage
-      go pushes.TheVariants.LoadsWrite h = h
-      go (pushes.TheVariants.LoadsRead w) h = tt
-      go (pushes.TheVariants.StoresCell w cell at) h = tt
-      go (pushes.TheVariants.StoresWrite w) h = tt
-  fresh_there words (Indices (rings.TheVariants.Pop run)) h = tt
-  fresh_there words (Values (rings.TheVariants.Push run)) h = go run.call.stage h
-    where
-      go : (stage : pushes.PushStage) → IsFresh (old_of words (ask_of (push_asks z.words_of stage run.given))) stage → IsFresh (get_or words 0 0) stage
-      go pushes.TheVariants.LoadsWrite h = h
-      go (pushes.TheVariants.LoadsRead w) h = tt
-      go (pushes.TheVariants.StoresCell w cell at) h = tt
-      go (pushes.TheVariants.StoresWrite w) h = tt
-  fresh_there words (Values (rings.TheVariants.Pop run)) h = tt
-  fresh_there words (Overflow (overflows.TheVariants.Push run)) h = go run.call.stage h
-    where
-      go : (stage : overflow_pushes.PushStage) → IsFreshOver (old_of words (ask_of (want z (Overflow (overflow_push_at run.call.capacity run.given run.room stage))))) stage → IsFreshOver (get_or words 0 0) stage
-      go overflow_pushes.TheVariants.HandsBack h = tt
-      go overflow_pushes.TheVariants.LoadsWrite h = h
-      go (overflow_pushes.TheVariants.LoadsRead w) h = tt
-      go (overflow_pushes.TheVariants.StoresCell w read) h = tt
-      go (overflow_pushes.TheVariants.StoresWrite w read) h = tt
-      go (overflow_pushes.TheVariants.MovesRead read) h = tt
-      go (overflow_pushes.TheVariants.LoadsCell read) h = tt
-  fresh_there words (Overflow (overflows.TheVariants.Pop run)) h = tt
-  fresh_there words (Length which run) h = tt
-
-  fresh_asked : (words : List ℕ) (flight : QueueFlight T) → IsFreshAt {T = T} (get_or words 0 0) flight → IsFreshAt {T = T} (old_of words (ask_of (want z flight))) flight
-  fresh_asked words (Role call) h = tt
-  fresh_asked words (Indices (rings.TheVariants.Push run)) h = go run.call.stage h
-    where
-      go : (stage : pushes.PushStage) → IsFresh (get_or words 0 0) stage → IsFresh (old_of words (ask_of (push_asks words_of_index stage run.given))) stage
-      go pushes.TheVariants.LoadsWrite h = h
-      go (pushes.TheVariants.LoadsRead w) h = tt
-      go (pushes.TheVariants.StoresCell w cell at) h = tt
-      go (pushes.TheVariants.StoresWrite w) h = tt
-  fresh_asked words (Indices (rings.TheVariants.Pop run)) h = tt
-  fresh_asked words (Values (rings.TheVariants.Push run)) h = go run.call.stage h
-    where
-      go : (stage : pushes.PushStage) → IsFresh (get_or words 0 0) stage → IsFresh (old_of words (ask_of (push_asks z.words_of stage run.given))) stage
-      go pushes.TheVariants.LoadsWrite h = h
-      go (pushes.TheVariants.LoadsRead w) h = tt
-      go (pushes.TheVariants.StoresCell w cell at) h = tt
-      go (pushes.TheVariants.StoresWrite w) h = tt
-  fresh_asked words (Values (rings.TheVariants.Pop run)) h = tt
-  fresh_asked words (Overflow (overflows.TheVariants.Push run)) h = go run.call.stage h
-    where
-      go : (stage : overflow_pushes.PushStage) → IsFreshOver (get_or words 0 0) stage → IsFreshOver (old_of words (ask_of (want z (Overflow (overflow_push_at run.call.capacity run.given run.room stage))))) stage
-      go overflow_pushes.TheVariants.HandsBack h = tt
-      go overflow_pushes.TheVariants.LoadsWrite h = h
-      go (overflow_pushes.TheVariants.LoadsRead w) h = tt
-      go (overflow_pushes.TheVariants.StoresCell w read) h = tt
-      go (overflow_pushes.TheVariants.StoresWrite w read) h = tt
-      go (overflow_pushes.TheVariants.MovesRead read) h = tt
-      go (overflow_pushes.TheVariants.LoadsCell read) h = tt
-  fresh_asked words (Overflow (overflows.TheVariants.Pop run)) h = tt
-  fresh_asked words (Length which run) h = tt
-
-  fresh_any : (words : List ℕ) (flight : Flight T) → IsFreshCall (get_or words 0 0) flight → IsFreshCall (old_of words (ask_of (want_of z flight))) flight
-  fresh_any words (flights.TheVariants.Queues flight) h = fresh_asked words flight h
-  fresh_any words flight h = tt
-
--- the turn is no push that finds the last position by its first load
-abbrev pub IsFreshTurn : {T : Type 0} → Trace T → Turn T → Type 0
-IsFreshTurn {T} t (Next p) = (flight : Flight T) → flight_in t.world p ≡ Some flight → IsFreshCall (old_of t.world.words (ask_of (want_of t.world.coding flight))) flight
-IsFreshTurn t turn = Unit {0}
 
 module _ {T : Type 0} (en : Coding T) (law : IsCoding en) (kd : QueueKind) (c : ℕ) (t : Trace T) (s : frame.Sound (family en kd c) t) where
   pub write_is : get_or t.world.words 0 0 ≡ s.state.core.write
@@ -504,39 +424,7 @@ reached_sound kd t is r =
     (subst (λ kind. frame.Sound (family w.coding kd w.capacity) (opening w.coding kind w.capacity w.parties)) (sym is) first)
     r
 
--- ---- where turns have no bound, and no push finds the last position
-
--- some turns lead here from the opening, none of which is a push that finds the last position
-pub record IsFreshRun {T : Type 0} (t : Trace T) : Type 0 where
-  pub turns : List (Turn T)
-  pub is : t ≡ run_on turns (opening t.world.coding t.world.kind t.world.capacity t.world.parties)
-  pub fresh : AllMay IsFreshTurn turns (opening t.world.coding t.world.kind t.world.capacity t.world.parties)
-
-module _ {T : Type 0} where
-  run_more : (turns : List (Turn T)) (turn : Turn T) (t : Trace T) → run_on (turns ++ turn ∷ []) t ≡ attempt_on (run_on turns t) turn
-  run_more [] turn t = refl
-  run_more (x ∷ xs) turn t = run_more xs turn (attempt_on t x)
-
-  may_more : (turns : List (Turn T)) (turn : Turn T) (t : Trace T) → AllMay IsFreshTurn turns t → IsFreshTurn (run_on turns t) turn → AllMay IsFreshTurn (turns ++ turn ∷ []) t
-  may_more [] turn t all one = (λ e. one, tt)
-  may_more (x ∷ xs) turn t all one = (all.0, may_more xs turn (attempt_on t x) all.1 one)
-
-  pub fresh_more : (t : Trace T) (turn : Turn T) → call_refusal t.world turn ≡ None → IsFreshTurn t turn → IsFreshRun t → IsFreshRun (after_turn t turn)
-  fresh_more t turn e one r =
-      let w = t.world in
-      let making = turn_making t.world turn in
-      let first = opening w.coding w.kind w.capacity w.parties in
-      let same : attempt_on t turn ≡ after_turn t turn = ap (unless_refused t (after_turn t turn)) e in
-      let more : after_turn t turn ≡ run_on (r.turns ++ turn ∷ []) first = sym same ∙ (ap (λ u. attempt_on u turn) r.is ∙ sym (run_more r.turns turn first)) in
-      record {
-        turns = r.turns ++ turn ∷ [];
-        is = rw (making.coding, making.kind, making.capacity, making.parties) more;
-        fresh = rw (making.coding, making.kind, making.capacity, making.parties) (may_more r.turns turn first r.fresh (subst (λ z. IsFreshTurn z turn) r.is one));
-      }
-
-  pub fresh_opening : (code : Coding T) (kind : Kind) (capacity parties : ℕ) → IsFreshRun (opening code kind capacity parties)
-  fresh_opening code kind capacity parties = record { turns = []; is = refl; fresh = tt }
-
+-- where turns have no bound, and no call finds the last number
 pub sound_on : {T : Type 0} (kd : QueueKind) (t : Trace T) → t.world.kind ≡ machine_kind kd → IsCoding t.world.coding → capacity_error t.world.kind t.world.capacity ≡ None → IsFreshRun t → frame.Sound (family t.world.coding kd t.world.capacity) t
 sound_on kd t is coded admits r =
     let w = t.world in

@@ -1,6 +1,7 @@
 //! The two who use a channel, and what it is made of.
 ghost use Rattle.std.specs.Prelude.{◌≡◌, [], IfSome};
-ghost use Rattle.lock_free.specs.UniqueIndexSet.{view, IsPassOf};
+ghost use Rattle.lock_free.specs.Unique.Held.{HoldsNothing};
+ghost use Rattle.lock_free.specs.UniqueIndexSet.{made, IsPassOf};
 ghost use Rattle.lock_free.specs.Ends as ends;
 ghost use Rattle.lock_free.specs.Loan.Sender.{submission_of, IsSenderOf};
 
@@ -27,7 +28,7 @@ pub struct Channel {
     ghost of_set: { IsPassOf set slots },
     ghost of_submission: { ends.IsPassOf submission sends },
     ghost of_completion: { ends.IsPassOf completion returns },
-    ghost nothing: { (view slots).held ≡ [] },
+    ghost nothing: { HoldsNothing (made slots) },
 }
 
 impl Channel {
@@ -83,7 +84,7 @@ fn sender<'a>(
     completion: index_queue::Consumer<'a>,
 ) -> Option<LoanSender<'a>>
     requires pass { IsPassOf set.now pass }
-    requires nothing { (view pass).held ≡ [] }
+    requires nothing { HoldsNothing (made pass) }
     ensures set { IfSome result (λ s. IsSenderOf set.now s) }
     ensures submission { IfSome result
         (λ s. submission_of s ≡ ends.producer_queue submission.entry) }
@@ -135,7 +136,7 @@ impl<'a> Sends<'a> {
         returns: index_queue::Pass,
     ) -> Option<Sends<'a>>
         requires set { IsPassOf set.now slots }
-        requires nothing { (view slots).held ≡ [] }
+        requires nothing { HoldsNothing (made slots) }
         requires submission { ends.IsPassOf submission.now sends }
         requires completion { ends.IsPassOf completion.now returns }
     {
@@ -212,7 +213,7 @@ pub fn both<'a>(
     returns: index_queue::Pass,
 ) -> Option<(Sends<'a>, Receives<'a>)>
     requires set { IsPassOf set.now slots }
-    requires nothing { (view slots).held ≡ [] }
+    requires nothing { HoldsNothing (made slots) }
     requires submission { ends.IsPassOf submission.now sends }
     requires completion { ends.IsPassOf completion.now returns }
 {

@@ -1,17 +1,12 @@
 //! A number from one thread to another, and the single value.
-ghost use Rattle.lock_free.specs.Ends.{IsPassOf};
 
 use lock_free::spmc::unrestricted_atomic::UnrestrictedAtomic;
-use lock_free::spsc::index_queue::{IndexQueue, Pass};
+use lock_free::spsc::index_queue::{Consumer, IndexQueue};
 use std::sync::Wait;
 use std::test::Fail;
 use std::thread;
 
-// README.md shows this function and the test below.
-fn pop_one(rt: &impl Wait, queue: &IndexQueue, pass: Pass) -> Option<u64>
-    requires { IsPassOf queue.now pass }
-{
-    let mut consumer = queue.acquire_consumer(pass).ok()?;
+fn pop_one(rt: &impl Wait, consumer: &mut Consumer<'_>) -> Option<u64> {
     for _ in rt.forever() {
         if let Some(number) = consumer.pop() {
             return Some(number);
@@ -20,15 +15,17 @@ fn pop_one(rt: &impl Wait, queue: &IndexQueue, pass: Pass) -> Option<u64>
     None
 }
 
+// README.md shows these lines.
 #[test]
 fn readme_queue(rt: HostRuntime) -> Result<(), Fail> {
     let (queue, mut mine) = IndexQueue::new(rt.alloc(), 4)?;
     let other = mine.split().ok_or("no further pass")?;
     let mut producer = queue.acquire_producer(mine).map_err(|_| "taken")?;
+    let mut consumer = queue.acquire_consumer(other).map_err(|_| "taken")?;
     let (pushed, popped) = thread::join(
         &rt,
         || producer.push(1234),
-        || pop_one(&rt, &queue, other),
+        || pop_one(&rt, &mut consumer),
     );
     assert!(rt; pushed && popped == Some(1234));
     Ok(())

@@ -1,19 +1,25 @@
-//! The calls on a set by a pass, and how passes are made of one another.
-ghost use Rattle.std.specs.Prelude.{◌≡◌, ◌≢◌, ◌<◌, false, [], Contains, IsTrue, IsFalse, IfOk, IfErr, IfSome, IfNone};
-ghost use Rattle.steps.specs.declared.indices.enums.ReleaseState.TheVariants.{Unlocked};
-ghost use Rattle.lock_free.specs.Unique.Views.{halved, half, joined, released, IsWhole};
-ghost use Rattle.lock_free.specs.Unique.Between.{Sound, Ruled};
-ghost use Rattle.lock_free.specs.Unique.Calls.{FoundLocked, HasAcquired, WasRefused, HasReleased, WasCounted};
-ghost use Rattle.lock_free.specs.UniqueIndexSet.{view, set_of, capacity_of, IsPassOf, value_of, index_view, index_set};
+//! The calls on a set by a pass: the calls of `steps`, driven.
+ghost use Rattle.std.specs.Prelude.{◌≡◌, ◌<◌, ◌≤◌, ℕ, false, List, length, IsTrue, IsFalse, IfOk, IfErr};
+ghost use Rattle.steps.specs.declared.indices.enums.ReleaseMode.TheVariants as modes;
+ghost use Rattle.steps.specs.declared.indices.enums.ReleaseState.TheVariants.{Locked, Unlocked};
+ghost use Rattle.model.specs.declared.event.Answer.TheVariants.{State, Number, Truth};
+ghost use Rattle.model.specs.declared.families.indices.IndexStart.TheVariants as starts;
+ghost use Rattle.model.specs.Families.Indices.Reading.{is_locked};
+ghost use Rattle.history.specs.Held.{Holds};
+ghost use Rattle.lock_free.specs.Unique.Held.{HeldBy, HoldsNothing, HoldsAll, HoldsSome, IsSound};
+ghost use Rattle.lock_free.specs.Unique.Told.{HasAcquired, WasRefused, HasGiven, HasGivenOrLocked, HasCounted, HasLooked, Answered};
+ghost use Rattle.lock_free.specs.UniqueIndexSet.{set_of, capacity_of, IsPassOf, view, history, made, share, HasHistory, MissesNothing, value_of, index_pass, index_view, index_set};
 
+use super::drives::{CountsOut, Gives, GivesOrLocks, LooksLocked, Takes};
 use super::{Pass, UniqueIndex, UniqueIndexSet};
 use std::sync::Wait;
 use steps::indices::enums::{ReleaseState, UniqueIndexSetAcquireFailure};
+use steps::indices::looks::{BorrowedIndices, IsLocked};
+use steps::indices::unique::{Acquire, DefaultMode, LockMode, Release};
 
 impl UniqueIndexSet {
-    /// Takes an index that no other pass holds; the answer owns the pass. Else the pass comes back: `OutOfIndices`
-    /// where as many are borrowed as the capacity (a clause says so of who has the whole share), or `IsLocked`, which
-    /// leaves the lock seen.
+    /// Takes an index that nobody holds at its claim; the answer owns the pass. Else the pass comes back: `OutOfIndices`
+    /// where without this call as many are in use, at one moment of it, as the capacity, or `IsLocked`.
     ///
     /// A pass that has seen the lock gets `IsLocked`. Four atomic steps where nobody else steps in between and no
     /// release has fallen back to a subtraction; else it may try again for as long as others step. After `acquire` of
@@ -28,15 +34,23 @@ impl UniqueIndexSet {
             × HasAcquired (value_of i) (view pass) (index_view i)) }
         ensures refused { IfErr result (λ r. (set_of r.1 ≡ set_of pass)
             × WasRefused r.0 (view pass) (view r.1)) }
+        ensures share { IfOk result (λ i. share (index_pass i) ≡ share pass) }
+        ensures refused_share { IfErr result (λ r. share r.1 ≡ share pass) }
+        ensures history { IfOk result (λ i. HasHistory (index_pass i)) }
+        ensures refused_history { IfErr result (λ r. HasHistory r.1) }
+        ensures sound { IfOk result (λ i. IsSound (index_view i)) }
+        ensures refused_sound { IfErr result (λ r. IsSound (view r.1)) }
+        ensures all { IfOk result (λ i. MissesNothing (index_pass i)) }
+        ensures refused_all { IfErr result (λ r. MissesNothing r.1) }
     {
-        let Pass { mut token } = pass;
-        match token.acquire(rt) {
+        let mut pass = pass;
+        match self.acquire_raw_index(rt, &mut pass) {
             Ok(index) => Ok(UniqueIndex {
                 set: self,
-                token,
+                pass,
                 index,
             }),
-            Err(failure) => Err((failure, Pass { token })),
+            Err(failure) => Err((failure, pass)),
         }
     }
 
@@ -49,61 +63,94 @@ impl UniqueIndexSet {
     ) -> Result<u32, UniqueIndexSetAcquireFailure>
         requires { IsPassOf self.now pass.old }
         ensures set { set_of pass.new ≡ set_of pass.old }
+        ensures share { share pass.new ≡ share pass.old }
+        ensures history { HasHistory pass.new }
+        ensures sound { IsSound (view pass.new) }
+        ensures all { MissesNothing pass.new }
         ensures acquired { IfOk result (λ i. HasAcquired i (view pass.old) (view pass.new)) }
         ensures within { IfOk result (λ i. i < capacity_of self.now) }
         ensures refused { IfErr result (λ e. WasRefused e (view pass.old) (view pass.new)) }
     {
-        pass.token.acquire(rt)
+        let call = Acquire::new(self.capacity);
+        pass.seated
+            .drive_on::<Acquire, Takes>(rt, call, &(), &mut ())
     }
 
-    /// Gives an index back that the pass holds, in mode `Default`: always `Unlocked`. At most 5 atomic steps. After
-    /// `release_raw_index` of the Rust crate.
+    /// Gives an index back that the pass holds, by whichever of the passes that it took in it was taken, in mode
+    /// `Default`: always `Unlocked`. At most 5 atomic steps. After `release_raw_index` of the Rust crate.
     pub fn release_raw_index(&self, index: u32, pass: &mut Pass) -> ReleaseState
         requires pass { IsPassOf self.now pass.old }
-        requires held { Contains (view pass.old).held index }
+        requires held { Holds index (made pass.old) }
         ensures set { set_of pass.new ≡ set_of pass.old }
-        ensures released { view pass.new ≡ released index (view pass.old) }
+        ensures share { share pass.new ≡ share pass.old }
+        ensures history { HasHistory pass.new }
+        ensures sound { IsSound (view pass.new) }
+        ensures all { MissesNothing pass.new }
+        ensures given { HasGiven index result (view pass.old) (view pass.new) }
         ensures unlocked { result ≡ Unlocked }
     {
-        pass.token.release(index)
+        let call = Release::<DefaultMode>::new(self.capacity);
+        pass.seated
+            .drive::<Release<DefaultMode>, Gives>(call, &index, &mut ())
     }
 
-    /// Gives an index back that the pass holds, in mode `LockIfLastIndex`: `Locked` where it was the last one out, which
-    /// leaves the lock seen, else `Unlocked`. That it was the last one a clause says of who has the whole share. Four
-    /// atomic steps where nobody else steps in between; else it may try again for as long as others step. After
-    /// `release_raw_index` of the Rust crate.
+    /// Gives an index back that the pass holds, in mode `LockIfLastIndex`: `Locked` where it was the last one out, else
+    /// `Unlocked`, where without it another is in use at one moment of the call. Four atomic steps where nobody else
+    /// steps in between; else it may try again for as long as others step. After `release_raw_index` of the Rust crate.
     pub fn release_or_lock(&self, rt: &impl Wait, index: u32, pass: &mut Pass) -> ReleaseState
         requires pass { IsPassOf self.now pass.old }
-        requires held { Contains (view pass.old).held index }
+        requires held { Holds index (made pass.old) }
         ensures set { set_of pass.new ≡ set_of pass.old }
-        ensures released { HasReleased result index (view pass.old) (view pass.new) }
-        ensures whole { IsWhole (view pass.old) → result ≡ Unlocked
-            → (released index (view pass.old)).held ≢ [] }
+        ensures share { share pass.new ≡ share pass.old }
+        ensures history { HasHistory pass.new }
+        ensures sound { IsSound (view pass.new) }
+        ensures all { MissesNothing pass.new }
+        ensures given { HasGivenOrLocked index result (view pass.old) (view pass.new) }
+        ensures answered { Answered (starts.Release index modes.LockIfLastIndex) (State result)
+            (view pass.old) (view pass.new) }
+        ensures nothing { result ≡ Locked → HoldsNothing (made pass.new) }
+        ensures whole { result ≡ Unlocked → HoldsSome (view pass.new) }
     {
-        pass.token.release_or_lock(rt, index)
+        let call = Release::<LockMode>::new(self.capacity);
+        pass.seated
+            .drive_on::<Release<LockMode>, GivesOrLocks>(rt, call, &index, &mut ())
     }
 
-    /// A number of borrowed indices: at least those that the pass holds and at most the capacity, 0 where the pass has
-    /// seen the lock, and just those that the pass holds where it has the whole share. One atomic step. After `borrowed_indices` of the Rust crate.
+    /// How many indices are borrowed: at one moment of the call at least those that are held and at most those in use,
+    /// at most the capacity, and 0 where the set is locked. One atomic step. After `borrowed_indices` of the Rust
+    /// crate.
     pub fn borrowed_indices(&self, pass: &mut Pass) -> usize
         requires { IsPassOf self.now pass.old }
         ensures set { set_of pass.new ≡ set_of pass.old }
-        ensures view { view pass.new ≡ view pass.old }
-        ensures counted { WasCounted (view pass.old) result }
+        ensures share { share pass.new ≡ share pass.old }
+        ensures history { HasHistory pass.new }
+        ensures sound { IsSound (view pass.new) }
+        ensures all { MissesNothing pass.new }
+        ensures counted { HasCounted result (view pass.old) (view pass.new) }
+        ensures answered { Answered starts.BorrowedIndices (Number result) (view pass.old) (view pass.new) }
+        ensures least { (is : List ℕ) → HeldBy is (made pass.new) → length is ≤ result }
+        ensures most { result ≤ capacity_of self.now }
+        ensures whole { HoldsAll result (view pass.new) }
     {
-        pass.token.borrowed_indices()
+        pass.seated
+            .drive::<BorrowedIndices, CountsOut>(BorrowedIndices, &(), &mut ())
     }
 
-    /// Whether the set is locked. True leaves the lock seen, and is the answer to each pass that has seen it. One
-    /// atomic step. After `is_locked` of the Rust crate.
+    /// Whether the set is locked. One atomic step. After `is_locked` of the Rust crate.
     pub fn is_locked(&self, pass: &mut Pass) -> bool
         requires { IsPassOf self.now pass.old }
         ensures set { set_of pass.new ≡ set_of pass.old }
-        ensures locked { IsTrue result → FoundLocked (view pass.old) (view pass.new) }
-        ensures open { IsFalse result
-            → (view pass.new ≡ view pass.old) × ((view pass.old).locked ≡ false) }
+        ensures share { share pass.new ≡ share pass.old }
+        ensures history { HasHistory pass.new }
+        ensures sound { IsSound (view pass.new) }
+        ensures all { MissesNothing pass.new }
+        ensures looked { HasLooked result (view pass.old) (view pass.new) }
+        ensures answered { Answered starts.IsLocked (Truth result) (view pass.old) (view pass.new) }
+        ensures nothing { IsTrue result → HoldsNothing (made pass.new) }
+        ensures unlocked { IsFalse result → is_locked (history pass.old) ≡ false }
     {
-        pass.token.is_locked()
+        pass.seated
+            .drive::<IsLocked, LooksLocked>(IsLocked, &(), &mut ())
     }
 
     /// The capacity that it was made with. After `capacity` of the Rust crate.
@@ -118,31 +165,4 @@ impl UniqueIndexSet {
         requires { IsPassOf self.now pass.now }
         ensures { (view pass.now).capacity ≡ capacity_of self.now }
     {}
-}
-
-impl Pass {
-    /// A new pass of the same set that holds nothing; this one keeps all that it holds, and each has half of the share.
-    /// None, and nothing changes, where no further pass can be counted (no clause says when). This project's own.
-    pub fn split(&mut self) -> Option<Pass>
-        ensures set { set_of self.new ≡ set_of self.old }
-        ensures view { IfSome result (λ p. view self.new ≡ halved (view self.old)) }
-        ensures new { IfSome result
-            (λ p. (set_of p ≡ set_of self.old) × (view p ≡ half (view self.old))) }
-        ensures none { IfNone result (view self.new ≡ view self.old) }
-    {
-        let token = self.token.split()?;
-        Some(Pass { token })
-    }
-
-    /// Takes in what the other pass of the set holds and has seen, with its share. This project's own.
-    pub fn join(&mut self, other: Pass)
-        requires { set_of other ≡ set_of self.old }
-        ensures set { set_of self.new ≡ set_of self.old }
-        ensures view { view self.new ≡ joined (view self.old) (view other) }
-        ensures rule { Ruled (view self.old) (view other) }
-        ensures sound { Sound (view self.new) }
-    {
-        let Pass { token } = other;
-        self.token.join(token);
-    }
 }

@@ -1,8 +1,9 @@
 //! A set whose greatest capacity is part of its type.
-ghost use Rattle.std.specs.Prelude.{◌≡◌, ◌≢◌, ◌⊎◌, ◌<◌, ◌≤◌, None, Some, IfOk, IfErr, OnOk};
+ghost use Rattle.std.specs.Prelude.{◌≡◌, ◌≢◌, ◌⊎◌, ◌<◌, ◌≤◌, [], None, Some, IfOk, IfErr, OnOk};
 ghost use Rattle.steps.specs.declared.enums.UniqueIndexCreationError.TheVariants.{NoMemory};
-ghost use Rattle.lock_free.specs.Unique.Views.{opened};
-ghost use Rattle.lock_free.specs.UniqueIndexSet.{view, capacity_of, IsPassOf, set_in, set_refusal, reduced_refusal};
+ghost use Rattle.lock_free_sp.specs.Shares.{all_shares};
+ghost use Rattle.lock_free.specs.Unique.Held.{HoldsNothing};
+ghost use Rattle.lock_free.specs.UniqueIndexSet.{capacity_of, IsPassOf, history, made, share, set_in, set_refusal, reduced_refusal};
 
 use super::make::GREATEST;
 use super::{FixedSizeUniqueIndexSet, Pass, UniqueIndexSet};
@@ -31,7 +32,11 @@ impl<const CAPACITY: usize> FixedSizeUniqueIndexSet<CAPACITY> {
     pub fn new(
         alloc: Global,
     ) -> Result<(FixedSizeUniqueIndexSet<CAPACITY>, Pass), UniqueIndexCreationError>
-        ensures pass { IfOk result (λ r. IsPassOf (set_in r.0) r.1 × (view r.1 ≡ opened CAPACITY)) }
+        ensures pass { IfOk result (λ r. IsPassOf (set_in r.0) r.1) }
+        ensures seen { IfOk result (λ r. history r.1 ≡ []) }
+        ensures made { IfOk result (λ r. made r.1 ≡ []) }
+        ensures nothing { IfOk result (λ r. HoldsNothing (made r.1)) }
+        ensures share { IfOk result (λ r. share r.1 ≡ all_shares) }
         ensures capacity { IfOk result (λ r. capacity_of (set_in r.0) ≡ CAPACITY) }
         ensures admitted { OnOk result (set_refusal CAPACITY ≡ None) }
         ensures refused { IfErr result (λ e. (set_refusal CAPACITY ≡ Some e)
@@ -50,7 +55,11 @@ impl<const CAPACITY: usize> FixedSizeUniqueIndexSet<CAPACITY> {
         alloc: Global,
         capacity: usize,
     ) -> Result<(FixedSizeUniqueIndexSet<CAPACITY>, Pass), UniqueIndexCreationError>
-        ensures pass { IfOk result (λ r. IsPassOf (set_in r.0) r.1 × (view r.1 ≡ opened capacity)) }
+        ensures pass { IfOk result (λ r. IsPassOf (set_in r.0) r.1) }
+        ensures seen { IfOk result (λ r. history r.1 ≡ []) }
+        ensures made { IfOk result (λ r. made r.1 ≡ []) }
+        ensures nothing { IfOk result (λ r. HoldsNothing (made r.1)) }
+        ensures share { IfOk result (λ r. share r.1 ≡ all_shares) }
         ensures capacity { IfOk result (λ r. capacity_of (set_in r.0) ≡ capacity) }
         ensures admitted { OnOk result (reduced_refusal CAPACITY capacity ≡ None) }
         ensures refused { IfErr result (λ e. (reduced_refusal CAPACITY capacity ≡ Some e)

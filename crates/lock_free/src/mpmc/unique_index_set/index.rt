@@ -1,8 +1,12 @@
 //! The calls on an index that is held.
-ghost use Rattle.std.specs.Prelude.{◌≡◌};
-ghost use Rattle.lock_free.specs.Unique.Views.{released, joined};
-ghost use Rattle.lock_free.specs.Unique.Between.{Sound, Ruled};
-ghost use Rattle.lock_free.specs.UniqueIndexSet.{view, set_of, value_of, index_view, index_set};
+ghost use Rattle.std.specs.Prelude.{◌≡◌, ◌++◌, ℕ};
+ghost use Rattle.steps.specs.declared.indices.enums.ReleaseState.TheVariants.{Unlocked};
+ghost use Rattle.history.specs.History.{IsBeginning};
+ghost use Rattle.lock_free_sp.specs.Shares.{both_of};
+ghost use Rattle.lock_free.specs.Unique.Held.{IsSound};
+ghost use Rattle.history.specs.Held.{Holds};
+ghost use Rattle.lock_free.specs.Unique.Told.{HasGiven};
+ghost use Rattle.lock_free.specs.UniqueIndexSet.{view, set_of, history, made, share, HasHistory, MissesNothing, value_of, index_pass, index_view, index_set};
 
 use super::{Pass, UniqueIndex};
 
@@ -14,31 +18,39 @@ impl<'a> UniqueIndex<'a> {
         self.index
     }
 
-    /// Takes in what a pass of the set holds and has seen. This project's own.
+    /// Takes in what a pass of the set holds and has seen, as a join of passes does. This project's own.
     pub fn join(&mut self, other: Pass)
         requires { set_of other ≡ index_set self.old }
         ensures set { index_set self.new ≡ index_set self.old }
         ensures value { value_of self.new ≡ value_of self.old }
-        ensures view { index_view self.new ≡ joined (index_view self.old) (view other) }
-        ensures rule { Ruled (index_view self.old) (view other) }
-        ensures sound { Sound (index_view self.new) }
+        ensures made { made (index_pass self.new) ≡ made (index_pass self.old) ++ made other }
+        ensures apart { (i : ℕ) → Holds i (made (index_pass self.old)) → Holds i (made other) → ⊥ }
+        ensures share { share (index_pass self.new) ≡ both_of (share (index_pass self.old)) (share other) }
+        ensures mine { IsBeginning (history (index_pass self.old)) (history (index_pass self.new)) }
+        ensures theirs { IsBeginning (history other) (history (index_pass self.new)) }
+        ensures history { HasHistory (index_pass self.new) }
+        ensures sound { IsSound (index_view self.new) }
+        ensures all { MissesNothing (index_pass self.new) }
     {
-        let Pass { token } = other;
-        self.token.join(token);
+        self.pass.join(other);
     }
 
     /// Gives the index back in mode `Default` and hands the pass out. At most 5 atomic steps. This project's own,
     /// beside the drop.
     pub fn release(self) -> Pass
         ensures set { set_of result ≡ index_set self.entry }
-        ensures released { view result ≡ released (value_of self.entry) (index_view self.entry) }
+        ensures share { share result ≡ share (index_pass self.entry) }
+        ensures history { HasHistory result }
+        ensures sound { IsSound (view result) }
+        ensures all { MissesNothing result }
+        ensures given { HasGiven (value_of self.entry) Unlocked (index_view self.entry) (view result) }
     {
         let UniqueIndex {
-            set: _,
-            mut token,
+            set,
+            mut pass,
             index,
         } = self;
-        token.release(index);
-        Pass { token }
+        set.release_raw_index(index, &mut pass);
+        pass
     }
 }

@@ -1,8 +1,9 @@
 //! The calls of a sender, each an equation on its table.
-ghost use Rattle.std.specs.Prelude.{◌≡◌, ◌⊎◌, ◌↔◌, [], IsTrue, IfOk, IfErr, IfSome, IfNone, slice_set, map, replicate, count_by};
-ghost use Rattle.lock_free.specs.UniqueIndexSet.{view, set_of, capacity_of, IsPassOf};
-ghost use Rattle.lock_free.specs.Unique.Views.{released};
-ghost use Rattle.lock_free.specs.Unique.Calls.{HasAcquired, WasRefused};
+ghost use Rattle.std.specs.Prelude.{◌≡◌, ◌⊎◌, ◌↔◌, IsTrue, IfOk, IfErr, IfSome, IfNone, slice_set, map, replicate, count_by};
+ghost use Rattle.lock_free.specs.UniqueIndexSet.{view, made, set_of, capacity_of, IsPassOf};
+ghost use Rattle.steps.specs.declared.indices.enums.ReleaseState.TheVariants.{Unlocked};
+ghost use Rattle.lock_free.specs.Unique.Held.{HoldsNothing};
+ghost use Rattle.lock_free.specs.Unique.Told.{HasAcquired, WasRefused, HasGiven};
 ghost use Rattle.lock_free_sp.specs.Ends.{producer_view, producer_queue, consumer_view, consumer_queue};
 ghost use Rattle.lock_free_sp.specs.Ring.Calls.{HasAdded, HasReplaced, WasHandedBack, HasPopped, WasEmpty};
 ghost use Rattle.lock_free.specs.declared.spsc.loan.places.Place.TheVariants.{Free, Loaned, Sent};
@@ -30,7 +31,7 @@ impl<'a> LoanSender<'a> {
         completion: index_queue::Consumer<'a>,
     ) -> Result<LoanSender<'a>, (LoanError, Pass)>
         requires pass { IsPassOf set.now pass }
-        requires nothing { (view pass).held ≡ [] }
+        requires nothing { HoldsNothing (made pass) }
         ensures free { IfOk result (λ s. places_of s ≡ replicate (capacity_of set.now) Free) }
         ensures set { IfOk result (λ s. IsSenderOf set.now s) }
         ensures pass { IfOk result (λ s. pass_view s ≡ view pass) }
@@ -89,7 +90,7 @@ impl<'a> LoanSender<'a> {
     pub fn give_up(&mut self, index: u32)
         requires { IsLoaned index self.old }
         ensures places { places_of self.new ≡ slice_set (places_of self.old) index Free }
-        ensures released { pass_view self.new ≡ released index (pass_view self.old) }
+        ensures given { HasGiven index Unlocked (pass_view self.old) (pass_view self.new) }
         ensures queues { KeepsQueues self.old self.new }
         ensures same { IsSame self.old self.new }
         ensures share { share_of self.new ≡ share_of self.old }

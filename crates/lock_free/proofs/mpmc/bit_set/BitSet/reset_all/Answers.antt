@@ -1,7 +1,7 @@
-use Rattle.std.proofs.Common.{◌≡◌, sym, ap, ◌∙◌, subst}
+use Rattle.std.proofs.Common.{sym, ap, subst}
 use Rattle.lock_free_sp.specs.Seats.{seen}
 use Rattle.lock_free_sp.proofs.Callable.{takes_places_at}
-use Rattle.lock_free.specs.Bits.Calls.{SetId, capacity_of}
+use Rattle.lock_free.specs.Bits.Calls.{SetId}
 use Rattle.lock_free.specs.Bits.Told.{MissedNoPlace}
 use Rattle.lock_free.proofs.Bits.Cleared.{missed_none}
 use Rattle.lock_free.proofs.mpmc.bit_set.BitSet.reset_all.Goals as goal

@@ -1,14 +1,13 @@
-use Rattle.std.proofs.Common.{◌≡◌, ◌<◌, None, IfSome, refl, sym, subst, ap, ◌∙◌}
+use Rattle.std.proofs.Common.{refl, sym, subst, ap, ◌∙◌}
 use Rattle.steps.specs.Bits.BitSet.{first_reset}
 use Rattle.model.specs.Coding.{one_word}
 use Rattle.model.specs.declared.turn.Kind.TheVariants as kinds
 use Rattle.lock_free_sp.specs.Seats.{seen}
-use Rattle.history.specs.History.{IsHistory}
 use Rattle.history.specs.Stages.{At}
 use Rattle.lock_free.specs.Bits.Stages.{resets_next}
 use Rattle.lock_free.specs.Bits.Calls.{SetId}
-use Rattle.lock_free.specs.Bits.Told.{HasReset, AllClearOnce}
-use Rattle.lock_free.proofs.Bits.Resetting.{next_keeps, next_first, cleared, place_in, all_clear}
+use Rattle.lock_free.specs.Bits.Told.{AllClearOnce}
+use Rattle.lock_free.proofs.Bits.Resetting.{next_keeps, next_first, all_clear}
 use Rattle.lock_free.proofs.mpmc.bit_set.BitSet.reset_next.Goals as goal
 
 pub drive_on-end-requires-clause-rule : goal.drive_on-end-requires-clause-rule

@@ -1,4 +1,4 @@
-use Rattle.std.proofs.Common.{◌≡◌, ℕ, ◌<◌, refl, sym, ap, subst, ◌∙◌, arith}
+use Rattle.std.proofs.Common.{refl, sym, subst, ◌∙◌}
 use Rattle.model.specs.Families.Queues.Calls.{fresh}
 use Rattle.lock_free_sp.specs.Seats.{seen}
 use Rattle.lock_free.proofs.Bits.Emptying.{clear_keeps}

@@ -1,4 +1,4 @@
-use Rattle.std.proofs.Common.{◌≡◌, ◌≢◌, ℕ, ◌+◌, ◌-◌, rules, sym, ap, subst, ◌∙◌, arith}
+use Rattle.std.proofs.Common.{◌≡◌, ◌≢◌, ◌+◌, ◌-◌, rules, sym, ap, subst, ◌∙◌, arith}
 use Rattle.steps.specs.Bits.Words.{has_flag, bit_of}
 use Rattle.steps.proofs.Flags.Words.{none_stands}
 use Rattle.lock_free.specs.Bits.Callable.{Visited}

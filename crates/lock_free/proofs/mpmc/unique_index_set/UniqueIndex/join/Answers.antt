@@ -1,10 +1,15 @@
-use Rattle.std.proofs.Common.{◌≡◌, true, sym, subst}
-use Rattle.lock_free.specs.declared.unique.view.View.{View}
-use Rattle.lock_free.specs.Unique.Views.{has}
-use Rattle.lock_free.proofs.Rules.Unique.Lists.{has_left}
+use Rattle.std.proofs.Common.{ap, subst, sym, ◌∙◌}
+use Rattle.history.specs.Held.{Holds}
+use Rattle.lock_free.specs.UniqueIndexSet.{SetId}
+use Rattle.lock_free.proofs.Unique.Holding.{holds_joined}
 use Rattle.lock_free.proofs.mpmc.unique_index_set.UniqueIndex.join.Goals as goal
 
-pub invariant_of-self-clause-held : goal.invariant_of-self-clause-held
-invariant_of-self-clause-held c =
-    subst (λ (z : View). has c.args.self.now.index z.held ≡ true) (sym c.join.ensures.both)
-    (has_left c.args.self.now.index c.args.self.now.token.seated.seat.me.0.held c.args.other.token.seated.seat.me.0.held c.args.self.now.held)
+pub invariant_of-self : goal.invariant_of-self
+invariant_of-self c =
+    let mine = c.args.self.now in
+    let set = c.join.ensures.set in
+    record {
+      table = ap (λ (z : SetId). z.table) set ∙ mine.table;
+      size = ap (λ (z : SetId). z.capacity) set ∙ mine.size;
+      held = subst (Holds mine.index) (sym c.join.ensures.made) (holds_joined mine.index mine.pass.seated.seat.me.0 c.args.other.seated.seat.me.0 c.args.other.sound c.join.ensures.apart mine.held);
+    }

@@ -1,3 +1,5 @@
+use Rattle.std.proofs.Common.{ap, sym, ◌∙◌}
+use Rattle.lock_free.specs.UniqueIndexSet.{SetId}
 use Rattle.lock_free.proofs.Loan.Books.{out_held, is_freed, sent_out}
 use Rattle.lock_free.proofs.spsc.loan.LoanSender.free.Goals as goal
 
@@ -6,4 +8,6 @@ release_raw_index-requires-clause-held c = out_held c.args.self.now.book c.args.
 
 pub invariant_of-self-clause-book : goal.invariant_of-self-clause-book
 invariant_of-self-clause-book c =
-    is_freed c.args.self.now.book c.args.sent _ (sent_out _ c.requires) c.release_raw_index.ensures.released
+    let mine = c.args.self.now in
+    let now = c.release_raw_index.new.pass in
+    is_freed mine.book c.args.sent _ _ (sent_out _ c.requires) (now.known ∙ (ap (λ (z : SetId). z.capacity) c.release_raw_index.ensures.set ∙ sym mine.pass.known)) c.release_raw_index.ensures.given

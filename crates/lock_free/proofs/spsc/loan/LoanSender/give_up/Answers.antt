@@ -1,4 +1,5 @@
-use Rattle.std.proofs.Common.{ap}
+use Rattle.std.proofs.Common.{ap, sym, ◌∙◌}
+use Rattle.lock_free.specs.UniqueIndexSet.{SetId}
 use Rattle.lock_free.specs.Loan.Places.{is_out}
 use Rattle.lock_free.proofs.Loan.Books.{out_held, is_freed}
 use Rattle.lock_free.proofs.spsc.loan.LoanSender.give_up.Goals as goal
@@ -8,4 +9,6 @@ release_raw_index-requires-clause-held c = out_held c.args.self.now.book c.args.
 
 pub invariant_of-self-clause-book : goal.invariant_of-self-clause-book
 invariant_of-self-clause-book c =
-    is_freed c.args.self.now.book c.args.index _ (ap is_out c.requires) c.release_raw_index.ensures.released
+    let mine = c.args.self.now in
+    let now = c.release_raw_index.new.pass in
+    is_freed mine.book c.args.index _ _ (ap is_out c.requires) (now.known ∙ (ap (λ (z : SetId). z.capacity) c.release_raw_index.ensures.set ∙ sym mine.pass.known)) c.release_raw_index.ensures.given

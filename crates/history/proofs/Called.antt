@@ -1,0 +1,58 @@
+-- What a caller knows of a whole call.
+use Rattle.std.proofs.Common.{◌≡◌, inl, inr, ℕ, Option, Some, None, List, [], ◌∷◌, ◌++◌, refl, sym, ap, subst, ◌∙◌, append-nil}
+use Rattle.model.specs.declared.event.Event.{Event}
+use Rattle.model.specs.declared.event.Event.TheVariants.{Begun, Finished}
+use Rattle.model.specs.declared.event.Start.{Start}
+use Rattle.model.specs.declared.families.Flight.{Flight}
+use Rattle.model.specs.declared.turn.Kind.{Kind}
+use Rattle.model.specs.Coding.{Coding}
+use Rattle.history.specs.declared.view.View.{View}
+use Rattle.history.specs.History.{IsHistory, Called}
+use Rattle.history.specs.Stages.{Calling, opened, At, Ends}
+
+module _ {T C M E : Type 0} (code : Coding T) (kind : Kind) (call : Calling T C M E) where
+  -- where no call was under way before it, it began
+  pub called : (base w : View T) (e : E) (m : M) → base.going ≡ None → (ends : Ends code kind call base e m w) → Called ends.party call.start (call.answer e m) ends.wrote base w
+  called base w e m idle ends =
+      let since = ends.since in
+      let opens : opened ends.party call.start base.going ≡ Begun ends.party call.start ∷ [] = ap (opened ends.party call.start) idle in
+      let last : List (Event T) = Finished ends.party call.start (call.answer e m) ∷ [] in
+      record {
+        others = since.others;
+        during = since.during;
+        is = since.is ∙ ap (λ os. (base.seen ++ since.others) ++ (os ++ (since.during ++ last))) opens;
+        alone = since.alone;
+        others_own = since.others_own;
+        during_own = since.during_own;
+        made = since.made ∙ ap (λ os. base.made ++ (os ++ (ends.wrote ++ last))) opens;
+      }
+
+  -- a call may be told of from where it stands as well
+  pub at_itself : (base v : View T) (c : C) (m : M) → ((p : ℕ) → call.by (Some p) p) → ((n p : ℕ) → call.wrote n p (Some (call.start, call.flight c m)) c m []) → At code kind call base v c m → At code kind call v v c m
+  at_itself base v c m own none (inl first) = subst (λ z. At code kind call z z c m) (sym first.is) (inl (record { is = refl; idle = first.idle; fresh = first.fresh; standing = first.standing; some = first.some; first = first.first; starts = first.starts; wrote = first.wrote }))
+  at_itself base v c m own none (inr under) =
+      let opens : opened under.party call.start v.going ≡ [] = ap (opened under.party call.start) under.going in
+      inr (record {
+        capacity = refl;
+        standing = subst (λ n. call.stands n c) (sym under.capacity) under.standing;
+        share = refl;
+        some = under.some;
+        party = under.party;
+        mine = under.mine;
+        same = subst (λ (o : Option ℕ). call.by o under.party) (sym under.mine) (own under.party);
+        going = under.going;
+        past = under.past;
+        alone = under.alone;
+        wrote = [];
+        tells = subst (λ (o : Option (Start T × Flight T)). call.wrote v.capacity under.party o c m []) (sym under.going) (none v.capacity under.party);
+        history = subst (λ n. IsHistory code kind n v.seen) (sym under.capacity) under.history;
+        since = record {
+          others = [];
+          during = [];
+          is = sym (append-nil v.seen) ∙ (sym (append-nil (v.seen ++ [])) ∙ ap (λ os. (v.seen ++ []) ++ (os ++ [])) (sym opens));
+          alone = λ all. refl;
+          others_own = refl;
+          during_own = refl;
+          made = sym (append-nil v.made) ∙ ap (λ os. v.made ++ (os ++ [])) (sym opens);
+        };
+      })

@@ -1,0 +1,62 @@
+-- What holds of each event of a run, where it holds of what each step of a call writes, and of every begin and end.
+use Rattle.std.proofs.Common.{◌≡◌, ℕ, Bool, Option, Some, None, List, [], ◌∷◌, ◌++◌, refl}
+use Rattle.model.specs.declared.event.Answer.{Answer}
+use Rattle.model.specs.declared.event.Event.{Event}
+use Rattle.model.specs.declared.event.Event.TheVariants.{Begun, Finished, Died}
+use Rattle.model.specs.declared.event.Start.{Start}
+use Rattle.model.specs.declared.families.Flight.{Flight}
+use Rattle.model.specs.declared.party.Doing.{Doing}
+use Rattle.model.specs.declared.party.Doing.TheVariants.{Going, Over}
+use Rattle.model.specs.declared.party.Party.{Party}
+use Rattle.model.specs.declared.turn.Refusal.{Refusal}
+use Rattle.model.specs.declared.turn.Turn.{Turn}
+use Rattle.model.specs.declared.turn.Turn.TheVariants.{Begin, Next, Decide, Die}
+use Rattle.model.specs.Parties.{party_of}
+use Rattle.model.specs.Reading.{Each}
+use Rattle.model.specs.Refusals.{call_refusal}
+use Rattle.model.specs.Step.{answer_in}
+use Rattle.model.specs.Turns.{after_turn, events_of, events_of_next, events_of_decision, events_of_answer, ending_of, old_of, ask_of_doing, number_of, unless_refused, attempt_on, run_on, step_in}
+use Rattle.model.specs.World.{Trace}
+use Rattle.model.proofs.Frame.{Family, Sound}
+use Rattle.model.proofs.Readings.{AreRight, Each-append}
+use Rattle.queue_laws.proofs.Queues.Runs.{LawsAt, AllMay, attempt_sound}
+
+module _ {T : Type 0} (F : Family T) (May : Trace T → Turn T → Type 0) (laws : LawsAt F May) (P : List (Event T) → Event T → Type 0) (begun : (before : List (Event T)) (p : ℕ) (start : Start T) → P before (Begun p start))
+    (finished : (before : List (Event T)) (p : ℕ) (start : Start T) (answer : Answer T) → P before (Finished p start answer)) (died : (before : List (Event T)) (owner : ℕ) → P before (Died owner))
+    (writes : (t : Trace T) → Sound F t → (p n : ℕ) (x : Party T) (flight : Flight T) (since : ℕ) → party_of p t.world.latest ≡ Some x → x.doing ≡ Going flight since → AreRight P t.events (step_in t.world p x flight n).wrote) where
+  both : (before xs ys : List (Event T)) → AreRight P before xs → ((b : List (Event T)) → AreRight P b ys) → AreRight P before (xs ++ ys)
+  both before [] ys a b = b before
+  both before (x ∷ xs) ys a b = (a.0, both (before ++ x ∷ []) xs ys a.1 b)
+
+  ending_right : (p : ℕ) (start : Start T) (o : Option (Answer T)) (before : List (Event T)) → AreRight P before (ending_of p start o)
+  ending_right p start None before = tt
+  ending_right p start (Some answer) before = (finished before p start answer, tt)
+
+  module _ (t : Trace T) (s : Sound F t) where
+    answer_right : (p n : ℕ) (x : Party T) → party_of p t.world.latest ≡ Some x → (doing : Doing T) → x.doing ≡ doing → AreRight P t.events (events_of_answer t.world p x n doing)
+    answer_right p n x found (Over others) d = tt
+    answer_right p n x found (Going flight since) d =
+        both t.events (step_in t.world p x flight n).wrote (ending_of p x.start (answer_in (step_in t.world p x flight n).after)) (writes t s p n x flight since found d) (λ b. ending_right p x.start (answer_in (step_in t.world p x flight n).after) b)
+
+    next_right : (p : ℕ) (o : Option (Party T)) → party_of p t.world.latest ≡ o → AreRight P t.events (events_of_next t.world p o)
+    next_right p None e = tt
+    next_right p (Some x) e = answer_right p (old_of t.world.words (ask_of_doing t.world.coding x.doing)) x e x.doing refl
+
+    decision_right : (p : ℕ) (said : Bool) (o : Option (Party T)) → party_of p t.world.latest ≡ o → AreRight P t.events (events_of_decision t.world p said o)
+    decision_right p said None e = tt
+    decision_right p said (Some x) e = answer_right p (number_of said) x e x.doing refl
+
+    turn_right : (turn : Turn T) → AreRight P t.events (events_of t.world turn)
+    turn_right (Begin p start) = (begun t.events p start, tt)
+    turn_right (Next p) = next_right p (party_of p t.world.latest) refl
+    turn_right (Decide p said) = decision_right p said (party_of p t.world.latest) refl
+    turn_right (Die owner) = (died t.events owner, tt)
+
+  attempt_right : (t : Trace T) (turn : Turn T) (o : Option Refusal) → Sound F t → Each P t.events → Each P (unless_refused t (after_turn t turn) o).events
+  attempt_right t turn None s all = Each-append P t.events (events_of t.world turn) all (turn_right t s turn)
+  attempt_right t turn (Some refusal) s all = all
+
+  pub each_event : (turns : List (Turn T)) (t : Trace T) → AllMay May turns t → Sound F t → Each P t.events → Each P (run_on turns t).events
+  each_event [] t may s all = all
+  each_event (turn ∷ turns) t may s all =
+      each_event turns (attempt_on t turn) may.1 (attempt_sound F May laws t turn (call_refusal t.world turn) refl may.0 s) (attempt_right t turn (call_refusal t.world turn) s all)

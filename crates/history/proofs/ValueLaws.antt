@@ -1,0 +1,69 @@
+-- A history of the single value is linearizable as one value, and a load's value is that of the last store before it; one
+-- of a queue of values is linearizable as the bounded list.
+use Rattle.std.proofs.Common.{◌≡◌, ℕ, ◌+◌, ◌<◌, List, [], ◌∷◌, ◌++◌, fold, length, map, replicate, slice_index, refl, sym, ap, subst, ◌∙◌, arith}
+use Rattle.model.specs.declared.event.Answer.TheVariants.{Loaded}
+use Rattle.model.specs.declared.event.Event.{Event}
+use Rattle.model.specs.declared.event.Event.TheVariants.{Acted}
+use Rattle.model.specs.declared.event.Start.TheVariants.{Atomic}
+use Rattle.model.specs.declared.families.atomic.AtomicStart.TheVariants.{Store, Load}
+use Rattle.model.specs.declared.families.queues.QueueKind.TheVariants.{Queue}
+use Rattle.model.specs.declared.turn.Kind.TheVariants as kinds
+use Rattle.model.specs.Coding.{Coding}
+use Rattle.model.specs.Families.Atomic.Objects.{value_after}
+use Rattle.model.specs.Families.Atomic.Promises.{AnswersRight, value_in}
+use Rattle.model.specs.Linearizable.{IsLinearizable}
+use Rattle.model.specs.Linearized.{as_list, as_value, IsLinearized}
+use Rattle.model.specs.Reading.{Each, moments}
+use Rattle.model.specs.World.{Trace}
+use Rattle.model.proofs.Linearizable.Kinds.{run_linearizable}
+use Rattle.atomic_laws.specs.Stored.{stored}
+use Rattle.atomic_laws.proofs.Kept.{kept_on}
+use Rattle.atomic_laws.proofs.Sound.{version_counts}
+use Rattle.queue_laws.proofs.Queues.Kept.{kept_on as queue_kept_on}
+use Rattle.history.specs.History.{IsRun, IsHistory}
+use Rattle.history.specs.Value.{last_or, IsLast}
+use Rattle.history.proofs.Values.{value_sound, value_goes_on}
+
+module _ {T : Type 0} (code : Coding T) (capacity : ℕ) (events : List (Event T)) (h : IsHistory code kinds.Atomic capacity events) where
+  pub value_linearizable : IsLinearizable (as_value code) events
+  value_linearizable =
+      let t = h.trace in
+      let r = h.run in
+      let all : IsLinearized kinds.Atomic t = subst (λ k. IsLinearized k t) r.of_kind (run_linearizable t (kept_on t r.of_kind r.reached.coded r.fresh)) in
+      subst (λ es. IsLinearizable (as_value code) es) (sym h.is) (subst (λ z. IsLinearizable (as_value z) t.events) r.coded all)
+
+  -- each answer is that of the value that stood at its moment
+  pub answers_right : Each (AnswersRight code) events
+  answers_right = subst (λ es. Each (AnswersRight code) es) (sym h.is) (subst (λ z. Each (AnswersRight z) h.trace.events) h.run.coded (value_goes_on code capacity h.trace h.run).answers)
+
+-- ---- the value that stands is the last that was stored
+
+pub last_is : {A : Type 0} (first : A) (xs : List A) → 0 < length xs → IsLast (last_or first xs) xs
+last_is first [] some = absurd (omega arith)
+last_is first (x ∷ []) some = record { others = []; is = refl }
+last_is first (x ∷ y ∷ xs) some = (let rest = last_is x (y ∷ xs) (omega arith) in record { others = x ∷ rest.others; is = ap (λ zs. x ∷ zs) rest.is })
+
+stands_after : {T : Type 0} (value : T) (events : List (Event T)) → fold value_after value (map (λ m. m.0) (moments events)) ≡ last_or value (stored events)
+stands_after value [] = refl
+stands_after value (Acted p (Atomic (Store new)) answer ∷ es) = stands_after new es
+stands_after value (e ∷ es) = stands_after value es
+
+module _ {T : Type 0} (code : Coding T) (capacity : ℕ) (events : List (Event T)) (h : IsHistory code kinds.Atomic capacity events) where
+  -- a load tells the last value that was stored before its moment, or that of zeros
+  pub load_tells : (p : ℕ) (x : T) (before after : List (Event T)) → events ≡ before ++ Acted p (Atomic Load) (Loaded x) ∷ after → x ≡ last_or (code.value_of (replicate code.size 0)) (stored before)
+  load_tells p x before after is =
+      let right : Loaded x ≡ Loaded (value_in code before) = answers_right code capacity events h before after (Acted p (Atomic Load) (Loaded x)) is in
+      let same : x ≡ value_in code before = cc in
+      same ∙ stands_after (code.value_of (replicate code.size 0)) before
+
+-- the version of a reached machine counts the stores
+pub version_is_count : {T : Type 0} (code : Coding T) (capacity : ℕ) (t : Trace T) → IsRun code kinds.Atomic capacity t → slice_index t.world.words 0 ≡ length (stored t.events) + 1
+version_is_count code capacity t run = version_counts t.world.coding t.world.capacity t (value_sound code capacity t run)
+
+module _ {T : Type 0} (code : Coding T) (capacity : ℕ) (events : List (Event T)) (h : IsHistory code kinds.Queue capacity events) where
+  pub values_linearizable : IsLinearizable (as_list Queue capacity) events
+  values_linearizable =
+      let t = h.trace in
+      let r = h.run in
+      let all : IsLinearized kinds.Queue t = subst (λ k. IsLinearized k t) r.of_kind (run_linearizable t (queue_kept_on Queue t r.of_kind r.reached.coded r.reached.admitted r.fresh)) in
+      subst (λ es. IsLinearizable (as_list Queue capacity) es) (sym h.is) (subst (λ n. IsLinearizable (as_list Queue n) t.events) r.sized all)

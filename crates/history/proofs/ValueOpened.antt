@@ -1,0 +1,241 @@
+-- How the table of a single value opens: one party has stored it so many times.
+use Rattle.std.proofs.Common.{◌≡◌, ℕ, zero, suc, ◌+◌, ◌-◌, ◌*◌, ◌%◌, ◌^◌, ◌<◌, ◌≤◌, ◌==◌, nat_lt, true, false, Option, Some, None, List, [], ◌∷◌, ◌++◌, length, take, drop, set, get_or, replicate, slice_set, refl, sym, ap, subst, ◌∙◌, append_assoc, length-append, arith, sum_by}
+use Rattle.std.proofs.lemmas.Bool.Decides.{nat_tests}
+use Rattle.std.proofs.lemmas.List.{length-replicate}
+use Rattle.std.proofs.lemmas.List.Sums.{sum_by-append}
+use Rattle.atomic_table.specs.Table.{opening}
+use Rattle.steps.specs.declared.ask.Op.TheVariants as ops
+use Rattle.steps.specs.declared.atomic.StoreStage as stores
+use Rattle.steps.specs.Atomic.{cell_word, first_store, at_store}
+use Rattle.steps.specs.Queues.Ring.{word_at}
+use Rattle.model.specs.declared.event.Answer.TheVariants as answers
+use Rattle.model.specs.declared.event.Answer.TheVariants.{Truth}
+use Rattle.model.specs.declared.event.Event.{Event}
+use Rattle.model.specs.declared.event.Event.TheVariants.{Begun, Acted, Finished}
+use Rattle.model.specs.declared.event.Start.{Start}
+use Rattle.model.specs.declared.event.Start.TheVariants.{Atomic}
+use Rattle.model.specs.declared.families.Flight.{Flight}
+use Rattle.model.specs.declared.families.atomic.AtomicStart.TheVariants.{AcquireProducer, ReleaseProducer, Store}
+use Rattle.model.specs.declared.turn.Kind.TheVariants as kinds
+use Rattle.model.specs.Coding.{Coding, IsCoding}
+use Rattle.model.specs.Families.Atomic.Calls.{producer_word}
+use Rattle.atomic_laws.proofs.Core as core
+use Rattle.atomic_laws.proofs.Core.{cell_within}
+use Rattle.atomic_laws.proofs.Stores.{asked_place}
+use Rattle.history.specs.declared.view.View.{View}
+use Rattle.history.specs.History.{IsMachine}
+use Rattle.history.specs.Known.{owned}
+use Rattle.history.specs.Value.{takes_producer, gives_producer, HasProducer, acquires_producer, releases_producer, stores_value}
+use Rattle.history.specs.ValueOpened.{first_stores, stored_once, stored_times, opened, opened_view, opened_cells}
+use Rattle.history.proofs.Alone as alone
+use Rattle.history.proofs.Alone.{same_seat}
+use Rattle.history.proofs.Calls.{set_left}
+use Rattle.history.proofs.QueueCalls.{holds_it}
+use Rattle.history.proofs.Rooms.{replicate_both}
+use Rattle.history.proofs.Values.{value_effects, value_owes, plain_starts, producer_starts}
+
+-- ---- lists of words
+
+pub set_right : (xs ys : List ℕ) (i n : ℕ) → set (xs ++ ys) (length xs + i) n ≡ xs ++ set ys i n
+set_right [] ys i n = let same : 0 + i ≡ i = omega arith in ap (λ k. set ys k n) same
+set_right (x ∷ xs) ys i n = let same : suc (length xs) + i ≡ suc (length xs + i) = omega arith in ap (λ k. set (x ∷ (xs ++ ys)) k n) same ∙ ap (λ zs. x ∷ zs) (set_right xs ys i n)
+
+-- the first words of the one list, and the rest of the other
+abbrev pub mix : ℕ → List ℕ → List ℕ → List ℕ
+mix at ws xs = take at ws ++ drop at xs
+
+pub mix_step : (at : ℕ) (ws xs : List ℕ) → at < length ws → at < length xs → set (mix at ws xs) at (get_or ws at 0) ≡ mix (suc at) ws xs
+mix_step at [] xs a b = absurd (omega arith)
+mix_step at (w ∷ ws) [] a b = absurd (omega arith)
+mix_step zero (w ∷ ws) (x ∷ xs) a b = refl
+mix_step (suc at) (w ∷ ws) (x ∷ xs) a b = ap (λ zs. w ∷ zs) (mix_step at ws xs (omega arith) (omega arith))
+
+pub mix_length : (at : ℕ) (ws xs : List ℕ) → at ≤ length ws → at ≤ length xs → length (mix at ws xs) ≡ length xs
+mix_length zero ws xs a b = refl
+mix_length (suc at) [] xs a b = absurd (omega arith)
+mix_length (suc at) (w ∷ ws) [] a b = absurd (omega arith)
+mix_length (suc at) (w ∷ ws) (x ∷ xs) a b = ap suc (mix_length at ws xs (omega arith) (omega arith))
+
+pub mix_all : (n : ℕ) (ws xs : List ℕ) → length ws ≡ n → length xs ≡ n → mix n ws xs ≡ ws
+mix_all zero [] [] a b = refl
+mix_all zero (w ∷ ws) xs a b = absurd (omega arith)
+mix_all zero [] (x ∷ xs) a b = absurd (omega arith)
+mix_all (suc n) [] xs a b = absurd (omega arith)
+mix_all (suc n) (w ∷ ws) [] a b = absurd (omega arith)
+mix_all (suc n) (w ∷ ws) (x ∷ xs) a b = ap (λ zs. w ∷ zs) (mix_all n ws xs (omega arith) (omega arith))
+
+-- two cells, of which the one with this number has the first words
+abbrev two : ℕ → List ℕ → List ℕ → List ℕ
+two zero xs ys = xs ++ ys
+two (suc n) xs ys = ys ++ xs
+
+two_same : (p : ℕ) (xs : List ℕ) → two p xs xs ≡ xs ++ xs
+two_same zero xs = refl
+two_same (suc p) xs = refl
+
+two_length : (p size : ℕ) (xs ys : List ℕ) → length xs ≡ size → length ys ≡ size → length (two p xs ys) ≡ size * 2
+two_length zero size xs ys a b = length-append xs ys ∙ (omega arith)
+two_length (suc p) size xs ys a b = length-append ys xs ∙ (omega arith)
+
+two_set : (p size : ℕ) (xs ys : List ℕ) (at n : ℕ) → p < 2 → length xs ≡ size → length ys ≡ size → at < size → set (two p xs ys) (size * p + at) n ≡ two p (set xs at n) ys
+two_set zero size xs ys at n low a b below = let same : size * 0 + at ≡ at = omega arith in ap (λ k. set (xs ++ ys) k n) same ∙ set_left xs ys at n (omega arith)
+two_set (suc zero) size xs ys at n low a b below = let same : size * 1 + at ≡ length ys + at = omega arith in ap (λ k. set (ys ++ xs) k n) same ∙ set_right ys xs at n
+two_set (suc (suc p)) size xs ys at n low a b below = absurd (omega arith)
+
+-- ---- the calls of the one party
+
+module _ {T : Type 0} (code : Coding T) (law : IsCoding code) (value : T) where
+  abbrev size : ℕ
+  size = code.size
+
+  abbrev ws : List ℕ
+  ws = code.words_of value
+
+  abbrev Here : List ℕ → List (Event T) → Option (Start T × Flight T) → Type 0
+  Here = alone.Here code kinds.Atomic 1 (2 + code.size * 2) (value_effects code) (value_owes code 1)
+
+  abbrev maker : List (Event T) → View T
+  maker = alone.maker code kinds.Atomic 1 (2 + code.size * 2) (value_effects code) (value_owes code 1)
+
+  sums : (words : List ℕ) (es : List (Event T)) → (h : Here words es None) → (f : Event T → ℕ) → sum_by f es ≡ sum_by (owned same_seat 0 f) h.u.events
+  sums words es h = alone.sums code kinds.Atomic 1 (2 + code.size * 2) (value_effects code) (value_owes code 1) words es None h
+
+  -- the version, the role, and the two cells
+  abbrev words_at : ℕ → ℕ → List ℕ → List ℕ
+  words_at version role cells = version ∷ role ∷ (cells ++ 0 ∷ [])
+
+  abbrev flight_at : stores.StoreStage → Flight T
+  flight_at stage = (stores_value code value).flight (at_store first_store stage) tt
+
+  abbrev name : Start T
+  name = Atomic (Store value)
+
+  module _ (v : ℕ) (small : v < 2 ^ 64 - 1) (x y : List ℕ) (x_long : length x ≡ code.size) (y_long : length y ≡ code.size) where
+    abbrev cells : ℕ → List ℕ
+    cells at = two (v % 2) (mix at ws x) y
+
+    abbrev now : ℕ → List ℕ
+    now at = words_at v 0 (cells at)
+
+    abbrev cell : ℕ
+    cell = cell_word code.size v
+
+    abbrev storing : ℕ → Flight T
+    storing at = flight_at (stores.TheVariants.StoresCell cell at)
+
+    half : v % 2 < 2
+    half = omega arith
+
+    -- a word is stored
+    put : (at : ℕ) → at < code.size → slice_set (now at) (word_at cell at) (get_or ws at 0) ≡ now (suc at)
+    put at below =
+        let long = law.sized value in
+        let mixed = mix_length at ws x (omega arith) (omega arith) in
+        let all = two_length (v % 2) code.size (mix at ws x) y (mixed ∙ x_long) y_long in
+        let within = cell_within code.size v at below in
+        core.set_at v 0 (cells at ++ 0 ∷ []) (word_at cell at) (code.size * (v % 2) + at) (get_or ws at 0) (asked_place code.size v at law.few below)
+        ∙ ap (λ zs. v ∷ 0 ∷ zs) (set_left (cells at) (0 ∷ []) (code.size * (v % 2) + at) (get_or ws at 0) (omega arith)
+        ∙ ap (λ zs. zs ++ 0 ∷ []) (two_set (v % 2) code.size (mix at ws x) y at (get_or ws at 0) half (mixed ∙ x_long) y_long below
+        ∙ ap (λ zs. two (v % 2) zs y) (mix_step at ws x (omega arith) (omega arith))))
+
+    word_low : (at : ℕ) → at < code.size → word_at cell at < 2 + code.size * 2
+    word_low at below = (let is = asked_place code.size v at law.few below in let within = cell_within code.size v at below in omega arith)
+
+    next : (es : List (Event T)) (at : ℕ) → at + 1 < code.size → Here (now at) es (Some (name, storing at)) → Here (now (suc at)) es (Some (name, storing (at + 1)))
+    next es at more h =
+        let t : nat_lt (at + 1) code.size ≡ true = grind (arith, nat_tests) in
+        alone.goes_on code kinds.Atomic 1 (2 + code.size * 2) (value_effects code) (value_owes code 1) (now at) es name (storing at) h (record { word = word_at cell at; op = ops.Store (get_or ws at 0) }) (word_low at (omega arith)) refl tt (now (suc at)) (storing (at + 1)) (put at (omega arith)) (rw t refl) (rw t refl)
+
+    last : (es : List (Event T)) (at : ℕ) → at + 1 ≡ code.size → Here (now at) es (Some (name, storing at)) → Here (now (suc at)) es (Some (name, flight_at stores.TheVariants.AddsVersion))
+    last es at all h =
+        let t : nat_lt (at + 1) code.size ≡ false = grind (arith, nat_tests) in
+        alone.goes_on code kinds.Atomic 1 (2 + code.size * 2) (value_effects code) (value_owes code 1) (now at) es name (storing at) h (record { word = word_at cell at; op = ops.Store (get_or ws at 0) }) (word_low at (omega arith)) refl tt (now (suc at)) (flight_at stores.TheVariants.AddsVersion) (put at (omega arith)) (rw t refl) (rw t refl)
+
+    fills : (es : List (Event T)) (rest at : ℕ) → at + suc rest ≡ code.size → Here (now at) es (Some (name, storing at)) → Here (now code.size) es (Some (name, flight_at stores.TheVariants.AddsVersion))
+    fills es zero at sum h = let same : suc at ≡ code.size = omega arith in subst (λ n. Here (now n) es (Some (name, flight_at stores.TheVariants.AddsVersion))) same (last es at (omega arith) h)
+    fills es (suc rest) at sum h =
+        let same : at + 1 ≡ suc at = omega arith in
+        fills es rest (suc at) (omega arith) (subst (λ n. Here (now (suc at)) es (Some (name, storing n))) same (next es at (omega arith) h))
+
+    -- the value is stored once more
+    stores_it : (es : List (Event T)) → HasProducer es → Here (words_at v 0 (two (v % 2) x y)) es None → Here (words_at (v + 1) 0 (two (v % 2) ws y)) (es ++ stored_once value) None
+    stores_it es has h =
+        let not_last : (v == 2 ^ 64 - 1) ≡ false = grind (arith, nat_tests) in
+        let xs = es ++ Begun 0 name ∷ [] in
+        let ended : List (Event T) = Acted 0 name (Truth true) ∷ Finished 0 name (Truth true) ∷ [] in
+        let a = alone.begins code kinds.Atomic 1 (2 + code.size * 2) (value_effects code) (value_owes code 1) (stores_value code value) first_store tt (now 0) es h
+        (producer_starts code (maker es) (stores_value code value) (Store value) first_store tt refl (λ kept. refl) (λ o p. tt) (λ holder p is. holds_it holder p is) has h.u same_seat 0 h.between.run refl refl (sums (now 0) es h)) in
+        let b = alone.goes_on code kinds.Atomic 1 (2 + code.size * 2) (value_effects code) (value_owes code 1) (now 0) xs name (flight_at stores.TheVariants.LoadsVersion) a (record { word = 0; op = ops.Load }) (omega arith) refl small (now 0) (storing 0) refl (rw not_last refl) (rw not_last refl) in
+        let c = fills xs (code.size - 1) 0 (let some = law.some in omega arith) b in
+        let one : (v + 1) % 2 ^ 64 ≡ v + 1 = omega arith in
+        let d = alone.ends code kinds.Atomic 1 (2 + code.size * 2) (value_effects code) (value_owes code 1) (now code.size) xs name (flight_at stores.TheVariants.AddsVersion) c (record { word = 0; op = ops.Add 1 }) (omega arith) refl tt (words_at (v + 1) 0 (cells code.size)) (Truth true) ended (ap (λ n. words_at n 0 (cells code.size)) one) refl refl in
+        let whole : mix code.size ws x ≡ ws = mix_all code.size ws x (law.sized value) x_long in
+        subst (λ zs. Here (words_at (v + 1) 0 (two (v % 2) zs y)) (es ++ stored_once value) None) whole
+        (subst (λ zs. Here (words_at (v + 1) 0 (cells code.size)) zs None) (append_assoc es (Begun 0 name ∷ []) ended) d)
+
+  -- ---- so many stores
+
+  has_it : (n : ℕ) → HasProducer (stored_times value n)
+  has_it zero = refl
+  has_it (suc n) =
+      let t = sum_by-append takes_producer (stored_times value n) (stored_once value) in
+      let g = sum_by-append gives_producer (stored_times value n) (stored_once value) in
+      let h = has_it n in
+      omega arith
+
+  abbrev zeros : List ℕ
+  zeros = replicate code.size 0
+
+  zeros_long : length zeros ≡ code.size
+  zeros_long = length-replicate code.size 0
+
+  -- the role is taken
+  taken : Here (words_at 1 0 (opened_cells code value 0)) (stored_times value 0) None
+  taken =
+      let all : code.size + code.size ≡ code.size * 2 = omega arith in
+      let cells : replicate (code.size * 2) 0 ≡ zeros ++ zeros = sym (replicate_both code.size code.size 0 ∙ ap (λ n. replicate n 0) all) in
+      let start = Atomic AcquireProducer in
+      let h : Here (words_at 1 1 (zeros ++ zeros)) [] None = subst (λ zs. Here (words_at 1 1 zs) [] None) cells (alone.opens_here code kinds.Atomic 1 (2 + code.size * 2) (value_effects code) (value_owes code 1) law refl) in
+      let a = alone.begins code kinds.Atomic 1 (2 + code.size * 2) (value_effects code) (value_owes code 1) acquires_producer (record { word = producer_word }) tt (words_at 1 1 (zeros ++ zeros)) [] h
+      (plain_starts code (maker []) acquires_producer AcquireProducer (record { word = producer_word }) tt refl (λ kept. refl) (λ o p is. is) (λ holder p. refl) h.u same_seat 0 h.between.run refl refl (sums (words_at 1 1 (zeros ++ zeros)) [] h)) in
+      alone.ends code kinds.Atomic 1 (2 + code.size * 2) (value_effects code) (value_owes code 1) (words_at 1 1 (zeros ++ zeros)) (Begun 0 start ∷ []) start (acquires_producer.flight (record { word = producer_word }) tt) a (record { word = producer_word; op = ops.Exchange 1 0 }) (omega arith) refl tt (words_at 1 0 (zeros ++ zeros)) (Truth true) (Finished 0 start (Truth true) ∷ []) refl refl refl
+
+  once : Here (words_at 2 0 (opened_cells code value 1)) (stored_times value 1) None
+  once = stores_it 1 (omega arith) zeros zeros zeros_long zeros_long (stored_times value 0) (has_it 0) taken
+
+  stored : (n : ℕ) → n < 2 ^ 64 - 1 → Here (words_at (n + 1) 0 (opened_cells code value n)) (stored_times value n) None
+  stored zero low = taken
+  stored (suc zero) low = once
+  stored (suc (suc zero)) low = stores_it 2 (omega arith) zeros ws zeros_long (law.sized value) (stored_times value 1) (has_it 1) once
+  stored (suc (suc (suc n))) low =
+      let v = suc (suc n) + 1 in
+      let long = law.sized value in
+      let before : Here (words_at v 0 (two (v % 2) ws ws)) (stored_times value (suc (suc n))) None = subst (λ zs. Here (words_at v 0 zs) (stored_times value (suc (suc n))) None) (sym (two_same (v % 2) ws)) (stored (suc (suc n)) (omega arith)) in
+      let next_one : v + 1 ≡ suc (suc (suc n)) + 1 = omega arith in
+      subst (λ k. Here (words_at k 0 (ws ++ ws)) (stored_times value (suc (suc (suc n)))) None) next_one
+      (subst (λ zs. Here (words_at (v + 1) 0 zs) (stored_times value (suc (suc (suc n)))) None) (two_same (v % 2) ws) (stores_it v (omega arith) ws ws long long (stored_times value (suc (suc n))) (has_it (suc (suc n))) before))
+
+  -- the role is given back
+  given : (n : ℕ) → n < 2 ^ 64 - 1 → Here (words_at (n + 1) 1 (opened_cells code value n)) (opened value n) None
+  given n low =
+      let start = Atomic ReleaseProducer in
+      let ws' = words_at (n + 1) 0 (opened_cells code value n) in
+      let es = stored_times value n in
+      let h = stored n low in
+      let a = alone.begins code kinds.Atomic 1 (2 + code.size * 2) (value_effects code) (value_owes code 1) releases_producer (record { word = producer_word }) tt ws' es h
+      (producer_starts code (maker es) releases_producer ReleaseProducer (record { word = producer_word }) tt refl (λ kept. refl) (λ o p. tt) (λ holder p is. holds_it holder p is) (has_it n) h.u same_seat 0 h.between.run refl refl (sums ws' es h)) in
+      let b = alone.ends code kinds.Atomic 1 (2 + code.size * 2) (value_effects code) (value_owes code 1) ws' (es ++ Begun 0 start ∷ []) start (releases_producer.flight (record { word = producer_word }) tt) a (record { word = producer_word; op = ops.Store 1 }) (omega arith) refl tt (words_at (n + 1) 1 (opened_cells code value n)) answers.Done (Finished 0 start answers.Done ∷ []) refl refl refl in
+      subst (λ zs. Here (words_at (n + 1) 1 (opened_cells code value n)) zs None) (append_assoc es (Begun 0 start ∷ []) (Finished 0 start answers.Done ∷ [])) b
+
+  few : (version : ℕ) → version < 2 ^ 64 → first_stores version < 2 ^ 64 - 1
+  few zero low = omega arith
+  few (suc zero) low = omega arith
+  few (suc (suc more)) low = omega arith
+
+  -- a table opens so, at any version
+  pub value_opens : (version : ℕ) → version < 2 ^ 64 → (words : List ℕ) → words ≡ (first_stores version + 1) ∷ 1 ∷ (opened_cells code value (first_stores version) ++ 0 ∷ [])
+      → IsMachine code kinds.Atomic 1 (opening words [] (opened_view value version))
+  value_opens version low words same =
+      let n = first_stores version in
+      subst (λ zs. IsMachine code kinds.Atomic 1 (opening zs [] (opened_view value version))) (sym same)
+      (alone.opens_so code kinds.Atomic 1 (2 + code.size * 2) (value_effects code) (value_owes code 1) (words_at (n + 1) 1 (opened_cells code value n)) (opened value n) (given n (few version low)))

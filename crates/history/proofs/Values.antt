@@ -1,0 +1,212 @@
+-- What the single value owes, from its laws, and which party may begin a call on it.
+use Rattle.std.proofs.Common.{◌≡◌, ℕ, ◌+◌, ◌*◌, ◌≤◌, true, false, Option, Some, None, IfSome, List, [], length, sum_by, refl, sym, ap, subst, ◌∙◌, arith}
+use Rattle.model.specs.declared.event.Answer.{Answer}
+use Rattle.model.specs.declared.event.Answer.TheVariants.{Truth}
+use Rattle.model.specs.declared.event.Event.{Event}
+use Rattle.model.specs.declared.event.Event.TheVariants.{Finished}
+use Rattle.model.specs.declared.event.Start.{Start}
+use Rattle.model.specs.declared.event.Start.TheVariants.{Atomic}
+use Rattle.model.specs.declared.families.Flight.{Flight}
+use Rattle.model.specs.declared.families.Flight as flights
+use Rattle.model.specs.declared.families.Kept.{Kept}
+use Rattle.model.specs.declared.families.Kept as kepts
+use Rattle.model.specs.declared.families.atomic.AtomicStart.{AtomicStart}
+use Rattle.model.specs.declared.families.atomic.AtomicStart.TheVariants.{AcquireProducer, ReleaseProducer, Store, Load}
+use Rattle.model.specs.declared.families.atomic.calls.AtomicFlight.{AtomicFlight}
+use Rattle.model.specs.declared.families.atomic.calls.AtomicFlight as calls
+use Rattle.model.specs.declared.party.Party.{Party}
+use Rattle.model.specs.declared.turn.Kind.TheVariants as kinds
+use Rattle.model.specs.Coding.{Coding}
+use Rattle.model.specs.Families.{first_of, step_of, beside_of, after_of, going_rows}
+use Rattle.model.specs.Families.Atomic.Calls.{after}
+use Rattle.model.specs.Families.Atomic.Opening.{lacks_role, kept_rows}
+use Rattle.model.specs.Families.Atomic.Promises.{IsValue}
+use Rattle.model.specs.Families.Atomic.Reading.{holder_after, holder_of}
+use Rattle.model.specs.Families.Atomic.Roles.{GrantsRight, KeepsHolder}
+use Rattle.model.specs.Families.Atomic.Steps.{acted}
+use Rattle.model.specs.Parties.{party_of}
+use Rattle.model.specs.Promises.{IsKeptBy}
+use Rattle.model.specs.Promises.Families.{promise_of}
+use Rattle.model.specs.Reading.{Each}
+use Rattle.model.specs.Rows.{first_row}
+use Rattle.model.specs.Step.{answer_in}
+use Rattle.model.specs.World.{Trace}
+use Rattle.model.proofs.Frame as frame
+use Rattle.model.proofs.Scenes.{stands_there}
+use Rattle.atomic_laws.proofs.Invariant.{Value, family}
+use Rattle.atomic_laws.proofs.Kept.{kept_on}
+use Rattle.atomic_laws.proofs.Knows.{At}
+use Rattle.atomic_laws.proofs.Sound.{kept_is, sound_on}
+use Rattle.history.specs.declared.view.View.{View}
+use Rattle.history.specs.History.{IsRun, IsOfParties, call_in}
+use Rattle.history.specs.Known.{owned}
+use Rattle.history.specs.Stages.{Starts, Calling}
+use Rattle.history.specs.Value.{takes_producer, gives_producer, HasProducer}
+use Rattle.history.proofs.Calls.{stands}
+use Rattle.history.proofs.Known.{AreOf}
+use Rattle.history.proofs.Ledger.{Moves, still, taken, given, held_by_one, at_most}
+use Rattle.history.proofs.Roles.{granted}
+use Rattle.history.proofs.Turns.{CallGoesOn, KindLaws}
+
+module _ {T : Type 0} where
+  -- the name of a call under way
+  abbrev start_of : AtomicFlight T → AtomicStart T
+  start_of (calls.TheVariants.Acquire run) = AcquireProducer
+  start_of (calls.TheVariants.Release run) = ReleaseProducer
+  start_of (calls.TheVariants.Store run) = Store run.given
+  start_of (calls.TheVariants.Load run) = Load
+
+  -- what a step of a call on the single value writes
+  abbrev pub value_effects : Coding T → ℕ → Flight T → ℕ → List (Event T)
+  value_effects code p (flights.TheVariants.Atomic flight) found = acted p (start_of flight) (answer_in (after code flight found))
+  value_effects code p flight found = []
+
+  -- they are events of its party
+  store_own : (p : ℕ) (value : T) (o : Option (Answer T)) → AreOf p (acted p (Store value) o)
+  store_own p value None = tt
+  store_own p value (Some (Truth true)) = (refl, tt)
+  store_own p value (Some answer) = tt
+
+  load_own : (p : ℕ) (o : Option (Answer T)) → AreOf p (acted p Load o)
+  load_own p None = tt
+  load_own p (Some answer) = (refl, tt)
+
+  effects_own : (code : Coding T) (p : ℕ) (flight : Flight T) (n : ℕ) → AreOf p (value_effects code p flight n)
+  effects_own code p (flights.TheVariants.Atomic (calls.TheVariants.Acquire run)) n = tt
+  effects_own code p (flights.TheVariants.Atomic (calls.TheVariants.Release run)) n = tt
+  effects_own code p (flights.TheVariants.Atomic (calls.TheVariants.Store run)) n = store_own p run.given _
+  effects_own code p (flights.TheVariants.Atomic (calls.TheVariants.Load run)) n = load_own p _
+  effects_own code p flight n = tt
+
+  -- the name is that of the call that stands so
+  named : (code : Coding T) (s : Value) (p : ℕ) (start : AtomicStart T) (flight : AtomicFlight T) → At code s.holder s.core p start flight → start ≡ start_of flight
+  named code s p AcquireProducer (calls.TheVariants.Acquire run) at = refl
+  named code s p ReleaseProducer (calls.TheVariants.Release run) at = refl
+  named code s p (Store value) (calls.TheVariants.Store run) at = ap Store (sym at.1)
+  named code s p Load (calls.TheVariants.Load run) at = refl
+  named code s p start flight at = absurd at
+
+  -- the step of a call that stands so, whatever its name
+  record Facts (z : Coding T) (words : List ℕ) (waits : Option (ℕ × ℕ)) (p n : ℕ) (start : Start T) (flight : Flight T) (kept : Kept T) : Type 0 where
+    pub may : first_row (going_rows z kept (Some flight) None) ≡ None
+    pub writes : (step_of z words waits p start flight n kept).wrote ≡ value_effects z p flight n
+    pub goes : (step_of z words waits p start flight n kept).after ≡ after_of z flight n
+
+  facts : (z : Coding T) (words : List ℕ) (waits : Option (ℕ × ℕ)) (c p n : ℕ) (s : Value) (start : Start T) (flight : Flight T) (kept : Kept T) → kept ≡ kepts.TheVariants.Atomic s.holder → (family z c).At s p start flight → Facts z words waits p n start flight kept
+  facts z words waits c p n s (Atomic start) (flights.TheVariants.Atomic flight) kept e at =
+      subst (λ k. Facts z words waits p n (Atomic start) (flights.TheVariants.Atomic flight) k) (sym e)
+      (record {
+        may = refl;
+        writes = ap (λ st. acted p st (answer_in (after z flight n))) (named z s p start flight at);
+        goes = refl;
+      })
+  facts z words waits c p n s start flight kept e at = absurd at
+
+-- ---- what the kind owes
+
+module _ {T : Type 0} (code : Coding T) (capacity : ℕ) where
+  abbrev IsOn : Trace T → Type 0
+  IsOn t = IsRun code kinds.Atomic capacity t
+
+  pub value_sound : (t : Trace T) → IsOn t → frame.Sound (family t.world.coding t.world.capacity) t
+  value_sound t r = sound_on t r.of_kind r.reached.coded r.fresh
+
+  size : (t : Trace T) → IsOn t → length t.world.words ≡ 2 + code.size * 2
+  size t r =
+      let s = value_sound t r in
+      let cells : length s.state.core.cells ≡ code.size * 2 = s.holds.good.cells ∙ ap (λ (z : Coding T). z.size * 2) r.coded in
+      ap length (kept_is t.world.kept t.world.words s.state s.fit).1 ∙ omega arith
+
+  goes_on : (t : Trace T) → IsOn t → (p : ℕ) (start : Start T) (flight : Flight T) → call_in t.world p ≡ Some (start, flight) → CallGoesOn code kinds.Atomic capacity (2 + code.size * 2) (value_effects code) t p flight
+  goes_on t r p start flight at =
+      let s = value_sound t r in
+      let here = stands t.world p start flight at in
+      let there = stands_there (family t.world.coding t.world.capacity) t s p here.x here.since flight here.found here.doing in
+      let is = kept_is t.world.kept t.world.words s.state s.fit in
+      let waits = beside_of t.world.words t.world.kept t.world.latest p in
+      let fact = λ (x : Party T) (n : ℕ) (found : party_of p t.world.latest ≡ Some x).
+      (let same : here.x ≡ x = (let both : Some here.x ≡ Some x = sym here.found ∙ found in cc) in
+      subst (λ (st : Start T). Facts t.world.coding t.world.words waits p n st flight t.world.kept) (ap (λ (y : Party T). y.start) same)
+      (facts t.world.coding t.world.words waits t.world.capacity p n s.state here.x.start flight t.world.kept is.0 there.at))
+      in
+      record {
+        may = (fact here.x 0 here.found).may;
+        own = λ n. effects_own code p flight n;
+        writes = λ x n found. (fact x n found).writes ∙ ap (λ (z : Coding T). value_effects z p flight n) r.coded;
+        goes = λ x n found. (fact x n found).goes;
+      }
+
+  pub value_owes : KindLaws code kinds.Atomic capacity (2 + code.size * 2) (value_effects code)
+  value_owes = record { size = size; goes_on = goes_on }
+
+  -- what the model promises of each run
+  pub value_goes_on : (t : Trace T) → IsOn t → IsValue t
+  value_goes_on t r = (subst (λ P. IsKeptBy P t) (ap (promise_of {T = T}) r.of_kind) (kept_on t r.of_kind r.reached.coded r.fresh)).promised
+
+-- ---- which party holds the role that a pass holds: one of its own
+
+module _ {T : Type 0} (owner : ℕ → ℕ) (j : ℕ) where
+  abbrev MovesIt : List (Event T) → Event T → Type 0
+  MovesIt = Moves takes_producer gives_producer holder_after owner j
+
+  moves : (before : List (Event T)) (e : Event T) → GrantsRight before e → MovesIt before e
+  moves before (Finished p (Atomic AcquireProducer) (Truth true)) h = taken takes_producer gives_producer holder_after owner j before (Finished p (Atomic AcquireProducer) (Truth true)) p refl refl refl (granted (holder_of before) h) refl
+  moves before (Finished p (Atomic ReleaseProducer) answer) h = given takes_producer gives_producer holder_after owner j before (Finished p (Atomic ReleaseProducer) answer) p refl refl refl h.1 refl
+  moves before e h = still takes_producer gives_producer holder_after owner j before e refl refl refl
+
+  all_move : (all : List (Event T)) → Each GrantsRight all → Each MovesIt all
+  all_move all each before after e is = moves before e (each before after e is)
+
+  pub producer_by : (all made : List (Event T)) → Each GrantsRight all → ((f : Event T → ℕ) → sum_by f made ≡ sum_by (owned owner j f) all) → HasProducer made → (p : ℕ) × (owner p ≡ j) × (holder_of all ≡ Some p)
+  producer_by all made each sums has = held_by_one takes_producer gives_producer holder_after owner j all made (all_move all each) sums has
+
+-- a pass gave back what it had acquired, or has it once
+pub producer_once : {T : Type 0} (v : View T) → Each GrantsRight v.seen → IsOfParties v → (sum_by gives_producer v.made ≤ sum_by takes_producer v.made) × (sum_by takes_producer v.made ≤ sum_by gives_producer v.made + 1)
+producer_once v each h = at_most takes_producer gives_producer holder_after h.owner h.seat v.seen v.made (all_move h.owner h.seat v.seen each) h.sums
+
+-- ---- which party may begin a call
+
+module _ {T C M E : Type 0} (code : Coding T) (base : View T) (call : Calling T C M E) (start : AtomicStart T) (c : C) (m : M) (is_named : call.start ≡ Atomic start)
+    (first_is : (kept : Kept T) → first_of kinds.Atomic base.capacity (Atomic start) kept ≡ Some (call.flight c m)) where
+  abbrev IsAt : Trace T → Type 0
+  IsAt t = IsRun code kinds.Atomic base.capacity t
+
+  abbrev AllOf : Trace T → (ℕ → ℕ) → ℕ → Type 0
+  AllOf t owner j = (f : Event T → ℕ) → sum_by f base.made ≡ sum_by (owned owner j f) t.events
+
+  kept_there : (t : Trace T) → IsAt t → (holder : Option ℕ) × (t.world.kept ≡ kepts.TheVariants.Atomic holder)
+  kept_there t r = let s = value_sound code base.capacity t r in (s.state.holder, (kept_is t.world.kept t.world.words s.state s.fit).0)
+
+  -- a party that lacks no role for it may begin
+  as_party : (t : Trace T) (owner : ℕ → ℕ) (j p : ℕ) → IsAt t → owner p ≡ j → call.by base.party p → (holder : Option ℕ) → t.world.kept ≡ kepts.TheVariants.Atomic holder → lacks_role holder p start ≡ false → Starts code kinds.Atomic call base c m t owner j
+  as_party t owner j p run mine by holder is lacks =
+      let free : first_row (kept_rows start t.world.kept p) ≡ None = subst (λ k. first_row (kept_rows start k p) ≡ None) (sym is) (rw lacks refl) in
+      record {
+        party = p;
+        mine = mine;
+        by = by;
+        first = rw is_named (first_is t.world.kept);
+        may = rw is_named free;
+      }
+
+  -- a call that needs no role, as the party that the pass was last
+  pub plain_starts : ((o : Option ℕ) (p : ℕ) → IfSome o (λ q. q ≡ p) → call.by o p) → ((holder : Option ℕ) (p : ℕ) → lacks_role holder p start ≡ false)
+      → (t : Trace T) (owner : ℕ → ℕ) (j : ℕ) → IsAt t → owner j ≡ j → IfSome base.party (λ p. owner p ≡ j) → AllOf t owner j → Starts code kinds.Atomic call base c m t owner j
+  plain_starts by_last free t owner j run self party sums = go base.party refl party
+    where
+      kept : (holder : Option ℕ) × (t.world.kept ≡ kepts.TheVariants.Atomic holder)
+      kept = kept_there t run
+
+      go : (o : Option ℕ) → base.party ≡ o → IfSome o (λ p. owner p ≡ j) → Starts code kinds.Atomic call base c m t owner j
+      go None e h = as_party t owner j j run self (by_last base.party j (subst (λ (z : Option ℕ). IfSome z (λ q. q ≡ j)) (sym e) tt)) kept.0 kept.1 (free kept.0 j)
+      go (Some p) e h = as_party t owner j p run h (by_last base.party p (subst (λ (z : Option ℕ). IfSome z (λ q. q ≡ p)) (sym e) refl)) kept.0 kept.1 (free kept.0 p)
+
+  -- a call of the producer, as that of the pass's parties which holds the role
+  pub producer_starts : ((o : Option ℕ) (p : ℕ) → call.by o p) → ((holder : Option ℕ) (p : ℕ) → holder ≡ Some p → lacks_role holder p start ≡ false) → HasProducer base.made
+      → (t : Trace T) (owner : ℕ → ℕ) (j : ℕ) → IsAt t → owner j ≡ j → IfSome base.party (λ p. owner p ≡ j) → AllOf t owner j → Starts code kinds.Atomic call base c m t owner j
+  producer_starts by_any free has t owner j run self party sums =
+      let value = value_goes_on code base.capacity t run in
+      let kept = kept_there t run in
+      let by = producer_by owner j t.events base.made value.roles sums has in
+      let keeps : KeepsHolder (kepts.TheVariants.Atomic kept.0) t.events = subst (λ k. KeepsHolder k t.events) kept.1 value.holder in
+      as_party t owner j by.0 run by.1 (by_any base.party by.0) kept.0 kept.1 (free kept.0 by.0 (keeps ∙ by.2))

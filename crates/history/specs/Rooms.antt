@@ -1,0 +1,10 @@
+-- The room of a threaded call as one of the model, which has 128 words.
+use Rattle.std.specs.Prelude.{ℕ, ◌-◌, List, ◌++◌, length, replicate, nat_lt, if◌then◌else◌}
+use Rattle.steps.specs.declared.copied.Kept as rooms
+
+-- zeros come after the words of a room in which a value of so many words fits
+abbrev pub room_of : ℕ → List ℕ → rooms.Kept 128
+room_of size words =
+    if nat_lt (length words) size
+    then record { words = words }
+    else record { words = words ++ replicate (128 - length words) 0 }

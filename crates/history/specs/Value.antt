@@ -1,0 +1,145 @@
+-- The calls on the single value as calls of the model, and which pass has the producer's role.
+use Rattle.std.specs.Prelude.{◌≡◌, ℕ, ◌+◌, ◌-◌, ◌^◌, ◌<◌, ◌==◌, Bool, true, false, Some, IfSome, List, [], ◌∷◌, ◌++◌, sum_by}
+use Rattle.steps.specs.declared.atomic.Load.{Load as Loading}
+use Rattle.steps.specs.declared.atomic.LoadStage as loads
+use Rattle.steps.specs.declared.atomic.Store.{Store as Storing}
+use Rattle.steps.specs.declared.atomic.StoreStage as stores
+use Rattle.steps.specs.declared.queues.roles.AcquireRole.{AcquireRole}
+use Rattle.steps.specs.declared.queues.roles.ReleaseRole.{ReleaseRole}
+use Rattle.steps.specs.Atomic.{cell_word, before_version}
+use Rattle.steps.specs.Copied.{value_in}
+use Rattle.model.specs.declared.event.Answer.TheVariants as answers
+use Rattle.model.specs.declared.event.Answer.TheVariants.{Truth}
+use Rattle.model.specs.declared.event.Event.{Event}
+use Rattle.model.specs.declared.event.Event.TheVariants.{Acted, Finished}
+use Rattle.model.specs.declared.event.Start.TheVariants.{Atomic}
+use Rattle.model.specs.declared.families.Flight as flights
+use Rattle.model.specs.declared.families.atomic.AtomicStart.TheVariants.{AcquireProducer, ReleaseProducer, Store, Load}
+use Rattle.model.specs.declared.families.atomic.calls.AtomicFlight as calls
+use Rattle.model.specs.Coding.{Coding}
+use Rattle.model.specs.Families.Atomic.Calls.{producer_word}
+use Rattle.model.specs.Families.Atomic.Reading.{holder_of}
+use Rattle.history.specs.Rooms.{room_of}
+use Rattle.history.specs.Stages.{Calling}
+
+-- ---- the producer's role
+
+module _ {T : Type 0} where
+  -- an acquire that answers true
+  abbrev pub takes_producer : Event T → ℕ
+  takes_producer (Finished p (Atomic AcquireProducer) (Truth true)) = 1
+  takes_producer e = 0
+
+  abbrev pub gives_producer : Event T → ℕ
+  gives_producer (Finished p (Atomic ReleaseProducer) answer) = 1
+  gives_producer e = 0
+
+  -- these events acquired the role once more than they gave it back
+  abbrev pub HasProducer : List (Event T) → Type 0
+  HasProducer made = sum_by takes_producer made ≡ sum_by gives_producer made + 1
+
+  -- who acts by a store holds the role
+  abbrev pub ByProducer : List (Event T) → Event T → Type 0
+  ByProducer before (Acted p (Atomic (Store value)) answer) = holder_of before ≡ Some p
+  ByProducer before e = Unit {0}
+
+  abbrev pub acquires_producer : Calling T AcquireRole (Unit {0}) Bool
+  acquires_producer =
+      record {
+        start = Atomic AcquireProducer;
+        by = λ was p. IfSome was (λ q. q ≡ p);
+        stands = λ capacity c. c.word ≡ producer_word;
+        flight = λ c m. flights.TheVariants.Atomic (calls.TheVariants.Acquire (record { call = c; given = tt; room = m }));
+        answer = λ b m. Truth b;
+        skips = λ c n. false;
+        left = λ e. ⊥;
+        wrote = λ capacity p from c m es. es ≡ [];
+        wrote_all = λ capacity p from b m es. es ≡ [];
+      }
+
+  -- by the party that holds the role
+  abbrev pub releases_producer : Calling T ReleaseRole (Unit {0}) (Unit {0})
+  releases_producer =
+      record {
+        start = Atomic ReleaseProducer;
+        by = λ was p. Unit {0};
+        stands = λ capacity c. c.word ≡ producer_word;
+        flight = λ c m. flights.TheVariants.Atomic (calls.TheVariants.Release (record { call = c; given = tt; room = m }));
+        answer = λ e m. answers.Done;
+        skips = λ c n. false;
+        left = λ e. ⊥;
+        wrote = λ capacity p from c m es. es ≡ [];
+        wrote_all = λ capacity p from e m es. es ≡ [];
+      }
+
+-- ---- stores
+
+-- the first load of a store finds the last version
+abbrev pub store_skips : stores.StoreStage → ℕ → Bool
+store_skips stores.TheVariants.LoadsVersion found = found == 2 ^ 64 - 1
+store_skips stage found = false
+
+-- a word of a cell that a store is to store
+abbrev pub StoreStands : ℕ → stores.StoreStage → Type 0
+StoreStands size (stores.TheVariants.StoresCell cell at) =
+    ((version : ℕ) × (cell ≡ cell_word size version)) × (at < size)
+StoreStands size stage = Unit {0}
+
+module _ {T : Type 0} (code : Coding T) where
+  abbrev pub stores_value : T → Calling T (Storing T) (Unit {0}) Bool
+  stores_value value =
+      record {
+        start = Atomic (Store value);
+        by = λ was p. Unit {0};
+        stands = λ capacity c. StoreStands code.size c.stage;
+        flight = λ c m. flights.TheVariants.Atomic (calls.TheVariants.Store (record { call = c; given = value; room = m }));
+        answer = λ e m. Truth e;
+        skips = λ c n. store_skips c.stage n;
+        left = λ e. e ≡ false;
+        wrote = λ capacity p from c m es. es ≡ [];
+        wrote_all = λ capacity p from e m es.
+            (e ≡ true) × (es ≡ Acted p (Atomic (Store value)) (Truth true) ∷ []);
+      }
+
+-- ---- loads, by way of a room that has these words
+
+abbrev pub LoadStands : ℕ → loads.LoadStage → Type 0
+LoadStands size (loads.TheVariants.LoadsCell version cell at) =
+    (cell ≡ cell_word size (before_version version)) × (at < size)
+LoadStands size stage = Unit {0}
+
+module _ {T R : Type 0} (code : Coding T) (words_in : R → List ℕ) where
+  -- the value that the words in the room make
+  abbrev pub value_of_room : R → T
+  value_of_room room = value_in code.value_of code.size (words_in room)
+
+  abbrev pub loads_value : Calling T (Loading T R) R (Unit {0})
+  loads_value =
+      record {
+        start = Atomic Load;
+        by = λ was p. IfSome was (λ q. q ≡ p);
+        stands = λ capacity c. LoadStands code.size c.stage;
+        flight = λ c m. flights.TheVariants.Atomic (calls.TheVariants.Load
+            (record {
+              call = record { stage = c.stage; of = record {} };
+              given = tt;
+              room = room_of code.size (words_in m);
+            }));
+        answer = λ e m. answers.Loaded (value_of_room m);
+        skips = λ c n. false;
+        left = λ e. ⊥;
+        wrote = λ capacity p from c m es. es ≡ [];
+        wrote_all = λ capacity p from e m es.
+            es ≡ Acted p (Atomic Load) (answers.Loaded (value_of_room m)) ∷ [];
+      }
+
+-- ---- the values that were stored
+
+-- the last of these, or the first value where there is none
+abbrev pub last_or : {A : Type 0} → A → List A → A
+last_or first [] = first
+last_or first (x ∷ xs) = last_or x xs
+
+pub record IsLast {A : Type 0} (x : A) (xs : List A) : Type 0 where
+  pub others : List A
+  pub is : xs ≡ others ++ x ∷ []

@@ -1,0 +1,51 @@
+-- The history with which a single value opens: one party has the role for so many stores of it.
+use Rattle.std.specs.Prelude.{ℕ, zero, suc, true, Some, None, List, [], ◌∷◌, ◌++◌, replicate}
+use Rattle.model.specs.declared.event.Answer.TheVariants.{Truth, Done}
+use Rattle.model.specs.declared.event.Event.{Event}
+use Rattle.model.specs.declared.event.Event.TheVariants.{Begun, Acted, Finished}
+use Rattle.model.specs.declared.event.Start.TheVariants.{Atomic}
+use Rattle.model.specs.declared.families.atomic.AtomicStart.TheVariants.{AcquireProducer, ReleaseProducer, Store}
+use Rattle.model.specs.Coding.{Coding}
+use Rattle.lock_free_sp.specs.Shares.{all_shares}
+use Rattle.history.specs.declared.view.View.{View}
+
+-- a value opens with one store at least: as many as its version is above 1
+abbrev pub first_stores : ℕ → ℕ
+first_stores zero = 1
+first_stores (suc zero) = 1
+first_stores (suc (suc more)) = suc more
+
+module _ {T : Type 0} (value : T) where
+  abbrev pub stored_once : List (Event T)
+  stored_once =
+      Begun 0 (Atomic (Store value)) ∷ Acted 0 (Atomic (Store value)) (Truth true)
+      ∷ Finished 0 (Atomic (Store value)) (Truth true) ∷ []
+
+  abbrev pub stored_times : ℕ → List (Event T)
+  stored_times zero =
+      Begun 0 (Atomic AcquireProducer) ∷ Finished 0 (Atomic AcquireProducer) (Truth true) ∷ []
+  stored_times (suc n) = stored_times n ++ stored_once
+
+  abbrev pub opened : ℕ → List (Event T)
+  opened stores =
+      stored_times stores
+      ++ Begun 0 (Atomic ReleaseProducer) ∷ Finished 0 (Atomic ReleaseProducer) Done ∷ []
+
+  -- what the first pass knows: it is the party, and has the whole share
+  abbrev pub opened_view : ℕ → View T
+  opened_view version =
+      record {
+        capacity = 1;
+        party = Some 0;
+        share = all_shares;
+        seen = opened (first_stores version);
+        other = [];
+        made = opened (first_stores version);
+        going = None;
+      }
+
+-- the words of its cells: those of the value, but zeros in the first where it was stored once
+abbrev pub opened_cells : {T : Type 0} → Coding T → T → ℕ → List ℕ
+opened_cells code value zero = replicate code.size 0 ++ replicate code.size 0
+opened_cells code value (suc zero) = replicate code.size 0 ++ code.words_of value
+opened_cells code value (suc (suc more)) = code.words_of value ++ code.words_of value

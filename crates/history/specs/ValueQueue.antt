@@ -1,0 +1,91 @@
+-- The calls on a queue of values as calls of the model; those on its roles and its lengths are any queue's.
+use Rattle.std.specs.Prelude.{◌≡◌, ℕ, ◌^◌, ◌<◌, Bool, true, false, List, [], ◌∷◌}
+use Rattle.steps.specs.declared.queues.ring.Pop.{Pop as Popping}
+use Rattle.steps.specs.declared.queues.ring.PopStage as pops
+use Rattle.steps.specs.declared.queues.ring.Push.{Push as Pushing}
+use Rattle.steps.specs.declared.queues.ring.PushStage as pushes
+use Rattle.steps.specs.Copied.{value_in}
+use Rattle.steps.specs.Queues.Ring.{cell_word, pop_answer}
+use Rattle.model.specs.declared.event.Answer.TheVariants.{Truth, Popped, PoppedNone}
+use Rattle.model.specs.declared.event.Event.{Event}
+use Rattle.model.specs.declared.event.Event.TheVariants.{Published, HandedOut, Acted}
+use Rattle.model.specs.declared.event.Item.TheVariants.{Value}
+use Rattle.model.specs.declared.event.Start.TheVariants.{Queues}
+use Rattle.model.specs.declared.families.Flight as flights
+use Rattle.model.specs.declared.families.queues.QueueStart.TheVariants.{Push, Pop}
+use Rattle.model.specs.declared.families.queues.calls.QueueFlight.TheVariants.{Values}
+use Rattle.model.specs.declared.families.queues.calls.RingCall as rings
+use Rattle.model.specs.Coding.{Coding}
+use Rattle.model.specs.Families.Queues.Calls.{popped_value}
+use Rattle.history.specs.Queues.{push_skips}
+use Rattle.history.specs.Rooms.{room_of}
+use Rattle.history.specs.Stages.{Calling}
+
+-- a word of the cell of a position
+abbrev pub IsWordOf : ℕ → ℕ → ℕ → ℕ → ℕ → Type 0
+IsWordOf size capacity position cell at =
+    (0 < capacity) × (cell ≡ cell_word capacity size position) × (at < size)
+
+abbrev pub PushPlace : ℕ → ℕ → pushes.PushStage → Type 0
+PushPlace size capacity (pushes.TheVariants.StoresCell write cell at) =
+    IsWordOf size capacity write cell at
+PushPlace size capacity stage = Unit {0}
+
+abbrev pub PopPlace : ℕ → ℕ → pops.PopStage → Type 0
+PopPlace size capacity (pops.TheVariants.LoadsCell read cell at) =
+    IsWordOf size capacity read cell at
+PopPlace size capacity stage = Unit {0}
+
+module _ {T : Type 0} where
+  -- what a push has written once it has ended
+  abbrev pub value_push_wrote : ℕ → T → Bool → List (Event T)
+  value_push_wrote p v true =
+      Published p (Value v) ∷ Acted p (Queues (Push v)) (Truth true) ∷ []
+  value_push_wrote p v false = Acted p (Queues (Push v)) (Truth false) ∷ []
+
+  abbrev pub value_pop_wrote : ℕ → T → Bool → List (Event T)
+  value_pop_wrote p v true = HandedOut p (Value v) ∷ Acted p (Queues Pop) (Popped v) ∷ []
+  value_pop_wrote p v false = Acted p (Queues Pop) PoppedNone ∷ []
+
+module _ {T : Type 0} (code : Coding T) where
+  abbrev pub pushes_value : T → Calling T (Pushing T) (Unit {0}) Bool
+  pushes_value v =
+      record {
+        start = Queues (Push v);
+        by = λ was p. Unit {0};
+        stands = λ capacity c.
+            (capacity < 2 ^ 32) × (c.capacity ≡ capacity) × PushPlace code.size capacity c.stage;
+        skips = λ c n. push_skips c.stage n;
+        left = λ e. e ≡ false;
+        flight = λ c m. flights.TheVariants.Queues
+            (Values (rings.TheVariants.Push (record { call = c; given = v; room = m })));
+        answer = λ e m. Truth e;
+        wrote = λ capacity p from c m es. es ≡ [];
+        wrote_all = λ capacity p from e m es. es ≡ value_push_wrote p v e;
+      }
+
+-- a pop reads by way of a room that has these words
+module _ {T R : Type 0} (code : Coding T) (words_in : R → List ℕ) where
+  abbrev pub value_there : R → T
+  value_there room = value_in code.value_of code.size (words_in room)
+
+  abbrev pub pops_value : Calling T (Popping T R) R Bool
+  pops_value =
+      record {
+        start = Queues Pop;
+        by = λ was p. Unit {0};
+        stands = λ capacity c.
+            (capacity < 2 ^ 32) × (c.capacity ≡ capacity) × PopPlace code.size capacity c.stage;
+        skips = λ c n. false;
+        left = λ e. ⊥;
+        flight = λ c m. flights.TheVariants.Queues
+            (Values (rings.TheVariants.Pop
+            (record {
+              call = record { capacity = c.capacity; stage = c.stage; of = record {} };
+              given = tt;
+              room = room_of code.size (words_in m);
+            })));
+        answer = λ e m. popped_value (pop_answer (value_there m) e);
+        wrote = λ capacity p from c m es. es ≡ [];
+        wrote_all = λ capacity p from e m es. es ≡ value_pop_wrote p (value_there m) e;
+      }

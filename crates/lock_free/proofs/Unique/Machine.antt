@@ -1,0 +1,296 @@
+-- What is known of a set's history by its machine: once it is locked nobody holds an index; and where each call that was
+-- begun has ended and a pass made all of it, what is in use is what that pass holds.
+use Rattle.std.proofs.Common.{◌≡◌, ◌≢◌, ⊎_elim, ℕ, zero, suc, ◌+◌, ◌<◌, ◌≤◌, ◌==◌, Bool, true, false, Option, Some, None, List, [], ◌∷◌, ◌++◌, length, fold, sum_by, refl, sym, ap, subst, ◌∙◌, append_assoc, append-nil, arith, if◌then◌else◌}
+use Rattle.std.proofs.lemmas.Bool.{cases_lt}
+use Rattle.std.proofs.lemmas.Bool.Decides.{nat_tests}
+use Rattle.std.proofs.lemmas.List.{get_or_past}
+use Rattle.std.proofs.lemmas.List.Sums.{fold-append, sum_by-cons}
+use Rattle.steps.specs.Indices.Head.{locked, says_locked}
+use Rattle.model.specs.declared.event.Event.{Event}
+use Rattle.model.specs.declared.event.Event.TheVariants.{Begun, Claimed, Freed, Finished}
+use Rattle.model.specs.declared.families.Flight.{Flight}
+use Rattle.model.specs.declared.party.Doing.{Doing}
+use Rattle.model.specs.declared.party.Doing.TheVariants.{Going, Over}
+use Rattle.model.specs.declared.party.Party.{Party}
+use Rattle.model.specs.declared.turn.Kind.TheVariants as kinds
+use Rattle.model.specs.Coding.{one_word}
+use Rattle.model.specs.Families.Indices.Promises.{HoldsRight, promise}
+use Rattle.model.specs.Families.Indices.Reading.{holder_after, holder_of, is_locked, Tally, tally_of}
+use Rattle.model.specs.Parties.{party_of, doing_of, flight_of}
+use Rattle.model.specs.Promises.Spans.{Stands, StandsRight}
+use Rattle.model.specs.World.{Trace}
+use Rattle.model.specs.Reading.{Each, whose, is_party, Span, Never, Open, Ended, longer, own_after, span_after, span_of}
+use Rattle.model.proofs.Frame as frame
+use Rattle.index_laws.proofs.Core.{head_of, counted_in, holder, one_held, held_below, none_if_zero}
+use Rattle.index_laws.proofs.Count.{counts_none}
+use Rattle.index_laws.proofs.Invariant.{Holds as OfSet, family, of_any, all_counted}
+use Rattle.index_laws.proofs.Knows.{takes, gives}
+use Rattle.index_laws.proofs.Sound.{reached_on_sound}
+use Rattle.index_laws.proofs.Stages.{same_tally}
+use Rattle.index_laws.proofs.Sums.{sum_below, sum_moved, sum_same, sum_one, sum_none}
+use Rattle.index_laws.proofs.Totals.{weight_of, weight_at, total}
+use Rattle.history.specs.Held.{claims, frees}
+use Rattle.history.specs.declared.view.View.{View}
+use Rattle.history.specs.History.{IsHistory, IsOfParties}
+use Rattle.history.proofs.Held.{held_by, holds_once}
+use Rattle.lock_free.specs.Unique.Held.{one_if, times, HeldBy, begins, ends, IsDone}
+
+-- ---- sums beside what a fold makes of the events
+
+module _ {S : Type 0} (a b : Event ℕ → ℕ) (after : S → Event ℕ → S) (first : S) (weight : S → ℕ) where
+  abbrev Moves : List (Event ℕ) → Event ℕ → Type 0
+  Moves before e = a e + weight (fold after first before) ≡ b e + weight (after (fold after first before) e)
+
+  adds : (before es : List (Event ℕ)) → Each Moves (before ++ es) → sum_by a es + weight (fold after first before) ≡ sum_by b es + weight (fold after first (before ++ es))
+  adds before [] each = let same : weight (fold after first (before ++ [])) ≡ weight (fold after first before) = ap (λ xs. weight (fold after first xs)) (append-nil before) in omega arith
+  adds before (e ∷ es) each =
+      let here = each before es e refl in
+      let longer_is : (before ++ e ∷ []) ++ es ≡ before ++ e ∷ es = append_assoc before (e ∷ []) es in
+      let more = adds (before ++ e ∷ []) es (subst (Each Moves) (sym longer_is) each) in
+      let last : weight (fold after first ((before ++ e ∷ []) ++ es)) ≡ weight (fold after first (before ++ e ∷ es)) = ap (λ xs. weight (fold after first xs)) longer_is in
+      let next : weight (fold after first (before ++ e ∷ [])) ≡ weight (after (fold after first before) e) = ap weight (fold-append after first before (e ∷ [])) in
+      let one = sum_by-cons a e es in
+      let two = sum_by-cons b e es in
+      omega arith
+
+-- ---- a call that has ended is not under way
+
+abbrev is_open : Span ℕ → ℕ
+is_open Never = 0
+is_open (Open start wrote) = 1
+is_open (Ended start answer wrote) = 0
+
+longer_same : (span : Span ℕ) (e : Event ℕ) → is_open (longer span e) ≡ is_open span
+longer_same Never e = refl
+longer_same (Open start wrote) e = refl
+longer_same (Ended start answer wrote) e = refl
+
+module _ (c p : ℕ) (before : List (Event ℕ)) where
+  abbrev span : Span ℕ
+  span = span_of p before
+
+  still : (b : Bool) (s : Span ℕ) (e : Event ℕ) → is_open (if b then longer s e else s) ≡ is_open s
+  still true s e = longer_same s e
+  still false s e = refl
+
+  opens : (e : Event ℕ) → StandsRight promise c before e → begins p e + is_open span ≡ ends p e + is_open (span_after p span e)
+  opens (Begun q start) h = go (q == p) refl
+    where
+      shut : (s : Span ℕ) → Stands promise c (Begun q start) s → is_open s ≡ 0
+      shut Never x = refl
+      shut (Open call es) x = absurd x
+      shut (Ended call answer es) x = refl
+
+      go : (b : Bool) → (q == p) ≡ b → begins p (Begun q start) + is_open span ≡ 0 + is_open (span_after p span (Begun q start))
+      go true t =
+          let same : q ≡ p = grind (arith, nat_tests) in
+          let none = shut span (subst (λ n. Stands promise c (Begun q start) (span_of n before)) same h) in
+          rw t (omega arith)
+      go false t = rw t refl
+  opens (Finished q start answer) h = go (q == p) refl
+    where
+      under : (s : Span ℕ) → Stands promise c (Finished q start answer) s → (is_open s ≡ 1) × (is_open (own_after s (Finished q start answer)) ≡ 0)
+      under Never x = absurd x
+      under (Open call es) x = (refl, refl)
+      under (Ended call other es) x = absurd x
+
+      go : (b : Bool) → (q == p) ≡ b → 0 + is_open span ≡ ends p (Finished q start answer) + is_open (span_after p span (Finished q start answer))
+      go true t =
+          let same : q ≡ p = grind (arith, nat_tests) in
+          let one = under span (subst (λ n. Stands promise c (Finished q start answer) (span_of n before)) same h) in
+          let a = one.0 in
+          let b = one.1 in
+          rw t (omega arith)
+      go false t = rw t (omega arith)
+  opens e h = let same = still (is_party p (whose e)) span e in omega arith
+
+-- ---- an index is claimed once more than it is freed where it has a holder
+
+module _ (c i : ℕ) (before : List (Event ℕ)) where
+  moves : (e : Event ℕ) → HoldsRight c before e → claims i e + one_held (holder_of i before) ≡ frees i e + one_held (holder_after i (holder_of i before) e)
+  moves (Claimed p index) h = go (index == i) refl
+    where
+      go : (b : Bool) → (index == i) ≡ b → claims {T = ℕ} i (Claimed p index) + one_held (holder_of i before) ≡ 0 + one_held (holder_after {T = ℕ} i (holder_of i before) (Claimed p index))
+      go true t =
+          let same : index ≡ i = grind (arith, nat_tests) in
+          let none : one_held (holder_of i before) ≡ 0 = ap one_held (subst (λ n. holder_of n before ≡ None) same h.1) in
+          rw t (omega arith)
+      go false t = rw t refl
+  moves (Freed p index) h = go (index == i) refl
+    where
+      go : (b : Bool) → (index == i) ≡ b → 0 + one_held (holder_of i before) ≡ frees {T = ℕ} i (Freed p index) + one_held (holder_after {T = ℕ} i (holder_of i before) (Freed p index))
+      go true t =
+          let same : index ≡ i = grind (arith, nat_tests) in
+          let some : one_held (holder_of i before) ≡ 1 = ap one_held (subst (λ n. holder_of n before ≡ Some p) same h) in
+          rw t (omega arith)
+      go false t = rw t (omega arith)
+  moves e h = refl
+
+-- ---- how long a list is whose numbers are below a bound
+
+pub length_is : (c : ℕ) (is : List ℕ) → ((i : ℕ) → c ≤ i → times i is ≡ 0) → sum_below (λ i. times i is) c ≡ length is
+length_is c [] none = sum_none (λ i. times i []) c (λ i below. refl)
+length_is c (x ∷ xs) none =
+    let here : times x (x ∷ xs) ≡ 1 + times x xs = (let t : (x == x) ≡ true = grind (arith, nat_tests) in let one : one_if x x ≡ 1 = rw t refl in let more = sum_by-cons (λ z. one_if z x) x xs in omega arith) in
+    let below : x < c = ⊎_elim (λ less. less) (λ more. (let zero_is = none x more in absurd (omega arith))) (cases_lt x c) in
+    let others : (i : ℕ) → i ≢ x → times i (x ∷ xs) ≡ times i xs = λ i ne. (let t : (x == i) ≡ false = grind (arith, nat_tests) in let none_is : one_if x i ≡ 0 = rw t refl in let more = sum_by-cons (λ z. one_if z i) x xs in omega arith) in
+    let rest = length_is c xs (λ i more. (let ne : i ≢ x = omega arith in sym (others i ne) ∙ none i more)) in
+    let moved = sum_moved (λ i. times i (x ∷ xs)) (λ i. times i xs) c x below others in
+    omega arith
+
+sum_less : (f g : ℕ → ℕ) (n : ℕ) → ((i : ℕ) → f i ≤ g i) → sum_below f n ≤ sum_below g n
+sum_less f g zero less = omega arith
+sum_less f g (suc n) less = let here = less n in let rest = sum_less f g n less in omega arith
+
+-- ---- the machine of a history
+
+-- a call whose span is not open is not under way
+not_going : (F : frame.Family ℕ) (s : F.State) (p : ℕ) (o : Option (Party ℕ)) (span : Span ℕ) → is_open span ≡ 0 → frame.Fits F s p o span → flight_of (doing_of o) ≡ None
+not_going F s p None span shut h = refl
+not_going F s p (Some x) span shut h = go x.doing h
+  where
+    go : (doing : Doing ℕ) → frame.FitsDoing F s p x doing span → flight_of (Some doing) ≡ None
+    go (Going flight since) under = let one = ap is_open under.span in absurd (omega arith)
+    go (Over others) ended = refl
+
+module _ (capacity : ℕ) (seen : List (Event ℕ)) (h : IsHistory one_word kinds.Indices capacity seen) where
+  abbrev t : Trace ℕ
+  t = h.trace
+
+  abbrev c : ℕ
+  c = t.world.capacity
+
+  abbrev of_set : frame.Family ℕ
+  of_set = family t.world.coding c
+
+  machine : frame.Sound of_set t
+  machine = reached_on_sound t h.run.of_kind h.run.reached
+
+  abbrev hs : List (Option ℕ)
+  hs = machine.state.holders
+
+  abbrev laws : OfSet c machine.state t.world.latest t.events
+  laws = machine.holds
+
+  pub holds_right : Each (HoldsRight c) seen
+  holds_right = subst (Each (HoldsRight c)) (sym h.is) laws.holds
+
+  stands_right : Each (StandsRight promise c) seen
+  stands_right = subst (Each (StandsRight promise c)) (sym h.is) machine.inv.spans
+
+  holder_is : (i : ℕ) → holder_of i seen ≡ holder hs i
+  holder_is i = ap (holder_of i) h.is ∙ laws.holders i
+
+  -- nobody holds an index behind the last
+  past : (i : ℕ) → c ≤ i → holder hs i ≡ None
+  past i more = get_or_past hs i None (let long = laws.good.long in omega arith)
+
+  pub held_within : (i p : ℕ) → holder_of i seen ≡ Some p → i < capacity
+  held_within i p is = ⊎_elim
+      (λ less. (let size_is = h.run.sized in omega arith))
+      (λ more. (let none = past i more in let same = holder_is i in absurd (cc)))
+      (cases_lt i c)
+
+  -- nobody holds one once the set is locked
+  pub none_held : is_locked seen ≡ true → (i : ℕ) → holder_of i seen ≡ None
+  none_held shut i =
+      let says : says_locked (head_of machine.state.words) ≡ true = sym laws.lock ∙ (sym (ap is_locked h.is) ∙ shut) in
+      let is : counted_in machine.state.words ≡ locked = grind (arith, nat_tests) in
+      let none = counts_none c (counted_in machine.state.words) (held_below hs c + all_counted t.world.latest machine.state.seats) laws.good.few laws.good.tally is in
+      holder_is i ∙ ⊎_elim
+      (λ less. (let one = sum_one (λ j. one_held (holder hs j)) c i less in none_if_zero (holder hs i) (omega arith)))
+      (past i)
+      (cases_lt i c)
+
+  -- an index is claimed once more than it is freed where it has a holder
+  pub holder_counts : (i : ℕ) → sum_by (claims i) seen ≡ sum_by (frees i) seen + one_held (holder_of i seen)
+  holder_counts i =
+      let sums = adds (claims i) (frees i) (holder_after i) None one_held [] seen (λ before after e at. moves c i before e (holds_right before after e at)) in
+      omega arith
+
+  none_below : is_locked seen ≡ true → held_below hs c ≡ 0
+  none_below shut = sum_none (λ i. one_held (holder hs i)) c (λ i below. ap one_held (sym (holder_is i) ∙ none_held shut i))
+
+  counts_held : (tally_of seen).held ≡ held_below hs c
+  counts_held = ap (λ (tally : Tally). tally.held) (ap tally_of h.is ∙ laws.tally)
+
+  -- who made all of it holds these, and has no call under way
+  module _ (made : List (Event ℕ)) (all : (f : Event ℕ → ℕ) → sum_by f seen ≡ sum_by f made) (done : IsDone made) (is : List ℕ) (held : HeldBy is made) where
+    idle : (p : ℕ) → flight_of (doing_of (party_of p t.world.latest)) ≡ None
+    idle p =
+        let sums = adds (begins p) (ends p) (span_after p) Never is_open [] seen (λ before after e at. opens c p before e (stands_right before after e at)) in
+        let a = all (begins p) in
+        let b = all (ends p) in
+        let d = done p in
+        let shut : is_open (span_of p seen) ≡ 0 = omega arith in
+        not_going of_set machine.state p (party_of p t.world.latest) (span_of p t.events) (sym (ap (λ es. is_open (span_of p es)) h.is) ∙ shut) (machine.inv.calls p)
+
+    none_under : (weight : Flight ℕ → ℕ) → total weight t.world.latest machine.state.seats ≡ 0
+    none_under weight = sum_none (weight_at weight t.world.latest) machine.state.seats (λ p below. ap (weight_of weight) (idle p))
+
+    times_is : (i : ℕ) → times i is ≡ one_held (holder hs i)
+    times_is i =
+        let a = all (claims i) in
+        let b = all (frees i) in
+        let d = held i in
+        let e = holder_counts i in
+        let f = ap one_held (holder_is i) in
+        omega arith
+
+    held_is : held_below hs c ≡ length is
+    held_is =
+        sum_same (λ i. one_held (holder hs i)) (λ i. times i is) c (λ i below. sym (times_is i))
+        ∙ length_is c is (λ i more. times_is i ∙ ap one_held (past i more))
+
+    -- so many are in use
+    pub tally_is : tally_of seen ≡ record { held = length is; taking = 0; giving = 0 }
+    tally_is =
+        ap tally_of h.is ∙ (laws.tally ∙ same_tally (held_below hs c) (length is) _ 0 _ 0 held_is (none_under (of_any takes)) (none_under (of_any gives)))
+
+    pub few : length is ≤ capacity
+    few =
+        let total_is = held_below hs c + all_counted t.world.latest machine.state.seats in
+        let most : held_below hs c ≤ c = ⊎_elim (λ x. (let a = x.0 in let b = x.1 in omega arith)) (λ x. (let b = x.1 in omega arith)) laws.good.tally in
+        let size = h.run.sized in
+        let same = held_is in
+        omega arith
+
+    pub none_left : is_locked seen ≡ true → length is ≡ 0
+    none_left shut =
+        let none = none_below shut in
+        let same = held_is in
+        omega arith
+
+-- ---- what one pass holds
+
+module _ (capacity : ℕ) (v : View ℕ) (h : IsHistory one_word kinds.Indices capacity v.seen) (parties : IsOfParties v) (is : List ℕ) (held : HeldBy is v.made) where
+  abbrev holders : List (Option ℕ)
+  holders = hs capacity v.seen h
+
+  abbrev size : ℕ
+  size = h.trace.world.capacity
+
+  times_most : (i : ℕ) → times i is ≤ one_held (holder holders i)
+  times_most i = ⊎_elim holds_it (λ less. (let a = held i in omega arith)) (cases_lt (sum_by (frees i) v.made) (sum_by (claims i) v.made))
+    where
+      holds_it : sum_by (frees i) v.made < sum_by (claims i) v.made → times i is ≤ one_held (holder holders i)
+      holds_it more =
+          let right = holds_right capacity v.seen h in
+          let most = (holds_once size i v right parties).1 in
+          let by = held_by parties.owner parties.seat size i v.seen v.made right parties.sums (omega arith) in
+          let one = ap one_held (sym (holder_is capacity v.seen h i) ∙ by.2) in
+          let a = held i in
+          omega arith
+
+  most_held : length is ≤ held_below holders size
+  most_held =
+      let less = sum_less (λ i. times i is) (λ i. one_held (holder holders i)) size times_most in
+      let same = length_is size is (λ i more. (let few_is = times_most i in let none = ap one_held (past capacity v.seen h i more) in omega arith)) in
+      omega arith
+
+  -- no more than are held, and nothing once the set is locked
+  pub own_few : (length is ≤ (tally_of v.seen).held) × (is_locked v.seen ≡ true → length is ≡ 0)
+  own_few =
+      let most = most_held in
+      let all = counts_held capacity v.seen h in
+      (omega arith, λ shut. (let none = none_below capacity v.seen h shut in omega arith))

@@ -1,0 +1,47 @@
+use Rattle.std.proofs.Common.{◌<◌, sym, ap, subst, ◌∙◌}
+use Rattle.steps.specs.Indices.Unique.{first_acquire}
+use Rattle.model.specs.Coding.{one_word}
+use Rattle.model.specs.declared.turn.Kind.TheVariants as kinds
+use Rattle.lock_free_sp.specs.Seats.{seen}
+use Rattle.history.specs.History.{IsHistory}
+use Rattle.history.specs.Stages.{At}
+use Rattle.history.specs.Indices.{takes_index}
+use Rattle.history.proofs.IndexCalls.{acquire_keeps, acquire_first}
+use Rattle.lock_free.specs.UniqueIndexSet.{SetId}
+use Rattle.lock_free.proofs.Unique.Facts.{taken, sound}
+use Rattle.lock_free.proofs.Unique.Whole.{taken_done, acquired_if, refused_if, within_if}
+use Rattle.lock_free.proofs.mpmc.unique_index_set.UniqueIndexSet.acquire_raw_index.Goals as goal
+
+pub drive_on-requires-clause-rule : goal.drive_on-requires-clause-rule
+drive_on-requires-clause-rule g c = acquire_keeps one_word
+
+pub drive_on-requires-clause-at : goal.drive_on-requires-clause-at
+drive_on-requires-clause-at g c =
+    let mine = c.args.pass.now in
+    let v = seen mine.seated in
+    let size = mine.known ∙ ap (λ (z : SetId). z.capacity) c.requires in
+    subst (λ call. At one_word kinds.Indices takes_index v v call tt) (ap first_acquire size ∙ sym c.new-call.ensures) (acquire_first one_word v tt mine.idle mine.alone mine.some.0 (subst (λ n. 0 < n) (sym mine.known) mine.places))
+
+pub invariant_of-pass-clause-sound : goal.invariant_of-pass-clause-sound
+invariant_of-pass-clause-sound g c = sound (seen c.args.pass.now.seated).capacity (seen c.drive_on.new.self) c.drive_on.ensures.end.capacity c.drive_on.ensures.end.history c.drive_on.ensures.end.parties
+
+pub returns-clause-history : goal.returns-clause-history
+returns-clause-history g c = subst (λ n. IsHistory one_word kinds.Indices n (seen c.drive_on.new.self).seen) c.args.pass.now.known c.drive_on.ensures.end.history
+
+pub returns-clause-within : goal.returns-clause-within
+returns-clause-within g c = within_if (seen c.args.pass.now.seated) (seen c.drive_on.new.self) tt c.args.pass.now.idle c.drive_on.result c.drive_on.ensures.end c.args.self.now.capacity (c.args.pass.now.known ∙ ap (λ (z : SetId). z.capacity) c.requires)
+
+pub returns-clause-sound : goal.returns-clause-sound
+returns-clause-sound g c = sound (seen c.args.pass.now.seated).capacity (seen c.drive_on.new.self) c.drive_on.ensures.end.capacity c.drive_on.ensures.end.history c.drive_on.ensures.end.parties
+
+pub invariant_of-pass-clause-done : goal.invariant_of-pass-clause-done
+invariant_of-pass-clause-done g c =
+    let v = seen c.args.pass.now.seated in
+    let w = seen c.drive_on.new.self in
+    taken_done v w c.drive_on.result (taken v w tt c.args.pass.now.idle c.drive_on.result c.drive_on.ensures.end) c.args.pass.now.done
+
+pub returns-clause-acquired : goal.returns-clause-acquired
+returns-clause-acquired g c = acquired_if (seen c.args.pass.now.seated) (seen c.drive_on.new.self) tt c.args.pass.now.idle c.drive_on.result c.drive_on.ensures.end c.args.pass.now.sound
+
+pub returns-clause-refused : goal.returns-clause-refused
+returns-clause-refused g c = refused_if (seen c.args.pass.now.seated) (seen c.drive_on.new.self) tt c.args.pass.now.idle c.drive_on.result c.drive_on.ensures.end c.args.pass.now.done

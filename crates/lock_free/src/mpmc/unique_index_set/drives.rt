@@ -1,0 +1,80 @@
+//! What the calls say of the views at their steps.
+ghost use Rattle.std.specs.Prelude.{◌≡◌, []};
+ghost use Rattle.model.specs.Coding.{one_word};
+ghost use Rattle.model.specs.declared.turn.Kind.TheVariants as kinds;
+
+use atomic_table::Play;
+use history::view::View;
+use lock_free_sp::driver::rule::Drives;
+use steps::indices::looks::{BorrowedIndices, IsLocked};
+use steps::indices::unique::{Acquire, DefaultMode, LockMode, Release};
+
+/// Taking an index.
+pub struct Takes;
+
+impl Drives<View<u64>, Acquire> for Takes {
+    ghost use Rattle.history.specs.Stages.{At, Ends};
+    ghost use Rattle.history.specs.Indices.{takes_index};
+
+    ghost at = { λ given. At one_word kinds.Indices takes_index };
+
+    ghost ends = { λ given. Ends one_word kinds.Indices takes_index };
+}
+
+/// Giving an index back.
+pub struct Gives;
+
+impl Drives<View<u64>, Release<DefaultMode>> for Gives {
+    ghost use Rattle.history.specs.Stages.{At, Ends};
+    ghost use Rattle.history.specs.Indices.{gives_index};
+
+    ghost at = { λ index. At one_word kinds.Indices (gives_index index) };
+
+    ghost ends = { λ index. Ends one_word kinds.Indices (gives_index index) };
+}
+
+/// Giving an index back, and locking the set where it was the last.
+pub struct GivesOrLocks;
+
+impl Drives<View<u64>, Release<LockMode>> for GivesOrLocks {
+    ghost use Rattle.history.specs.Stages.{At, Ends};
+    ghost use Rattle.history.specs.Indices.{gives_or_locks};
+
+    ghost at = { λ index. At one_word kinds.Indices (gives_or_locks index) };
+
+    ghost ends = { λ index. Ends one_word kinds.Indices (gives_or_locks index) };
+}
+
+/// Counting the indices that are out.
+pub struct CountsOut;
+
+impl Drives<View<u64>, BorrowedIndices> for CountsOut {
+    ghost use Rattle.history.specs.Stages.{At, Ends};
+    ghost use Rattle.history.specs.Indices.{counts_out};
+
+    ghost at = { λ given. At one_word kinds.Indices counts_out };
+
+    ghost ends = { λ given. Ends one_word kinds.Indices counts_out };
+}
+
+/// Looking at the lock.
+pub struct LooksLocked;
+
+impl Drives<View<u64>, IsLocked> for LooksLocked {
+    ghost use Rattle.history.specs.Stages.{At, Ends};
+    ghost use Rattle.history.specs.Indices.{looks_locked};
+
+    ghost at = { λ given. At one_word kinds.Indices looks_locked };
+
+    ghost ends = { λ given. Ends one_word kinds.Indices looks_locked };
+}
+
+/// A look at the whole history.
+pub struct Look;
+
+impl Play<(), View<u64>> for Look {
+    ghost use Rattle.history.specs.Views.{Looks};
+
+    ghost then = { λ step old found new.
+        Looks one_word kinds.Indices old.0.capacity old.0 new.0 × (new.1 ≡ []) };
+}

@@ -1,0 +1,66 @@
+//! How passes are made of one another.
+ghost use Rattle.std.specs.Prelude.{◌≡◌, ◌⊎◌, ◌++◌, ℕ, [], None, IfSome, IfNone};
+ghost use Rattle.lock_free.specs.Unique.Held.{HoldsNothing, IsSound};
+ghost use Rattle.history.specs.Held.{Holds};
+ghost use Rattle.history.specs.History.{IsBeginning};
+ghost use Rattle.lock_free_sp.specs.Shares.{half_of, both_of, IsAll};
+ghost use Rattle.lock_free.specs.UniqueIndexSet.{set_of, view, history, made, share, HasHistory, MissesNothing};
+
+use super::Pass;
+use super::drives::Look;
+use history::plays::{Both, Cut};
+use lock_free_sp::driver::seated::Seated;
+use std::sync::Arc;
+
+impl Pass {
+    /// A new pass of the same set, which has seen the same and holds nothing; this one keeps all that it holds, and each
+    /// has half of the share. None, and nothing changes, where no further pass can be counted (no clause says when). This
+    /// project's own.
+    pub fn split(&mut self) -> Option<Pass>
+        ensures set { set_of self.new ≡ set_of self.old }
+        ensures seen { history self.new ≡ history self.old }
+        ensures made { made self.new ≡ made self.old }
+        ensures new { IfSome result (λ p. set_of p ≡ set_of self.old) }
+        ensures new_seen { IfSome result (λ p. history p ≡ history self.old) }
+        ensures new_made { IfSome result (λ p. made p ≡ []) }
+        ensures nothing { IfSome result (λ p. HoldsNothing (made p)) }
+        ensures halves { IfSome result (λ p. (share self.new ≡ half_of (share self.old)) × (share p ≡ half_of (share self.old))) }
+        ensures none { IfNone result (share self.new ≡ share self.old) }
+    {
+        let seated = &mut self.seated;
+        let Ok(table) = Arc::try_clone(&seated.table) else {
+            return None;
+        };
+        let seat = seated.table.shared.split_seat::<Cut>(&mut seated.seat);
+        Some(Pass {
+            seated: Seated { seat, table },
+            capacity: self.capacity,
+        })
+    }
+
+    /// Takes in what the other pass of the set holds and has seen, with its share: no index was held by both, and each
+    /// that either took may be released. This project's own.
+    pub fn join(&mut self, other: Pass)
+        requires { set_of other ≡ set_of self.old }
+        ensures set { set_of self.new ≡ set_of self.old }
+        ensures made { made self.new ≡ made self.old ++ made other }
+        ensures apart { (i : ℕ) → Holds i (made self.old) → Holds i (made other) → ⊥ }
+        ensures share { share self.new ≡ both_of (share self.old) (share other) }
+        ensures mine { IsBeginning (history self.old) (history self.new) }
+        ensures theirs { IsBeginning (history other) (history self.new) }
+        ensures history { HasHistory self.new }
+        ensures sound { IsSound (view self.new) }
+        ensures whole { IsAll (share self.new)
+            → (history self.new ≡ history self.old) ⊎ (history self.new ≡ history other) }
+        ensures all { MissesNothing self.new }
+    {
+        let Pass { seated: other, .. } = other;
+        let Seated { seat, .. } = other;
+        let seated = &mut self.seated;
+        seated
+            .table
+            .shared
+            .join_seat::<Both>(&mut seated.seat, seat);
+        let _ = seated.table.shared.load::<Look>(&mut seated.seat, 0);
+    }
+}

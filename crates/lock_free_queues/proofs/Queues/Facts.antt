@@ -1,0 +1,254 @@
+-- What is known of whole calls on a queue, of indices or of values.
+use Rattle.std.proofs.Common.{◌≡◌, ◌≤◌, inl, inr, ℕ, Bool, true, false, Some, None, List, [], ◌∷◌, ◌++◌, length, refl, sym, ap, subst, ◌∙◌, append_assoc, append-nil, arith, sum_by, ◌<◌}
+use Rattle.std.proofs.lemmas.Grind.{flat_map-append}
+use Rattle.std.specs.List.{flat_map}
+use Rattle.steps.specs.declared.queues.roles.Role.{Role}
+use Rattle.steps.specs.declared.queues.roles.Role.TheVariants.{Producer, Consumer}
+use Rattle.history.specs.Roles.{ByHolder, HasRole, marks, release_start}
+use Rattle.history.proofs.Holders.{history_by_holders, back_over, always_listed}
+use Rattle.model.specs.Families.Queues.Roles.{GrantsRight}
+use Rattle.model.specs.declared.event.Answer.{Answer}
+use Rattle.model.specs.declared.event.Answer.TheVariants.{Truth, Done}
+use Rattle.model.specs.declared.event.Event.{Event}
+use Rattle.model.specs.declared.event.Event.TheVariants.{Begun, Published, HandedOut, Acted, Finished}
+use Rattle.model.specs.declared.event.Item.TheVariants.{Index}
+use Rattle.model.specs.declared.event.Start.{Start}
+use Rattle.model.specs.declared.event.Start.TheVariants.{Queues}
+use Rattle.model.specs.declared.families.queues.QueueStart.TheVariants.{Pop}
+use Rattle.model.specs.declared.families.queues.calls.LengthOf.{LengthOf}
+use Rattle.model.specs.declared.families.queues.calls.LengthOf.TheVariants as measures
+use Rattle.model.specs.Families.Queues.Calls.{length_answer}
+use Rattle.model.specs.Families.Queues.Promises.{IsQueue}
+use Rattle.model.specs.Families.Queues.Lengths.{TellsLength}
+use Rattle.model.specs.Families.Queues.Reading.{waiting, published, handed_out}
+use Rattle.model.specs.Moments.{HeldOnce}
+use Rattle.model.specs.Reading.{Each}
+use Rattle.history.specs.declared.view.View.{View}
+use Rattle.history.specs.History.{IsHistory, Called, IsBeginning}
+use Rattle.history.specs.Queues.{length_start, counts_waiting, gives_role}
+use Rattle.history.specs.Stages.{Calling, Since, opened, Ends, Over}
+use Rattle.history.specs.Views.{first_view, Looks}
+use Rattle.history.proofs.Drives.{called}
+use Rattle.history.proofs.Queues.{queue_goes_on}
+use Rattle.history.proofs.Roles.{role_by}
+use Rattle.lock_free_sp.specs.Shares.{IsAll}
+use Rattle.lock_free_queues.specs.Queues.Told.{HasPushed, HasPublished, HasTakenOut, WasFull, HasPopped, WasEmpty, HasMeasured, HasReleased}
+use Rattle.model.specs.declared.event.Item.{Item}
+use Rattle.model.specs.declared.event.Item.TheVariants.{Value}
+use Rattle.model.specs.declared.turn.Kind.{Kind}
+use Rattle.model.specs.Coding.{Coding}
+use Rattle.model.specs.Families.Queues.Book.{AnswersRight}
+use Rattle.model.specs.Families.Queues.Reading.{producer_of}
+use Rattle.queue_laws.proofs.Queues.Invariant.{machine_kind}
+use Rattle.queue_laws.proofs.Ring.Kinds.{Ring, kind_of}
+use Rattle.history.proofs.Holders.{IsPlain}
+use Rattle.lock_free_queues.specs.Queues.Goes.{Goes}
+use Rattle.lock_free_queues.specs.Queues.Told.{push_of, popped_item}
+use Rattle.lock_free_queues.proofs.Queues.Wrote.{held, each_left, first_wrote, listed, none_between}
+
+-- ---- what a history says of itself
+
+module _ {T : Type 0} (code : Coding T) (r : Ring) where
+  abbrev pub kind_here : Kind
+  kind_here = machine_kind (kind_of r)
+
+  abbrev pub IsSeen : ℕ → List (Event T) → Type 0
+  IsSeen capacity seen = IsHistory code kind_here capacity seen
+
+  -- the promise of the machine, of what was seen
+  promised : (capacity : ℕ) (seen : List (Event T)) → (h : IsSeen capacity seen) → IsQueue (kind_of r) h.trace
+  promised capacity seen h = queue_goes_on code (kind_of r) (first_view capacity) h.trace h.run
+
+  pub grants : (capacity : ℕ) (seen : List (Event T)) → IsSeen capacity seen → Each GrantsRight seen
+  grants capacity seen h = subst (Each GrantsRight) (sym h.is) (promised capacity seen h).roles
+
+  pub by_holder : (capacity : ℕ) (seen : List (Event T)) → IsSeen capacity seen → Each ByHolder seen
+  by_holder capacity seen h = history_by_holders code r capacity seen h
+
+  pub answers_right : (capacity : ℕ) (seen : List (Event T)) → IsSeen capacity seen → Each (AnswersRight capacity) seen
+  answers_right capacity seen h = subst (λ es. Each (AnswersRight capacity) es) (sym h.is) (subst (λ n. Each (AnswersRight n) h.trace.events) h.run.sized (promised capacity seen h).answers)
+
+  pub tells_lengths : (capacity : ℕ) (seen : List (Event T)) → IsSeen capacity seen → Each (TellsLength capacity) seen
+  tells_lengths capacity seen h = subst (λ es. Each (TellsLength capacity) es) (sym h.is) (subst (λ n. Each (TellsLength n) h.trace.events) h.run.sized (promised capacity seen h).lengths)
+
+  -- ---- pushes
+
+  -- what a push of an item is
+  acted_by : (item : Item T) (p : ℕ) (taken : Bool) (before : List (Event T)) → ByHolder before (Acted p (Queues (push_of item)) (Truth taken)) → producer_of before ≡ Some p
+  acted_by (Index v) p taken before h = h
+  acted_by (Value v) p taken before h = h
+
+  full_by : (item : Item T) (p capacity : ℕ) (before : List (Event T)) → AnswersRight capacity before (Acted p (Queues (push_of item)) (Truth false)) → length (waiting before) ≡ capacity
+  full_by (Index v) p capacity before h = h
+  full_by (Value v) p capacity before h = h
+
+  plain_end : (item : Item T) (p : ℕ) (taken : Bool) → IsPlain p Producer (Finished p (Queues (push_of item)) (Truth taken))
+  plain_end (Index v) p taken = (refl, refl)
+  plain_end (Value v) p taken = (refl, refl)
+
+  module _ (capacity : ℕ) (base w : View T) (item : Item T) (h : IsSeen capacity w.seen) where
+    pub was_full : HasPushed item false base w → WasFull capacity item base w
+    was_full pushing =
+        let p = pushing.by in
+        let act : Event T = Acted p (Queues (push_of item)) (Truth false) in
+        let at = first_wrote p (Queues (push_of item)) (Truth false) act [] base w pushing.called in
+        let all = by_holder capacity w.seen h in
+        let holds = acted_by item p false at.before (all at.before at.after act at.is) in
+        record {
+          by = p;
+          before = at.before;
+          after = at.after;
+          is = at.is;
+          since = at.since;
+          next = at.next Producer all holds;
+          full = full_by item p capacity at.before (answers_right capacity w.seen h at.before at.after act at.is);
+          list = listed Producer p act (Finished p (Queues (push_of item)) (Truth false) ∷ []) base w at all (grants capacity w.seen h) holds refl (plain_end item p false, tt) ∙ append-nil (published base.seen);
+        }
+
+    pub has_published : HasPushed item true base w → HasPublished item base w
+    has_published pushing =
+        let p = pushing.by in
+        let act : Event T = Acted p (Queues (push_of item)) (Truth true) in
+        let at = first_wrote p (Queues (push_of item)) (Truth true) (Published p item) (act ∷ []) base w pushing.called in
+        let all = by_holder capacity w.seen h in
+        let holds = all at.before at.after (Published p item) at.is in
+        record {
+          by = p;
+          before = at.before;
+          after = at.after;
+          is = at.is;
+          since = at.since;
+          next = at.next Producer all holds;
+          list = listed Producer p (Published p item) (act ∷ Finished p (Queues (push_of item)) (Truth true) ∷ []) base w at all (grants capacity w.seen h) holds refl ((refl, refl), (plain_end item p true, tt));
+        }
+
+  -- ---- pops
+
+  module _ (capacity : ℕ) (base w : View T) (h : IsSeen capacity w.seen) where
+    pub was_empty : HasPopped None base w → WasEmpty base w
+    was_empty popping =
+        let p = popping.by in
+        let act : Event T = Acted p (Queues Pop) (popped_item None) in
+        let at = first_wrote p (Queues Pop) (popped_item None) act [] base w popping.called in
+        let all = by_holder capacity w.seen h in
+        let holds = all at.before at.after act at.is in
+        record {
+          by = p;
+          before = at.before;
+          after = at.after;
+          is = at.is;
+          since = at.since;
+          next = at.next Consumer all holds;
+          empty = answers_right capacity w.seen h at.before at.after act at.is;
+          list = listed Consumer p act (Finished p (Queues Pop) (popped_item None) ∷ []) base w at all (grants capacity w.seen h) holds refl ((refl, refl), tt) ∙ append-nil (handed_out base.seen);
+        }
+
+    pub has_taken_out : (item : Item T) → HasPopped (Some item) base w → HasTakenOut item base w
+    has_taken_out item popping =
+        let p = popping.by in
+        let act : Event T = Acted p (Queues Pop) (popped_item (Some item)) in
+        let at = first_wrote p (Queues Pop) (popped_item (Some item)) (HandedOut p item) (act ∷ []) base w popping.called in
+        let all = by_holder capacity w.seen h in
+        let holds = all at.before at.after (HandedOut p item) at.is in
+        record {
+          by = p;
+          before = at.before;
+          after = at.after;
+          is = at.is;
+          since = at.since;
+          next = at.next Consumer all holds;
+          list = listed Consumer p (HandedOut p item) (act ∷ Finished p (Queues Pop) (popped_item (Some item)) ∷ []) base w at all (grants capacity w.seen h) holds refl ((refl, refl), ((refl, refl), tt));
+        }
+
+  -- a look by who has a role: nobody else wrote what its holder writes
+  pub looked_alone : (role : Role) (base w : View T) → Looks code kind_here base.capacity base w → base.other ≡ [] → 0 < base.share.part → HasRole role base.made → flat_map (marks role) w.seen ≡ flat_map (marks role) base.seen
+  looked_alone role base w looks alone some has =
+      let m = marks {T = T} role in
+      let q = looks.parties in
+      let h = looks.history in
+      let by = role_by q.owner q.seat role w.seen base.made (grants base.capacity w.seen h) (λ f. ap (sum_by f) (sym looks.made) ∙ q.sums f) has in
+      let rest = looks.mine.rest in
+      let is : w.seen ≡ base.seen ++ rest = looks.mine.is in
+      let back = back_over by.0 role base.seen rest (subst (Each ByHolder) is (by_holder base.capacity w.seen h)) (looks.apart alone some by.0 by.1) (ap (held role) (sym is) ∙ by.2) in
+      ap (flat_map m) is ∙ (flat_map-append m base.seen rest ∙ (ap (λ zs. flat_map m base.seen ++ zs) back.1 ∙ append-nil (flat_map m base.seen)))
+
+  module _ (base w : View T) (idle : base.going ≡ None) where
+    -- ---- lengths
+
+    stood_as : (which : LengthOf) (p c : ℕ) (answer : Answer T) (xs : List (Event T)) → TellsLength c xs (Finished p (Queues (length_start which)) answer) → HeldOnce p (λ part. answer ≡ length_answer which c (length (waiting part))) xs
+    stood_as measures.Len p c answer xs h = h
+    stood_as measures.IsEmpty p c answer xs h = h
+    stood_as measures.IsFull p c answer xs h = h
+
+    pub measured : (which : LengthOf) (n : ℕ) (m : Unit {0}) → Ends code kind_here (counts_waiting which base.capacity) base n m w → HasMeasured which base.capacity (length_answer which base.capacity n) base w
+    measured which n m ends =
+        let p = ends.party in
+        let start : Start T = Queues (length_start which) in
+        let answer : Answer T = length_answer which base.capacity n in
+        let c = called code kind_here (counts_waiting which base.capacity) base w n m idle ends in
+        let it : Called p start answer [] base w = subst (λ es. Called p start answer es base w) ends.tells c in
+        let xs : List (Event T) = (base.seen ++ it.others) ++ Begun p start ∷ it.during in
+        let last : Event T = Finished p start answer in
+        let is : w.seen ≡ xs ++ last ∷ [] = it.is ∙ sym (append_assoc (base.seen ++ it.others) (Begun p start ∷ it.during) (last ∷ [])) in
+        let h = ends.history in
+        let told : TellsLength base.capacity xs last = subst (λ k. TellsLength k xs last) h.run.sized ((promised base.capacity w.seen h).lengths xs [] last (sym h.is ∙ is)) in
+        record { by = p; mine = ends.mine; called = it; before = xs; is = is; stood = stood_as which p base.capacity answer xs told }
+
+    pub few : (n : ℕ) (m : Unit {0}) → Ends code kind_here (counts_waiting measures.Len base.capacity) base n m w → n ≤ base.capacity
+    few n m ends =
+        let told = measured measures.Len n m ends in
+        let stood = told.stood in
+        let same : n ≡ length (waiting stood.part) = (let e = stood.held in cc) in
+        let last : Event T = Finished told.by (Queues (length_start measures.Len)) (length_answer measures.Len base.capacity n) in
+        let is : w.seen ≡ stood.part ++ (stood.rest ++ last ∷ []) = told.is ∙ (ap (λ xs. xs ++ last ∷ []) stood.is ∙ append_assoc stood.part stood.rest (last ∷ [])) in
+        let low = (always_listed base.capacity code r w.seen ends.history stood.part (stood.rest ++ last ∷ []) is).few in
+        omega arith
+
+    -- ---- releases: while the role was held, and as it was given back, nobody else wrote what its holder writes
+
+    released : (role : Role) (e m : Unit {0}) → Ends code kind_here (gives_role role) base e m w → HasReleased role base w
+    released role e m ends = record { by = ends.party; mine = ends.mine; called = subst (λ es. Called ends.party (Queues (release_start role)) Done es base w) ends.tells (called code kind_here (gives_role role) base w e m idle ends) }
+
+    left_after : (role : Role) → IsHistory code kind_here base.capacity w.seen → HasReleased role base w → flat_map (marks role) w.seen ≡ flat_map (marks role) base.seen
+    left_after role h left =
+        let p = left.by in
+        let start : Start T = Queues (release_start role) in
+        let c = left.called in
+        let xs : List (Event T) = (base.seen ++ c.others) ++ Begun p start ∷ c.during in
+        let last : Event T = Finished p start Done in
+        let is : w.seen ≡ xs ++ last ∷ [] = c.is ∙ sym (append_assoc (base.seen ++ c.others) (Begun p start ∷ c.during) (last ∷ [])) in
+        let holds : held role xs ≡ Some p = held_at role p xs (grants base.capacity w.seen h xs [] last is) in
+        let m = marks {T = T} role in
+        ap (flat_map m) is
+        ∙ (flat_map-append m xs (last ∷ [])
+        ∙ (ap (λ zs. flat_map m xs ++ (zs ++ [])) (no_mark role p)
+        ∙ (append-nil (flat_map m xs)
+        ∙ none_between role p start base.seen c.others c.during (each_left xs (last ∷ []) (subst (Each ByHolder) is (by_holder base.capacity w.seen h))) c.others_own c.during_own holds)))
+      where
+        held_at : (r : Role) (p : ℕ) (xs : List (Event T)) → GrantsRight xs (Finished p (Queues (release_start r)) Done) → held r xs ≡ Some p
+        held_at Producer p xs h = h.1
+        held_at Consumer p xs h = h.1
+
+        no_mark : (r : Role) (p : ℕ) → marks {T = T} r (Finished p (Queues (release_start r)) Done) ≡ []
+        no_mark Producer p = refl
+        no_mark Consumer p = refl
+
+    pub left_alone : (role : Role) (e m : Unit {0}) → Ends code kind_here (gives_role role) base e m w → flat_map (marks role) w.seen ≡ flat_map (marks role) base.seen
+    left_alone role e m ends = left_after role ends.history (released role e m ends)
+
+-- ---- what each call leaves
+
+module _ {T : Type 0} (code : Coding T) (kind : Kind) where
+  module _ {C M E : Type 0} (call : Calling T C M E) (base w : View T) where
+    later_than : (p : ℕ) (wrote last : List (Event T)) → Since p call.start wrote last base w → IsBeginning base.seen w.seen
+    later_than p wrote last s = record { rest = s.others ++ (opened p call.start base.going ++ (s.during ++ last)); is = s.is ∙ append_assoc base.seen s.others (opened p call.start base.going ++ (s.during ++ last)) }
+
+    pub goes_on : (e : E) (m : M) → Ends code kind call base e m w → Goes code kind base.capacity base w
+    goes_on e m ends = record { share = ends.share; since = later_than ends.party ends.wrote (Finished ends.party call.start (call.answer e m) ∷ []) ends.since; history = ends.history; all = λ whole. ends.all (subst IsAll ends.share whole) }
+
+  pub looked_on : (base w : View T) → Looks code kind base.capacity base w → Goes code kind base.capacity base w
+  looked_on base w looks = record { share = looks.share; since = looks.mine; history = looks.history; all = λ whole. looks.all (subst IsAll looks.share whole) }
+
+  pub goes_over : {C M E : Type 0} (call : Calling T C M E) (base w : View T) (e : E) (m : M) → Over code kind call base e m w → Goes code kind base.capacity base w
+  goes_over call base w e m (inl ends) = goes_on call base w e m ends
+  goes_over call base w e m (inr left) = looked_on base w left.looked

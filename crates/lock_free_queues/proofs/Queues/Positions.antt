@@ -1,0 +1,150 @@
+-- The laws of positions.
+use Rattle.std.proofs.Common.{◌≡◌, ℕ, zero, suc, ◌+◌, ◌<◌, ◌≤◌, Some, List, [], ◌∷◌, ◌++◌, length, drop, slice_get, refl, sym, ap, ◌∙◌, append_assoc, append-nil, false, arith}
+use Rattle.std.specs.List.{flat_map}
+use Rattle.std.proofs.lemmas.List.{length-append, length-drop}
+use Rattle.std.proofs.lemmas.Grind.{flat_map-append}
+use Rattle.model.specs.declared.event.Event.{Event}
+use Rattle.model.specs.declared.event.Answer.TheVariants.{Truth}
+use Rattle.model.specs.declared.event.Event.TheVariants.{Published, HandedOut, Acted}
+use Rattle.model.specs.declared.event.Start.TheVariants.{Queues}
+use Rattle.model.specs.declared.event.Item.{Item}
+use Rattle.model.specs.Coding.{Coding}
+use Rattle.model.specs.Families.Queues.Reading.{published, handed_out, waiting, publishes, hands_out}
+use Rattle.history.specs.declared.view.View.{View}
+use Rattle.history.specs.History.{IsBeginning, IsHistory}
+use Rattle.queue_laws.proofs.Queues.Invariant.{machine_kind}
+use Rattle.queue_laws.proofs.Ring.Kinds.{Ring, kind_of}
+use Rattle.history.proofs.Holders.{always_listed}
+use Rattle.lock_free_queues.proofs.Queues.Facts.{answers_right, tells_lengths, grants, by_holder}
+use Rattle.lock_free_queues.specs.Queues.Positions.{IsPublished, IsTaken, IsSound}
+use Rattle.lock_free_queues.specs.Queues.Told.{push_of, HasPublished, HasTakenOut, WasEmpty, WasFull}
+
+get_here : {A : Type 0} (xs ys : List A) (x : A) → slice_get (xs ++ x ∷ ys) (length xs) ≡ Some x
+get_here [] ys x = refl
+get_here (z ∷ xs) ys x = get_here xs ys x
+
+pub get_left : {A : Type 0} (xs ys : List A) (i : ℕ) (x : A) → slice_get xs i ≡ Some x → slice_get (xs ++ ys) i ≡ Some x
+get_left [] ys i x e = absurd (cc)
+get_left (z ∷ xs) ys zero x e = e
+get_left (z ∷ xs) ys (suc i) x e = get_left xs ys i x e
+
+module _ {T A : Type 0} (hit : Event T → List A) where
+  abbrev hits : List (Event T) → List A
+  hits events = flat_map hit events
+
+  -- two events of the same rank are one
+  same_place : (b1 b2 a1 a2 : List (Event T)) (e1 e2 : Event T) (x1 x2 : A) → hit e1 ≡ x1 ∷ [] → hit e2 ≡ x2 ∷ [] → b1 ++ e1 ∷ a1 ≡ b2 ++ e2 ∷ a2 → length (hits b1) ≡ length (hits b2) → e1 ≡ e2
+  same_place [] [] a1 a2 e1 e2 x1 x2 h1 h2 same ranks = cc
+  same_place [] (c ∷ b2) a1 a2 e1 e2 x1 x2 h1 h2 same ranks =
+      let first : e1 ≡ c = cc in
+      let one : length (hit c) ≡ 1 = ap length (sym (ap hit first) ∙ h1) in
+      let long = length-append (hit c) (hits b2) in
+      absurd (omega arith)
+  same_place (c ∷ b1) [] a1 a2 e1 e2 x1 x2 h1 h2 same ranks =
+      let first : e2 ≡ c = cc in
+      let one : length (hit c) ≡ 1 = ap length (sym (ap hit first) ∙ h2) in
+      let long = length-append (hit c) (hits b1) in
+      absurd (omega arith)
+  same_place (c ∷ b1) (d ∷ b2) a1 a2 e1 e2 x1 x2 h1 h2 same ranks =
+      let first : c ≡ d = cc in
+      let rest : b1 ++ e1 ∷ a1 ≡ b2 ++ e2 ∷ a2 = cc in
+      let alike : length (hit c) ≡ length (hit d) = ap (λ z. length (hit z)) first in
+      let long = length-append (hit c) (hits b1) in
+      let long' = length-append (hit d) (hits b2) in
+      same_place b1 b2 a1 a2 e1 e2 x1 x2 h1 h2 rest (omega arith)
+
+  -- it stands at its rank
+  at_rank : (before after : List (Event T)) (e : Event T) (x : A) → hit e ≡ x ∷ [] → slice_get (hits (before ++ e ∷ after)) (length (hits before)) ≡ Some x
+  at_rank before after e x h =
+      ap (λ xs. slice_get xs (length (hits before))) (flat_map-append hit before (e ∷ after) ∙ ap (λ zs. hits before ++ (zs ++ hits after)) h)
+      ∙ get_here (hits before) (hits after) x
+
+  -- the rank of what stands is below their number
+  rank_low : (events before after : List (Event T)) (e : Event T) (x : A) → hit e ≡ x ∷ [] → events ≡ before ++ e ∷ after → length (hits before) < length (hits events)
+  rank_low events before after e x h is =
+      let whole : length (hits events) ≡ length (hits before ++ hits (e ∷ after)) = ap (λ es. length (hits es)) is ∙ ap length (flat_map-append hit before (e ∷ after)) in
+      let long = length-append (hits before) (hits (e ∷ after)) in
+      let one : length (hit e) ≡ 1 = ap length h in
+      let last = length-append (hit e) (hits after) in
+      omega arith
+
+  pub hits_grow : (old before : List (Event T)) → IsBeginning old before → length (hits old) ≤ length (hits before)
+  hits_grow old before h =
+      let whole : length (hits before) ≡ length (hits old ++ hits h.rest) = ap (λ es. length (hits es)) h.is ∙ ap length (flat_map-append hit old h.rest) in
+      let long = length-append (hits old) (hits h.rest) in
+      omega arith
+
+module _ {T : Type 0} (events : List (Event T)) (q j : ℕ) (y : Item T) where
+  -- each position is below their number
+  pub published_low : IsPublished q j y events → j < length (published events)
+  published_low a = (let low = rank_low publishes events a.before a.after (Published q y) y refl a.is in let rank = a.rank in omega arith)
+
+  pub taken_low : IsTaken q j y events → j < length (handed_out events)
+  taken_low a = (let low = rank_low hands_out events a.before a.after (HandedOut q y) y refl a.is in let rank = a.rank in omega arith)
+
+module _ {T : Type 0} (p q i : ℕ) (x y : Item T) (events : List (Event T)) where
+  pub published_once : IsPublished p i x events → IsPublished q i y events → (p ≡ q) × (x ≡ y)
+  published_once a b =
+      let same : ◌≡◌ {A = Event T} (Published p x) (Published q y) = same_place publishes a.before b.before a.after b.after (Published p x) (Published q y) x y refl refl (sym a.is ∙ b.is) (sym a.rank ∙ b.rank) in
+      (let l : p ≡ q = cc in l, let r : x ≡ y = cc in r)
+
+  pub taken_once : IsTaken p i x events → IsTaken q i y events → (p ≡ q) × (x ≡ y)
+  taken_once a b =
+      let same : ◌≡◌ {A = Event T} (HandedOut p x) (HandedOut q y) = same_place hands_out a.before b.before a.after b.after (HandedOut p x) (HandedOut q y) x y refl refl (sym a.is ∙ b.is) (sym a.rank ∙ b.rank) in
+      (let l : p ≡ q = cc in l, let r : x ≡ y = cc in r)
+
+  pub values_agree : (capacity : ℕ) → IsSound capacity events → IsPublished p i x events → IsTaken q i y events → x ≡ y
+  values_agree capacity sound a b =
+      let one : slice_get (published events) i ≡ Some x = ap (λ es. slice_get (published es) i) a.is ∙ (ap (slice_get (published (a.before ++ Published p x ∷ a.after))) a.rank ∙ at_rank publishes a.before a.after (Published p x) x refl) in
+      let two : slice_get (handed_out events) i ≡ Some y = ap (λ es. slice_get (handed_out es) i) b.is ∙ (ap (slice_get (handed_out (b.before ++ HandedOut q y ∷ b.after))) b.rank ∙ at_rank hands_out b.before b.after (HandedOut q y) y refl) in
+      let both : Some x ≡ Some y = sym one ∙ (ap (λ xs. slice_get xs i) (sound.book events [] (sym (append-nil events))) ∙ get_left (handed_out events) (waiting events) i y two) in
+      cc
+
+  -- what stands in a beginning stands in the whole
+  pub still_published : (more : List (Event T)) → IsBeginning events more → IsPublished p i x events → IsPublished p i x more
+  still_published more h a = record { before = a.before; after = a.after ++ h.rest; is = h.is ∙ (ap (λ es. es ++ h.rest) a.is ∙ append_assoc a.before (Published p x ∷ a.after) h.rest); rank = a.rank }
+
+  pub still_taken : (more : List (Event T)) → IsBeginning events more → IsTaken p i x events → IsTaken p i x more
+  still_taken more h a = record { before = a.before; after = a.after ++ h.rest; is = h.is ∙ (ap (λ es. es ++ h.rest) a.is ∙ append_assoc a.before (HandedOut p x ∷ a.after) h.rest); rank = a.rank }
+
+pub sound_history : {T : Type 0} (code : Coding T) (r : Ring) (capacity : ℕ) (events : List (Event T)) → IsHistory code (machine_kind (kind_of r)) capacity events → IsSound capacity events
+sound_history code r capacity events h =
+    record {
+      book = λ part rest is. (always_listed capacity code r events h part rest is).book;
+      few = λ part rest is. (always_listed capacity code r events h part rest is).few;
+      answers = answers_right code r capacity events h;
+      lengths = tells_lengths code r capacity events h;
+      roles = grants code r capacity events h;
+      holders = by_holder code r capacity events h;
+    }
+
+-- ---- what the calls say of positions
+
+module _ {T : Type 0} (old new : View T) where
+  -- a push publishes at the position after those that were published before it, and a pop takes alike
+  pub published_at : (item : Item T) → (h : HasPublished item old new) → IsPublished h.by (length (published h.before)) item new.seen
+  published_at item h = record { before = h.before; after = h.after; is = h.is; rank = refl }
+
+  pub taken_at : (item : Item T) → (h : HasTakenOut item old new) → IsTaken h.by (length (handed_out h.before)) item new.seen
+  taken_at item h = record { before = h.before; after = h.after; is = h.is; rank = refl }
+
+  -- where a pop found nothing, each position that was known to be published had been taken
+  pub none_later : (h : WasEmpty old new) (q j : ℕ) (y : Item T) → IsPublished q j y old.seen → j < length (handed_out h.before)
+  none_later h q j y a =
+      let low = rank_low publishes old.seen a.before a.after (Published q y) y refl a.is in
+      let grown = hits_grow publishes old.seen h.before h.since in
+      let rank = a.rank in
+      let none : length (drop (length (handed_out h.before)) (published h.before)) ≡ 0 = ap length h.empty in
+      let left = length-drop (length (handed_out h.before)) (published h.before) in
+      omega arith
+
+  -- where a push found the queue full, each position that was known to be taken lies more than the capacity below
+  pub full_below : (capacity : ℕ) (item : Item T) → (h : WasFull capacity item old new) → IsSound capacity new.seen → (q j : ℕ) (y : Item T) → IsTaken q j y old.seen → j + capacity < length (published h.before)
+  full_below capacity item h sound q j y a =
+      let low = rank_low hands_out old.seen a.before a.after (HandedOut q y) y refl a.is in
+      let grown = hits_grow hands_out old.seen h.before h.since in
+      let rank = a.rank in
+      let book = ap length (sound.book h.before (Acted h.by (Queues (push_of item)) (Truth false) ∷ h.after) h.is) in
+      let long = length-append (handed_out h.before) (waiting h.before) in
+      let full : length (waiting h.before) ≡ capacity = h.full in
+      omega arith

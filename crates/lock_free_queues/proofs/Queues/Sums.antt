@@ -1,0 +1,94 @@
+-- What each call adds to how much its pass has published and taken out itself, and what that says to who has the whole.
+use Rattle.std.proofs.Common.{◌≡◌, ◌⊎◌, inl, inr, ℕ, ◌+◌, Bool, true, false, Some, None, List, [], ◌∷◌, ◌++◌, length, refl, sym, ap, subst, ◌∙◌, length-append, sum_by, arith}
+use Rattle.std.proofs.lemmas.List.Sums.{sum_by-append}
+use Rattle.steps.specs.declared.queues.roles.Role.{Role}
+use Rattle.model.specs.declared.event.Answer.{Answer}
+use Rattle.model.specs.declared.event.Event.{Event}
+use Rattle.model.specs.declared.event.Event.TheVariants.{Begun, Published, HandedOut, Finished}
+use Rattle.model.specs.declared.event.Item.{Item}
+use Rattle.model.specs.declared.event.Start.{Start}
+use Rattle.model.specs.declared.families.queues.calls.LengthOf.{LengthOf}
+use Rattle.model.specs.Families.Queues.Reading.{publishes, hands_out, published, handed_out}
+use Rattle.history.specs.declared.view.View.{View}
+use Rattle.history.specs.History.{Called}
+use Rattle.history.proofs.Known.{sum_first}
+use Rattle.lock_free_sp.specs.Shares.{IsAll}
+use Rattle.lock_free_queues.specs.Queues.Goes.{MissesNothing}
+use Rattle.lock_free_queues.specs.Queues.Sums.{puts, gets, HasDone}
+use Rattle.lock_free_queues.specs.Queues.Told.{HasPushed, WasAtEnd, HasPopped, HasMeasured, HasAcquired, HasReleased}
+
+module _ {T : Type 0} where
+  -- ---- by the call
+
+  module _ (p : ℕ) (start : Start T) (answer : Answer T) (wrote : List (Event T)) (old new : View T) (c : Called p start answer wrote old new) where
+    module _ (f : Event T → ℕ) (none : f (Begun p start) ≡ 0) (none' : f (Finished p start answer) ≡ 0) where
+      made_more : sum_by f new.made ≡ sum_by f old.made + sum_by f wrote
+      made_more =
+          let last : List (Event T) = Finished p start answer ∷ [] in
+          let all = ap (sum_by f) c.made in
+          let a = sum_by-append f old.made (Begun p start ∷ (wrote ++ last)) in
+          let b = sum_first f (Begun p start) (wrote ++ last) in
+          let d = sum_by-append f wrote last in
+          let e = sum_first f (Finished p start answer) [] in
+          omega arith
+
+    pub done : HasDone (sum_by puts wrote) (sum_by gets wrote) old new
+    done = record { puts_more = made_more puts refl refl; gets_more = made_more gets refl refl }
+
+  module _ (old new : View T) where
+    pub done_pushed : (item : Item T) → HasPushed item true old new → HasDone 1 0 old new
+    done_pushed item h = (let d = done h.by _ _ _ old new h.called in record { puts_more = d.puts_more; gets_more = d.gets_more })
+
+    -- a push that was refused, or a look
+    pub done_refused : (item : Item T) (taken : Bool) → taken ≡ false → HasPushed item taken old new ⊎ (taken ≡ false) × WasAtEnd old new → HasDone 0 0 old new
+    done_refused item taken is (inl h) = (let it : HasPushed item false old new = subst (λ b. HasPushed item b old new) is h in let d = done it.by _ _ _ old new it.called in record { puts_more = d.puts_more; gets_more = d.gets_more })
+    done_refused item taken is (inr h) = same_made h.1.made
+      where
+        same_made : new.made ≡ old.made → HasDone 0 0 old new
+        same_made e = record { puts_more = (let a = ap (sum_by puts) e in omega arith); gets_more = (let b = ap (sum_by gets) e in omega arith) }
+
+    pub done_popped : (item : Item T) → HasPopped (Some item) old new → HasDone 0 1 old new
+    done_popped item h = (let d = done h.by _ _ _ old new h.called in record { puts_more = d.puts_more; gets_more = d.gets_more })
+
+    pub done_none : HasPopped None old new → HasDone 0 0 old new
+    done_none h = (let d = done h.by _ _ _ old new h.called in record { puts_more = d.puts_more; gets_more = d.gets_more })
+
+    pub done_acquired : (role : Role) (taken : Bool) → HasAcquired role taken old new → HasDone 0 0 old new
+    done_acquired role taken h = (let d = done h.by _ _ _ old new h.called in record { puts_more = d.puts_more; gets_more = d.gets_more })
+
+    pub done_released : (role : Role) → HasReleased role old new → HasDone 0 0 old new
+    done_released role h = (let d = done h.by _ _ _ old new h.called in record { puts_more = d.puts_more; gets_more = d.gets_more })
+
+    pub done_measured : (which : LengthOf) (capacity : ℕ) (answer : Answer T) → HasMeasured which capacity answer old new → HasDone 0 0 old new
+    done_measured which capacity answer h = (let d = done h.by _ _ _ old new h.called in record { puts_more = d.puts_more; gets_more = d.gets_more })
+
+  -- one call after another
+  pub done_then : (a b c d : ℕ) (u v w : View T) → HasDone a b u v → HasDone c d v w → HasDone (a + c) (b + d) u w
+  done_then a b c d u v w x y =
+      let p = x.puts_more in
+      let q = y.puts_more in
+      let r = x.gets_more in
+      let s = y.gets_more in
+      record { puts_more = omega arith; gets_more = omega arith }
+
+  -- ---- what they count
+
+  pub all_puts : (events : List (Event T)) → sum_by puts events ≡ length (published events)
+  all_puts [] = refl
+  all_puts (e ∷ es) = (let first = sum_first puts e es in let rest = all_puts es in let both = length-append (publishes e) (published es) in let one = put_once e in omega arith)
+    where
+      put_once : (x : Event T) → puts x ≡ length (publishes x)
+      put_once (Published p item) = refl
+      put_once x = refl
+
+  pub all_gets : (events : List (Event T)) → sum_by gets events ≡ length (handed_out events)
+  all_gets [] = refl
+  all_gets (e ∷ es) = (let first = sum_first gets e es in let rest = all_gets es in let both = length-append (hands_out e) (handed_out es) in let one = got_once e in omega arith)
+    where
+      got_once : (x : Event T) → gets x ≡ length (hands_out x)
+      got_once (HandedOut p item) = refl
+      got_once x = refl
+
+  -- who has the whole share knows how much was published and taken out
+  pub whole_counted : (v : View T) → IsAll v.share → MissesNothing v → (length (published v.seen) ≡ sum_by puts v.made) × (length (handed_out v.seen) ≡ sum_by gets v.made)
+  whole_counted v all missing = (sym (all_puts v.seen) ∙ missing all puts, sym (all_gets v.seen) ∙ missing all gets)

@@ -1,0 +1,80 @@
+-- What the history says to who has the whole share: nobody else published or took out anything.
+use Rattle.std.proofs.Common.{◌≡◌, ℕ, ◌+◌, List, [], ◌∷◌, ◌++◌, length, None, refl, sym, ap, subst, ◌∙◌, append-nil, length-append, sum_by, arith}
+use Rattle.std.proofs.lemmas.Grind.{flat_map-append}
+use Rattle.std.proofs.lemmas.List.Sums.{sum_by-append}
+use Rattle.std.specs.List.{flat_map}
+use Rattle.model.specs.declared.event.Answer.TheVariants.{PoppedNone}
+use Rattle.model.specs.declared.event.Event.{Event}
+use Rattle.model.specs.declared.event.Event.TheVariants.{Begun, Acted, Finished}
+use Rattle.model.specs.declared.event.Item.{Item}
+use Rattle.model.specs.declared.event.Start.TheVariants.{Queues}
+use Rattle.model.specs.declared.families.queues.QueueStart.TheVariants.{Pop}
+use Rattle.model.specs.Families.Queues.Reading.{publishes, hands_out, published, handed_out}
+use Rattle.lock_free_sp.specs.Shares.{IsAll}
+use Rattle.history.specs.declared.view.View.{View}
+use Rattle.history.specs.History.{IsBeginning}
+use Rattle.history.proofs.Known.{sum_first}
+use Rattle.model.specs.declared.turn.Kind.{Kind}
+use Rattle.model.specs.Coding.{Coding}
+use Rattle.queue_laws.proofs.Queues.Invariant.{machine_kind}
+use Rattle.queue_laws.proofs.Ring.Kinds.{Ring, kind_of}
+use Rattle.lock_free_queues.specs.Queues.Goes.{Goes, MissesNothing}
+use Rattle.lock_free_queues.specs.Queues.Told.{HasPopped, WasEmpty}
+use Rattle.lock_free_queues.proofs.Queues.Facts.{was_empty}
+use Rattle.lock_free_queues.proofs.Queues.Positions.{sound_history}
+
+none_more : {A : Type 0} (xs ys zs : List A) → zs ≡ xs ++ ys → length zs ≡ length xs → zs ≡ xs
+none_more xs [] zs is long = is ∙ append-nil xs
+none_more xs (y ∷ ys) zs is long = (let all = ap length is in let both = length-append xs (y ∷ ys) in absurd (omega arith))
+
+module _ {T : Type 0} (m : Event T → List (Item T)) where
+  abbrev counts : Event T → ℕ
+  counts e = length (m e)
+
+  counted : (es : List (Event T)) → sum_by counts es ≡ length (flat_map m es)
+  counted [] = refl
+  counted (e ∷ es) = (let first = sum_first counts e es in let rest = counted es in let both = length-append (m e) (flat_map m es) in omega arith)
+
+  -- who has the whole share has seen no more than it made
+  module _ (code : Coding T) (kind : Kind) (capacity : ℕ) (old new : View T) (es : List (Event T)) (all : IsAll old.share) (before : MissesNothing old) (goes : Goes code kind capacity old new) (made : new.made ≡ old.made ++ es) where
+    as_many : length (flat_map m new.seen) ≡ length (flat_map m old.seen) + length (flat_map m es)
+    as_many =
+        let was = before all counts in
+        let now = goes.all (subst IsAll (sym goes.share) all) counts in
+        let sum : sum_by counts new.made ≡ sum_by counts (old.made ++ es) = ap (sum_by counts) made in
+        let both = sum_by-append counts old.made es in
+        let a = counted old.seen in
+        let b = counted new.seen in
+        let c = counted es in
+        omega arith
+
+    pub nothing_more : flat_map m es ≡ [] → flat_map m new.seen ≡ flat_map m old.seen
+    nothing_more none =
+        let long : length (flat_map m es) ≡ 0 = ap length none in
+        let many = as_many in
+        none_more (flat_map m old.seen) (flat_map m goes.since.rest) (flat_map m new.seen) (ap (flat_map m) goes.since.is ∙ flat_map-append m old.seen goes.since.rest) (omega arith)
+
+-- where a pop finds nothing, all that was published was taken
+pub all_taken : {T : Type 0} (code : Coding T) (r : Ring) (capacity : ℕ) (old new : View T) → IsAll old.share → MissesNothing old → Goes code (machine_kind (kind_of r)) capacity old new → HasPopped None old new → (published new.seen ≡ published old.seen) × (handed_out new.seen ≡ published new.seen)
+all_taken {T} code r capacity old new all before goes popping =
+    let p = popping.by in
+    let es : List (Event T) = Begun p (Queues Pop) ∷ Acted p (Queues Pop) PoppedNone ∷ Finished p (Queues Pop) PoppedNone ∷ [] in
+    let out : published new.seen ≡ published old.seen = nothing_more publishes code (machine_kind (kind_of r)) capacity old new es all before goes popping.called.made refl in
+    let took : handed_out new.seen ≡ handed_out old.seen = nothing_more hands_out code (machine_kind (kind_of r)) capacity old new es all before goes popping.called.made refl in
+    let empty : WasEmpty old new = was_empty code r capacity old new goes.history popping in
+    let book = (sound_history code r capacity new.seen goes.history).book empty.before (Acted empty.by (Queues Pop) PoppedNone ∷ empty.after) empty.is in
+    let same : published empty.before ≡ published old.seen = between publishes empty.before (Acted empty.by (Queues Pop) PoppedNone ∷ empty.after) old new empty.since empty.is out in
+    let rest : published empty.before ≡ handed_out empty.before = book ∙ (ap (λ xs. handed_out empty.before ++ xs) empty.empty ∙ append-nil (handed_out empty.before)) in
+    (out, took ∙ (sym empty.next ∙ (sym rest ∙ (same ∙ sym out))))
+  where
+    -- what stands between two that tell the same
+    between : (m : Event T → List (Item T)) (xs ys : List (Event T)) (v w : View T) → IsBeginning v.seen xs → w.seen ≡ xs ++ ys → flat_map m w.seen ≡ flat_map m v.seen → flat_map m xs ≡ flat_map m v.seen
+    between m xs ys v w low is same =
+        let longer : flat_map m xs ≡ flat_map m v.seen ++ flat_map m low.rest = ap (flat_map m) low.is ∙ flat_map-append m v.seen low.rest in
+        let whole : flat_map m w.seen ≡ flat_map m xs ++ flat_map m ys = ap (flat_map m) is ∙ flat_map-append m xs ys in
+        let a = ap length longer in
+        let b = ap length whole in
+        let c = length-append (flat_map m v.seen) (flat_map m low.rest) in
+        let d = length-append (flat_map m xs) (flat_map m ys) in
+        let e = ap length same in
+        none_more (flat_map m v.seen) (flat_map m low.rest) (flat_map m xs) longer (omega arith)

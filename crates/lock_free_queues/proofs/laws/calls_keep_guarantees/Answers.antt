@@ -1,0 +1,5 @@
+use Rattle.lock_free_queues.proofs.Queues.Promised.{guarantees}
+use Rattle.lock_free_queues.proofs.laws.calls_keep_guarantees.Goals as goal
+
+pub returns : goal.returns
+returns c = guarantees

@@ -1,0 +1,5 @@
+use Rattle.lock_free_queues.proofs.Queues.Promised.{sound}
+use Rattle.lock_free_queues.proofs.laws.histories_are_sound.Goals as goal
+
+pub returns : goal.returns
+returns c = sound

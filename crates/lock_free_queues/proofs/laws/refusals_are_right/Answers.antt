@@ -1,0 +1,8 @@
+use Rattle.lock_free_queues.proofs.Queues.Promised.{sound, none_later_than, full_above}
+use Rattle.lock_free_queues.proofs.laws.refusals_are_right.Goals as goal
+
+pub returns-clause-empty : goal.returns-clause-empty
+returns-clause-empty c old new h q j y a = none_later_than old new h q j y a
+
+pub returns-clause-full : goal.returns-clause-full
+returns-clause-full c capacity item old new has h q j y a = full_above old new capacity item (sound capacity new has) h q j y a

@@ -1,0 +1,2 @@
+-- The words of the contracts, and of the laws.
+pub mod Queues

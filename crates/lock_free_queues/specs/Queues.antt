@@ -1,0 +1,10 @@
+-- The words of the contracts of queues.
+pub mod Roles
+pub mod Opened
+pub mod Goes
+pub mod Calls
+pub mod Told
+pub mod Sums
+pub mod Positions
+pub mod Closes
+pub mod Reads

@@ -1,0 +1,15 @@
+-- Which roles a pass lacks, by what it made.
+use Rattle.std.specs.Prelude.{◌≡◌, ℕ, ◌+◌, List, sum_by}
+use Rattle.steps.specs.declared.queues.roles.Role.{Role}
+use Rattle.model.specs.declared.event.Event.{Event}
+use Rattle.history.specs.Roles.{takes, gives}
+
+module _ {T : Type 0} where
+  -- it gave back each time what it had acquired
+  abbrev pub LacksRole : Role → List (Event T) → Type 0
+  LacksRole role made = sum_by (takes role) made ≡ sum_by (gives role) made
+
+  -- what was made since added so much to what was acquired and given back
+  pub record Moved (role : Role) (taken given : ℕ) (old new : List (Event T)) : Type 0 where
+    pub takes : sum_by (takes role) new ≡ sum_by (takes role) old + taken
+    pub gives : sum_by (gives role) new ≡ sum_by (gives role) old + given

@@ -1,0 +1,19 @@
+-- How much was published and taken out, as numbers.
+use Rattle.std.specs.Prelude.{◌≡◌, ℕ, ◌+◌, sum_by}
+use Rattle.model.specs.declared.event.Event.{Event}
+use Rattle.model.specs.declared.event.Event.TheVariants.{Published, HandedOut}
+use Rattle.history.specs.declared.view.View.{View}
+
+module _ {T : Type 0} where
+  abbrev pub puts : Event T → ℕ
+  puts (Published p item) = 1
+  puts e = 0
+
+  abbrev pub gets : Event T → ℕ
+  gets (HandedOut p item) = 1
+  gets e = 0
+
+  -- the pass has published and taken out so many more itself
+  pub record HasDone (put got : ℕ) (old new : View T) : Type 0 where
+    pub puts_more : sum_by puts new.made ≡ sum_by puts old.made + put
+    pub gets_more : sum_by gets new.made ≡ sum_by gets old.made + got

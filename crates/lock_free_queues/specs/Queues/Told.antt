@@ -1,0 +1,155 @@
+-- What the calls on a queue add to its history, and what they answer, of queues of any items.
+use Rattle.std.specs.Prelude.{◌≡◌, ◌⊎◌, ℕ, ◌-◌, ◌^◌, Bool, true, false, Option, Some, None, List, [], ◌∷◌, ◌++◌, length}
+use Rattle.steps.specs.declared.queues.roles.Role.{Role}
+use Rattle.model.specs.declared.event.Answer.{Answer}
+use Rattle.model.specs.declared.event.Answer.TheVariants.{Truth, Done, PoppedNone, PoppedIndex, Popped}
+use Rattle.model.specs.declared.event.Event.{Event}
+use Rattle.model.specs.declared.event.Event.TheVariants.{Published, HandedOut, Acted, Finished}
+use Rattle.model.specs.declared.event.Item.{Item}
+use Rattle.model.specs.declared.event.Item.TheVariants.{Index, Value}
+use Rattle.model.specs.declared.event.Start.TheVariants.{Queues}
+use Rattle.model.specs.declared.families.queues.QueueStart.{QueueStart}
+use Rattle.model.specs.declared.families.queues.QueueStart.TheVariants.{PushIndex, Push, Pop}
+use Rattle.model.specs.declared.families.queues.calls.LengthOf.{LengthOf}
+use Rattle.model.specs.Families.Queues.Calls.{length_answer}
+use Rattle.model.specs.Families.Queues.Reading.{published, handed_out, waiting}
+use Rattle.model.specs.Moments.{HeldOnce}
+use Rattle.lock_free_sp.specs.Shares.{half_of, both_of, IsAll}
+use Rattle.history.specs.declared.view.View.{View}
+use Rattle.history.specs.History.{Called, IsBeginning}
+use Rattle.history.specs.Queues.{length_start}
+use Rattle.history.specs.Roles.{acquire_start, release_start}
+
+module _ {T : Type 0} where
+  -- ---- pushes
+
+  -- the push of an item
+  abbrev pub push_of : Item T → QueueStart T
+  push_of (Index index) = PushIndex index
+  push_of (Value value) = Push value
+
+  abbrev pub push_told : ℕ → Item T → Bool → List (Event T)
+  push_told p item true = Published p item ∷ Acted p (Queues (push_of item)) (Truth true) ∷ []
+  push_told p item false = Acted p (Queues (push_of item)) (Truth false) ∷ []
+
+  -- the push is a call of the history, which published the item where it took it
+  pub record HasPushed (item : Item T) (taken : Bool) (old new : View T) : Type 0 where
+    pub by : ℕ
+    pub mine : new.party ≡ Some by
+    pub called : Called by (Queues (push_of item)) (Truth taken) (push_told by item taken) old new
+
+  -- it is none, but a look at a queue whose last position is reached
+  pub record WasAtEnd (old new : View T) : Type 0 where
+    pub since : IsBeginning old.seen new.seen
+    pub made : new.made ≡ old.made
+    pub end : length (published new.seen) ≡ 2 ^ 64 - 1
+    pub list : published new.seen ≡ published old.seen
+
+  -- The item was published after all that was seen. Its position is the number of those that were published before it, and
+  -- these are all known: right after the last one that was seen.
+  pub record HasPublished (item : Item T) (old new : View T) : Type 0 where
+    pub by : ℕ
+    pub before : List (Event T)
+    pub after : List (Event T)
+    pub is : new.seen ≡ before ++ Published by item ∷ after
+    pub since : IsBeginning old.seen before
+    pub next : published before ≡ published old.seen
+    pub list : published new.seen ≡ published old.seen ++ item ∷ []
+
+  -- as it acted capacity values waited
+  pub record WasFull (capacity : ℕ) (item : Item T) (old new : View T) : Type 0 where
+    pub by : ℕ
+    pub before : List (Event T)
+    pub after : List (Event T)
+    pub is : new.seen ≡ before ++ Acted by (Queues (push_of item)) (Truth false) ∷ after
+    pub since : IsBeginning old.seen before
+    pub next : published before ≡ published old.seen
+    pub full : length (waiting before) ≡ capacity
+    pub list : published new.seen ≡ published old.seen
+
+  -- ---- pops
+
+  -- the answer of a pop
+  abbrev pub popped_item : Option (Item T) → Answer T
+  popped_item None = PoppedNone
+  popped_item (Some (Index index)) = PoppedIndex index
+  popped_item (Some (Value value)) = Popped value
+
+  abbrev pub pop_told : ℕ → Option (Item T) → List (Event T)
+  pop_told p (Some item) = HandedOut p item ∷ Acted p (Queues Pop) (popped_item (Some item)) ∷ []
+  pop_told p None = Acted p (Queues Pop) (popped_item None) ∷ []
+
+  -- the pop is a call of the history, which took out the item that it answers
+  pub record HasPopped (answer : Option (Item T)) (old new : View T) : Type 0 where
+    pub by : ℕ
+    pub mine : new.party ≡ Some by
+    pub called : Called by (Queues Pop) (popped_item answer) (pop_told by answer) old new
+
+  -- the item was taken out after all that was seen, at the position right after the last one that was seen to be taken
+  pub record HasTakenOut (item : Item T) (old new : View T) : Type 0 where
+    pub by : ℕ
+    pub before : List (Event T)
+    pub after : List (Event T)
+    pub is : new.seen ≡ before ++ HandedOut by item ∷ after
+    pub since : IsBeginning old.seen before
+    pub next : handed_out before ≡ handed_out old.seen
+    pub list : handed_out new.seen ≡ handed_out old.seen ++ item ∷ []
+
+  -- as it acted nothing waited
+  pub record WasEmpty (old new : View T) : Type 0 where
+    pub by : ℕ
+    pub before : List (Event T)
+    pub after : List (Event T)
+    pub is : new.seen ≡ before ++ Acted by (Queues Pop) (popped_item None) ∷ after
+    pub since : IsBeginning old.seen before
+    pub next : handed_out before ≡ handed_out old.seen
+    pub empty : waiting before ≡ []
+    pub list : handed_out new.seen ≡ handed_out old.seen
+
+  -- ---- lengths
+
+  -- the answer is that of the number that waited at one moment of the call
+  pub record HasMeasured (which : LengthOf) (capacity : ℕ) (answer : Answer T) (old new : View T)
+      : Type 0 where
+    pub by : ℕ
+    pub mine : new.party ≡ Some by
+    pub called : Called by (Queues (length_start which)) answer [] old new
+    pub before : List (Event T)
+    pub is : new.seen ≡ before ++ Finished by (Queues (length_start which)) answer ∷ []
+    pub stood : HeldOnce by (λ part. answer ≡ length_answer which capacity (length (waiting part))) before
+
+  -- ---- roles
+
+  pub record HasAcquired (role : Role) (taken : Bool) (old new : View T) : Type 0 where
+    pub by : ℕ
+    pub mine : new.party ≡ Some by
+    pub called : Called by (Queues (acquire_start role)) (Truth taken) [] old new
+
+  pub record HasReleased (role : Role) (old new : View T) : Type 0 where
+    pub by : ℕ
+    pub mine : new.party ≡ Some by
+    pub called : Called by (Queues (release_start role)) Done [] old new
+
+  -- ---- passes
+
+  -- a new pass has seen the same and made nothing; the share is halved
+  pub record HasSplit (old left right : View T) : Type 0 where
+    pub seen : left.seen ≡ old.seen
+    pub made : left.made ≡ old.made
+    pub right_seen : right.seen ≡ old.seen
+    pub right_made : right.made ≡ []
+    pub share : left.share ≡ half_of old.share
+    pub right_share : right.share ≡ half_of old.share
+
+  -- what both had seen are beginnings of one history; who has the whole share then had seen all of it
+  pub record HasJoined (mine theirs new : View T) : Type 0 where
+    pub made : new.made ≡ mine.made ++ theirs.made
+    pub share : new.share ≡ both_of mine.share theirs.share
+    pub ours : IsBeginning mine.seen new.seen
+    pub others : IsBeginning theirs.seen new.seen
+    pub whole : IsAll new.share → (new.seen ≡ mine.seen) ⊎ (new.seen ≡ theirs.seen)
+
+  -- it has made nothing, and with the whole share there was nothing more to see
+  pub record HasLooked (old new : View T) : Type 0 where
+    pub made : new.made ≡ old.made
+    pub whole : IsAll old.share → new.seen ≡ old.seen

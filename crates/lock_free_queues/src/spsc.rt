@@ -1,0 +1,2 @@
+//! One producer and one consumer at a time.
+pub mod index_queue;

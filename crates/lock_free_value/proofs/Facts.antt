@@ -1,0 +1,335 @@
+-- What is known of whole calls on a value.
+use Rattle.std.proofs.Common.{◌≡◌, inl, inr, ℕ, ◌+◌, ◌-◌, ◌^◌, ◌<◌, ◌==◌, Bool, true, false, Some, None, List, [], ◌∷◌, ◌++◌, length, replicate, slice_index, sum_by, refl, sym, ap, subst, ◌∙◌, append_assoc, append-nil, length-append, arith}
+use Rattle.std.proofs.lemmas.Bool.Decides.{nat_tests}
+use Rattle.std.proofs.lemmas.List.Concat.{flat_map-append}
+use Rattle.std.proofs.lemmas.List.Sums.{fold-append, sum_by-append}
+use Rattle.std.specs.List.{flat_map}
+use Rattle.steps.specs.declared.ask.Ask.{Ask}
+use Rattle.steps.specs.declared.ask.Op.TheVariants.{Load as Loads}
+use Rattle.steps.specs.declared.ask.Want.TheVariants as wants
+use Rattle.steps.specs.declared.atomic.StoreStage as stages
+use Rattle.steps.specs.Atomic.{store_asks}
+use Rattle.model.specs.declared.event.Answer.{Answer}
+use Rattle.model.specs.declared.event.Answer.TheVariants.{Truth, Loaded, Done}
+use Rattle.model.specs.declared.event.Event.{Event}
+use Rattle.model.specs.declared.event.Event.TheVariants.{Begun, Acted, Finished}
+use Rattle.model.specs.declared.event.Start.{Start}
+use Rattle.model.specs.declared.event.Start.TheVariants.{Atomic}
+use Rattle.model.specs.declared.families.atomic.AtomicStart.TheVariants.{AcquireProducer, ReleaseProducer, Store, Load}
+use Rattle.model.specs.declared.turn.Kind.TheVariants as kinds
+use Rattle.model.specs.Coding.{Coding}
+use Rattle.model.specs.Families.Atomic.Reading.{holder_after, holder_of}
+use Rattle.model.specs.Families.Atomic.Roles.{GrantsRight}
+use Rattle.model.specs.Reading.{Each, whose, is_party}
+use Rattle.atomic_laws.specs.Stored.{stores, stored}
+use Rattle.lock_free_sp.specs.Shares.{IsAll}
+use Rattle.history.specs.declared.view.View.{View}
+use Rattle.history.specs.History.{IsHistory, Called, IsBeginning}
+use Rattle.history.specs.Known.{events_by}
+use Rattle.history.specs.Stages.{Calling, opened, Ends, Over}
+use Rattle.history.specs.Views.{Looks}
+use Rattle.history.specs.Value.{ByProducer, HasProducer, takes_producer, gives_producer, acquires_producer, releases_producer, store_skips, stores_value, value_of_room, loads_value, last_or, IsLast}
+use Rattle.history.proofs.Drives.{called}
+use Rattle.history.proofs.Known.{by_more}
+use Rattle.history.proofs.ValueHolders.{history_by_producers, back_over, forth_over, ArePlain}
+use Rattle.history.proofs.ValueLaws.{load_tells, last_is, version_is_count}
+use Rattle.history.proofs.Values.{value_goes_on, producer_by}
+use Rattle.lock_free_value.specs.Calls.{GoesOn, WasAtEnd}
+use Rattle.lock_free_value.specs.Roles.{Moved}
+use Rattle.lock_free_value.specs.Told.{HasAcquired, HasReleased, HasStored, HasLoaded}
+
+module _ {T : Type 0} where
+  -- the first event of the party stands somewhere
+  find_own : (p : ℕ) (xs es : List (Event T)) (e : Event T) → events_by p xs ≡ e ∷ es → (ls : List (Event T)) × (rs : List (Event T)) × (xs ≡ ls ++ e ∷ rs) × (events_by p ls ≡ []) × (events_by p rs ≡ es)
+  find_own p [] es e is = absurd (cc)
+  find_own p (x ∷ xs) es e is = go (λ rest. find_own p xs es e rest) (is_party p (whose x)) refl
+    where
+      go : (events_by p xs ≡ e ∷ es → (ls : List (Event T)) × (rs : List (Event T)) × (xs ≡ ls ++ e ∷ rs) × (events_by p ls ≡ []) × (events_by p rs ≡ es)) → (b : Bool) → is_party p (whose x) ≡ b → (ls : List (Event T)) × (rs : List (Event T)) × (x ∷ xs ≡ ls ++ e ∷ rs) × (events_by p ls ≡ []) × (events_by p rs ≡ es)
+      go later true t =
+          let here : x ∷ events_by p xs ≡ e ∷ es = rw t at is in
+          let same : x ≡ e = cc in
+          let more : events_by p xs ≡ es = cc in
+          ([], xs, ap (λ z. z ∷ xs) same, refl, more)
+      go later false t =
+          let rest : events_by p xs ≡ e ∷ es = rw t at is in
+          let more = later rest in
+          (x ∷ more.0, more.1, ap (λ zs. x ∷ zs) more.2, rw t more.3, more.4)
+
+  -- the first event that a call wrote, with what stood before it
+  pub record Wrote (p : ℕ) (e : Event T) (own : List (Event T)) (base w : View T) : Type 0 where
+    pub before : List (Event T)
+    pub after : List (Event T)
+    pub is : w.seen ≡ before ++ e ∷ after
+    pub since : IsBeginning base.seen before
+    pub mine : events_by p after ≡ own
+    -- where the party held the role there, nobody else stored since
+    pub next : Each ByProducer w.seen → holder_of before ≡ Some p → stored before ≡ stored base.seen
+
+  each_left : {P : List (Event T) → Event T → Type 0} (xs ys : List (Event T)) → Each P (xs ++ ys) → Each P xs
+  each_left xs ys each before after e is = each before (after ++ ys) e (ap (λ zs. zs ++ ys) is ∙ append_assoc before (e ∷ after) ys)
+
+  module _ (p : ℕ) (start : Start T) (seen others part : List (Event T)) (each : Each ByProducer ((seen ++ others) ++ Begun p start ∷ part)) (none_others : events_by p others ≡ []) (none_part : events_by p part ≡ []) (holds : holder_of ((seen ++ others) ++ Begun p start ∷ part) ≡ Some p) where
+    split : ((seen ++ others) ++ Begun p start ∷ []) ++ part ≡ (seen ++ others) ++ Begun p start ∷ part
+    split = append_assoc (seen ++ others) (Begun p start ∷ []) part
+
+    later : (holder_of ((seen ++ others) ++ Begun p start ∷ []) ≡ Some p) × (flat_map stores part ≡ [])
+    later = back_over p ((seen ++ others) ++ Begun p start ∷ []) part (subst (Each ByProducer) (sym split) each) none_part (ap holder_of split ∙ holds)
+
+    earlier : (holder_of seen ≡ Some p) × (flat_map stores others ≡ [])
+    earlier =
+        let back : holder_of (seen ++ others) ≡ Some p = sym (fold-append holder_after None (seen ++ others) (Begun p start ∷ [])) ∙ later.0 in
+        back_over p seen others (each_left (seen ++ others) (Begun p start ∷ part) each) none_others back
+
+    none_between : stored ((seen ++ others) ++ Begun p start ∷ part) ≡ stored seen
+    none_between =
+        flat_map-append stores (seen ++ others) (Begun p start ∷ part)
+        ∙ (ap (λ zs. stored (seen ++ others) ++ zs) later.1
+        ∙ (append-nil (stored (seen ++ others))
+        ∙ (flat_map-append stores seen others ∙ (ap (λ zs. stored seen ++ zs) earlier.1 ∙ append-nil (stored seen)))))
+
+  it_is : (p : ℕ) (start : Start T) (answer : Answer T) → events_by p (Finished p start answer ∷ []) ≡ Finished p start answer ∷ []
+  it_is p start answer = (let t : (p == p) ≡ true = grind (arith, nat_tests) in rw t refl)
+
+  first_wrote : (p : ℕ) (start : Start T) (answer : Answer T) (e : Event T) (es : List (Event T)) (base w : View T) → Called p start answer (e ∷ es) base w → Wrote p e (es ++ Finished p start answer ∷ []) base w
+  first_wrote p start answer e es base w c =
+      let part = find_own p c.during es e c.during_own in
+      let xs : List (Event T) = base.seen ++ c.others in
+      let last : List (Event T) = Finished p start answer ∷ [] in
+      let whole : w.seen ≡ (xs ++ Begun p start ∷ part.0) ++ e ∷ (part.1 ++ last) =
+      c.is
+      ∙ (ap (λ ds. xs ++ Begun p start ∷ (ds ++ last)) part.2
+      ∙ (ap (λ zs. xs ++ Begun p start ∷ zs) (append_assoc part.0 (e ∷ part.1) last)
+      ∙ sym (append_assoc xs (Begun p start ∷ part.0) (e ∷ (part.1 ++ last)))))
+      in
+      record {
+        before = xs ++ Begun p start ∷ part.0;
+        after = part.1 ++ last;
+        is = whole;
+        since = record { rest = c.others ++ Begun p start ∷ part.0; is = append_assoc base.seen c.others (Begun p start ∷ part.0) };
+        mine = by_more p part.1 last ∙ (ap (λ zs. zs ++ events_by p last) part.4 ∙ ap (λ zs. es ++ zs) (it_is p start answer));
+        next = λ each holds. none_between p start base.seen c.others part.0 (each_left (xs ++ Begun p start ∷ part.0) (e ∷ (part.1 ++ last)) (subst (Each ByProducer) whole each)) c.others_own part.3 holds;
+      }
+
+  -- ---- what the role came to, by what was made
+
+  moved : (taken given : ℕ) (old new more : List (Event T)) → new ≡ old ++ more → sum_by takes_producer more ≡ taken → sum_by gives_producer more ≡ given → Moved taken given old new
+  moved taken given old new more is t g =
+      let a = sum_by-append takes_producer old more in
+      let b = sum_by-append gives_producer old more in
+      let c : sum_by takes_producer new ≡ sum_by takes_producer (old ++ more) = ap (sum_by takes_producer) is in
+      let d : sum_by gives_producer new ≡ sum_by gives_producer (old ++ more) = ap (sum_by gives_producer) is in
+      record { takes = omega arith; gives = omega arith }
+
+-- a store is left out where its first load finds the last version
+ends_at : {T : Type 0} (code : Coding T) (x : T) (stage : stages.StoreStage) (n : ℕ) (a : Ask) → store_skips stage n ≡ true → store_asks code.words_of stage x ≡ wants.Ask a → (a.word ≡ 0) × (n ≡ 2 ^ 64 - 1)
+ends_at code x stages.TheVariants.LoadsVersion n a t e = (let is : record { word = 0; op = Loads } ≡ a = cc in (ap (λ (z : Ask). z.word) (sym is), grind (arith, nat_tests)))
+ends_at code x (stages.TheVariants.StoresCell cell at) n a t e = absurd (cc)
+ends_at code x stages.TheVariants.AddsVersion n a t e = absurd (cc)
+
+module _ {T : Type 0} (code : Coding T) (base w : View T) (idle : base.going ≡ None) (one : base.capacity ≡ 1) where
+  -- ---- what every call leaves
+
+  pub record Leaves : Type 0 where
+    pub goes : GoesOn code base w
+    pub sized : w.capacity ≡ 1
+    pub quiet : w.going ≡ None
+    pub alone : w.other ≡ []
+    pub begun : 0 < length (stored base.seen) → 0 < length (stored w.seen)
+
+  begun_still : IsBeginning base.seen w.seen → 0 < length (stored base.seen) → 0 < length (stored w.seen)
+  begun_still h some =
+      let whole : length (stored w.seen) ≡ length (stored base.seen ++ stored h.rest) = ap (λ es. length (stored es)) h.is ∙ ap length (flat_map-append stores base.seen h.rest) in
+      let long = length-append (stored base.seen) (stored h.rest) in
+      omega arith
+
+  module _ {C M E : Type 0} (call : Calling T C M E) where
+    ends_leaves : (e : E) (m : M) → Ends code kinds.Atomic call base e m w → Leaves
+    ends_leaves e m ends =
+        let since : IsBeginning base.seen w.seen = record { rest = ends.since.others ++ (opened ends.party call.start base.going ++ (ends.since.during ++ Finished ends.party call.start (call.answer e m) ∷ [])); is = ends.since.is ∙ append_assoc base.seen ends.since.others _ } in
+        record {
+          goes =
+              record {
+                share = ends.share;
+                since = since;
+                history = subst (λ n. IsHistory code kinds.Atomic n w.seen) one ends.history;
+                all = λ whole. ends.all (subst IsAll ends.share whole);
+              };
+          sized = ends.capacity ∙ one;
+          quiet = ends.idle;
+          alone = ends.alone;
+          begun = begun_still since;
+        }
+
+    pub leaves : (e : E) (m : M) → Over code kinds.Atomic call base e m w → Leaves
+    leaves e m (inl ends) = ends_leaves e m ends
+    leaves e m (inr left) =
+        let looked = left.looked in
+        record {
+          goes =
+              record {
+                share = looked.share;
+                since = looked.mine;
+                history = subst (λ n. IsHistory code kinds.Atomic n w.seen) one looked.history;
+                all = λ whole. looked.all (subst IsAll looked.share whole);
+              };
+          sized = looked.capacity ∙ one;
+          quiet = looked.going ∙ idle;
+          alone = looked.other;
+          begun = begun_still looked.mine;
+        }
+
+  -- the promise of the machine, of what was seen
+  grants : IsHistory code kinds.Atomic base.capacity w.seen → Each GrantsRight w.seen
+  grants h = subst (Each GrantsRight) (sym h.is) (value_goes_on code base.capacity h.trace h.run).roles
+
+  producers : IsHistory code kinds.Atomic base.capacity w.seen → Each ByProducer w.seen
+  producers h = history_by_producers code base.capacity w.seen h
+
+  -- ---- the role
+
+  pub acquired : (b : Bool) (m : Unit {0}) → Ends code kinds.Atomic acquires_producer base b m w → HasAcquired b base w
+  acquired b m ends = record { by = ends.party; mine = ends.mine; called = subst (λ es. Called ends.party (Atomic AcquireProducer) (Truth b) es base w) ends.tells (called code kinds.Atomic acquires_producer base w b m idle ends) }
+
+  pub taken_once : (b : Bool) (m : Unit {0}) → Ends code kinds.Atomic acquires_producer base b m w → b ≡ true → Moved 1 0 base.made w.made
+  unfolding acquired
+  taken_once b m ends is =
+      let c = (acquired b m ends).called in
+      let p = ends.party in
+      moved 1 0 base.made w.made (Begun p (Atomic AcquireProducer) ∷ Finished p (Atomic AcquireProducer) (Truth true) ∷ []) (c.made ∙ ap (λ z. base.made ++ Begun p (Atomic AcquireProducer) ∷ Finished p (Atomic AcquireProducer) (Truth z) ∷ []) is) refl refl
+
+  pub not_taken : (b : Bool) (m : Unit {0}) → Ends code kinds.Atomic acquires_producer base b m w → b ≡ false → Moved 0 0 base.made w.made
+  unfolding acquired
+  not_taken b m ends is =
+      let c = (acquired b m ends).called in
+      let p = ends.party in
+      moved 0 0 base.made w.made (Begun p (Atomic AcquireProducer) ∷ Finished p (Atomic AcquireProducer) (Truth false) ∷ []) (c.made ∙ ap (λ z. base.made ++ Begun p (Atomic AcquireProducer) ∷ Finished p (Atomic AcquireProducer) (Truth z) ∷ []) is) refl refl
+
+  -- the events of a call whose end alone is its own
+  pub released : (e m : Unit {0}) → Ends code kinds.Atomic releases_producer base e m w → HasReleased base w
+  released e m ends =
+      let p = ends.party in
+      let start : Start T = Atomic ReleaseProducer in
+      let c : Called p start Done [] base w = subst (λ es. Called p start Done es base w) ends.tells (called code kinds.Atomic releases_producer base w e m idle ends) in
+      let last : Event T = Finished p start Done in
+      let xs : List (Event T) = (base.seen ++ c.others) ++ Begun p start ∷ c.during in
+      let is : w.seen ≡ xs ++ last ∷ [] = c.is ∙ sym (append_assoc (base.seen ++ c.others) (Begun p start ∷ c.during) (last ∷ [])) in
+      let each : Each ByProducer xs = each_left xs (last ∷ []) (subst (Each ByProducer) is (producers ends.history)) in
+      let held : holder_of xs ≡ Some p = (grants ends.history xs [] last is).1 in
+      record {
+        by = p;
+        mine = ends.mine;
+        called = c;
+        list = ap stored is ∙ (flat_map-append stores xs (last ∷ []) ∙ (append-nil (stored xs) ∙ none_between p start base.seen c.others c.during each c.others_own c.during_own held));
+      }
+
+  pub given_once : (e m : Unit {0}) → Ends code kinds.Atomic releases_producer base e m w → Moved 0 1 base.made w.made
+  unfolding released
+  given_once e m ends =
+      let c = (released e m ends).called in
+      let p = ends.party in
+      moved 0 1 base.made w.made (Begun p (Atomic ReleaseProducer) ∷ Finished p (Atomic ReleaseProducer) Done ∷ []) c.made refl refl
+
+  -- a look of who has the role finds nothing that another stored
+  looked_alone : Looks code kinds.Atomic base.capacity base w → base.other ≡ [] → 0 < base.share.part → HasProducer base.made → stored w.seen ≡ stored base.seen
+  looked_alone l alone some has =
+      let right : Each GrantsRight w.seen = grants l.history in
+      let by = producer_by l.parties.owner l.parties.seat w.seen w.made right l.parties.sums (subst HasProducer (sym l.made) has) in
+      let each : Each ByProducer (base.seen ++ l.mine.rest) = subst (Each ByProducer) l.mine.is (producers l.history) in
+      let none = back_over by.0 base.seen l.mine.rest each (l.apart alone some by.0 by.1) (ap holder_of (sym l.mine.is) ∙ by.2) in
+      ap stored l.mine.is ∙ (flat_map-append stores base.seen l.mine.rest ∙ (ap (λ zs. stored base.seen ++ zs) none.1 ∙ append-nil (stored base.seen)))
+
+  -- ---- stores
+
+  module _ (x : T) where
+    abbrev act : ℕ → Event T
+    act p = Acted p (Atomic (Store x)) (Truth true)
+
+    abbrev end : ℕ → Event T
+    end p = Finished p (Atomic (Store x)) (Truth true)
+
+    stored_so : (m : Unit {0}) → (ends : Ends code kinds.Atomic (stores_value code x) base true m w) → Called ends.party (Atomic (Store x)) (Truth true) (act ends.party ∷ []) base w
+    stored_so m ends = subst (λ es. Called ends.party (Atomic (Store x)) (Truth true) es base w) ends.tells.1 (called code kinds.Atomic (stores_value code x) base w true m idle ends)
+
+    has_stored : (m : Unit {0}) → Ends code kinds.Atomic (stores_value code x) base true m w → HasStored x base w
+    has_stored m ends =
+        let p = ends.party in
+        let c = stored_so m ends in
+        let at = first_wrote p (Atomic (Store x)) (Truth true) (act p) [] base w c in
+        let all = producers ends.history in
+        let right = grants ends.history in
+        let holds : holder_of at.before ≡ Some p = all at.before at.after (act p) at.is in
+        let split : w.seen ≡ (at.before ++ act p ∷ []) ++ at.after = at.is ∙ sym (append_assoc at.before (act p ∷ []) at.after) in
+        let now : holder_of (at.before ++ act p ∷ []) ≡ Some p = fold-append holder_after None at.before (act p ∷ []) ∙ holds in
+        let rest : flat_map stores at.after ≡ [] = forth_over p (at.before ++ act p ∷ []) at.after (subst (Each ByProducer) split all) (subst (Each GrantsRight) split right) (subst (ArePlain p) (sym at.mine) ((refl, refl), tt)) now in
+        let next : stored at.before ≡ stored base.seen = at.next all holds in
+        record {
+          by = p;
+          mine = ends.mine;
+          called = c;
+          before = at.before;
+          after = at.after;
+          is = at.is;
+          since = at.since;
+          next = next;
+          list = ap stored at.is ∙ (flat_map-append stores at.before (act p ∷ at.after) ∙ (ap (λ zs. stored at.before ++ x ∷ zs) rest ∙ ap (λ zs. zs ++ x ∷ []) next));
+        }
+
+    pub stored_if : (e : Bool) (m : Unit {0}) → Over code kinds.Atomic (stores_value code x) base e m w → e ≡ true → HasStored x base w
+    stored_if e m (inl ends) is = has_stored m (subst (λ b. Ends code kinds.Atomic (stores_value code x) base b m w) is ends)
+    stored_if e m (inr left) is = (let no : false ≡ true = sym left.left ∙ is in absurd (cc))
+
+    pub at_end_if : base.other ≡ [] → 0 < base.share.part → HasProducer base.made → (e : Bool) (m : Unit {0}) → Over code kinds.Atomic (stores_value code x) base e m w → e ≡ false → WasAtEnd base w
+    at_end_if alone some has e m (inl ends) is = (let no : true ≡ false = sym ends.tells.0 ∙ is in absurd (cc))
+    at_end_if alone some has e m (inr left) is =
+        let at = ends_at code x left.from.stage left.word left.ask left.skipped left.asks in
+        let word : slice_index left.trace.world.words 0 ≡ 2 ^ 64 - 1 = ap (λ n. slice_index left.trace.world.words n) (sym at.0) ∙ (left.found ∙ at.1) in
+        record {
+          made = left.looked.made;
+          end = ap (λ es. length (stored es) + 1) left.seen ∙ (sym (version_is_count code base.capacity left.trace left.run) ∙ word);
+          list = looked_alone left.looked alone some has;
+        }
+
+    pub store_moves : (e : Bool) (m : Unit {0}) → Over code kinds.Atomic (stores_value code x) base e m w → Moved 0 0 base.made w.made
+    store_moves e m (inl ends) =
+        let p = ends.party in
+        let yes = subst (λ b. Ends code kinds.Atomic (stores_value code x) base b m w) ends.tells.0 ends in
+        let q = yes.party in
+        moved 0 0 base.made w.made (Begun q (Atomic (Store x)) ∷ act q ∷ end q ∷ []) (stored_so m yes).made refl refl
+    store_moves e m (inr left) = moved 0 0 base.made w.made [] (left.looked.made ∙ sym (append-nil base.made)) refl refl
+
+  -- ---- loads
+
+  module _ {R : Type 0} (words_in : R → List ℕ) (some : 0 < length (stored base.seen)) where
+    abbrev value_there : R → T
+    value_there m = value_of_room code words_in m
+
+    loaded_so : (e : Unit {0}) (m : R) → (ends : Ends code kinds.Atomic (loads_value code words_in) base e m w) → Called ends.party (Atomic Load) (Loaded (value_there m)) (Acted ends.party (Atomic Load) (Loaded (value_there m)) ∷ []) base w
+    loaded_so e m ends = subst (λ es. Called ends.party (Atomic Load) (Loaded (value_there m)) es base w) ends.tells (called code kinds.Atomic (loads_value code words_in) base w e m idle ends)
+
+    pub has_loaded : (e : Unit {0}) (m : R) → Ends code kinds.Atomic (loads_value code words_in) base e m w → HasLoaded (value_there m) base w
+    has_loaded e m ends =
+        let p = ends.party in
+        let x = value_there m in
+        let c = loaded_so e m ends in
+        let at = first_wrote p (Atomic Load) (Loaded x) (Acted p (Atomic Load) (Loaded x)) [] base w c in
+        let first : T = code.value_of (replicate code.size 0) in
+        let is : x ≡ last_or first (stored at.before) = load_tells code base.capacity w.seen ends.history p x at.before at.after at.is in
+        let whole : length (stored at.before) ≡ length (stored base.seen ++ stored at.since.rest) = ap (λ es. length (stored es)) at.since.is ∙ ap length (flat_map-append stores base.seen at.since.rest) in
+        let long = length-append (stored base.seen) (stored at.since.rest) in
+        let last = last_is first (stored at.before) (omega arith) in
+        record {
+          by = p;
+          mine = ends.mine;
+          called = c;
+          before = at.before;
+          after = at.after;
+          is = at.is;
+          since = at.since;
+          last = subst (λ y. IsLast y (stored at.before)) (sym is) last;
+        }
+
+    pub load_moves : (e : Unit {0}) (m : R) → Ends code kinds.Atomic (loads_value code words_in) base e m w → Moved 0 0 base.made w.made
+    load_moves e m ends =
+        let p = ends.party in
+        let answer : Answer T = Loaded (value_there m) in
+        moved 0 0 base.made w.made (Begun p (Atomic Load) ∷ Acted p (Atomic Load) answer ∷ Finished p (Atomic Load) answer ∷ []) (loaded_so e m ends).made refl refl

@@ -1,0 +1,166 @@
+-- The words with which a value's table opens, as they are filled in.
+use Rattle.std.proofs.Common.{◌≡◌, ℕ, zero, suc, ◌+◌, ◌*◌, ◌<◌, nat_lt, if◌then◌else◌, Bool, true, false, List, [], ◌∷◌, ◌++◌, length, get_or, replicate, set, refl, sym, ap, ◌∙◌, length-append, arith}
+use Rattle.std.proofs.lemmas.Bool.Decides.{nat_tests}
+use Rattle.std.proofs.lemmas.List.{length-replicate, replicate_more}
+use Rattle.std.proofs.lemmas.List.Concat.{flat_map-append}
+use Rattle.std.proofs.lemmas.List.Sums.{sum_by-append}
+use Rattle.model.specs.declared.event.Answer.TheVariants.{Done}
+use Rattle.model.specs.declared.event.Event.{Event}
+use Rattle.model.specs.declared.event.Event.TheVariants.{Begun, Finished}
+use Rattle.model.specs.declared.event.Start.TheVariants.{Atomic}
+use Rattle.model.specs.declared.families.atomic.AtomicStart.TheVariants.{ReleaseProducer}
+use Rattle.model.specs.Coding.{Coding, IsCoding}
+use Rattle.atomic_laws.specs.Stored.{stores, stored}
+use Rattle.history.specs.Value.{takes_producer, gives_producer, HasProducer}
+use Rattle.lock_free_value.specs.Roles.{LacksProducer}
+use Rattle.atomic_laws.proofs.Core.{set_at, zeros as zero_there}
+use Rattle.history.specs.ValueOpened.{first_stores, stored_once, stored_times, opened_view, opened_cells}
+use Rattle.history.proofs.Calls.{set_left}
+use Rattle.history.proofs.Rooms.{replicate_both}
+use Rattle.history.proofs.ValueOpened.{set_right, mix, mix_step, mix_length, mix_all}
+
+-- its version
+pub first_is : (version : ℕ) → (if nat_lt version 2 then 2 else version) ≡ first_stores version + 1
+first_is zero = refl
+first_is (suc zero) = refl
+first_is (suc (suc more)) = (let t : nat_lt (suc (suc more)) 2 ≡ false = grind (arith, nat_tests) in rw t (omega arith))
+
+module _ {T : Type 0} (code : Coding T) (value : T) (version : ℕ) where
+  -- the words of the first cell in the end
+  abbrev firsts : List ℕ
+  firsts = if nat_lt 2 version then code.words_of value else replicate code.size 0
+
+  -- so many words of both cells are filled in
+  abbrev pub filling : ℕ → List ℕ
+  filling at = (first_stores version + 1) ∷ 1 ∷ ((mix at firsts (replicate code.size 0) ++ mix at (code.words_of value) (replicate code.size 0)) ++ 0 ∷ [])
+
+module _ {T : Type 0} (code : Coding T) (law : IsCoding code) (value : T) (version : ℕ) where
+  abbrev ws : List ℕ
+  ws = code.words_of value
+
+  abbrev zeros : List ℕ
+  zeros = replicate code.size 0
+
+  abbrev first_words : List ℕ
+  first_words = firsts code value version
+
+  abbrev filled : ℕ → List ℕ
+  filled at = filling code value version at
+
+  zeros_long : length zeros ≡ code.size
+  zeros_long = length-replicate code.size 0
+
+  firsts_long : length first_words ≡ code.size
+  firsts_long = go (nat_lt 2 version) refl
+    where
+      go : (b : Bool) → nat_lt 2 version ≡ b → length first_words ≡ code.size
+      go true t = rw t (law.sized value)
+      go false t = rw t zeros_long
+
+  -- the word that is stored there
+  pub first_word : (at : ℕ) → (if nat_lt 2 version then get_or ws at 0 else 0) ≡ get_or first_words at 0
+  first_word at = go (nat_lt 2 version) refl
+    where
+      go : (b : Bool) → nat_lt 2 version ≡ b → (if nat_lt 2 version then get_or ws at 0 else 0) ≡ get_or first_words at 0
+      go true t = rw t refl
+      go false t = rw t (sym (zero_there code.size at 0))
+
+  pub begins : set (set (replicate (code.size * 2 + 2 + 1) 0) 0 (first_stores version + 1)) 1 1 ≡ filled 0
+  begins =
+      let all : code.size * 2 + 2 + 1 ≡ suc (suc ((code.size + code.size) + 1)) = omega arith in
+      let cells : replicate ((code.size + code.size) + 1) 0 ≡ (zeros ++ zeros) ++ 0 ∷ [] = sym (ap (λ zs. zs ++ 0 ∷ []) (replicate_both code.size code.size 0) ∙ replicate_more (code.size + code.size) 0) in
+      ap (λ n. set (set (replicate n 0) 0 (first_stores version + 1)) 1 1) all ∙ ap (λ zs. (first_stores version + 1) ∷ 1 ∷ zs) cells
+
+  module _ (at : ℕ) (below : at < code.size) where
+    xs_long : length (mix at first_words zeros) ≡ code.size
+    xs_long = (let a = firsts_long in let b = zeros_long in mix_length at first_words zeros (omega arith) (omega arith) ∙ b)
+
+    ys_long : length (mix at ws zeros) ≡ code.size
+    ys_long = (let a = law.sized value in let b = zeros_long in mix_length at ws zeros (omega arith) (omega arith) ∙ b)
+
+    pub steps : set (set (filled at) (2 + code.size + at) (get_or ws at 0)) (2 + at) (get_or first_words at 0) ≡ filled (suc at)
+    steps =
+        let a = firsts_long in
+        let b = zeros_long in
+        let w = law.sized value in
+        let xl = xs_long in
+        let yl = ys_long in
+        let v = first_stores version + 1 in
+        let xs = mix at first_words zeros in
+        let ys = mix at ws zeros in
+        let both = length-append xs ys in
+        let place : code.size + at ≡ length xs + at = omega arith in
+        let second : set (filled at) (2 + code.size + at) (get_or ws at 0) ≡ v ∷ 1 ∷ ((xs ++ mix (suc at) ws zeros) ++ 0 ∷ []) =
+        set_at v 1 ((xs ++ ys) ++ 0 ∷ []) (2 + code.size + at) (code.size + at) (get_or ws at 0) (omega arith)
+        ∙ ap (λ zs. v ∷ 1 ∷ zs) (set_left (xs ++ ys) (0 ∷ []) (code.size + at) (get_or ws at 0) (omega arith)
+        ∙ ap (λ zs. zs ++ 0 ∷ []) (ap (λ k. set (xs ++ ys) k (get_or ws at 0)) place ∙ (set_right xs ys at (get_or ws at 0) ∙ ap (λ zs. xs ++ zs) (mix_step at ws zeros (omega arith) (omega arith)))))
+        in
+        let more = length-append xs (mix (suc at) ws zeros) in
+        ap (λ zs. set zs (2 + at) (get_or first_words at 0)) second
+        ∙ (set_at v 1 ((xs ++ mix (suc at) ws zeros) ++ 0 ∷ []) (2 + at) at (get_or first_words at 0) refl
+        ∙ ap (λ zs. v ∷ 1 ∷ zs) (set_left (xs ++ mix (suc at) ws zeros) (0 ∷ []) at (get_or first_words at 0) (omega arith)
+        ∙ ap (λ zs. zs ++ 0 ∷ []) (set_left xs (mix (suc at) ws zeros) at (get_or first_words at 0) (omega arith)
+        ∙ ap (λ zs. zs ++ mix (suc at) ws zeros) (mix_step at first_words zeros (omega arith) (omega arith)))))
+
+  -- one turn of the loop
+  pub turns : (at n word first : ℕ) (items : List ℕ) → at < code.size → items ≡ filled at → n ≡ code.size → word ≡ get_or ws at 0 → first ≡ (if nat_lt 2 version then word else 0)
+      → set (set items (2 + n + at) word) (2 + at) first ≡ filled (at + 1)
+  turns at n word first items below here size is is_first =
+      let one : first ≡ get_or first_words at 0 = is_first ∙ (ap (λ w. if nat_lt 2 version then w else 0) is ∙ first_word at) in
+      let next : suc at ≡ at + 1 = omega arith in
+      ap (λ zs. set (set zs (2 + n + at) word) (2 + at) first) here
+      ∙ (ap (λ k. set (set (filled at) (2 + k + at) word) (2 + at) first) size
+      ∙ (ap (λ w. set (set (filled at) (2 + code.size + at) w) (2 + at) first) is
+      ∙ (ap (λ w. set (set (filled at) (2 + code.size + at) (get_or ws at 0)) (2 + at) w) one ∙ (steps at below ∙ ap filled next))))
+
+  cells_are : (n : ℕ) → (if nat_lt 2 n then ws else zeros) ++ ws ≡ opened_cells code value (first_stores n)
+  cells_are zero = refl
+  cells_are (suc zero) = refl
+  cells_are (suc (suc zero)) = refl
+  cells_are (suc (suc (suc n))) = (let t : nat_lt 2 (suc (suc (suc n))) ≡ true = grind (arith, nat_tests) in rw t refl)
+
+  pub ends : filled code.size ≡ (first_stores version + 1) ∷ 1 ∷ (opened_cells code value (first_stores version) ++ 0 ∷ [])
+  ends =
+      let one = mix_all code.size first_words zeros firsts_long zeros_long in
+      let two = mix_all code.size ws zeros (law.sized value) zeros_long in
+      ap (λ zs. (first_stores version + 1) ∷ 1 ∷ (zs ++ 0 ∷ [])) (ap (λ zs. zs ++ mix code.size ws zeros) one ∙ (ap (λ zs. first_words ++ zs) two ∙ cells_are version))
+
+-- ---- what the first pass knows
+
+module _ {T : Type 0} (value : T) where
+  times_some : (n : ℕ) → 0 < n → 0 < length (stored (stored_times value n))
+  times_some zero some = absurd (omega arith)
+  times_some (suc n) some = (let all : length (stored (stored_times value n ++ stored_once value)) ≡ length (stored (stored_times value n) ++ value ∷ []) = ap length (flat_map-append stores (stored_times value n) (stored_once value)) in let long = length-append (stored (stored_times value n)) (value ∷ []) in omega arith)
+
+  stores_some : (version : ℕ) → 0 < first_stores version
+  stores_some zero = omega arith
+  stores_some (suc zero) = omega arith
+  stores_some (suc (suc more)) = omega arith
+
+  -- something was stored
+  pub opened_some : (version : ℕ) → 0 < length (stored (opened_view value version).seen)
+  opened_some version =
+      let n = first_stores version in
+      let last : List (Event T) = Begun 0 (Atomic ReleaseProducer) ∷ Finished 0 (Atomic ReleaseProducer) Done ∷ [] in
+      let some = times_some n (stores_some version) in
+      let all : length (stored (stored_times value n ++ last)) ≡ length (stored (stored_times value n) ++ []) = ap length (flat_map-append stores (stored_times value n) last) in
+      let long = length-append (stored (stored_times value n)) [] in
+      omega arith
+
+  times_has : (n : ℕ) → HasProducer (stored_times value n)
+  times_has zero = refl
+  times_has (suc n) =
+      let t = sum_by-append takes_producer (stored_times value n) (stored_once value) in
+      let g = sum_by-append gives_producer (stored_times value n) (stored_once value) in
+      let h = times_has n in
+      omega arith
+
+  -- and the role was given back
+  pub opened_lacks : (version : ℕ) → LacksProducer (opened_view value version).made
+  opened_lacks version =
+      let n = first_stores version in
+      let last : List (Event T) = Begun 0 (Atomic ReleaseProducer) ∷ Finished 0 (Atomic ReleaseProducer) Done ∷ [] in
+      let t = sum_by-append takes_producer (stored_times value n) last in
+      let g = sum_by-append gives_producer (stored_times value n) last in
+      let h = times_has n in
+      omega arith

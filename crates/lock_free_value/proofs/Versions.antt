@@ -1,0 +1,185 @@
+-- The laws of versions.
+use Rattle.std.proofs.Common.{◌≡◌, ℕ, ◌+◌, ◌<◌, ◌≤◌, List, [], ◌∷◌, ◌++◌, length, replicate, true, refl, sym, ap, subst, ◌∙◌, append-nil, append_assoc, length-append, sum_by, arith}
+use Rattle.std.proofs.lemmas.List.Concat.{flat_map-append}
+use Rattle.std.proofs.lemmas.List.Sums.{sum_by-append}
+use Rattle.model.specs.declared.event.Answer.TheVariants.{Truth, Loaded}
+use Rattle.model.specs.declared.event.Event.{Event}
+use Rattle.model.specs.declared.event.Event.TheVariants.{Acted}
+use Rattle.model.specs.declared.event.Start.TheVariants.{Atomic}
+use Rattle.model.specs.declared.families.atomic.AtomicStart.TheVariants.{Store, Load}
+use Rattle.model.specs.declared.turn.Kind.TheVariants as kinds
+use Rattle.model.specs.Coding.{Coding}
+use Rattle.model.specs.Families.Atomic.Roles.{GrantsRight}
+use Rattle.model.specs.Reading.{Each}
+use Rattle.atomic_laws.specs.Stored.{stores, stored}
+use Rattle.history.specs.declared.view.View.{View}
+use Rattle.history.specs.History.{IsBeginning, IsHistory}
+use Rattle.history.specs.Value.{last_or, IsLast}
+use Rattle.history.proofs.Known.{sum_first}
+use Rattle.lock_free_sp.specs.Shares.{IsAll}
+use Rattle.lock_free_value.specs.Calls.{MissesNothing}
+use Rattle.history.proofs.ValueHolders.{history_by_producers}
+use Rattle.history.proofs.ValueLaws.{answers_right, load_tells}
+use Rattle.history.proofs.Values.{value_goes_on}
+use Rattle.lock_free_value.specs.Told.{HasStored, HasLoaded}
+use Rattle.lock_free_value.specs.Versions.{IsStored, IsLoaded, IsSound}
+
+-- lists that begin with as many of the same are the same so far
+same_part : {A : Type 0} (xs ys cs ds : List A) → xs ++ cs ≡ ys ++ ds → length xs ≡ length ys → xs ≡ ys
+same_part [] [] cs ds e long = refl
+same_part [] (y ∷ ys) cs ds e long = absurd (omega arith)
+same_part (x ∷ xs) [] cs ds e long = absurd (omega arith)
+same_part (x ∷ xs) (y ∷ ys) cs ds e long =
+    let first : x ≡ y = cc in
+    let rest : xs ++ cs ≡ ys ++ ds = cc in
+    ap (λ z. z ∷ xs) first ∙ ap (λ zs. y ∷ zs) (same_part xs ys cs ds rest (omega arith))
+
+last_one : {A : Type 0} (first x : A) (xs : List A) → last_or first (xs ++ x ∷ []) ≡ x
+last_one first x [] = refl
+last_one first x (y ∷ ys) = last_one y x ys
+
+none_left : {A : Type 0} (xs : List A) → length xs ≡ 0 → xs ≡ []
+none_left [] e = refl
+none_left (x ∷ xs) e = absurd (omega arith)
+
+module _ {T : Type 0} where
+  -- two stores of the same rank are one
+  same_place : (b1 b2 a1 a2 : List (Event T)) (e1 e2 : Event T) (x1 x2 : T) → stores e1 ≡ x1 ∷ [] → stores e2 ≡ x2 ∷ [] → b1 ++ e1 ∷ a1 ≡ b2 ++ e2 ∷ a2 → length (stored b1) ≡ length (stored b2) → e1 ≡ e2
+  same_place [] [] a1 a2 e1 e2 x1 x2 h1 h2 same ranks = cc
+  same_place [] (c ∷ b2) a1 a2 e1 e2 x1 x2 h1 h2 same ranks =
+      let first : e1 ≡ c = cc in
+      let one : length (stores c) ≡ 1 = ap length (sym (ap stores first) ∙ h1) in
+      let long = length-append (stores c) (stored b2) in
+      absurd (omega arith)
+  same_place (c ∷ b1) [] a1 a2 e1 e2 x1 x2 h1 h2 same ranks =
+      let first : e2 ≡ c = cc in
+      let one : length (stores c) ≡ 1 = ap length (sym (ap stores first) ∙ h2) in
+      let long = length-append (stores c) (stored b1) in
+      absurd (omega arith)
+  same_place (c ∷ b1) (d ∷ b2) a1 a2 e1 e2 x1 x2 h1 h2 same ranks =
+      let first : c ≡ d = cc in
+      let rest : b1 ++ e1 ∷ a1 ≡ b2 ++ e2 ∷ a2 = cc in
+      let alike : length (stores c) ≡ length (stores d) = ap (λ z. length (stores z)) first in
+      let long = length-append (stores c) (stored b1) in
+      let long' = length-append (stores d) (stored b2) in
+      same_place b1 b2 a1 a2 e1 e2 x1 x2 h1 h2 rest (omega arith)
+
+  -- what stands before an event, of what was stored in all
+  stored_before : (events before after : List (Event T)) (e : Event T) → events ≡ before ++ e ∷ after → stored events ≡ stored before ++ (stores e ++ stored after)
+  stored_before events before after e is = ap stored is ∙ flat_map-append stores before (e ∷ after)
+
+  before_low : (events before after : List (Event T)) (e : Event T) → events ≡ before ++ e ∷ after → length (stored before) + length (stores e) ≤ length (stored events)
+  before_low events before after e is =
+      let all = ap length (stored_before events before after e is) in
+      let long = length-append (stored before) (stores e ++ stored after) in
+      let more = length-append (stores e) (stored after) in
+      omega arith
+
+  grows : (old new : List (Event T)) → IsBeginning old new → length (stored old) ≤ length (stored new)
+  grows old new h =
+      let all : length (stored new) ≡ length (stored old ++ stored h.rest) = ap (λ es. length (stored es)) h.is ∙ ap length (flat_map-append stores old h.rest) in
+      let long = length-append (stored old) (stored h.rest) in
+      omega arith
+
+  pub stored_once : (p q v : ℕ) (x y : T) (events : List (Event T)) → IsStored p v x events → IsStored q v y events → (p ≡ q) × (x ≡ y)
+  stored_once p q v x y events a b =
+      let ra = a.rank in
+      let rb = b.rank in
+      let same : ◌≡◌ {A = Event T} (Acted p (Atomic (Store x)) (Truth true)) (Acted q (Atomic (Store y)) (Truth true)) = same_place a.before b.before a.after b.after (Acted p (Atomic (Store x)) (Truth true)) (Acted q (Atomic (Store y)) (Truth true)) x y refl refl (sym a.is ∙ b.is) (omega arith) in
+      (let l : p ≡ q = cc in l, let r : x ≡ y = cc in r)
+
+  module _ (code : Coding T) (p q v : ℕ) (x y : T) (events : List (Event T)) (h : IsHistory code kinds.Atomic 1 events) where
+    abbrev zeros : T
+    zeros = code.value_of (replicate code.size 0)
+
+    -- a load tells the value of the store at its version
+    pub stored_loaded : IsStored p v x events → IsLoaded q v y events → x ≡ y
+    stored_loaded a b =
+        let ra = a.rank in
+        let rb = b.rank in
+        let told : y ≡ last_or zeros (stored b.before) = load_tells code 1 events h q y b.before b.after b.is in
+        let one = stored_before events a.before a.after (Acted p (Atomic (Store x)) (Truth true)) a.is ∙ sym (append_assoc (stored a.before) (x ∷ []) (stored a.after)) in
+        let two = stored_before events b.before b.after (Acted q (Atomic Load) (Loaded y)) b.is in
+        let long = length-append (stored a.before) (x ∷ []) in
+        let same : stored a.before ++ x ∷ [] ≡ stored b.before = same_part (stored a.before ++ x ∷ []) (stored b.before) (stored a.after) (stored b.after) (sym one ∙ two) (omega arith) in
+        sym (told ∙ (ap (last_or zeros) (sym same) ∙ last_one zeros x (stored a.before)))
+
+    pub loaded_loaded : IsLoaded p v x events → IsLoaded q v y events → x ≡ y
+    loaded_loaded a b =
+        let ra = a.rank in
+        let rb = b.rank in
+        let one = stored_before events a.before a.after (Acted p (Atomic Load) (Loaded x)) a.is in
+        let two = stored_before events b.before b.after (Acted q (Atomic Load) (Loaded y)) b.is in
+        let same : stored a.before ≡ stored b.before = same_part (stored a.before) (stored b.before) (stored a.after) (stored b.after) (sym one ∙ two) (omega arith) in
+        load_tells code 1 events h p x a.before a.after a.is ∙ (ap (last_or zeros) same ∙ sym (load_tells code 1 events h q y b.before b.after b.is))
+
+  pub sound_history : (code : Coding T) (events : List (Event T)) → IsHistory code kinds.Atomic 1 events → IsSound code events
+  sound_history code events h =
+      record {
+        answers = answers_right code 1 events h;
+        roles = subst (Each GrantsRight) (sym h.is) (value_goes_on code 1 h.trace h.run).roles;
+        producers = history_by_producers code 1 events h;
+      }
+
+  -- ---- what stands in a beginning stands in the whole
+
+  pub still_stored : (p v : ℕ) (x : T) (old new : List (Event T)) → IsBeginning old new → IsStored p v x old → IsStored p v x new
+  still_stored p v x old new h a = record { before = a.before; after = a.after ++ h.rest; is = h.is ∙ (ap (λ es. es ++ h.rest) a.is ∙ append_assoc a.before (Acted p (Atomic (Store x)) (Truth true) ∷ a.after) h.rest); rank = a.rank }
+
+  pub still_loaded : (p v : ℕ) (x : T) (old new : List (Event T)) → IsBeginning old new → IsLoaded p v x old → IsLoaded p v x new
+  still_loaded p v x old new h a = record { before = a.before; after = a.after ++ h.rest; is = h.is ∙ (ap (λ es. es ++ h.rest) a.is ∙ append_assoc a.before (Acted p (Atomic Load) (Loaded x) ∷ a.after) h.rest); rank = a.rank }
+
+  -- ---- versions that were known
+
+  known_stored : (q v : ℕ) (y : T) (old : List (Event T)) → IsStored q v y old → v ≤ length (stored old) + 1
+  known_stored q v y old a = (let low = before_low old a.before a.after (Acted q (Atomic (Store y)) (Truth true)) a.is in let r = a.rank in omega arith)
+
+  known_loaded : (q v : ℕ) (y : T) (old : List (Event T)) → IsLoaded q v y old → v ≤ length (stored old) + 1
+  known_loaded q v y old a = (let low = before_low old a.before a.after (Acted q (Atomic Load) (Loaded y)) a.is in let r = a.rank in omega arith)
+
+  pub stored_above : (x : T) (old new : View T) → (h : HasStored x old new)
+      → IsStored h.by (length (stored old.seen) + 2) x new.seen
+      × ((q v : ℕ) (y : T) → IsStored q v y old.seen → v < length (stored old.seen) + 2)
+      × ((q v : ℕ) (y : T) → IsLoaded q v y old.seen → v < length (stored old.seen) + 2)
+  stored_above x old new h = (
+    record { before = h.before; after = h.after; is = h.is; rank = ap (λ xs. length xs + 2) (sym h.next) },
+    λ q v y a. (let low = known_stored q v y old.seen a in omega arith),
+    λ q v y a. (let low = known_loaded q v y old.seen a in omega arith),
+  )
+
+  pub loaded_above : (x : T) (old new : View T) → (h : HasLoaded x old new)
+      → IsLoaded h.by (length (stored h.before) + 1) x new.seen
+      × ((q v : ℕ) (y : T) → IsStored q v y old.seen → v ≤ length (stored h.before) + 1)
+      × ((q v : ℕ) (y : T) → IsLoaded q v y old.seen → v ≤ length (stored h.before) + 1)
+  loaded_above x old new h =
+      let more = grows old.seen h.before h.since in (
+        record { before = h.before; after = h.after; is = h.is; rank = refl },
+        λ q v y a. (let low = known_stored q v y old.seen a in omega arith),
+        λ q v y a. (let low = known_loaded q v y old.seen a in omega arith),
+      )
+
+  -- ---- who has the whole share
+
+  pub count_is : (events : List (Event T)) → sum_by (λ e. length (stores e)) events ≡ length (stored events)
+  count_is [] = refl
+  count_is (e ∷ es) =
+      let first = sum_first (λ e. length (stores e)) e es in
+      let rest = count_is es in
+      let long = length-append (stores e) (stored es) in
+      omega arith
+
+  pub newest : (x : T) (old new : View T) → HasLoaded x old new → IsAll old.share → IsAll new.share → MissesNothing old → MissesNothing new → IsLast x (stored old.seen)
+  newest x old new h was is all_old all_new =
+      let f : Event T → ℕ = λ e. length (stores e) in
+      let made : sum_by f new.made ≡ sum_by f old.made + 0 = ap (sum_by f) h.called.made ∙ sum_by-append f old.made _ in
+      let a = all_old was f in
+      let b = all_new is f in
+      let c = count_is old.seen in
+      let d = count_is new.seen in
+      let low = before_low new.seen h.before h.after (Acted h.by (Atomic Load) (Loaded x)) h.is in
+      let since : stored h.before ≡ stored old.seen ++ stored h.since.rest = ap stored h.since.is ∙ flat_map-append stores old.seen h.since.rest in
+      let long = ap length since in
+      let more = length-append (stored old.seen) (stored h.since.rest) in
+      let none : stored h.since.rest ≡ [] = none_left (stored h.since.rest) (omega arith) in
+      let same : stored h.before ≡ stored old.seen = since ∙ (ap (λ zs. stored old.seen ++ zs) none ∙ append-nil (stored old.seen)) in
+      subst (IsLast x) same h.last

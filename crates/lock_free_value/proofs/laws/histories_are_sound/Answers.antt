@@ -1,0 +1,5 @@
+use Rattle.lock_free_value.proofs.Versions.{sound_history}
+use Rattle.lock_free_value.proofs.laws.histories_are_sound.Goals as goal
+
+pub returns : goal.returns
+returns g c code events h = sound_history code events h

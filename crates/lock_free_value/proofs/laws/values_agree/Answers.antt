@@ -1,0 +1,8 @@
+use Rattle.lock_free_value.proofs.Versions.{stored_loaded, loaded_loaded}
+use Rattle.lock_free_value.proofs.laws.values_agree.Goals as goal
+
+pub returns-clause-stored : goal.returns-clause-stored
+returns-clause-stored g c code p q v x y events h a b = stored_loaded code p q v x y events h a b
+
+pub returns-clause-loaded : goal.returns-clause-loaded
+returns-clause-loaded g c code p q v x y events h a b = loaded_loaded code p q v x y events h a b

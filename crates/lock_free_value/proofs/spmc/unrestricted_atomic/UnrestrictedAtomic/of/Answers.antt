@@ -1,0 +1,65 @@
+use Rattle.std.proofs.Common.{rules, ◌≡◌, ◌<◌, ◌+◌, ◌*◌, length, replicate, slice_set, refl, sym, ap, subst, ◌∙◌, arith}
+use Rattle.model.specs.Coding.{Coding, IsCoding, coding_of}
+use Rattle.atomic_laws.specs.Stored.{stored}
+use Rattle.history.specs.declared.view.View.{View}
+use Rattle.history.specs.ValueOpened.{first_stores, opened_view}
+use Rattle.history.proofs.ValueOpened.{value_opens}
+use Rattle.lock_free_value.specs.Roles.{LacksProducer}
+use Rattle.lock_free_value.proofs.Opens.{filling, first_is, begins, turns, ends, opened_some, opened_lacks}
+use Rattle.lock_free_value.proofs.spmc.unrestricted_atomic.UnrestrictedAtomic.of.Goals as goal
+
+pub loop-at-init : goal.loop-at-init
+loop-at-init g c =
+    let met = g.met.T.Words in
+    let code : Coding g.row.T.Denot = coding_of g.T.Words.WORDS g.T.Words.words_of g.T.Words.value_of in
+    let law : IsCoding code = record { some = met.some; few = met.few; sized = met.sized; given_back = met.given_back } in
+    let v = c.args.version in
+    let first : c.opening_version.result ≡ first_stores v + 1 = c.opening_version.ensures ∙ first_is v in
+    let size : c.WORDS-second_cell.result ≡ code.size = search rules in
+    let zeros : c.in_ok-words.words.items ≡ replicate (code.size * 2 + 2 + 1) 0 = search rules in (
+      refl,
+      refl,
+      search rules,
+      ap (λ n. 2 + n) size,
+      ap (λ zs. slice_set (slice_set zs 0 c.opening_version.result) 1 1) zeros ∙ (ap (λ n. slice_set (slice_set (replicate (code.size * 2 + 2 + 1) 0) 0 n) 1 1) first ∙ begins code law c.args.value v),
+    )
+
+pub loop-at-preserved : goal.loop-at-preserved
+loop-at-preserved g c =
+    let met = g.met.T.Words in
+    let code : Coding g.row.T.Denot = coding_of g.T.Words.WORDS g.T.Words.words_of g.T.Words.value_of in
+    let law : IsCoding code = record { some = met.some; few = met.few; sized = met.sized; given_back = met.given_back } in
+    let inv = c.loop-at.invariant in
+    let last = inv.2 in
+    let second = inv.3 in
+    let below : c.loop-at.at < code.size = (let t = c.loop-at-test.true in omega arith) in (
+      inv.0,
+      inv.1,
+      inv.2,
+      inv.3,
+      turns code law c.args.value c.args.version c.loop-at.at c.WORDS-second_cell.result c.word-word.result c.first_word.result c.loop-at.words.items below inv.4 (omega arith) c.word-word.ensures c.first_word.ensures,
+    )
+
+pub of_words-requires : goal.of_words-requires
+of_words-requires g c =
+    let met = g.met.T.Words in
+    let code : Coding g.row.T.Denot = coding_of g.T.Words.WORDS g.T.Words.words_of g.T.Words.value_of in
+    let law : IsCoding code = record { some = met.some; few = met.few; sized = met.sized; given_back = met.given_back } in
+    let v = c.args.version in
+    let x = c.args.value in
+    let inv = c.loop-at.invariant in
+    let last = inv.2 in
+    let past = c.loop-at-test.false in
+    let most = c.loop-at.auto.at-end in
+    let done : c.loop-at.at ≡ code.size = omega arith in
+    value_opens code law x v c.ranges.version.fits c.as_slice.result.now (c.as_slice.ensures.value ∙ (inv.4 ∙ (ap (filling code x v) done ∙ ends code law x v)))
+
+pub invariant_of-token-2-clause-begun : goal.invariant_of-token-2-clause-begun
+invariant_of-token-2-clause-begun g c =
+    let me : c.in_ok-table.seat.me.0 ≡ opened_view c.args.value c.args.version = search rules in
+    subst (λ (w : View g.row.T.Denot). 0 < length (stored w.seen)) (sym me) (opened_some c.args.value c.args.version)
+
+pub invariant_of-result : goal.invariant_of-result
+invariant_of-result g c =
+    let me : c.in_ok-table.seat.me.0 ≡ opened_view c.args.value c.args.version = search rules in
+    record { none = subst (λ (w : View g.row.T.Denot). LacksProducer w.made) (sym me) (opened_lacks c.args.value c.args.version) }

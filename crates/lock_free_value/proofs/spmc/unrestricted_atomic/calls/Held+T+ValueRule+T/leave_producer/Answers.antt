@@ -1,0 +1,18 @@
+use Rattle.model.specs.Coding.{coding_of}
+use Rattle.lock_free_value.specs.Calls.{seen}
+use Rattle.history.proofs.ValueCalls.{release_keeps, release_first}
+use Rattle.lock_free_value.proofs.Facts.{released}
+use Rattle.lock_free_value.proofs.spmc.unrestricted_atomic.calls.Held+T+ValueRule+T.leave_producer.Goals as goal
+
+pub drive-requires-clause-rule : goal.drive-requires-clause-rule
+drive-requires-clause-rule g c base v call m key = release_keeps (coding_of g.T.Words.WORDS g.T.Words.words_of g.T.Words.value_of) base v call m 1
+
+pub drive-requires-clause-at : goal.drive-requires-clause-at
+drive-requires-clause-at g c =
+    let mine = c.args.self.now in
+    release_first (coding_of g.T.Words.WORDS g.T.Words.words_of g.T.Words.value_of) (seen mine) tt mine.idle mine.alone mine.some.0 c.requires
+
+pub returns-clause-left : goal.returns-clause-left
+returns-clause-left g c =
+    let mine = c.args.self.now in
+    released (coding_of g.T.Words.WORDS g.T.Words.words_of g.T.Words.value_of) (seen mine) c.drive.new.self.seat.me.0 mine.idle mine.known c.drive.result tt c.drive.ensures.end

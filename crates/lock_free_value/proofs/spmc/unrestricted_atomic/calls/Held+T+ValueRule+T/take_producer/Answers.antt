@@ -1,0 +1,12 @@
+use Rattle.model.specs.Coding.{coding_of}
+use Rattle.lock_free_value.specs.Calls.{seen}
+use Rattle.history.proofs.ValueCalls.{acquire_keeps, acquire_first}
+use Rattle.lock_free_value.proofs.spmc.unrestricted_atomic.calls.Held+T+ValueRule+T.take_producer.Goals as goal
+
+pub drive-requires-clause-rule : goal.drive-requires-clause-rule
+drive-requires-clause-rule g c base v call m key = acquire_keeps (coding_of g.T.Words.WORDS g.T.Words.words_of g.T.Words.value_of) base v call m 1
+
+pub drive-requires-clause-at : goal.drive-requires-clause-at
+drive-requires-clause-at g c =
+    let mine = c.args.self.now in
+    acquire_first (coding_of g.T.Words.WORDS g.T.Words.words_of g.T.Words.value_of) (seen mine) tt mine.idle mine.alone mine.some.0

@@ -1,0 +1,76 @@
+-- Which value a pass is for, and what it knows of the value's history.
+use Rattle.std.specs.Prelude.{◌≡◌, ℕ, ◌+◌, ◌-◌, ◌^◌, length, sum_by}
+use Rattle.std.specs.Arc.{arc_value}
+use Rattle.atomic_laws.specs.Stored.{stored}
+use Rattle.atomic_table.specs.Seated.{TableId}
+use Rattle.steps.specs.declared.words.Words.{Ghosts}
+use Rattle.model.specs.declared.event.Event.{Event}
+use Rattle.model.specs.declared.turn.Kind.TheVariants as kinds
+use Rattle.model.specs.Coding.{Coding, coding_of}
+use Rattle.lock_free_sp.specs.Shares.{IsAll}
+use Rattle.history.specs.declared.view.View.{View}
+use Rattle.history.specs.History.{IsBeginning, IsHistory}
+use Rattle.lock_free_value.specs.declared.spmc.unrestricted_atomic.UnrestrictedAtomic.{UnrestrictedAtomic}
+use Rattle.lock_free_value.specs.declared.spmc.unrestricted_atomic.Held.{Held}
+use Rattle.lock_free_value.specs.declared.spmc.unrestricted_atomic.Pass.{Pass}
+use Rattle.lock_free_value.specs.declared.spmc.unrestricted_atomic.Producer.{Producer}
+use Rattle.lock_free_value.specs.declared.spmc.unrestricted_atomic.rule.ValueRule.{ValueRule}
+
+-- what names a value
+abbrev pub value_id : {T : Type 0} → UnrestrictedAtomic T → TableId
+value_id a = (arc_value a.board).shared.table_id
+
+-- it has seen a history of a value
+abbrev pub HasHistory : {T : Type 0} → Coding T → View T → Type 0
+HasHistory code v = IsHistory code kinds.Atomic 1 v.seen
+
+-- with the whole share, the history is what it made: every measure of the events says so
+abbrev pub MissesNothing : {T : Type 0} → View T → Type 0
+MissesNothing {T} v = IsAll v.share → (f : Event T → ℕ) → sum_by f v.seen ≡ sum_by f v.made
+
+-- what each call leaves: the share as it was, and a history that goes on from what was seen, whole
+-- for who has the whole share
+pub record GoesOn {T : Type 0} (code : Coding T) (old new : View T) : Type 0 where
+  pub share : new.share ≡ old.share
+  pub since : IsBeginning old.seen new.seen
+  pub history : HasHistory code new
+  pub all : MissesNothing new
+
+-- a store that was refused: the version is the last. It is no call of the history.
+pub record WasAtEnd {T : Type 0} (old new : View T) : Type 0 where
+  pub made : new.made ≡ old.made
+  pub end : length (stored new.seen) + 1 ≡ 2 ^ 64 - 1
+  pub list : stored new.seen ≡ stored old.seen  -- nothing was stored since
+
+module _ {T : Type 0} {words : Ghosts T} where
+  -- what a seat knows, and which value it is for
+  abbrev pub seen : Held T (ValueRule T) words → View T
+  seen t = t.seated.seat.me.0
+
+  abbrev pub table_of : Held T (ValueRule T) words → TableId
+  table_of t = t.seated.seat.table_id
+
+  abbrev pub view : Pass T words → View T
+  view p = seen p.token
+
+  abbrev pub value_of_pass : Pass T words → TableId
+  value_of_pass p = table_of p.token
+
+  abbrev pub IsPassOf : UnrestrictedAtomic T → Pass T words → Type 0
+  IsPassOf a p = value_of_pass p ≡ value_id a
+
+  -- the same of a guard
+  abbrev pub producer_view : Producer T words → View T
+  producer_view p = seen p.token
+
+  abbrev pub value_of_producer : Producer T words → TableId
+  value_of_producer p = table_of p.token
+
+  -- how its values are written in words
+  abbrev pub code_of : Held T (ValueRule T) words → Coding T
+  code_of t = coding_of words.WORDS words.words_of words.value_of
+
+  -- what each call leaves of a seat: it is of the same value
+  pub record IsSame (old new : Held T (ValueRule T) words) : Type 0 where
+    pub table : table_of new ≡ table_of old
+    pub goes : GoesOn (code_of old) (seen old) (seen new)

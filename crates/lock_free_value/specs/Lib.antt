@@ -1,0 +1,6 @@
+-- The values that were stored, for those who use the crate.
+pub use Rattle.atomic_laws.specs.Stored
+pub mod Roles
+pub mod Told
+pub mod Calls
+pub mod Versions

@@ -1,0 +1,2 @@
+//! One producer and any number of readers at a time.
+pub mod unrestricted_atomic;

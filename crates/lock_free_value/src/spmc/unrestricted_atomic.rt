@@ -1,0 +1,71 @@
+//! One value of any type with words, with one producer and any number of readers, shared between threads.
+ghost use Rattle.std.specs.Prelude.{◌≡◌, ◌<◌, ◌+◌, ◌*◌, [], None, length};
+ghost use Rattle.atomic_laws.specs.Stored.{stored};
+ghost use Rattle.history.specs.Value.{HasProducer};
+ghost use Rattle.lock_free_value.specs.Roles.{LacksProducer};
+
+use self::rule::{Board, Origin, ValueRule};
+use atomic_table::TableRule;
+use history::view::View;
+use lock_free_sp::driver::seated::Seated;
+use std::alloc::Global;
+use std::sync::Arc;
+use steps::words::Words;
+
+mod calls;
+mod drives;
+mod ends;
+mod loads;
+mod make;
+mod passes;
+pub mod rule;
+
+/// A value that threads share by reference. One producer at a time stores it, and any number of readers load it whole.
+/// After `UnrestrictedAtomic` of the Rust crate.
+#[derive(Drop)]
+pub struct UnrestrictedAtomic<T: Words> {
+    board: Arc<Board<T>, Global>,
+}
+
+/// A seat at a value's table, with no call under way. Its rule is a parameter: only so can its size be told by
+/// `T::WORDS`.
+#[derive(Drop)]
+pub struct Held<T: Words, Q: TableRule<(), View<T>, Origin<T>>> {
+    pub seated: Seated<View<T>, Origin<T>, Q>,
+    ghost sized: { seated.seat.table_id.words ≡ 2 + T.WORDS * 2 + 1 },
+    ghost known: { seated.seat.me.0.capacity ≡ 1 },
+    ghost idle: { seated.seat.me.0.going ≡ None },
+    ghost alone: { seated.seat.me.0.other ≡ [] },
+    ghost some: { (0 < seated.seat.me.0.share.part) × (0 < seated.seat.me.0.share.parts) },
+    ghost begun: { 0 < length (stored seated.seat.me.0.seen) },
+}
+
+pub type Token<T> = Held<T, ValueRule<T>>;
+
+/// What a caller makes each call with: it says which value it is for, how much of the value's history it has seen, and
+/// what of it is its own doing. Each call is made with a pass of its value, which is the caller's concern. It has no
+/// role. This project's own.
+#[derive(Drop)]
+pub struct Pass<T: Words> {
+    token: Token<T>,
+    ghost none: { LacksProducer token.seated.seat.me.0.made },
+}
+
+/// The end of a value that stores. There is one at a time. It owns the pass that it was acquired with, and gives the
+/// role back when it is dropped. After `Producer` of the Rust crate.
+pub struct Producer<'a, T: Words> {
+    value: &'a UnrestrictedAtomic<T>,
+    token: Token<T>,
+    ghost role: { HasProducer token.seated.seat.me.0.made },
+}
+
+impl<'a, T: Words> Drop for Producer<'a, T> {
+    /// Gives the role back. One atomic step.
+    fn drop(self) {
+        let Self {
+            value: _,
+            mut token,
+        } = self;
+        token.leave_producer();
+    }
+}

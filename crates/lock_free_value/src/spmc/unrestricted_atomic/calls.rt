@@ -1,0 +1,54 @@
+//! The calls that are driven at a seat.
+ghost use Rattle.std.specs.Prelude.{◌≡◌, IsTrue, IsFalse};
+ghost use Rattle.history.specs.Value.{HasProducer};
+ghost use Rattle.lock_free_value.specs.Calls.{seen, IsSame, WasAtEnd};
+ghost use Rattle.lock_free_value.specs.Roles.{Moved};
+ghost use Rattle.lock_free_value.specs.Told.{HasAcquired, HasReleased, HasStored};
+
+use super::Held;
+use super::drives::{LeavesProducer, Stores, TakesProducer};
+use super::rule::ValueRule;
+use steps::atomic::{PRODUCER, Store};
+use steps::queues::roles::{AcquireRole, ReleaseRole};
+use steps::routine::Routine;
+use steps::words::Words;
+
+impl<T: Words> Held<T, ValueRule<T>> {
+    /// Takes the producer's role: true where it was free.
+    pub fn take_producer(&mut self) -> bool
+        ensures same { IsSame self.old self.new }
+        ensures acquired { HasAcquired result (seen self.old) (seen self.new) }
+        ensures taken { IsTrue result → Moved 1 0 (seen self.old).made (seen self.new).made }
+        ensures refused { IsFalse result → Moved 0 0 (seen self.old).made (seen self.new).made }
+    {
+        let call = AcquireRole { word: PRODUCER };
+        self.seated
+            .drive::<AcquireRole, TakesProducer>(call, &(), &mut ())
+    }
+
+    /// Gives the producer's role back.
+    pub fn leave_producer(&mut self)
+        requires { HasProducer (seen self.old).made }
+        ensures same { IsSame self.old self.new }
+        ensures left { HasReleased (seen self.old) (seen self.new) }
+        ensures role { Moved 0 1 (seen self.old).made (seen self.new).made }
+    {
+        let call = ReleaseRole { word: PRODUCER };
+        self.seated
+            .drive::<ReleaseRole, LeavesProducer>(call, &(), &mut ());
+    }
+
+    /// Stores a value: true, or false where the version is at its end.
+    pub fn store(&mut self, value: &T) -> bool
+        requires { HasProducer (seen self.old).made }
+        ensures same { IsSame self.old self.new }
+        ensures stored { IsTrue result → HasStored value.now (seen self.old) (seen self.new) }
+        ensures end { IsFalse result → WasAtEnd (seen self.old) (seen self.new) }
+        ensures role { Moved 0 0 (seen self.old).made (seen self.new).made }
+    {
+        let end = self
+            .seated
+            .drive::<Store<T>, Stores<T>>(Store::new(), value, &mut ());
+        Store::<T>::answer(end, value, &())
+    }
+}

@@ -1,0 +1,89 @@
+//! What the calls say of the views at their steps. These types are for the proofs alone.
+ghost use Rattle.std.specs.Prelude.{◌≡◌, []};
+ghost use Rattle.model.specs.Coding.{coding_of};
+ghost use Rattle.model.specs.declared.turn.Kind.TheVariants as kinds;
+
+use atomic_table::Play;
+use history::view::View;
+use lock_free_sp::driver::rule::Drives;
+use std::marker::PhantomData;
+use steps::atomic::{Load, LoadStage, Store};
+use steps::copied::Room;
+use steps::queues::roles::{AcquireRole, ReleaseRole};
+use steps::words::Words;
+
+/// Taking the producer's role.
+pub struct TakesProducer;
+
+impl<T: Words> Drives<View<T>, AcquireRole> for TakesProducer {
+    ghost use Rattle.history.specs.Stages.{At, Ends};
+    ghost use Rattle.history.specs.Value.{acquires_producer};
+
+    ghost at = { λ given. At (coding_of T.WORDS T.words_of T.value_of) kinds.Atomic acquires_producer };
+
+    ghost ends = { λ given. Ends (coding_of T.WORDS T.words_of T.value_of) kinds.Atomic acquires_producer };
+}
+
+/// Giving the producer's role back.
+pub struct LeavesProducer;
+
+impl<T: Words> Drives<View<T>, ReleaseRole> for LeavesProducer {
+    ghost use Rattle.history.specs.Stages.{At, Ends};
+    ghost use Rattle.history.specs.Value.{releases_producer};
+
+    ghost at = { λ given. At (coding_of T.WORDS T.words_of T.value_of) kinds.Atomic releases_producer };
+
+    ghost ends = { λ given. Ends (coding_of T.WORDS T.words_of T.value_of) kinds.Atomic releases_producer };
+}
+
+/// Storing a value.
+pub struct Stores<T> {
+    of: PhantomData<T>,
+}
+
+impl<T: Words + Drop> Drives<View<T>, Store<T>> for Stores<T> {
+    ghost use Rattle.history.specs.Stages.{At, Over};
+    ghost use Rattle.history.specs.Value.{stores_value};
+
+    ghost at = { λ value. At (coding_of T.WORDS T.words_of T.value_of) kinds.Atomic
+        (stores_value (coding_of T.WORDS T.words_of T.value_of) value) };
+
+    ghost ends = { λ value. Over (coding_of T.WORDS T.words_of T.value_of) kinds.Atomic
+        (stores_value (coding_of T.WORDS T.words_of T.value_of) value) };
+}
+
+/// Loading a value by way of a room R.
+pub struct Loads<T, R> {
+    of: PhantomData<(T, R)>,
+}
+
+impl<T: Words, R: Room<T> + Drop> Drives<View<T>, Load<T, R>> for Loads<T, R> {
+    ghost use Rattle.history.specs.Stages.{At, Ends};
+    ghost use Rattle.history.specs.Value.{loads_value};
+
+    ghost at = { λ given. At (coding_of T.WORDS T.words_of T.value_of) kinds.Atomic
+        (loads_value (coding_of T.WORDS T.words_of T.value_of) R.words_in) };
+
+    ghost ends = { λ given. Ends (coding_of T.WORDS T.words_of T.value_of) kinds.Atomic
+        (loads_value (coding_of T.WORDS T.words_of T.value_of) R.words_in) };
+
+    /// The loads of a cell come many times in a row.
+    #[inline(always)]
+    fn repeats(call: Load<T, R>) -> bool {
+        match call.stage {
+            LoadStage::LoadsVersion => false,
+            LoadStage::LoadsCell { .. } => true,
+            LoadStage::ChecksVersion { .. } => false,
+        }
+    }
+}
+
+/// A look at the whole history.
+pub struct Look;
+
+impl<T: Words> Play<(), View<T>> for Look {
+    ghost use Rattle.history.specs.Views.{Looks};
+
+    ghost then = { λ step old found new.
+        Looks (coding_of T.WORDS T.words_of T.value_of) kinds.Atomic 1 old.0 new.0 × (new.1 ≡ []) };
+}

@@ -1,0 +1,70 @@
+//! The calls of an unrestricted atomic value.
+ghost use Rattle.std.specs.Prelude.{◌≡◌, true, false, IsTrue, IsFalse, IfOk, IfErr};
+ghost use Rattle.lock_free_value.specs.Calls.{view, value_of_pass, IsPassOf, producer_view, value_of_producer, GoesOn, WasAtEnd};
+ghost use Rattle.model.specs.Coding.{coding_of};
+ghost use Rattle.lock_free_value.specs.Told.{HasAcquired, HasReleased, HasStored, HasLoaded};
+
+use super::{Pass, Producer, UnrestrictedAtomic};
+use std::sync::Wait;
+use steps::words::Words;
+
+impl<T: Words> UnrestrictedAtomic<T> {
+    /// Takes the producer's role, or hands the pass back where another has it. One atomic step. After
+    /// `acquire_producer` of the Rust crate.
+    pub fn acquire_producer(&self, pass: Pass<T>) -> Result<Producer<'_, T>, Pass<T>>
+        requires { IsPassOf self.now pass }
+        ensures acquired { IfOk result (λ p. (value_of_producer p ≡ value_of_pass pass)
+            × GoesOn (coding_of T.WORDS T.words_of T.value_of) (view pass) (producer_view p)
+            × HasAcquired true (view pass) (producer_view p)) }
+        ensures refused { IfErr result (λ p. (value_of_pass p ≡ value_of_pass pass)
+            × GoesOn (coding_of T.WORDS T.words_of T.value_of) (view pass) (view p)
+            × HasAcquired false (view pass) (view p)) }
+    {
+        let Pass { mut token } = pass;
+        if token.take_producer() {
+            Ok(Producer { value: self, token })
+        } else {
+            Err(Pass { token })
+        }
+    }
+
+    /// The value at one moment of the call: the last that was stored before it. At most 2 + `T::WORDS` atomic steps, and
+    /// 1 + `T::WORDS` more for each time that the version moved between its load and the exchange. After `load` of the
+    /// Rust crate.
+    pub fn load(&self, rt: &impl Wait, pass: &mut Pass<T>) -> T
+        requires { IsPassOf self.now pass.old }
+        ensures value { value_of_pass pass.new ≡ value_of_pass pass.old }
+        ensures goes { GoesOn (coding_of T.WORDS T.words_of T.value_of) (view pass.old) (view pass.new) }
+        ensures loaded { HasLoaded result (view pass.old) (view pass.new) }
+    {
+        pass.token.load(rt)
+    }
+}
+
+impl<'a, T: Words> Producer<'a, T> {
+    /// Stores a value: true, or false where the version is u64::MAX, and then nothing changes. At most 2 + `T::WORDS`
+    /// atomic steps. After `Producer::store` of the Rust crate.
+    pub fn store(&mut self, value: T) -> bool
+        ensures value { value_of_producer self.new ≡ value_of_producer self.old }
+        ensures goes { GoesOn (coding_of T.WORDS T.words_of T.value_of) (producer_view self.old) (producer_view self.new) }
+        ensures stored { IsTrue result
+            → HasStored value (producer_view self.old) (producer_view self.new) }
+        ensures end { IsFalse result → WasAtEnd (producer_view self.old) (producer_view self.new) }
+    {
+        self.token.store(&value)
+    }
+
+    /// Gives the role back and hands the pass out. One atomic step. This project's own, beside the drop.
+    pub fn release(self) -> Pass<T>
+        ensures value { value_of_pass result ≡ value_of_producer self.entry }
+        ensures goes { GoesOn (coding_of T.WORDS T.words_of T.value_of) (producer_view self.entry) (view result) }
+        ensures released { HasReleased (producer_view self.entry) (view result) }
+    {
+        let Producer {
+            value: _,
+            mut token,
+        } = self;
+        token.leave_producer();
+        Pass { token }
+    }
+}

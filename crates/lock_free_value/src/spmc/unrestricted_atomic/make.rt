@@ -1,0 +1,91 @@
+//! How a value is made.
+ghost use Rattle.std.specs.Prelude.{◌≡◌, IfOk, IfErr, if◌then◌else◌, nat_lt};
+ghost use Rattle.steps.specs.declared.enums.UniqueIndexCreationError.TheVariants.{NoMemory};
+ghost use Rattle.history.specs.ValueOpened.{opened_view};
+ghost use Rattle.lock_free_value.specs.Calls.{view, IsPassOf};
+
+use super::rule::Origin;
+use super::{Held, Pass, UnrestrictedAtomic};
+use atomic_table::Table;
+use lock_free_sp::driver::seated::Seated;
+use std::alloc::{AllocError, Global};
+use std::sync::Arc;
+use steps::atomic::{FIRST_CELL, PRODUCER, VERSION};
+use steps::enums::UniqueIndexCreationError;
+use steps::words::Words;
+
+/// The version at which a table opens: there is one store at least.
+fn opening_version(version: u64) -> u64
+    ensures { result ≡ (if nat_lt version 2 then 2 else version) }
+{
+    if version < 2 { 2 } else { version }
+}
+
+/// A word of the first cell: who has stored the value once has not written it.
+fn first_word(version: u64, word: u64) -> u64
+    ensures { result ≡ (if nat_lt 2 version then word else 0) }
+{
+    if 2 < version { word } else { 0 }
+}
+
+impl<T: Words> UnrestrictedAtomic<T> {
+    /// A value at this version, and its first pass.
+    fn of(
+        alloc: Global,
+        value: T,
+        version: u64,
+    ) -> Result<(UnrestrictedAtomic<T>, Pass<T>), AllocError>
+        ensures pass { IfOk result (λ r. IsPassOf r.0 r.1 × (view r.1 ≡ opened_view value version)) }
+    {
+        let second_cell = FIRST_CELL + T::WORDS;
+        let mut words = Vec::from_elem(alloc, 0u64, T::WORDS * 2 + FIRST_CELL + 1)?;
+        words[VERSION] = opening_version(version);
+        words[PRODUCER] = 1;
+        for at in 0..T::WORDS {
+            let word = value.word(at);
+            words[second_cell + at] = word;
+            words[FIRST_CELL + at] = first_word(version, word);
+        }
+        let origin = Origin { value, version };
+        let (table, seat) = Table::of_words(alloc, words.as_slice(), &origin)?;
+        let table = Arc::new(alloc, table)?;
+        let shared = Arc::try_clone(&table)?;
+        let token = Held {
+            seated: Seated {
+                seat,
+                table: shared,
+            },
+        };
+        Ok((UnrestrictedAtomic { board: table }, Pass { token }))
+    }
+
+    /// A value, and its first pass, which has the whole share and has seen its history: one party has taken the role,
+    /// stored the value once and given the role back.
+    ///
+    /// Refused is memory alone (`NoMemory`). After `UnrestrictedAtomic::new` of the Rust crate.
+    pub fn new(
+        alloc: Global,
+        value: T,
+    ) -> Result<(UnrestrictedAtomic<T>, Pass<T>), UniqueIndexCreationError>
+        ensures pass { IfOk result (λ r. IsPassOf r.0 r.1 × (view r.1 ≡ opened_view value 1)) }
+        ensures refused { IfErr result (λ e. e ≡ NoMemory) }
+    {
+        UnrestrictedAtomic::new_at(alloc, value, 1)
+    }
+
+    /// The same at this version, as after so many stores of the value, which its history begins with; a version below 2
+    /// is 2, since there is one store at least. This project's own.
+    pub fn new_at(
+        alloc: Global,
+        value: T,
+        version: u64,
+    ) -> Result<(UnrestrictedAtomic<T>, Pass<T>), UniqueIndexCreationError>
+        ensures pass { IfOk result (λ r. IsPassOf r.0 r.1 × (view r.1 ≡ opened_view value version)) }
+        ensures refused { IfErr result (λ e. e ≡ NoMemory) }
+    {
+        match UnrestrictedAtomic::of(alloc, value, version) {
+            Ok(made) => Ok(made),
+            Err(_) => Err(UniqueIndexCreationError::NoMemory),
+        }
+    }
+}

@@ -1,0 +1,114 @@
+//! How passes are made of one another, and a look.
+ghost use Rattle.std.specs.Prelude.{◌≡◌, IfSome, IfNone};
+ghost use Rattle.history.specs.History.{IsBeginning};
+ghost use Rattle.lock_free_value.specs.Calls.{seen, table_of, view, value_of_pass, producer_view, value_of_producer, HasHistory, MissesNothing, GoesOn, IsSame};
+ghost use Rattle.model.specs.Coding.{coding_of};
+ghost use Rattle.lock_free_value.specs.Told.{HasSplit, HasJoined};
+
+use super::drives::Look;
+use super::rule::ValueRule;
+use super::{Held, Pass, Producer, Token};
+use history::plays::{Both, Cut};
+use lock_free_sp::driver::seated::Seated;
+use std::sync::Arc;
+use steps::atomic::VERSION;
+use steps::words::Words;
+
+impl<T: Words> Held<T, ValueRule<T>> {
+    /// A new seat of the same value, which has seen the same and made nothing. None where no further reference can be
+    /// counted (no clause says when).
+    pub fn split(&mut self) -> Option<Token<T>>
+        ensures table { table_of self.new ≡ table_of self.old }
+        ensures new { IfSome result (λ t. table_of t ≡ table_of self.old) }
+        ensures cut { IfSome result (λ t. HasSplit (seen self.old) (seen self.new) (seen t)) }
+        ensures made { (seen self.new).made ≡ (seen self.old).made }
+        ensures none { IfNone result (seen self.new ≡ seen self.old) }
+    {
+        let seated = &mut self.seated;
+        let Ok(table) = Arc::try_clone(&seated.table) else {
+            return None;
+        };
+        let seat = seated.table.shared.split_seat::<Cut>(&mut seated.seat);
+        Some(Held {
+            seated: Seated { seat, table },
+        })
+    }
+
+    /// Takes in the other seat of the value.
+    pub fn join(&mut self, other: Token<T>)
+        requires { table_of other ≡ table_of self.old }
+        ensures table { table_of self.new ≡ table_of self.old }
+        ensures joined { HasJoined (seen self.old) (seen other) (seen self.new) }
+        ensures history { HasHistory (coding_of T.WORDS T.words_of T.value_of) (seen self.new) }
+        ensures all { MissesNothing (seen self.new) }
+    {
+        let Held { seated: other } = other;
+        let Seated { seat, .. } = other;
+        let seated = &mut self.seated;
+        seated
+            .table
+            .shared
+            .join_seat::<Both>(&mut seated.seat, seat);
+        let _ = seated.table.shared.load::<Look>(&mut seated.seat, VERSION);
+    }
+
+    /// A look at the whole history: one load.
+    pub fn look(&mut self)
+        ensures same { IsSame self.old self.new }
+        ensures made { (seen self.new).made ≡ (seen self.old).made }
+    {
+        let seated = &mut self.seated;
+        let _ = seated.table.shared.load::<Look>(&mut seated.seat, VERSION);
+    }
+}
+
+impl<T: Words> Pass<T> {
+    /// A new pass of the same value that has seen the same and made nothing; this one keeps what it made. Each has half of
+    /// this one's share. None, and nothing changes, where no further pass can be counted (no clause says when). One load.
+    /// This project's own.
+    pub fn split(&mut self) -> Option<Pass<T>>
+        ensures value { value_of_pass self.new ≡ value_of_pass self.old }
+        ensures new { IfSome result (λ p. value_of_pass p ≡ value_of_pass self.old) }
+        ensures cut { IfSome result (λ p. HasSplit (view self.old) (view self.new) (view p)) }
+        ensures none { IfNone result (view self.new ≡ view self.old) }
+    {
+        let token = self.token.split()?;
+        Some(Pass { token })
+    }
+
+    /// Takes in what the other pass of the value made, and its share. What both had seen are beginnings of one history.
+    /// Who then has the whole share has made all of it. Two loads. This project's own.
+    pub fn join(&mut self, other: Pass<T>)
+        requires { value_of_pass other ≡ value_of_pass self.old }
+        ensures value { value_of_pass self.new ≡ value_of_pass self.old }
+        ensures joined { HasJoined (view self.old) (view other) (view self.new) }
+        ensures history { HasHistory (coding_of T.WORDS T.words_of T.value_of) (view self.new) }
+        ensures all { MissesNothing (view self.new) }
+    {
+        let Pass { token } = other;
+        self.token.join(token);
+    }
+
+    /// A look at the whole history, by one load: who has the whole share has made all of it. This project's own.
+    pub fn look(&mut self)
+        ensures value { value_of_pass self.new ≡ value_of_pass self.old }
+        ensures goes { GoesOn (coding_of T.WORDS T.words_of T.value_of) (view self.old) (view self.new) }
+        ensures made { (view self.new).made ≡ (view self.old).made }
+    {
+        self.token.look();
+    }
+}
+
+impl<'a, T: Words> Producer<'a, T> {
+    /// Takes in what a pass of the value made, and its share. Two loads. This project's own.
+    pub fn join(&mut self, other: Pass<T>)
+        requires { value_of_pass other ≡ value_of_producer self.old }
+        ensures value { value_of_producer self.new ≡ value_of_producer self.old }
+        ensures joined { HasJoined (producer_view self.old) (view other) (producer_view self.new) }
+        ensures history { HasHistory (coding_of T.WORDS T.words_of T.value_of) (producer_view self.new) }
+        ensures all { MissesNothing (producer_view self.new) }
+    {
+        let Pass { token } = other;
+        self.token.join(token);
+    }
+}

@@ -1,0 +1,44 @@
+//! The rule of a value's table: it is a machine of its kind, and one word more.
+ghost use Rattle.model.specs.Coding.{coding_of};
+ghost use Rattle.model.specs.declared.turn.Kind.TheVariants as kinds;
+
+use atomic_table::{Table, TableRule};
+use history::view::View;
+use lock_free_sp::driver::rule::Rule;
+use std::alloc::Global;
+use std::marker::PhantomData;
+use steps::words::Words;
+
+/// What a table is made with, and so its key: the value that it opens with, and at which version.
+#[derive(Clone, Copy)]
+pub struct Origin<T> {
+    pub value: T,
+    pub version: u64,
+}
+
+/// The rule.
+pub struct ValueRule<T> {
+    of: PhantomData<T>,
+}
+
+impl<T: Words> TableRule<(), View<T>, Origin<T>> for ValueRule<T> {
+    ghost use Rattle.history.specs.History.{IsMachine};
+    ghost use Rattle.history.specs.ValueOpened.{opened_view};
+
+    ghost holds = { λ origin. IsMachine (coding_of T.WORDS T.words_of T.value_of) kinds.Atomic 1 };
+
+    ghost first = { λ origin. opened_view origin.value origin.version };
+}
+
+/// A value has no capacity: its machine has 1.
+impl<T: Words> Rule<View<T>, Origin<T>> for ValueRule<T> {
+    ghost use Rattle.std.specs.Prelude.{◌+◌, ◌*◌};
+
+    ghost size = { λ origin. 2 + T.WORDS * 2 + 1 };
+
+    ghost capacity = { λ origin. 1 };
+
+    ghost capacity_seen = { λ v. v.capacity };
+}
+
+pub type Board<T> = Table<(), View<T>, Origin<T>, ValueRule<T>, Global>;

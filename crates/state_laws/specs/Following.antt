@@ -1,0 +1,35 @@
+-- A state that has seen its container, whatever calls were made on it since.
+use Rattle.std.specs.Prelude.{◌≡◌, ℕ, ◌*◌, ◌-◌, ◌^◌, ◌<◌, ◌≤◌, true, None, length, slice_index, slice_index_or}
+use Rattle.steps.specs.Container.Layout.{is_even}
+use Rattle.plain.specs.Contents.{Contents, capacity}
+use Rattle.plain.specs.States.{Snapshot}
+
+module _ {V : Type 0} where
+  -- the container may change once more before one of its numbers can come to its end
+  abbrev pub MayChange : Contents V → Type 0
+  MayChange s = s.changes < 2 ^ 63 - 1
+
+  -- Each index has a number, which is even where nothing stands. A change raises it by 2 at most.
+  pub record IsCounted (s : Contents V) : Type 0 where
+    pub counts : length s.counts ≡ capacity s
+    pub values : length s.values ≡ capacity s
+    pub few : (i : ℕ) → slice_index s.counts i ≤ 2 * s.changes
+    pub even : (i : ℕ) → is_even (slice_index s.counts i) ≡ true
+        → slice_index_or s.values i None ≡ None
+
+  -- What a state has seen of its container: no higher number than is there, under the number that is there the
+  -- value that stands there, and where no change was counted since, all numbers.
+  pub record Follows (s : Contents V) (seen : Snapshot V) : Type 0 where
+    pub counted : IsCounted s
+    pub counts : length seen.counts ≡ capacity s
+    pub values : length seen.values ≡ capacity s
+    pub fewer : seen.changes ≤ s.changes
+    pub numbers : (i : ℕ) → slice_index seen.counts i ≤ slice_index s.counts i
+    pub same : (i : ℕ) → slice_index s.counts i ≡ slice_index seen.counts i
+        → slice_index_or seen.values i None ≡ slice_index_or s.values i None
+    pub all : s.changes ≡ seen.changes → s.counts ≡ seen.counts
+
+  -- a call that makes the one of the other leaves each state of the container following it
+  pub record Keeps (old new : Contents V) : Type 0 where
+    pub counts : IsCounted old → IsCounted new
+    pub follows : (seen : Snapshot V) → Follows old seen → Follows new seen

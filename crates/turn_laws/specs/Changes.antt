@@ -1,0 +1,62 @@
+-- How often a container has changed, and what a look has seen of it.
+use Rattle.std.specs.Prelude.{◌≡◌, ℕ, ◌+◌, ◌<◌, ◌==◌, true, false, List, fold, slice_index, if◌then◌else◌}
+use Rattle.steps.specs.Container.Layout.{change_word}
+use Rattle.model.specs.declared.event.Answer.TheVariants.{Index, State, Number, Truth, Done}
+use Rattle.model.specs.declared.event.Event.{Event}
+use Rattle.model.specs.declared.event.Event.TheVariants.{Begun, Finished}
+use Rattle.model.specs.declared.event.Start.TheVariants.{Container}
+use Rattle.model.specs.declared.families.container.ContainerStart.TheVariants.{Add, Remove, Replace, Recover, GetState, UpdateState}
+use Rattle.model.specs.World.{Trace}
+
+-- How many changes there were: by now, as a party's latest look began, and as the look began, and as it ended, that last
+-- brought the party's state up to date.
+pub record Seen : Type 0 where
+  pub changes : ℕ
+  pub begun : ℕ
+  pub least : ℕ
+  pub most : ℕ
+
+abbrev pub up_to_date : Seen → Seen
+up_to_date s = record s { least = s.begun; most = s.changes }
+
+module _ {T : Type 0} where
+  -- an add, a remove or a replace that succeeded, and each recovery, changes the container once, as it ends
+  abbrev pub change_in : Event T → ℕ
+  change_in (Finished p (Container (Add value owner)) (Index index)) = 1
+  change_in (Finished p (Container (Remove index owner mode)) (State state)) = 1
+  change_in (Finished p (Container (Replace index value owner)) Done) = 1
+  change_in (Finished p (Container (Recover owner mode)) (State state)) = 1
+  change_in e = 0
+
+  abbrev pub changes_of : List (Event T) → ℕ
+  changes_of events = fold (λ n e. n + change_in e) 0 events
+
+  -- so many says the container's number of changes
+  abbrev pub CountsChanges : Trace T → Type 0
+  CountsChanges t = slice_index t.world.words (change_word t.world.capacity) ≡ changes_of t.events
+
+  -- ---- what a look has met
+
+  abbrev pub seen_after : ℕ → Seen → Event T → Seen
+  seen_after p s (Begun q (Container GetState)) =
+      if q == p then record s { begun = s.changes } else s
+  seen_after p s (Begun q (Container UpdateState)) =
+      if q == p then record s { begun = s.changes } else s
+  seen_after p s (Finished q (Container GetState) (Number number)) =
+      if q == p then up_to_date s else s
+  seen_after p s (Finished q (Container UpdateState) (Truth true)) =
+      if q == p then up_to_date s else s
+  seen_after p s e = record s { changes = s.changes + change_in e }
+
+  abbrev pub seen_by : ℕ → List (Event T) → Seen
+  seen_by p events =
+      fold (seen_after p) (record { changes = 0; begun = 0; least = 0; most = 0 }) events
+
+  -- An update that answers true has met a change: one that ended after the look began that last brought the
+  -- state up to date. Where one answers false, none has ended since that look did.
+  abbrev pub MeetsChanges : List (Event T) → Event T → Type 0
+  MeetsChanges before (Finished p (Container UpdateState) (Truth true)) =
+      (seen_by p before).least < changes_of before
+  MeetsChanges before (Finished p (Container UpdateState) (Truth false)) =
+      changes_of before ≡ (seen_by p before).most
+  MeetsChanges before e = Unit {0}

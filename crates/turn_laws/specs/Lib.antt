@@ -1,0 +1,4 @@
+pub mod Changes
+pub mod Others
+pub mod Questions
+pub mod Recoveries
