@@ -1,7 +1,7 @@
 //! What the closure of a recovery answers: whether an index, or a value, is to be freed.
 use crate::drawn::Draws;
 use crate::words::Words;
-use lock_free::mpmc::robust_unique_index_set::OwnerId;
+use steps::enums::OwnerId;
 
 /// Which questions are answered by yes.
 #[derive(Clone, Copy)]

@@ -13,6 +13,8 @@ pub struct Scene<'a> {
     /// Why it has to be refused to make the structure, where it has to.
     pub refusal: Option<&'a str>,
     pub capacity: usize,
+    /// Where the structure starts, or its own number, where the head says so.
+    pub number: u64,
     pub form: &'static str,
 }
 
@@ -23,39 +25,34 @@ impl<'a> Scene<'a> {
             block,
             refusal,
             capacity: 0,
+            number: 0,
             form: "",
         }
     }
 
     pub fn of_capacity(self, capacity: usize) -> Scene<'a> {
-        Scene {
-            alloc: self.alloc,
-            block: self.block,
-            refusal: self.refusal,
-            capacity,
-            form: self.form,
-        }
+        let mut scene = self;
+        scene.capacity = capacity;
+        scene
+    }
+
+    pub fn of_number(self, number: u64) -> Scene<'a> {
+        let mut scene = self;
+        scene.number = number;
+        scene
     }
 
     pub fn on(self, form: &'static str) -> Scene<'a> {
-        Scene {
-            alloc: self.alloc,
-            block: self.block,
-            refusal: self.refusal,
-            capacity: self.capacity,
-            form,
-        }
+        let mut scene = self;
+        scene.form = form;
+        scene
     }
 
     /// The same with a part of the block, whose first line is left out as a head is.
     pub fn of_part(self, block: &'a str) -> Scene<'a> {
-        Scene {
-            alloc: self.alloc,
-            block,
-            refusal: self.refusal,
-            capacity: self.capacity,
-            form: self.form,
-        }
+        let mut scene = self;
+        scene.block = block;
+        scene
     }
 }
 

@@ -1,0 +1,100 @@
+//! Overflowing queues.
+ghost use Rattle.std.specs.Prelude.{◌≡◌};
+
+use crate::queue_user::{ends, plays};
+use calls::forms::{Form, on};
+use calls::stage::{Scene, Stage};
+use calls::words::Words;
+use lock_free::spsc::safely_overflowing_index_queue::{
+    FixedSizeSafelyOverflowingIndexQueue, SafelyOverflowingIndexQueue,
+};
+use std::sync::Wait;
+use steps::enums::UniqueIndexCreationError;
+
+/// One of one caller, which is only made.
+struct Plain;
+
+impl Form for Plain {
+    fn plays(
+        _rt: &impl Wait,
+        scene: Scene<'_>,
+        _stage: &mut Stage,
+    ) -> Result<(), UniqueIndexCreationError> {
+        plain::SafelyOverflowingIndexQueue::new_at(scene.alloc, scene.capacity, scene.number)?;
+        Ok(())
+    }
+}
+
+/// One of threads.
+struct Heap;
+
+impl Form for Heap {
+    fn plays(
+        rt: &impl Wait,
+        scene: Scene<'_>,
+        stage: &mut Stage,
+    ) -> Result<(), UniqueIndexCreationError> {
+        let (queue, pass) = SafelyOverflowingIndexQueue::new_at(
+            scene.alloc,
+            scene.capacity,
+            scene.number,
+        )?;
+        let mut alone = plain::SafelyOverflowingIndexQueue::new_at(
+            scene.alloc,
+            scene.capacity,
+            scene.number,
+        )?;
+        let (last, _other) = plays(rt, scene, stage, &mut alone, &queue, pass);
+        ends(rt, scene, stage, &mut alone, queue.close(last)?);
+        Ok(())
+    }
+}
+
+/// One of a type that has the capacity, from position 0.
+struct Fixed<const CAPACITY: usize>;
+
+impl<const CAPACITY: usize> Form for Fixed<CAPACITY> {
+    fn plays(
+        rt: &impl Wait,
+        scene: Scene<'_>,
+        stage: &mut Stage,
+    ) -> Result<(), UniqueIndexCreationError> {
+        let (queue, pass) = FixedSizeSafelyOverflowingIndexQueue::<CAPACITY>::new(scene.alloc)?;
+        let mut alone = plain::SafelyOverflowingIndexQueue::new(scene.alloc, scene.capacity)?;
+        let (last, _other) = plays(rt, scene, stage, &mut alone, &queue, pass);
+        ends(rt, scene, stage, &mut alone, queue.close(last)?);
+        Ok(())
+    }
+}
+
+fn on_fixed<const CAPACITY: usize>(rt: &impl Wait, scene: Scene<'_>, stage: &mut Stage) {
+    on::<Fixed<CAPACITY>>(rt, scene, stage, "fixed");
+}
+
+fn on_types(rt: &impl Wait, scene: Scene<'_>, stage: &mut Stage) {
+    match scene.capacity {
+        0 => on_fixed::<0>(rt, scene, stage),
+        1 => on_fixed::<1>(rt, scene, stage),
+        2 => on_fixed::<2>(rt, scene, stage),
+        5 => on_fixed::<5>(rt, scene, stage),
+        _ => {}
+    }
+}
+
+/// Plays the block on all forms; on those of a type where it says no position.
+pub fn forms(
+    rt: &impl Wait,
+    scene: Scene<'_>,
+    words: &mut Words<'_>,
+    stage: &mut Stage,
+) -> Option<()> {
+    let scene = scene.of_capacity(words.place()?);
+    let position = words.after("at");
+    let at = scene.of_number(position.unwrap_or(0));
+    on::<Plain>(rt, at, stage, "plain");
+    on::<Heap>(rt, at, stage, "heap");
+    if position.is_none() {
+        on_types(rt, scene, stage);
+    }
+    Some(())
+}

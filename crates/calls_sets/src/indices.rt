@@ -1,0 +1,137 @@
+//! Unique index sets.
+use crate::indices::call::IndexCall;
+use crate::indices::user::User;
+use calls::forms::{Form, on};
+use calls::play::play;
+use calls::stage::{Scene, Stage};
+use calls::words::Words;
+use lock_free::mpmc::unique_index_set::{FixedSizeUniqueIndexSet, UniqueIndexSet};
+use std::sync::Wait;
+use steps::enums::UniqueIndexCreationError;
+
+mod alone;
+mod call;
+mod user;
+
+/// Plays the block on a set of one caller and on one of threads. Where there is no user of that, memory was refused.
+fn plays(
+    rt: &impl Wait,
+    scene: Scene<'_>,
+    stage: &mut Stage,
+    user: Option<User<'_>>,
+) -> Result<(), UniqueIndexCreationError> {
+    let mut alone = plain::UniqueIndexSet::new(scene.alloc, scene.capacity)?;
+    let Some(mut user) = user else {
+        return Err(UniqueIndexCreationError::NoMemory);
+    };
+    play::<IndexCall, _, _>(rt, scene, stage, &mut alone, &mut user);
+    Ok(())
+}
+
+/// One of one caller, which is only made.
+struct Plain;
+
+impl Form for Plain {
+    fn plays(
+        _rt: &impl Wait,
+        scene: Scene<'_>,
+        _stage: &mut Stage,
+    ) -> Result<(), UniqueIndexCreationError> {
+        plain::UniqueIndexSet::new(scene.alloc, scene.capacity)?;
+        Ok(())
+    }
+}
+
+/// One of threads.
+struct Heap;
+
+impl Form for Heap {
+    fn plays(
+        rt: &impl Wait,
+        scene: Scene<'_>,
+        stage: &mut Stage,
+    ) -> Result<(), UniqueIndexCreationError> {
+        let (set, pass) = UniqueIndexSet::new(scene.alloc, scene.capacity)?;
+        plays(rt, scene, stage, User::new(scene.alloc, &set, pass))
+    }
+}
+
+/// One of a type that has the capacity.
+struct Fixed<const CAPACITY: usize>;
+
+impl<const CAPACITY: usize> Form for Fixed<CAPACITY> {
+    fn plays(
+        rt: &impl Wait,
+        scene: Scene<'_>,
+        stage: &mut Stage,
+    ) -> Result<(), UniqueIndexCreationError> {
+        let (set, pass) = FixedSizeUniqueIndexSet::<CAPACITY>::new(scene.alloc)?;
+        plays(rt, scene, stage, User::new(scene.alloc, &set, pass))
+    }
+}
+
+/// One of a type that has a greater capacity.
+struct Reduced<const CAPACITY: usize>;
+
+impl<const CAPACITY: usize> Form for Reduced<CAPACITY> {
+    fn plays(
+        rt: &impl Wait,
+        scene: Scene<'_>,
+        stage: &mut Stage,
+    ) -> Result<(), UniqueIndexCreationError> {
+        let (set, pass) = FixedSizeUniqueIndexSet::<CAPACITY>::new_with_reduced_capacity(
+            scene.alloc,
+            scene.capacity,
+        )?;
+        plays(rt, scene, stage, User::new(scene.alloc, &set, pass))
+    }
+}
+
+fn on_fixed<const CAPACITY: usize>(rt: &impl Wait, scene: Scene<'_>, stage: &mut Stage) {
+    on::<Fixed<CAPACITY>>(rt, scene, stage, "fixed");
+}
+
+fn on_reduced<const CAPACITY: usize>(rt: &impl Wait, scene: Scene<'_>, stage: &mut Stage) {
+    on::<Reduced<CAPACITY>>(rt, scene, stage, "reduced");
+}
+
+/// Plays the block on a set whose type has this greater capacity.
+fn on_greater(rt: &impl Wait, scene: Scene<'_>, of: usize, stage: &mut Stage) -> Option<()> {
+    match of {
+        5 => on_reduced::<5>(rt, scene, stage),
+        6 => on_reduced::<6>(rt, scene, stage),
+        8 => on_reduced::<8>(rt, scene, stage),
+        16_777_214 => on_reduced::<16_777_214>(rt, scene, stage),
+        16_777_215 => on_reduced::<16_777_215>(rt, scene, stage),
+        _ => return None,
+    }
+    Some(())
+}
+
+/// Plays the block on all forms, or, where the head says `of`, on a set of reduced capacity.
+pub fn forms(
+    rt: &impl Wait,
+    scene: Scene<'_>,
+    words: &mut Words<'_>,
+    stage: &mut Stage,
+) -> Option<()> {
+    let scene = scene.of_capacity(words.place()?);
+    if let Some(word) = words.word() {
+        return if word == "of" {
+            on_greater(rt, scene, words.place()?, stage)
+        } else {
+            None
+        };
+    }
+    on::<Plain>(rt, scene, stage, "plain");
+    on::<Heap>(rt, scene, stage, "heap");
+    match scene.capacity {
+        0 => on_fixed::<0>(rt, scene, stage),
+        1 => on_fixed::<1>(rt, scene, stage),
+        3 => on_fixed::<3>(rt, scene, stage),
+        5 => on_fixed::<5>(rt, scene, stage),
+        16_777_215 => on_fixed::<16_777_215>(rt, scene, stage),
+        _ => {}
+    }
+    Some(())
+}

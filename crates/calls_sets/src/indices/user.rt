@@ -1,0 +1,308 @@
+//! Who uses a unique index set of threads.
+ghost use Rattle.std.specs.Prelude.{◌≡◌};
+ghost use Rattle.lock_free.specs.HistoryHeld.{Holds};
+ghost use Rattle.lock_free.specs.UniqueIndexSet.{made, set_id, IsPassOf, index_set};
+
+use super::call::IndexCall;
+use calls::answer::Answer;
+use calls::play::Answers;
+use calls::said::{ended, failed};
+use lock_free::mpmc::unique_index_set::{Pass, UniqueIndex, UniqueIndexSet};
+use std::alloc::Global;
+use std::mem;
+use std::sync::Wait;
+
+/// A raw index, with the pass that holds it.
+#[derive(Drop)]
+struct Raw<'a> {
+    set: &'a UniqueIndexSet,
+    pass: Pass,
+    index: u32,
+    ghost of: { IsPassOf set.now pass },
+    ghost held: { Holds index (made pass) },
+}
+
+impl<'a> Raw<'a> {
+    fn goes(self, answer: &mut Answer) {
+        let Raw {
+            set,
+            mut pass,
+            index,
+        } = self;
+        ended(set.release_raw_index(index, &mut pass), answer);
+    }
+
+    fn goes_or_locks(self, rt: &impl Wait, answer: &mut Answer) {
+        let Raw {
+            set,
+            mut pass,
+            index,
+        } = self;
+        ended(set.release_or_lock(rt, index, &mut pass), answer);
+    }
+}
+
+/// A held index, with its set.
+#[derive(Drop)]
+struct Held<'a> {
+    set: &'a UniqueIndexSet,
+    index: UniqueIndex<'a>,
+    ghost of: { index_set index ≡ set_id set.now },
+}
+
+impl<'a> Held<'a> {
+    /// It is given back in mode `Default`.
+    fn goes(self, answer: &mut Answer) {
+        let Held { set: _, index } = self;
+        index.release();
+        answer.word("unlocked");
+    }
+
+    /// It is given back and taken as a raw one first.
+    fn goes_or_locks(self, rt: &impl Wait, answer: &mut Answer) {
+        let Held { set, index } = self;
+        let mut pass = index.release();
+        match set.acquire_raw_index(rt, &mut pass) {
+            Ok(again) => ended(set.release_or_lock(rt, again, &mut pass), answer),
+            Err(failure) => failed(failure, answer),
+        }
+    }
+}
+
+/// An index that is out.
+#[derive(Drop)]
+enum Index<'a> {
+    Raw(Raw<'a>),
+    Held(Held<'a>),
+}
+
+impl<'a> Index<'a> {
+    fn goes(self, answer: &mut Answer) {
+        match self {
+            Index::Raw(raw) => raw.goes(answer),
+            Index::Held(held) => held.goes(answer),
+        }
+    }
+
+    /// Gives the index back: a held one by its drop.
+    fn drops(self, answer: &mut Answer) {
+        match self {
+            Index::Raw(raw) => raw.goes(answer),
+            Index::Held(held) => {
+                drop(held);
+                answer.word("unlocked");
+            }
+        }
+    }
+
+    fn goes_or_locks(self, rt: &impl Wait, answer: &mut Answer) {
+        match self {
+            Index::Raw(raw) => raw.goes_or_locks(rt, answer),
+            Index::Held(held) => held.goes_or_locks(rt, answer),
+        }
+    }
+
+    /// Says which index a guard has.
+    fn value(&self, answer: &mut Answer) {
+        match self {
+            Index::Raw(_) => answer.word("raw"),
+            Index::Held(held) => answer.number(held.index.value() as u64),
+        }
+    }
+}
+
+/// Who uses a set of threads.
+#[derive(Drop)]
+pub struct User<'a> {
+    set: &'a UniqueIndexSet,
+    pass: Pass,
+    other: Pass,
+    /// Those that are out, each at its place.
+    out: Vec<Option<Index<'a>>>,
+    ghost of: { IsPassOf set.now pass },
+    ghost of_other: { IsPassOf set.now other },
+}
+
+impl<'a> User<'a> {
+    pub fn new(alloc: Global, set: &'a UniqueIndexSet, pass: Pass) -> Option<User<'a>>
+        requires { IsPassOf set.now pass }
+    {
+        let mut pass = pass;
+        let other = pass.split()?;
+        Some(User {
+            set,
+            pass,
+            other,
+            out: Vec::new(alloc),
+        })
+    }
+
+    /// The index at its place, which it leaves.
+    fn leaves(&mut self, index: u32) -> Option<Index<'a>> {
+        match self.out.get_mut(index as usize) {
+            Some(place) => place.take(),
+            None => None,
+        }
+    }
+
+    /// Whether there are places up to this one.
+    fn has_place(&mut self, at: u32) -> bool {
+        for _ in self.out.len()..at as usize + 1 {
+            if self.out.push(None).is_err() {
+                return false;
+            }
+        }
+        true
+    }
+
+    /// The index comes to its place.
+    fn comes(&mut self, at: u32, index: Index<'a>, answer: &mut Answer) {
+        if !self.has_place(at) {
+            answer.word("no_memory");
+        }
+        match self.out.get_mut(at as usize) {
+            Some(place) => {
+                *place = Some(index);
+                answer.number(at as u64);
+            }
+            None => answer.refused(),
+        }
+    }
+
+    fn acquires(&mut self, rt: &impl Wait, answer: &mut Answer) {
+        let Some(mut pass) = self.pass.split() else {
+            answer.word("no_pass");
+            return;
+        };
+        match self.set.acquire_raw_index(rt, &mut pass) {
+            Ok(index) => {
+                let raw = Raw {
+                    set: self.set,
+                    pass,
+                    index,
+                };
+                self.comes(index, Index::Raw(raw), answer);
+            }
+            Err(failure) => {
+                self.pass.join(pass);
+                failed(failure, answer);
+            }
+        }
+    }
+
+    fn holds(&mut self, rt: &impl Wait, answer: &mut Answer) {
+        let Some(pass) = self.pass.split() else {
+            answer.word("no_pass");
+            return;
+        };
+        match self.set.acquire(rt, pass) {
+            Ok(index) => {
+                let value = index.value();
+                let held = Held {
+                    set: self.set,
+                    index,
+                };
+                self.comes(value, Index::Held(held), answer);
+            }
+            Err((failure, pass)) => {
+                self.pass.join(pass);
+                failed(failure, answer);
+            }
+        }
+    }
+
+    fn keeps_one(&mut self, rt: &impl Wait) -> Option<u32> {
+        self.set.acquire_raw_index(rt, &mut self.pass).ok()
+    }
+
+    /// Takes so many indices: how many come in order, from 0 on.
+    fn keeps(&mut self, rt: &impl Wait, number: u64, answer: &mut Answer) {
+        for index in 0..number {
+            match self.keeps_one(rt) {
+                Some(came) => {
+                    if came as u64 != index {
+                        answer.number(index);
+                        return;
+                    }
+                }
+                None => {
+                    answer.number(index);
+                    return;
+                }
+            }
+        }
+        answer.number(number);
+    }
+
+    fn releases(&mut self, index: u32, answer: &mut Answer) {
+        match self.leaves(index) {
+            Some(index) => index.goes(answer),
+            None => answer.refused(),
+        }
+    }
+
+    fn drops(&mut self, index: u32, answer: &mut Answer) {
+        match self.leaves(index) {
+            Some(index) => index.drops(answer),
+            None => answer.refused(),
+        }
+    }
+
+    fn releases_or_locks(&mut self, rt: &impl Wait, index: u32, answer: &mut Answer) {
+        match self.leaves(index) {
+            Some(index) => index.goes_or_locks(rt, answer),
+            None => answer.refused(),
+        }
+    }
+
+    /// Which index the guard at the place has.
+    fn value(&mut self, at: u32, answer: &mut Answer) {
+        if let Some(place) = self.out.get(at as usize) {
+            if let Some(index) = place {
+                index.value(answer);
+            }
+        }
+    }
+
+    fn borrowed(&mut self, answer: &mut Answer) {
+        answer.number(self.set.borrowed_indices(&mut self.pass) as u64);
+    }
+
+    fn is_locked(&mut self, answer: &mut Answer) {
+        answer.truth(self.set.is_locked(&mut self.pass));
+    }
+
+    /// Whether the set is locked, by a further pass, which is joined then.
+    fn is_locked_further(&mut self, answer: &mut Answer) {
+        let Some(mut further) = self.pass.split() else {
+            answer.word("no_pass");
+            return;
+        };
+        answer.truth(self.set.is_locked(&mut further));
+        self.pass.join(further);
+    }
+
+    fn turns(&mut self) {
+        mem::swap(&mut self.pass, &mut self.other);
+    }
+}
+
+impl<'a> Answers<IndexCall> for User<'a> {
+    fn answer(&mut self, rt: &impl Wait, call: IndexCall, answer: &mut Answer) {
+        match call {
+            IndexCall::Acquire => self.acquires(rt, answer),
+            IndexCall::Hold => self.holds(rt, answer),
+            IndexCall::Keep(number) => self.keeps(rt, number, answer),
+            IndexCall::Release(index) => self.releases(index, answer),
+            IndexCall::Drop(index) => self.drops(index, answer),
+            IndexCall::ReleaseOrLock(index) => self.releases_or_locks(rt, index, answer),
+            IndexCall::IsOut(_) => {}
+            IndexCall::Holds(index) => self.value(index, answer),
+            IndexCall::Borrowed => self.borrowed(answer),
+            IndexCall::IsLocked => self.is_locked(answer),
+            IndexCall::IsLockedFurther => self.is_locked_further(answer),
+            IndexCall::Capacity => answer.number(self.set.capacity() as u64),
+            IndexCall::Other => self.turns(),
+        }
+    }
+}

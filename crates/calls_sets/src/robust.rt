@@ -1,0 +1,179 @@
+//! Sets of indices of owners.
+use crate::robust::alone::Alone;
+use crate::robust::call::RobustCall;
+use crate::robust::user::User;
+use calls::forms::{Form, on};
+use calls::play::{Nobody, play};
+use calls::stage::{Scene, Stage};
+use calls::words::Words;
+use lock_free::mpmc::robust_unique_index_set::{RobustUniqueIndexSet, StaticRobustUniqueIndexSet};
+use std::sync::Wait;
+use steps::enums::UniqueIndexCreationError;
+
+mod alone;
+mod call;
+mod user;
+
+/// Plays the block on a set of one caller and on one of threads. Where there is no user of that, memory was refused.
+fn plays(
+    rt: &impl Wait,
+    scene: Scene<'_>,
+    stage: &mut Stage,
+    user: Option<User<'_>>,
+) -> Result<(), UniqueIndexCreationError> {
+    let set = plain::RobustUniqueIndexSet::new(scene.alloc, scene.capacity)?;
+    let mut alone = Alone {
+        set,
+        alloc: scene.alloc,
+    };
+    let Some(mut user) = user else {
+        return Err(UniqueIndexCreationError::NoMemory);
+    };
+    play::<RobustCall, _, _>(rt, scene, stage, &mut alone, &mut user);
+    Ok(())
+}
+
+/// One of one caller, which is only made.
+struct Plain;
+
+impl Form for Plain {
+    fn plays(
+        _rt: &impl Wait,
+        scene: Scene<'_>,
+        _stage: &mut Stage,
+    ) -> Result<(), UniqueIndexCreationError> {
+        plain::RobustUniqueIndexSet::new(scene.alloc, scene.capacity)?;
+        Ok(())
+    }
+}
+
+/// One of one caller from a generation on, which is played on alone.
+struct OfGeneration;
+
+impl Form for OfGeneration {
+    fn plays(
+        rt: &impl Wait,
+        scene: Scene<'_>,
+        stage: &mut Stage,
+    ) -> Result<(), UniqueIndexCreationError> {
+        let set = plain::RobustUniqueIndexSet::new_at(scene.alloc, scene.capacity, scene.number)?;
+        let mut alone = Alone {
+            set,
+            alloc: scene.alloc,
+        };
+        let mut nobody = Nobody;
+        play::<RobustCall, _, _>(rt, scene, stage, &mut nobody, &mut alone);
+        let Nobody = nobody;
+        Ok(())
+    }
+}
+
+/// One of threads.
+struct Heap;
+
+impl Form for Heap {
+    fn plays(
+        rt: &impl Wait,
+        scene: Scene<'_>,
+        stage: &mut Stage,
+    ) -> Result<(), UniqueIndexCreationError> {
+        let (set, pass) = RobustUniqueIndexSet::new(scene.alloc, scene.capacity)?;
+        plays(rt, scene, stage, User::new(scene.alloc, &set, pass))
+    }
+}
+
+/// One of a type that has the capacity.
+struct Fixed<const CAPACITY: usize>;
+
+impl<const CAPACITY: usize> Form for Fixed<CAPACITY> {
+    fn plays(
+        rt: &impl Wait,
+        scene: Scene<'_>,
+        stage: &mut Stage,
+    ) -> Result<(), UniqueIndexCreationError> {
+        let (set, pass) = StaticRobustUniqueIndexSet::<CAPACITY>::new(scene.alloc)?;
+        plays(rt, scene, stage, User::new(scene.alloc, &set, pass))
+    }
+}
+
+/// One of a type that has a greater capacity.
+struct Reduced<const CAPACITY: usize>;
+
+impl<const CAPACITY: usize> Form for Reduced<CAPACITY> {
+    fn plays(
+        rt: &impl Wait,
+        scene: Scene<'_>,
+        stage: &mut Stage,
+    ) -> Result<(), UniqueIndexCreationError> {
+        let (set, pass) = StaticRobustUniqueIndexSet::<CAPACITY>::new_with_reduced_capacity(
+            scene.alloc,
+            scene.capacity,
+        )?;
+        plays(rt, scene, stage, User::new(scene.alloc, &set, pass))
+    }
+}
+
+fn on_fixed<const CAPACITY: usize>(rt: &impl Wait, scene: Scene<'_>, stage: &mut Stage) {
+    on::<Fixed<CAPACITY>>(rt, scene, stage, "fixed");
+}
+
+fn on_reduced<const CAPACITY: usize>(rt: &impl Wait, scene: Scene<'_>, stage: &mut Stage) {
+    on::<Reduced<CAPACITY>>(rt, scene, stage, "reduced");
+}
+
+/// Plays the block on a set whose type has this greater capacity.
+fn on_greater(rt: &impl Wait, scene: Scene<'_>, of: u64, stage: &mut Stage) -> Option<()> {
+    match of {
+        6 => on_reduced::<6>(rt, scene, stage),
+        8 => on_reduced::<8>(rt, scene, stage),
+        128 => on_reduced::<128>(rt, scene, stage),
+        4_294_967_295 => on_reduced::<4_294_967_295>(rt, scene, stage),
+        4_294_967_296 => on_reduced::<4_294_967_296>(rt, scene, stage),
+        _ => return None,
+    }
+    Some(())
+}
+
+/// The head says more than the capacity: `of 8` is a set of reduced capacity, `at 7` one of one caller at a generation.
+fn forms_of(
+    rt: &impl Wait,
+    scene: Scene<'_>,
+    stage: &mut Stage,
+    word: &str,
+    number: u64,
+) -> Option<()> {
+    match word {
+        "of" => on_greater(rt, scene, number, stage),
+        "at" => {
+            on::<OfGeneration>(rt, scene.of_number(number), stage, "plain");
+            Some(())
+        }
+        _ => None,
+    }
+}
+
+/// Plays the block on all forms.
+pub fn forms(
+    rt: &impl Wait,
+    scene: Scene<'_>,
+    words: &mut Words<'_>,
+    stage: &mut Stage,
+) -> Option<()> {
+    let scene = scene.of_capacity(words.place()?);
+    if let Some(word) = words.word() {
+        return forms_of(rt, scene, stage, word, words.number()?);
+    }
+    on::<Plain>(rt, scene, stage, "plain");
+    on::<Heap>(rt, scene, stage, "heap");
+    match scene.capacity {
+        0 => on_fixed::<0>(rt, scene, stage),
+        3 => on_fixed::<3>(rt, scene, stage),
+        4 => on_fixed::<4>(rt, scene, stage),
+        5 => on_fixed::<5>(rt, scene, stage),
+        100 => on_fixed::<100>(rt, scene, stage),
+        128 => on_fixed::<128>(rt, scene, stage),
+        4_294_967_296 => on_fixed::<4_294_967_296>(rt, scene, stage),
+        _ => {}
+    }
+    Some(())
+}
