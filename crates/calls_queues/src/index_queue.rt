@@ -5,7 +5,7 @@ use crate::queue_user::{ends, plays};
 use calls::forms::{Form, on};
 use calls::stage::{Scene, Stage};
 use calls::words::Words;
-use lock_free::spsc::index_queue::{FixedSizeIndexQueue, IndexQueue};
+use lock_free_sp::spsc::index_queue::{FixedSizeIndexQueue, IndexQueue};
 use std::sync::Wait;
 use steps::enums::UniqueIndexCreationError;
 

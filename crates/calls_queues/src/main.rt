@@ -1,9 +1,8 @@
-//! Makes the calls of texts on queues, the single value and the loan channel, on every form, and tells which lines came
-//! out as written. Each argument is the name of a text.
+//! Makes the calls of texts on queues and the single value, on every form, and tells which lines came out as written. Each
+//! argument is the name of a text.
 #![tactic(auto)]
 
 mod index_queue;
-mod loan;
 mod overflow;
 mod queue;
 mod queue_calls;
@@ -16,7 +15,7 @@ use calls::words::Words;
 use std::io;
 use std::sync::Wait;
 
-/// The queues, the value and the channel.
+/// The queues and the value.
 struct Queues;
 
 impl Structures for Queues {
@@ -31,7 +30,6 @@ impl Structures for Queues {
             "overflow" => overflow::forms(rt, scene, words, stage),
             "queue" => queue::forms(rt, scene, words, stage),
             "atomic" => value::forms(rt, scene, words, stage),
-            "loan" => loan::forms(rt, scene, words, stage),
             _ => None,
         }
     }

@@ -5,7 +5,7 @@ use crate::queue_user::{ends, plays};
 use calls::forms::{Form, on};
 use calls::stage::{Scene, Stage};
 use calls::words::Words;
-use lock_free::spsc::safely_overflowing_index_queue::{
+use lock_free_sp::spsc::safely_overflowing_index_queue::{
     FixedSizeSafelyOverflowingIndexQueue, SafelyOverflowingIndexQueue,
 };
 use std::sync::Wait;

@@ -1,11 +1,11 @@
 //! Queues of values.
 ghost use Rattle.std.specs.Prelude.{◌≡◌};
-ghost use Rattle.lock_free.specs.Ends.{ring_of, IsPassOf};
+ghost use Rattle.lock_free_sp.specs.Ends.{ring_of, IsPassOf};
 
 use crate::queue_user::{ends, plays};
 use calls::stage::{Scene, Stage};
 use calls::words::Words;
-use lock_free::spsc::queue::{Pass, Queue};
+use lock_free_sp::spsc::queue::{Pass, Queue};
 use long_values::long_values::{Greatest, Sixteen, Three};
 use long_values::numbered::Numbered;
 use std::sync::Wait;

@@ -1,7 +1,7 @@
 //! Who uses a queue of threads.
 ghost use Rattle.std.specs.Prelude.{◌≡◌};
 ghost use Rattle.std.specs.Option.{ForSome};
-ghost use Rattle.lock_free.specs.Ends.{queue_id, IsPassOf, producer_queue, consumer_queue};
+ghost use Rattle.lock_free_sp.specs.Ends.{queue_id, IsPassOf, producer_queue, consumer_queue};
 
 use crate::queue_calls::{QueueCall, Role, RoleCall, popped};
 use calls::answer::Answer;

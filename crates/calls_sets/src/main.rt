@@ -1,11 +1,11 @@
-//! Makes the calls of texts on bit sets, counting bit sets and sets of indices, on every form, and tells which lines came
-//! out as written. Each argument is the name of a text.
+//! Makes the calls of texts on bit sets, counting bit sets, unique index sets and the loan channel over such a set, on
+//! every form, and tells which lines came out as written. Each argument is the name of a text.
 #![tactic(auto)]
 
 mod bits;
 mod counts;
 mod indices;
-mod robust;
+mod loan;
 
 use calls::blocks::{Structures, plays_all};
 use calls::stage::{Scene, Stage};
@@ -13,7 +13,7 @@ use calls::words::Words;
 use std::io;
 use std::sync::Wait;
 
-/// The sets.
+/// The sets, and the channel.
 struct Sets;
 
 impl Structures for Sets {
@@ -27,7 +27,7 @@ impl Structures for Sets {
             "bits" => bits::forms(rt, scene, words, stage),
             "counts" => counts::forms(rt, scene, words, stage),
             "indices" => indices::forms(rt, scene, words, stage),
-            "robust" => robust::forms(rt, scene, words, stage),
+            "loan" => loan::forms(rt, scene, words, stage),
             _ => None,
         }
     }

@@ -4,8 +4,8 @@ use calls::frees::Frees;
 use calls::owners::{mode, owner, owner_of, stop};
 use calls::play::Call;
 use calls::words::Words;
-use lock_free::mpmc::robust_unique_index_set::OwnerId;
-use lock_free::mpmc::unique_index_set_enums::ReleaseMode;
+use lock_free_owners::mpmc::robust_unique_index_set::OwnerId;
+use steps::indices::enums::ReleaseMode;
 
 /// A call.
 #[derive(Clone, Copy)]

@@ -1,5 +1,5 @@
 //! Who uses a set of indices of owners of threads.
-ghost use Rattle.lock_free.specs.RobustUniqueIndexSet.{IsPassOf};
+ghost use Rattle.lock_free_owners.specs.RobustUniqueIndexSet.{IsPassOf};
 
 use super::alone::{acquired, asks_owner, hear, released, says_owner};
 use super::call::RobustCall;
@@ -8,11 +8,11 @@ use calls::frees::{Asked, Frees};
 use calls::heard::Heard;
 use calls::play::Answers;
 use calls::said::{ended, goes_on};
-use lock_free::mpmc::robust_unique_index_set::{OwnerId, Pass, RobustUniqueIndexSet};
-use lock_free::mpmc::unique_index_set_enums::ReleaseMode;
+use lock_free_owners::mpmc::robust_unique_index_set::{OwnerId, Pass, RobustUniqueIndexSet};
 use std::alloc::Global;
 use std::mem;
 use std::sync::Wait;
+use steps::indices::enums::ReleaseMode;
 
 /// Who uses a set of threads.
 #[derive(Drop)]

@@ -1,8 +1,9 @@
-//! Makes the calls of texts on containers, on every form, and tells which lines came out as written. Each argument is the
-//! name of a text.
+//! Makes the calls of texts on sets of indices of owners and on containers, on every form, and tells which lines came out
+//! as written. Each argument is the name of a text.
 #![tactic(auto)]
 
 mod container;
+mod robust;
 
 use calls::blocks::{Structures, plays_all};
 use calls::stage::{Scene, Stage};
@@ -10,10 +11,10 @@ use calls::words::Words;
 use std::io;
 use std::sync::Wait;
 
-/// Containers.
-struct Containers;
+/// The structures with owners.
+struct Owned;
 
-impl Structures for Containers {
+impl Structures for Owned {
     fn forms(
         rt: &impl Wait,
         scene: Scene<'_>,
@@ -22,11 +23,12 @@ impl Structures for Containers {
     ) -> Option<()> {
         match words.word()? {
             "container" => container::forms(rt, scene, words, stage),
+            "robust" => robust::forms(rt, scene, words, stage),
             _ => None,
         }
     }
 }
 
 fn main(rt: HostRuntime) -> io::Result<()> {
-    plays_all::<Containers, _>(&rt)
+    plays_all::<Owned, _>(&rt)
 }

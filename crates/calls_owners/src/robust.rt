@@ -6,7 +6,9 @@ use calls::forms::{Form, on};
 use calls::play::{Nobody, play};
 use calls::stage::{Scene, Stage};
 use calls::words::Words;
-use lock_free::mpmc::robust_unique_index_set::{RobustUniqueIndexSet, StaticRobustUniqueIndexSet};
+use lock_free_owners::mpmc::robust_unique_index_set::{
+    RobustUniqueIndexSet, StaticRobustUniqueIndexSet,
+};
 use std::sync::Wait;
 use steps::enums::UniqueIndexCreationError;
 
