@@ -1,6 +1,5 @@
 //! What a loan channel is made of.
-ghost use Rattle.lock_free.specs.Unique.Held.{HoldsNothing};
-ghost use Rattle.lock_free.specs.UniqueIndexSet.{made, IsPassOf};
+ghost use Rattle.lock_free.specs.UniqueIndexSet.{IsPassOf};
 ghost use Rattle.lock_free.specs.Ends as ends;
 
 use lock_free::mpmc::unique_index_set::{Pass, UniqueIndexSet};
@@ -22,7 +21,6 @@ pub struct Channel {
     ghost of_set: { IsPassOf set slots },
     ghost of_submission: { ends.IsPassOf submission sends },
     ghost of_completion: { ends.IsPassOf completion returns },
-    ghost nothing: { HoldsNothing (made slots) },
 }
 
 impl Channel {

@@ -104,12 +104,12 @@ impl<'a> User<'a> {
         returns: index_queue::Pass,
     ) -> Option<User<'a>>
         requires set { IsPassOf set.now slots }
-        requires nothing { HoldsNothing (made slots) }
         requires submission { ends.IsPassOf submission.now sends }
         requires completion { ends.IsPassOf completion.now returns }
     {
-        let mut slots = slots;
-        let looks = slots.split()?;
+        // what is split off holds no index
+        let mut looks = slots;
+        let slots = looks.split()?;
         let (producer, receives) = sending(submission, sends)?;
         let (consumer, returns, last) = returning(completion, returns)?;
         let sender = sender(alloc, set, slots, producer, consumer)?;
