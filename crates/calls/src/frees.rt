@@ -12,6 +12,8 @@ pub enum Frees {
     EveryOther,
     /// Those with these numbers, by the bits of a word.
     These(u64),
+    /// The same, and it is said of each index whose it is.
+    Owned(u64),
     /// Drawn from this seed; of 0 all.
     Drawn(u64),
 }
@@ -28,12 +30,20 @@ fn bits(words: &mut Words<'_>, first: u64) -> Option<u64> {
     None
 }
 
+/// The same, or none.
+fn numbered(words: &mut Words<'_>) -> Option<u64> {
+    match words.word()? {
+        "none" => Some(0),
+        word => bits(words, word.parse().ok()?),
+    }
+}
+
 fn bit(number: u64) -> Option<u64> {
     if number < 64 { Some(1 << number) } else { None }
 }
 
 impl Frees {
-    /// `frees none`, `frees all`, `frees every_other`, `frees of 7` or `frees 0 2`.
+    /// `frees none`, `frees all`, `frees every_other`, `frees of 7`, `frees 0 2`, `frees owned none` or `frees owned 0 2`.
     pub fn parse(words: &mut Words<'_>) -> Option<Frees> {
         if !words.comes("frees") {
             return None;
@@ -43,6 +53,7 @@ impl Frees {
             "all" => Some(Frees::Drawn(0)),
             "every_other" => Some(Frees::EveryOther),
             "of" => Some(Frees::Of(OwnerId::new(words.number()?).ok()?)),
+            "owned" => Some(Frees::Owned(numbered(words)?)),
             word => Some(Frees::These(bits(words, word.parse().ok()?)?)),
         }
     }
@@ -75,6 +86,7 @@ impl Asked {
             Frees::Of(dead) => owner == dead,
             Frees::EveryOther => number % 2 == 0,
             Frees::These(bits) => number < 64 && bits >> number & 1 == 1,
+            Frees::Owned(bits) => number < 64 && bits >> number & 1 == 1,
             Frees::Drawn(seed) => seed == 0 || self.draws.in_eight(4),
         }
     }

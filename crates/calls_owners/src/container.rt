@@ -15,6 +15,7 @@ use steps::enums::UniqueIndexCreationError;
 
 mod alone;
 mod call;
+mod kept;
 mod user;
 
 /// Plays the block on a container of one caller and on one of threads. Where there is no user of one, memory was refused.
@@ -105,6 +106,7 @@ fn of<T: Numbered>(rt: &impl Wait, scene: Scene<'_>, stage: &mut Stage) {
         3 => on_fixed::<T, 3>(rt, scene, stage),
         4 => on_fixed::<T, 4>(rt, scene, stage),
         5 => on_fixed::<T, 5>(rt, scene, stage),
+        9 => on_fixed::<T, 9>(rt, scene, stage),
         139 => on_fixed::<T, 139>(rt, scene, stage),
         4_294_967_296 => on_fixed::<T, 4_294_967_296>(rt, scene, stage),
         _ => {}

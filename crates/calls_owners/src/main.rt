@@ -3,6 +3,7 @@
 #![tactic(auto)]
 
 mod container;
+mod facts;
 mod robust;
 
 use calls::blocks::{Structures, plays_all};
@@ -23,6 +24,7 @@ impl Structures for Owned {
     ) -> Option<()> {
         match words.word()? {
             "container" => container::forms(rt, scene, words, stage),
+            "facts" => facts::forms(rt, scene, stage),
             "robust" => robust::forms(rt, scene, words, stage),
             _ => None,
         }

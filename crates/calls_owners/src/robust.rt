@@ -172,6 +172,7 @@ pub fn forms(
         3 => on_fixed::<3>(rt, scene, stage),
         4 => on_fixed::<4>(rt, scene, stage),
         5 => on_fixed::<5>(rt, scene, stage),
+        9 => on_fixed::<9>(rt, scene, stage),
         100 => on_fixed::<100>(rt, scene, stage),
         128 => on_fixed::<128>(rt, scene, stage),
         4_294_967_296 => on_fixed::<4_294_967_296>(rt, scene, stage),

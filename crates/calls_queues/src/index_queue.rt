@@ -69,6 +69,7 @@ fn on_types(rt: &impl Wait, scene: Scene<'_>, stage: &mut Stage) {
         4 => on_fixed::<4>(rt, scene, stage),
         5 => on_fixed::<5>(rt, scene, stage),
         8 => on_fixed::<8>(rt, scene, stage),
+        9 => on_fixed::<9>(rt, scene, stage),
         128 => on_fixed::<128>(rt, scene, stage),
         4_294_967_296 => on_fixed::<4_294_967_296>(rt, scene, stage),
         _ => {}

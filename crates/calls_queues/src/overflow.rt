@@ -77,6 +77,7 @@ fn on_types(rt: &impl Wait, scene: Scene<'_>, stage: &mut Stage) {
         1 => on_fixed::<1>(rt, scene, stage),
         2 => on_fixed::<2>(rt, scene, stage),
         5 => on_fixed::<5>(rt, scene, stage),
+        9 => on_fixed::<9>(rt, scene, stage),
         _ => {}
     }
 }

@@ -87,6 +87,7 @@ fn of_u128(rt: &impl Wait, scene: Scene<'_>, stage: &mut Stage, at: Option<u64>)
         1 => on::<u128, 1>(rt, scene, stage, at),
         2 => on::<u128, 2>(rt, scene, stage, at),
         3 => on::<u128, 3>(rt, scene, stage, at),
+        9 => on::<u128, 9>(rt, scene, stage, at),
         63 => on::<u128, 63>(rt, scene, stage, at),
         5000 => on::<u128, 5000>(rt, scene, stage, at),
         _ => None,

@@ -19,6 +19,7 @@ pub enum BitCall {
     Set(usize),
     Next,
     All,
+    Capacity,
     /// The next calls are made by another pass.
     Other,
 }
@@ -29,6 +30,7 @@ impl Call for BitCall {
             "set" => Some(BitCall::Set(words.place()?)),
             "reset_next" => Some(BitCall::Next),
             "reset_all" => Some(BitCall::All),
+            "capacity" => Some(BitCall::Capacity),
             "other" => Some(BitCall::Other),
             _ => None,
         }
@@ -93,6 +95,7 @@ impl Answers<BitCall> for plain::BitSet {
             }
             BitCall::Next => perhaps(self.reset_next(), answer),
             BitCall::All => empties(self, answer),
+            BitCall::Capacity => answer.number(self.capacity() as u64),
             BitCall::Other => {}
         }
     }
@@ -148,6 +151,7 @@ impl<'a> Answers<BitCall> for User<'a> {
             BitCall::Set(place) => self.sets(rt, place, answer),
             BitCall::Next => self.resets(rt, answer),
             BitCall::All => self.empties(answer),
+            BitCall::Capacity => answer.number(self.set.capacity() as u64),
             BitCall::Other => self.turns(),
         }
     }
@@ -231,6 +235,7 @@ pub fn forms(
         0 => on_fixed::<0>(rt, scene, stage),
         1 => on_fixed::<1>(rt, scene, stage),
         5 => on_fixed::<5>(rt, scene, stage),
+        9 => on_fixed::<9>(rt, scene, stage),
         64 => on_fixed::<64>(rt, scene, stage),
         123 => on_fixed::<123>(rt, scene, stage),
         128 => on_fixed::<128>(rt, scene, stage),

@@ -21,6 +21,7 @@ const OFTEN: usize = 100_000;
 pub enum CountCall {
     Set(usize),
     All,
+    Capacity,
     /// The next calls are made by another pass.
     Other,
     MaxCount,
@@ -31,6 +32,7 @@ impl Call for CountCall {
         match words.word()? {
             "set" => Some(CountCall::Set(words.place()?)),
             "reset_all" => Some(CountCall::All),
+            "capacity" => Some(CountCall::Capacity),
             "other" => Some(CountCall::Other),
             "max_count" => Some(CountCall::MaxCount),
             _ => None,
@@ -94,6 +96,7 @@ impl Answers<CountCall> for plain::CountingBitSet {
                 }
             }
             CountCall::All => empties(self, answer),
+            CountCall::Capacity => answer.number(self.capacity() as u64),
             CountCall::Other => {}
             CountCall::MaxCount => answer.number(plain::CountingBitSet::max_count()),
         }
@@ -150,6 +153,7 @@ impl<'a> Answers<CountCall> for User<'a> {
         match call {
             CountCall::Set(place) => self.counts(place, answer),
             CountCall::All => self.empties(answer),
+            CountCall::Capacity => answer.number(self.set.capacity() as u64),
             CountCall::Other => self.turns(),
             CountCall::MaxCount => answer.number(CountingBitSet::max_count()),
         }
@@ -234,6 +238,7 @@ pub fn forms(
         0 => on_fixed::<0>(rt, scene, stage),
         2 => on_fixed::<2>(rt, scene, stage),
         5 => on_fixed::<5>(rt, scene, stage),
+        9 => on_fixed::<9>(rt, scene, stage),
         123 => on_fixed::<123>(rt, scene, stage),
         4_294_967_296 => on_fixed::<4_294_967_296>(rt, scene, stage),
         _ => {}

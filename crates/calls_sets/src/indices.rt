@@ -130,6 +130,7 @@ pub fn forms(
         1 => on_fixed::<1>(rt, scene, stage),
         3 => on_fixed::<3>(rt, scene, stage),
         5 => on_fixed::<5>(rt, scene, stage),
+        9 => on_fixed::<9>(rt, scene, stage),
         16_777_215 => on_fixed::<16_777_215>(rt, scene, stage),
         _ => {}
     }

@@ -1,5 +1,6 @@
 //! A container of one caller answers calls.
 use super::call::{ContainerCall, Recovery, Show, Update};
+use super::kept::Kept;
 use calls::answer::Answer;
 use calls::frees::Asked;
 use calls::heard::Heard;
@@ -87,6 +88,7 @@ pub fn found<T: Numbered>(
 pub struct Alone<T: Numbered> {
     container: Container<T>,
     state: ContainerState<T>,
+    kept: Kept<T>,
     alloc: Global,
     number: u64,
 }
@@ -98,6 +100,7 @@ impl<T: Numbered> Alone<T> {
         Some(Alone {
             container,
             state,
+            kept: Kept::new(alloc, number, capacity)?,
             alloc,
             number,
         })
@@ -194,6 +197,7 @@ impl<T: Numbered> Answers<ContainerCall> for Alone<T> {
                 self.shows_other(capacity, number, answer);
             }
             ContainerCall::Get(index) => gets(&self.state, index, answer),
+            ContainerCall::State(at) => self.kept.turns(&mut self.state, at),
             ContainerCall::Find(owner, stop) => self.finds(owner, stop, answer),
             ContainerCall::Recover(how) => self.recovers(how, answer),
             ContainerCall::Len => answer.number(self.container.len() as u64),

@@ -21,6 +21,8 @@ pub enum ContainerCall {
     ShowOther(usize, u64),
     /// What the state has at this index.
     Get(usize),
+    /// The next calls are about the state of this number, of three.
+    State(usize),
     /// The closure says Stop at this one of what it hears.
     Find(OwnerId, u64),
     Recover(Recovery),
@@ -210,6 +212,7 @@ impl Call for ContainerCall {
             "for_each" => show_of(words, Update::Nothing),
             "update_state_by" => show_other(words),
             "get" => Some(ContainerCall::Get(words.place()?)),
+            "state" => Some(ContainerCall::State(words.place()?)),
             "find" => find(words),
             "recover" => recover(words),
             word => look(word),

@@ -3,6 +3,7 @@ ghost use Rattle.lock_free_owners.specs.Container.Names.{IsPassOf};
 
 use super::alone::{added, found, gets, removed, replaced, shown};
 use super::call::{ContainerCall, Recovery, Show, Update};
+use super::kept::Kept;
 use calls::answer::Answer;
 use calls::frees::Asked;
 use calls::heard::Heard;
@@ -24,6 +25,7 @@ pub struct User<'a, T: Numbered> {
     pass: Pass<T>,
     other: Pass<T>,
     state: ContainerState<T>,
+    kept: Kept<T>,
     alloc: Global,
     number: u64,
     ghost of: { IsPassOf container.now pass },
@@ -45,11 +47,13 @@ impl<'a, T: Numbered> User<'a, T> {
         let mut other = pass.split()?;
         other.join(pass.split()?);
         let state = container.get_state(rt, &mut pass).ok()?;
+        let kept = Kept::new(alloc, number, container.capacity())?;
         Some(User {
             container,
             pass,
             other,
             state,
+            kept,
             alloc,
             number,
         })
@@ -185,6 +189,7 @@ impl<'a, T: Numbered> Answers<ContainerCall> for User<'a, T> {
                 self.shows_other(rt, capacity, number, answer);
             }
             ContainerCall::Get(index) => gets(&self.state, index, answer),
+            ContainerCall::State(at) => self.kept.turns(&mut self.state, at),
             ContainerCall::Find(owner, stop) => self.finds(owner, stop, answer),
             ContainerCall::Recover(how) => self.recovers(rt, how, answer),
             ContainerCall::Len => self.number(rt, answer),

@@ -36,8 +36,7 @@ pub fn released(
 pub fn says_owner(frees: Frees, owner: OwnerId) -> bool {
     match frees {
         Frees::Of(dead) => owner != dead,
-        Frees::Drawn(_) => true,
-        _ => false,
+        _ => asks_owner(frees),
     }
 }
 
@@ -45,6 +44,7 @@ pub fn says_owner(frees: Frees, owner: OwnerId) -> bool {
 pub fn asks_owner(frees: Frees) -> bool {
     match frees {
         Frees::Drawn(_) => true,
+        Frees::Owned(_) => true,
         _ => false,
     }
 }
