@@ -1,7 +1,7 @@
 //! The single value.
 ghost use Rattle.std.specs.Prelude.{◌≡◌, ◌≤◌};
 ghost use Rattle.std.specs.Option.{ForSome};
-ghost use Rattle.lock_free.specs.UnrestrictedAtomic.{IsPassOf, value_id, value_of_producer};
+ghost use Rattle.lock_free.specs.Value.Calls.{IsPassOf, value_id, value_of_producer};
 
 use crate::answer::Answer;
 use crate::drawn::Draws;
