@@ -101,7 +101,7 @@ module _ {T : Type 0} where
       record {
         since = record { rest = k.since.rest ++ goes.since.rest; is = goes.since.is ∙ (ap (λ es. es ++ goes.since.rest) k.since.is ∙ append_assoc v.seen k.since.rest goes.since.rest) };
         all = All-push (Contains (stored u.seen)) xs x (all_there (stored w.seen) (stored goes.since.rest) (stored u.seen) xs (stored_on w.seen u.seen goes.since) k.all) (loaded_is_there x w u h);
-        made = made_more w.made u.made _ h.called.made ∙ k.made;
+        made = let one = made_more w.made u.made _ h.called.made in let before = k.made in omega arith;
         share = goes.share ∙ k.share;
       }
 
