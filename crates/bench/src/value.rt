@@ -1,5 +1,5 @@
 //! The rows of the single value, of 16 words.
-ghost use Rattle.lock_free.specs.UnrestrictedAtomic.{IsPassOf};
+ghost use Rattle.lock_free.specs.Value.Calls.{IsPassOf};
 
 use crate::hand::value as by_hand;
 use crate::timing::{Row, Timed, print_timed};

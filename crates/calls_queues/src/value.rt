@@ -1,7 +1,7 @@
 //! The single value.
 ghost use Rattle.std.specs.Prelude.{◌≡◌, ◌≤◌};
 ghost use Rattle.std.specs.Option.{ForSome};
-ghost use Rattle.lock_free_sp.specs.UnrestrictedAtomic.{IsPassOf, value_id, value_of_producer};
+ghost use Rattle.lock_free_value.specs.Calls.{IsPassOf, value_id, value_of_producer};
 
 use crate::queue_calls::{RoleCall, alone};
 use calls::answer::Answer;
@@ -9,7 +9,7 @@ use calls::drawn::Draws;
 use calls::play::{Answers, Call, play};
 use calls::stage::{Scene, Stage};
 use calls::words;
-use lock_free_sp::spmc::unrestricted_atomic::{Pass, Producer, UnrestrictedAtomic};
+use lock_free_value::spmc::unrestricted_atomic::{Pass, Producer, UnrestrictedAtomic};
 use long_values::long_values::{Greatest, Sixteen, Three};
 use long_values::numbered::Numbered;
 use std::mem;

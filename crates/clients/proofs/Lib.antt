@@ -3,4 +3,4 @@ mod Merging
 pub mod Rings
 pub mod Rows
 pub mod Tallied
-mod Versions
+mod Readings

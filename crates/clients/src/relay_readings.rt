@@ -3,7 +3,7 @@
 
 ghost use Rattle.std.specs.Prelude.{◌≡◌, IfSome, ◌∷◌, All, length};
 ghost use Rattle.std.specs.List.{Contains};
-ghost use Rattle.lock_free.specs.UnrestrictedAtomic.{view, value_of_pass, IsPassOf};
+ghost use Rattle.lock_free.specs.Value.Calls.{view, value_of_pass, IsPassOf};
 ghost use Rattle.clients.specs.Readings.{HasWritten, HasRead, last_of};
 
 use lock_free::spmc::unrestricted_atomic::{Pass, UnrestrictedAtomic};
@@ -132,7 +132,6 @@ pub fn show<R: Threads + Wait + Sync>(
     let (further, seen) = loaded?;
     pass.join(further);
     let last = shared.load(rt, &mut pass);
-    pass.look();
     Some(Shown { seen, last })
 }
 

@@ -1,6 +1,6 @@
 -- For clients: what follows for who has the whole share, and what their proofs are made of.
 pub use Rattle.lock_free_sp.proofs.Whole
-pub use Rattle.lock_free_sp.proofs.WholeValue
+pub use Rattle.lock_free_value.proofs.Versions as ValueVersions
 pub use Rattle.lock_free_sp.proofs.Fractions
 pub use Rattle.lock_free_sp.proofs.Orders
 pub use Rattle.lock_free_sp.proofs.Shares

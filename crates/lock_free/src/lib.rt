@@ -4,5 +4,6 @@
 pub mod mpmc;
 pub mod spsc;
 
-pub use lock_free_sp::{laws, spmc};
+pub use lock_free_sp::laws;
+pub use lock_free_value::{laws as value_laws, spmc};
 pub use steps::words;

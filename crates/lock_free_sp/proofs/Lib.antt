@@ -2,7 +2,6 @@ pub mod Shares
 pub mod Orders
 pub mod Whole
 pub mod Fractions
-pub mod WholeValue
 pub mod Driving
 pub mod Callable
 pub mod Rules

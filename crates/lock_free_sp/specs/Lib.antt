@@ -7,5 +7,3 @@ pub mod Parts
 pub mod Orders
 pub mod Ring
 pub mod Ends
-pub mod Value
-pub mod UnrestrictedAtomic

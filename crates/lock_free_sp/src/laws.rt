@@ -1,15 +1,13 @@
 //! What follows for who has the whole right to know, for clients. These functions do nothing: the contract of each is a
 //! law, whose proof is a lemma that a client's proof can cite.
-ghost use Rattle.std.specs.Prelude.{◌≡◌, ◌⊎◌, ◌<◌, ℕ, List, ◌∷◌, length, take, All};
-ghost use Rattle.std.specs.List.{Contains, sum};
+ghost use Rattle.std.specs.Prelude.{◌≡◌, ◌<◌, ℕ, List, ◌∷◌, length, take};
+ghost use Rattle.std.specs.List.{sum};
 ghost use Rattle.lock_free_sp.specs.declared.share.Share.{Share};
 ghost use Rattle.lock_free_sp.specs.declared.ring.view.View.{View};
-ghost use Rattle.lock_free_sp.specs.declared.value.view.View as value;
-ghost use Rattle.lock_free_sp.specs.Shares.{At, IsAll, rest, pieces, added};
+ghost use Rattle.lock_free_sp.specs.Shares.{IsAll, rest, pieces, added};
 ghost use Rattle.lock_free_sp.specs.Parts.{AreParts};
 ghost use Rattle.lock_free_sp.specs.Orders.{values_in_order};
 ghost use Rattle.lock_free_sp.specs.Ring.Between.{Sound, Complete, Emptied};
-ghost use Rattle.lock_free_sp.specs.Value.Between as values;
 
 /// Of a queue: the values that were taken, in the order of their positions, are a beginning of those that were
 /// published, in the order of theirs. The lemma is `taken_is_beginning` of `proofs/Whole.antt`.
@@ -29,20 +27,6 @@ pub fn emptied_is_all<T>()
 pub fn taken_is_all<T>()
     ensures { (v : View T) → Sound v → Complete v → length v.taken ≡ length v.published
         → values_in_order v.taken ≡ values_in_order v.published }
-{}
-
-/// Of a value: each that was loaded was stored at its version, or has the opening one. The lemma is
-/// `stored_or_opening` of `proofs/WholeValue.antt`.
-pub fn stored_or_opening<T>()
-    ensures { (v : value.View T) → values.Sound v → values.Complete v
-        → All (λ x. (x.0 ≡ v.opening) ⊎ Contains v.stored x) v.loaded }
-{}
-
-/// Of a value: what is loaded at a version that is not below any that is known is of the newest. The lemma is `highest`
-/// of `proofs/WholeValue.antt`.
-pub fn loaded_is_newest<T>()
-    ensures { (v : value.View T) → values.Sound v → (c : values.Complete v)
-        → (p : ℕ) → values.UpTo p v → At p v.loaded → p ≡ c.newest }
 {}
 
 /// Of any number of passes: where a whole share is split n times, and all that was split off is joined again, the last

@@ -12,6 +12,4 @@ pub mod driver;
 pub mod laws;
 pub mod ring;
 pub mod share;
-pub mod spmc;
 pub mod spsc;
-pub mod value;

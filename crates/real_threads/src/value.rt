@@ -1,5 +1,5 @@
 //! The single value: one thread stores, and two load.
-ghost use Rattle.lock_free.specs.UnrestrictedAtomic.{IsPassOf};
+ghost use Rattle.lock_free.specs.Value.Calls.{IsPassOf};
 
 use crate::limit::{Limit, SECONDS};
 use crate::tasks::{Task, three_run};

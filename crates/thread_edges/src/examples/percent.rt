@@ -1,6 +1,6 @@
 //! A value whose type has a fact: each one that is popped or loaded has it too.
 ghost use Rattle.std.specs.Prelude.{◌≤◌, IfSome};
-ghost use Rattle.lock_free.specs.UnrestrictedAtomic.{IsPassOf};
+ghost use Rattle.lock_free.specs.Value.Calls.{IsPassOf};
 
 use lock_free::spmc::unrestricted_atomic;
 use lock_free::spmc::unrestricted_atomic::UnrestrictedAtomic;

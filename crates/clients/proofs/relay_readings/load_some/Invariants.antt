@@ -1,5 +1,5 @@
 use Rattle.std.proofs.Common.{◌≡◌, ◌≤◌, length}
-use Rattle.lock_free.specs.UnrestrictedAtomic.{view, value_of_pass}
+use Rattle.lock_free.specs.Value.Calls.{view, value_of_pass}
 use Rattle.clients.specs.Readings.{HasRead}
 use Rattle.clients.proofs.relay_readings.load_some.Given as goal
 

@@ -1,5 +1,5 @@
 use Rattle.std.proofs.Common.{◌≡◌, length, take}
-use Rattle.lock_free.specs.UnrestrictedAtomic.{view, value_of_pass, producer_view, value_of_producer}
+use Rattle.lock_free.specs.Value.Calls.{view, value_of_pass, producer_view, value_of_producer}
 use Rattle.clients.specs.Readings.{HasWritten}
 use Rattle.clients.proofs.relay_readings.write.Given as goal
 

@@ -1,0 +1,8 @@
+-- The single value.
+pub use Rattle.atomic_laws.specs.Stored
+pub use Rattle.history.specs.Value as Reading
+pub use Rattle.history.specs.ValueOpened as Opened
+pub use Rattle.lock_free_value.specs.Calls
+pub use Rattle.lock_free_value.specs.Roles
+pub use Rattle.lock_free_value.specs.Told
+pub use Rattle.lock_free_value.specs.Versions

@@ -1,9 +1,0 @@
-pub mod Histories
-pub mod Stays
-pub mod Roles
-pub mod Stores
-pub mod Loads
-pub mod Comings
-pub mod RoleRuns
-pub mod StoreRuns
-pub mod LoadRuns

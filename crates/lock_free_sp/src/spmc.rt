@@ -1,2 +1,0 @@
-//! One producer at a time and any number of readers.
-pub mod unrestricted_atomic;
