@@ -5,8 +5,8 @@ use super::{BitSet, Pass};
 
 mod calls;
 
-/// A set with a pass of it. Its calls are those of the set. They ask for nothing but a place below the capacity, which an `if` shows.
-/// Each thread has a handle of its own, by `split`. This project's own.
+/// A set with a pass of it. Its calls are those of the set, and ask for nothing but a place below the capacity, which
+/// an `if` shows. Each thread has a handle of its own, by `split`. This project's own.
 #[derive(Drop)]
 pub struct Handle<'a> {
     set: &'a BitSet,

@@ -29,7 +29,7 @@ impl<'a> Handle<'a> {
         self.pass
     }
 
-    /// A further handle of the set, with a pass that has seen the same and made nothing, as by `split` of a pass.
+    /// A further handle of the set, with a pass that has seen the same and made nothing, as by `Pass::split`.
     pub fn split(&mut self) -> Option<Handle<'a>>
         ensures set { set_in self.new ≡ set_in self.old }
         ensures seen { history (pass_in self.new) ≡ history (pass_in self.old) }
@@ -50,14 +50,14 @@ impl<'a> Handle<'a> {
         })
     }
 
-    /// As `capacity` of the set.
+    /// As `BitSet::capacity`.
     pub fn capacity(&self) -> usize
         ensures { result ≡ capacity_of (set_in self.now) }
     {
         self.set.capacity()
     }
 
-    /// As `set` of the set.
+    /// As `BitSet::set`.
     pub fn set(&mut self, rt: &impl Wait, id: usize) -> bool
         requires { id < capacity_of (set_in self.old) }
         ensures set { set_in self.new ≡ set_in self.old }
@@ -68,7 +68,7 @@ impl<'a> Handle<'a> {
         self.set.set(rt, id, &mut self.pass)
     }
 
-    /// As `reset_next` of the set.
+    /// As `BitSet::reset_next`.
     pub fn reset_next(&mut self, rt: &impl Wait) -> Option<usize>
         ensures set { set_in self.new ≡ set_in self.old }
         ensures goes_on { GoesOn (pass_in self.old) (pass_in self.new) }
@@ -79,7 +79,7 @@ impl<'a> Handle<'a> {
         self.set.reset_next(rt, &mut self.pass)
     }
 
-    /// As `reset_all` of the set.
+    /// As `BitSet::reset_all`.
     pub fn reset_all<F: FnMut(usize)>(&mut self, visit: F)
         requires { TakesPlaces F.pre (λ p x q. F.step p x tt q) (capacity_of (set_in self.old)) visit }
         ensures set { set_in self.new ≡ set_in self.old }
