@@ -1,10 +1,9 @@
 //! The calls by a handle: those of its set.
-ghost use Rattle.std.specs.Prelude.{◌≡◌, ◌<◌, [], None, IfSome, IfNone};
-ghost use Rattle.lock_free_sp.specs.Shares.{half_of};
-ghost use Rattle.lock_free.specs.Counts.Calls.{capacity_of, IsPassOf, history, made, party, share};
+ghost use Rattle.std.specs.Prelude.{◌≡◌, ◌<◌, IfSome, IfNone};
+ghost use Rattle.lock_free.specs.Counts.Calls.{capacity_of, IsPassOf, share};
 ghost use Rattle.lock_free.specs.Counts.Callable.{TakesCounts};
 ghost use Rattle.lock_free.specs.Counts.Told.{HasCounted, AnswersCount, HasTakenOut, MissedNoCount};
-ghost use Rattle.lock_free.specs.Counts.Handles.{set_in, pass_in, knows, GoesOn};
+ghost use Rattle.lock_free.specs.Counts.Handles.{set_in, pass_in, knows, GoesOn, KnowsTheSame, IsFurther};
 
 use super::Handle;
 use crate::mpmc::counting_bit_set::{CountingBitSet, Pass};
@@ -32,15 +31,9 @@ impl<'a> Handle<'a> {
     /// A further handle of the set, with a pass that has seen the same and made nothing, as by `Pass::split`.
     pub fn split(&mut self) -> Option<Handle<'a>>
         ensures set { set_in self.new ≡ set_in self.old }
-        ensures seen { history (pass_in self.new) ≡ history (pass_in self.old) }
-        ensures made { made (pass_in self.new) ≡ made (pass_in self.old) }
-        ensures party { party (pass_in self.new) ≡ party (pass_in self.old) }
+        ensures same { KnowsTheSame (pass_in self.old) (pass_in self.new) }
         ensures new { IfSome result (λ h. set_in h ≡ set_in self.old) }
-        ensures new_seen { IfSome result (λ h. history (pass_in h) ≡ history (pass_in self.old)) }
-        ensures new_made { IfSome result (λ h. made (pass_in h) ≡ []) }
-        ensures new_party { IfSome result (λ h. party (pass_in h) ≡ None) }
-        ensures halves { IfSome result (λ h. (share (pass_in self.new) ≡ half_of (share (pass_in self.old)))
-            × (share (pass_in h) ≡ half_of (share (pass_in self.old)))) }
+        ensures further { IfSome result (λ h. IsFurther (pass_in self.old) (pass_in self.new) (pass_in h)) }
         ensures none { IfNone result (share (pass_in self.new) ≡ share (pass_in self.old)) }
     {
         let pass = self.pass.split()?;

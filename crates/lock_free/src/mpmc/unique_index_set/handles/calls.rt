@@ -1,13 +1,12 @@
 //! The calls by a handle: those of its set.
-ghost use Rattle.std.specs.Prelude.{◌≡◌, ◌≤◌, ℕ, false, [], List, length, IfSome, IfNone, IfOk, IfErr, IsTrue, IsFalse};
+ghost use Rattle.std.specs.Prelude.{◌≡◌, ◌≤◌, ℕ, false, List, length, IfSome, IfNone, IfOk, IfErr, IsTrue, IsFalse};
 ghost use Rattle.model.specs.declared.event.Answer.TheVariants.{Number, Truth};
 ghost use Rattle.model.specs.declared.families.indices.IndexStart.TheVariants as starts;
 ghost use Rattle.model.specs.Families.Indices.Reading.{is_locked};
-ghost use Rattle.lock_free_sp.specs.Shares.{half_of};
 ghost use Rattle.lock_free.specs.Unique.Held.{HeldBy, HoldsNothing, HoldsAll};
 ghost use Rattle.lock_free.specs.Unique.Told.{HasAcquired, WasRefused, HasCounted, HasLooked, Answered};
 ghost use Rattle.lock_free.specs.UniqueIndexSet.{capacity_of, IsPassOf, history, made, share, value_of, index_pass, index_view};
-ghost use Rattle.lock_free.specs.Unique.Handles.{set_in, pass_in, knows, GoesOn};
+ghost use Rattle.lock_free.specs.Unique.Handles.{set_in, pass_in, knows, GoesOn, KnowsTheSame, IsFurther};
 
 use super::Handle;
 use crate::mpmc::unique_index_set::{Pass, UniqueIndex, UniqueIndexSet};
@@ -36,14 +35,9 @@ impl<'a> Handle<'a> {
     /// A further handle of the set, with a pass that has seen the same and holds nothing, as by `Pass::split`.
     pub fn split(&mut self) -> Option<Handle<'a>>
         ensures set { set_in self.new ≡ set_in self.old }
-        ensures seen { history (pass_in self.new) ≡ history (pass_in self.old) }
-        ensures made { made (pass_in self.new) ≡ made (pass_in self.old) }
+        ensures same { KnowsTheSame (pass_in self.old) (pass_in self.new) }
         ensures new { IfSome result (λ h. set_in h ≡ set_in self.old) }
-        ensures new_seen { IfSome result (λ h. history (pass_in h) ≡ history (pass_in self.old)) }
-        ensures new_made { IfSome result (λ h. made (pass_in h) ≡ []) }
-        ensures nothing { IfSome result (λ h. HoldsNothing (made (pass_in h))) }
-        ensures halves { IfSome result (λ h. (share (pass_in self.new) ≡ half_of (share (pass_in self.old)))
-            × (share (pass_in h) ≡ half_of (share (pass_in self.old)))) }
+        ensures further { IfSome result (λ h. IsFurther (pass_in self.old) (pass_in self.new) (pass_in h)) }
         ensures none { IfNone result (share (pass_in self.new) ≡ share (pass_in self.old)) }
     {
         let pass = self.pass.split()?;
