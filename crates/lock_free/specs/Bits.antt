@@ -3,3 +3,4 @@ pub mod Callable
 pub mod Stages
 pub mod Told
 pub mod Calls
+pub mod Handles

@@ -5,3 +5,4 @@ pub mod Driven
 pub mod Told
 pub mod Sums
 pub mod Calls
+pub mod Handles

@@ -1,3 +1,4 @@
 -- The words of the contracts of unique index sets.
 pub mod Held
 pub mod Told
+pub mod Handles

@@ -5,3 +5,4 @@ pub mod Stages
 pub mod Visits
 pub mod Questions
 pub mod Recovery
+pub mod Handles

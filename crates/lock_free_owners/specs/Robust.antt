@@ -3,3 +3,4 @@ pub mod Kept
 pub mod Calls
 pub mod Stages
 pub mod Callable
+pub mod Handles

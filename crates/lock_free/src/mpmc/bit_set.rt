@@ -13,9 +13,12 @@ use std::sync::Arc;
 mod calls;
 mod drives;
 mod fixed;
+mod handles;
 mod make;
 mod passes;
 pub mod rule;
+
+pub use handles::Handle;
 
 /// A set of places, each set or clear, which threads share by reference. The flags stand 64 to a word.
 /// After `BitSet` of the Rust crate.

@@ -13,9 +13,12 @@ pub use steps::bits::counting_bit_set::BitState;
 mod calls;
 mod drives;
 mod fixed;
+mod handles;
 mod make;
 mod passes;
 pub mod rule;
+
+pub use handles::Handle;
 
 /// A count for each of its places, which threads share by reference. After `CountingBitSet` of the Rust crate.
 #[derive(Drop)]

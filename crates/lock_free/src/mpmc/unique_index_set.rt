@@ -17,10 +17,13 @@ use std::sync::Arc;
 mod calls;
 mod drives;
 mod fixed;
+mod handles;
 mod index;
 mod make;
 mod passes;
 pub mod rule;
+
+pub use handles::Handle;
 
 /// A set of the indices below its capacity, which threads share by reference. After `UniqueIndexSet` of the Rust crate.
 #[derive(Drop)]

@@ -17,12 +17,14 @@ use steps::words::Words;
 mod calls;
 mod counts;
 mod fixed;
+mod handles;
 mod looks;
 mod make;
 mod passes;
 mod recovery;
 mod visits;
 
+pub use handles::Handle;
 pub use steps::container::enums::{ContainerAddFailure, ContainerRemoveError, ContainerStateError};
 pub use steps::container::handle::ContainerHandle;
 pub use steps::container::state::ContainerState;

@@ -25,10 +25,12 @@ mod calls;
 mod cells;
 mod counts;
 mod fixed;
+mod handles;
 mod make;
 mod passes;
 mod visits;
 
+pub use handles::Handle;
 pub use steps::enums::{CallbackProgression, OwnerId, OwnerIdNewError};
 pub use steps::indices::enums::RobustUniqueIndexSetReleaseError;
 

@@ -1,0 +1,99 @@
+//! The calls by a handle: those of its set.
+ghost use Rattle.std.specs.Prelude.{◌≡◌, ◌≤◌, ℕ, false, List, length, IfSome, IfNone, IfOk, IfErr, IsTrue, IsFalse};
+ghost use Rattle.model.specs.declared.event.Answer.TheVariants.{Number, Truth};
+ghost use Rattle.model.specs.declared.families.indices.IndexStart.TheVariants as starts;
+ghost use Rattle.model.specs.Families.Indices.Reading.{is_locked};
+ghost use Rattle.lock_free.specs.Unique.Held.{HeldBy, HoldsNothing, HoldsAll};
+ghost use Rattle.lock_free.specs.Unique.Told.{HasAcquired, WasRefused, HasCounted, HasLooked, Answered};
+ghost use Rattle.lock_free.specs.UniqueIndexSet.{capacity_of, IsPassOf, history, made, share, value_of, index_pass, index_view};
+ghost use Rattle.lock_free.specs.Unique.Handles.{set_in, pass_in, knows, GoesOn, KnowsTheSame, IsFurther};
+
+use super::Handle;
+use crate::mpmc::unique_index_set::{Pass, UniqueIndex, UniqueIndexSet};
+use std::sync::Wait;
+use steps::indices::enums::UniqueIndexSetAcquireFailure;
+
+impl UniqueIndexSet {
+    /// A handle: this set with a pass of it. No atomic step. This project's own.
+    pub fn handle(&self, pass: Pass) -> Handle<'_>
+        requires { IsPassOf self.now pass }
+        ensures set { set_in result ≡ self.now }
+        ensures pass { pass_in result ≡ pass }
+    {
+        Handle { set: self, pass }
+    }
+}
+
+impl<'a> Handle<'a> {
+    /// The pass. No atomic step.
+    pub fn into_pass(self) -> Pass
+        ensures { result ≡ pass_in self.entry }
+    {
+        self.pass
+    }
+
+    /// A further handle of the set, with a pass that has seen the same and holds nothing, as by `Pass::split`.
+    pub fn split(&mut self) -> Option<Handle<'a>>
+        ensures set { set_in self.new ≡ set_in self.old }
+        ensures same { KnowsTheSame (pass_in self.old) (pass_in self.new) }
+        ensures new { IfSome result (λ h. set_in h ≡ set_in self.old) }
+        ensures further { IfSome result (λ h. IsFurther (pass_in self.old) (pass_in self.new) (pass_in h)) }
+        ensures none { IfNone result (share (pass_in self.new) ≡ share (pass_in self.old)) }
+    {
+        let pass = self.pass.split()?;
+        Some(Handle {
+            set: self.set,
+            pass,
+        })
+    }
+
+    /// As `UniqueIndexSet::capacity`.
+    pub fn capacity(&self) -> u32
+        ensures { result ≡ capacity_of (set_in self.now) }
+    {
+        self.set.capacity()
+    }
+
+    /// As `UniqueIndexSet::acquire`: the index, which owns the pass, or the failure with the handle. `give_back` of the
+    /// index gives the handle again.
+    pub fn acquire(
+        self,
+        rt: &impl Wait,
+    ) -> Result<UniqueIndex<'a>, (UniqueIndexSetAcquireFailure, Handle<'a>)>
+        ensures goes_on { IfOk result (λ i. GoesOn (pass_in self.entry) (index_pass i)) }
+        ensures acquired { IfOk result (λ i. HasAcquired (value_of i) (knows self.entry) (index_view i)) }
+        ensures refused_goes_on { IfErr result (λ r. GoesOn (pass_in self.entry) (pass_in r.1)) }
+        ensures refused { IfErr result (λ r. WasRefused r.0 (knows self.entry) (knows r.1)) }
+    {
+        let Handle { set, pass } = self;
+        match set.acquire(rt, pass) {
+            Ok(index) => Ok(index),
+            Err((failure, pass)) => Err((failure, set.handle(pass))),
+        }
+    }
+
+    /// As `UniqueIndexSet::borrowed_indices`.
+    pub fn borrowed_indices(&mut self) -> usize
+        ensures set { set_in self.new ≡ set_in self.old }
+        ensures goes_on { GoesOn (pass_in self.old) (pass_in self.new) }
+        ensures counted { HasCounted result (knows self.old) (knows self.new) }
+        ensures answered { Answered starts.BorrowedIndices (Number result) (knows self.old) (knows self.new) }
+        ensures least { (is : List ℕ) → HeldBy is (made (pass_in self.new)) → length is ≤ result }
+        ensures most { result ≤ capacity_of (set_in self.old) }
+        ensures whole { HoldsAll result (knows self.new) }
+    {
+        self.set.borrowed_indices(&mut self.pass)
+    }
+
+    /// As `UniqueIndexSet::is_locked`.
+    pub fn is_locked(&mut self) -> bool
+        ensures set { set_in self.new ≡ set_in self.old }
+        ensures goes_on { GoesOn (pass_in self.old) (pass_in self.new) }
+        ensures looked { HasLooked result (knows self.old) (knows self.new) }
+        ensures answered { Answered starts.IsLocked (Truth result) (knows self.old) (knows self.new) }
+        ensures nothing { IsTrue result → HoldsNothing (made (pass_in self.new)) }
+        ensures unlocked { IsFalse result → is_locked (history (pass_in self.old)) ≡ false }
+    {
+        self.set.is_locked(&mut self.pass)
+    }
+}

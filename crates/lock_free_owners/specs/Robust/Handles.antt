@@ -1,0 +1,16 @@
+-- A handle of a robust unique index set: the set, and the pass that its calls are made with.
+use Rattle.lock_free_owners.specs.declared.robust.view.View.{View}
+use Rattle.lock_free_owners.specs.declared.mpmc.robust_unique_index_set.RobustUniqueIndexSet.{RobustUniqueIndexSet}
+use Rattle.lock_free_owners.specs.declared.mpmc.robust_unique_index_set.Pass.{Pass}
+use Rattle.lock_free_owners.specs.declared.mpmc.robust_unique_index_set.handles.Handle.{Handle}
+use Rattle.lock_free_owners.specs.RobustUniqueIndexSet.{view}
+
+abbrev pub set_in : Handle → RobustUniqueIndexSet
+set_in h = h.set.now
+
+abbrev pub pass_in : Handle → Pass
+pass_in h = h.pass
+
+-- what its pass knows
+abbrev pub knows : Handle → View
+knows h = view h.pass

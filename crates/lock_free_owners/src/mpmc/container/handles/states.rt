@@ -1,0 +1,38 @@
+//! The calls by a handle on states.
+ghost use Rattle.std.specs.Prelude.{◌≡◌, ◌↔◌, IsTrue, IsFalse, IfOk};
+ghost use Rattle.lock_free_owners.specs.Container.Names.{IsStateOf, IsLeft};
+ghost use Rattle.lock_free_owners.specs.Container.Handles.{container_in, knows};
+
+use super::Handle;
+use crate::mpmc::container::{ContainerState, ContainerStateError};
+use std::sync::Wait;
+use steps::words::Words;
+
+impl<'a, T: Words> Handle<'a, T> {
+    /// As `Container::get_state`.
+    pub fn get_state(&mut self, rt: &impl Wait) -> Result<ContainerState<T>, ContainerStateError>
+        ensures container { container_in self.new ≡ container_in self.old }
+        ensures view { knows self.new ≡ knows self.old }
+        ensures state { IfOk result (IsStateOf (container_in self.old)) }
+    {
+        self.container.get_state(rt, &mut self.pass)
+    }
+
+    /// As `Container::update_state`.
+    pub fn update_state(&mut self, rt: &impl Wait, state: &mut ContainerState<T>) -> bool
+        requires { IsStateOf (container_in self.old) state.old }
+        ensures container { container_in self.new ≡ container_in self.old }
+        ensures view { knows self.new ≡ knows self.old }
+        ensures state { IsStateOf (container_in self.old) state.new }
+        ensures left { IsFalse result → IsLeft state.old state.new }
+    {
+        self.container.update_state(rt, state, &mut self.pass)
+    }
+
+    /// As `Container::is_state_of`.
+    pub fn is_state_of(&self, state: &ContainerState<T>) -> bool
+        ensures { IsTrue result ↔ IsStateOf (container_in self.now) state.now }
+    {
+        self.container.is_state_of(state)
+    }
+}

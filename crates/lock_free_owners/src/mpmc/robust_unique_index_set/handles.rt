@@ -1,0 +1,16 @@
+//! A robust unique index set with a pass of it, whose calls ask for no proof.
+ghost use Rattle.lock_free_owners.specs.RobustUniqueIndexSet.{IsPassOf};
+
+use super::{Pass, RobustUniqueIndexSet};
+
+mod calls;
+mod visits;
+
+/// A set with a pass of it. Its calls are those of the set, and ask for nothing but an index below the capacity, which
+/// an `if` shows. Each thread has a handle of its own, by `split`. This project's own.
+#[derive(Drop)]
+pub struct Handle<'a> {
+    set: &'a RobustUniqueIndexSet,
+    pass: Pass,
+    ghost of: { IsPassOf set.now pass },
+}
