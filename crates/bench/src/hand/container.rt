@@ -64,6 +64,7 @@ impl Values {
         true
     }
 
+    #[inline(always)]
     pub fn len<R: Wait>(&mut self, rt: &R) -> u64 {
         self.owners.filled(rt)
     }

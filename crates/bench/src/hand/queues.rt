@@ -61,6 +61,7 @@ impl Numbers {
         Some(value)
     }
 
+    #[inline(always)]
     pub fn len<R: Wait>(&mut self, rt: &R) -> u64 {
         for _ in rt.forever() {
             let write = self.words.load(0);

@@ -96,6 +96,7 @@ impl Owners {
     }
 
     /// How many indices have an owner.
+    #[inline(always)]
     pub fn filled<R: Wait>(&mut self, rt: &R) -> u64
         ensures capacity { self.new.capacity ≡ self.old.capacity }
         ensures size { self.new.words.size ≡ self.old.words.size }

@@ -108,6 +108,7 @@ impl Unique {
         }
     }
 
+    #[inline(always)]
     pub fn borrowed_indices(&mut self) -> u64 {
         let borrowed = self.words.load(0) % 0x100_0000;
         if borrowed == 0xff_ffff { 0 } else { borrowed }
