@@ -1,11 +1,16 @@
 //! A run in columns of text: a line a turn, a column a party.
 use crate::recorded::Did;
-use crate::story::{Call, Story};
+use crate::story::{CUT, Call, Story};
 use schedule::pen::Pen;
 use std::alloc::{AllocError, Global};
 
 /// How many turns stand under one head.
 const PAGE: usize = 60;
+
+const LEGEND: &str = "
++ begins a call; | is a step on one word; < a step that goes back; ' a turn without a step; = ends the call;
+x is refused, with why; : stands while others have turns; * numbers what acts or changes something; ? is not sure yet
+";
 
 fn sign_of(did: Did) -> &'static str {
     match did {
@@ -140,15 +145,15 @@ fn write_rows(pen: &mut Pen, alloc: Global, story: &Story) -> Result<(), AllocEr
     Ok(())
 }
 
-/// The run as a text: `+` begins a call, `|` is a step, `<` one that goes back, `'` a turn without a step, `=` ends the
-/// call, `x` is refused, `:` stands while others have turns, and `*` numbers the acts.
+/// The run as a text.
 pub fn draw(alloc: Global, story: &Story) -> Result<String, AllocError> {
     let mut pen = Pen::new(alloc);
     pen.put(&story.title);
     pen.put("\n");
     write_rows(&mut pen, alloc, story)?;
     if story.cut {
-        pen.put("further turns are left out\n");
+        pen.put(CUT);
+        pen.put("\n");
     }
     pen.put("\n");
     pen.put(story.order);
@@ -157,5 +162,6 @@ pub fn draw(alloc: Global, story: &Story) -> Result<String, AllocError> {
         pen.put(&story.told(alloc, act)?);
         pen.put("\n");
     }
+    pen.put(LEGEND);
     pen.done()
 }

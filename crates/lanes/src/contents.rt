@@ -6,8 +6,13 @@ use machine::families::queues::QueueStart;
 use machine::turn::Kind;
 use std::alloc::{AllocError, Global};
 
-/// The most items that are written out.
+/// The most items that are written out, and the letters behind which no further one is.
 const SHOWN: usize = 8;
+
+const WIDE: usize = 60;
+
+/// What stands behind the number of those that are not.
+pub const MORE: &str = " more";
 
 // A value; a flag; a place with its count; an index with the party or the owner that has it, surely or not yet, and
 // with the value that stands there.
@@ -284,9 +289,9 @@ impl Contents {
 
     fn write_items(&self, text: &mut String) -> Result<(), AllocError> {
         for (at, item) in self.items.iter().enumerate() {
-            if at >= SHOWN {
-                let all = self.items.len();
-                return write!(text, ", .. {all} in all");
+            if at >= SHOWN || text.len() > WIDE {
+                let left = self.items.len().saturating_sub(at);
+                return write!(text, ", .. {left}{MORE}");
             }
             if at > 0 {
                 text.push_str(", ")?;

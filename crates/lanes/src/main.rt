@@ -10,15 +10,17 @@ mod story;
 mod svg;
 mod teller;
 
-use recorded::{Recorded, record};
+use recorded::{MOST, record};
 use schedule::arguments::is_given;
 use schedule::error::ScheduleError;
 use schedule::input::whole_input;
 use schedule::output::{flush, put};
+use schedule::pen::Pen;
 use schedule::status;
 use std::alloc::{AllocError, Global};
 use std::io::{self, BufWriter, Read, Write};
 use std::process::ExitCode;
+use story::{CUT, Story};
 use teller::tell;
 
 /// What a run is drawn as.
@@ -28,39 +30,60 @@ enum Form {
     Columns,
 }
 
-fn picture_of(alloc: Global, form: Form, run: &Recorded) -> Result<String, AllocError> {
-    let story = tell(alloc, run)?;
+fn picture_of(alloc: Global, form: Form, story: &Story) -> Result<String, AllocError> {
     match form {
-        Form::Svg => svg::draw(alloc, &story),
-        Form::Columns => columns::draw(alloc, &story),
+        Form::Svg => svg::draw(alloc, story),
+        Form::Columns => columns::draw(alloc, story),
     }
 }
 
-fn draw_to<W: Write>(
+// What the picture does not have.
+fn left_out(alloc: Global, story: &Story) -> Result<String, AllocError> {
+    let mut pen = Pen::new(alloc);
+    if story.cut {
+        pen.put(CUT);
+        pen.number(" behind turn ", MOST);
+        pen.put("\n");
+    }
+    if story.is_shortened() {
+        pen.put("contents are cut, with the number of the items that are left out\n");
+    }
+    pen.done()
+}
+
+// Draws it, and tells what is left out.
+fn draw_to<W: Write, E: Write>(
     alloc: Global,
     form: Form,
-    run: &Recorded,
+    story: &Story,
     writer: &mut W,
+    errors: &mut E,
 ) -> Result<(), ScheduleError> {
-    match picture_of(alloc, form, run) {
-        Ok(picture) => {
-            put(writer, picture.as_bytes())?;
-            flush(writer)
-        }
-        Err(_) => Err(ScheduleError::NoMemory),
-    }
+    let Ok(picture) = picture_of(alloc, form, story) else {
+        return Err(ScheduleError::NoMemory);
+    };
+    let Ok(told) = left_out(alloc, story) else {
+        return Err(ScheduleError::NoMemory);
+    };
+    put(writer, picture.as_bytes())?;
+    flush(writer)?;
+    put(errors, told.as_bytes())
 }
 
 // Draws what the lines before a malformed one did, and then tells of that one.
-fn draw<R: Read, W: Write>(
+fn draw<R: Read, W: Write, E: Write>(
     alloc: Global,
     form: Form,
     reader: &mut R,
     writer: &mut W,
+    errors: &mut E,
 ) -> Result<(), ScheduleError> {
     let input = whole_input(alloc, reader)?;
     let run = record(alloc, &input)?;
-    draw_to(alloc, form, &run, writer)?;
+    match tell(alloc, &run) {
+        Ok(story) => draw_to(alloc, form, &story, writer, errors)?,
+        Err(_) => return Err(ScheduleError::NoMemory),
+    }
     match run.malformed {
         Some((line, cause)) => Err(ScheduleError::Malformed(line, cause)),
         None => Ok(()),
@@ -76,7 +99,7 @@ fn draw_and_tell<R: Read, W: Write, E: Write>(
     errors: &mut E,
 ) -> u8 {
     let drawn = match BufWriter::new(alloc, output) {
-        Ok(mut writer) => draw(alloc, form, reader, &mut writer),
+        Ok(mut writer) => draw(alloc, form, reader, &mut writer, errors),
         Err(_) => Err(ScheduleError::NoMemory),
     };
     status(&drawn, errors)

@@ -1,5 +1,6 @@
 //! The turns of a schedule, with what each of them came to.
 use machine::Machine;
+use machine::event::Event;
 use machine::party::Progress;
 use machine::turn::{Refusal, Turn};
 use schedule::bare::{is_going, made, read_command, read_setup, step, under_way};
@@ -9,7 +10,7 @@ use schedule::text::{Rest, lines};
 use std::alloc::Global;
 
 /// The most turns that are drawn: a hundred pages.
-const MOST: usize = 6000;
+pub const MOST: usize = 6000;
 
 /// What a turn is.
 #[derive(Clone, Copy)]
@@ -44,6 +45,8 @@ pub struct Recorded {
     pub setup: Setup,
     pub machine: Machine<u128>,
     pub turns: Vec<Taken>,
+    /// The begins that were refused, in their order, as the event that did not come.
+    pub unbegun: Vec<Event<u128>>,
     pub malformed: Option<(u64, Cause)>,
     /// Whether turns were left out, since there were too many to draw.
     pub cut: bool,
@@ -88,6 +91,16 @@ impl Recorded {
         }
     }
 
+    // A turn was refused: its call, if it is a begin.
+    fn refuse(&mut self, turn: &Turn<u128>) -> Result<(), ScheduleError> {
+        if let Turn::Begin(party, start) = *turn {
+            if self.unbegun.push(Event::Begun(party, start)).is_err() {
+                return Err(ScheduleError::NoMemory);
+            }
+        }
+        Ok(())
+    }
+
     // One turn. Whether the party's call goes on.
     fn take(&mut self, turn: Turn<u128>) -> Result<bool, ScheduleError> {
         if self.turns.len() >= MOST {
@@ -109,6 +122,9 @@ impl Recorded {
             events: self.machine.events().len(),
         };
         self.push(taken)?;
+        if refusal.is_some() {
+            self.refuse(&turn)?;
+        }
         Ok(refusal.is_none() && is_going(&self.machine, number))
     }
 
@@ -175,6 +191,7 @@ pub fn record(alloc: Global, input: &[u8]) -> Result<Recorded, ScheduleError> {
         setup,
         machine,
         turns: Vec::new(alloc),
+        unbegun: Vec::new(alloc),
         malformed: None,
         cut: false,
     };

@@ -1,4 +1,5 @@
 //! A run as it is drawn: lanes, calls from begin to end, marks, numbered acts, and the contents after each change.
+use crate::contents::MORE;
 use crate::recorded::Did;
 use std::alloc::{AllocError, Global};
 
@@ -62,6 +63,9 @@ pub struct Story {
     pub cut: bool,
 }
 
+/// What is told where turns are left out.
+pub const CUT: &str = "further turns are left out";
+
 impl Call {
     /// The call without its answer.
     pub fn name(&self) -> &str {
@@ -101,6 +105,26 @@ impl Story {
             Some(name) => name.as_str(),
             None => "",
         }
+    }
+
+    /// Whether contents are cut somewhere.
+    pub fn is_shortened(&self) -> bool {
+        self.contents.iter().any(|after| after.text.contains(MORE))
+    }
+
+    /// The most letters of a text that stands at a turn.
+    pub fn widest(&self) -> usize {
+        let mut most = 0;
+        for call in self.calls.iter() {
+            most = call.text.len().max(most);
+        }
+        for mark in self.marks.iter() {
+            most = mark.text.len().max(most);
+        }
+        for after in self.contents.iter() {
+            most = after.text.len().max(most);
+        }
+        most
     }
 
     /// The contents when this turn comes.

@@ -1,7 +1,7 @@
 //! A run as a picture, an SVG: time goes to the right, a column a turn, and pages stand below one another.
 use crate::labels::{BAR, LETTER, LINE, Labels, line_at, text_at};
 use crate::recorded::Did;
-use crate::story::{Call, Story, Turned};
+use crate::story::{CUT, Call, Story, Turned};
 use schedule::pen::Pen;
 use std::alloc::{AllocError, Global};
 
@@ -18,11 +18,17 @@ const PITCH: usize = 24;
 const LEFT: usize = 84;
 
 const STYLE: &str =
-    "<style>text{font:11px monospace;fill:#222}.h{font-weight:bold}.m{fill:#777}.n{font-size:9px;fill:#777;text-anchor:middle}.e{font-size:9px;font-weight:bold;fill:#fff;text-anchor:middle}.r{fill:#b00020}.z{stroke:#b00020;stroke-width:2}.b{fill:#dfe9f7}.o{fill:none;stroke:#4a6fa5}.k{stroke:#4a6fa5;stroke-width:2}.s{stroke:#4a6fa5;stroke-dasharray:2 2}.w{fill:none;stroke:#d07c00;stroke-width:2}.d{fill:#a8431f}.g{stroke:#ddd}.l{stroke:#bbb}</style>\n";
+    "<style>.p{fill:#fff}text{font:11px monospace;fill:#222}.h{font-weight:bold}.m{fill:#777}.n{font-size:9px;fill:#777;text-anchor:middle}.e{font-size:9px;font-weight:bold;fill:#fff;text-anchor:middle}.r{fill:#b00020}.z{stroke:#b00020;stroke-width:2}.b{fill:#dfe9f7}.o{fill:none;stroke:#4a6fa5}.k{stroke:#4a6fa5;stroke-width:2}.s{stroke:#4a6fa5;stroke-dasharray:2 2}.w{fill:none;stroke:#d07c00;stroke-width:2}.d{fill:#a8431f}.g{stroke:#ddd}.l{stroke:#bbb}\n";
 
-const LEGEND: [&str; 2] = [
+/// What is otherwise where the reader's screen is dark.
+const DARK: &str =
+    "@media(prefers-color-scheme:dark){.p{fill:#181a1f}text{fill:#ddd}.m,.n{fill:#999}.e{fill:#fff}.r{fill:#ff7a85}.z{stroke:#ff7a85}.b{fill:#27364d}.o,.k,.s{stroke:#86a9dc}.w{stroke:#f0a030}.g{stroke:#363a42}.l{stroke:#555b66}}</style>\n";
+
+const LEGEND: [&str; 4] = [
     "bar: a call, open at the right where it has not ended; tick: a step on one word;",
-    "hook: a step that goes back; numbered dot: its call acts or changes something; x: refused",
+    "hook: a step that goes back; dashed tick: a turn without a step, as a decision;",
+    "numbered dot: its call acts or changes something; words below: what else happens;",
+    "x: a refused turn, with why; ?: an index of which its owner is not sure yet",
 ];
 
 /// The part of a run that stands on one page.
@@ -33,7 +39,7 @@ struct Page<'a> {
     first: usize,
     /// The turn behind its last one.
     end: usize,
-    /// Where its last column ends.
+    /// Where it ends.
     right: usize,
 }
 
@@ -58,6 +64,11 @@ impl<'a> Page<'a> {
             .saturating_add(LEFT + PITCH / 2)
     }
 
+    // Where the column of the last turn ends.
+    fn last(&self) -> usize {
+        self.x(self.end.saturating_sub(1)).saturating_add(PITCH / 2)
+    }
+
     fn bar(&self, call: &Call) -> Option<Bar> {
         let end = call.end.unwrap_or(usize::MAX);
         if call.begin >= self.end || end < self.first {
@@ -75,7 +86,7 @@ impl<'a> Page<'a> {
             right: if ends {
                 self.x(end).saturating_add(8)
             } else {
-                self.right
+                self.last()
             },
             ends,
         })
@@ -302,6 +313,11 @@ fn list_width(alloc: Global, story: &Story) -> Result<usize, AllocError> {
     Ok(most.saturating_mul(LETTER).saturating_add(32))
 }
 
+// The width of a line that begins at the left.
+fn line_wide(said: &str) -> usize {
+    said.len().saturating_mul(LETTER).saturating_add(16)
+}
+
 // All pages, of which each ends here. Where the last one ends.
 fn draw_pages(
     alloc: Global,
@@ -331,7 +347,7 @@ fn draw_pages(
 fn draw_legend(story: &Story, pen: &mut Pen, from: usize) -> usize {
     let mut y = from;
     if story.cut {
-        text_at(pen, "r", 8, y, "further turns are left out");
+        text_at(pen, "r", 8, y, CUT);
         y = y.saturating_add(LINE);
     }
     for said in LEGEND.iter() {
@@ -343,28 +359,31 @@ fn draw_legend(story: &Story, pen: &mut Pen, from: usize) -> usize {
 
 /// The run as a picture.
 pub fn draw(alloc: Global, story: &Story) -> Result<String, AllocError> {
-    let right = story
-        .turns
-        .len()
-        .clamp(LEAST, PAGE)
-        .saturating_mul(PITCH)
-        .saturating_add(LEFT + 8);
+    let columns = story.turns.len().clamp(LEAST, PAGE).saturating_mul(PITCH);
+    let letters = story.widest().saturating_add(1).saturating_mul(LETTER);
+    let right = columns.max(letters).saturating_add(LEFT + 8);
     let mut body = Pen::new(alloc);
     text_at(&mut body, "h", 8, 18, &story.title);
     let low = draw_pages(alloc, story, &mut body, right)?;
     let high = draw_legend(story, &mut body, low);
-    let mut wide = right.saturating_add(list_width(alloc, story)?);
-    for said in LEGEND.iter() {
-        wide = wide.max(said.len().saturating_mul(LETTER).saturating_add(16));
-    }
+    let wide = right
+        .saturating_add(list_width(alloc, story)?)
+        .max(line_wide(&story.title));
+    let wide = LEGEND
+        .iter()
+        .fold(wide, |most, said| line_wide(said).max(most));
     let mut pen = Pen::new(alloc);
     pen.number("<svg xmlns=\"http://www.w3.org/2000/svg\" width=\"", wide);
     pen.number("\" height=\"", high);
     pen.number("\" viewBox=\"0 0 ", wide);
     pen.number(" ", high);
     pen.put("\">\n");
+    pen.put("<title>");
+    pen.put(&story.title);
+    pen.put("</title>\n");
     pen.put(STYLE);
-    pen.put("<rect width=\"100%\" height=\"100%\" fill=\"#fff\"/>\n");
+    pen.put(DARK);
+    pen.put("<rect class=\"p\" width=\"100%\" height=\"100%\"/>\n");
     pen.put(&body.done()?);
     pen.put("</svg>\n");
     pen.done()

@@ -3,7 +3,7 @@ use crate::contents::{Contents, has_acts};
 use crate::recorded::{Did, Recorded, Taken};
 use crate::story::{Act, After, Call, Mark, Story, Turned};
 use machine::event::Event;
-use machine::turn::Kind;
+use machine::turn::{Kind, Refusal};
 use schedule::bare::{line_of, line_of_refusal, text_of};
 use std::alloc::{AllocError, Global};
 
@@ -100,16 +100,12 @@ fn opening(alloc: Global, run: &Recorded, parties: &[u32]) -> Result<Story, Allo
     })
 }
 
-impl Mark {
-    fn add(&mut self, said: &str) -> Result<(), AllocError> {
-        if self.text.len() < 60 {
-            write!(self.text, ", {said}")
-        } else if !self.text.ends_with("..") {
-            self.text.push_str(", ..")
-        } else {
-            Ok(())
-        }
-    }
+// The call that was refused to begin, and why.
+fn refused_text(alloc: Global, begun: &Event<u128>, why: &str) -> Result<String, AllocError> {
+    let line = line_of(begun);
+    let (_, said) = halves(text_of(&line));
+    let (_, call) = halves(said);
+    format!(in alloc; "{call}: {why}")
 }
 
 /// A story up to some turn.
@@ -119,6 +115,8 @@ struct Teller<'a> {
     parties: &'a [u32],
     contents: Contents,
     story: Story,
+    /// The begins that were refused from here on.
+    unbegun: &'a [Event<u128>],
 }
 
 impl Teller<'_> {
@@ -165,7 +163,7 @@ impl Teller<'_> {
     ) -> Result<(), AllocError> {
         if let Some(last) = self.story.marks.last_mut() {
             if last.turn == turn && last.lane == lane {
-                return last.add(said);
+                return write!(last.text, ", {said}");
             }
         }
         self.story.marks.push(Mark {
@@ -224,14 +222,32 @@ impl Teller<'_> {
             refused: taken.refusal.is_some(),
         })?;
         if let Some(refusal) = taken.refusal {
-            let line = line_of_refusal(refusal);
-            let (_, said) = halves(text_of(&line));
-            return self.mark(lane, turn, said, true);
+            return self.refuse(lane, turn, refusal, matches!(taken.did, Did::Begin));
         }
         match taken.did {
             Did::Said(true) => self.mark(lane, turn, "yes", false),
             Did::Said(false) => self.mark(lane, turn, "no", false),
             _ => Ok(()),
+        }
+    }
+
+    // Why a turn was refused; of a begin its call stands before that.
+    fn refuse(
+        &mut self,
+        lane: usize,
+        turn: usize,
+        refusal: Refusal,
+        begins: bool,
+    ) -> Result<(), AllocError> {
+        let line = line_of_refusal(refusal);
+        let (_, why) = halves(text_of(&line));
+        match self.unbegun.split_first() {
+            Some((first, rest)) if begins => {
+                self.unbegun = rest;
+                let text = refused_text(self.alloc, first, why)?;
+                self.mark(lane, turn, &text, true)
+            }
+            _ => self.mark(lane, turn, why, true),
         }
     }
 
@@ -264,6 +280,7 @@ pub fn tell(alloc: Global, run: &Recorded) -> Result<Story, AllocError> {
         parties: &parties,
         contents: Contents::new(alloc, run.setup.kind)?,
         story: opening(alloc, run, &parties)?,
+        unbegun: run.unbegun.as_slice(),
     };
     let events = run.machine.events();
     let mut before = 0;
