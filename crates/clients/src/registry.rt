@@ -107,15 +107,35 @@ fn leave(
     Some((closed, late))
 }
 
-/// Two participants join, each in a thread, the second one dies and is taken out, and the first one leaves: whether the
-/// registry is closed then, and whether another got in after that. None where there is no memory, or it was not printed.
-pub fn run<R: Threads + Wait + Print + Sync>(rt: &R, alloc: Global) -> Option<(bool, bool)>
-    ensures closed { IfSome result (λ s. s.0 ≡ true → s.1 ≡ false) }
+/// The first one prints what it sees, takes out the second, which has died, and leaves; then as `run`.
+fn outlive<R: Wait + Print>(
+    rt: &R,
+    registry: &Container<Record>,
+    pass: &mut Pass<Record>,
+    handle: ContainerHandle,
+    state: &mut ContainerState<Record>,
+) -> Option<(bool, bool)>
+    requires pass { IsPassOf registry.now pass.old }
+    requires state { IsStateOf registry.now state.old }
+    ensures { IfSome result (λ s. s.0 ≡ true → s.1 ≡ false) }
 {
-    let Ok((container, mut mine)) = Container::new(alloc, RECORDS, 1) else {
-        return None;
-    };
-    let registry = &container;
+    print(rt, "all have joined", state).ok()?;
+    let dead = OwnerId::new(2).ok()?;
+    registry.recover(rt, dead, |_| true, ReleaseMode::Default, pass);
+    registry.update_state(rt, state, pass);
+    print(rt, "one that died was taken out", state).ok()?;
+    leave(rt, registry, pass, handle)
+}
+
+/// As `run`, in a registry that nobody else has a pass of.
+fn join_and_leave<R: Threads + Wait + Print + Sync>(
+    rt: &R,
+    registry: &Container<Record>,
+    mut mine: Pass<Record>,
+) -> Option<(bool, bool)>
+    requires { IsPassOf registry.now mine }
+    ensures { IfSome result (λ s. s.0 ≡ true → s.1 ≡ false) }
+{
     let other = mine.split()?;
     let (first, second) = thread::join(
         rt,
@@ -124,12 +144,16 @@ pub fn run<R: Threads + Wait + Print + Sync>(rt: &R, alloc: Global) -> Option<(b
     );
     second?;
     let (mut pass, handle, mut state) = first?;
-    print(rt, "all have joined", &state).ok()?;
-    let dead = OwnerId::new(2).ok()?;
-    registry.recover(rt, dead, |_| true, ReleaseMode::Default, &mut pass);
-    registry.update_state(rt, &mut state, &mut pass);
-    print(rt, "one that died was taken out", &state).ok()?;
-    leave(rt, registry, &mut pass, handle?)
+    outlive(rt, registry, &mut pass, handle?, &mut state)
+}
+
+/// Two participants join, each in a thread, the second one dies and is taken out, and the first one leaves: whether the
+/// registry is closed then, and whether another got in after that. None where there is no memory, or it was not printed.
+pub fn run<R: Threads + Wait + Print + Sync>(rt: &R, alloc: Global) -> Option<(bool, bool)>
+    ensures closed { IfSome result (λ s. s.0 ≡ true → s.1 ≡ false) }
+{
+    let (registry, pass) = Container::new(alloc, RECORDS, 1).ok()?;
+    join_and_leave(rt, &registry, pass)
 }
 
 /// Opens the registry, and prints whether it was closed and whether another got in then.
