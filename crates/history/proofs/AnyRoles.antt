@@ -1,5 +1,5 @@
 -- How the calls on the roles and the lengths of a queue begin, of any kind of queue.
-use Rattle.std.proofs.Common.{inl, ◌≡◌, ℕ, ◌<◌, ◌≤◌, false, Option, Some, None, List, [], refl, subst, ◌∙◌, arith}
+use Rattle.std.proofs.Common.{inl, ◌≡◌, ℕ, ◌<◌, ◌≤◌, false, Option, Some, None, List, [], refl, subst, arith}
 use Rattle.steps.specs.declared.ask.After.{After}
 use Rattle.steps.specs.declared.ask.Want.{Want}
 use Rattle.steps.specs.declared.queues.roles.Role.{Role}

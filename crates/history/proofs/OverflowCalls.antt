@@ -10,29 +10,24 @@ use Rattle.steps.specs.declared.ask.After.{After}
 use Rattle.steps.specs.declared.ask.After.TheVariants.{GoOn, Done}
 use Rattle.steps.specs.declared.ask.Want.TheVariants as wants
 use Rattle.steps.specs.declared.copied.OneWord.{OneWord}
-use Rattle.steps.specs.declared.queues.overflow.Pop.{Pop as Popping}
-use Rattle.steps.specs.declared.queues.overflow.PopStage as pops
 use Rattle.steps.specs.declared.queues.overflow.Push.{Push as Pushing}
 use Rattle.steps.specs.declared.queues.overflow.PushEnd.{PushEnd}
 use Rattle.steps.specs.declared.queues.overflow.PushEnd.TheVariants.{Added, Own, Oldest}
 use Rattle.steps.specs.declared.queues.overflow.PushStage as pushes
-use Rattle.steps.specs.declared.queues.roles.Role.TheVariants.{Producer, Consumer}
+use Rattle.steps.specs.declared.queues.roles.Role.TheVariants.{Producer}
 use Rattle.steps.specs.Queues.Ring.{after_position, distance}
 use Rattle.steps.specs.Queues.Overflow.{cell_word, first_push, at_push, push_asks, push_want, push_takes, push_after, push_keeps, push_kept, push_answer}
 use Rattle.model.specs.declared.event.Answer.{Answer}
 use Rattle.model.specs.declared.event.Answer.TheVariants.{PoppedNone, PoppedIndex}
 use Rattle.model.specs.declared.event.Event.{Event}
 use Rattle.model.specs.declared.event.Event.TheVariants.{Published, HandedOut, Acted}
-use Rattle.model.specs.declared.event.Item.{Item}
 use Rattle.model.specs.declared.event.Item.TheVariants.{Index}
 use Rattle.model.specs.declared.event.Start.{Start}
 use Rattle.model.specs.declared.event.Start.TheVariants.{Queues}
 use Rattle.model.specs.declared.families.Flight.{Flight}
-use Rattle.model.specs.declared.families.Flight as flights
 use Rattle.model.specs.declared.families.queues.QueueKind as queues
 use Rattle.model.specs.declared.families.queues.QueueStart.{QueueStart}
-use Rattle.model.specs.declared.families.queues.QueueStart.TheVariants.{PushIndex, Pop}
-use Rattle.model.specs.declared.families.queues.calls.OverflowCall as overflows
+use Rattle.model.specs.declared.families.queues.QueueStart.TheVariants.{PushIndex}
 use Rattle.model.specs.declared.families.queues.calls.QueueFlight.TheVariants.{Overflow}
 use Rattle.model.specs.declared.families.queues.effects.Effect.{Effect}
 use Rattle.model.specs.declared.families.queues.effects.Effect.TheVariants.{Quiet, Acts, Publishes, PublishesAndActs, HandsOut, TakesOut, MakesRoom}

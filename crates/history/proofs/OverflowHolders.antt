@@ -22,10 +22,8 @@ use Rattle.model.specs.declared.event.Start.TheVariants.{Queues}
 use Rattle.model.specs.declared.families.Flight.{Flight}
 use Rattle.model.specs.declared.families.Flight as flights
 use Rattle.model.specs.declared.families.queues.QueueKind as queues
-use Rattle.model.specs.declared.families.queues.QueueStart.{QueueStart}
 use Rattle.model.specs.declared.families.queues.QueueStart.TheVariants.{PushIndex, Pop}
 use Rattle.model.specs.declared.families.queues.calls.OverflowCall as overflows
-use Rattle.model.specs.declared.families.queues.calls.QueueFlight.{QueueFlight}
 use Rattle.model.specs.declared.families.queues.calls.QueueFlight.TheVariants.{Role as OnRole, Indices, Values, Overflow, Length}
 use Rattle.model.specs.declared.families.queues.effects.Effect.{Effect}
 use Rattle.model.specs.declared.families.queues.effects.Effect.TheVariants.{Quiet, Acts, Publishes, PublishesAndActs, HandsOut, TakesOut, MakesRoom}
@@ -176,9 +174,9 @@ module _ {T : Type 0} (c : ℕ) where
     pop_fits room capacity n (pops.TheVariants.LoadsCell read) size knows found = tt
     pop_fits room capacity n (pops.TheVariants.MovesRead read) size knows found =
         λ is.
-            let here : read ≡ k.read = sym is ∙ (sym found ∙ is_read) in
-            let some : 0 < length k.waiting = (let is_write = good.write in let below = knows.2 in omega arith) in
-            subst (λ z. FitsList before (HandsOut (Index (slice_index words (cell_word z read))))) (sym size) (front read here some)
+        let here : read ≡ k.read = sym is ∙ (sym found ∙ is_read) in
+        let some : 0 < length k.waiting = (let is_write = good.write in let below = knows.2 in omega arith) in
+        subst (λ z. FitsList before (HandsOut (Index (slice_index words (cell_word z read))))) (sym size) (front read here some)
 
   module _ (en : Coding T) (t : Trace T) (s : frame.Sound (family en queues.TheVariants.Overflow c) t) where
     its_words : t.world.words ≡ layout s.state.roles s.state.core

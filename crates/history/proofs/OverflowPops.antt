@@ -24,7 +24,7 @@ use Rattle.model.specs.declared.event.Start.TheVariants.{Queues}
 use Rattle.model.specs.declared.families.Flight.{Flight}
 use Rattle.model.specs.declared.families.queues.QueueKind as queues
 use Rattle.model.specs.declared.families.queues.QueueStart.TheVariants.{PushIndex, Pop}
-use Rattle.model.specs.declared.families.queues.effects.Effect.TheVariants.{Quiet, Acts, HandsOut}
+use Rattle.model.specs.declared.families.queues.effects.Effect.TheVariants.{Acts, HandsOut}
 use Rattle.model.specs.declared.turn.Kind.TheVariants as kinds
 use Rattle.model.specs.Coding.{Coding}
 use Rattle.model.specs.Families.{after_of, ask_of, beside_of}

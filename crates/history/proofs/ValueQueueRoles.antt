@@ -6,17 +6,10 @@ use Rattle.std.proofs.Math.Nat.{mul-le-mul_left}
 use Rattle.steps.specs.declared.ask.After.{After}
 use Rattle.steps.specs.declared.ask.Want.{Want}
 use Rattle.steps.specs.declared.queues.roles.Role.{Role}
-use Rattle.steps.specs.declared.queues.roles.Role.TheVariants.{Producer, Consumer}
 use Rattle.steps.specs.Queues.Lengths.{first_len, len_want, len_after}
 use Rattle.steps.specs.Queues.Roles.{acquire_want, acquire_after, release_want, release_after}
-use Rattle.model.specs.declared.event.Event.{Event}
-use Rattle.model.specs.declared.event.Start.TheVariants.{Queues}
-use Rattle.model.specs.declared.families.Flight.{Flight}
-use Rattle.model.specs.declared.families.Kept.{Kept}
 use Rattle.model.specs.declared.families.queues.QueueKind as queues
-use Rattle.model.specs.declared.families.queues.Roles.{Roles}
 use Rattle.model.specs.declared.families.queues.calls.LengthOf.{LengthOf}
-use Rattle.model.specs.declared.families.queues.calls.LengthOf as measures
 use Rattle.model.specs.declared.turn.Kind.TheVariants as kinds
 use Rattle.model.specs.Coding.{Coding, IsCoding}
 use Rattle.lock_free_sp.specs.Driver.{KeepsRule}
