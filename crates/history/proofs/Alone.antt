@@ -28,19 +28,22 @@ use Rattle.queue_laws.proofs.Queues.Sound.{fresh_opening}
 use Rattle.lock_free_sp.specs.Shares.{all_shares}
 use Rattle.history.specs.declared.view.View.{View}
 use Rattle.history.specs.History.{IsMachine, call_in}
-use Rattle.history.specs.Known.{owned}
+use Rattle.history.specs.Known.{owned, events_by}
 use Rattle.history.specs.Stages.{Calling, Starts}
 use Rattle.history.specs.Views.{first_view}
 use Rattle.history.proofs.Calls.{call_then}
-use Rattle.history.proofs.Known.{known_alone}
+use Rattle.history.proofs.Known.{known_alone, by_mine, AreOf}
 use Rattle.history.proofs.Steps.{settle}
-use Rattle.history.proofs.Turns.{KindLaws, Between, begun, begun_at, gone, goes_to, told}
+use Rattle.history.proofs.Turns.{KindLaws, MachineLaws, machine_laws, Between, begun, begun_at, gone, goes_to, told, own_told}
 
 -- each party is its own seat
 abbrev pub same_seat : ℕ → ℕ
 same_seat p = p
 
 module _ {T : Type 0} (code : Coding T) (kind : Kind) (capacity size : ℕ) (effects : ℕ → Flight T → ℕ → List (Event T)) (laws : KindLaws code kind capacity size effects) where
+  all_laws : MachineLaws code kind capacity size (λ w. effects)
+  all_laws = machine_laws code kind capacity size effects laws
+
   abbrev alone : List ℕ → State (Unit {0}) (View T)
   alone words = record { words = words; homes = []; views = first_view capacity ∷ [] }
 
@@ -54,7 +57,7 @@ module _ {T : Type 0} (code : Coding T) (kind : Kind) (capacity size : ℕ) (eff
   pub opens_here : IsCoding code → capacity_error kind capacity ≡ None → Here ((opening_of kind).words code.size capacity ++ 0 ∷ []) [] None
   opens_here coded admitted =
       let t : Trace T = worlds.opening code kind capacity 0 in
-      let known = known_alone (first_view capacity) refl refl refl in
+      let known = known_alone (first_view capacity) refl refl in
       record {
         u = t;
         between =
@@ -71,7 +74,7 @@ module _ {T : Type 0} (code : Coding T) (kind : Kind) (capacity size : ℕ) (eff
               further = λ j ne past. refl;
               made_none = λ j ne past. refl;
               shares = known.shares;
-              made = λ f. refl;
+              someone = refl;
               spent = known.spent;
             };
         events = refl;
@@ -100,9 +103,9 @@ module _ {T : Type 0} (code : Coding T) (kind : Kind) (capacity size : ℕ) (eff
       let may : first_row (begin_rows kind capacity h.u.world.kept 0 call.start) ≡ None = subst (λ p. first_row (begin_rows kind capacity h.u.world.kept p call.start) ≡ None) is s.may in
       record {
         u = after_turn h.u (Begin 0 call.start);
-        between = begun code kind capacity size effects laws same_seat (alone words) 0 0 es h.u h.between call.start (call.flight c m) h.there s.first may;
+        between = begun code kind capacity size (λ w. effects) all_laws same_seat (alone words) 0 0 es h.u h.between call.start (call.flight c m) h.there s.first may;
         events = ap (λ xs. xs ++ Begun 0 call.start ∷ []) h.events;
-        there = begun_at code kind capacity size effects laws same_seat (alone words) 0 0 es h.u h.between call.start (call.flight c m) h.there s.first may;
+        there = begun_at code kind capacity size (λ w. effects) all_laws same_seat (alone words) 0 0 es h.u h.between call.start (call.flight c m) h.there s.first may;
       }
 
   -- ---- it takes a step
@@ -119,12 +122,14 @@ module _ {T : Type 0} (code : Coding T) (kind : Kind) (capacity size : ℕ) (eff
 
     took : Here (slice_set words a.word (written a.op found)) (es ++ wrote) (call_then start comes)
     took =
-        let tells : events_of h.u.world (Next 0) ≡ wrote = told code kind capacity size effects laws same_seat (alone words) 0 0 es h.u h.between start flight (Some a) low h.there asks finds in
+        let tells : events_of h.u.world (Next 0) ≡ wrote = told code kind capacity size (λ w. effects) all_laws same_seat (alone words) 0 0 es h.u h.between start flight (Some a) low h.there asks finds in
+        let mine : AreOf 0 (effects 0 flight found) = (laws.goes_on h.u h.between.run 0 start flight h.there).own found in
+        let own : events_by 0 (events_of h.u.world (Next 0)) ≡ wrote = own_told code kind capacity size (λ w. effects) all_laws same_seat (alone words) 0 0 es h.u h.between start flight (Some a) low h.there asks finds ∙ ap (λ zs. zs ++ ending_of 0 start (answer_in comes)) (by_mine 0 (effects 0 flight found) mine) in
         record {
           u = after_turn h.u (Next 0);
-          between = subst (λ zs. Between code kind capacity same_seat (alone (slice_set words a.word (written a.op found))) 0 0 (es ++ zs) (after_turn h.u (Next 0))) tells (gone code kind capacity size effects laws same_seat (alone words) 0 0 es h.u h.between start flight (Some a) low h.there asks finds);
+          between = subst (λ zs. Between code kind capacity same_seat (alone (slice_set words a.word (written a.op found))) 0 0 (es ++ zs) (after_turn h.u (Next 0))) own (gone code kind capacity size (λ w. effects) all_laws same_seat (alone words) 0 0 es h.u h.between start flight (Some a) low h.there asks finds);
           events = ap (λ xs. xs ++ events_of h.u.world (Next 0)) h.events ∙ ap (λ zs. es ++ zs) tells;
-          there = goes_to code kind capacity size effects laws same_seat (alone words) 0 0 es h.u h.between start flight (Some a) low h.there asks finds;
+          there = goes_to code kind capacity size (λ w. effects) all_laws same_seat (alone words) 0 0 es h.u h.between start flight (Some a) low h.there asks finds;
         }
 
     -- it goes on, and tells nothing

@@ -14,7 +14,6 @@ use Rattle.model.specs.declared.event.Answer.{Answer}
 use Rattle.model.specs.declared.event.Event.{Event}
 use Rattle.model.specs.declared.event.Event.TheVariants.{Published, HandedOut, Finished}
 use Rattle.model.specs.declared.event.Item.{Item}
-use Rattle.model.specs.declared.event.Item.TheVariants.{Index}
 use Rattle.model.specs.declared.event.Start.{Start}
 use Rattle.model.specs.declared.event.Start.TheVariants.{Queues}
 use Rattle.model.specs.declared.families.Flight.{Flight}
@@ -34,7 +33,6 @@ use Rattle.model.specs.declared.party.Party.{Party}
 use Rattle.model.specs.declared.turn.Refusal.{Refusal}
 use Rattle.model.specs.declared.turn.Turn.{Turn}
 use Rattle.model.specs.declared.turn.Turn.TheVariants.{Begin, Next, Decide, Die}
-use Rattle.model.specs.declared.turn.Kind.TheVariants as kinds
 use Rattle.model.specs.Coding.{Coding, one_word}
 use Rattle.model.specs.Families.{step_of}
 use Rattle.model.specs.Families.Queues.Reading.{producer_after, consumer_after, producer_of, consumer_of, publishes, hands_out, published, handed_out, waiting}
@@ -61,7 +59,7 @@ use Rattle.queue_laws.proofs.Queues.Knows.{At}
 use Rattle.queue_laws.proofs.Queues.Runs.{AllMay, attempt_sound}
 use Rattle.queue_laws.proofs.Queues.Sound.{kept_is, opening_sound, admitted_fits, fresh_laws, IsFreshTurn}
 use Rattle.history.specs.History.{IsRun, IsHistory}
-use Rattle.history.specs.Roles.{ByHolder, role_after, marks}
+use Rattle.history.specs.Roles.{ByHolder, ByHolderOf, role_after, marks}
 use Rattle.history.specs.Known.{events_by}
 
 module _ {T : Type 0} (c : ℕ) where
@@ -250,12 +248,25 @@ module _ {T : Type 0} (c : ℕ) where
       let longer : (before ++ e ∷ []) ++ es ≡ before ++ e ∷ es = append_assoc before (e ∷ []) es in
       subst IsListed longer (listed_from (before ++ e ∷ []) es (subst (Each (KeepsList c)) (sym longer) each) (one_more before e (each before es e refl) l))
 
+  pub listed_in : (events : List (Event T)) → Each (KeepsList c) events → (part rest : List (Event T)) → events ≡ part ++ rest → IsListed part
+  listed_in events each part rest is = listed_from [] part (λ before after e at. each before (after ++ rest) e (is ∙ (ap (λ xs. xs ++ rest) at ∙ append_assoc before (e ∷ after) rest))) (record { book = refl; few = omega arith })
+
   pub always_listed : (code : Coding T) (r : Ring) (events : List (Event T)) → IsHistory code (machine_kind (kind_of r)) c events → (part rest : List (Event T)) → events ≡ part ++ rest → IsListed part
-  always_listed code r events h part rest is =
-      listed_from [] part (λ before after e at. lists_kept code r c h.trace h.run before (after ++ rest) e (sym h.is ∙ (is ∙ (ap (λ xs. xs ++ rest) at ∙ append_assoc before (e ∷ after) rest)))) (record { book = refl; few = omega arith })
+  always_listed code r events h = listed_in events (subst (Each (KeepsList c)) (sym h.is) (lists_kept code r c h.trace h.run))
 
 is_other : (p q : ℕ) (A : Type 0) → (q == p) ≡ false → ◌≡◌ {A = Option ℕ} (Some q) (Some p) → A
 is_other p q A ne e = (let same : q ≡ p = cc in absurd (grind (arith, nat_tests)))
+
+-- what is so of both roles is so of one
+module _ {T : Type 0} where
+  of_one : (role : Side) (before : List (Event T)) (e : Event T) → ByHolder before e → ByHolderOf role before e
+  of_one Producer before (Published p item) holds = holds
+  of_one Consumer before (HandedOut p item) holds = holds
+  of_one Producer before e holds = tt
+  of_one Consumer before e holds = tt
+
+  each_of : (role : Side) (events : List (Event T)) → Each ByHolder events → Each (ByHolderOf role) events
+  each_of role events each before after e is = of_one role before e (each before after e is)
 
 -- ---- while a party holds a role nobody else writes what its holder writes
 
@@ -267,7 +278,7 @@ module _ {T : Type 0} (p : ℕ) where
   abbrev Backs : Side → List (Event T) → Event T → Type 0
   Backs role before e = (held role before ≡ Some p) × (marks role e ≡ [])
 
-  back_from : (role : Side) (before : List (Event T)) (e : Event T) → ByHolder before e → is_party p (whose e) ≡ false → role_after role (held role before) e ≡ Some p → Backs role before e
+  back_from : (role : Side) (before : List (Event T)) (e : Event T) → ByHolderOf role before e → is_party p (whose e) ≡ false → role_after role (held role before) e ≡ Some p → Backs role before e
   back_from Producer before (Published q y) holds ne now = is_other p q (Backs Producer before (Published q y)) ne (sym holds ∙ now)
   back_from Producer before (Finished q (Queues AcquireProducer) (Truth true)) holds ne now = is_other p q (Backs Producer before (Finished q (Queues AcquireProducer) (Truth true))) ne now
   back_from Producer before (Finished q (Queues ReleaseProducer) answer) holds ne now = absurd (cc)
@@ -277,9 +288,9 @@ module _ {T : Type 0} (p : ℕ) where
   back_from Producer before e holds ne now = (now, refl)
   back_from Consumer before e holds ne now = (now, refl)
 
-  pub back_over : (role : Side) (before es : List (Event T)) → Each ByHolder (before ++ es) → events_by p es ≡ [] → held role (before ++ es) ≡ Some p → (held role before ≡ Some p) × (flat_map (marks role) es ≡ [])
-  back_over role before [] each none now = (ap (held role) (sym (append-nil before)) ∙ now, refl)
-  back_over role before (e ∷ es) each none now = go (λ rest. back_over role (before ++ e ∷ []) es (subst (Each ByHolder) (sym longer) each) rest (ap (held role) longer ∙ now)) (is_party p (whose e)) refl
+  pub back_over_of : (role : Side) (before es : List (Event T)) → Each (ByHolderOf role) (before ++ es) → events_by p es ≡ [] → held role (before ++ es) ≡ Some p → (held role before ≡ Some p) × (flat_map (marks role) es ≡ [])
+  back_over_of role before [] each none now = (ap (held role) (sym (append-nil before)) ∙ now, refl)
+  back_over_of role before (e ∷ es) each none now = go (λ rest. back_over_of role (before ++ e ∷ []) es (subst (Each (ByHolderOf role)) (sym longer) each) rest (ap (held role) longer ∙ now)) (is_party p (whose e)) refl
     where
       longer : (before ++ e ∷ []) ++ es ≡ before ++ e ∷ es
       longer = append_assoc before (e ∷ []) es
@@ -292,6 +303,9 @@ module _ {T : Type 0} (p : ℕ) where
           let one = back_from role before e (each before es e refl) t (sym (fold-append (role_after role) None before (e ∷ [])) ∙ more.0) in
           (one.0, ap (λ xs. xs ++ flat_map (marks role) es) one.1 ∙ more.1)
 
+  pub back_over : (role : Side) (before es : List (Event T)) → Each ByHolder (before ++ es) → events_by p es ≡ [] → held role (before ++ es) ≡ Some p → (held role before ≡ Some p) × (flat_map (marks role) es ≡ [])
+  back_over role before es each = back_over_of role before es (each_of role (before ++ es) each)
+
 -- ---- and it stays with the party until the party gives it back
 
 module _ {T : Type 0} (p : ℕ) where
@@ -303,7 +317,7 @@ module _ {T : Type 0} (p : ℕ) where
   ArePlain role [] = Unit {0}
   ArePlain role (e ∷ es) = IsPlain role e × ArePlain role es
 
-  forth_from : (role : Side) (before : List (Event T)) (e : Event T) → ByHolder before e → GrantsRight before e → is_party p (whose e) ≡ false → held p role before ≡ Some p → IsPlain role e
+  forth_from : (role : Side) (before : List (Event T)) (e : Event T) → ByHolderOf role before e → GrantsRight before e → is_party p (whose e) ≡ false → held p role before ≡ Some p → IsPlain role e
   forth_from Producer before (Published q y) holds grants ne now = is_other p q (IsPlain Producer (Published q y)) ne (sym holds ∙ now)
   forth_from Producer before (Finished q (Queues AcquireProducer) (Truth true)) holds grants ne now = (let no : ◌≡◌ {A = Bool} true false = (let same : true ≡ is_none (producer_of before) = cc in same ∙ ap is_none now) in absurd (cc))
   forth_from Producer before (Finished q (Queues ReleaseProducer) answer) holds grants ne now = is_other p q (IsPlain Producer (Finished q (Queues ReleaseProducer) answer)) ne (sym grants.1 ∙ now)
@@ -313,10 +327,10 @@ module _ {T : Type 0} (p : ℕ) where
   forth_from Producer before e holds grants ne now = (refl, refl)
   forth_from Consumer before e holds grants ne now = (refl, refl)
 
-  pub forth_over : (role : Side) (before es : List (Event T)) → Each ByHolder (before ++ es) → Each GrantsRight (before ++ es) → ArePlain role (events_by p es) → held p role before ≡ Some p → flat_map (marks role) es ≡ []
-  forth_over role before [] each grants plain now = refl
-  forth_over role before (e ∷ es) each grants plain now =
-      go (λ rest still. forth_over role (before ++ e ∷ []) es (subst (Each ByHolder) (sym longer) each) (subst (Each GrantsRight) (sym longer) grants) rest (fold-append (role_after role) None before (e ∷ []) ∙ (ap (λ o. role_after role o e) now ∙ still))) (is_party p (whose e)) refl
+  pub forth_over_of : (role : Side) (before es : List (Event T)) → Each (ByHolderOf role) (before ++ es) → Each GrantsRight (before ++ es) → ArePlain role (events_by p es) → held p role before ≡ Some p → flat_map (marks role) es ≡ []
+  forth_over_of role before [] each grants plain now = refl
+  forth_over_of role before (e ∷ es) each grants plain now =
+      go (λ rest still. forth_over_of role (before ++ e ∷ []) es (subst (Each (ByHolderOf role)) (sym longer) each) (subst (Each GrantsRight) (sym longer) grants) rest (fold-append (role_after role) None before (e ∷ []) ∙ (ap (λ o. role_after role o e) now ∙ still))) (is_party p (whose e)) refl
     where
       longer : (before ++ e ∷ []) ++ es ≡ before ++ e ∷ es
       longer = append_assoc before (e ∷ []) es
@@ -329,3 +343,6 @@ module _ {T : Type 0} (p : ℕ) where
           let rest : ArePlain role (events_by p es) = rw t at plain in
           let one = forth_from role before e (each before es e refl) (grants before es e refl) t now in
           ap (λ xs. xs ++ flat_map (marks role) es) one.0 ∙ later rest one.1
+
+  pub forth_over : (role : Side) (before es : List (Event T)) → Each ByHolder (before ++ es) → Each GrantsRight (before ++ es) → ArePlain role (events_by p es) → held p role before ≡ Some p → flat_map (marks role) es ≡ []
+  forth_over role before es each = forth_over_of role before es (each_of role (before ++ es) each)

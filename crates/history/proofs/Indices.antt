@@ -115,7 +115,7 @@ module _ {T : Type 0} (code : Coding T) (capacity : ℕ) where
       }
 
   pub indices_owe : KindLaws code kinds.TheVariants.Indices capacity (core.size capacity) index_effects
-  indices_owe = record { size = size; goes_on = goes_on }
+  indices_owe = record { size = size; goes_on = goes_on; alone = λ going late h. h }
 
 -- ---- which party may begin a call
 

@@ -9,13 +9,22 @@ use lib.ListN.{get_elem?}
 use Rattle.atomic_table.proofs.Lists.{at_longer, set_here, set_else}
 use Rattle.lock_free_sp.specs.Shares.{Shares, IsAll, all_shares}
 use Rattle.lock_free_sp.proofs.Shares.{shares_alone, shares_stay, shares_split, shares_join, others_none, positive}
+use Rattle.model.specs.declared.event.Answer.TheVariants.{PoppedNone}
 use Rattle.model.specs.declared.event.Event.{Event}
+use Rattle.model.specs.declared.event.Event.TheVariants.{Acted}
+use Rattle.model.specs.declared.families.Flight as flights
+use Rattle.model.specs.declared.families.queues.calls.OverflowCall as overflows
+use Rattle.model.specs.declared.families.queues.calls.QueueFlight.TheVariants.{Overflow}
 use Rattle.model.specs.Reading.{whose}
 use Rattle.model.specs.World.{Trace}
 use Rattle.history.specs.declared.view.View.{View}
 use Rattle.history.specs.Views.{right_view, left_view, joined_view, spent_view}
-use Rattle.history.specs.History.{IsBeginning, Fits, call_in}
-use Rattle.history.specs.Known.{HasSeen, Known, own_of, events_by, made_of, owned, if_owned}
+use Rattle.model.specs.declared.event.Start.{Start}
+use Rattle.model.specs.declared.families.Flight.{Flight}
+use Rattle.model.specs.declared.turn.Kind.{Kind}
+use Rattle.model.specs.declared.turn.Kind as kinds
+use Rattle.history.specs.History.{IsBeginning, Fits, call_in, IsLate, IsLateFor, MayBeLate}
+use Rattle.history.specs.Known.{HasSeen, Known, own_of, events_by, by_party, owned, if_owned, of_none}
 
 -- the parties of the one seat are then those of the other too
 abbrev pub handed_on : ℕ → ℕ → (ℕ → ℕ) → ℕ → ℕ
@@ -30,6 +39,11 @@ pub within : {A : Type 0} → (xs : List A) (i : ℕ) (x : A) → get_elem? xs i
 within [] i x e = absurd (some-ne-none x (sym e))
 within (y ∷ ys) zero x e = omega arith
 within (y ∷ ys) (suc i) x e = let h = within ys i x e in omega arith
+
+there_is : {A : Type 0} → (xs : List A) (j : ℕ) → j < length xs → (x : A) × (get_elem? xs j ≡ some x)
+there_is [] j low = absurd (omega arith)
+there_is (x ∷ xs) zero low = (x, refl)
+there_is (x ∷ xs) (suc j) low = there_is xs j (omega arith)
 
 nil_left : {A : Type 0} → (xs ys : List A) → xs ++ ys ≡ [] → xs ≡ []
 nil_left [] ys e = refl
@@ -161,42 +175,152 @@ module _ {T : Type 0} where
       go None is = f.idle p of_j (λ e. (let no : ◌≡◌ {A = Option ℕ} None (Some p) = sym is ∙ e in absurd (cc)))
       go (Some q) is = ⊎_elim (λ (e : q ≡ p). f.going p of_j (is ∙ ap Some e) ∙ none) (λ (ne : q ≢ p). f.idle p of_j (λ e. (let same : ◌≡◌ {A = Option ℕ} (Some q) (Some p) = sym is ∙ e in let no : q ≡ p = cc in absurd (ne no)))) (cases_eq q p)
 
-  -- ---- what the seats made
+  -- ---- what the party did among these events
 
-  pub made_set : (f : Event T → ℕ) (views : List (View T)) (id : ℕ) (v w : View T) → get_elem? views id ≡ some v → made_of f (set views id w) + sum_by f v.made ≡ made_of f views + sum_by f w.made
-  made_set f [] id v w at = absurd (some-ne-none v (sym at))
-  made_set f (x ∷ xs) zero v w at =
-      let same : sum_by f x.made ≡ sum_by f v.made = ap (λ (z : View T). sum_by f z.made) (some-injective x v at) in
+  pub by_twice : (p : ℕ) (es : List (Event T)) → events_by p (events_by p es) ≡ events_by p es
+  by_twice p [] = refl
+  by_twice p (e ∷ es) = by_more p (own_of p e) (events_by p es) ∙ (ap (λ xs. xs ++ events_by p (events_by p es)) (here (whose e) refl) ∙ ap (λ xs. own_of p e ++ xs) (by_twice p es))
+    where
+      here : (o : Option ℕ) → whose e ≡ o → events_by p (own_of p e) ≡ own_of p e
+      here None is = rw is refl
+      here (Some q) is = ⊎_elim (λ (h : q ≡ p). by_mine p (own_of p e) (subst (λ xs. AreOf p xs) (sym (own_mine p e (is ∙ ap Some h))) (is ∙ ap Some h, tt))) (λ (h : q ≢ p). ap (events_by p) (own_other q p e (λ i. h (sym i)) is) ∙ sym (own_other q p e (λ i. h (sym i)) is)) (cases_eq q p)
+
+  pub by_apart : (p q : ℕ) (es : List (Event T)) → q ≢ p → events_by q (events_by p es) ≡ []
+  by_apart p q [] ne = refl
+  by_apart p q (e ∷ es) ne = by_more q (own_of p e) (events_by p es) ∙ (ap (λ xs. xs ++ events_by q (events_by p es)) (here (whose e) refl) ∙ by_apart p q es ne)
+    where
+      here : (o : Option ℕ) → whose e ≡ o → events_by q (own_of p e) ≡ []
+      here None is = rw is refl
+      here (Some r) is = ⊎_elim (λ (h : r ≡ p). by_other p q (own_of p e) ne (subst (λ xs. AreOf p xs) (sym (own_mine p e (is ∙ ap Some h))) (is ∙ ap Some h, tt))) (λ (h : r ≢ p). ap (events_by q) (own_other r p e (λ i. h (sym i)) is)) (cases_eq r p)
+
+  -- where no other party of the seat did something
+  pub owned_one : (owner : ℕ → ℕ) (j p : ℕ) (f : Event T → ℕ) (es : List (Event T)) → owner p ≡ j → ((q : ℕ) → owner q ≡ j → q ≢ p → events_by q es ≡ []) → sum_by (owned owner j f) es ≡ sum_by f (events_by p es)
+  owned_one owner j p f [] mine none = refl
+  owned_one owner j p f (e ∷ es) mine none =
+      let here = first (whose e) refl in
+      let more = owned_one owner j p f es mine (λ q of_j ne. nil_right (own_of q e) (events_by q es) (none q of_j ne)) in
+      let a = sum_first (owned owner j f) e es in
+      let b = sum_by-append f (own_of p e) (events_by p es) in
       omega arith
-  made_set f (x ∷ xs) (suc id) v w at =
-      let h = made_set f xs id v w at in
-      let both : (sum_by f x.made + made_of f (set xs id w)) + sum_by f v.made ≡ (sum_by f x.made + made_of f xs) + sum_by f w.made = omega arith in
-      both
+    where
+      first : (o : Option ℕ) → whose e ≡ o → owned owner j f e ≡ sum_by f (own_of p e)
+      first None is = rw is refl
+      first (Some q) is = ⊎_elim same other (cases_eq q p)
+        where
+          same : q ≡ p → owned owner j f e ≡ sum_by f (own_of p e)
+          same h =
+              let t : (owner q == j) ≡ true = (let k : owner q ≡ j = ap owner h ∙ mine in grind (arith, nat_tests)) in
+              let l : owned owner j f e ≡ f e = ap (λ o. if_owned owner j o (f e)) is ∙ rw t refl in
+              let r : sum_by f (own_of p e) ≡ sum_by f (e ∷ []) = ap (sum_by f) (own_mine p e (is ∙ ap Some h)) in
+              let one = sum_first f e [] in
+              omega arith
 
-  made_end : (f : Event T → ℕ) (views : List (View T)) (w : View T) → made_of f (views ++ w ∷ []) ≡ made_of f views + sum_by f w.made
-  made_end f [] w = omega arith
-  made_end f (x ∷ xs) w =
-      let h = made_end f xs w in
-      let both : sum_by f x.made + made_of f (xs ++ w ∷ []) ≡ (sum_by f x.made + made_of f xs) + sum_by f w.made = omega arith in
-      both
+          other : q ≢ p → owned owner j f e ≡ sum_by f (own_of p e)
+          other ne =
+              let away : own_of p e ≡ [] = own_other q p e (λ i. ne (sym i)) is in
+              let gone : sum_by f (own_of p e) ≡ 0 = ap (sum_by f) away in
+              let l : owned owner j f e ≡ 0 = ap (λ o. if_owned owner j o (f e)) is ∙ ⊎_elim (λ (h : owner q ≡ j). (let no : e ∷ [] ≡ [] = sym (own_mine q e is) ∙ nil_left (own_of q e) (events_by q es) (none q h ne) in absurd (cc))) (λ (h : owner q ≢ j). (let t : (owner q == j) ≡ false = grind (arith, nat_tests) in rw t refl)) (cases_eq (owner q) j) in
+              omega arith
 
-  made_none : (f : Event T → ℕ) (views : List (View T)) → ((j : ℕ) (u : View T) → get_elem? views j ≡ some u → u.made ≡ []) → made_of f views ≡ 0
-  made_none f [] none = refl
-  made_none f (x ∷ xs) none =
-      let here : sum_by f x.made ≡ 0 = ap (sum_by f) (none 0 x refl) in
-      let rest = made_none f xs (λ j u at. none (suc j) u at) in
+  -- ---- what another may write for a call
+
+  pub late_none : (k : Kind) (late : List (Event T)) → IsLate k None late → late ≡ []
+  late_none kinds.TheVariants.Overflow late h = h
+  late_none k late h = h
+
+  none_may : (c : Start T × Flight T) → MayBeLate c []
+  none_may (start, flights.TheVariants.Queues (Overflow (overflows.TheVariants.Push run))) = tt
+  none_may (start, flight) = refl
+
+  none_for : (o : Option (Start T × Flight T)) → IsLateFor o []
+  none_for None = refl
+  none_for (Some c) = none_may c
+
+  -- nothing may always be
+  pub none_late : (k : Kind) (o : Option (Start T × Flight T)) → IsLate k o []
+  none_late kinds.TheVariants.Overflow o = none_for o
+  none_late k o = refl
+
+  both_none : (a b : List (Event T)) → a ≡ [] → b ≡ [] → a ++ b ≡ []
+  both_none a b x y = ap (λ zs. zs ++ b) x ∙ y
+
+  all_both : (P : Event T → Type 0) (a b : List (Event T)) → AllByRecursion P a → AllByRecursion P b → AllByRecursion P (a ++ b)
+  all_both P [] b x y = y
+  all_both P (e ∷ a) b x y = (x.0, all_both P a b x.1 y)
+
+  may_more : (c : Start T × Flight T) (a b : List (Event T)) → MayBeLate c a → MayBeLate c b → MayBeLate c (a ++ b)
+  may_more (start, flights.TheVariants.Queues (Overflow (overflows.TheVariants.Push run))) a b x y = all_both (λ (e : Event T). (p : ℕ) × (e ≡ Acted p start PoppedNone)) a b x y
+  may_more (start, flight) a b x y = both_none a b x y
+
+  more_for : (o : Option (Start T × Flight T)) (a b : List (Event T)) → IsLateFor o a → IsLateFor o b → IsLateFor o (a ++ b)
+  more_for None a b x y = both_none a b x y
+  more_for (Some c) a b x y = may_more c a b x y
+
+  pub late_more : (k : Kind) (o : Option (Start T × Flight T)) (a b : List (Event T)) → IsLate k o a → IsLate k o b → IsLate k o (a ++ b)
+  late_more kinds.TheVariants.Overflow o a b x y = more_for o a b x y
+  late_more k o a b x y = both_none a b x y
+
+  pub by_nothing : (o : Option ℕ) → by_party {T = T} o [] ≡ []
+  by_nothing None = refl
+  by_nothing (Some p) = refl
+
+  -- nothing is late of a party with no call under way
+  pub quiet_late : (owner : ℕ → ℕ) (t : Trace T) (j : ℕ) (v : View T) → (f : Fits owner t j v) → (p : ℕ) → owner p ≡ j → call_in t.world p ≡ None → events_by p f.late ≡ []
+  quiet_late owner t j v f p of_j idle = go v.party refl
+    where
+      go : (o : Option ℕ) → v.party ≡ o → events_by p f.late ≡ []
+      go None is = (let none : [] ≡ f.late = subst (λ (o : Option ℕ). by_party o f.late ≡ f.late) is f.of_party in ap (events_by p) (sym none))
+      go (Some q) is = ⊎_elim mine other (cases_eq q p)
+        where
+          of_q : events_by q f.late ≡ f.late
+          of_q = subst (λ (o : Option ℕ). by_party o f.late ≡ f.late) is f.of_party
+
+          mine : q ≡ p → events_by p f.late ≡ []
+          mine e =
+              let none : v.going ≡ None = sym (f.going p of_j (is ∙ ap Some e)) ∙ idle in
+              ap (events_by p) (late_none t.world.kind f.late (subst (λ o. IsLate t.world.kind o f.late) none f.waits))
+
+          other : q ≢ p → events_by p f.late ≡ []
+          other ne = ap (events_by p) (sym of_q) ∙ by_apart q p f.late (λ e. ne (sym e))
+
+  -- ---- who made all
+
+  abbrev one : Event T → ℕ
+  one e = 1
+
+  -- every event is of a party of this seat, where those of the others did nothing
+  pub all_owned : (owner : ℕ → ℕ) (id n : ℕ) (f : Event T → ℕ) (es : List (Event T)) → ((q : ℕ) → q < n → owner q < n) → ((j : ℕ) → j ≢ id → j < n → sum_by (owned owner j one) es ≡ 0) → ((q : ℕ) → owner q ≢ id → n ≤ q → events_by q es ≡ []) → sum_by (λ e. of_none (whose e)) es ≡ 0
+      → sum_by f es ≡ sum_by (owned owner id f) es
+  all_owned owner id n f [] inside none beyond someone = refl
+  all_owned owner id n f (e ∷ es) inside none beyond someone =
+      let here = first (whose e) refl in
+      let sum_none = sum_first (λ x. of_none (whose x)) e es in
+      let more = all_owned owner id n f es inside (λ j ne low. (let z = none j ne low in let s = sum_first (owned owner j one) e es in omega arith)) (λ q ne past. nil_right (own_of q e) (events_by q es) (beyond q ne past)) (omega arith) in
+      let a = sum_first f e es in
+      let b = sum_first (owned owner id f) e es in
       omega arith
+    where
+      first : (o : Option ℕ) → whose e ≡ o → f e ≡ owned owner id f e
+      first None is = (let s = sum_first (λ x. of_none (whose x)) e es in let k : of_none (whose e) ≡ 1 = ap of_none is in absurd (omega arith))
+      first (Some q) is = ⊎_elim mine other (cases_eq (owner q) id)
+        where
+          mine : owner q ≡ id → f e ≡ owned owner id f e
+          mine h = (let t : (owner q == id) ≡ true = grind (arith, nat_tests) in sym (ap (λ o. if_owned owner id o (f e)) is ∙ rw t refl))
 
-  -- where only one seat made something
-  pub made_one : (f : Event T → ℕ) (views : List (View T)) (id : ℕ) (v : View T) → get_elem? views id ≡ some v → ((j : ℕ) (u : View T) → j ≢ id → get_elem? views j ≡ some u → u.made ≡ []) → made_of f views ≡ sum_by f v.made
-  made_one f [] id v at none = absurd (some-ne-none v (sym at))
-  made_one f (x ∷ xs) zero v at none =
-      let same : sum_by f x.made ≡ sum_by f v.made = ap (λ (z : View T). sum_by f z.made) (some-injective x v at) in
-      let rest = made_none f xs (λ j u there. none (suc j) u (λ e. absurd (omega arith)) there) in
-      omega arith
-  made_one f (x ∷ xs) (suc id) v at none =
-      let here : sum_by f x.made ≡ 0 = ap (sum_by f) (none 0 x (λ e. absurd (omega arith)) refl) in
-      let rest = made_one f xs id v at (λ j u ne there. none (suc j) u (λ e. ne (omega arith)) there) in
+          other : owner q ≢ id → f e ≡ owned owner id f e
+          other ne = ⊎_elim (λ (past : n ≤ q). (let no : e ∷ [] ≡ [] = sym (own_mine q e is) ∙ nil_left (own_of q e) (events_by q es) (beyond q ne past) in absurd (cc))) (λ (low : q < n). (
+              let z = none (owner q) ne (inside q low) in
+              let s = sum_first (owned owner (owner q) one) e es in
+              let t : (owner q == owner q) ≡ true = grind (arith, nat_tests) in
+              let k : owned owner (owner q) one e ≡ 1 = ap (λ o. if_owned owner (owner q) o 1) is ∙ rw t refl in
+              absurd (omega arith))) (nat_cases n q)
+
+  -- a seat that is spent has no party that did something
+  pub spent_owned : (owner : ℕ → ℕ) (t : Trace T) (j : ℕ) (v : View T) (f : Event T → ℕ) → Fits owner t j v → v.made ≡ [] → v.going ≡ None → sum_by (owned owner j f) t.events ≡ 0
+  spent_owned owner t j v f h none idle =
+      let m = h.made f in
+      let a : sum_by f v.made ≡ 0 = ap (sum_by f) none in
+      let b : sum_by f h.late ≡ 0 = ap (sum_by f) (late_none t.world.kind h.late (subst (λ o. IsLate t.world.kind o h.late) idle h.waits)) in
       omega arith
 
   -- ---- what all seats know
@@ -205,10 +329,10 @@ module _ {T : Type 0} where
   share_of v = v.share
 
   abbrev SpentIn : List (View T) → Type 0
-  SpentIn views = (j : ℕ) (u : View T) → get_elem? views j ≡ some u → u.share.part ≡ 0 → u.made ≡ []
+  SpentIn views = (j : ℕ) (u : View T) → get_elem? views j ≡ some u → u.share.part ≡ 0 → (u.made ≡ []) × (u.going ≡ None)
 
-  pub known_alone : (v : View T) → v.share ≡ all_shares → v.seen ≡ [] → v.made ≡ [] → Known (v ∷ []) []
-  known_alone v all seen none =
+  pub known_alone : (v : View T) → v.share ≡ all_shares → v.seen ≡ [] → Known (v ∷ []) []
+  known_alone v all seen =
       record {
         shares = shares_alone share_of v all;
         by = 0;
@@ -216,21 +340,20 @@ module _ {T : Type 0} where
         at = refl;
         any = (let is = ap (λ s. s.part) all in omega arith);
         all = inl seen;
-        made = λ f. (let here : sum_by f v.made ≡ 0 = ap (sum_by f) none in omega arith);
+        someone = refl;
         spent = spent;
       }
     where
       spent : SpentIn (v ∷ [])
-      spent zero u at part = ap (λ (z : View T). z.made) (sym (some-injective v u at)) ∙ none
+      spent zero u at part = (let is = ap (λ (z : View T). z.share.part) (some-injective v u at) in let some_part = ap (λ s. s.part) all in absurd (omega arith))
       spent (suc j) u at part = absurd (some-ne-none u (sym at))
 
-  spent_set : (views : List (View T)) (id : ℕ) (w : View T) → SpentIn views → (w.share.part ≡ 0 → w.made ≡ []) → SpentIn (set views id w)
-  spent_set views id w spent own j u at part = ⊎_elim (λ (e : (j ≡ id) × (w ≡ u)). ap (λ (z : View T). z.made) (sym e.1) ∙ own (ap (λ (z : View T). z.share.part) e.1 ∙ part)) (λ (e : (j ≢ id) × (get_elem? views j ≡ some u)). spent j u e.1 part) (Rattle.atomic_table.proofs.Lists.at_set views id j w u at)
+  spent_set : (views : List (View T)) (id : ℕ) (w : View T) → SpentIn views → (w.share.part ≡ 0 → (w.made ≡ []) × (w.going ≡ None)) → SpentIn (set views id w)
+  spent_set views id w spent own j u at part = ⊎_elim (λ (e : (j ≡ id) × (w ≡ u)). subst (λ (z : View T). (z.made ≡ []) × (z.going ≡ None)) e.1 (own (ap (λ (z : View T). z.share.part) e.1 ∙ part))) (λ (e : (j ≢ id) × (get_elem? views j ≡ some u)). spent j u e.1 part) (Rattle.atomic_table.proofs.Lists.at_set views id j w u at)
 
-  -- a seat with a share that has seen all now, and made this more
-  pub known_step : (views : List (View T)) (events gained : List (Event T)) (id : ℕ) (v w : View T) → id < length views → get_elem? views id ≡ some v → w.share ≡ v.share → 0 < v.share.part → w.seen ≡ events → w.made ≡ v.made ++ gained
-      → ((f : Event T → ℕ) → made_of f views + sum_by f gained ≡ sum_by f events) → SpentIn views → Shares share_of views → Known (set views id w) events
-  known_step views events gained id v w low at same part seen made sums spent shares =
+  -- a seat with a share that has seen all now
+  pub known_step : (views : List (View T)) (events : List (Event T)) (id : ℕ) (v w : View T) → id < length views → get_elem? views id ≡ some v → w.share ≡ v.share → 0 < v.share.part → w.seen ≡ events → sum_by (λ e. of_none (whose e)) events ≡ 0 → SpentIn views → Shares share_of views → Known (set views id w) events
+  known_step views events id v w low at same part seen someone spent shares =
       record {
         shares = shares_stay share_of views id v w at same shares;
         by = id;
@@ -238,11 +361,7 @@ module _ {T : Type 0} where
         at = set_here views id w low;
         any = (let is = ap (λ s. s.part) same in omega arith);
         all = inl seen;
-        made = λ f. (
-            let one = made_set f views id v w at in
-            let own : sum_by f w.made ≡ sum_by f v.made + sum_by f gained = ap (sum_by f) made ∙ sum_by-append f v.made gained in
-            let was = sums f in
-            omega arith);
+        someone = someone;
         spent = spent_set views id w spent (λ none. (let is = ap (λ s. s.part) same in absurd (omega arith)));
       }
 
@@ -261,10 +380,16 @@ module _ {T : Type 0} where
           let any = k.any in
           absurd (omega arith)
 
-  -- and it made all
-  pub made_whole : (views : List (View T)) (events : List (Event T)) (id : ℕ) (v : View T) → get_elem? views id ≡ some v → IsAll v.share → Known views events → (f : Event T → ℕ) → sum_by f events ≡ sum_by f v.made
-  made_whole views events id v at whole k f =
-      sym (k.made f) ∙ made_one f views id v at (λ j u ne there. k.spent j u there (others_none share_of views id v at k.shares whole j u ne there))
+  -- and its parties did all
+  pub owned_whole : (owner : ℕ → ℕ) (t : Trace T) (views : List (View T)) (id : ℕ) (v : View T) → get_elem? views id ≡ some v → IsAll v.share → Shares share_of views → SpentIn views → ((j : ℕ) (u : View T) → j ≢ id → get_elem? views j ≡ some u → Fits owner t j u) → ((q : ℕ) → q < length views → owner q < length views) → ((q : ℕ) → owner q ≢ id → length views ≤ q → events_by q t.events ≡ []) → sum_by (λ e. of_none (whose e)) t.events ≡ 0
+      → (f : Event T → ℕ) → sum_by f t.events ≡ sum_by (owned owner id f) t.events
+  owned_whole owner t views id v at whole shares spent fits inside beyond someone f = all_owned owner id (length views) f t.events inside none beyond someone
+    where
+      none : (j : ℕ) → j ≢ id → j < length views → sum_by (owned owner j one) t.events ≡ 0
+      none j ne low =
+          let u = there_is views j low in
+          let gone = spent j u.0 u.1 (others_none share_of views id v at shares whole j u.0 ne u.1) in
+          spent_owned owner t j u.0 one (fits j u.0 ne u.1) gone.0 gone.1
 
   pub known_split : (views : List (View T)) (events : List (Event T)) (id : ℕ) (v : View T) → id < length views → get_elem? views id ≡ some v → Known views events → Known (set views id (left_view v) ++ right_view v ∷ []) events
   known_split views events id v low at k = ⊎_elim mine theirs (cases_eq k.by id)
@@ -272,21 +397,14 @@ module _ {T : Type 0} where
       cut : List (View T)
       cut = set views id (left_view v) ++ right_view v ∷ []
 
-      sums : (f : Event T → ℕ) → made_of f cut ≡ sum_by f events
-      sums f =
-          let one = made_set f views id v (left_view v) at in
-          let two = made_end f (set views id (left_view v)) (right_view v) in
-          let was = k.made f in
-          omega arith
-
       spent : SpentIn cut
-      spent = spent_end (set views id (left_view v)) (right_view v) (spent_set views id (left_view v) k.spent (λ none. k.spent id v at none)) refl
+      spent = spent_end (set views id (left_view v)) (right_view v) (spent_set views id (left_view v) k.spent (λ none. k.spent id v at none)) refl refl
         where
-          spent_end : (xs : List (View T)) (w : View T) → SpentIn xs → w.made ≡ [] → SpentIn (xs ++ w ∷ [])
-          spent_end [] w h none zero u e part = ap (λ (z : View T). z.made) (sym (some-injective w u e)) ∙ none
-          spent_end [] w h none (suc j) u e part = absurd (some-ne-none u (sym e))
-          spent_end (x ∷ xs) w h none zero u e part = h zero u e part
-          spent_end (x ∷ xs) w h none (suc j) u e part = spent_end xs w (λ i z. h (suc i) z) none j u e part
+          spent_end : (xs : List (View T)) (w : View T) → SpentIn xs → w.made ≡ [] → w.going ≡ None → SpentIn (xs ++ w ∷ [])
+          spent_end [] w h none idle zero u e part = subst (λ (z : View T). (z.made ≡ []) × (z.going ≡ None)) (some-injective w u e) (none, idle)
+          spent_end [] w h none idle (suc j) u e part = absurd (some-ne-none u (sym e))
+          spent_end (x ∷ xs) w h none idle zero u e part = h zero u e part
+          spent_end (x ∷ xs) w h none idle (suc j) u e part = spent_end xs w (λ i z. h (suc i) z) none idle j u e part
 
       mine : k.by ≡ id → Known cut events
       mine e =
@@ -301,7 +419,7 @@ module _ {T : Type 0} where
             at = at_longer (set views id (left_view v)) (right_view v ∷ []) id (left_view v) (set_here views id (left_view v) low);
             any = any;
             all = all;
-            made = sums;
+            someone = k.someone;
             spent = spent;
           }
 
@@ -314,7 +432,7 @@ module _ {T : Type 0} where
             at = at_longer (set views id (left_view v)) (right_view v ∷ []) k.by k.last (set_else views id k.by (left_view v) ne ∙ k.at);
             any = k.any;
             all = k.all;
-            made = sums;
+            someone = k.someone;
             spent = spent;
           }
 
@@ -331,22 +449,11 @@ module _ {T : Type 0} where
       there : get_elem? both id ≡ some (joined_view v w)
       there = set_else (set views id (joined_view v w)) other id spent_view (λ e. apart (sym e)) ∙ set_here views id (joined_view v w) (within views id v at)
 
-      still : get_elem? (set views id (joined_view v w)) other ≡ some w
-      still = set_else views id other (joined_view v w) apart ∙ at'
-
       more : 0 < v.share.part → 0 < (joined_view v w).share.part
       more any = let h = positive v.share.part w.share.parts any (k.shares.fits other w at').0 in omega arith
 
-      sums : (f : Event T → ℕ) → made_of f both ≡ sum_by f events
-      sums f =
-          let one = made_set f views id v (joined_view v w) at in
-          let two = made_set f (set views id (joined_view v w)) other w spent_view still in
-          let all = sum_by-append f v.made w.made in
-          let was = k.made f in
-          omega arith
-
       spent : SpentIn both
-      spent = spent_set (set views id (joined_view v w)) other spent_view (spent_set views id (joined_view v w) k.spent (λ none. (let h = more part in absurd (omega arith)))) (λ none. refl)
+      spent = spent_set (set views id (joined_view v w)) other spent_view (spent_set views id (joined_view v w) k.spent (λ none. (let h = more part in absurd (omega arith)))) (λ none. (refl, refl))
 
       none_left : (xs rest : List (Event T)) → [] ≡ xs ++ rest → xs ≡ []
       none_left [] rest e = refl
@@ -359,7 +466,7 @@ module _ {T : Type 0} where
       mine : k.by ≡ id → Known both events
       mine e =
           let same : k.last ≡ v = some-injective k.last v (sym k.at ∙ (ap (get_elem? views) e ∙ at)) in
-          record { shares = shares; by = id; last = joined_view v w; at = there; any = more part; all = seen (subst (λ z. HasSeen z events) same k.all); made = sums; spent = spent }
+          record { shares = shares; by = id; last = joined_view v w; at = there; any = more part; all = seen (subst (λ z. HasSeen z events) same k.all); someone = k.someone; spent = spent }
         where
           seen : HasSeen v events → HasSeen (joined_view v w) events
           seen (inl h) = inl h
@@ -368,7 +475,7 @@ module _ {T : Type 0} where
       theirs : k.by ≡ other → Known both events
       theirs e =
           let same : k.last ≡ w = some-injective k.last w (sym k.at ∙ (ap (get_elem? views) e ∙ at')) in
-          record { shares = shares; by = id; last = joined_view v w; at = there; any = more part; all = seen (subst (λ z. HasSeen z events) same k.all); made = sums; spent = spent }
+          record { shares = shares; by = id; last = joined_view v w; at = there; any = more part; all = seen (subst (λ z. HasSeen z events) same k.all); someone = k.someone; spent = spent }
         where
           seen : HasSeen w events → HasSeen (joined_view v w) events
           seen (inl h) = inr h
@@ -383,6 +490,6 @@ module _ {T : Type 0} where
             at = set_else (set views id (joined_view v w)) other k.by spent_view ne' ∙ (set_else views id k.by (joined_view v w) ne ∙ k.at);
             any = k.any;
             all = k.all;
-            made = sums;
+            someone = k.someone;
             spent = spent;
           }

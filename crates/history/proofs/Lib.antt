@@ -17,8 +17,13 @@ pub mod IndexCalls
 pub mod Rooms
 pub mod Values
 pub mod Queues
+pub mod Overflows
 pub mod QueueLaws
 pub mod QueueCalls
+pub mod OverflowCalls
+pub mod AnyRoles
+pub mod OverflowPops
+pub mod OverflowRoles
 pub mod ValueCalls
 pub mod ValueLaws
 pub mod Alone
@@ -28,4 +33,5 @@ pub mod ValueHolders
 pub mod ValueQueueCalls
 pub mod ValueQueueRoles
 pub mod Holders
+pub mod OverflowHolders
 pub mod Cells

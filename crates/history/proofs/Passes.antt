@@ -18,11 +18,13 @@ use Rattle.model.specs.World.{Trace, capacity_error}
 use Rattle.model.proofs.Reached.{reached_on_opening}
 use Rattle.queue_laws.proofs.Queues.Sound.{fresh_opening}
 use Rattle.history.specs.declared.view.View.{View}
-use Rattle.history.specs.History.{IsBeginning, IsMachine, Fits, call_in}
-use Rattle.history.specs.Views.{first_view, left_view, right_view, joined_view, spent_view, Looks, LooksAt}
-use Rattle.history.specs.Known.{Known, HasSeenOf, events_by}
+use Rattle.model.specs.declared.event.Start.{Start}
+use Rattle.model.specs.declared.families.Flight.{Flight}
+use Rattle.history.specs.History.{IsBeginning, IsMachine, Fits, HasSeenOf, IsLate, call_in}
+use Rattle.history.specs.Views.{first_view, left_view, right_view, joined_view, spent_view, Looks, LooksAt, WhenIdle}
+use Rattle.history.specs.Known.{Known, owned, events_by}
 use Rattle.history.proofs.Calls.{get_left}
-use Rattle.history.proofs.Known.{by_more, nil_right, within, handed_on, owned_none, owned_both, owned_third, idle_seat, nat_cases, known_alone, known_step, known_whole, made_whole, known_split, known_join, none_before}
+use Rattle.history.proofs.Known.{by_more, nil_right, within, handed_on, owned_none, owned_both, owned_third, idle_seat, nat_cases, known_alone, known_step, known_whole, owned_whole, known_split, known_join, none_before, late_none, none_late, by_nothing, quiet_late}
 
 pub set_same : (xs : List ℕ) (i : ℕ) → set xs i (get_or xs i 0) ≡ xs
 set_same [] i = refl
@@ -52,9 +54,31 @@ nothing_left : {A : Type 0} → (xs rest : List A) → xs ≡ xs ++ rest → res
 nothing_left [] rest e = sym e
 nothing_left (x ∷ xs) rest e = let same : xs ≡ xs ++ rest = cc in nothing_left xs rest same
 
-rest_apart : {T : Type 0} (v : View T) (events : List (Event T)) (seen : IsBeginning v.seen events) (p : ℕ) → v.other ≡ [] → HasSeenOf p v events → events_by p seen.rest ≡ []
-rest_apart v events seen p alone (inl e) = nothing_left (events_by p v.seen) (events_by p seen.rest) (e ∙ (ap (events_by p) seen.is ∙ by_more p v.seen seen.rest))
-rest_apart v events seen p alone (inr e) = nil_right (events_by p v.seen) (events_by p seen.rest) (sym (by_more p v.seen seen.rest) ∙ (sym (ap (events_by p) seen.is) ∙ (sym e ∙ ap (events_by p) alone)))
+rest_apart : {T : Type 0} (v : View T) (t : Trace T) (late : List (Event T)) (seen : IsBeginning v.seen t.events) (p : ℕ) → v.other ≡ [] → late ≡ [] → HasSeenOf p v late t → events_by p seen.rest ≡ []
+rest_apart v t late seen p alone none (inl e) = nothing_left (events_by p v.seen) (events_by p seen.rest) (sym (append-nil (events_by p v.seen)) ∙ (ap (λ es. events_by p v.seen ++ events_by p es) (sym none) ∙ (e ∙ (ap (events_by p) seen.is ∙ by_more p v.seen seen.rest))))
+rest_apart v t late seen p alone none (inr h) = nil_right (events_by p v.seen) (events_by p seen.rest) (sym (by_more p v.seen seen.rest) ∙ (sym (ap (events_by p) seen.is) ∙ (sym h.1 ∙ ap (events_by p) alone)))
+
+set_again : {A : Type 0} → (xs : List A) (i : ℕ) (x : A) → get_elem? xs i ≡ some x → set xs i x ≡ xs
+set_again [] i x e = refl
+set_again (y ∷ ys) zero x e = ap (λ z. z ∷ ys) (sym (some-injective y x e))
+set_again (y ∷ ys) (suc i) x e = ap (λ zs. y ∷ zs) (set_again ys i x e)
+
+-- a look may be told of, or a call is under way for which another may write
+calm_or_not : {T : Type 0} → (k : Kind) (o : Option (Start T × Flight T)) → ((late : List (Event T)) → IsLate k o late → late ≡ []) ⊎ ((k ≡ kinds.Overflow) × (o ≢ None))
+calm_or_not kinds.Overflow None = inl (λ late h. h)
+calm_or_not kinds.Overflow (Some c) = inr (refl, λ e. absurd (cc))
+calm_or_not k o = inl (λ late h. h)
+
+told_when : {T : Type 0} → (k : Kind) (o : Option (Start T × Flight T)) (Told : Type 0) → Told → WhenIdle k o Told
+told_when kinds.Overflow o Told x = λ e. x
+told_when k o Told x = x
+
+told_of : {T : Type 0} → (k : Kind) (o : Option (Start T × Flight T)) (Told Less : Type 0) → (Told → Less) → WhenIdle k o Told → WhenIdle k o Less
+told_of kinds.Overflow o Told Less f x = λ e. f (x e)
+told_of k o Told Less f x = f x
+
+told_never : {T : Type 0} → (k : Kind) (o : Option (Start T × Flight T)) (Told : Type 0) → (k ≡ kinds.Overflow) × (o ≢ None) → WhenIdle k o Told
+told_never k o Told h = subst (λ z. WhenIdle z o Told) (sym h.0) (λ e. absurd (h.1 e))
 
 module _ {T : Type 0} (code : Coding T) (kind : Kind) (capacity : ℕ) where
   abbrev Holds : State (Unit {0}) (View T) → Type 0
@@ -119,12 +143,15 @@ module _ {T : Type 0} (code : Coding T) (kind : Kind) (capacity : ℕ) where
             going = λ p of_j is. absurd (cc);
             idle = λ p of_j ne. m.further p (alone p j e of_j);
             party = tt;
-            own = λ any p of_j. (let none = m.made_none p (alone p j e of_j) in inl (none_before p v.seen m.trace.events (m.seats id v at).seen none ∙ sym none));
+            late = [];
+            waits = none_late m.trace.world.kind None;
+            of_party = refl;
+            own = λ any p of_j. (let none = m.made_none p (alone p j e of_j) in inl (append-nil (events_by p v.seen) ∙ (none_before p v.seen m.trace.events (m.seats id v at).seen none ∙ sym none)));
             made = λ f. sym (owned_none m.owner j f m.trace.events (λ p of_j. m.made_none p (alone p j e of_j)));
           }
 
       left : Fits m.owner m.trace id (left_view v)
-      left = (let f = m.seats id v at in record { seen = f.seen; other = f.other; self = f.self; going = f.going; idle = f.idle; party = f.party; own = f.own; made = f.made })
+      left = (let f = m.seats id v at in record { seen = f.seen; other = f.other; self = f.self; going = f.going; idle = f.idle; party = f.party; late = f.late; waits = f.waits; of_party = f.of_party; own = f.own; made = f.made })
 
       old : (j : ℕ) (x : View T) → get_elem? (set s.views id (left_view v)) j ≡ some x → Fits m.owner m.trace j x
       old j x found = ⊎_elim (λ (e : (j ≡ id) × (left_view v ≡ x)). subst (λ z. Fits m.owner m.trace j z) e.1 (subst (λ n. Fits m.owner m.trace n (left_view v)) (sym e.0) left)) (λ (e : (j ≢ id) × (get_elem? s.views j ≡ some x)). m.seats j x e.1) (at_set s.views id j (left_view v) x found)
@@ -173,6 +200,9 @@ module _ {T : Type 0} (code : Coding T) (kind : Kind) (capacity : ℕ) where
       its : Fits m.owner m.trace other w
       its = m.seats other w theirs
 
+      its_none : its.late ≡ []
+      its_none = late_none m.trace.world.kind its.late (subst (λ o. IsLate m.trace.world.kind o its.late) idle its.waits)
+
       its_idle : (p : ℕ) → m.owner p ≡ other → call_in m.trace.world p ≡ None
       its_idle p of_other = idle_seat m.owner m.trace other w idle its p of_other
 
@@ -185,10 +215,14 @@ module _ {T : Type 0} (code : Coding T) (kind : Kind) (capacity : ℕ) where
             going = λ p now is. ⊎_elim (λ (h : m.owner p ≡ id). mine.going p h is) (λ (h : m.owner p ≡ other). absurd (apart (sym h ∙ party_is v.party p is mine.party))) (of_id p now);
             idle = λ p now ne. ⊎_elim (λ (h : m.owner p ≡ id). mine.idle p h ne) (λ (h : m.owner p ≡ other). its_idle p h) (of_id p now);
             party = go v.party mine.party;
-            own = λ any p now. ⊎_elim (λ (h : m.owner p ≡ id). inl (only v alone p (mine.seen) (mine.own some_share p h))) (λ (h : m.owner p ≡ other). inr (only w alone' p (its.seen) (its.own other_share p h))) (of_id p now);
+            late = mine.late;
+            waits = mine.waits;
+            of_party = mine.of_party;
+            own = λ any p now. ⊎_elim (λ (h : m.owner p ≡ id). inl (only v mine alone p h (mine.own some_share p h))) (λ (h : m.owner p ≡ other). inr (its_idle p h, sym (append-nil (events_by p w.seen)) ∙ (ap (λ es. events_by p w.seen ++ events_by p es) (sym its_none) ∙ only w its alone' p h (its.own other_share p h)))) (of_id p now);
             made = λ f. (
                 let a = mine.made f in
                 let b = its.made f in
+                let none : sum_by f its.late ≡ 0 = ap (sum_by f) its_none in
                 let one = sum_by-append f v.made w.made in
                 let two = owned_both m.owner id other f (λ e. apart (sym e)) m.trace.events in
                 omega arith);
@@ -201,9 +235,11 @@ module _ {T : Type 0} (code : Coding T) (kind : Kind) (capacity : ℕ) where
           go None h = tt
           go (Some q) h = stays q (λ e. apart (sym e ∙ h)) ∙ h
 
-          only : (x : View T) → x.other ≡ [] → (p : ℕ) → IsBeginning x.seen m.trace.events → HasSeenOf p x m.trace.events → events_by p x.seen ≡ events_by p m.trace.events
-          only x none p seen (inl h) = h
-          only x none p seen (inr h) = let nothing_by : events_by p m.trace.events ≡ [] = sym h ∙ ap (events_by p) none in none_before p x.seen m.trace.events seen nothing_by ∙ sym nothing_by
+          only : {j : ℕ} (x : View T) (f : Fits m.owner m.trace j x) → x.other ≡ [] → (p : ℕ) → m.owner p ≡ j → HasSeenOf p x f.late m.trace → events_by p x.seen ++ events_by p f.late ≡ events_by p m.trace.events
+          only x f none p of_j (inl h) = h
+          only {j} x f none p of_j (inr h) =
+              let nothing_by : events_by p m.trace.events ≡ [] = sym h.1 ∙ ap (events_by p) none in
+              ap (λ es. es ++ events_by p f.late) (none_before p x.seen m.trace.events f.seen nothing_by) ∙ (quiet_late m.owner m.trace j x f p of_j h.0 ∙ sym nothing_by)
 
       old : (j : ℕ) (x : View T) → j ≢ other → get_elem? (set s.views id (joined_view v w)) j ≡ some x → Fits (handed_on id other m.owner) m.trace j x
       old j x apart_too found = ⊎_elim (λ (e : (j ≡ id) × (joined_view v w ≡ x)). subst (λ z. Fits (handed_on id other m.owner) m.trace j z) e.1 (subst (λ n. Fits (handed_on id other m.owner) m.trace n (joined_view v w)) (sym e.0) both)) (λ (e : (j ≢ id) × (get_elem? s.views j ≡ some x)). third j x e.0 apart_too (m.seats j x e.1)) (at_set s.views id j (joined_view v w) x found)
@@ -217,6 +253,9 @@ module _ {T : Type 0} (code : Coding T) (kind : Kind) (capacity : ℕ) where
                 going = λ p now. f.going p (of_third p j ne now).0;
                 idle = λ p now. f.idle p (of_third p j ne now).0;
                 party = go x.party f.party;
+                late = f.late;
+                waits = f.waits;
+                of_party = f.of_party;
                 own = λ any p now. f.own any p (of_third p j ne now).0;
                 made = λ g. f.made g ∙ owned_third m.owner id other j g ne apart_too m.trace.events;
               }
@@ -238,22 +277,40 @@ module _ {T : Type 0} (code : Coding T) (kind : Kind) (capacity : ℕ) where
             going = λ p now is. absurd (never p j e now);
             idle = λ p now ne. absurd (never p j e now);
             party = tt;
+            late = [];
+            waits = none_late m.trace.world.kind None;
+            of_party = refl;
             own = λ any. absurd (omega arith);
             made = λ f. sym (owned_none (handed_on id other m.owner) j f m.trace.events (λ p now. absurd (never p j e now)));
           }
 
-  -- a look at this table
-  pub looks_at : (slots id word : ℕ) (v : View T) → 0 < v.share.part → (s : State (Unit {0}) (View T)) → (m : Holds s) → length s.homes ≡ slots → get_elem? s.views id ≡ some v → slice_index s.words word < 18446744073709551616
+  -- a look at this table, where nothing is late for the seat
+  pub looks_at : (slots id word : ℕ) (v : View T) → 0 < v.share.part → ((late : List (Event T)) → IsLate kind v.going late → late ≡ []) → (s : State (Unit {0}) (View T)) → (m : Holds s) → length s.homes ≡ slots → get_elem? s.views id ≡ some v → slice_index s.words word < 18446744073709551616
       → (w : View T) × (a : table.Act (Unit {0})) × table.Valid s.homes [] a × Holds (table.stepped s word (slice_index s.words word) id [] w a) × (Looks code kind capacity v w × (table.carried_after [] a ≡ [])) × (w.seen ≡ m.trace.events)
-  looks_at slots id word v some_share s m long at small =
+  looks_at slots id word v some_share calm s m long at small =
       let t = m.trace in
       let f = m.seats id v at in
+      let none : f.late ≡ [] = calm f.late (subst (λ k. IsLate k v.going f.late) m.run.of_kind f.waits) in
+      let made : (g : Event T → ℕ) → sum_by g v.made ≡ sum_by (owned m.owner id g) t.events = λ g. (let is = f.made g in let no : sum_by g f.late ≡ 0 = ap (sum_by g) none in omega arith) in
       let w : View T = record { capacity = v.capacity; party = v.party; share = v.share; seen = t.events; other = []; made = v.made; going = v.going } in (
         w,
         table.keeps,
         tt,
-        reseat (slice_set s.words word (slice_index s.words word)) s m id v w (set_same s.words word) at (record { seen = all_of t.events; other = nothing t.events; self = f.self; going = f.going; idle = f.idle; party = f.party; own = λ any p of_id. inl refl; made = f.made })
-            (known_step s.views t.events [] id v w (within s.views id v at) at refl some_share refl (sym (append-nil v.made)) (λ f. (let h = m.known.made f in omega arith)) m.known.spent m.known.shares),
+        reseat (slice_set s.words word (slice_index s.words word)) s m id v w (set_same s.words word) at
+            (record {
+              seen = all_of t.events;
+              other = nothing t.events;
+              self = f.self;
+              going = f.going;
+              idle = f.idle;
+              party = f.party;
+              late = [];
+              waits = none_late t.world.kind v.going;
+              of_party = by_nothing v.party;
+              own = λ any p of_id. inl (append-nil (events_by p t.events));
+              made = λ g. (let is = made g in omega arith);
+            })
+            (known_step s.views t.events id v w (within s.views id v at) at refl some_share refl m.known.someone m.known.spent m.known.shares),
         (
           record {
             capacity = refl;
@@ -265,35 +322,53 @@ module _ {T : Type 0} (code : Coding T) (kind : Kind) (capacity : ℕ) where
             mine = f.seen;
             theirs = f.other;
             whole = λ all. ⊎_elim (λ (e : v.seen ≡ t.events). inl (sym e)) (λ (e : v.other ≡ t.events). inr (sym e)) (known_whole s.views t.events id v at all m.known);
-            all = λ all f. made_whole s.views t.events id v at all m.known f;
+            all = λ all g. owned_whole m.owner t s.views id v at all m.known.shares m.known.spent (λ j u ne there. m.seats j u there) m.inside (λ q ne past. m.made_none q past) m.known.someone g ∙ sym (made g);
             history = record { trace = t; run = m.run; is = refl };
-            parties = record { owner = m.owner; seat = id; sums = f.made };
-            apart = λ alone any p of_id. rest_apart v t.events f.seen p alone (f.own any p of_id);
+            parties = record { owner = m.owner; seat = id; sums = made };
+            apart = λ alone any p of_id. rest_apart v t f.late f.seen p alone none (f.own any p of_id);
           },
           refl,
         ),
         refl,
       )
 
-  pub looks : (slots id word : ℕ) (v : View T) → 0 < v.share.part → Allows Holds slots id (v, []) word (λ n. n) (λ found me. Looks code kind capacity v me.0 × (me.1 ≡ []))
-  looks slots id word v some_share s m long at small = (let x = looks_at slots id word v some_share s m long at small in (x.0, x.1, x.2, x.3, x.4))
+  -- where something may be late the seat stays as it is, and nothing is told of the look
+  looks_when : (slots id word : ℕ) (v : View T) → 0 < v.share.part → (s : State (Unit {0}) (View T)) → (m : Holds s) → length s.homes ≡ slots → get_elem? s.views id ≡ some v → slice_index s.words word < 18446744073709551616
+      → (w : View T) × (a : table.Act (Unit {0})) × table.Valid s.homes [] a × Holds (table.stepped s word (slice_index s.words word) id [] w a) × (table.carried_after [] a ≡ []) × WhenIdle kind v.going (Looks code kind capacity v w × (w.seen ≡ m.trace.events))
+  looks_when slots id word v some_share s m long at small = ⊎_elim told untold (calm_or_not kind v.going)
+    where
+      told : ((late : List (Event T)) → IsLate kind v.going late → late ≡ []) → (w : View T) × (a : table.Act (Unit {0})) × table.Valid s.homes [] a × Holds (table.stepped s word (slice_index s.words word) id [] w a) × (table.carried_after [] a ≡ []) × WhenIdle kind v.going (Looks code kind capacity v w × (w.seen ≡ m.trace.events))
+      told calm = (let x = looks_at slots id word v some_share calm s m long at small in (x.0, x.1, x.2, x.3, x.4.1, told_when kind v.going (Looks code kind capacity v x.0 × (x.0.seen ≡ m.trace.events)) (x.4.0, x.5)))
 
-  pub looks_word : (slots id word : ℕ) (v : View T) → 0 < v.share.part → Allows Holds slots id (v, []) word (λ n. n) (λ found me. LooksAt code kind capacity word v found me.0 × (me.1 ≡ []))
+      untold : (kind ≡ kinds.Overflow) × (v.going ≢ None) → (w : View T) × (a : table.Act (Unit {0})) × table.Valid s.homes [] a × Holds (table.stepped s word (slice_index s.words word) id [] w a) × (table.carried_after [] a ≡ []) × WhenIdle kind v.going (Looks code kind capacity v w × (w.seen ≡ m.trace.events))
+      untold h = (
+        v,
+        table.keeps,
+        tt,
+        reseat (slice_set s.words word (slice_index s.words word)) s m id v v (set_same s.words word) at (m.seats id v at) (subst (λ views. Known views m.trace.events) (sym (set_again s.views id v at)) m.known),
+        refl,
+        told_never kind v.going (Looks code kind capacity v v × (v.seen ≡ m.trace.events)) h,
+      )
+
+  pub looks : (slots id word : ℕ) (v : View T) → 0 < v.share.part → Allows Holds slots id (v, []) word (λ n. n) (λ found me. WhenIdle kind v.going (Looks code kind capacity v me.0) × (me.1 ≡ []))
+  looks slots id word v some_share s m long at small = (let x = looks_when slots id word v some_share s m long at small in (x.0, x.1, x.2, x.3, (told_of kind v.going (Looks code kind capacity v x.0 × (x.0.seen ≡ m.trace.events)) (Looks code kind capacity v x.0) (λ h. h.0) x.5, x.4)))
+
+  pub looks_word : (slots id word : ℕ) (v : View T) → 0 < v.share.part → Allows Holds slots id (v, []) word (λ n. n) (λ found me. WhenIdle kind v.going (LooksAt code kind capacity word v found me.0) × (me.1 ≡ []))
   looks_word slots id word v some_share s m long at small =
-      let x = looks_at slots id word v some_share s m long at small in (
+      let x = looks_when slots id word v some_share s m long at small in (
         x.0,
         x.1,
         x.2,
         x.3,
         (
-          record {
-            looks = x.4.0;
+          told_of kind v.going (Looks code kind capacity v x.0 × (x.0.seen ≡ m.trace.events)) (LooksAt code kind capacity word v (slice_index s.words word) x.0) (λ h. record {
+            looks = h.0;
             trace = m.trace;
             run = m.run;
-            seen = x.5;
+            seen = h.1;
             word_is = λ below. ap (λ ws. slice_index ws word) m.words ∙ get_left m.trace.world.words (0 ∷ []) word below;
-          },
-          x.4.1,
+          }) x.5,
+          x.4,
         ),
       )
 
@@ -310,9 +385,9 @@ module _ {T : Type 0} (code : Coding T) (kind : Kind) (capacity : ℕ) where
         fresh = λ p past. refl;
         further = λ j past. refl;
         made_none = λ j past. refl;
-        known = known_alone (first_view capacity) refl refl refl;
+        known = known_alone (first_view capacity) refl refl;
       }
     where
       seats : (j : ℕ) (v : View T) → get_elem? (first_view capacity ∷ []) j ≡ some v → Fits (λ p. p) (worlds.opening code kind capacity 0) j v
-      seats zero v e = subst (λ z. Fits (λ p. p) (worlds.opening code kind capacity 0) zero z) (some-injective (first_view capacity) v e) (record { seen = nothing []; other = nothing []; self = λ any. refl; going = λ p of_j is. refl; idle = λ p of_j ne. refl; party = refl; own = λ any p of_j. inl refl; made = λ f. refl })
+      seats zero v e = subst (λ z. Fits (λ p. p) (worlds.opening code kind capacity 0) zero z) (some-injective (first_view capacity) v e) (record { seen = nothing []; other = nothing []; self = λ any. refl; going = λ p of_j is. refl; idle = λ p of_j ne. refl; party = refl; late = []; waits = none_late kind None; of_party = refl; own = λ any p of_j. inl refl; made = λ f. refl })
       seats (suc j) v e = absurd (some-ne-none v (sym e))

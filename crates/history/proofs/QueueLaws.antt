@@ -1,19 +1,30 @@
--- A history of an index queue is linearizable as the bounded list.
+-- A history of a queue is linearizable as its list: a bounded one, or the overflowing one.
 use Rattle.std.proofs.Common.{ℕ, List, sym, subst}
 use Rattle.model.specs.declared.event.Event.{Event}
-use Rattle.model.specs.declared.families.queues.QueueKind.TheVariants.{IndexQueue}
+use Rattle.model.specs.declared.families.queues.QueueKind.{QueueKind}
+use Rattle.model.specs.declared.families.queues.QueueKind.TheVariants.{IndexQueue, Overflow, Queue}
 use Rattle.model.specs.declared.turn.Kind.TheVariants as kinds
 use Rattle.model.specs.Coding.{Coding}
 use Rattle.model.specs.Linearizable.{IsLinearizable}
 use Rattle.model.specs.Linearized.{as_list, IsLinearized}
 use Rattle.model.proofs.Linearizable.Kinds.{run_linearizable}
+use Rattle.model.specs.World.{Trace}
+use Rattle.queue_laws.proofs.Queues.Invariant.{machine_kind}
 use Rattle.queue_laws.proofs.Queues.Kept.{kept_on}
 use Rattle.history.specs.History.{IsHistory}
 
 module _ {T : Type 0} (code : Coding T) (capacity : ℕ) where
-  pub index_linearizable : (events : List (Event T)) → IsHistory code kinds.IndexQueue capacity events → IsLinearizable (as_list IndexQueue capacity) events
-  index_linearizable events h =
+  as_its_list : (kd : QueueKind) (t : Trace T) → IsLinearized (machine_kind kd) t → IsLinearizable (as_list kd t.world.capacity) t.events
+  as_its_list IndexQueue t h = h
+  as_its_list Overflow t h = h
+  as_its_list Queue t h = h
+
+  pub queue_linearizable : (kd : QueueKind) (events : List (Event T)) → IsHistory code (machine_kind kd) capacity events → IsLinearizable (as_list kd capacity) events
+  queue_linearizable kd events h =
       let t = h.trace in
       let r = h.run in
-      let all : IsLinearized kinds.IndexQueue t = subst (λ k. IsLinearized k t) r.of_kind (run_linearizable t (kept_on IndexQueue t r.of_kind r.reached.coded r.reached.admitted r.fresh)) in
-      subst (λ es. IsLinearizable (as_list IndexQueue capacity) es) (sym h.is) (subst (λ n. IsLinearizable (as_list IndexQueue n) t.events) r.sized all)
+      let all : IsLinearized (machine_kind kd) t = subst (λ k. IsLinearized k t) r.of_kind (run_linearizable t (kept_on kd t r.of_kind r.reached.coded r.reached.admitted r.fresh)) in
+      subst (λ es. IsLinearizable (as_list kd capacity) es) (sym h.is) (subst (λ n. IsLinearizable (as_list kd n) t.events) r.sized (as_its_list kd t all))
+
+  pub index_linearizable : (events : List (Event T)) → IsHistory code kinds.IndexQueue capacity events → IsLinearizable (as_list IndexQueue capacity) events
+  index_linearizable = queue_linearizable IndexQueue

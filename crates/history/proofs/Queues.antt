@@ -51,7 +51,7 @@ use Rattle.history.specs.Known.{owned}
 use Rattle.history.specs.Roles.{holder, role_after, HasRole}
 use Rattle.history.specs.Stages.{Starts, Calling}
 use Rattle.history.proofs.Roles.{role_by}
-use Rattle.history.specs.History.{IsRun, call_in}
+use Rattle.history.specs.History.{IsRun, IsLate, call_in}
 use Rattle.history.proofs.Known.{AreOf}
 use Rattle.history.proofs.Calls.{stands}
 use Rattle.history.proofs.Turns.{CallGoesOn, KindLaws}
@@ -121,30 +121,45 @@ module _ {T : Type 0} (code : Coding T) where
     writes_it r k start (OnRole call) at = refl
     writes_it r k start (Length which run) at = refl
 
+-- ---- of a queue of any kind
+
+module _ {T : Type 0} (code : Coding T) (capacity : ℕ) (kd : QueueKind) where
+  abbrev pub IsOf : Trace T → Type 0
+  IsOf t = IsRun code (machine_kind kd) capacity t
+
+  pub sound_of : (t : Trace T) → IsOf t → frame.Sound (family t.world.coding kd t.world.capacity) t
+  sound_of t run = sound_on kd t run.of_kind run.reached.coded run.reached.admitted run.fresh
+
+  cell_sizes : (q : QueueKind) (z : Coding T) → (encoded z q).size * cells_of q capacity ≡ words_of_cell z.size q * cells_of q capacity
+  cell_sizes IndexQueue z = refl
+  cell_sizes queues.TheVariants.Overflow z = refl
+  cell_sizes queues.TheVariants.Queue z = refl
+
+  -- its words
+  pub sized_so : (t : Trace T) → IsOf t → length t.world.words ≡ 4 + words_of_cell code.size kd * cells_of kd capacity
+  sized_so t run =
+      let s = sound_of t run in
+      let cells : length s.state.core.cells ≡ words_of_cell code.size kd * cells_of kd capacity =
+      s.holds.good.cells ∙ (ap (λ (n : ℕ). (encoded t.world.coding kd).size * cells_of kd n) run.sized ∙ (cell_sizes kd t.world.coding ∙ ap (λ (z : Coding T). words_of_cell z.size kd * cells_of kd capacity) run.coded))
+      in
+      ap length (kept_is t.world.kept t.world.words s.state s.fit).1 ∙ omega arith
+
 -- ---- what a bounded queue owes, of indices or of values
 
 module _ {T : Type 0} (code : Coding T) (capacity : ℕ) (r : Ring) where
   abbrev IsBounded : Trace T → Type 0
   IsBounded t = IsRun code (machine_kind (kind_of r)) capacity t
 
-  pub sound : (t : Trace T) → IsBounded t → frame.Sound (family t.world.coding (kind_of r) t.world.capacity) t
-  sound t run = sound_on (kind_of r) t run.of_kind run.reached.coded run.reached.admitted run.fresh
-
   -- the words of the table
   abbrev pub ring_words : ℕ
   ring_words = 4 + words_of_cell code.size (kind_of r) * capacity
 
-  cell_sizes : (q : Ring) (z : Coding T) → (encoded z (kind_of q)).size * cells_of (kind_of q) capacity ≡ words_of_cell z.size (kind_of q) * capacity
-  cell_sizes of_indices z = refl
-  cell_sizes of_values z = refl
+  as_many : (q : Ring) → cells_of (kind_of q) capacity ≡ capacity
+  as_many of_indices = refl
+  as_many of_values = refl
 
   size : (t : Trace T) → IsBounded t → length t.world.words ≡ ring_words
-  size t run =
-      let s = sound t run in
-      let cells : length s.state.core.cells ≡ words_of_cell code.size (kind_of r) * capacity =
-      s.holds.good.cells ∙ (ap (λ (n : ℕ). (encoded t.world.coding (kind_of r)).size * cells_of (kind_of r) n) run.sized ∙ (cell_sizes r t.world.coding ∙ ap (λ (z : Coding T). words_of_cell z.size (kind_of r) * capacity) run.coded))
-      in
-      ap length (kept_is t.world.kept t.world.words s.state s.fit).1 ∙ omega arith
+  size t run = sized_so code capacity (kind_of r) t run ∙ ap (λ n. 4 + words_of_cell code.size (kind_of r) * n) (as_many r)
 
   -- the step of a call that stands so, whatever its name
   record Facts (z : Coding T) (words : List ℕ) (waits : Option (ℕ × ℕ)) (p n : ℕ) (start : Start T) (flight : Flight T) (kept : Kept T) : Type 0 where
@@ -165,7 +180,7 @@ module _ {T : Type 0} (code : Coding T) (capacity : ℕ) (r : Ring) where
 
   goes_on : (t : Trace T) → IsBounded t → (p : ℕ) (start : Start T) (flight : Flight T) → call_in t.world p ≡ Some (start, flight) → CallGoesOn code (machine_kind (kind_of r)) capacity ring_words (queue_effects code) t p flight
   goes_on t run p start flight at =
-      let s = sound t run in
+      let s = sound_of code capacity (kind_of r) t run in
       let here = stands t.world p start flight at in
       let there = stands_there (family t.world.coding (kind_of r) t.world.capacity) t s p here.x here.since flight here.found here.doing in
       let is = kept_is t.world.kept t.world.words s.state s.fit in
@@ -183,7 +198,11 @@ module _ {T : Type 0} (code : Coding T) (capacity : ℕ) (r : Ring) where
       }
 
   pub ring_owes : KindLaws code (machine_kind (kind_of r)) capacity ring_words (queue_effects code)
-  ring_owes = record { size = size; goes_on = goes_on }
+  ring_owes = record { size = size; goes_on = goes_on; alone = alone r }
+    where
+      alone : (q : Ring) (going : Option (Start T × Flight T)) (late : List (Event T)) → IsLate (machine_kind (kind_of q)) going late → late ≡ []
+      alone of_indices going late h = h
+      alone of_values going late h = h
 
 module _ {T : Type 0} (code : Coding T) (capacity : ℕ) where
   pub index_owes : KindLaws code kinds.TheVariants.IndexQueue capacity (4 + capacity) (queue_effects code)

@@ -35,7 +35,7 @@ use Rattle.bit_laws.proofs.Counts.Invariant.{counting_set}
 use Rattle.bit_laws.proofs.Counts.Justified.{laws as counts_laws}
 use Rattle.bit_laws.proofs.Bits.Invariant.{bit_set}
 use Rattle.bit_laws.proofs.Bits.Justified.{laws as bits_laws}
-use Rattle.history.specs.History.{IsRun, IsMachine, call_in}
+use Rattle.history.specs.History.{IsRun, IsMachine, call_in, IsLate}
 use Rattle.history.specs.declared.view.View.{View}
 use Rattle.history.specs.Known.{owned}
 use Rattle.history.specs.Stages.{Calling, Starts}
@@ -135,8 +135,8 @@ module _ {T : Type 0} (K : SetKind T) (laws : (code : Coding T) (c : ℕ) → Se
             ∙ as_told t.world.coding p n (K.At t.world.capacity wrote) t.world.kept here.x.start flight mine));
       }
 
-  pub sets_owe : KindLaws code K.kind capacity words set_effects
-  sets_owe = record { size = size; goes_on = goes_on }
+  pub sets_owe : ((going : Option (Start T × Flight T)) (late : List (Event T)) → IsLate K.kind going late → late ≡ []) → KindLaws code K.kind capacity words set_effects
+  sets_owe alone = record { size = size; goes_on = goes_on; alone = alone }
 
   -- a call that may begin on a new set may begin at any time, as the party that the pass was last
   pub set_starts : {C M E : Type 0} → (call : Calling T C M E) (base : View T) (c : C) (m : M) → base.capacity ≡ capacity → ((o : Option ℕ) (p : ℕ) → IfSome o (λ q. q ≡ p) → call.by o p)
@@ -159,10 +159,10 @@ module _ {T : Type 0} (K : SetKind T) (laws : (code : Coding T) (c : ℕ) → Se
 
 module _ {T : Type 0} (code : Coding T) (capacity : ℕ) where
   pub counts_owe : KindLaws code kinds.TheVariants.Counts capacity capacity set_effects
-  counts_owe = sets_owe counting_set counts_laws code capacity capacity (λ c ws es turns same holds. holds.sized ∙ same)
+  counts_owe = sets_owe counting_set counts_laws code capacity capacity (λ c ws es turns same holds. holds.sized ∙ same) (λ going late h. h)
 
   pub bits_owe : KindLaws code kinds.TheVariants.Bits capacity (1 + elements capacity) set_effects
-  bits_owe = sets_owe bit_set bits_laws code capacity (1 + elements capacity) (λ c ws es turns same holds. holds.sized ∙ ap (λ n. 1 + elements n) same)
+  bits_owe = sets_owe bit_set bits_laws code capacity (1 + elements capacity) (λ c ws es turns same holds. holds.sized ∙ ap (λ n. 1 + elements n) same) (λ going late h. h)
 
 module _ {T C M E : Type 0} (code : Coding T) (call : Calling T C M E) (base : View T) (c : C) (m : M) (by : (o : Option ℕ) (p : ℕ) → IfSome o (λ q. q ≡ p) → call.by o p) where
   abbrev StartsOn : Rattle.model.specs.declared.turn.Kind.Kind → Type 0

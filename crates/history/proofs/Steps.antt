@@ -11,7 +11,8 @@ use Rattle.model.specs.Coding.{Coding}
 use Rattle.model.specs.World.{Trace}
 use Rattle.history.specs.declared.view.View.{View}
 use Rattle.history.specs.History.{IsBeginning, IsMachine, Fits, call_in}
-use Rattle.history.proofs.Known.{within, known_step}
+use Rattle.history.specs.Known.{events_by}
+use Rattle.history.proofs.Known.{within, known_step, none_late}
 use Rattle.history.proofs.Turns.{Between}
 
 module _ {T : Type 0} (code : Coding T) (kind : Kind) (capacity id p : ℕ) where
@@ -40,7 +41,7 @@ module _ {T : Type 0} (code : Coding T) (kind : Kind) (capacity id p : ℕ) wher
         fresh = λ q past. (let long = length-set s.views id (view_after v gained u) in b.fresh q (omega arith));
         further = λ j past. b.further j (λ e. absurd (none j past e)) (beyond j past);
         made_none = λ j past. b.made_none j (λ e. absurd (none j past e)) (beyond j past);
-        known = known_step s.views u.events gained id v (view_after v gained u) (within s.views id v at) at refl some_share refl refl b.made b.spent b.shares;
+        known = known_step s.views u.events id v (view_after v gained u) (within s.views id v at) at refl some_share refl b.someone b.spent b.shares;
       }
     where
       beyond : (j : ℕ) → length (slice_set s.views id (view_after v gained u)) ≤ j → length s.views ≤ j
@@ -66,7 +67,10 @@ module _ {T : Type 0} (code : Coding T) (kind : Kind) (capacity id p : ℕ) wher
             going = λ q of_id is. (let same : p ≡ q = cc in ap (call_in u.world) (sym same));
             idle = λ q of_id ne. b.idle q of_id (λ e. ne (ap Some (sym e)));
             party = b.mine;
-            own = λ any q of_id. inl refl;
+            late = [];
+            waits = none_late u.world.kind (call_in u.world p);
+            of_party = refl;
+            own = λ any q of_id. inl (append-nil (events_by q u.events));
             made = λ f. (
                 let was = b.made_own v at f in
                 let two = sum_by-append f v.made gained in

@@ -1,7 +1,7 @@
 -- What a begin and a step of a reached machine leave, where a table stands at its words.
-use Rattle.std.proofs.Common.{◌≡◌, ◌≢◌, inl, inr, ℕ, ◌+◌, ◌<◌, ◌≤◌, ◌==◌, true, false, Option, Some, None, IfSome, List, [], ◌∷◌, ◌++◌, length, slice_index, slice_set, refl, sym, ap, subst, ◌∙◌, append_assoc, arith, sum_by}
+use Rattle.std.proofs.Common.{◌≡◌, ◌≢◌, inl, inr, ℕ, ◌+◌, ◌<◌, ◌≤◌, ◌⊎◌, ⊎_elim, Option, Some, None, IfSome, List, [], ◌∷◌, ◌++◌, length, slice_index, slice_set, refl, sym, ap, subst, ◌∙◌, append_assoc, append-nil, arith, sum_by}
+use Rattle.std.proofs.lemmas.Bool.{cases_eq}
 use Rattle.std.proofs.lemmas.List.Sums.{sum_by-append}
-use Rattle.std.proofs.lemmas.Bool.Decides.{nat_tests}
 use mathlib.Core.Option.{some}
 use lib.ListN.{get_elem?}
 use Rattle.atomic_table.specs.Table.{State}
@@ -26,17 +26,17 @@ use Rattle.model.specs.Refusals.{call_refusal}
 use Rattle.model.specs.Rows.{first_row}
 use Rattle.model.specs.Step.{answer_in}
 use Rattle.model.specs.Turns.{after_turn, events_of, words_after, step_in, ending_of, old_of}
-use Rattle.model.specs.World.{Trace, flight_in}
+use Rattle.model.specs.World.{World, Trace, flight_in}
+use Rattle.model.specs.Reading.{whose}
 use Rattle.model.proofs.Reached.{reached_on_more, turn_making}
 use Rattle.model.proofs.Turns.{writes_one_word}
 use Rattle.queue_laws.proofs.Queues.Knows.{IsFreshCall}
 use Rattle.queue_laws.proofs.Queues.Sound.{IsFreshTurn, fresh_more}
 use Rattle.lock_free_sp.specs.Shares.{Shares, IsAll}
-use Rattle.lock_free_sp.proofs.Shares.{others_none}
 use Rattle.history.specs.declared.view.View.{View}
-use Rattle.history.specs.Known.{events_by, made_of, owned, if_owned, HasSeenOf}
-use Rattle.history.specs.History.{IsBeginning, IsRun, IsMachine, Fits, call_in}
-use Rattle.history.proofs.Known.{by_same, by_other, AreOf, made_one, sum_first}
+use Rattle.history.specs.Known.{events_by, by_party, owned, of_none}
+use Rattle.history.specs.History.{IsBeginning, IsRun, IsMachine, Fits, HasSeenOf, call_in, IsLate}
+use Rattle.history.proofs.Known.{by_more, by_same, by_other, by_mine, by_twice, by_apart, owned_none, owned_one, owned_whole, late_none, none_late, late_more, AreOf, sum_first}
 use Rattle.history.proofs.Calls.{stands, flight_is, no_flight, next_other, begin_other, begin_own, call_then, moved, get_left, set_left, Moved}
 
 -- what is wanted, where it is a word or nothing
@@ -61,42 +61,122 @@ module _ {T : Type 0} where
   both_own p [] ys a b = b
   both_own p (x ∷ xs) ys a b = (a.0, both_own p xs ys a.1 b)
 
-  -- what was seen of a party stays all where it did nothing
-  pub seen_still : (q : ℕ) (v : View T) (events es : List (Event T)) → events_by q es ≡ [] → HasSeenOf q v events → HasSeenOf q v (events ++ es)
-  seen_still q v events es none (inl e) = inl (e ∙ sym (by_same q events es none))
-  seen_still q v events es none (inr e) = inr (e ∙ sym (by_same q events es none))
-
-  pub owned_mine : (owner : ℕ → ℕ) (j p : ℕ) (f : Event T → ℕ) (es : List (Event T)) → owner p ≡ j → AreOf p es → sum_by (owned owner j f) es ≡ sum_by f es
-  owned_mine owner j p f [] mine are = refl
-  owned_mine owner j p f (e ∷ es) mine are =
-      let t : (owner p == j) ≡ true = grind (arith, nat_tests) in
-      let here : owned owner j f e ≡ f e = ap (λ o. if_owned owner j o (f e)) are.0 ∙ rw t refl in
-      let more = owned_mine owner j p f es mine are.1 in
-      let a = sum_first (owned owner j f) e es in
-      let b = sum_first f e es in
+  pub all_someone : (p : ℕ) (es : List (Event T)) → AreOf p es → sum_by (λ e. of_none (whose e)) es ≡ 0
+  all_someone p [] are = refl
+  all_someone p (e ∷ es) are =
+      let here : of_none (whose e) ≡ 0 = ap of_none are.0 in
+      let more = all_someone p es are.1 in
+      let sum = sum_first (λ x. of_none (whose x)) e es in
       omega arith
 
-  pub owned_other : (owner : ℕ → ℕ) (j p : ℕ) (f : Event T → ℕ) (es : List (Event T)) → owner p ≢ j → AreOf p es → sum_by (owned owner j f) es ≡ 0
-  owned_other owner j p f [] ne are = refl
-  owned_other owner j p f (e ∷ es) ne are =
-      let t : (owner p == j) ≡ false = grind (arith, nat_tests) in
-      let here : owned owner j f e ≡ 0 = ap (λ o. if_owned owner j o (f e)) are.0 ∙ rw t refl in
-      let more = owned_other owner j p f es ne are.1 in
-      let a = sum_first (owned owner j f) e es in
-      omega arith
+  -- ---- what another writes for a seat's call
 
+  -- a turn of another party keeps what a seat knows: where it writes for the seat's call, the seat has still to see it
+  module _ (kind : Kind) (owner : ℕ → ℕ) (u w : Trace T) (es : List (Event T)) (j : ℕ) (v : View T) (f : Fits owner u j v) (same : u.world.kind ≡ kind) (same' : w.world.kind ≡ kind) (more : w.events ≡ u.events ++ es)
+      (beside : (q : ℕ) → owner q ≡ j → IsLate kind (call_in u.world q) (events_by q es)) (apart : (q : ℕ) → owner q ≡ j → call_in w.world q ≡ call_in u.world q) where
+    -- a party with no call under way has nothing written for it
+    quiet : (q : ℕ) → owner q ≡ j → call_in u.world q ≡ None → events_by q es ≡ []
+    quiet q of_j none = late_none kind (events_by q es) (subst (λ o. IsLate kind o (events_by q es)) none (beside q of_j))
+
+    quiet_else : (o : Option ℕ) → v.party ≡ o → (q : ℕ) → owner q ≡ j → o ≢ Some q → events_by q es ≡ []
+    quiet_else o is q of_j ne = quiet q of_j (f.idle q of_j (λ e. ne (sym is ∙ e)))
+
+    waits_on : (o : Option ℕ) → v.party ≡ o → IsLate kind v.going (f.late ++ by_party o es)
+    waits_on None is = subst (λ zs. IsLate kind v.going zs) (sym (append-nil f.late)) (subst (λ k. IsLate k v.going f.late) same f.waits)
+    waits_on (Some q) is =
+        let of_j : owner q ≡ j = subst (λ (o : Option ℕ). IfSome o (λ p. owner p ≡ j)) is f.party in
+        late_more kind v.going f.late (events_by q es) (subst (λ k. IsLate k v.going f.late) same f.waits) (subst (λ o. IsLate kind o (events_by q es)) (f.going q of_j is) (beside q of_j))
+
+    of_party_on : (o : Option ℕ) → v.party ≡ o → by_party o (f.late ++ by_party o es) ≡ f.late ++ by_party o es
+    of_party_on None is = (let none : [] ≡ f.late = subst (λ (o : Option ℕ). by_party o f.late ≡ f.late) is f.of_party in none ∙ sym (append-nil f.late))
+    of_party_on (Some q) is =
+        let was : events_by q f.late ≡ f.late = subst (λ (o : Option ℕ). by_party o f.late ≡ f.late) is f.of_party in
+        by_more q f.late (events_by q es) ∙ (ap (λ zs. zs ++ events_by q (events_by q es)) was ∙ ap (λ zs. f.late ++ zs) (by_twice q es))
+
+    -- of one of its parties it is late by just what the turn wrote for it
+    late_is : (o : Option ℕ) → v.party ≡ o → (q : ℕ) → owner q ≡ j → events_by q (by_party o es) ≡ events_by q es
+    late_is None is q of_j = sym (quiet_else None is q of_j (λ e. absurd (cc)))
+    late_is (Some r) is q of_j = ⊎_elim (λ (e : q ≡ r). subst (λ z. events_by z (events_by r es) ≡ events_by z es) (sym e) (by_twice r es)) (λ (ne : q ≢ r). by_apart r q es ne ∙ sym (quiet_else (Some r) is q of_j (λ e. (let is_q : r ≡ q = cc in ne (sym is_q))))) (cases_eq q r)
+
+    own_on : (o : Option ℕ) → v.party ≡ o → (q : ℕ) → owner q ≡ j → HasSeenOf q v f.late u → HasSeenOf q v (f.late ++ by_party o es) w
+    own_on o is q of_j (inl e) =
+        inl (ap (λ zs. events_by q v.seen ++ zs) (by_more q f.late (by_party o es) ∙ ap (λ zs. events_by q f.late ++ zs) (late_is o is q of_j))
+        ∙ (sym (append_assoc (events_by q v.seen) (events_by q f.late) (events_by q es)) ∙ (ap (λ zs. zs ++ events_by q es) e ∙ (sym (by_more q u.events es) ∙ ap (events_by q) (sym more)))))
+    own_on o is q of_j (inr h) = inr (apart q of_j ∙ h.0, h.1 ∙ (sym (by_same q u.events es (quiet q of_j h.0)) ∙ ap (events_by q) (sym more)))
+
+    sums_on : (o : Option ℕ) → v.party ≡ o → (g : Event T → ℕ) → sum_by g (by_party o es) ≡ sum_by (owned owner j g) es
+    sums_on None is g = sym (owned_none owner j g es (λ q of_j. quiet_else None is q of_j (λ e. absurd (cc))))
+    sums_on (Some r) is g =
+        let of_j : owner r ≡ j = subst (λ (o : Option ℕ). IfSome o (λ p. owner p ≡ j)) is f.party in
+        sym (owned_one owner j r g es of_j (λ q mine ne. quiet_else (Some r) is q mine (λ e. (let is_q : r ≡ q = cc in ne (sym is_q)))))
+
+    pub still_fits : Fits owner w j v
+    still_fits =
+        record {
+          seen = subst (λ zs. IsBeginning v.seen zs) (sym more) (longer v.seen u.events es f.seen);
+          other = subst (λ zs. IsBeginning v.other zs) (sym more) (longer v.other u.events es f.other);
+          self = f.self;
+          going = λ q of_j is. apart q of_j ∙ f.going q of_j is;
+          idle = λ q of_j ne. apart q of_j ∙ f.idle q of_j ne;
+          party = f.party;
+          late = f.late ++ by_party v.party es;
+          waits = subst (λ k. IsLate k v.going (f.late ++ by_party v.party es)) (sym same') (waits_on v.party refl);
+          of_party = of_party_on v.party refl;
+          own = λ any q of_j. own_on v.party refl q of_j (f.own any q of_j);
+          made = λ g. (
+              let was = f.made g in
+              let one = sum_by-append g f.late (by_party v.party es) in
+              let two = sum_by-append (owned owner j g) u.events es in
+              let now = sums_on v.party refl g in
+              let all : sum_by (owned owner j g) w.events ≡ sum_by (owned owner j g) (u.events ++ es) = ap (sum_by (owned owner j g)) more in
+              omega arith);
+        }
+
+  -- ---- what a kind owes
+
+  module _ (code : Coding T) (kind : Kind) (capacity words : ℕ) (effects : World T → ℕ → Flight T → ℕ → List (Event T)) where
+    -- of each of its calls under way: what a step writes, for another only what may be late there
+    pub record StepsOn (t : Trace T) (p : ℕ) (flight : Flight T) : Type 0 where
+      pub may : first_row (going_rows t.world.coding t.world.kept (Some flight) None) ≡ None
+      pub writes : (x : Party T) (n : ℕ) → party_of p t.world.latest ≡ Some x → (step_in t.world p x flight n).wrote ≡ effects t.world p flight n
+      pub someone : (n : ℕ) → sum_by (λ e. of_none (whose e)) (effects t.world p flight n) ≡ 0
+      pub beside : (n q : ℕ) → q ≢ p → IsLate kind (call_in t.world q) (events_by q (effects t.world p flight n))
+      pub goes : (x : Party T) (n : ℕ) → party_of p t.world.latest ≡ Some x → (step_in t.world p x flight n).after ≡ after_of t.world.coding flight n
+
+    pub record MachineLaws : Type 0 where
+      pub size : (t : Trace T) → IsRun code kind capacity t → length t.world.words ≡ words
+      pub steps_on : (t : Trace T) → IsRun code kind capacity t → (p : ℕ) (start : Start T) (flight : Flight T) → call_in t.world p ≡ Some (start, flight) → StepsOn t p flight
+
+  -- what a kind owes whose parties write for themselves alone
   module _ (code : Coding T) (kind : Kind) (capacity words : ℕ) (effects : ℕ → Flight T → ℕ → List (Event T)) where
-    -- what a kind owes of each of its calls under way
     pub record CallGoesOn (t : Trace T) (p : ℕ) (flight : Flight T) : Type 0 where
       pub may : first_row (going_rows t.world.coding t.world.kept (Some flight) None) ≡ None
       pub writes : (x : Party T) (n : ℕ) → party_of p t.world.latest ≡ Some x → (step_in t.world p x flight n).wrote ≡ effects p flight n
       pub own : (n : ℕ) → AreOf p (effects p flight n)
       pub goes : (x : Party T) (n : ℕ) → party_of p t.world.latest ≡ Some x → (step_in t.world p x flight n).after ≡ after_of t.world.coding flight n
 
-    -- what a kind owes
     pub record KindLaws : Type 0 where
       pub size : (t : Trace T) → IsRun code kind capacity t → length t.world.words ≡ words
       pub goes_on : (t : Trace T) → IsRun code kind capacity t → (p : ℕ) (start : Start T) (flight : Flight T) → call_in t.world p ≡ Some (start, flight) → CallGoesOn t p flight
+      pub alone : (going : Option (Start T × Flight T)) (late : List (Event T)) → IsLate kind going late → late ≡ []
+
+    own_beside : (w : World T) (p q : ℕ) (es : List (Event T)) → q ≢ p → AreOf p es → IsLate kind (call_in w q) (events_by q es)
+    own_beside w p q es ne own = subst (λ zs. IsLate kind (call_in w q) zs) (sym (by_other p q es ne own)) (none_late kind (call_in w q))
+
+    pub machine_laws : KindLaws → MachineLaws code kind capacity words (λ w. effects)
+    machine_laws laws =
+        record {
+          size = laws.size;
+          steps_on = λ t run p start flight at. (
+              let own = laws.goes_on t run p start flight at in
+              record {
+                may = own.may;
+                writes = own.writes;
+                someone = λ n. all_someone p (effects p flight n) (own.own n);
+                beside = λ n q ne. own_beside t.world p q (effects p flight n) ne (own.own n);
+                goes = own.goes;
+              });
+        }
 
   module _ (code : Coding T) (kind : Kind) (capacity : ℕ) where
     -- the machine stands at the table's words, every other seat at its place in it, and this one has gained these events
@@ -114,11 +194,13 @@ module _ {T : Type 0} where
       pub further : (j : ℕ) → j ≢ p → length s.views ≤ j → call_in u.world j ≡ None
       pub made_none : (j : ℕ) → j ≢ p → length s.views ≤ j → events_by j u.events ≡ []
       pub shares : Shares (λ (v : View T). v.share) s.views
-      pub made : (f : Event T → ℕ) → made_of f s.views + sum_by f gained ≡ sum_by f u.events
-      pub spent : (j : ℕ) (v : View T) → get_elem? s.views j ≡ some v → v.share.part ≡ 0 → v.made ≡ []
+      pub someone : sum_by (λ e. of_none (whose e)) u.events ≡ 0
+      pub spent : (j : ℕ) (v : View T) → get_elem? s.views j ≡ some v → v.share.part ≡ 0 → (v.made ≡ []) × (v.going ≡ None)
 
-    pub at_first : (s : State (Unit {0}) (View T)) (id p : ℕ) (m : IsMachine code kind capacity s) → m.owner p ≡ id → m.owner id ≡ id → ((q : ℕ) → m.owner q ≡ id → q ≢ p → call_in m.trace.world q ≡ None) → Between m.owner s id p [] m.trace
-    at_first s id p m mine self idle =
+    -- what the seat had still to see is gained
+    pub at_first : (s : State (Unit {0}) (View T)) (id p : ℕ) (m : IsMachine code kind capacity s) (gained : List (Event T)) → m.owner p ≡ id → m.owner id ≡ id → ((q : ℕ) → m.owner q ≡ id → q ≢ p → call_in m.trace.world q ≡ None)
+        → ((v : View T) → get_elem? s.views id ≡ some v → (f : Event T → ℕ) → sum_by f v.made + sum_by f gained ≡ sum_by (owned m.owner id f) m.trace.events) → Between m.owner s id p gained m.trace
+    at_first s id p m gained mine self idle made_own =
         record {
           run = m.run;
           words = m.words;
@@ -126,22 +208,22 @@ module _ {T : Type 0} where
           mine = mine;
           self = self;
           idle = idle;
-          made_own = λ v at f. (let h = (m.seats id v at).made f in omega arith);
+          made_own = made_own;
           inside = m.inside;
           fresh = m.fresh;
           further = λ j ne past. m.further j past;
           made_none = λ j ne past. m.made_none j past;
           shares = m.known.shares;
-          made = λ f. (let h = m.known.made f in omega arith);
+          someone = m.known.someone;
           spent = m.known.spent;
         }
 
     -- who has the whole has made all
     pub made_between : (owner : ℕ → ℕ) (id p : ℕ) (gained : List (Event T)) (u : Trace T) (s : State (Unit {0}) (View T)) → Between owner s id p gained u → (v : View T) → get_elem? s.views id ≡ some v → IsAll v.share → (f : Event T → ℕ) → sum_by f u.events ≡ sum_by f (v.made ++ gained)
     made_between owner id p gained u s b v at all f =
-        let one = made_one f s.views id v at (λ j x ne there. b.spent j x there (others_none (λ (z : View T). z.share) s.views id v at b.shares all j x ne there)) in
+        let whole = owned_whole owner u s.views id v at all b.shares b.spent b.others b.inside (λ q ne past. b.made_none q (λ e. ne (ap owner e ∙ b.mine)) past) b.someone f in
         let two = sum_by-append f v.made gained in
-        let was = b.made f in
+        let was = b.made_own v at f in
         omega arith
 
     run_more : (t : Trace T) (turn : Turn T) → call_refusal t.world turn ≡ None → IsFreshTurn t turn → IsRun code kind capacity t → IsRun code kind capacity (after_turn t turn)
@@ -149,56 +231,44 @@ module _ {T : Type 0} where
         let same = turn_making t.world turn in
         record { reached = reached_on_more t turn e r.reached; coded = same.coding ∙ r.coded; of_kind = same.kind ∙ r.of_kind; sized = same.capacity ∙ r.sized; fresh = fresh_more t turn e fresh r.fresh }
 
-    module _ (words : ℕ) (effects : ℕ → Flight T → ℕ → List (Event T)) (laws : KindLaws code kind capacity words effects) (owner : ℕ → ℕ) (s : State (Unit {0}) (View T)) (id p : ℕ) (gained : List (Event T)) (u : Trace T) (b : Between owner s id p gained u) where
+    module _ (words : ℕ) (effects : World T → ℕ → Flight T → ℕ → List (Event T)) (laws : MachineLaws code kind capacity words effects) (owner : ℕ → ℕ) (s : State (Unit {0}) (View T)) (id p : ℕ) (gained : List (Event T)) (u : Trace T) (b : Between owner s id p gained u) where
       -- a party of another seat is another
       not_mine : (j q : ℕ) → j ≢ id → owner q ≡ j → q ≢ p
       not_mine j q ne own e = ne (sym own ∙ (ap owner e ∙ b.mine))
 
       -- a turn of this party that leaves these words and writes these events
-      turned : (words' : List ℕ) (turn : Turn T) → call_refusal u.world turn ≡ None → IsFreshTurn u turn → words' ≡ (after_turn u turn).world.words ++ 0 ∷ [] → AreOf p (events_of u.world turn) → ((j : ℕ) → j ≢ p → call_in (after_turn u turn).world j ≡ call_in u.world j)
-          → Between owner (record { words = words'; homes = s.homes; views = s.views }) id p (gained ++ events_of u.world turn) (after_turn u turn)
-      turned words' turn free fresh_turn same own apart =
+      turned : (words' : List ℕ) (turn : Turn T) → call_refusal u.world turn ≡ None → IsFreshTurn u turn → words' ≡ (after_turn u turn).world.words ++ 0 ∷ [] → sum_by (λ e. of_none (whose e)) (events_of u.world turn) ≡ 0 → ((q : ℕ) → q ≢ p → IsLate kind (call_in u.world q) (events_by q (events_of u.world turn)))
+          → ((j : ℕ) → j ≢ p → call_in (after_turn u turn).world j ≡ call_in u.world j) → Between owner (record { words = words'; homes = s.homes; views = s.views }) id p (gained ++ events_by p (events_of u.world turn)) (after_turn u turn)
+      turned words' turn free fresh_turn same someone beside apart =
           let es = events_of u.world turn in
+          let run = run_more u turn free fresh_turn b.run in
           record {
-            run = run_more u turn free fresh_turn b.run;
+            run = run;
             words = same;
-            others = λ j v ne at. (
-                let f = b.others j v ne at in
-                record {
-                  seen = longer v.seen u.events es f.seen;
-                  other = longer v.other u.events es f.other;
-                  self = f.self;
-                  going = λ q of_j is. apart q (not_mine j q ne of_j) ∙ f.going q of_j is;
-                  idle = λ q of_j is. apart q (not_mine j q ne of_j) ∙ f.idle q of_j is;
-                  party = f.party;
-                  own = λ any q of_j. seen_still q v u.events es (by_other p q es (not_mine j q ne of_j) own) (f.own any q of_j);
-                  made = λ g. (
-                      let was = f.made g in
-                      let two = sum_by-append (owned owner j g) u.events es in
-                      let none = owned_other owner j p g es (λ e. ne (sym e ∙ b.mine)) own in
-                      omega arith);
-                });
+            others = λ j v ne at. still_fits kind owner u (after_turn u turn) es j v (b.others j v ne at) b.run.of_kind run.of_kind refl (λ q of_j. beside q (not_mine j q ne of_j)) (λ q of_j. apart q (not_mine j q ne of_j));
             mine = b.mine;
             self = b.self;
             idle = λ q of_id ne. apart q ne ∙ b.idle q of_id ne;
             made_own = λ v at f. (
                 let was = b.made_own v at f in
-                let one = sum_by-append f gained es in
+                let one = sum_by-append f gained (events_by p es) in
                 let two = sum_by-append (owned owner id f) u.events es in
-                let all = owned_mine owner id p f es b.mine own in
+                let all = owned_one owner id p f es b.mine (λ q of_id ne. none_of es beside q ne (b.idle q of_id ne)) in
                 omega arith);
             inside = b.inside;
             fresh = b.fresh;
             further = λ j ne past. apart j ne ∙ b.further j ne past;
-            made_none = λ j ne past. by_same j u.events es (by_other p j es ne own) ∙ b.made_none j ne past;
+            made_none = λ j ne past. by_same j u.events es (none_of es beside j ne (b.further j ne past)) ∙ b.made_none j ne past;
             shares = b.shares;
-            made = λ f. (
-                let was = b.made f in
-                let one = sum_by-append f gained es in
-                let two = sum_by-append f u.events es in
+            someone = (
+                let was = b.someone in
+                let two = sum_by-append (λ e. of_none (whose e)) u.events es in
                 omega arith);
             spent = b.spent;
           }
+        where
+          none_of : (es : List (Event T)) → ((q : ℕ) → q ≢ p → IsLate kind (call_in u.world q) (events_by q es)) → (q : ℕ) → q ≢ p → call_in u.world q ≡ None → events_by q es ≡ []
+          none_of es beside q ne idle = late_none kind (events_by q es) (subst (λ o. IsLate kind o (events_by q es)) idle (beside q ne))
 
       -- ---- a call begins
 
@@ -216,8 +286,11 @@ module _ {T : Type 0} where
             in
             rw (no_flight u.world p idle) rows
 
+        begins : Between owner s id p (gained ++ events_by p (Begun p start ∷ [])) (after_turn u (Begin p start))
+        begins = turned s.words (Begin p start) begins_free tt (b.words ∙ ap (λ ws. ws ++ 0 ∷ []) (sym (writes_one_word u.world (Begin p start)))) refl (λ q ne. subst (λ zs. IsLate kind (call_in u.world q) zs) (sym (by_other p q (Begun p start ∷ []) ne (refl, tt))) (none_late kind (call_in u.world q))) (λ j ne. begin_other u.world p j start ne (first_of u.world.kind u.world.capacity start u.world.kept))
+
         pub begun : Between owner s id p (gained ++ Begun p start ∷ []) (after_turn u (Begin p start))
-        begun = turned s.words (Begin p start) begins_free tt (b.words ∙ ap (λ ws. ws ++ 0 ∷ []) (sym (writes_one_word u.world (Begin p start)))) (refl, tt) (λ j ne. begin_other u.world p j start ne (first_of u.world.kind u.world.capacity start u.world.kept))
+        begun = subst (λ zs. Between owner s id p (gained ++ zs) (after_turn u (Begin p start))) (by_mine p (Begun p start ∷ []) (refl, tt)) begins
 
         pub begun_at : call_in (after_turn u (Begin p start)).world p ≡ Some (start, flight)
         begun_at = begin_own u.world p start flight (first_of u.world.kind u.world.capacity start u.world.kept) first_here
@@ -225,8 +298,8 @@ module _ {T : Type 0} where
       -- ---- it goes on, at a word or at none
 
       module _ (start : Start T) (flight : Flight T) (ask : Option Ask) (low : IfSome ask (λ a. a.word < words)) (at : call_in u.world p ≡ Some (start, flight)) (asks : want_of code flight ≡ want_for ask) (finds : IsFreshCall (at_ask s.words ask) flight) where
-        mine : CallGoesOn code kind capacity words effects u p flight
-        mine = laws.goes_on u b.run p start flight at
+        mine : StepsOn code kind capacity words effects u p flight
+        mine = laws.steps_on u b.run p start flight at
 
         here : flight_in u.world p ≡ Some flight
         here = flight_is u.world p start flight (stands u.world p start flight at)
@@ -255,7 +328,7 @@ module _ {T : Type 0} where
             go None = refl
             go (Some a) = refl
 
-        found_old : old_of u.world.words (ask_of (want_of u.world.coding flight)) ≡ at_ask s.words ask
+        pub found_old : old_of u.world.words (ask_of (want_of u.world.coding flight)) ≡ at_ask s.words ask
         found_old = ap (old_of u.world.words) asked_of ∙ go ask low
           where
             go : (o : Option Ask) → IfSome o (λ a. a.word < words) → old_of u.world.words o ≡ at_ask s.words o
@@ -265,24 +338,39 @@ module _ {T : Type 0} where
         abbrev found : ℕ
         found = at_ask s.words ask
 
-        its_step : Moved u.world p start flight (old_of u.world.words (ask_of (want_of u.world.coding flight))) (effects p flight (old_of u.world.words (ask_of (want_of u.world.coding flight))))
-        its_step = moved u.world p start flight (effects p flight) (stands u.world p start flight at) mine.goes mine.writes
+        its_step : Moved u.world p start flight (old_of u.world.words (ask_of (want_of u.world.coding flight))) (effects u.world p flight (old_of u.world.words (ask_of (want_of u.world.coding flight))))
+        its_step = moved u.world p start flight (effects u.world p flight) (stands u.world p start flight at) mine.goes mine.writes
 
         -- what it comes to, from the word that the table had
         pub goes_to : call_in (after_turn u (Next p)).world p ≡ call_then start (after_of code flight found)
         goes_to = its_step.going ∙ ap (call_then start) (ap (λ z. after_of z flight (old_of u.world.words (ask_of (want_of u.world.coding flight)))) b.run.coded ∙ ap (after_of code flight) found_old)
 
         abbrev pub tells : List (Event T)
-        tells = effects p flight found ++ ending_of p start (answer_in (after_of code flight found))
+        tells = effects u.world p flight found ++ ending_of p start (answer_in (after_of code flight found))
 
         pub told : events_of u.world (Next p) ≡ tells
         told =
             its_step.events
-            ∙ (ap (λ z. effects p flight (old_of u.world.words (ask_of (want_of u.world.coding flight))) ++ ending_of p start (answer_in (after_of z flight (old_of u.world.words (ask_of (want_of u.world.coding flight)))))) b.run.coded
-            ∙ ap (λ n. effects p flight n ++ ending_of p start (answer_in (after_of code flight n))) found_old)
+            ∙ (ap (λ z. effects u.world p flight (old_of u.world.words (ask_of (want_of u.world.coding flight))) ++ ending_of p start (answer_in (after_of z flight (old_of u.world.words (ask_of (want_of u.world.coding flight)))))) b.run.coded
+            ∙ ap (λ n. effects u.world p flight n ++ ending_of p start (answer_in (after_of code flight n))) found_old)
 
-        own : AreOf p (events_of u.world (Next p))
-        own = rw told (both_own p (effects p flight found) (ending_of p start (answer_in (after_of code flight found))) (mine.own found) (ending_of_own p start (answer_in (after_of code flight found))))
+        ends_own : AreOf p (ending_of p start (answer_in (after_of code flight found)))
+        ends_own = ending_of_own p start (answer_in (after_of code flight found))
+
+        someone : sum_by (λ e. of_none (whose e)) (events_of u.world (Next p)) ≡ 0
+        someone =
+            let all : sum_by (λ e. of_none (whose e)) (events_of u.world (Next p)) ≡ sum_by (λ e. of_none (whose e)) tells = ap (sum_by (λ e. of_none (whose e))) told in
+            let one = sum_by-append (λ e. of_none (whose e)) (effects u.world p flight found) (ending_of p start (answer_in (after_of code flight found))) in
+            let wrote = mine.someone found in
+            let ends = all_someone p (ending_of p start (answer_in (after_of code flight found))) ends_own in
+            omega arith
+
+        beside : (q : ℕ) → q ≢ p → IsLate kind (call_in u.world q) (events_by q (events_of u.world (Next p)))
+        beside q ne = subst (λ zs. IsLate kind (call_in u.world q) zs) (sym (ap (events_by q) told ∙ by_same q (effects u.world p flight found) (ending_of p start (answer_in (after_of code flight found))) (by_other p q (ending_of p start (answer_in (after_of code flight found))) ne ends_own))) (mine.beside found q ne)
+
+        -- what it writes of its own
+        pub own_told : events_by p (events_of u.world (Next p)) ≡ events_by p (effects u.world p flight found) ++ ending_of p start (answer_in (after_of code flight found))
+        own_told = ap (events_by p) told ∙ (by_more p (effects u.world p flight found) (ending_of p start (answer_in (after_of code flight found))) ∙ ap (λ zs. events_by p (effects u.world p flight found) ++ zs) (by_mine p (ending_of p start (answer_in (after_of code flight found))) ends_own))
 
         words_then : words_after s.words ask ≡ (after_turn u (Next p)).world.words ++ 0 ∷ []
         words_then = go ask low asked
@@ -303,5 +391,5 @@ module _ {T : Type 0} where
             let same : flight ≡ f = (let both : Some flight ≡ Some f = sym here ∙ found in cc) in
             subst (λ g. IsFreshCall (old_of u.world.words (ask_of (want_of u.world.coding g))) g) same (subst (λ n. IsFreshCall n flight) (sym found_old) finds)
 
-        pub gone : Between owner (record { words = words_after s.words ask; homes = s.homes; views = s.views }) id p (gained ++ events_of u.world (Next p)) (after_turn u (Next p))
-        gone = turned (words_after s.words ask) (Next p) goes_free fresh_now words_then own (λ j ne. next_other u.world p j ne (party_of p u.world.latest))
+        pub gone : Between owner (record { words = words_after s.words ask; homes = s.homes; views = s.views }) id p (gained ++ events_by p (events_of u.world (Next p))) (after_turn u (Next p))
+        gone = turned (words_after s.words ask) (Next p) goes_free fresh_now words_then someone beside (λ j ne. next_other u.world p j ne (party_of p u.world.latest))

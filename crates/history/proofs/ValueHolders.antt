@@ -83,7 +83,7 @@ module _ {T : Type 0} (code : Coding T) (capacity : ℕ) where
       let first : Trace T = opening w.coding w.kind w.capacity w.parties in
       let sound : frame.Sound (family w.coding w.capacity) first = subst (λ kind. frame.Sound (family w.coding w.capacity) (opening w.coding kind w.capacity w.parties)) (sym r.of_kind) (opening_sound w.coding w.capacity w.parties r.reached.coded) in
       subst (λ z. Each ByProducer z.events) (sym r.fresh.is)
-      (each_event (family w.coding w.capacity) IsFreshTurn (fresh_laws w.coding w.capacity) ByProducer (λ before p start. tt) (λ before p start answer. tt) (λ before owner. tt) (λ t s. step_right w.coding w.capacity t s) r.fresh.turns first r.fresh.fresh sound (Each-nil ByProducer))
+      (each_event (family w.coding w.capacity) IsFreshTurn (fresh_laws w.coding w.capacity) ByProducer (λ before p start. tt) (λ before p start answer. tt) (λ before owner. tt) (λ t s p n x flight since found doing handed. step_right w.coding w.capacity t s p n x flight since found doing) r.fresh.turns first r.fresh.fresh sound (Each-nil ByProducer))
 
   pub history_by_producers : (events : List (Event T)) → IsHistory code kinds.Atomic capacity events → Each ByProducer events
   history_by_producers events h = subst (Each ByProducer) (sym h.is) (by_producers h.trace h.run)

@@ -1,54 +1,29 @@
 -- The calls on the roles and the lengths of a queue of values: they are those of an index queue, over wider cells.
-use Rattle.std.proofs.Common.{inl, ◌≡◌, ℕ, ◌+◌, ◌-◌, ◌*◌, ◌^◌, ◌<◌, ◌≤◌, nat_lt, false, Option, Some, None, List, [], ◌∷◌, ◌++◌, replicate, refl, sym, arith}
+use Rattle.std.proofs.Common.{◌≡◌, ℕ, ◌+◌, ◌-◌, ◌*◌, ◌^◌, ◌<◌, ◌≤◌, nat_lt, false, None, List, [], ◌∷◌, ◌++◌, replicate, refl, arith}
 use Rattle.std.proofs.lemmas.Bool.Decides.{nat_tests}
 use Rattle.atomic_table.specs.Table.{opening}
 use Rattle.std.proofs.Math.Nat.{mul-le-mul_left}
 use Rattle.steps.specs.declared.ask.After.{After}
 use Rattle.steps.specs.declared.ask.Want.{Want}
 use Rattle.steps.specs.declared.queues.roles.Role.{Role}
-use Rattle.steps.specs.declared.queues.roles.Role.TheVariants.{Producer, Consumer}
 use Rattle.steps.specs.Queues.Lengths.{first_len, len_want, len_after}
 use Rattle.steps.specs.Queues.Roles.{acquire_want, acquire_after, release_want, release_after}
-use Rattle.model.specs.declared.event.Event.{Event}
-use Rattle.model.specs.declared.event.Start.TheVariants.{Queues}
-use Rattle.model.specs.declared.families.Flight.{Flight}
-use Rattle.model.specs.declared.families.Kept.{Kept}
 use Rattle.model.specs.declared.families.queues.QueueKind as queues
-use Rattle.model.specs.declared.families.queues.Roles.{Roles}
 use Rattle.model.specs.declared.families.queues.calls.LengthOf.{LengthOf}
-use Rattle.model.specs.declared.families.queues.calls.LengthOf as measures
 use Rattle.model.specs.declared.turn.Kind.TheVariants as kinds
 use Rattle.model.specs.Coding.{Coding, IsCoding}
-use Rattle.model.specs.Families.{first_of, opening_of}
-use Rattle.model.specs.Families.Queues.Opening.{lacks_role}
 use Rattle.lock_free_sp.specs.Driver.{KeepsRule}
 use Rattle.history.specs.declared.view.View.{View}
 use Rattle.history.specs.History.{IsMachine}
-use Rattle.history.specs.Queues.{takes_role, gives_role, length_start, counts_waiting}
-use Rattle.history.specs.Roles.{role_word, holder, acquire_start, release_start, HasRole}
+use Rattle.history.specs.Queues.{takes_role, gives_role, counts_waiting}
+use Rattle.history.specs.Roles.{role_word, HasRole}
 use Rattle.history.specs.Stages.{Calling, At, Ends}
-use Rattle.history.proofs.Drives.{IsCallOf, keeps_all, keeps_sized}
+use Rattle.history.proofs.AnyRoles.{wider, acquire_first_on, release_first_on, len_first_on}
+use Rattle.history.proofs.Drives.{keeps_all, keeps_sized}
 use Rattle.history.specs.Views.{first_view}
 use Rattle.history.proofs.Passes.{opens}
-use Rattle.history.proofs.QueueCalls.{holds_it, acquire_is_call, release_is_call, len_is_call}
-use Rattle.history.proofs.Queues.{queue_effects, values_owe, plain_starts, role_starts}
-
--- a call of a structure is one of a structure with more words
-wider : {T C M E : Type 0} (code : Coding T) (effects : ℕ → Flight T → ℕ → List (Event T)) (some more : ℕ → ℕ) (want : C → Want (Unit {0})) (after : C → ℕ → After C E) (kept : C → M → ℕ → M) (call : Calling T C M E) → ((n : ℕ) → some n ≤ more n)
-    → IsCallOf code effects some want after kept call → IsCallOf code effects more want after kept call
-wider code effects some more want after kept call low h =
-    record {
-      same_want = h.same_want;
-      same_after = h.same_after;
-      hears = h.hears;
-      stays = h.stays;
-      asks = λ capacity c stands. (let a = h.asks capacity c stands in let below = a.1 in let all = low capacity in (a.0, omega arith, a.2));
-      past = h.past;
-      finds = h.finds;
-      leaves = h.leaves;
-      tells = h.tells;
-      tells_all = h.tells_all;
-    }
+use Rattle.history.proofs.QueueCalls.{acquire_is_call, release_is_call, len_is_call}
+use Rattle.history.proofs.Queues.{queue_effects, values_owe}
 
 module _ {T : Type 0} (code : Coding T) (law : IsCoding code) where
   abbrev words_of : ℕ → ℕ
@@ -67,25 +42,7 @@ module _ {T : Type 0} (code : Coding T) (law : IsCoding code) where
         (wider code (queue_effects code) (λ capacity. 4 + capacity) words_of acquire_want acquire_after (λ c m n. m) (takes_role role) low (acquire_is_call code role)) (λ c n. refl)
 
     pub value_acquire_first : (x : View T) (m : Unit {0}) → x.going ≡ None → x.other ≡ [] → 0 < x.share.part → At code kinds.Queue (takes_role role) x x (record { word = role_word role }) m
-    value_acquire_first x m idle alone any =
-        inl (record {
-          is = refl;
-          idle = idle;
-          fresh = alone;
-          standing = refl;
-          some = any;
-          first = first_is ((opening_of kinds.Queue).kept x.capacity) role;
-          starts = plain_starts code queues.TheVariants.Queue x (takes_role role) (acquire_start role) (record { word = role_word role }) m refl (λ kept. first_is kept role) (λ o p h. h) (λ roles p. none_lacks role roles p);
-          wrote = λ p. refl;
-        })
-      where
-        first_is : (kept : Kept T) (r : Role) → ◌≡◌ {A = Option (Flight T)} (first_of kinds.Queue x.capacity (Queues (acquire_start r)) kept) (Some ((takes_role r).flight (record { word = role_word r }) m))
-        first_is kept Producer = refl
-        first_is kept Consumer = refl
-
-        none_lacks : (r : Role) (roles : Roles) (p : ℕ) → lacks_role {T = T} roles p (acquire_start r) ≡ false
-        none_lacks Producer roles p = refl
-        none_lacks Consumer roles p = refl
+    value_acquire_first x m idle alone any = acquire_first_on code queues.TheVariants.Queue x m idle alone any role
 
     pub value_release_keeps : Keeps (gives_role role) release_want release_after (λ c m n. m)
     value_release_keeps =
@@ -93,25 +50,7 @@ module _ {T : Type 0} (code : Coding T) (law : IsCoding code) where
         (wider code (queue_effects code) (λ capacity. 4 + capacity) words_of release_want release_after (λ c m n. m) (gives_role role) low (release_is_call code role)) (λ c n. refl)
 
     pub value_release_first : (x : View T) (m : Unit {0}) → x.going ≡ None → x.other ≡ [] → 0 < x.share.part → HasRole role x.made → At code kinds.Queue (gives_role role) x x (record { word = role_word role }) m
-    value_release_first x m idle alone any has =
-        inl (record {
-          is = refl;
-          idle = idle;
-          fresh = alone;
-          standing = refl;
-          some = any;
-          first = first_is ((opening_of kinds.Queue).kept x.capacity) role;
-          starts = role_starts code queues.TheVariants.Queue x (gives_role role) (release_start role) (record { word = role_word role }) m refl (λ kept. first_is kept role) role (λ o p. tt) (λ roles p is. free role roles p is) has;
-          wrote = λ p. refl;
-        })
-      where
-        first_is : (kept : Kept T) (r : Role) → ◌≡◌ {A = Option (Flight T)} (first_of kinds.Queue x.capacity (Queues (release_start r)) kept) (Some ((gives_role r).flight (record { word = role_word r }) m))
-        first_is kept Producer = refl
-        first_is kept Consumer = refl
-
-        free : (r : Role) (roles : Roles) (p : ℕ) → holder r roles ≡ Some p → lacks_role {T = T} roles p (release_start r) ≡ false
-        free Producer roles p is = holds_it roles.producer p is
-        free Consumer roles p is = holds_it roles.consumer p is
+    value_release_first x m idle alone any has = release_first_on code queues.TheVariants.Queue x m idle alone any role has
 
   module _ (which : LengthOf) where
     len_keeps : (size : ℕ) → Keeps (counts_waiting which size) len_want len_after (λ c m n. m)
@@ -124,27 +63,7 @@ module _ {T : Type 0} (code : Coding T) (law : IsCoding code) where
     value_lens_keep = keeps_sized code kinds.Queue words_of len_want len_after (λ c m n. m) (counts_waiting which) len_keeps
 
     pub value_len_first : (size : ℕ) (x : View T) (m : Unit {0}) → x.capacity ≡ size → x.going ≡ None → x.other ≡ [] → 0 < x.share.part → At code kinds.Queue (counts_waiting which size) x x (first_len size) m
-    value_len_first size x m same idle alone any =
-        inl (record {
-          is = refl;
-          idle = idle;
-          fresh = alone;
-          standing = (sym same, refl);
-          some = any;
-          first = first_is ((opening_of kinds.Queue).kept x.capacity) which;
-          starts = plain_starts code queues.TheVariants.Queue x (counts_waiting which size) (length_start which) (first_len size) m refl (λ kept. first_is kept which) (λ o p h. h) (λ roles p. none_lacks which roles p);
-          wrote = λ p. refl;
-        })
-      where
-        first_is : (kept : Kept T) (k : LengthOf) → ◌≡◌ {A = Option (Flight T)} (first_of kinds.Queue x.capacity (Queues (length_start k)) kept) (Some ((counts_waiting k size).flight (first_len size) m))
-        first_is kept measures.TheVariants.Len = rw same refl
-        first_is kept measures.TheVariants.IsEmpty = rw same refl
-        first_is kept measures.TheVariants.IsFull = rw same refl
-
-        none_lacks : (k : LengthOf) (roles : Roles) (p : ℕ) → lacks_role {T = T} roles p (length_start k) ≡ false
-        none_lacks measures.TheVariants.Len roles p = refl
-        none_lacks measures.TheVariants.IsEmpty roles p = refl
-        none_lacks measures.TheVariants.IsFull roles p = refl
+    value_len_first size x m same idle alone any = len_first_on code queues.TheVariants.Queue x m idle alone any which size same
 
 -- ---- how its table opens: empty
 

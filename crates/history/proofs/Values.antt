@@ -137,7 +137,7 @@ module _ {T : Type 0} (code : Coding T) (capacity : ℕ) where
       }
 
   pub value_owes : KindLaws code kinds.Atomic capacity (2 + code.size * 2) (value_effects code)
-  value_owes = record { size = size; goes_on = goes_on }
+  value_owes = record { size = size; goes_on = goes_on; alone = λ going late h. h }
 
   -- what the model promises of each run
   pub value_goes_on : (t : Trace T) → IsOn t → IsValue t

@@ -1,24 +1,30 @@
 -- The rule of a table that is a machine, and what a caller knows of one history.
-use Rattle.std.specs.Prelude.{◌≡◌, ◌≢◌, ◌≤◌, ◌<◌, ℕ, Option, Some, None, IfSome, List, [], ◌∷◌, ◌++◌, length, sum_by}
+use Rattle.std.specs.List.{AllByRecursion}
+use Rattle.std.specs.Prelude.{◌≡◌, ◌≢◌, ◌≤◌, ◌<◌, ◌⊎◌, ℕ, ◌+◌, Option, Some, None, IfSome, List, [], ◌∷◌, ◌++◌, length, sum_by}
 use mathlib.Core.Option.{some}
 use lib.ListN.{get_elem?}
 use Rattle.atomic_table.specs.Table.{State}
 use Rattle.model.specs.declared.event.Answer.{Answer}
+use Rattle.model.specs.declared.event.Answer.TheVariants.{PoppedNone}
 use Rattle.model.specs.declared.event.Event.{Event}
-use Rattle.model.specs.declared.event.Event.TheVariants.{Begun, Finished}
+use Rattle.model.specs.declared.event.Event.TheVariants.{Begun, Acted, Finished}
 use Rattle.model.specs.declared.event.Start.{Start}
 use Rattle.model.specs.declared.families.Flight.{Flight}
+use Rattle.model.specs.declared.families.Flight as flights
+use Rattle.model.specs.declared.families.queues.calls.OverflowCall as overflows
+use Rattle.model.specs.declared.families.queues.calls.QueueFlight.TheVariants.{Overflow}
 use Rattle.model.specs.declared.party.Doing.{Doing}
 use Rattle.model.specs.declared.party.Doing.TheVariants.{Going, Over}
 use Rattle.model.specs.declared.party.Party.{Party}
 use Rattle.model.specs.declared.turn.Kind.{Kind}
+use Rattle.model.specs.declared.turn.Kind as kinds
 use Rattle.model.specs.Coding.{Coding}
 use Rattle.model.specs.Parties.{party_of}
 use Rattle.model.specs.Turns.{IsReachedOn}
 use Rattle.model.specs.World.{World, Trace}
 use Rattle.queue_laws.proofs.Queues.Sound.{IsFreshRun}
 use Rattle.lock_free_sp.specs.Shares.{IsAll}
-use Rattle.history.specs.Known.{Known, events_by, owned, HasSeenOf}
+use Rattle.history.specs.Known.{Known, events_by, by_party, owned}
 use Rattle.history.specs.declared.view.View.{View}
 
 module _ {T : Type 0} where
@@ -45,8 +51,30 @@ module _ {T : Type 0} where
 
   -- ---- the rule
 
+  -- what another party may write for a call under way, which then has still to see it: for a push that waits for room
+  -- in an overflowing queue, that it acts with None
+  abbrev pub MayBeLate : Start T × Flight T → List (Event T) → Type 0
+  MayBeLate (start, flights.TheVariants.Queues (Overflow (overflows.TheVariants.Push run))) late =
+      AllByRecursion (λ (e : Event T). (p : ℕ) × (e ≡ Acted p start PoppedNone)) late
+  MayBeLate (start, flight) late = late ≡ []
+
+  abbrev pub IsLateFor : Option (Start T × Flight T) → List (Event T) → Type 0
+  IsLateFor None late = late ≡ []
+  IsLateFor (Some call) late = MayBeLate call late
+
+  abbrev pub IsLate : Kind → Option (Start T × Flight T) → List (Event T) → Type 0
+  IsLate kinds.TheVariants.Overflow going late = IsLateFor going late
+  IsLate kind going late = late ≡ []
+
+  -- All that the party did was seen, but for what another wrote for it. A seat that was taken in had no call under way.
+  abbrev pub HasSeenOf : ℕ → View T → List (Event T) → Trace T → Type 0
+  HasSeenOf p v late t =
+      (events_by p v.seen ++ events_by p late ≡ events_by p t.events)
+      ⊎ ((call_in t.world p ≡ None) × (events_by p v.other ≡ events_by p t.events))
+
   -- What the seat of this number knows is so of the machine. Its parties are those whose owner it is: its own number,
-  -- and those of the seats that it took in. Who has a share has seen all that its parties did, and has made just that.
+  -- and those of the seats that it took in. Who has a share has seen all that its parties did, and has made just that,
+  -- but for what another wrote for its call.
   pub record Fits (owner : ℕ → ℕ) (t : Trace T) (j : ℕ) (v : View T) : Type 0 where
     pub seen : IsBeginning v.seen t.events
     pub other : IsBeginning v.other t.events
@@ -54,8 +82,12 @@ module _ {T : Type 0} where
     pub going : (p : ℕ) → owner p ≡ j → v.party ≡ Some p → call_in t.world p ≡ v.going
     pub idle : (p : ℕ) → owner p ≡ j → v.party ≢ Some p → call_in t.world p ≡ None
     pub party : IfSome v.party (λ p. owner p ≡ j)
-    pub own : 0 < v.share.part → (p : ℕ) → owner p ≡ j → HasSeenOf p v t.events
-    pub made : (f : Event T → ℕ) → sum_by f v.made ≡ sum_by (owned owner j f) t.events
+    pub late : List (Event T)
+    pub waits : IsLate t.world.kind v.going late
+    pub of_party : by_party v.party late ≡ late
+    pub own : 0 < v.share.part → (p : ℕ) → owner p ≡ j → HasSeenOf p v late t
+    pub made : (f : Event T → ℕ)
+        → sum_by f v.made + sum_by f late ≡ sum_by (owned owner j f) t.events
 
   -- a reached machine of this kind and capacity, in which no push found the last position, and no store the last version
   pub record IsRun (code : Coding T) (kind : Kind) (capacity : ℕ) (t : Trace T) : Type 0 where

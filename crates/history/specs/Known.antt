@@ -1,5 +1,5 @@
--- Which events are whose, who has seen all of them, and that the seats have made all of them together.
-use Rattle.std.specs.Prelude.{◌≡◌, ◌<◌, ◌⊎◌, ℕ, ◌+◌, ◌==◌, Option, Some, None, List, [], ◌∷◌, ◌++◌, sum_by, if◌then◌else◌}
+-- Which events are whose, and who has seen all of them.
+use Rattle.std.specs.Prelude.{◌≡◌, ◌<◌, ◌⊎◌, ℕ, ◌==◌, Option, Some, None, List, [], ◌∷◌, ◌++◌, sum_by, if◌then◌else◌}
 use mathlib.Core.Option.{some}
 use lib.ListN.{get_elem?}
 use Rattle.lock_free_sp.specs.Shares.{Shares}
@@ -12,6 +12,11 @@ abbrev pub if_owned : (ℕ → ℕ) → ℕ → Option ℕ → ℕ → ℕ
 if_owned owner j None n = 0
 if_owned owner j (Some p) n = if owner p == j then n else 0
 
+-- 1 of nobody
+abbrev pub of_none : Option ℕ → ℕ
+of_none None = 1
+of_none (Some p) = 0
+
 module _ {T : Type 0} where
   abbrev pub own_of : ℕ → Event T → List (Event T)
   own_of p e = if is_party p (whose e) then e ∷ [] else []
@@ -21,25 +26,19 @@ module _ {T : Type 0} where
   events_by p [] = []
   events_by p (e ∷ es) = own_of p e ++ events_by p es
 
+  -- the events of some party
+  abbrev pub by_party : Option ℕ → List (Event T) → List (Event T)
+  by_party None events = []
+  by_party (Some p) events = events_by p events
+
   -- what a measure gives to an event of a party of this seat
   abbrev pub owned : (ℕ → ℕ) → ℕ → (Event T → ℕ) → Event T → ℕ
   owned owner j f e = if_owned owner j (whose e) (f e)
 
-  -- all that the party did was seen
-  abbrev pub HasSeenOf : ℕ → View T → List (Event T) → Type 0
-  HasSeenOf p v events =
-      (events_by p v.seen ≡ events_by p events) ⊎ (events_by p v.other ≡ events_by p events)
-
   abbrev pub HasSeen : View T → List (Event T) → Type 0
   HasSeen v events = (v.seen ≡ events) ⊎ (v.other ≡ events)
 
-  -- what a measure gives to all that the seats made
-  abbrev pub made_of : (Event T → ℕ) → List (View T) → ℕ
-  made_of f [] = 0
-  made_of f (v ∷ vs) = sum_by f v.made + made_of f vs
-
-  -- the shares make the whole, some seat with a share has seen all, and each event was made by
-  -- one seat with a share: so every measure of them says
+  -- the shares make the whole, some seat with a share has seen all, and each event is some party's
   pub record Known (views : List (View T)) (events : List (Event T)) : Type 0 where
     pub shares : Shares (λ (v : View T). v.share) views
     pub by : ℕ
@@ -47,5 +46,6 @@ module _ {T : Type 0} where
     pub at : get_elem? views by ≡ some last
     pub any : 0 < last.share.part
     pub all : HasSeen last events
-    pub made : (f : Event T → ℕ) → made_of f views ≡ sum_by f events
-    pub spent : (j : ℕ) (v : View T) → get_elem? views j ≡ some v → v.share.part ≡ 0 → v.made ≡ []
+    pub someone : sum_by (λ e. of_none (whose e)) events ≡ 0
+    pub spent : (j : ℕ) (v : View T) → get_elem? views j ≡ some v → v.share.part ≡ 0
+        → (v.made ≡ []) × (v.going ≡ None)

@@ -6,6 +6,7 @@ pub mod History
 pub mod Rooms
 pub mod Stages
 pub mod Queues
+pub mod Overflow
 pub mod Value
 pub mod ValueQueue
 pub mod ValueOpened

@@ -54,6 +54,12 @@ module _ {T : Type 0} where
   abbrev pub HasRole : Role → List (Event T) → Type 0
   HasRole role made = sum_by (takes role) made ≡ sum_by (gives role) made + 1
 
+  -- what the holder of this role alone writes is of its holder
+  abbrev pub ByHolderOf : Role → List (Event T) → Event T → Type 0
+  ByHolderOf Producer before (Published p item) = producer_of before ≡ Some p
+  ByHolderOf Consumer before (HandedOut p item) = consumer_of before ≡ Some p
+  ByHolderOf role before e = Unit {0}
+
   -- who publishes, or acts by a push, holds the producer's role, and who takes out, or acts by a pop, the consumer's
   abbrev pub ByHolder : List (Event T) → Event T → Type 0
   ByHolder before (Published p item) = producer_of before ≡ Some p

@@ -1,7 +1,10 @@
 -- The views of passes as they are made, cut, put together and looked through.
-use Rattle.std.specs.Prelude.{◌≡◌, ◌⊎◌, ℕ, Some, None, [], ◌++◌, ◌<◌, sum_by, length, slice_index}
+use Rattle.std.specs.Prelude.{◌≡◌, ◌⊎◌, ℕ, Option, Some, None, [], ◌++◌, ◌<◌, sum_by, length, slice_index}
 use Rattle.model.specs.declared.event.Event.{Event}
+use Rattle.model.specs.declared.event.Start.{Start}
+use Rattle.model.specs.declared.families.Flight.{Flight}
 use Rattle.model.specs.declared.turn.Kind.{Kind}
+use Rattle.model.specs.declared.turn.Kind as kinds
 use Rattle.model.specs.Coding.{Coding}
 use Rattle.model.specs.World.{Trace}
 use Rattle.lock_free_sp.specs.Shares.{all_shares, no_share, half_of, both_of, IsAll}
@@ -88,3 +91,9 @@ module _ {T : Type 0} where
     pub run : IsRun code kind size trace
     pub seen : w.seen ≡ trace.events
     pub word_is : word < length trace.world.words → found ≡ slice_index trace.world.words word
+
+  -- Where another may write for a call under way, of which the look would not know that it has seen it, nothing is
+  -- promised of a look while one is under way.
+  abbrev pub WhenIdle : Kind → Option (Start T × Flight T) → Type 0 → Type 0
+  WhenIdle kinds.TheVariants.Overflow going Told = going ≡ None → Told
+  WhenIdle kind going Told = Told

@@ -46,18 +46,18 @@ use Rattle.queue_laws.proofs.Queues.Knows.{IsFreshCall}
 use Rattle.queue_laws.proofs.Queues.Sound.{fresh_opening}
 use Rattle.history.specs.declared.view.View.{View}
 use Rattle.history.specs.History.{IsMachine, call_in}
-use Rattle.history.specs.Known.{owned}
+use Rattle.history.specs.Known.{owned, events_by}
 use Rattle.history.specs.Queues.{pushes_index, pops_index, takes_role, gives_role}
 use Rattle.history.specs.Roles.{HasRole, takes, gives, role_word, acquire_start, release_start, holder}
 use Rattle.history.specs.Stages.{Calling, Starts}
 use Rattle.history.specs.Views.{first_view}
 use Rattle.history.proofs.Calls.{call_then}
-use Rattle.history.proofs.Known.{known_alone}
+use Rattle.history.proofs.Known.{known_alone, by_mine, AreOf}
 use Rattle.history.proofs.Passes.{opens, set_same}
 use Rattle.history.proofs.QueueCalls.{holds_it}
 use Rattle.history.proofs.Queues.{queue_effects, index_owes, plain_starts, role_starts}
 use Rattle.history.proofs.Steps.{settle}
-use Rattle.history.proofs.Turns.{Between, begun, begun_at, gone, goes_to, told}
+use Rattle.history.proofs.Turns.{Between, MachineLaws, machine_laws, begun, begun_at, gone, goes_to, told, own_told}
 use Rattle.lock_free_queues.specs.Queues.Roles.{LacksRole}
 use Rattle.lock_free_queues.specs.Queues.Opened.{pushed_once, popped_once, given_roles, rounds, opened, position_at, opened_view}
 
@@ -144,10 +144,13 @@ module _ (capacity : ℕ) (small : capacity < 2 ^ 32) where
     pub events : u.events ≡ es
     pub there : call_in u.world 0 ≡ going
 
+  all_laws : MachineLaws one_word kinds.IndexQueue capacity (4 + capacity) (λ w. queue_effects one_word)
+  all_laws = machine_laws one_word kinds.IndexQueue capacity (4 + capacity) (queue_effects one_word) (index_owes one_word capacity)
+
   starts : Here (words_at 0 0 1 1) [] None
   starts =
       let t : Trace ℕ = worlds.opening one_word kinds.IndexQueue capacity 0 in
-      let known = known_alone (first_view capacity) refl refl refl in
+      let known = known_alone (first_view capacity) refl refl in
       record {
         u = t;
         between =
@@ -164,7 +167,7 @@ module _ (capacity : ℕ) (small : capacity < 2 ^ 32) where
               further = λ j ne past. refl;
               made_none = λ j ne past. refl;
               shares = known.shares;
-              made = λ f. refl;
+              someone = refl;
               spent = known.spent;
             };
         events = refl;
@@ -192,9 +195,9 @@ module _ (capacity : ℕ) (small : capacity < 2 ^ 32) where
       let is : s.party ≡ 0 = s.mine in
       record {
         u = after_turn h.u (Begin 0 call.start);
-        between = begun one_word kinds.IndexQueue capacity (4 + capacity) (queue_effects one_word) (index_owes one_word capacity) same_seat (alone words) 0 0 es h.u h.between call.start (call.flight c m) h.there s.first (subst (λ p. first_row (begin_rows kinds.IndexQueue capacity h.u.world.kept p call.start) ≡ None) is s.may);
+        between = begun one_word kinds.IndexQueue capacity (4 + capacity) (λ w. queue_effects one_word) all_laws same_seat (alone words) 0 0 es h.u h.between call.start (call.flight c m) h.there s.first (subst (λ p. first_row (begin_rows kinds.IndexQueue capacity h.u.world.kept p call.start) ≡ None) is s.may);
         events = ap (λ xs. xs ++ Begun 0 call.start ∷ []) h.events;
-        there = begun_at one_word kinds.IndexQueue capacity (4 + capacity) (queue_effects one_word) (index_owes one_word capacity) same_seat (alone words) 0 0 es h.u h.between call.start (call.flight c m) h.there s.first (subst (λ p. first_row (begin_rows kinds.IndexQueue capacity h.u.world.kept p call.start) ≡ None) is s.may);
+        there = begun_at one_word kinds.IndexQueue capacity (4 + capacity) (λ w. queue_effects one_word) all_laws same_seat (alone words) 0 0 es h.u h.between call.start (call.flight c m) h.there s.first (subst (λ p. first_row (begin_rows kinds.IndexQueue capacity h.u.world.kept p call.start) ≡ None) is s.may);
       }
 
   -- ---- it takes a step
@@ -211,12 +214,16 @@ module _ (capacity : ℕ) (small : capacity < 2 ^ 32) where
 
     took : Here (slice_set words a.word (written a.op found)) (es ++ wrote) (call_then start comes)
     took =
-        let tells : events_of h.u.world (Next 0) ≡ wrote = told one_word kinds.IndexQueue capacity (4 + capacity) (queue_effects one_word) (index_owes one_word capacity) same_seat (alone words) 0 0 es h.u h.between start flight (Some a) low h.there asks finds in
+        let tells : events_of h.u.world (Next 0) ≡ wrote = told one_word kinds.IndexQueue capacity (4 + capacity) (λ w. queue_effects one_word) all_laws same_seat (alone words) 0 0 es h.u h.between start flight (Some a) low h.there asks finds in
+        let mine : AreOf 0 (queue_effects one_word 0 flight found) = ((index_owes one_word capacity).goes_on h.u h.between.run 0 start flight h.there).own found in
+        let own : events_by 0 (events_of h.u.world (Next 0)) ≡ wrote =
+        own_told one_word kinds.IndexQueue capacity (4 + capacity) (λ w. queue_effects one_word) all_laws same_seat (alone words) 0 0 es h.u h.between start flight (Some a) low h.there asks finds ∙ ap (λ zs. zs ++ ending_of 0 start (answer_in comes)) (by_mine 0 (queue_effects one_word 0 flight found) mine)
+        in
         record {
           u = after_turn h.u (Next 0);
-          between = subst (λ zs. Between one_word kinds.IndexQueue capacity same_seat (alone (slice_set words a.word (written a.op found))) 0 0 (es ++ zs) (after_turn h.u (Next 0))) tells (gone one_word kinds.IndexQueue capacity (4 + capacity) (queue_effects one_word) (index_owes one_word capacity) same_seat (alone words) 0 0 es h.u h.between start flight (Some a) low h.there asks finds);
+          between = subst (λ zs. Between one_word kinds.IndexQueue capacity same_seat (alone (slice_set words a.word (written a.op found))) 0 0 (es ++ zs) (after_turn h.u (Next 0))) own (gone one_word kinds.IndexQueue capacity (4 + capacity) (λ w. queue_effects one_word) all_laws same_seat (alone words) 0 0 es h.u h.between start flight (Some a) low h.there asks finds);
           events = ap (λ xs. xs ++ events_of h.u.world (Next 0)) h.events ∙ ap (λ zs. es ++ zs) tells;
-          there = goes_to one_word kinds.IndexQueue capacity (4 + capacity) (queue_effects one_word) (index_owes one_word capacity) same_seat (alone words) 0 0 es h.u h.between start flight (Some a) low h.there asks finds;
+          there = goes_to one_word kinds.IndexQueue capacity (4 + capacity) (λ w. queue_effects one_word) all_laws same_seat (alone words) 0 0 es h.u h.between start flight (Some a) low h.there asks finds;
         }
 
     -- it goes on, and tells nothing

@@ -1,0 +1,128 @@
+-- How the calls on the roles and the lengths of a queue begin, of any kind of queue.
+use Rattle.std.proofs.Common.{inl, ◌≡◌, ℕ, ◌<◌, ◌≤◌, false, Option, Some, None, List, [], refl, subst, arith}
+use Rattle.steps.specs.declared.ask.After.{After}
+use Rattle.steps.specs.declared.ask.Want.{Want}
+use Rattle.steps.specs.declared.queues.roles.Role.{Role}
+use Rattle.steps.specs.declared.queues.roles.Role.TheVariants.{Producer, Consumer}
+use Rattle.steps.specs.Queues.Lengths.{first_len}
+use Rattle.model.specs.declared.event.Event.{Event}
+use Rattle.model.specs.declared.event.Start.TheVariants.{Queues}
+use Rattle.model.specs.declared.families.Flight.{Flight}
+use Rattle.model.specs.declared.families.Kept.{Kept}
+use Rattle.model.specs.declared.families.queues.QueueKind.{QueueKind}
+use Rattle.model.specs.declared.families.queues.QueueKind.TheVariants.{IndexQueue, Overflow, Queue}
+use Rattle.model.specs.declared.families.queues.Roles.{Roles}
+use Rattle.model.specs.declared.families.queues.calls.LengthOf.{LengthOf}
+use Rattle.model.specs.declared.families.queues.calls.LengthOf.TheVariants.{Len, IsEmpty, IsFull}
+use Rattle.model.specs.Coding.{Coding}
+use Rattle.model.specs.Families.{first_of, opening_of}
+use Rattle.model.specs.Families.Queues.Opening.{lacks_role}
+use Rattle.queue_laws.proofs.Queues.Invariant.{machine_kind}
+use Rattle.history.specs.declared.view.View.{View}
+use Rattle.history.specs.Queues.{takes_role, gives_role, length_start, counts_waiting}
+use Rattle.history.specs.Roles.{role_word, holder, acquire_start, release_start, HasRole}
+use Rattle.history.specs.Stages.{Calling, At}
+use Rattle.history.proofs.Drives.{IsCallOf}
+use Rattle.history.proofs.QueueCalls.{holds_it}
+use Rattle.history.proofs.Queues.{plain_starts, role_starts}
+
+-- a call of a structure is one of a structure with more words
+pub wider : {T C M E : Type 0} (code : Coding T) (effects : ℕ → Flight T → ℕ → List (Event T)) (some more : ℕ → ℕ) (want : C → Want (Unit {0})) (after : C → ℕ → After C E) (kept : C → M → ℕ → M) (call : Calling T C M E) → ((n : ℕ) → some n ≤ more n)
+    → IsCallOf code effects some want after kept call → IsCallOf code effects more want after kept call
+wider code effects some more want after kept call low h =
+    record {
+      same_want = h.same_want;
+      same_after = h.same_after;
+      hears = h.hears;
+      stays = h.stays;
+      asks = λ capacity c stands. (let a = h.asks capacity c stands in let below = a.1 in let all = low capacity in (a.0, omega arith, a.2));
+      past = h.past;
+      finds = h.finds;
+      leaves = h.leaves;
+      tells = h.tells;
+      tells_all = h.tells_all;
+    }
+
+module _ {T : Type 0} where
+  acquire_is : (kd : QueueKind) (r : Role) (c : ℕ) (m : Unit {0}) (kept : Kept T) → ◌≡◌ {A = Option (Flight T)} (first_of (machine_kind kd) c (Queues (acquire_start r)) kept) (Some ((takes_role r).flight (record { word = role_word r }) m))
+  acquire_is IndexQueue Producer c m kept = refl
+  acquire_is IndexQueue Consumer c m kept = refl
+  acquire_is Overflow Producer c m kept = refl
+  acquire_is Overflow Consumer c m kept = refl
+  acquire_is Queue Producer c m kept = refl
+  acquire_is Queue Consumer c m kept = refl
+
+  release_is : (kd : QueueKind) (r : Role) (c : ℕ) (m : Unit {0}) (kept : Kept T) → ◌≡◌ {A = Option (Flight T)} (first_of (machine_kind kd) c (Queues (release_start r)) kept) (Some ((gives_role r).flight (record { word = role_word r }) m))
+  release_is IndexQueue Producer c m kept = refl
+  release_is IndexQueue Consumer c m kept = refl
+  release_is Overflow Producer c m kept = refl
+  release_is Overflow Consumer c m kept = refl
+  release_is Queue Producer c m kept = refl
+  release_is Queue Consumer c m kept = refl
+
+  len_is : (kd : QueueKind) (which : LengthOf) (c : ℕ) (m : Unit {0}) (kept : Kept T) → ◌≡◌ {A = Option (Flight T)} (first_of (machine_kind kd) c (Queues (length_start which)) kept) (Some ((counts_waiting which c).flight (first_len c) m))
+  len_is IndexQueue Len c m kept = refl
+  len_is IndexQueue IsEmpty c m kept = refl
+  len_is IndexQueue IsFull c m kept = refl
+  len_is Overflow Len c m kept = refl
+  len_is Overflow IsEmpty c m kept = refl
+  len_is Overflow IsFull c m kept = refl
+  len_is Queue Len c m kept = refl
+  len_is Queue IsEmpty c m kept = refl
+  len_is Queue IsFull c m kept = refl
+
+-- ---- who lacks no role for it
+
+acquire_lacks : (T : Type 0) (r : Role) (roles : Roles) (p : ℕ) → lacks_role {T = T} roles p (acquire_start r) ≡ false
+acquire_lacks T Producer roles p = refl
+acquire_lacks T Consumer roles p = refl
+
+release_lacks : (T : Type 0) (r : Role) (roles : Roles) (p : ℕ) → holder r roles ≡ Some p → lacks_role {T = T} roles p (release_start r) ≡ false
+release_lacks T Producer roles p is = holds_it roles.producer p is
+release_lacks T Consumer roles p is = holds_it roles.consumer p is
+
+len_lacks : (T : Type 0) (which : LengthOf) (roles : Roles) (p : ℕ) → lacks_role {T = T} roles p (length_start which) ≡ false
+len_lacks T Len roles p = refl
+len_lacks T IsEmpty roles p = refl
+len_lacks T IsFull roles p = refl
+
+module _ {T : Type 0} (code : Coding T) (kd : QueueKind) (x : View T) (m : Unit {0}) (idle : x.going ≡ None) (alone : x.other ≡ []) (any : 0 < x.share.part) where
+  pub acquire_first_on : (role : Role) → At code (machine_kind kd) (takes_role role) x x (record { word = role_word role }) m
+  acquire_first_on role =
+      inl (record {
+        is = refl;
+        idle = idle;
+        fresh = alone;
+        standing = refl;
+        some = any;
+        first = acquire_is kd role x.capacity m ((opening_of (machine_kind kd)).kept x.capacity);
+        starts = plain_starts code kd x (takes_role role) (acquire_start role) (record { word = role_word role }) m refl (acquire_is kd role x.capacity m) (λ o p h. h) (acquire_lacks T role);
+        wrote = λ p. refl;
+      })
+
+  pub release_first_on : (role : Role) → HasRole role x.made → At code (machine_kind kd) (gives_role role) x x (record { word = role_word role }) m
+  release_first_on role has =
+      inl (record {
+        is = refl;
+        idle = idle;
+        fresh = alone;
+        standing = refl;
+        some = any;
+        first = release_is kd role x.capacity m ((opening_of (machine_kind kd)).kept x.capacity);
+        starts = role_starts code kd x (gives_role role) (release_start role) (record { word = role_word role }) m refl (release_is kd role x.capacity m) role (λ o p. tt) (release_lacks T role) has;
+        wrote = λ p. refl;
+      })
+
+  pub len_first_on : (which : LengthOf) (size : ℕ) → x.capacity ≡ size → At code (machine_kind kd) (counts_waiting which size) x x (first_len size) m
+  len_first_on which size same =
+      subst (λ n. At code (machine_kind kd) (counts_waiting which n) x x (first_len n) m) same
+      (inl (record {
+        is = refl;
+        idle = idle;
+        fresh = alone;
+        standing = (refl, refl);
+        some = any;
+        first = len_is kd which x.capacity m ((opening_of (machine_kind kd)).kept x.capacity);
+        starts = plain_starts code kd x (counts_waiting which x.capacity) (length_start which) (first_len x.capacity) m refl (len_is kd which x.capacity m) (λ o p h. h) (len_lacks T which);
+        wrote = λ p. refl;
+      }))

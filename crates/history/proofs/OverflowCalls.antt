@@ -1,0 +1,270 @@
+-- The calls on the overflowing queue as calls of the model. What a push has written is read from the machine, since a pop
+-- may have written its act.
+use Rattle.std.proofs.Common.{inl, ◌≡◌, ◌≢◌, ℕ, ◌+◌, ◌-◌, ◌^◌, ◌%◌, ◌<◌, ◌==◌, Bool, true, false, cond, Option, Some, None, List, [], ◌∷◌, ◌++◌, get_or, slice_index, fold, refl, sym, ap, subst, ◌∙◌, append_assoc, append-nil, arith}
+use Rattle.std.proofs.lemmas.Bool.Decides.{nat_tests}
+use Rattle.std.specs.List.{AllByRecursion}
+use Rattle.steps.specs.Ask.{written}
+use Rattle.steps.specs.declared.ask.Ask.{Ask}
+use Rattle.steps.specs.declared.ask.Op.TheVariants.{Load, Store, Exchange}
+use Rattle.steps.specs.declared.ask.After.{After}
+use Rattle.steps.specs.declared.ask.After.TheVariants.{GoOn, Done}
+use Rattle.steps.specs.declared.ask.Want.TheVariants as wants
+use Rattle.steps.specs.declared.copied.OneWord.{OneWord}
+use Rattle.steps.specs.declared.queues.overflow.Push.{Push as Pushing}
+use Rattle.steps.specs.declared.queues.overflow.PushEnd.{PushEnd}
+use Rattle.steps.specs.declared.queues.overflow.PushEnd.TheVariants.{Added, Own, Oldest}
+use Rattle.steps.specs.declared.queues.overflow.PushStage as pushes
+use Rattle.steps.specs.declared.queues.roles.Role.TheVariants.{Producer}
+use Rattle.steps.specs.Queues.Ring.{after_position, distance}
+use Rattle.steps.specs.Queues.Overflow.{cell_word, first_push, at_push, push_asks, push_want, push_takes, push_after, push_keeps, push_kept, push_answer}
+use Rattle.model.specs.declared.event.Answer.{Answer}
+use Rattle.model.specs.declared.event.Answer.TheVariants.{PoppedNone, PoppedIndex}
+use Rattle.model.specs.declared.event.Event.{Event}
+use Rattle.model.specs.declared.event.Event.TheVariants.{Published, HandedOut, Acted}
+use Rattle.model.specs.declared.event.Item.TheVariants.{Index}
+use Rattle.model.specs.declared.event.Start.{Start}
+use Rattle.model.specs.declared.event.Start.TheVariants.{Queues}
+use Rattle.model.specs.declared.families.Flight.{Flight}
+use Rattle.model.specs.declared.families.queues.QueueKind as queues
+use Rattle.model.specs.declared.families.queues.QueueStart.{QueueStart}
+use Rattle.model.specs.declared.families.queues.QueueStart.TheVariants.{PushIndex}
+use Rattle.model.specs.declared.families.queues.calls.QueueFlight.TheVariants.{Overflow}
+use Rattle.model.specs.declared.families.queues.effects.Effect.{Effect}
+use Rattle.model.specs.declared.families.queues.effects.Effect.TheVariants.{Quiet, Acts, Publishes, PublishesAndActs, HandsOut, TakesOut, MakesRoom}
+use Rattle.model.specs.declared.turn.Kind.TheVariants as kinds
+use Rattle.model.specs.Coding.{Coding}
+use Rattle.model.specs.Families.{after_of, ask_of}
+use Rattle.model.specs.Families.Queues.Calls.{popped}
+use Rattle.model.specs.Families.Queues.Steps.{effects_of, overflow_push_effect, acts_if_done}
+use Rattle.model.specs.Reading.{Open, longer, own_after}
+use Rattle.model.specs.Turns.{old_of}
+use Rattle.model.specs.World.{World, Trace}
+use Rattle.model.proofs.Scenes.{stands_there}
+use Rattle.queue_laws.proofs.Overflow.Knows.{IsFreshOver, overflow_wrote}
+use Rattle.queue_laws.proofs.Queues.Core.{Core, word_at}
+use Rattle.queue_laws.proofs.Queues.Invariant.{family}
+use Rattle.queue_laws.proofs.Queues.Knows.{layout, free}
+use Rattle.queue_laws.proofs.Queues.Sound.{kept_is}
+use Rattle.lock_free_sp.specs.Driver.{answered, KeepsRule}
+use Rattle.history.specs.declared.view.View.{View}
+use Rattle.history.specs.History.{IsMachine, IsRun}
+use Rattle.history.specs.Known.{events_by}
+use Rattle.history.specs.Overflow.{IsWithin, over_push_skips, HasPushWord, over_push_wrote, pushes_over}
+use Rattle.history.specs.Roles.{HasRole}
+use Rattle.history.specs.Stages.{Calling, At, Over}
+use Rattle.history.proofs.Calls.{stands}
+use Rattle.history.proofs.Drives.{IsCallIn, Met, goes, keeps_in}
+use Rattle.history.proofs.Known.{by_mine}
+use Rattle.history.proofs.Overflows.{over_effects, push_own, overflow_owes}
+use Rattle.history.proofs.QueueCalls.{holds_it}
+use Rattle.history.proofs.Queues.{role_starts, sound_of}
+
+-- ---- events within a call
+
+module _ {T : Type 0} where
+  within_both : (xs ys : List (Event T)) → AllByRecursion IsWithin xs → AllByRecursion IsWithin ys → AllByRecursion IsWithin (xs ++ ys)
+  within_both [] ys a b = b
+  within_both (x ∷ xs) ys a b = (a.0, within_both xs ys a.1 b)
+
+  within_acts : (p : ℕ) (start : QueueStart T) (o : Option (Answer T)) → AllByRecursion IsWithin (acts_if_done p start o)
+  within_acts p start None = tt
+  within_acts p start (Some answer) = (λ a. refl, tt)
+
+  within_effect : (p : ℕ) (start : QueueStart T) (effect : Effect T) (o : Option (Answer T)) → AllByRecursion IsWithin (effects_of p start effect o)
+  within_effect p start Quiet o = tt
+  within_effect p start Acts o = within_acts p start o
+  within_effect p start (Publishes item) o = (λ a. refl, within_acts p start o)
+  within_effect p start (PublishesAndActs item) o = (λ a. refl, (λ a. refl, tt))
+  within_effect p start (HandsOut item) o = (λ a. refl, within_acts p start o)
+  within_effect p start (TakesOut index) o = (λ a. refl, (λ a. refl, tt))
+  within_effect p start (MakesRoom item q pushed) o = (λ a. refl, within_both (acts_if_done p start o) (Acted q (Queues (PushIndex pushed)) PoppedNone ∷ []) (within_acts p start o) (λ a. refl, tt))
+
+  within_late : (start : Start T) (late : List (Event T)) → AllByRecursion (λ (e : Event T). (p : ℕ) × (e ≡ Acted p start PoppedNone)) late → AllByRecursion IsWithin late
+  within_late start [] h = tt
+  within_late start (e ∷ es) h = (λ a. subst (λ z. own_after a z ≡ longer a z) (sym h.0.1) refl, within_late start es h.1)
+
+  -- such events make a span longer
+  spans_on : (start : Start T) (xs ys : List (Event T)) → AllByRecursion IsWithin ys → fold own_after (Open start xs) ys ≡ Open start (xs ++ ys)
+  spans_on start xs [] h = ap (λ es. Open start es) (sym (append-nil xs))
+  spans_on start xs (y ∷ ys) h = ap (λ a. fold own_after a ys) (h.0 (Open start xs)) ∙ (spans_on start (xs ++ y ∷ []) ys h.1 ∙ ap (λ es. Open start es) (append_assoc xs (y ∷ []) ys))
+
+  same_open : (start other : Start T) (xs ys : List (Event T)) → Open start xs ≡ Open other ys → xs ≡ ys
+  same_open start other xs ys e = cc
+
+-- ---- pushes
+
+module _ {T : Type 0} (code : Coding T) (v : ℕ) where
+  abbrev pushing : Calling T Pushing OneWord PushEnd
+  pushing = pushes_over v
+
+  abbrev IsOver : ℕ → Trace T → Type 0
+  IsOver capacity t = IsRun code kinds.Overflow capacity t
+
+  same_after : (c : Pushing) (m : OneWord) (n : ℕ) → after_of code (pushing.flight c m) n ≡ goes pushing (push_after c n) (push_kept c m n)
+  same_after c m n = go (push_after c n) refl
+    where
+      go : (r : After Pushing PushEnd) → push_after c n ≡ r → after_of code (pushing.flight c m) n ≡ goes pushing r (push_kept c m n)
+      go (GoOn d) e = rw e refl
+      go (Done b) e = rw e refl
+
+  abbrev Next : ℕ → Pushing → Type 0
+  Next capacity d = (d.capacity ≡ capacity) × HasPushWord d.stage × ((k : ℕ) → over_push_skips d.stage k ≡ false)
+
+  stays : (capacity : ℕ) (c d : Pushing) (n : ℕ) (stage : pushes.PushStage) → c.capacity ≡ capacity → HasPushWord stage → push_takes c stage n ≡ GoOn d → Next capacity d
+  stays capacity c d n pushes.TheVariants.HandsBack same h e = absurd h
+  stays capacity c d n pushes.TheVariants.LoadsWrite same h e = go (n == 2 ^ 64 - 1) e
+    where
+      go : (t : Bool) → cond t (Done Own) (GoOn (at_push c (pushes.TheVariants.LoadsRead n))) ≡ GoOn d → Next capacity d
+      go true e = absurd (cc)
+      go false e = (let is : at_push c (pushes.TheVariants.LoadsRead n) ≡ d = cc in subst (Next capacity) is (same, tt, λ k. refl))
+  stays capacity c d n (pushes.TheVariants.LoadsRead write) same h e = (let is : at_push c (pushes.TheVariants.StoresCell write n) ≡ d = cc in subst (Next capacity) is (same, tt, λ k. refl))
+  stays capacity c d n (pushes.TheVariants.StoresCell write read) same h e = (let is : at_push c (pushes.TheVariants.StoresWrite write read) ≡ d = cc in subst (Next capacity) is (same, tt, λ k. refl))
+  stays capacity c d n (pushes.TheVariants.StoresWrite write read) same h e = go (distance write read == c.capacity) e
+    where
+      go : (t : Bool) → cond t (GoOn (at_push c (pushes.TheVariants.MovesRead read))) (Done Added) ≡ GoOn d → Next capacity d
+      go true e = (let is : at_push c (pushes.TheVariants.MovesRead read) ≡ d = cc in subst (Next capacity) is (same, tt, λ k. refl))
+      go false e = absurd (cc)
+  stays capacity c d n (pushes.TheVariants.MovesRead read) same h e = go (n == read) e
+    where
+      go : (t : Bool) → cond t (GoOn (at_push c (pushes.TheVariants.LoadsCell read))) (Done Added) ≡ GoOn d → Next capacity d
+      go true e = (let is : at_push c (pushes.TheVariants.LoadsCell read) ≡ d = cc in subst (Next capacity) is (same, tt, λ k. refl))
+      go false e = absurd (cc)
+  stays capacity c d n (pushes.TheVariants.LoadsCell read) same h e = absurd (cc)
+
+  asks : (capacity own : ℕ) (stage : pushes.PushStage) → own ≡ capacity → HasPushWord stage → (a : Ask) × (a.word < 4 + (capacity + 1)) × (push_asks own stage v ≡ wants.Ask a)
+  asks capacity own pushes.TheVariants.HandsBack same h = absurd h
+  asks capacity own pushes.TheVariants.LoadsWrite same h = (record { word = 0; op = Load }, omega arith, refl)
+  asks capacity own (pushes.TheVariants.LoadsRead write) same h = (record { word = 1; op = Load }, omega arith, refl)
+  asks capacity own (pushes.TheVariants.StoresCell write read) same h = (record { word = cell_word own write; op = Store v }, (let low : write % (own + 1) < own + 1 = omega arith in omega arith), refl)
+  asks capacity own (pushes.TheVariants.StoresWrite write read) same h = (record { word = 0; op = Store (after_position write) }, omega arith, refl)
+  asks capacity own (pushes.TheVariants.MovesRead read) same h = (record { word = 1; op = Exchange read (after_position read) }, omega arith, refl)
+  asks capacity own (pushes.TheVariants.LoadsCell read) same h = (record { word = cell_word own read; op = Load }, (let low : read % (own + 1) < own + 1 = omega arith in omega arith), refl)
+
+  abbrev Hears : Pushing → OneWord → Ask → ℕ → pushes.PushStage → Type 0
+  Hears c m a n stage = (push_takes c stage (answered a.op n) ≡ push_takes c stage n) × (push_keeps m stage (answered a.op n) ≡ push_keeps m stage n)
+
+  hears : (c : Pushing) (m : OneWord) (a : Ask) (n : ℕ) (stage : pushes.PushStage) → push_asks c.capacity stage v ≡ wants.Ask a → Hears c m a n stage
+  hears c m a n pushes.TheVariants.HandsBack e = absurd (cc)
+  hears c m a n pushes.TheVariants.LoadsWrite e = (let is : record { word = 0; op = Load } ≡ a = cc in subst (λ z. Hears c m z n pushes.TheVariants.LoadsWrite) is (refl, refl))
+  hears c m a n (pushes.TheVariants.LoadsRead write) e = (let is : record { word = 1; op = Load } ≡ a = cc in subst (λ z. Hears c m z n (pushes.TheVariants.LoadsRead write)) is (refl, refl))
+  hears c m a n (pushes.TheVariants.StoresCell write read) e = (refl, refl)
+  hears c m a n (pushes.TheVariants.StoresWrite write read) e = (refl, refl)
+  hears c m a n (pushes.TheVariants.MovesRead read) e = (let is : record { word = 1; op = Exchange read (after_position read) } ≡ a = cc in subst (λ z. Hears c m z n (pushes.TheVariants.MovesRead read)) is (refl, refl))
+  hears c m a n (pushes.TheVariants.LoadsCell read) e = (let is : record { word = cell_word c.capacity read; op = Load } ≡ a = cc in subst (λ z. Hears c m z n (pushes.TheVariants.LoadsCell read)) is (refl, refl))
+
+  finds : (n : ℕ) (stage : pushes.PushStage) → n < 2 ^ 64 → over_push_skips stage n ≡ false → IsFreshOver n stage
+  finds n pushes.TheVariants.HandsBack small t = tt
+  finds n pushes.TheVariants.LoadsWrite small t = (let other : n ≢ 2 ^ 64 - 1 = grind (arith, nat_tests) in omega arith)
+  finds n (pushes.TheVariants.LoadsRead write) small t = tt
+  finds n (pushes.TheVariants.StoresCell write read) small t = tt
+  finds n (pushes.TheVariants.StoresWrite write read) small t = tt
+  finds n (pushes.TheVariants.MovesRead read) small t = tt
+  finds n (pushes.TheVariants.LoadsCell read) small t = tt
+
+  leaves : (c : Pushing) (a : Ask) (n : ℕ) (stage : pushes.PushStage) → over_push_skips stage n ≡ true → push_asks c.capacity stage v ≡ wants.Ask a → (written a.op n ≡ n) × (e : PushEnd) × (e ≡ Own) × (push_takes c stage n ≡ Done e)
+  leaves c a n pushes.TheVariants.HandsBack t e = absurd (cc)
+  leaves c a n pushes.TheVariants.LoadsWrite t e = (let is : record { word = 0; op = Load } ≡ a = cc in (ap (λ (z : Ask). written z.op n) (sym is), Own, refl, rw t refl))
+  leaves c a n (pushes.TheVariants.LoadsRead write) t e = absurd (cc)
+  leaves c a n (pushes.TheVariants.StoresCell write read) t e = absurd (cc)
+  leaves c a n (pushes.TheVariants.StoresWrite write read) t e = absurd (cc)
+  leaves c a n (pushes.TheVariants.MovesRead read) t e = absurd (cc)
+  leaves c a n (pushes.TheVariants.LoadsCell read) t e = absurd (cc)
+
+  -- ---- what it wrote, by the machine
+
+  -- the machine that a push stands at, with the words and what it wrote so far
+  record There (capacity p : ℕ) (c : Pushing) (es : List (Event T)) (n : ℕ) (t : Trace T) : Type 0 where
+    pub core : Core ℕ
+    pub wrote : es ≡ overflow_wrote capacity core p v c.stage
+    pub read : slice_index t.world.words 1 ≡ core.read
+    pub cell : (position : ℕ) → slice_index t.world.words (cell_word capacity position) ≡ get_or core.cells (position % (capacity + 1)) 0
+    pub found : old_of t.world.words (ask_of (push_asks capacity c.stage v)) ≡ n
+
+  there : (capacity p : ℕ) (from : Option (Start T × Flight T)) (c : Pushing) (m : OneWord) (n : ℕ) (es : List (Event T)) (t : Trace T) → c.capacity ≡ capacity → from ≡ None → AllByRecursion IsWithin es → Met code kinds.Overflow capacity pushing.start (pushing.flight c m) p from es n t → There capacity p c es n t
+  there capacity p from c m n es t same none are met =
+      let s = sound_of code capacity queues.TheVariants.Overflow t met.run in
+      let at = stands t.world p pushing.start (pushing.flight c m) met.there in
+      let now = stands_there (family t.world.coding queues.TheVariants.Overflow t.world.capacity) t s p at.x at.since (pushing.flight c m) at.found at.doing in
+      let k = s.state.core in
+      let words : t.world.words ≡ layout s.state.roles k = (kept_is t.world.kept t.world.words s.state s.fit).1 in
+      let span : Open at.x.start (overflow_wrote t.world.capacity k p v c.stage) ≡ Open pushing.start es = sym now.span ∙ (met.span none ∙ spans_on pushing.start [] es are) in
+      record {
+        core = k;
+        wrote = same_open pushing.start at.x.start es (overflow_wrote t.world.capacity k p v c.stage) (sym span) ∙ ap (λ z. overflow_wrote z k p v c.stage) met.run.sized;
+        read = ap (λ ws. slice_index ws 1) words;
+        cell = λ position. ap (λ ws. slice_index ws (cell_word capacity position)) words ∙ word_at k.write k.read (free s.state.roles.producer) (free s.state.roles.consumer) k.cells (cell_word capacity position) (position % (capacity + 1)) refl;
+        found = ap (λ z. old_of t.world.words (ask_of (push_asks z c.stage v))) (sym same) ∙ met.found;
+      }
+
+  -- the effects of a step that goes on, and of one that ends
+  effects_end : (w : World T) (p : ℕ) (c : Pushing) (e : PushEnd) (m : OneWord) (n : ℕ) → push_after c n ≡ Done e → over_effects w p (pushing.flight c m) n ≡ effects_of p (PushIndex v) (overflow_push_effect w.words c.capacity (Index v) c.stage n) (Some (popped (push_answer v (push_kept c m n).0 e)))
+  effects_end w p c e m n is = rw is refl
+
+  abbrev Tells : ℕ → ℕ → Pushing → PushEnd → OneWord → ℕ → List (Event T) → World T → pushes.PushStage → Type 0
+  Tells capacity p c e m n es w stage = es ++ effects_of p (PushIndex v) (overflow_push_effect w.words c.capacity (Index v) stage n) (Some (popped (push_answer v (push_keeps m stage n).0 e))) ≡ over_push_wrote p v (push_keeps m stage n).0 e
+
+  tells_end : (capacity p : ℕ) (c : Pushing) (e : PushEnd) (m : OneWord) (n : ℕ) (es : List (Event T)) (t : Trace T) (k : Core ℕ) (stage : pushes.PushStage) → es ≡ overflow_wrote capacity k p v stage → slice_index t.world.words 1 ≡ k.read
+      → ((position : ℕ) → slice_index t.world.words (cell_word capacity position) ≡ get_or k.cells (position % (capacity + 1)) 0) → old_of t.world.words (ask_of (push_asks capacity stage v)) ≡ n → HasPushWord stage → over_push_skips stage n ≡ false → push_takes c stage n ≡ Done e → Tells capacity p c e m n es t.world stage
+  tells_end capacity p c e m n es t k pushes.TheVariants.HandsBack is read cell found h skip ends = absurd h
+  tells_end capacity p c e m n es t k pushes.TheVariants.LoadsWrite is read cell found h skip ends = (let no : GoOn (at_push c (pushes.TheVariants.LoadsRead n)) ≡ Done e = rw skip at ends in absurd (cc))
+  tells_end capacity p c e m n es t k (pushes.TheVariants.LoadsRead write) is read cell found h skip ends = absurd (cc)
+  tells_end capacity p c e m n es t k (pushes.TheVariants.StoresCell write at) is read cell found h skip ends = absurd (cc)
+  tells_end capacity p c e m n es t k (pushes.TheVariants.StoresWrite write at) is read cell found h skip ends = go (distance write at == c.capacity) refl ends
+    where
+      go : (b : Bool) → (distance write at == c.capacity) ≡ b → cond b (GoOn (at_push c (pushes.TheVariants.MovesRead at))) (Done Added) ≡ Done e → Tells capacity p c e m n es t.world (pushes.TheVariants.StoresWrite write at)
+      go true d h = absurd (cc)
+      go false d h = (let same : Added ≡ e = cc in subst (λ z. Tells capacity p c z m n es t.world (pushes.TheVariants.StoresWrite write at)) same (rw (is, d) refl))
+  tells_end capacity p c e m n es t k (pushes.TheVariants.MovesRead at) is read cell found h skip ends = go (n == at) refl ends
+    where
+      go : (b : Bool) → (n == at) ≡ b → cond b (GoOn (at_push c (pushes.TheVariants.LoadsCell at))) (Done Added) ≡ Done e → Tells capacity p c e m n es t.world (pushes.TheVariants.MovesRead at)
+      go true d h = absurd (cc)
+      go false d h =
+          let same : Added ≡ e = cc in
+          let is_read : k.read ≡ n = sym read ∙ found in
+          let apart : n ≢ at = grind (arith, nat_tests) in
+          let moved : (at == k.read) ≡ false = (let far : at ≢ k.read = λ i. apart (sym (i ∙ is_read)) in grind (arith, nat_tests)) in
+          subst (λ z. Tells capacity p c z m n es t.world (pushes.TheVariants.MovesRead at)) same (rw (is, d, moved) refl)
+  tells_end capacity p c e m n es t k (pushes.TheVariants.LoadsCell at) is read cell found h skip ends =
+      let same : Oldest ≡ e = cc in
+      let value : get_or k.cells (at % (capacity + 1)) 0 ≡ n = sym (cell at) ∙ found in
+      subst (λ z. Tells capacity p c z m n es t.world (pushes.TheVariants.LoadsCell at)) same (append-nil es ∙ (is ∙ ap (λ u. Published p (Index v) ∷ HandedOut p (Index u) ∷ Acted p (Queues (PushIndex v)) (PoppedIndex u) ∷ []) value))
+
+  pub push_is_call : IsCallIn code kinds.Overflow over_effects (λ capacity. 4 + (capacity + 1)) (λ c. push_want c v) push_after push_kept pushing
+  push_is_call =
+      record {
+        same_want = λ c m. refl;
+        same_after = λ capacity c m n h. same_after c m n;
+        hears = λ c m a n e. hears c m a n c.stage e;
+        stays = λ capacity c d n h e. (let next = stays capacity c d n c.stage h.1 h.2 e in (h.0, next.0, next.1));
+        asks = λ capacity c h. asks capacity c.capacity c.stage h.1 h.2;
+        past = λ capacity c d n k h e. (stays capacity c d n c.stage h.1 h.2 e).2 k;
+        finds = λ c m n small t. finds n c.stage small t;
+        leaves = λ c a n t e. leaves c a n c.stage t e;
+        tells = λ capacity p from c d m n es late t h wrote waits met e. (
+          wrote.0,
+          within_both (es ++ late) (events_by p (over_effects t.world p (pushing.flight c m) n)) (within_both es late wrote.1 (within_late pushing.start late waits))
+              (subst (λ zs. AllByRecursion IsWithin zs) (sym (by_mine p (over_effects t.world p (pushing.flight c m) n) (push_own t.world p (record { call = c; given = v; room = m }) n))) (within_effect p (PushIndex v) _ _)),
+        );
+        tells_all = λ capacity p from c e m n es late t h skip wrote waits met is. (
+            let x = there capacity p from c m n (es ++ late) t h.1 wrote.0 (within_both es late wrote.1 (within_late pushing.start late waits)) met in
+            ap (λ zs. (es ++ late) ++ zs) (by_mine p (over_effects t.world p (pushing.flight c m) n) (push_own t.world p (record { call = c; given = v; room = m }) n) ∙ effects_end t.world p c e m n is)
+            ∙ tells_end capacity p c e m n (es ++ late) t x.core c.stage x.wrote x.read x.cell x.found h.2 skip is);
+      }
+
+  -- each step of a push keeps the rule of the table: it is a machine
+  pub over_push_keeps : KeepsRule (λ (z : View T). z.capacity) (At code kinds.Overflow pushing) (Over code kinds.Overflow pushing) (λ key. 4 + (key + 1) + 1) (λ key. key) (λ key. IsMachine code kinds.Overflow key) (λ c. push_want c v) push_after push_kept
+  over_push_keeps = keeps_in code kinds.Overflow over_effects (λ capacity. 4 + (capacity + 1)) (overflow_owes code) (λ c. push_want c v) push_after push_kept pushing push_is_call
+
+  pub over_push_first : (x : View T) → x.going ≡ None → x.other ≡ [] → 0 < x.share.part → 0 < x.capacity → x.capacity < 2 ^ 32 → HasRole Producer x.made → At code kinds.Overflow pushing x x (first_push x.capacity) (record { 0 = 0 })
+  over_push_first x idle alone any has_cells small has =
+      let some : (x.capacity == 0) ≡ false = grind (arith, nat_tests) in
+      inl (record {
+        is = refl;
+        idle = idle;
+        fresh = alone;
+        standing = (small, refl, rw some tt);
+        some = any;
+        first = refl;
+        starts = role_starts code queues.TheVariants.Overflow x pushing (PushIndex v) (first_push x.capacity) (record { 0 = 0 }) refl (λ kept. refl) Producer (λ o p. tt) (λ roles p is. holds_it roles.producer p is) has;
+        wrote = λ p. (refl, tt);
+      })

@@ -1,0 +1,238 @@
+-- The pop of the overflowing queue as a call of the model. The value that it takes out is the one that it has read, for as
+-- long as the read position stays.
+use Rattle.std.proofs.Common.{inl, ◌≡◌, ◌≢◌, ℕ, ◌+◌, ◌^◌, ◌%◌, ◌<◌, ◌==◌, Bool, true, false, cond, Option, Some, None, List, [], ◌∷◌, ◌++◌, get_or, length, slice_index, refl, sym, ap, subst, ◌∙◌, arith}
+use Rattle.std.proofs.lemmas.Bool.Decides.{nat_tests}
+use Rattle.steps.specs.declared.ask.Ask.{Ask}
+use Rattle.steps.specs.declared.ask.Op.TheVariants.{Load, Exchange}
+use Rattle.steps.specs.declared.ask.After.{After}
+use Rattle.steps.specs.declared.ask.After.TheVariants.{GoOn, Done}
+use Rattle.steps.specs.declared.ask.Want.TheVariants as wants
+use Rattle.steps.specs.declared.copied.OneWord.{OneWord}
+use Rattle.steps.specs.declared.queues.overflow.Pop.{Pop as Popping}
+use Rattle.steps.specs.declared.queues.overflow.PopStage as pops
+use Rattle.steps.specs.declared.queues.roles.Role.TheVariants.{Consumer}
+use Rattle.steps.specs.Queues.Ring.{after_position}
+use Rattle.steps.specs.Queues.Overflow.{cell_word, first_pop, at_pop, pop_asks, pop_want, pop_takes, pop_after, pop_keeps, pop_kept, pop_answer}
+use Rattle.model.specs.declared.event.Answer.{Answer}
+use Rattle.model.specs.declared.event.Answer.TheVariants.{PoppedIndex}
+use Rattle.model.specs.declared.event.Event.{Event}
+use Rattle.model.specs.declared.event.Event.TheVariants.{HandedOut, Acted}
+use Rattle.model.specs.declared.event.Item.{Item}
+use Rattle.model.specs.declared.event.Item.TheVariants.{Index}
+use Rattle.model.specs.declared.event.Start.{Start}
+use Rattle.model.specs.declared.event.Start.TheVariants.{Queues}
+use Rattle.model.specs.declared.families.Flight.{Flight}
+use Rattle.model.specs.declared.families.queues.QueueKind as queues
+use Rattle.model.specs.declared.families.queues.QueueStart.TheVariants.{PushIndex, Pop}
+use Rattle.model.specs.declared.families.queues.effects.Effect.TheVariants.{Acts, HandsOut}
+use Rattle.model.specs.declared.turn.Kind.TheVariants as kinds
+use Rattle.model.specs.Coding.{Coding}
+use Rattle.model.specs.Families.{after_of, ask_of, beside_of}
+use Rattle.model.specs.Families.Queues.Calls.{popped}
+use Rattle.model.specs.Families.Queues.Steps.{effects_of, overflow_pop_effect, takes_effect}
+use Rattle.model.specs.Turns.{old_of}
+use Rattle.model.specs.World.{World, Trace}
+use Rattle.model.proofs.Scenes.{stands_there}
+use Rattle.queue_laws.proofs.Overflow.Core.{oldest}
+use Rattle.queue_laws.proofs.Overflow.Knows.{KnowsOverflowPop}
+use Rattle.queue_laws.proofs.Queues.Core.{word_at}
+use Rattle.queue_laws.proofs.Queues.Invariant.{family}
+use Rattle.queue_laws.proofs.Queues.Knows.{free}
+use Rattle.queue_laws.proofs.Queues.Sound.{kept_is}
+use Rattle.lock_free_sp.specs.Driver.{answered, KeepsRule}
+use Rattle.history.specs.declared.view.View.{View}
+use Rattle.history.specs.History.{IsMachine, call_in}
+use Rattle.history.specs.Known.{events_by}
+use Rattle.history.specs.Overflow.{HasPopWord, pops_over}
+use Rattle.history.specs.Queues.{pop_wrote}
+use Rattle.history.specs.Roles.{HasRole}
+use Rattle.history.specs.Stages.{Calling, At, Ends}
+use Rattle.history.proofs.Calls.{stands}
+use Rattle.history.proofs.Drives.{IsCallIn, Met, goes, keeps_all_in}
+use Rattle.history.proofs.Known.{by_mine}
+use Rattle.history.proofs.Overflows.{over_effects, own_of_effect, overflow_owes, room_by_own, beside_waits}
+use Rattle.history.proofs.QueueCalls.{holds_it}
+use Rattle.history.proofs.Queues.{role_starts, sound_of}
+
+module _ {T : Type 0} (code : Coding T) where
+  abbrev popping : Calling T Popping OneWord Bool
+  popping = pops_over
+
+  same_after : (c : Popping) (m : OneWord) (n : ℕ) → after_of code (popping.flight c m) n ≡ goes popping (pop_after c n) (pop_kept c m n)
+  same_after c m n = go (pop_after c n) refl
+    where
+      go : (r : After Popping Bool) → pop_after c n ≡ r → after_of code (popping.flight c m) n ≡ goes popping r (pop_kept c m n)
+      go (GoOn d) e = rw e refl
+      go (Done b) e = rw e refl
+
+  abbrev Next : ℕ → Popping → Type 0
+  Next capacity d = (d.capacity ≡ capacity) × HasPopWord d.stage
+
+  stays : (capacity : ℕ) (c d : Popping) (n : ℕ) (stage : pops.PopStage) → c.capacity ≡ capacity → HasPopWord stage → pop_takes c stage n ≡ GoOn d → Next capacity d
+  stays capacity c d n pops.TheVariants.FindsNone same h e = absurd h
+  stays capacity c d n pops.TheVariants.LoadsRead same h e = (let is : at_pop c (pops.TheVariants.LoadsWrite n) ≡ d = cc in subst (Next capacity) is (same, tt))
+  stays capacity c d n (pops.TheVariants.LoadsWrite read) same h e = go (n == read) e
+    where
+      go : (t : Bool) → cond t (Done false) (GoOn (at_pop c (pops.TheVariants.LoadsCell read))) ≡ GoOn d → Next capacity d
+      go true e = absurd (cc)
+      go false e = (let is : at_pop c (pops.TheVariants.LoadsCell read) ≡ d = cc in subst (Next capacity) is (same, tt))
+  stays capacity c d n (pops.TheVariants.LoadsCell read) same h e = (let is : at_pop c (pops.TheVariants.MovesRead read) ≡ d = cc in subst (Next capacity) is (same, tt))
+  stays capacity c d n (pops.TheVariants.MovesRead read) same h e = go (n == read) e
+    where
+      go : (t : Bool) → cond t (Done true) (GoOn (at_pop c (pops.TheVariants.LoadsCell n))) ≡ GoOn d → Next capacity d
+      go true e = absurd (cc)
+      go false e = (let is : at_pop c (pops.TheVariants.LoadsCell n) ≡ d = cc in subst (Next capacity) is (same, tt))
+
+  asks : (capacity own : ℕ) (stage : pops.PopStage) → own ≡ capacity → HasPopWord stage → (a : Ask) × (a.word < 4 + (capacity + 1)) × (pop_asks own stage ≡ wants.Ask a)
+  asks capacity own pops.TheVariants.FindsNone same h = absurd h
+  asks capacity own pops.TheVariants.LoadsRead same h = (record { word = 1; op = Load }, omega arith, refl)
+  asks capacity own (pops.TheVariants.LoadsWrite read) same h = (record { word = 0; op = Load }, omega arith, refl)
+  asks capacity own (pops.TheVariants.LoadsCell read) same h = (record { word = cell_word own read; op = Load }, (let low : read % (own + 1) < own + 1 = omega arith in omega arith), refl)
+  asks capacity own (pops.TheVariants.MovesRead read) same h = (record { word = 1; op = Exchange read (after_position read) }, omega arith, refl)
+
+  abbrev Hears : Popping → OneWord → Ask → ℕ → pops.PopStage → Type 0
+  Hears c m a n stage = (pop_takes c stage (answered a.op n) ≡ pop_takes c stage n) × (pop_keeps m stage (answered a.op n) ≡ pop_keeps m stage n)
+
+  hears : (c : Popping) (m : OneWord) (a : Ask) (n : ℕ) (stage : pops.PopStage) → pop_asks c.capacity stage ≡ wants.Ask a → Hears c m a n stage
+  hears c m a n pops.TheVariants.FindsNone e = absurd (cc)
+  hears c m a n pops.TheVariants.LoadsRead e = (let is : record { word = 1; op = Load } ≡ a = cc in subst (λ z. Hears c m z n pops.TheVariants.LoadsRead) is (refl, refl))
+  hears c m a n (pops.TheVariants.LoadsWrite read) e = (let is : record { word = 0; op = Load } ≡ a = cc in subst (λ z. Hears c m z n (pops.TheVariants.LoadsWrite read)) is (refl, refl))
+  hears c m a n (pops.TheVariants.LoadsCell read) e = (let is : record { word = cell_word c.capacity read; op = Load } ≡ a = cc in subst (λ z. Hears c m z n (pops.TheVariants.LoadsCell read)) is (refl, refl))
+  hears c m a n (pops.TheVariants.MovesRead read) e = (let is : record { word = 1; op = Exchange read (after_position read) } ≡ a = cc in subst (λ z. Hears c m z n (pops.TheVariants.MovesRead read)) is (refl, refl))
+
+  -- ---- what it writes
+
+  effects_on : (w : World T) (p : ℕ) (c d : Popping) (m : OneWord) (n : ℕ) → pop_after c n ≡ GoOn d → over_effects w p (popping.flight c m) n ≡ effects_of p Pop (overflow_pop_effect w.words (beside_of w.words w.kept w.latest p) c.capacity c.stage n) None
+  effects_on w p c d m n is = rw is refl
+
+  effects_end : (w : World T) (p : ℕ) (c : Popping) (b : Bool) (m : OneWord) (n : ℕ) → pop_after c n ≡ Done b → over_effects w p (popping.flight c m) n ≡ effects_of p Pop (overflow_pop_effect w.words (beside_of w.words w.kept w.latest p) c.capacity c.stage n) (Some (popped (pop_answer (pop_kept c m n).0 b)))
+  effects_end w p c b m n is = rw is refl
+
+  -- nothing, where it goes on
+  quiet : (words : List ℕ) (waits : Option (ℕ × ℕ)) (p n : ℕ) (c d : Popping) (stage : pops.PopStage) → pop_takes c stage n ≡ GoOn d → effects_of {T = T} p Pop (overflow_pop_effect words waits c.capacity stage n) None ≡ []
+  quiet words waits p n c d pops.TheVariants.FindsNone e = absurd (cc)
+  quiet words waits p n c d pops.TheVariants.LoadsRead e = refl
+  quiet words waits p n c d (pops.TheVariants.LoadsWrite read) e = refl
+  quiet words waits p n c d (pops.TheVariants.LoadsCell read) e = refl
+  quiet words waits p n c d (pops.TheVariants.MovesRead read) e = go (n == read) refl e
+    where
+      go : (t : Bool) → (n == read) ≡ t → cond t (Done true) (GoOn (at_pop c (pops.TheVariants.LoadsCell n))) ≡ GoOn d → effects_of {T = T} p Pop (overflow_pop_effect words waits c.capacity (pops.TheVariants.MovesRead read) n) None ≡ []
+      go true d e = absurd (cc)
+      go false d e = rw d refl
+
+  -- where it takes a value out, it writes that of its own, whether or not a push waits
+  takes : (p : ℕ) (item : Item T) (answer : Answer T) (waits : Option (ℕ × ℕ)) → ((q v : ℕ) → waits ≡ Some (q, v) → p ≢ q) → events_by p (effects_of p Pop (takes_effect item waits) (Some answer)) ≡ HandedOut p item ∷ Acted p (Queues Pop) answer ∷ []
+  takes p item answer None apart = by_mine p (effects_of p Pop (HandsOut item) (Some answer)) (own_of_effect p Pop (HandsOut item) (Some answer) tt)
+  takes p item answer (Some push) apart = room_by_own p push.0 item push.1 (Some answer) (apart push.0 push.1 refl)
+
+  -- the name of a call, if there is one
+  abbrev name_in : Option (Start T × Flight T) → Start T
+  name_in None = Queues Pop
+  name_in (Some call) = call.0
+
+  pop_is_no_push : (v : ℕ) → ◌≡◌ {A = Start T} (Queues Pop) (Queues (PushIndex v)) → ⊥
+  pop_is_no_push v e = absurd (cc)
+
+  record TakesAt (capacity p : ℕ) (c : Popping) (m : OneWord) (n : ℕ) (t : Trace T) : Type 0 where
+    pub front : (read : ℕ) → c.stage ≡ pops.TheVariants.MovesRead read → n ≡ read → slice_index t.world.words (cell_word c.capacity read) ≡ m.0
+    pub apart : (q v : ℕ) → beside_of t.world.words t.world.kept t.world.latest p ≡ Some (q, v) → p ≢ q
+
+  takes_at : (capacity p : ℕ) (from : Option (Start T × Flight T)) (c : Popping) (m : OneWord) (n : ℕ) (es : List (Event T)) (t : Trace T) → c.capacity ≡ capacity → Met code kinds.Overflow capacity popping.start (popping.flight c m) p from es n t → TakesAt capacity p c m n t
+  takes_at capacity p from c m n es t same met = record { front = front; apart = apart }
+    where
+      s : Rattle.model.proofs.Frame.Sound (family t.world.coding queues.TheVariants.Overflow t.world.capacity) t
+      s = sound_of code capacity queues.TheVariants.Overflow t met.run
+
+      knows : KnowsOverflowPop t.world.capacity s.state.core m c.stage
+      knows =
+          let at = stands t.world p popping.start (popping.flight c m) met.there in
+          let now = stands_there (family t.world.coding queues.TheVariants.Overflow t.world.capacity) t s p at.x at.since (popping.flight c m) at.found at.doing in
+          (subst (λ st. (family t.world.coding queues.TheVariants.Overflow t.world.capacity).At s.state p st (popping.flight c m)) at.named now.at).2
+
+      front : (read : ℕ) → c.stage ≡ pops.TheVariants.MovesRead read → n ≡ read → slice_index t.world.words (cell_word c.capacity read) ≡ m.0
+      front read stage e =
+          let k = s.state.core in
+          let words = (kept_is t.world.kept t.world.words s.state s.fit).1 in
+          let mine : KnowsOverflowPop t.world.capacity k m (pops.TheVariants.MovesRead read) = subst (KnowsOverflowPop t.world.capacity k m) stage knows in
+          let found : slice_index t.world.words 1 ≡ n = subst (λ z. old_of t.world.words (ask_of (pop_asks c.capacity z)) ≡ n) stage met.found in
+          let here : read ≡ k.read = sym e ∙ (sym found ∙ ap (λ ws. slice_index ws 1) words) in
+          let first = mine.3 here in
+          let good = s.holds.good in
+          let some : 0 < length k.waiting = (let long = ap length first.1 in omega arith) in
+          let old = oldest t.world.capacity k good some in
+          let value : get_or k.cells (k.read % (t.world.capacity + 1)) 0 ≡ m.0 = (let both : get_or k.cells (k.read % (t.world.capacity + 1)) 0 ∷ old.0 ≡ m.0 ∷ first.0 = sym old.1 ∙ first.1 in cc) in
+          let size : c.capacity ≡ t.world.capacity = same ∙ sym met.run.sized in
+          ap (λ ws. slice_index ws (cell_word c.capacity read)) words
+          ∙ (word_at k.write k.read (free s.state.roles.producer) (free s.state.roles.consumer) k.cells (cell_word c.capacity read) (read % (c.capacity + 1)) refl
+          ∙ (ap (λ z. get_or k.cells (read % (z + 1)) 0) size ∙ (ap (λ z. get_or k.cells (z % (t.world.capacity + 1)) 0) here ∙ value)))
+
+      apart : (q v : ℕ) → beside_of t.world.words t.world.kept t.world.latest p ≡ Some (q, v) → p ≢ q
+      apart q v e same_party =
+          let kept = (kept_is t.world.kept t.world.words s.state s.fit).0 in
+          let push = beside_waits code capacity t t.world.coding t.world.capacity s t.world.kept p q v e kept in
+          pop_is_no_push v (ap name_in (sym met.there ∙ (ap (call_in t.world) same_party ∙ push.there)))
+
+  -- what it writes of its own as it ends
+  abbrev Tells : ℕ → ℕ → Popping → OneWord → Trace T → pops.PopStage → Bool → Type 0
+  Tells p n c m t stage b =
+      events_by {T = T} p (effects_of p Pop (overflow_pop_effect t.world.words (beside_of t.world.words t.world.kept t.world.latest p) c.capacity stage n) (Some (popped (pop_answer (pop_keeps m stage n).0 b)))) ≡ pop_wrote p (pop_keeps m stage n).0 b
+
+  loud : (p n : ℕ) (c : Popping) (m : OneWord) (b : Bool) (t : Trace T) (stage : pops.PopStage) → HasPopWord stage → ((read : ℕ) → stage ≡ pops.TheVariants.MovesRead read → n ≡ read → slice_index t.world.words (cell_word c.capacity read) ≡ m.0)
+      → ((q v : ℕ) → beside_of t.world.words t.world.kept t.world.latest p ≡ Some (q, v) → p ≢ q) → pop_takes c stage n ≡ Done b → Tells p n c m t stage b
+  loud p n c m b t pops.TheVariants.FindsNone h front apart e = absurd h
+  loud p n c m b t pops.TheVariants.LoadsRead h front apart e = absurd (cc)
+  loud p n c m b t (pops.TheVariants.LoadsWrite read) h front apart e = go (n == read) e
+    where
+      go : (z : Bool) → cond z (Done false) (GoOn (at_pop c (pops.TheVariants.LoadsCell read))) ≡ Done b → Tells p n c m t (pops.TheVariants.LoadsWrite read) b
+      go true e = (let same : false ≡ b = cc in subst (Tells p n c m t (pops.TheVariants.LoadsWrite read)) same (by_mine p (effects_of p Pop Acts (Some (popped (pop_answer m.0 false)))) (refl, tt)))
+      go false e = absurd (cc)
+  loud p n c m b t (pops.TheVariants.LoadsCell read) h front apart e = absurd (cc)
+  loud p n c m b t (pops.TheVariants.MovesRead read) h front apart e = go (n == read) refl e
+    where
+      go : (z : Bool) → (n == read) ≡ z → cond z (Done true) (GoOn (at_pop c (pops.TheVariants.LoadsCell n))) ≡ Done b → Tells p n c m t (pops.TheVariants.MovesRead read) b
+      go true d e =
+          let same : true ≡ b = cc in
+          let is : n ≡ read = grind (arith, nat_tests) in
+          let value = front read refl is in
+          let told = takes p (Index (slice_index t.world.words (cell_word c.capacity read))) (PoppedIndex m.0) (beside_of t.world.words t.world.kept t.world.latest p) apart in
+          subst (Tells p n c m t (pops.TheVariants.MovesRead read)) same (rw d (told ∙ ap (λ u. HandedOut p (Index u) ∷ Acted p (Queues Pop) (PoppedIndex m.0) ∷ []) value))
+      go false d e = absurd (cc)
+
+  pub over_pop_is_call : IsCallIn code kinds.Overflow over_effects (λ capacity. 4 + (capacity + 1)) pop_want pop_after pop_kept popping
+  over_pop_is_call =
+      record {
+        same_want = λ c m. refl;
+        same_after = λ capacity c m n h. same_after c m n;
+        hears = λ c m a n e. hears c m a n c.stage e;
+        stays = λ capacity c d n h e. (let next = stays capacity c d n c.stage h.1 h.2 e in (h.0, next.0, next.1));
+        asks = λ capacity c h. asks capacity c.capacity c.stage h.1 h.2;
+        past = λ capacity c d n k h e. refl;
+        finds = λ c m n small t. tt;
+        leaves = λ c a n t e. absurd (cc);
+        tells = λ capacity p from c d m n es late t h wrote waits met e.
+            ap (λ zs. (zs ++ late) ++ events_by p (over_effects t.world p (popping.flight c m) n)) wrote
+            ∙ (ap (λ zs. zs ++ events_by p (over_effects t.world p (popping.flight c m) n)) waits
+            ∙ ap (events_by p) (effects_on t.world p c d m n e ∙ quiet t.world.words (beside_of t.world.words t.world.kept t.world.latest p) p n c d c.stage e));
+        tells_all = λ capacity p from c b m n es late t h skip wrote waits met e. (
+            let at = takes_at capacity p from c m n (es ++ late) t h.1 met in
+            ap (λ zs. (zs ++ late) ++ events_by p (over_effects t.world p (popping.flight c m) n)) wrote
+            ∙ (ap (λ zs. zs ++ events_by p (over_effects t.world p (popping.flight c m) n)) waits
+            ∙ (ap (events_by p) (effects_end t.world p c b m n e) ∙ loud p n c m b t c.stage h.2 at.front at.apart e)));
+      }
+
+  pub over_pop_keeps : KeepsRule (λ (z : View T). z.capacity) (At code kinds.Overflow popping) (Ends code kinds.Overflow popping) (λ key. 4 + (key + 1) + 1) (λ key. key) (λ key. IsMachine code kinds.Overflow key) pop_want pop_after pop_kept
+  over_pop_keeps = keeps_all_in code kinds.Overflow over_effects (λ capacity. 4 + (capacity + 1)) (overflow_owes code) pop_want pop_after pop_kept popping over_pop_is_call (λ c n. refl)
+
+  pub over_pop_first : (x : View T) → x.going ≡ None → x.other ≡ [] → 0 < x.share.part → 0 < x.capacity → x.capacity < 2 ^ 32 → HasRole Consumer x.made → At code kinds.Overflow popping x x (first_pop x.capacity) (record { 0 = 0 })
+  over_pop_first x idle alone any has_cells small has =
+      let some : (x.capacity == 0) ≡ false = grind (arith, nat_tests) in
+      inl (record {
+        is = refl;
+        idle = idle;
+        fresh = alone;
+        standing = (small, refl, rw some tt);
+        some = any;
+        first = refl;
+        starts = role_starts code queues.TheVariants.Overflow x popping Pop (first_pop x.capacity) (record { 0 = 0 }) refl (λ kept. refl) Consumer (λ o p. tt) (λ roles p is. holds_it roles.consumer p is) has;
+        wrote = λ p. refl;
+      })

@@ -1,0 +1,270 @@
+-- What the overflowing queue owes, from the laws of the queues: a pop may write, for a push that waits, that it acts.
+use Rattle.std.proofs.Common.{◌≡◌, ◌≢◌, ⊎_elim, ℕ, ◌+◌, ◌==◌, Bool, true, false, cond, Option, Some, None, List, [], ◌∷◌, ◌++◌, length, slice_index, sum_by, refl, sym, ap, subst, ◌∙◌, append-nil, arith}
+use Rattle.std.proofs.lemmas.Bool.{cases_eq}
+use Rattle.steps.specs.declared.queues.overflow.PushStage as pushes
+use Rattle.steps.specs.declared.queues.overflow.PopStage as pops
+use Rattle.model.specs.declared.event.Answer.{Answer}
+use Rattle.model.specs.declared.event.Answer.TheVariants.{PoppedNone}
+use Rattle.model.specs.declared.event.Event.{Event}
+use Rattle.model.specs.declared.event.Event.TheVariants.{Acted}
+use Rattle.model.specs.declared.event.Item.{Item}
+use Rattle.model.specs.declared.event.Start.{Start}
+use Rattle.model.specs.declared.event.Start.TheVariants.{Queues}
+use Rattle.model.specs.declared.families.Flight.{Flight}
+use Rattle.model.specs.declared.families.Flight as flights
+use Rattle.model.specs.declared.families.Kept.{Kept}
+use Rattle.model.specs.declared.families.Kept as kepts
+use Rattle.model.specs.declared.families.queues.QueueKind as queues
+use Rattle.model.specs.declared.families.queues.QueueStart.{QueueStart}
+use Rattle.model.specs.declared.families.queues.QueueStart.TheVariants.{PushIndex, Pop}
+use Rattle.model.specs.declared.families.queues.Roles.{Roles}
+use Rattle.model.specs.declared.families.queues.calls.OverflowCall as overflows
+use Rattle.model.specs.declared.families.queues.calls.QueueFlight.{QueueFlight}
+use Rattle.model.specs.declared.families.queues.calls.QueueFlight.TheVariants.{Role as OnRole, Indices, Values, Overflow, Length}
+use Rattle.model.specs.declared.families.queues.effects.Effect.{Effect}
+use Rattle.model.specs.declared.families.queues.effects.Effect.TheVariants.{Quiet, Acts, Publishes, PublishesAndActs, HandsOut, TakesOut, MakesRoom}
+use Rattle.model.specs.declared.party.Party.{Party}
+use Rattle.model.specs.declared.turn.Kind.TheVariants as kinds
+use Rattle.model.specs.Coding.{Coding}
+use Rattle.model.specs.Families.{step_of, beside_of, after_of, going_rows}
+use Rattle.model.specs.Families.Queues.Calls.{after, read_word}
+use Rattle.model.specs.Families.Queues.Opening.{holds}
+use Rattle.model.specs.Families.Queues.Steps.{effects_of, effect_of, pending, beside, overflow_push_effect, overflow_pop_effect, takes_effect, acts_if_done}
+use Rattle.model.specs.Parties.{party_of}
+use Rattle.model.specs.Families.Queues.Reading.{producer_of}
+use Rattle.model.specs.Reading.{whose}
+use Rattle.model.specs.Rows.{first_row}
+use Rattle.model.specs.Step.{answer_in}
+use Rattle.model.specs.World.{World, Trace}
+use Rattle.model.proofs.Frame as frame
+use Rattle.model.proofs.Scenes.{stands_there}
+use Rattle.queue_laws.proofs.Queues.Core.{Core}
+use Rattle.queue_laws.proofs.Queues.Invariant.{family}
+use Rattle.queue_laws.proofs.Queues.Knows.{At}
+use Rattle.queue_laws.proofs.Queues.Sound.{kept_is}
+use Rattle.queue_laws.proofs.Overflow.Waiting.{pending_is, IsPending, Pushing}
+use Rattle.history.specs.History.{IsLate, IsLateFor, call_at, call_of, call_in}
+use Rattle.history.specs.Known.{events_by, of_none}
+use Rattle.history.proofs.Known.{AreOf, by_mine, by_other, by_more, none_late}
+use Rattle.history.proofs.Calls.{stands}
+use Rattle.history.proofs.Queues.{IsOf, sound_of, sized_so}
+use Rattle.history.proofs.Turns.{StepsOn, MachineLaws}
+
+-- ---- what the events of an effect are
+
+module _ {T : Type 0} where
+  -- for itself alone
+  abbrev pub IsOwn : Effect T → Type 0
+  IsOwn (MakesRoom item q pushed) = ⊥
+  IsOwn effect = Unit {0}
+
+  acts_own : (p : ℕ) (start : QueueStart T) (o : Option (Answer T)) → AreOf p (acts_if_done p start o)
+  acts_own p start None = tt
+  acts_own p start (Some answer) = (refl, tt)
+
+  pub own_of_effect : (p : ℕ) (start : QueueStart T) (effect : Effect T) (o : Option (Answer T)) → IsOwn effect → AreOf p (effects_of p start effect o)
+  own_of_effect p start Quiet o own = tt
+  own_of_effect p start Acts o own = acts_own p start o
+  own_of_effect p start (Publishes item) o own = (refl, acts_own p start o)
+  own_of_effect p start (PublishesAndActs item) o own = (refl, (refl, tt))
+  own_of_effect p start (HandsOut item) o own = (refl, acts_own p start o)
+  own_of_effect p start (TakesOut index) o own = (refl, (refl, tt))
+  own_of_effect p start (MakesRoom item q pushed) o own = absurd own
+
+  someone_of : (p : ℕ) (start : QueueStart T) (effect : Effect T) (o : Option (Answer T)) → sum_by (λ e. of_none (whose e)) (effects_of p start effect o) ≡ 0
+  someone_of p start Quiet o = refl
+  someone_of p start Acts None = refl
+  someone_of p start Acts (Some answer) = refl
+  someone_of p start (Publishes item) None = refl
+  someone_of p start (Publishes item) (Some answer) = refl
+  someone_of p start (PublishesAndActs item) o = refl
+  someone_of p start (HandsOut item) None = refl
+  someone_of p start (HandsOut item) (Some answer) = refl
+  someone_of p start (TakesOut index) o = refl
+  someone_of p start (MakesRoom item q pushed) None = refl
+  someone_of p start (MakesRoom item q pushed) (Some answer) = refl
+
+  -- a pop that makes room writes as one that does not, and for the push its act
+  pub room_by_other : (p q r : ℕ) (item : Item T) (pushed : ℕ) (o : Option (Answer T)) → r ≢ p → events_by r (effects_of p Pop (MakesRoom item q pushed) o) ≡ events_by r (Acted q (Queues (PushIndex pushed)) PoppedNone ∷ [])
+  room_by_other p q r item pushed o ne =
+      by_more r (effects_of p Pop (HandsOut item) o) (Acted q (Queues (PushIndex pushed)) PoppedNone ∷ [])
+      ∙ ap (λ es. es ++ events_by r (Acted q (Queues (PushIndex pushed)) PoppedNone ∷ [])) (by_other p r (effects_of p Pop (HandsOut item) o) ne (own_of_effect p Pop (HandsOut item) o tt))
+
+  pub room_by_own : (p q : ℕ) (item : Item T) (pushed : ℕ) (o : Option (Answer T)) → p ≢ q → events_by p (effects_of p Pop (MakesRoom item q pushed) o) ≡ effects_of p Pop (HandsOut item) o
+  room_by_own p q item pushed o ne =
+      by_more p (effects_of p Pop (HandsOut item) o) (Acted q (Queues (PushIndex pushed)) PoppedNone ∷ [])
+      ∙ (ap (λ es. events_by p (effects_of p Pop (HandsOut item) o) ++ es) (by_other q p (Acted q (Queues (PushIndex pushed)) PoppedNone ∷ []) ne (refl, tt))
+      ∙ (append-nil (events_by p (effects_of p Pop (HandsOut item) o)) ∙ by_mine p (effects_of p Pop (HandsOut item) o) (own_of_effect p Pop (HandsOut item) o tt)))
+
+  -- ---- what a step of a call writes
+
+  abbrev pub over_flight_effects : World T → ℕ → QueueFlight T → ℕ → List (Event T)
+  over_flight_effects w p (Overflow (overflows.TheVariants.Push run)) n =
+      effects_of p (PushIndex run.given) (effect_of w.coding w.words (beside_of w.words w.kept w.latest p) (Overflow (overflows.TheVariants.Push run)) n) (answer_in (after w.coding (Overflow (overflows.TheVariants.Push run)) n))
+  over_flight_effects w p (Overflow (overflows.TheVariants.Pop run)) n =
+      effects_of p Pop (effect_of w.coding w.words (beside_of w.words w.kept w.latest p) (Overflow (overflows.TheVariants.Pop run)) n) (answer_in (after w.coding (Overflow (overflows.TheVariants.Pop run)) n))
+  over_flight_effects w p flight n = []
+
+  abbrev pub over_effects : World T → ℕ → Flight T → ℕ → List (Event T)
+  over_effects w p (flights.TheVariants.Queues flight) n = over_flight_effects w p flight n
+  over_effects w p flight n = []
+
+  someone_flight : (w : World T) (p : ℕ) (flight : QueueFlight T) (n : ℕ) → sum_by (λ e. of_none (whose e)) (over_flight_effects w p flight n) ≡ 0
+  someone_flight w p (Overflow (overflows.TheVariants.Push run)) n = someone_of p (PushIndex run.given) _ _
+  someone_flight w p (Overflow (overflows.TheVariants.Pop run)) n = someone_of p Pop _ _
+  someone_flight w p (OnRole call) n = refl
+  someone_flight w p (Indices call) n = refl
+  someone_flight w p (Values call) n = refl
+  someone_flight w p (Length which run) n = refl
+
+  someone : (w : World T) (p : ℕ) (flight : Flight T) (n : ℕ) → sum_by (λ e. of_none (whose e)) (over_effects w p flight n) ≡ 0
+  someone w p (flights.TheVariants.Queues flight) n = someone_flight w p flight n
+  someone w p flight n = refl
+
+  -- a push writes for itself
+  pub push_effect_own : (words : List ℕ) (capacity : ℕ) (item : Item T) (stage : pushes.PushStage) (n : ℕ) → IsOwn (overflow_push_effect words capacity item stage n)
+  push_effect_own words capacity item pushes.TheVariants.HandsBack n = tt
+  push_effect_own words capacity item pushes.TheVariants.LoadsWrite n = tt
+  push_effect_own words capacity item (pushes.TheVariants.LoadsRead write) n = tt
+  push_effect_own words capacity item (pushes.TheVariants.StoresCell write read) n = tt
+  push_effect_own words capacity item (pushes.TheVariants.StoresWrite write read) n = either _
+    where
+      either : (t : Bool) → IsOwn (cond t (PublishesAndActs item) (Publishes item))
+      either true = tt
+      either false = tt
+  push_effect_own words capacity item (pushes.TheVariants.MovesRead read) n = either (n == read)
+    where
+      either : (t : Bool) → IsOwn (cond t (TakesOut (slice_index words (Rattle.steps.specs.Queues.Overflow.cell_word capacity read))) Quiet)
+      either true = tt
+      either false = tt
+  push_effect_own words capacity item (pushes.TheVariants.LoadsCell read) n = tt
+
+  pub push_own : (w : World T) (p : ℕ) (run : Pushing) (n : ℕ) → AreOf p (over_flight_effects w p (Overflow (overflows.TheVariants.Push run)) n)
+  push_own w p run n = own_of_effect p (PushIndex run.given) _ _ (push_effect_own w.words run.call.capacity _ run.call.stage n)
+
+-- ---- what it owes
+
+module _ {T : Type 0} (code : Coding T) (capacity : ℕ) where
+  abbrev IsOver : Trace T → Type 0
+  IsOver t = IsOf code capacity queues.TheVariants.Overflow t
+
+  size : (t : Trace T) → IsOver t → length t.world.words ≡ 4 + (capacity + 1)
+  size t run = sized_so code capacity queues.TheVariants.Overflow t run ∙ omega arith
+
+  -- the step of a call that stands so
+  pub record Facts (w : World T) (p n : ℕ) (start : Start T) (flight : Flight T) (kept : Kept T) : Type 0 where
+    pub may : first_row (going_rows w.coding kept (Some flight) None) ≡ None
+    pub writes : (step_of w.coding w.words (beside_of w.words w.kept w.latest p) p start flight n kept).wrote ≡ over_effects w p flight n
+    pub goes : (step_of w.coding w.words (beside_of w.words w.kept w.latest p) p start flight n kept).after ≡ after_of w.coding flight n
+
+  module _ (w : World T) (en : Coding T) (c p n : ℕ) (ro : Roles) (k : Core ℕ) where
+    writes_it : (start : QueueStart T) (flight : QueueFlight T) → At {T = T} en queues.TheVariants.Overflow c ro k p start flight
+        → (step_of w.coding w.words (beside_of w.words w.kept w.latest p) p (Queues start) (flights.TheVariants.Queues flight) n (kepts.TheVariants.Queues ro)).wrote ≡ over_flight_effects w p flight n
+    writes_it (PushIndex v) (Overflow (overflows.TheVariants.Push run)) at = ap (λ z. effects_of p (PushIndex z) (effect_of w.coding w.words (beside_of w.words w.kept w.latest p) (Overflow (overflows.TheVariants.Push run)) n) (answer_in (after w.coding (Overflow (overflows.TheVariants.Push run)) n))) (sym at.2)
+    writes_it Pop (Overflow (overflows.TheVariants.Pop run)) at = refl
+    writes_it start (OnRole call) at = refl
+    writes_it start (Length which run) at = refl
+    writes_it start (Indices call) at = absurd at
+    writes_it start (Values call) at = absurd at
+    writes_it start (Overflow call) at = absurd at
+
+    pub facts : (start : Start T) (flight : Flight T) (kept : Kept T) → kept ≡ kepts.TheVariants.Queues ro → (family en queues.TheVariants.Overflow c).At (record { roles = ro; core = k }) p start flight → Facts w p n start flight kept
+    facts (Queues start) (flights.TheVariants.Queues flight) kept e at = subst (λ z. Facts w p n (Queues start) (flights.TheVariants.Queues flight) z) (sym e) (record { may = refl; writes = writes_it start flight at; goes = refl })
+    facts start flight kept e at = absurd at
+
+  -- ---- for whom a pop writes
+
+  pub record Waits (t : Trace T) (q v : ℕ) : Type 0 where
+    pub run : Pushing
+    pub producer : producer_of t.events ≡ Some q
+    pub there : call_in t.world q ≡ Some (Queues (PushIndex v), flights.TheVariants.Queues (Overflow (overflows.TheVariants.Push run)))
+
+  module _ (t : Trace T) (en : Coding T) (c : ℕ) (s : frame.Sound (family en queues.TheVariants.Overflow c) t) where
+    start_is : (ro : Roles) (k : Core ℕ) (q v : ℕ) (start : Start T) (run : Pushing) → (family en queues.TheVariants.Overflow c).At (record { roles = ro; core = k }) q start (flights.TheVariants.Queues (Overflow (overflows.TheVariants.Push run))) → run.given ≡ v → start ≡ Queues (PushIndex v)
+    start_is ro k q v (Queues (PushIndex w)) run at e = (let same : w ≡ v = sym at.2 ∙ e in ap (λ (n : ℕ). Queues (PushIndex n)) same)
+    start_is ro k q v start run at e = absurd at
+
+    waiting_push : (position q v : ℕ) (x : Party T) (run : Pushing) (since : ℕ) → IsPending position t.world.latest q v x run since → s.state.roles.producer ≡ Some q → Waits t q v
+    waiting_push position q v x run since is holder =
+        let flight : Flight T = flights.TheVariants.Queues (Overflow (overflows.TheVariants.Push run)) in
+        let there = stands_there (family en queues.TheVariants.Overflow c) t s q x since flight is.found is.doing in
+        let named = start_is s.state.roles s.state.core q v x.start run there.at is.value in
+        record {
+          run = run;
+          producer = s.holds.producers ∙ holder;
+          there = ap call_of is.found ∙ (ap (λ d. call_at x.start d) is.doing ∙ ap (λ (st : Start T). Some (st, flight)) named);
+        }
+
+    -- whom `beside` names waits
+    pub beside_waits : (kept : Kept T) (p q v : ℕ) → beside_of t.world.words kept t.world.latest p ≡ Some (q, v) → kept ≡ kepts.TheVariants.Queues s.state.roles → Waits t q v
+    beside_waits kept p q v e is = go (holds s.state.roles.consumer p) (subst (λ z. beside_of t.world.words z t.world.latest p ≡ Some (q, v)) is e)
+      where
+        go : (b : Bool) → cond b (pending (slice_index t.world.words read_word) s.state.roles.producer t.world.latest) None ≡ Some (q, v) → Waits t q v
+        go true h = (let x = pending_is (slice_index t.world.words read_word) t.world.latest q v s.state.roles.producer h in waiting_push (slice_index t.world.words read_word) q v x.1 x.2 x.3 x.4 x.0)
+        go false h = absurd (cc)
+
+  module _ (t : Trace T) where
+    -- its act may be late for it, and nothing for another
+    late_act : (q v r : ℕ) → Waits t q v → IsLate kinds.Overflow (call_in t.world r) (events_by r (Acted q (Queues (PushIndex v)) PoppedNone ∷ []))
+    late_act q v r h = ⊎_elim mine other (cases_eq r q)
+      where
+        mine : r ≡ q → IsLate kinds.Overflow (call_in t.world r) (events_by r (Acted q (Queues (PushIndex v)) PoppedNone ∷ []))
+        mine e =
+            subst (λ z. IsLate kinds.Overflow (call_in t.world z) (events_by z (Acted q (Queues (PushIndex v)) PoppedNone ∷ []))) (sym e)
+            (subst (λ es. IsLate kinds.Overflow (call_in t.world q) es) (sym (by_mine q (Acted q (Queues (PushIndex v)) PoppedNone ∷ []) (refl, tt)))
+            (subst (λ o. IsLateFor o (Acted q (Queues (PushIndex v)) PoppedNone ∷ [])) (sym h.there) ((q, refl), tt)))
+
+        other : r ≢ q → IsLate kinds.Overflow (call_in t.world r) (events_by r (Acted q (Queues (PushIndex v)) PoppedNone ∷ []))
+        other ne = subst (λ es. IsLate kinds.Overflow (call_in t.world r) es) (sym (by_other q r (Acted q (Queues (PushIndex v)) PoppedNone ∷ []) ne (refl, tt))) (none_late kinds.Overflow (call_in t.world r))
+
+    own_late : (p r : ℕ) (es : List (Event T)) → r ≢ p → AreOf p es → IsLate kinds.Overflow (call_in t.world r) (events_by r es)
+    own_late p r es ne own = subst (λ zs. IsLate kinds.Overflow (call_in t.world r) zs) (sym (by_other p r es ne own)) (none_late kinds.Overflow (call_in t.world r))
+
+    module _ (p r n : ℕ) (ne : r ≢ p) (o : Option (Answer T)) where
+      takes_late : (item : Item T) (waits : Option (ℕ × ℕ)) → ((q v : ℕ) → waits ≡ Some (q, v) → Waits t q v) → IsLate kinds.Overflow (call_in t.world r) (events_by r (effects_of p Pop (takes_effect item waits) o))
+      takes_late item None known = own_late p r (effects_of p Pop (HandsOut item) o) ne (own_of_effect p Pop (HandsOut item) o tt)
+      takes_late item (Some push) known = subst (λ es. IsLate kinds.Overflow (call_in t.world r) es) (sym (room_by_other p push.0 r item push.1 o ne)) (late_act push.0 push.1 r (known push.0 push.1 refl))
+
+      pop_late : (capacity : ℕ) (waits : Option (ℕ × ℕ)) → ((q v : ℕ) → waits ≡ Some (q, v) → Waits t q v) → (stage : pops.PopStage) → IsLate kinds.Overflow (call_in t.world r) (events_by r (effects_of p Pop (overflow_pop_effect t.world.words waits capacity stage n) o))
+      pop_late c waits known pops.TheVariants.FindsNone = own_late p r (effects_of p Pop Acts o) ne (own_of_effect p Pop Acts o tt)
+      pop_late c waits known pops.TheVariants.LoadsRead = own_late p r [] ne tt
+      pop_late c waits known (pops.TheVariants.LoadsWrite read) = own_late p r (effects_of p Pop Acts o) ne (own_of_effect p Pop Acts o tt)
+      pop_late c waits known (pops.TheVariants.LoadsCell read) = own_late p r [] ne tt
+      pop_late c waits known (pops.TheVariants.MovesRead read) = go (n == read)
+        where
+          go : (b : Bool) → IsLate kinds.Overflow (call_in t.world r) (events_by r (effects_of p Pop (cond b (takes_effect (Rattle.model.specs.declared.event.Item.TheVariants.Index (slice_index t.world.words (Rattle.steps.specs.Queues.Overflow.cell_word c read))) waits) Quiet) o))
+          go true = takes_late _ waits known
+          go false = own_late p r [] ne tt
+
+    beside_late : (is_over : IsOver t) (p n r : ℕ) → r ≢ p → (flight : Flight T) → IsLate kinds.Overflow (call_in t.world r) (events_by r (over_effects t.world p flight n))
+    beside_late is_over p n r ne (flights.TheVariants.Queues (Overflow (overflows.TheVariants.Push run))) = own_late p r _ ne (push_own t.world p run n)
+    beside_late is_over p n r ne (flights.TheVariants.Queues (Overflow (overflows.TheVariants.Pop run))) =
+        let s = sound_of code capacity queues.TheVariants.Overflow t is_over in
+        let kept = (kept_is t.world.kept t.world.words s.state s.fit).0 in
+        pop_late p r n ne _ run.call.capacity (beside_of t.world.words t.world.kept t.world.latest p) (λ q v e. beside_waits t t.world.coding t.world.capacity s t.world.kept p q v e kept) run.call.stage
+    beside_late is_over p n r ne (flights.TheVariants.Queues (OnRole call)) = none_late kinds.Overflow (call_in t.world r)
+    beside_late is_over p n r ne (flights.TheVariants.Queues (Indices call)) = none_late kinds.Overflow (call_in t.world r)
+    beside_late is_over p n r ne (flights.TheVariants.Queues (Values call)) = none_late kinds.Overflow (call_in t.world r)
+    beside_late is_over p n r ne (flights.TheVariants.Queues (Length which run)) = none_late kinds.Overflow (call_in t.world r)
+    beside_late is_over p n r ne flight = none_late kinds.Overflow (call_in t.world r)
+
+  steps_on : (t : Trace T) → IsOver t → (p : ℕ) (start : Start T) (flight : Flight T) → call_in t.world p ≡ Some (start, flight) → StepsOn code kinds.Overflow capacity (4 + (capacity + 1)) over_effects t p flight
+  steps_on t run p start flight at =
+      let s = sound_of code capacity queues.TheVariants.Overflow t run in
+      let here = stands t.world p start flight at in
+      let there = stands_there (family t.world.coding queues.TheVariants.Overflow t.world.capacity) t s p here.x here.since flight here.found here.doing in
+      let kept = (kept_is t.world.kept t.world.words s.state s.fit).0 in
+      let fact = λ (x : Party T) (n : ℕ) (found : party_of p t.world.latest ≡ Some x).
+      (let same : here.x ≡ x = (let both : Some here.x ≡ Some x = sym here.found ∙ found in cc) in
+      subst (λ (st : Start T). Facts t.world p n st flight t.world.kept) (ap (λ (y : Party T). y.start) same) (facts t.world t.world.coding t.world.capacity p n s.state.roles s.state.core here.x.start flight t.world.kept kept there.at))
+      in
+      record {
+        may = (fact here.x 0 here.found).may;
+        writes = λ x n found. (fact x n found).writes;
+        someone = λ n. someone t.world p flight n;
+        beside = λ n q ne. beside_late t run p n q ne flight;
+        goes = λ x n found. (fact x n found).goes;
+      }
+
+  pub overflow_owes : MachineLaws code kinds.Overflow capacity (4 + (capacity + 1)) over_effects
+  overflow_owes = record { size = size; steps_on = steps_on }

@@ -1,0 +1,94 @@
+-- The calls on the overflowing queue as calls of the model; those on its roles and its lengths are any queue's.
+use Rattle.std.specs.Prelude.{◌≡◌, ◌⊎◌, ℕ, ◌-◌, ◌^◌, ◌<◌, ◌==◌, Bool, false, Some, None, List, [], ◌∷◌}
+use Rattle.std.specs.List.{AllByRecursion}
+use Rattle.steps.specs.declared.copied.OneWord.{OneWord}
+use Rattle.steps.specs.declared.queues.overflow.Pop.{Pop as Popping}
+use Rattle.steps.specs.declared.queues.overflow.PopStage as pops
+use Rattle.steps.specs.declared.queues.overflow.Push.{Push as Pushing}
+use Rattle.steps.specs.declared.queues.overflow.PushEnd.{PushEnd}
+use Rattle.steps.specs.declared.queues.overflow.PushEnd.TheVariants.{Added, Own, Oldest}
+use Rattle.steps.specs.declared.queues.overflow.PushStage as pushes
+use Rattle.steps.specs.Queues.Overflow.{push_answer, pop_answer}
+use Rattle.model.specs.declared.event.Answer.TheVariants.{PoppedNone, PoppedIndex}
+use Rattle.model.specs.declared.event.Event.{Event}
+use Rattle.model.specs.declared.event.Event.TheVariants.{Published, HandedOut, Acted}
+use Rattle.model.specs.declared.event.Item.TheVariants.{Index}
+use Rattle.model.specs.declared.event.Start.TheVariants.{Queues}
+use Rattle.model.specs.declared.families.Flight as flights
+use Rattle.model.specs.declared.families.queues.QueueStart.TheVariants.{PushIndex, Pop}
+use Rattle.model.specs.declared.families.queues.calls.OverflowCall as overflows
+use Rattle.model.specs.declared.families.queues.calls.QueueFlight.TheVariants.{Overflow}
+use Rattle.model.specs.Families.Queues.Calls.{popped}
+use Rattle.model.specs.Families.Queues.Reading.{producer_of, consumer_of}
+use Rattle.model.specs.Reading.{Span, longer, own_after}
+use Rattle.history.specs.Queues.{pop_wrote}
+use Rattle.history.specs.Stages.{Calling}
+
+-- without capacity no word is asked for, and no such call is driven
+abbrev pub over_push_skips : pushes.PushStage → ℕ → Bool
+over_push_skips pushes.TheVariants.LoadsWrite n = n == 2 ^ 64 - 1
+over_push_skips stage n = false
+
+abbrev pub HasPushWord : pushes.PushStage → Type 0
+HasPushWord pushes.TheVariants.HandsBack = ⊥
+HasPushWord stage = Unit {0}
+
+abbrev pub HasPopWord : pops.PopStage → Type 0
+HasPopWord pops.TheVariants.FindsNone = ⊥
+HasPopWord stage = Unit {0}
+
+module _ {T : Type 0} where
+  -- an event within a call: none begins or ends there
+  abbrev pub IsWithin : Event T → Type 0
+  IsWithin e = (span : Span T) → own_after span e ≡ longer span e
+
+  -- what a push of this value has written once it has ended, where this was the oldest
+  abbrev pub over_push_wrote : ℕ → ℕ → ℕ → PushEnd → List (Event T)
+  over_push_wrote p v oldest Added =
+      Published p (Index v) ∷ Acted p (Queues (PushIndex v)) PoppedNone ∷ []
+  over_push_wrote p v oldest Own = []
+  over_push_wrote p v oldest Oldest =
+      Published p (Index v)
+      ∷ HandedOut p (Index oldest)
+      ∷ Acted p (Queues (PushIndex v)) (PoppedIndex oldest)
+      ∷ []
+
+  abbrev pub pushes_over : ℕ → Calling T Pushing OneWord PushEnd
+  pushes_over v =
+      record {
+        start = Queues (PushIndex v);
+        by = λ was p. Unit {0};
+        stands = λ capacity c. (capacity < 2 ^ 32) × (c.capacity ≡ capacity) × HasPushWord c.stage;
+        flight = λ c m. flights.TheVariants.Queues (Overflow (overflows.TheVariants.Push
+            (record { call = c; given = v; room = m })));
+        answer = λ e m. popped (push_answer v m.0 e);
+        skips = λ c n. over_push_skips c.stage n;
+        left = λ e. e ≡ Own;
+        wrote = λ capacity p from c m es. (from ≡ None) × AllByRecursion IsWithin es;
+        wrote_all = λ capacity p from e m es. es ≡ over_push_wrote p v m.0 e;
+      }
+
+  abbrev pub pops_over : Calling T Popping OneWord Bool
+  pops_over =
+      record {
+        start = Queues Pop;
+        by = λ was p. Unit {0};
+        stands = λ capacity c. (capacity < 2 ^ 32) × (c.capacity ≡ capacity) × HasPopWord c.stage;
+        flight = λ c m. flights.TheVariants.Queues (Overflow (overflows.TheVariants.Pop
+            (record { call = c; given = tt; room = m })));
+        answer = λ e m. popped (pop_answer m.0 e);
+        skips = λ c n. false;
+        left = λ e. ⊥;
+        wrote = λ capacity p from c m es. es ≡ [];
+        wrote_all = λ capacity p from e m es. es ≡ pop_wrote p m.0 e;
+      }
+
+  -- who publishes, or acts by a push, holds the producer's role, and who acts by a pop the consumer's; who takes out a
+  -- value holds either
+  abbrev pub ByOverHolder : List (Event T) → Event T → Type 0
+  ByOverHolder before (Published p item) = producer_of before ≡ Some p
+  ByOverHolder before (HandedOut p item) =
+      (producer_of before ≡ Some p) ⊎ (consumer_of before ≡ Some p)
+  ByOverHolder before (Acted p (Queues (PushIndex value)) answer) = producer_of before ≡ Some p
+  ByOverHolder before (Acted p (Queues Pop) answer) = consumer_of before ≡ Some p
+  ByOverHolder before e = Unit {0}
