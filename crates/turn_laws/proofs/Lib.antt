@@ -1,5 +1,7 @@
 pub mod Answering
 pub mod Asking
+pub mod Called
+pub mod Changing
 pub mod CountSteps
 pub mod Counting
 pub mod Finding
@@ -14,7 +16,9 @@ pub mod SeenCalls
 pub mod SeenKnows
 pub mod SeenLooks
 pub mod SeenTurns
+pub mod Showing
 pub mod Shown
 pub mod Standing
 pub mod Waiting
 pub mod Worked
+pub mod WorkedStates

@@ -1,4 +1,5 @@
 pub mod Changes
+pub mod Following
 pub mod Others
 pub mod Questions
 pub mod Recoveries

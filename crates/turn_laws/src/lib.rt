@@ -1,6 +1,7 @@
 //! What the promises of a machine leave open, as laws of every machine that turns have reached: which questions its calls
-//! put, what a turn leaves as it was, when a recovery locks, and what a container counts. These functions do nothing: the
-//! contract of each is a law, whose proof is a lemma that a client's proof can cite.
+//! put, what a turn leaves as it was, when a recovery locks, and what a container counts; in `state`, when a state of a
+//! container of one caller is the map. These functions do nothing: the contract of each is a law, whose proof is a lemma
+//! that a client's proof can cite.
 #![tactic(auto)]
 
 ghost use Rattle.std.specs.Prelude.{◌≡◌, None, Some};
@@ -14,6 +15,8 @@ ghost use Rattle.turn_laws.specs.Changes.{CountsChanges, MeetsChanges};
 ghost use Rattle.turn_laws.specs.Others.{OthersStay, KeepsQueue, queue_in};
 ghost use Rattle.turn_laws.specs.Questions.{WaitsForAnswers, IsAnswered, AsksAtOnce, FindsAsking};
 ghost use Rattle.turn_laws.specs.Recoveries.{LocksRight};
+
+pub mod state;
 
 /// The calls of the other parties stay, in any machine. The lemma is `others_stay` of `proofs/Others.antt`.
 pub fn others_stay<T>()

@@ -1,6 +1,6 @@
 use Rattle.plain.specs.States.{snapshot_of}
-use Rattle.state_laws.proofs.Called.{shown_then}
-use Rattle.state_laws.proofs.add_and_show.Goals as goal
+use Rattle.turn_laws.proofs.Called.{shown_then}
+use Rattle.turn_laws.proofs.state.add_and_show.Goals as goal
 
 pub returns-clause-follows : goal.returns-clause-follows
 returns-clause-follows g c =

@@ -14,7 +14,7 @@ use Rattle.steps.specs.declared.indices.enums.UniqueIndexSetAcquireFailure.{Uniq
 use Rattle.plain.specs.Contents.{Contents, capacity, count_without, count_with, changed, counted, names, put_at, after_add, after_remove, after_replace}
 use Rattle.plain.specs.States.{Snapshot}
 use Rattle.plain.specs.Visited.{freed, all_freed, one_change}
-use Rattle.state_laws.specs.Following.{MayChange, IsCounted, Follows, Keeps}
+use Rattle.turn_laws.specs.Following.{MayChange, IsCounted, Follows, Keeps}
 
 -- ---- numbers
 

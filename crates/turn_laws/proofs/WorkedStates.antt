@@ -4,7 +4,7 @@ use Rattle.steps.specs.declared.container.handle.ContainerHandle.{ContainerHandl
 use Rattle.steps.specs.declared.indices.enums.ReleaseMode.TheVariants.{Default}
 use Rattle.plain.specs.Contents.{Contents, opened, after_add, after_remove, after_replace}
 use Rattle.plain.specs.States.{Snapshot, blank, updated}
-use Rattle.state_laws.specs.Following.{Follows}
+use Rattle.turn_laws.specs.Following.{Follows}
 
 -- 5 and 6 are added, 5 is removed, 6 becomes 7, and 8 is added where 5 stood
 abbrev two : Contents ℕ

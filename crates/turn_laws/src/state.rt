@@ -2,7 +2,6 @@
 //! to date, as long as that has not come to 2^63 - 1 changes: `Follows` holds of what `get_state` gives, each call keeps
 //! it, and by it `update_state` gives the map. These functions do nothing: the contract of each is a law, whose proof is a
 //! lemma that a client's proof can cite. The last is such a client.
-#![tactic(auto)]
 
 ghost use Rattle.std.specs.Prelude.{◌≡◌, ℕ, List};
 ghost use Rattle.steps.specs.Objects.Owners.{Owned};
@@ -11,7 +10,7 @@ ghost use Rattle.steps.specs.declared.indices.enums.ReleaseMode.{ReleaseMode};
 ghost use Rattle.plain.specs.Contents.{Contents, opened, capacity, counted, added, after_add, after_remove, after_replace};
 ghost use Rattle.plain.specs.States.{Snapshot, blank, updated, snapshot_of, IsStateOf, IsSettled};
 ghost use Rattle.plain.specs.Visited.{all_freed, one_change};
-ghost use Rattle.state_laws.specs.Following.{MayChange, IsCounted, Follows, Keeps};
+ghost use Rattle.turn_laws.specs.Following.{MayChange, IsCounted, Follows, Keeps};
 
 use plain::Container;
 use steps::container::enums::ContainerAddFailure;

@@ -8,7 +8,7 @@ use Rattle.std.specs.List.{range_with_len}
 use Rattle.steps.specs.Container.Layout.{is_even}
 use Rattle.plain.specs.Contents.{Contents, capacity, opened}
 use Rattle.plain.specs.States.{Snapshot, blank, value_then, updated}
-use Rattle.state_laws.specs.Following.{IsCounted, Follows}
+use Rattle.turn_laws.specs.Following.{IsCounted, Follows}
 
 -- what stands in a list of one value, which is read past its end too
 same_all : {A : Type 0} (n i : ℕ) (x : A) → get_or (replicate n x) i x ≡ x

@@ -2,9 +2,9 @@
 use Rattle.std.proofs.Common.{◌≡◌, ℕ, sym, subst}
 use Rattle.plain.specs.Contents.{Contents, after_add}
 use Rattle.plain.specs.States.{Snapshot, updated}
-use Rattle.state_laws.specs.Following.{MayChange, Follows}
-use Rattle.state_laws.proofs.Changing.{adds}
-use Rattle.state_laws.proofs.Showing.{updates}
+use Rattle.turn_laws.specs.Following.{MayChange, Follows}
+use Rattle.turn_laws.proofs.Changing.{adds}
+use Rattle.turn_laws.proofs.Showing.{updates}
 
 module _ {V : Type 0} where
   pub shown_then : (old now last : Contents V) (owner : ℕ) (value : V) (seen after : Snapshot V) → MayChange old → Follows old seen → now ≡ after_add old owner value → last ≡ now → after ≡ updated now seen → Follows last after × (after.values ≡ last.values)

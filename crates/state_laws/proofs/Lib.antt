@@ -1,4 +1,0 @@
-pub mod Called
-pub mod Changing
-pub mod Showing
-pub mod Worked
