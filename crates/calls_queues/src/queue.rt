@@ -3,11 +3,11 @@ ghost use Rattle.std.specs.Prelude.{◌≡◌};
 ghost use Rattle.lock_free_sp.specs.Ends.{ring_of, IsPassOf};
 
 use crate::queue_user::{ends, plays};
+use calls::long_values::{Greatest, Sixteen, Three};
+use calls::numbered::Numbered;
 use calls::stage::{Scene, Stage};
 use calls::words::Words;
 use lock_free_sp::spsc::queue::{Pass, Queue};
-use long_values::long_values::{Greatest, Sixteen, Three};
-use long_values::numbered::Numbered;
 use std::sync::Wait;
 use steps::enums::UniqueIndexCreationError;
 

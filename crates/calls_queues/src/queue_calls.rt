@@ -1,9 +1,9 @@
 //! The calls on a queue, and the queues of one caller.
 use calls::answer::Answer;
 use calls::drawn::Draws;
+use calls::numbered::Numbered;
 use calls::play::{Answers, Call};
 use calls::words::Words;
-use long_values::numbered::Numbered;
 use std::sync::Wait;
 
 /// How many numbers are pushed and popped one by one.

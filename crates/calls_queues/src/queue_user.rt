@@ -5,11 +5,11 @@ ghost use Rattle.lock_free_sp.specs.Ends.{queue_id, IsPassOf, producer_queue, co
 
 use crate::queue_calls::{QueueCall, Role, RoleCall, popped};
 use calls::answer::Answer;
+use calls::numbered::Numbered;
 use calls::play::{Answers, play};
 use calls::stage::{Line, Scene, Stage};
 use lock_free_sp::ring::ends::{Consumer, Pass, Producer, Ring};
 use lock_free_sp::ring::rule::{Numbers, Overflowing, RingRule, Spare, Values};
-use long_values::numbered::Numbered;
 use std::sync::Wait;
 use steps::words::Words;
 

@@ -6,12 +6,12 @@ ghost use Rattle.lock_free_value.specs.Calls.{IsPassOf, value_id, value_of_produ
 use crate::queue_calls::{RoleCall, alone};
 use calls::answer::Answer;
 use calls::drawn::Draws;
+use calls::long_values::{Greatest, Sixteen, Three};
+use calls::numbered::Numbered;
 use calls::play::{Answers, Call, play};
 use calls::stage::{Scene, Stage};
 use calls::words;
 use lock_free_value::spmc::unrestricted_atomic::{Pass, Producer, UnrestrictedAtomic};
-use long_values::long_values::{Greatest, Sixteen, Three};
-use long_values::numbered::Numbered;
 use std::mem;
 use std::sync::Wait;
 use steps::enums::UniqueIndexCreationError;

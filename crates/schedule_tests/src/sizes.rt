@@ -1,5 +1,5 @@
 //! Containers of values of one word, of two and of 128.
-use long_values::long_values::Greatest;
+use calls::long_values::Greatest;
 use machine::Machine;
 use machine::event::{Answer, Event, Start};
 use machine::families::container::ContainerStart;

@@ -1,6 +1,6 @@
 //! The container: handles, errors and states alone, and values of one word and of 128.
 use crate::drive::ends;
-use long_values::long_values::Greatest;
+use calls::long_values::Greatest;
 use std::test::Fail;
 use steps::ask::{After, Want};
 use steps::container::add::{Add, Owned};

@@ -2,7 +2,7 @@
 use crate::calls::{overflow_pop, overflow_push, pop, pop_one};
 use crate::drive::{ends, with};
 use crate::rows::{Row, fills_and_empties, play};
-use long_values::long_values::{Greatest, Three};
+use calls::long_values::{Greatest, Three};
 use steps::ask::{Call, Want};
 
 const ONE_WORD: [Row<u64>; 3] = [

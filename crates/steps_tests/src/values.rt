@@ -2,7 +2,7 @@
 use crate::calls::{load, load_one, store};
 use crate::drive::{ends, partly, with};
 use crate::rows::{Row, play};
-use long_values::long_values::{Greatest, Three};
+use calls::long_values::{Greatest, Three};
 use std::process::Abort;
 use steps::atomic::LoadStage;
 

@@ -1,4 +1,5 @@
 //! What may cross threads.
+use calls::long_values::Sixteen;
 use lock_free::mpmc::bit_set::{BitSet, FixedSizeBitSet};
 use lock_free::mpmc::container::{Container, ContainerHandle, ContainerState, FixedSizeContainer};
 use lock_free::mpmc::counting_bit_set::{CountingBitSet, FixedSizeCountingBitSet};
@@ -15,7 +16,6 @@ use lock_free::spsc::safely_overflowing_index_queue::{
     FixedSizeSafelyOverflowingIndexQueue, SafelyOverflowingIndexQueue,
 };
 use lock_free::spsc::{index_queue, queue, safely_overflowing_index_queue as overflowing};
-use long_values::long_values::Sixteen;
 
 fn may_be_sent<T: Send>() {}
 

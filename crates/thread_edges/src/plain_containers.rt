@@ -1,6 +1,6 @@
 //! Containers of one caller: a state that memory is refused to, and values of 128 words.
-use long_values::long_values::Greatest;
-use long_values::numbered::Numbered;
+use calls::long_values::Greatest;
+use calls::numbered::Numbered;
 use plain::Container;
 use std::alloc::Global;
 use std::test::Fail;

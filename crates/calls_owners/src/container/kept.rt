@@ -1,5 +1,5 @@
 //! The states of a container of which one is used.
-use long_values::numbered::Numbered;
+use calls::numbered::Numbered;
 use std::alloc::Global;
 use std::mem;
 use steps::container::state::ContainerState;

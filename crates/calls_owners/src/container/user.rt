@@ -7,12 +7,12 @@ use super::kept::Kept;
 use calls::answer::Answer;
 use calls::frees::Asked;
 use calls::heard::Heard;
+use calls::numbered::Numbered;
 use calls::play::Answers;
 use calls::said::{ended, goes_on};
 use lock_free_owners::mpmc::container::{
     Container, ContainerHandle, ContainerState, OwnerId, Pass,
 };
-use long_values::numbered::Numbered;
 use std::alloc::Global;
 use std::mem;
 use std::sync::Wait;
