@@ -1,8 +1,10 @@
 -- The words of the contracts of queues.
 pub mod Roles
 pub mod Opened
+pub mod Bounded
 pub mod Goes
 pub mod Calls
+pub mod Values
 pub mod Told
 pub mod Sums
 pub mod Positions

@@ -1,108 +1,117 @@
-//! What one history of an index queue says: laws of every history that a pass has seen. These functions do nothing: the
-//! contract of each is a law, whose proof is a lemma that a client's proof can cite.
+//! What one history of a queue says: laws of every history that a pass has seen. Those that name a kind are of queues of
+//! indices and of queues of values. These functions do nothing: the contract of each is a law, whose proof is a lemma
+//! that a client's proof can cite.
 ghost use Rattle.std.specs.Prelude.{◌≡◌, ◌⊎◌, ◌<◌, ◌+◌, ℕ, Bool, true, false, Some, None, List, length, sum_by};
 ghost use Rattle.steps.specs.declared.queues.roles.Role.{Role};
 ghost use Rattle.model.specs.declared.event.Answer.{Answer};
 ghost use Rattle.model.specs.declared.event.Event.{Event};
 ghost use Rattle.model.specs.declared.event.Item.{Item};
-ghost use Rattle.model.specs.declared.families.queues.QueueKind.TheVariants.{IndexQueue};
+ghost use Rattle.model.specs.declared.families.queues.QueueKind.{QueueKind};
 ghost use Rattle.model.specs.declared.families.queues.calls.LengthOf.{LengthOf};
+ghost use Rattle.model.specs.Coding.{Coding};
 ghost use Rattle.model.specs.Families.Queues.Reading.{published, handed_out};
 ghost use Rattle.model.specs.Linearizable.{IsLinearizable};
 ghost use Rattle.model.specs.Linearized.{as_list};
 ghost use Rattle.model.specs.Progress.{KeepsGuarantees};
 ghost use Rattle.lock_free_sp.specs.Shares.{IsAll};
 ghost use Rattle.history.specs.declared.view.View.{View};
-ghost use Rattle.history.specs.History.{IsBeginning};
-ghost use Rattle.lock_free_queues.specs.Queues.Calls.{HasHistory, GoesOn, MissesNothing};
+ghost use Rattle.history.specs.History.{IsBeginning, IsHistory};
+ghost use Rattle.lock_free_queues.specs.Queues.Bounded.{IsBounded, machine_of};
+ghost use Rattle.lock_free_queues.specs.Queues.Goes.{Goes, MissesNothing};
 ghost use Rattle.lock_free_queues.specs.Queues.Positions.{IsPublished, IsTaken, IsSound};
 ghost use Rattle.lock_free_queues.specs.Queues.Sums.{puts, gets, HasDone};
 ghost use Rattle.lock_free_queues.specs.Queues.Told.{HasPushed, HasPublished, WasAtEnd, WasFull, HasPopped, HasTakenOut, WasEmpty, HasMeasured, HasAcquired, HasReleased};
 
-/// A history of an index queue is linearizable as the bounded list: the calls of all passes, pushes and pops. The lemma
-/// is `linearizable` of `proofs/Queues/Promised.antt`.
-pub fn histories_are_linearizable()
-    ensures { (capacity : ℕ) (v : View ℕ) → HasHistory capacity v → IsLinearizable (as_list IndexQueue capacity) v.seen }
+/// A history of a queue is linearizable as its list: the calls of all passes, pushes and pops. The lemma is
+/// `linearizable` of `proofs/Queues/Promised.antt`.
+pub fn histories_are_linearizable<T>()
+    ensures { (code : Coding T) (kind : QueueKind) (capacity : ℕ) (v : View T) → IsHistory code (machine_of kind) capacity v.seen
+        → IsLinearizable (as_list kind capacity) v.seen }
 {}
 
 /// At any time what was handed out is a beginning of what was published, and at most the capacity waits; a push answers
 /// false only where the capacity waits, a pop None only where nothing does, and lengths are those of a moment of the
 /// call; roles are granted to one at a time, who alone publishes, or takes out. The lemma is `sound` there.
-pub fn histories_are_sound()
-    ensures { (capacity : ℕ) (v : View ℕ) → HasHistory capacity v → IsSound capacity v.seen }
+pub fn histories_are_sound<T>()
+    ensures { (code : Coding T) (kind : QueueKind) (capacity : ℕ) (v : View T) → IsBounded kind
+        → IsHistory code (machine_of kind) capacity v.seen → IsSound capacity v.seen }
 {}
 
 /// Each call is wait-free, or obstruction-free, as docs/FIELD.md says: in the machine that has the history, whatever the
 /// number of turns, no call has taken more steps than that. Each atomic step of a thread's call is one turn of it, and a
 /// look at the last position one step and none. The lemma is `guarantees` there.
-pub fn calls_keep_guarantees()
-    ensures { (capacity : ℕ) (v : View ℕ) → (h : HasHistory capacity v) → KeepsGuarantees h.trace }
+pub fn calls_keep_guarantees<T>()
+    ensures { (code : Coding T) (kind : QueueKind) (capacity : ℕ) (v : View T)
+        → (h : IsHistory code (machine_of kind) capacity v.seen) → KeepsGuarantees h.trace }
 {}
 
 /// No position is published twice, or taken twice. The lemmas are `published_once` and `taken_once` of
 /// `proofs/Queues/Positions.antt`.
-pub fn positions_are_once()
-    ensures published { (p q i : ℕ) (x y : Item ℕ) (events : List (Event ℕ)) → IsPublished p i x events → IsPublished q i y events → (p ≡ q) × (x ≡ y) }
-    ensures taken { (p q i : ℕ) (x y : Item ℕ) (events : List (Event ℕ)) → IsTaken p i x events → IsTaken q i y events → (p ≡ q) × (x ≡ y) }
+pub fn positions_are_once<T>()
+    ensures published { (p q i : ℕ) (x y : Item T) (events : List (Event T)) → IsPublished p i x events → IsPublished q i y events → (p ≡ q) × (x ≡ y) }
+    ensures taken { (p q i : ℕ) (x y : Item T) (events : List (Event T)) → IsTaken p i x events → IsTaken q i y events → (p ≡ q) × (x ≡ y) }
 {}
 
 /// Equal positions have equal values. The lemma is `agree` of `proofs/Queues/Promised.antt`.
-pub fn values_agree()
-    ensures { (capacity p q i : ℕ) (x y : Item ℕ) (v : View ℕ) → HasHistory capacity v → IsPublished p i x v.seen → IsTaken q i y v.seen → x ≡ y }
+pub fn values_agree<T>()
+    ensures { (code : Coding T) (kind : QueueKind) (capacity p q i : ℕ) (x y : Item T) (v : View T) → IsBounded kind
+        → IsHistory code (machine_of kind) capacity v.seen → IsPublished p i x v.seen → IsTaken q i y v.seen → x ≡ y }
 {}
 
 /// What was published or taken stays so. The lemmas are `still_published` and `still_taken` of
 /// `proofs/Queues/Positions.antt`.
-pub fn positions_stay()
-    ensures published { (p i : ℕ) (x : Item ℕ) (old new : List (Event ℕ)) → IsBeginning old new → IsPublished p i x old → IsPublished p i x new }
-    ensures taken { (p i : ℕ) (x : Item ℕ) (old new : List (Event ℕ)) → IsBeginning old new → IsTaken p i x old → IsTaken p i x new }
+pub fn positions_stay<T>()
+    ensures published { (p i : ℕ) (x : Item T) (old new : List (Event T)) → IsBeginning old new → IsPublished p i x old → IsPublished p i x new }
+    ensures taken { (p i : ℕ) (x : Item T) (old new : List (Event T)) → IsBeginning old new → IsTaken p i x old → IsTaken p i x new }
 {}
 
 /// A push publishes at a position above all that its guard had seen published, and a pop takes from one above all that
 /// its guard had seen taken: right after the last of them. The lemmas are `published_low` and `taken_low` there,
 /// `published_next` and `taken_next` of `proofs/Queues/Promised.antt`.
-pub fn positions_rise()
-    ensures published { (item : Item ℕ) (old new : View ℕ) → HasPublished item old new
+pub fn positions_rise<T>()
+    ensures published { (item : Item T) (old new : View T) → HasPublished item old new
         → (p : ℕ) × IsPublished p (length (published old.seen)) item new.seen }
-    ensures above { (old : View ℕ) (q j : ℕ) (y : Item ℕ) → IsPublished q j y old.seen → j < length (published old.seen) }
-    ensures taken { (item : Item ℕ) (old new : View ℕ) → HasTakenOut item old new
+    ensures above { (old : View T) (q j : ℕ) (y : Item T) → IsPublished q j y old.seen → j < length (published old.seen) }
+    ensures taken { (item : Item T) (old new : View T) → HasTakenOut item old new
         → (p : ℕ) × IsTaken p (length (handed_out old.seen)) item new.seen }
-    ensures below { (old : View ℕ) (q j : ℕ) (y : Item ℕ) → IsTaken q j y old.seen → j < length (handed_out old.seen) }
+    ensures below { (old : View T) (q j : ℕ) (y : Item T) → IsTaken q j y old.seen → j < length (handed_out old.seen) }
 {}
 
 /// Where a pop found nothing, each position that its guard had seen published lies below the next to be taken; where a
 /// push found the queue full, each that its guard had seen taken lies more than the capacity below the next to be
 /// published. The lemmas are `none_later_than` and `full_above` there.
-pub fn refusals_are_right()
-    ensures empty { (old new : View ℕ) → WasEmpty old new → (q j : ℕ) (y : Item ℕ) → IsPublished q j y old.seen → j < length (handed_out old.seen) }
-    ensures full { (capacity : ℕ) (item : Item ℕ) (old new : View ℕ) → HasHistory capacity new → WasFull capacity item old new
-        → (q j : ℕ) (y : Item ℕ) → IsTaken q j y old.seen → j + capacity < length (published old.seen) }
+pub fn refusals_are_right<T>()
+    ensures empty { (old new : View T) → WasEmpty old new → (q j : ℕ) (y : Item T) → IsPublished q j y old.seen → j < length (handed_out old.seen) }
+    ensures full { (code : Coding T) (kind : QueueKind) (capacity : ℕ) (item : Item T) (old new : View T) → IsBounded kind
+        → IsHistory code (machine_of kind) capacity new.seen → WasFull capacity item old new
+        → (q j : ℕ) (y : Item T) → IsTaken q j y old.seen → j + capacity < length (published old.seen) }
 {}
 
 /// Who has the whole share and finds nothing has all that was published taken out: the two lists are equal. The lemma is
-/// `all_taken` of `proofs/Queues/Whole.antt`, beside `nothing_more`: nobody else has published or taken out anything.
-pub fn emptied_is_all()
-    ensures { (capacity : ℕ) (old new : View ℕ) → IsAll old.share → MissesNothing old → GoesOn capacity old new
+/// `emptied` there, beside `nothing_more` of `proofs/Queues/Whole.antt`: nobody else has published or taken out anything.
+pub fn emptied_is_all<T>()
+    ensures { (code : Coding T) (kind : QueueKind) (capacity : ℕ) (old new : View T) → IsBounded kind → IsAll old.share → MissesNothing old
+        → Goes code (machine_of kind) capacity old new
         → HasPopped None old new → (published new.seen ≡ published old.seen) × (handed_out new.seen ≡ published new.seen) }
 {}
 
 /// What each call adds to how much its pass has published and taken out itself. The lemmas are `done_pushed` and those
 /// beside it in `proofs/Queues/Sums.antt`.
-pub fn calls_are_counted()
-    ensures pushed { (item : Item ℕ) (old new : View ℕ) → HasPushed item true old new → HasDone 1 0 old new }
-    ensures refused { (item : Item ℕ) (taken : Bool) (old new : View ℕ) → taken ≡ false
+pub fn calls_are_counted<T>()
+    ensures pushed { (item : Item T) (old new : View T) → HasPushed item true old new → HasDone 1 0 old new }
+    ensures refused { (item : Item T) (taken : Bool) (old new : View T) → taken ≡ false
         → HasPushed item taken old new ⊎ (taken ≡ false) × WasAtEnd old new → HasDone 0 0 old new }
-    ensures popped { (item : Item ℕ) (old new : View ℕ) → HasPopped (Some item) old new → HasDone 0 1 old new }
-    ensures none { (old new : View ℕ) → HasPopped None old new → HasDone 0 0 old new }
-    ensures acquired { (role : Role) (taken : Bool) (old new : View ℕ) → HasAcquired role taken old new → HasDone 0 0 old new }
-    ensures released { (role : Role) (old new : View ℕ) → HasReleased role old new → HasDone 0 0 old new }
-    ensures measured { (which : LengthOf) (capacity : ℕ) (answer : Answer ℕ) (old new : View ℕ)
+    ensures popped { (item : Item T) (old new : View T) → HasPopped (Some item) old new → HasDone 0 1 old new }
+    ensures none { (old new : View T) → HasPopped None old new → HasDone 0 0 old new }
+    ensures acquired { (role : Role) (taken : Bool) (old new : View T) → HasAcquired role taken old new → HasDone 0 0 old new }
+    ensures released { (role : Role) (old new : View T) → HasReleased role old new → HasDone 0 0 old new }
+    ensures measured { (which : LengthOf) (capacity : ℕ) (answer : Answer T) (old new : View T)
         → HasMeasured which capacity answer old new → HasDone 0 0 old new }
 {}
 
 /// Who has the whole share knows how much was published and taken out: what its own calls, and those of the passes that
 /// it took in, have. The lemma is `whole_counted` there.
-pub fn whole_is_counted()
-    ensures { (v : View ℕ) → IsAll v.share → MissesNothing v
+pub fn whole_is_counted<T>()
+    ensures { (v : View T) → IsAll v.share → MissesNothing v
         → (length (published v.seen) ≡ sum_by puts v.made) × (length (handed_out v.seen) ≡ sum_by gets v.made) }
 {}

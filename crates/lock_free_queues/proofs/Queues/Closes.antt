@@ -1,29 +1,29 @@
 -- What the words that were read say of the list that is made of them.
-use Rattle.std.proofs.Common.{◌≡◌, inl, inr, ⊎_elim, ℕ, zero, suc, ◌+◌, ◌-◌, ◌*◌, ◌%◌, ◌<◌, ◌≤◌, ◌==◌, false, Some, List, [], ◌∷◌, ◌++◌, length, map, slice_get, slice_index, refl, sym, ap, ◌∙◌, length-append, append-nil, arith}
+use Rattle.std.proofs.Common.{◌≡◌, inl, inr, ⊎_elim, ℕ, zero, suc, ◌+◌, ◌-◌, ◌*◌, ◌%◌, ◌<◌, ◌≤◌, Some, List, [], ◌∷◌, ◌++◌, length, map, get_or, slice_get, slice_index, refl, sym, ap, subst, ◌∙◌, length-append, append-nil, arith}
 use Rattle.std.proofs.lemmas.Bool.{cases_lt}
-use Rattle.std.proofs.lemmas.Bool.Decides.{nat_tests}
 use Rattle.std.proofs.lemmas.Grind.{flat_map-append}
 use Rattle.std.proofs.lemmas.List.{length-map}
 use Rattle.std.proofs.lemmas.Option.{slice_get-map, slice_get_within}
 use Rattle.std.specs.Option.{option_map}
-use Rattle.plain.specs.Queues.{value_at, values_from, Fits}
+use Rattle.plain.specs.Queues.{words_from, value_at, values_from, Fits}
 use Rattle.plain.proofs.Lists.Cells.{values_length}
-use Rattle.steps.specs.Queues.Ring.{cell_word}
+use Rattle.plain.proofs.Words.{words_all}
 use Rattle.model.specs.declared.event.Item.{Item}
-use Rattle.model.specs.declared.event.Item.TheVariants.{Index}
-use Rattle.model.specs.declared.families.queues.QueueKind.TheVariants.{IndexQueue}
-use Rattle.model.specs.Coding.{one_word}
-use Rattle.model.specs.Families.Queues.Book.{item_at, cell_of}
+use Rattle.model.specs.declared.turn.Kind.{Kind}
+use Rattle.model.specs.Coding.{Coding, IsCoding}
 use Rattle.model.specs.Families.Queues.Reading.{published, handed_out, waiting, publishes, hands_out}
 use Rattle.lock_free_sp.specs.Shares.{IsAll}
-use Rattle.queue_laws.proofs.Ring.Kinds.{of_indices}
+use Rattle.queue_laws.proofs.Queues.Core.{cell_within}
+use Rattle.queue_laws.proofs.Queues.Invariant.{machine_kind}
+use Rattle.queue_laws.proofs.Queues.Values.{Val, encoded, item}
+use Rattle.queue_laws.proofs.Ring.Kinds.{Ring, kind_of, are_words}
 use Rattle.history.specs.declared.view.View.{View}
 use Rattle.history.specs.Views.{first_view}
-use Rattle.history.proofs.Cells.{stands_in_cell}
 use Rattle.history.proofs.Holders.{always_listed, IsListed}
 use Rattle.history.proofs.Queues.{queue_goes_on}
 use Rattle.lock_free_queues.specs.Queues.Closes.{Closes}
 use Rattle.lock_free_queues.specs.Queues.Reads.{WasRead, LastWords}
+use Rattle.lock_free_queues.proofs.Queues.Cells.{get_behind, item_same, Stands, stands}
 use Rattle.lock_free_queues.proofs.Queues.Positions.{get_left, hits_grow}
 use Rattle.lock_free_queues.proofs.Queues.Reads.{begins_further}
 
@@ -38,43 +38,58 @@ same_list (x ∷ xs) (y ∷ ys) long same =
     let is : x ≡ y = cc in
     ap (λ z. z ∷ xs) is ∙ ap (λ zs. y ∷ zs) (same_list xs ys (omega arith) (λ k z e. same (suc k) z e))
 
-get_behind : {A : Type 0} (xs ys : List A) (k : ℕ) → slice_get (xs ++ ys) (length xs + k) ≡ slice_get ys k
-get_behind [] ys k = (let same : 0 + k ≡ k = omega arith in ap (slice_get ys) same)
-get_behind (x ∷ xs) ys k = (let same : length (x ∷ xs) + k ≡ suc (length xs + k) = omega arith in ap (slice_get (x ∷ (xs ++ ys))) same ∙ get_behind xs ys k)
+-- words that stand in two lists alike
+words_alike : (ws xs : List ℕ) (at b k : ℕ) → ((i : ℕ) → i < k → get_or ws (at + i) 0 ≡ get_or xs (b + i) 0) → words_from ws at k ≡ words_from xs b k
+words_alike ws xs at b zero h = refl
+words_alike ws xs at b (suc k) h =
+    let here : at + 0 ≡ at = omega arith in
+    let there : b + 0 ≡ b = omega arith in
+    let head : get_or ws at 0 ≡ get_or xs b 0 = ap (λ z. get_or ws z 0) (sym here) ∙ (h 0 (omega arith) ∙ ap (λ z. get_or xs z 0) there) in
+    let tail = words_alike ws xs (suc at) (suc b) k (λ i low.
+    let x : suc at + i ≡ at + (i + 1) = omega arith in
+    let y : b + (i + 1) ≡ suc b + i = omega arith in
+    ap (λ z. get_or ws z 0) x ∙ (h (i + 1) (omega arith) ∙ ap (λ z. get_or xs z 0) y)) in
+    λ j. head j ∷ tail j
 
-module _ (value_of : List ℕ → ℕ) (capacity : ℕ) (words : List ℕ) where
-  value_in_list : (p m k : ℕ) → k < m → slice_get (values_from value_of 1 capacity words p m) k ≡ Some (value_at value_of 1 capacity words (p + k))
-  value_in_list p zero k low = absurd (omega arith)
-  value_in_list p (suc m) zero low = (let here : p ≡ p + 0 = omega arith in ap (λ q. Some (value_at value_of 1 capacity words q)) here)
-  value_in_list p (suc m) (suc k) low =
-      let there : (p + 1) + k ≡ p + suc k = omega arith in
-      value_in_list (p + 1) m k (omega arith) ∙ ap (λ q. Some (value_at value_of 1 capacity words q)) there
-
-abbrev an_index : ℕ → Item ℕ
-an_index n = Index n
-
-abbrev index_at : List ℕ → ℕ → Item ℕ
-index_at words n = Index (slice_index words n)
+value_in_list : {V : Type 0} (value_of : List ℕ → V) (size capacity : ℕ) (words : List ℕ) (p m k : ℕ) → k < m → slice_get (values_from value_of size capacity words p m) k ≡ Some (value_at value_of size capacity words (p + k))
+value_in_list value_of size capacity words p zero k low = absurd (omega arith)
+value_in_list value_of size capacity words p (suc m) zero low = (let here : p ≡ p + 0 = omega arith in ap (λ q. Some (value_at value_of size capacity words q)) here)
+value_in_list value_of size capacity words p (suc m) (suc k) low =
+    let there : (p + 1) + k ≡ p + suc k = omega arith in
+    value_in_list value_of size capacity words (p + 1) m k (omega arith) ∙ ap (λ q. Some (value_at value_of size capacity words q)) there
 
 -- ---- the words that were read
 
-module _ (capacity : ℕ) (v : View ℕ) (words : List ℕ) (l : LastWords capacity v words) where
-  abbrev some_view : View ℕ
+module _ {T : Type 0} (code : Coding T) (law : IsCoding code) (r : Ring) (even : (encoded code (kind_of r)).size ≡ code.size) (capacity : ℕ) (v : View T) (words : List ℕ) (l : LastWords code (machine_kind (kind_of r)) capacity v words) where
+  abbrev kind : Kind
+  kind = machine_kind (kind_of r)
+
+  -- the values of the queue, and their words
+  abbrev V : Type 0
+  V = Val T (kind_of r)
+
+  abbrev z : Coding V
+  z = encoded code (kind_of r)
+
+  abbrev named : V → Item T
+  named x = item (kind_of r) x
+
+  abbrev some_view : View T
   some_view = first_view capacity
 
-  listed : (word found : ℕ) (old new : View ℕ) → (r : WasRead capacity old new word found) → IsListed capacity r.trace.events
-  listed word found old new r = always_listed capacity one_word of_indices r.trace.events (record { trace = r.trace; run = r.run; is = refl }) r.trace.events [] (sym (append-nil r.trace.events))
+  listed : (word found : ℕ) (old new : View T) → (w : WasRead code kind capacity old new word found) → IsListed capacity w.trace.events
+  listed word found old new w = always_listed capacity code r w.trace.events (record { trace = w.trace; run = w.run; is = refl }) w.trace.events [] (sym (append-nil w.trace.events))
 
   -- the positions that were loaded
   write_is : l.write ≡ length (published l.first_read.trace.events)
-  write_is = l.first_read.found_is ∙ (queue_goes_on one_word IndexQueue some_view l.first_read.trace l.first_read.run).book.write
+  write_is = l.first_read.found_is ∙ (queue_goes_on code (kind_of r) some_view l.first_read.trace l.first_read.run).book.write
 
   taken_is : l.taken ≡ length (handed_out l.last_read.trace.events)
-  taken_is = l.last_read.found_is ∙ (queue_goes_on one_word IndexQueue some_view l.last_read.trace l.last_read.run).book.read
+  taken_is = l.last_read.found_is ∙ (queue_goes_on code (kind_of r) some_view l.last_read.trace l.last_read.run).book.read
 
   -- what was taken out as any of the words was read
-  taken_by : (word found : ℕ) → (r : WasRead capacity v l.new word found) → length (handed_out r.trace.events) ≤ l.taken
-  taken_by word found r = (let is = taken_is in let grown = hits_grow hands_out r.trace.events l.last_read.trace.events (begins_further r.trace.events l.new.seen l.last_read.trace.events r.until l.last_read.since) in omega arith)
+  taken_by : (word found : ℕ) → (w : WasRead code kind capacity v l.new word found) → length (handed_out w.trace.events) ≤ l.taken
+  taken_by word found w = (let is = taken_is in let grown = hits_grow hands_out w.trace.events l.last_read.trace.events (begins_further w.trace.events l.new.seen l.last_read.trace.events w.until l.last_read.since) in omega arith)
 
   seen_published : length (published v.seen) ≤ l.write
   seen_published = (let is = write_is in let grown = hits_grow publishes v.seen l.first_read.trace.events l.first_read.since in omega arith)
@@ -92,114 +107,145 @@ module _ (capacity : ℕ) (v : View ℕ) (words : List ℕ) (l : LastWords capac
       let few = list.few in
       omega arith
 
-  pub fits : Fits 1 capacity words
+  long : length words ≡ 4 + z.size * capacity
+  long = l.long ∙ ap (λ n. 4 + n * capacity) (sym even)
+
+  pub fits : Fits z.size capacity words
   fits =
       let first = l.first in
       let last = l.last in
       let n = near in
       let a = l.fits in
       let b = l.taken_fits in
-      let long = l.long in
-      record { long = omega arith; small = l.small; behind = omega arith; near = omega arith; fits = omega arith }
+      record { long = long; small = l.small; behind = omega arith; near = omega arith; fits = omega arith }
 
-  -- what was seen at a position that nobody had taken from as the read position was read
-  waits : (i : ℕ) (x : Item ℕ) → slice_get (published v.seen) i ≡ Some x → l.taken ≤ i → (i < l.write) × (x ≡ Index (slice_index words (4 + 1 * (i % capacity))))
-  waits i x at high =
-      let inside = slice_get_within (published v.seen) i x at in
-      let ahead = seen_published in
-      let n = near in
-      let low : i < l.write = omega arith in
-      let some : 0 < capacity = omega arith in
-      let below : i % capacity < capacity = omega arith in
-      let long = l.long in
-      let r = l.cells (4 + 1 * (i % capacity)) (omega arith) (omega arith) in
-      let t = r.trace in
-      let there : slice_get (published t.events) i ≡ Some x = ap (λ es. slice_get (published es) i) r.since.is ∙ (ap (λ xs. slice_get xs i) (flat_map-append publishes v.seen r.since.rest) ∙ get_left (published v.seen) (published r.since.rest) i x at) in
-      let taken = taken_by (4 + 1 * (i % capacity)) (slice_index words (4 + 1 * (i % capacity))) r in
-      let stands : item_at t.world.coding IndexQueue t.world.words (cell_of t.world.coding IndexQueue t.world.capacity i) ≡ x = stands_in_cell one_word IndexQueue some_view t r.run i x there (omega arith) in
-      let test : (capacity == 0) ≡ false = grind (arith, nat_tests) in
-      let place : cell_word capacity 1 i ≡ 4 + 1 * (i % capacity) = rw test refl in
-      let cell : cell_word t.world.capacity 1 i ≡ 4 + 1 * (i % capacity) = ap (λ n. cell_word n 1 i) r.run.sized ∙ place in
-      let word : ◌≡◌ {A = Item ℕ} (Index (slice_index t.world.words (4 + 1 * (i % capacity)))) x = ap (index_at t.world.words) (sym cell) ∙ stands in
-      (low, sym word ∙ ap an_index (sym r.found_is))
+  -- a value that was seen at a position that nobody had taken from as the read position was read
+  pub record Waits (i : ℕ) (x : Item T) : Type 0 where
+    pub low : i < l.write
+    pub value : V
+    pub is : x ≡ named value
+    pub there : value_at z.value_of z.size capacity words i ≡ value
+
+  module _ (i : ℕ) (x : Item T) (at : slice_get (published v.seen) i ≡ Some x) (high : l.taken ≤ i) where
+    low_one : i < l.write
+    low_one = (let inside = slice_get_within (published v.seen) i x at in let ahead = seen_published in omega arith)
+
+    some : 0 < capacity
+    some = (let low = low_one in let n = near in omega arith)
+
+    abbrev place : ℕ → ℕ
+    place k = 4 + (z.size * (i % capacity) + k)
+
+    read_at : (k : ℕ) → k < z.size → WasRead code kind capacity v l.new (place k) (slice_index words (place k))
+    read_at k below = (let inside = cell_within z.size capacity i k some below in let all = long in l.cells (place k) (omega arith) (omega arith))
+
+    stood : (k : ℕ) → (below : k < z.size) → Stands code r capacity (read_at k below).trace (read_at k below).run i x
+    stood k below =
+        let w = read_at k below in
+        let t = w.trace in
+        let there : slice_get (published t.events) i ≡ Some x = ap (λ es. slice_get (published es) i) w.since.is ∙ (ap (λ xs. slice_get xs i) (flat_map-append publishes v.seen w.since.rest) ∙ get_left (published v.seen) (published w.since.rest) i x at) in
+        let taken = taken_by (place k) (slice_index words (place k)) w in
+        stands code r capacity t w.run i x there (omega arith)
+
+    -- it has a word
+    one : 0 < z.size
+    one = (let a = (are_words code r law).some in omega arith)
+
+    abbrev first_one : V
+    first_one = (stood 0 one).value
+
+    same_words : (k : ℕ) → k < z.size → get_or words (place k) 0 ≡ get_or (z.words_of first_one) k 0
+    same_words k below =
+        let s = stood k below in
+        let same : s.value ≡ first_one = item_same r s.value first_one (sym s.is ∙ (stood 0 one).is) in
+        (read_at k below).found_is ∙ (s.words k below ∙ ap (λ y. get_or (z.words_of y) k 0) same)
+
+    pub waits : Waits i x
+    waits =
+        let y = first_one in
+        let long_one = (are_words code r law).sized y in
+        let alike : words_from words (4 + z.size * (i % capacity)) z.size ≡ words_from (z.words_of y) 0 z.size = words_alike words (z.words_of y) (4 + z.size * (i % capacity)) 0 z.size (λ k below.
+        let here : 4 + z.size * (i % capacity) + k ≡ place k = omega arith in
+        let there : k ≡ 0 + k = omega arith in
+        ap (λ n. get_or words n 0) here ∙ (same_words k below ∙ ap (λ n. get_or (z.words_of y) n 0) there)) in
+        let all : words_from (z.words_of y) 0 z.size ≡ z.words_of y = subst (λ n. words_from (z.words_of y) 0 n ≡ z.words_of y) long_one (words_all (z.words_of y)) in
+        record { low = low_one; value = y; is = (stood 0 one).is; there = ap z.value_of (alike ∙ all) ∙ (are_words code r law).given_back y }
 
   -- ---- the list
 
-  module _ (value_of : List ℕ → ℕ) (one : (x : ℕ) → value_of (x ∷ []) ≡ x) where
-    abbrev count : ℕ
-    count = slice_index words 0 - slice_index words 1
+  abbrev count : ℕ
+  count = slice_index words 0 - slice_index words 1
 
-    abbrev values : List ℕ
-    values = values_from value_of 1 capacity words (slice_index words 1) count
+  abbrev values : List V
+  values = values_from z.value_of z.size capacity words (slice_index words 1) count
 
-    value_there : (i : ℕ) → l.taken ≤ i → i < l.write → slice_get values (i - slice_index words 1) ≡ Some (slice_index words (4 + 1 * (i % capacity)))
-    value_there i high low =
+  value_there : (i : ℕ) → l.taken ≤ i → i < l.write → slice_get values (i - slice_index words 1) ≡ Some (value_at z.value_of z.size capacity words i)
+  value_there i high low =
+      let first = l.first in
+      let last = l.last in
+      let at : slice_index words 1 + (i - slice_index words 1) ≡ i = omega arith in
+      value_in_list z.value_of z.size capacity words (slice_index words 1) count (i - slice_index words 1) (omega arith)
+      ∙ ap (λ q. Some (value_at z.value_of z.size capacity words q)) at
+
+  -- who has the whole share has seen all of it
+  module _ (all : IsAll v.share) where
+    same_seen : l.new.seen ≡ v.seen
+    same_seen = l.read.whole all
+
+    write_all : l.write ≡ length (published v.seen)
+    write_all =
+        let is = write_is in
+        let low = seen_published in
+        let grown = hits_grow publishes l.first_read.trace.events l.new.seen l.first_read.until in
+        let same : length (published l.new.seen) ≡ length (published v.seen) = ap (λ es. length (published es)) same_seen in
+        omega arith
+
+    taken_all : l.taken ≡ length (handed_out v.seen)
+    taken_all =
+        let is = taken_is in
+        let low = seen_taken in
+        let grown = hits_grow hands_out l.last_read.trace.events l.new.seen l.last_read.until in
+        let same : length (handed_out l.new.seen) ≡ length (handed_out v.seen) = ap (λ es. length (handed_out es)) same_seen in
+        omega arith
+
+    list_seen : IsListed capacity v.seen
+    list_seen = (let t = l.first_read.trace in always_listed capacity code r t.events (record { trace = t; run = l.first_read.run; is = refl }) v.seen l.first_read.since.rest l.first_read.since.is)
+
+    number_is : length (waiting v.seen) ≡ count
+    number_is =
+        let a = write_all in
+        let b = taken_all in
         let first = l.first in
         let last = l.last in
-        let at : slice_index words 1 + (i - slice_index words 1) ≡ i = omega arith in
-        value_in_list value_of capacity words (slice_index words 1) count (i - slice_index words 1) (omega arith)
-        ∙ (ap (λ q. Some (value_at value_of 1 capacity words q)) at ∙ ap Some (one (slice_index words (4 + 1 * (i % capacity)))))
+        let book = ap length list_seen.book in
+        let long = length-append (handed_out v.seen) (waiting v.seen) in
+        omega arith
 
-    -- who has the whole share has seen all of it
-    module _ (all : IsAll v.share) where
-      same_seen : l.new.seen ≡ v.seen
-      same_seen = l.read.whole all
+    waiting_is : waiting v.seen ≡ map named values
+    waiting_is = same_list (waiting v.seen) (map named values) (number_is ∙ (sym (values_length z.value_of z.size capacity words (slice_index words 1) count) ∙ sym (length-map values named))) each
+      where
+        each : (k : ℕ) (x : Item T) → slice_get (waiting v.seen) k ≡ Some x → slice_get (map named values) k ≡ Some x
+        each k x e =
+            let i : ℕ = length (handed_out v.seen) + k in
+            let at : slice_get (published v.seen) i ≡ Some x = ap (λ xs. slice_get xs i) list_seen.book ∙ (get_behind (handed_out v.seen) (waiting v.seen) k ∙ e) in
+            let b = taken_all in
+            let first = l.first in
+            let w = waits i x at (omega arith) in
+            let place : i - slice_index words 1 ≡ k = omega arith in
+            let there : slice_get values k ≡ Some (value_at z.value_of z.size capacity words i) = ap (slice_get values) (sym place) ∙ value_there i (omega arith) w.low in
+            slice_get-map named values k ∙ (ap (λ o. option_map named o) there ∙ ap Some (ap named w.there ∙ sym w.is))
 
-      write_all : l.write ≡ length (published v.seen)
-      write_all =
-          let is = write_is in
-          let low = seen_published in
-          let grown = hits_grow publishes l.first_read.trace.events l.new.seen l.first_read.until in
-          let same : length (published l.new.seen) ≡ length (published v.seen) = ap (λ es. length (published es)) same_seen in
-          omega arith
-
-      taken_all : l.taken ≡ length (handed_out v.seen)
-      taken_all =
-          let is = taken_is in
-          let low = seen_taken in
-          let grown = hits_grow hands_out l.last_read.trace.events l.new.seen l.last_read.until in
-          let same : length (handed_out l.new.seen) ≡ length (handed_out v.seen) = ap (λ es. length (handed_out es)) same_seen in
-          omega arith
-
-      list_seen : IsListed capacity v.seen
-      list_seen = (let t = l.first_read.trace in always_listed capacity one_word of_indices t.events (record { trace = t; run = l.first_read.run; is = refl }) v.seen l.first_read.since.rest l.first_read.since.is)
-
-      number_is : length (waiting v.seen) ≡ count
-      number_is =
-          let a = write_all in
-          let b = taken_all in
-          let first = l.first in
-          let last = l.last in
-          let book = ap length list_seen.book in
-          let long = length-append (handed_out v.seen) (waiting v.seen) in
-          omega arith
-
-      waiting_is : waiting v.seen ≡ map an_index values
-      waiting_is = same_list (waiting v.seen) (map an_index values) (number_is ∙ (sym (values_length value_of 1 capacity words (slice_index words 1) count) ∙ sym (length-map values an_index))) each
-        where
-          each : (k : ℕ) (x : Item ℕ) → slice_get (waiting v.seen) k ≡ Some x → slice_get (map an_index values) k ≡ Some x
-          each k x e =
-              let i : ℕ = length (handed_out v.seen) + k in
-              let at : slice_get (published v.seen) i ≡ Some x = ap (λ xs. slice_get xs i) list_seen.book ∙ (get_behind (handed_out v.seen) (waiting v.seen) k ∙ e) in
-              let b = taken_all in
-              let first = l.first in
-              let w = waits i x at (omega arith) in
-              let place : i - slice_index words 1 ≡ k = omega arith in
-              let there : slice_get values k ≡ Some (slice_index words (4 + 1 * (i % capacity))) = ap (slice_get values) (sym place) ∙ value_there i (omega arith) w.0 in
-              slice_get-map an_index values k ∙ (ap (λ o. option_map an_index o) there ∙ ap Some (sym w.1))
-
-    pub closes : Closes capacity v (record { capacity = capacity; first = slice_index words 1; values = values })
-    closes =
-        let first = l.first in
-        record {
-          same = refl;
-          published_there = λ i x at. ⊎_elim (λ (before : i < slice_index words 1). inl before)
-              (λ (from : slice_index words 1 ≤ i).
-              let w = waits i (Index x) at (omega arith) in
-              let is : ◌≡◌ {A = Item ℕ} (Index x) (Index (slice_index words (4 + 1 * (i % capacity)))) = w.1 in
-              let same : x ≡ slice_index words (4 + 1 * (i % capacity)) = cc in
-              inr (from, value_there i (omega arith) w.0 ∙ ap Some (sym same)))
-              (cases_lt i (slice_index words 1));
-          taken = (let low = seen_taken in omega arith);
-          whole = λ all. (first ∙ taken_all all, (list_seen all).book ∙ ap (λ xs. handed_out v.seen ++ xs) (waiting_is all));
-        }
+  pub closes : Closes named capacity v (record { capacity = capacity; first = slice_index words 1; values = values })
+  closes =
+      let first = l.first in
+      record {
+        same = refl;
+        published_there = λ i x at. ⊎_elim (λ (before : i < slice_index words 1). inl before)
+            (λ (from : slice_index words 1 ≤ i).
+            let w = waits i (named x) at (omega arith) in
+            let same : w.value ≡ x = item_same r w.value x (sym w.is) in
+            inr (from, value_there i (omega arith) w.low ∙ ap Some (w.there ∙ same)))
+            (cases_lt i (slice_index words 1));
+        taken = (let low = seen_taken in omega arith);
+        whole = λ all. (first ∙ taken_all all, (list_seen all).book ∙ ap (λ xs. handed_out v.seen ++ xs) (waiting_is all));
+      }

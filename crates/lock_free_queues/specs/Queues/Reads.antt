@@ -1,43 +1,46 @@
 -- What the words say that are read while a queue is closed.
-use Rattle.std.specs.Prelude.{◌≡◌, ℕ, ◌+◌, ◌^◌, ◌<◌, ◌≤◌, max, List, length, slice_index}
-use Rattle.model.specs.declared.turn.Kind.TheVariants as kinds
-use Rattle.model.specs.Coding.{one_word}
+use Rattle.std.specs.Prelude.{◌≡◌, ℕ, ◌+◌, ◌*◌, ◌^◌, ◌<◌, ◌≤◌, max, List, length, slice_index}
+use Rattle.model.specs.declared.turn.Kind.{Kind}
+use Rattle.model.specs.Coding.{Coding}
 use Rattle.model.specs.World.{Trace}
 use Rattle.lock_free_sp.specs.Shares.{IsAll}
 use Rattle.history.specs.declared.view.View.{View}
 use Rattle.history.specs.History.{IsBeginning, IsRun}
 
--- the word was read of a machine whose history lies between the two
-pub record WasRead (capacity : ℕ) (old new : View ℕ) (word found : ℕ) : Type 0 where
-  pub trace : Trace ℕ
-  pub run : IsRun one_word kinds.IndexQueue capacity trace
-  pub since : IsBeginning old.seen trace.events
-  pub until : IsBeginning trace.events new.seen
-  pub found_is : found ≡ slice_index trace.world.words word
+module _ {T : Type 0} (code : Coding T) (kind : Kind) where
+  -- the word was read of a machine whose history lies between the two
+  pub record WasRead (capacity : ℕ) (old new : View T) (word found : ℕ) : Type 0 where
+    pub trace : Trace T
+    pub run : IsRun code kind capacity trace
+    pub since : IsBeginning old.seen trace.events
+    pub until : IsBeginning trace.events new.seen
+    pub found_is : found ≡ slice_index trace.world.words word
 
--- so were all words of the cells
-abbrev pub CellsRead : ℕ → View ℕ → View ℕ → List ℕ → Type 0
-CellsRead capacity old new words =
-    (word : ℕ) → 4 ≤ word → word < length words → WasRead capacity old new word (slice_index words word)
+  -- so were all words of the cells
+  abbrev pub CellsRead : ℕ → View T → View T → List ℕ → Type 0
+  CellsRead capacity old new words =
+      (word : ℕ) → 4 ≤ word → word < length words
+      → WasRead capacity old new word (slice_index words word)
 
 -- what a pass knows once it has read
-pub record HasRead (old new : View ℕ) : Type 0 where
+pub record HasRead {T : Type 0} (old new : View T) : Type 0 where
   pub share : new.share ≡ old.share
   pub since : IsBeginning old.seen new.seen
   pub whole : IsAll old.share → new.seen ≡ old.seen
 
 -- the words, with the positions of the list, and what stood there
-pub record LastWords (capacity : ℕ) (old : View ℕ) (words : List ℕ) : Type 0 where
-  pub new : View ℕ
+pub record LastWords {T : Type 0} (code : Coding T) (kind : Kind) (capacity : ℕ) (old : View T)
+    (words : List ℕ) : Type 0 where
+  pub new : View T
   pub read : HasRead old new
   pub small : capacity < 2 ^ 32
-  pub long : length words ≡ 4 + capacity
+  pub long : length words ≡ 4 + code.size * capacity
   pub write : ℕ
   pub taken : ℕ
   pub fits : write < 2 ^ 64
   pub taken_fits : taken < 2 ^ 64
-  pub first_read : WasRead capacity old new 0 write
-  pub cells : CellsRead capacity old new words
-  pub last_read : WasRead capacity new new 1 taken
+  pub first_read : WasRead code kind capacity old new 0 write
+  pub cells : CellsRead code kind capacity old new words
+  pub last_read : WasRead code kind capacity new new 1 taken
   pub last : slice_index words 0 ≡ max write taken
   pub first : slice_index words 1 ≡ taken

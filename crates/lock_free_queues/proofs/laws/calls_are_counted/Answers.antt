@@ -2,22 +2,22 @@ use Rattle.lock_free_queues.proofs.Queues.Sums.{done_pushed, done_refused, done_
 use Rattle.lock_free_queues.proofs.laws.calls_are_counted.Goals as goal
 
 pub returns-clause-pushed : goal.returns-clause-pushed
-returns-clause-pushed c value old new h = done_pushed old new value h
+returns-clause-pushed g c value old new h = done_pushed old new value h
 
 pub returns-clause-refused : goal.returns-clause-refused
-returns-clause-refused c value taken old new is h = done_refused old new value taken is h
+returns-clause-refused g c value taken old new is h = done_refused old new value taken is h
 
 pub returns-clause-popped : goal.returns-clause-popped
-returns-clause-popped c value old new h = done_popped old new value h
+returns-clause-popped g c value old new h = done_popped old new value h
 
 pub returns-clause-none : goal.returns-clause-none
-returns-clause-none c old new h = done_none old new h
+returns-clause-none g c old new h = done_none old new h
 
 pub returns-clause-acquired : goal.returns-clause-acquired
-returns-clause-acquired c role taken old new h = done_acquired old new role taken h
+returns-clause-acquired g c role taken old new h = done_acquired old new role taken h
 
 pub returns-clause-released : goal.returns-clause-released
-returns-clause-released c role old new h = done_released old new role h
+returns-clause-released g c role old new h = done_released old new role h
 
 pub returns-clause-measured : goal.returns-clause-measured
-returns-clause-measured c which capacity answer old new h = done_measured old new which capacity answer h
+returns-clause-measured g c which capacity answer old new h = done_measured old new which capacity answer h

@@ -2,4 +2,4 @@ use Rattle.lock_free_queues.proofs.Queues.Promised.{linearizable}
 use Rattle.lock_free_queues.proofs.laws.histories_are_linearizable.Goals as goal
 
 pub returns : goal.returns
-returns c = linearizable
+returns g c code kind capacity v h = linearizable code kind capacity v h

@@ -2,4 +2,4 @@ use Rattle.lock_free_queues.proofs.Queues.Promised.{sound}
 use Rattle.lock_free_queues.proofs.laws.histories_are_sound.Goals as goal
 
 pub returns : goal.returns
-returns c = sound
+returns g c code kind capacity v b h = sound code kind capacity v b h

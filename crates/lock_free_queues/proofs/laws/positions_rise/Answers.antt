@@ -3,13 +3,13 @@ use Rattle.lock_free_queues.proofs.Queues.Promised.{published_next, taken_next}
 use Rattle.lock_free_queues.proofs.laws.positions_rise.Goals as goal
 
 pub returns-clause-published : goal.returns-clause-published
-returns-clause-published c value old new h = published_next old new value h
+returns-clause-published g c value old new h = published_next old new value h
 
 pub returns-clause-above : goal.returns-clause-above
-returns-clause-above c old q j y a = published_low old.seen q j y a
+returns-clause-above g c old q j y a = published_low old.seen q j y a
 
 pub returns-clause-taken : goal.returns-clause-taken
-returns-clause-taken c value old new h = taken_next old new value h
+returns-clause-taken g c value old new h = taken_next old new value h
 
 pub returns-clause-below : goal.returns-clause-below
-returns-clause-below c old q j y a = taken_low old.seen q j y a
+returns-clause-below g c old q j y a = taken_low old.seen q j y a

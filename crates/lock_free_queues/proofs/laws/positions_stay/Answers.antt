@@ -2,7 +2,7 @@ use Rattle.lock_free_queues.proofs.Queues.Positions.{still_published, still_take
 use Rattle.lock_free_queues.proofs.laws.positions_stay.Goals as goal
 
 pub returns-clause-published : goal.returns-clause-published
-returns-clause-published c p i x old new h a = still_published p p i x x old new h a
+returns-clause-published g c p i x old new h a = still_published p p i x x old new h a
 
 pub returns-clause-taken : goal.returns-clause-taken
-returns-clause-taken c p i x old new h a = still_taken p p i x x old new h a
+returns-clause-taken g c p i x old new h a = still_taken p p i x x old new h a

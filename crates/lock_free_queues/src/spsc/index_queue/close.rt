@@ -1,6 +1,9 @@
 //! How a queue ends: what waits in it goes on as the queue of one caller.
 ghost use Rattle.std.specs.Prelude.{◌≡◌, ◌+◌, ◌<◌, ◌^◌, IfOk, IfErr};
 ghost use Rattle.steps.specs.declared.enums.UniqueIndexCreationError.TheVariants.{NoMemory};
+ghost use Rattle.model.specs.Coding.{one_word};
+ghost use Rattle.model.specs.declared.event.Item.TheVariants.{Index};
+ghost use Rattle.model.specs.declared.turn.Kind.TheVariants as kinds;
 ghost use Rattle.lock_free_queues.specs.Queues.Calls.{capacity_of, inner, token_queue, token_view, view, IsPassOf};
 ghost use Rattle.lock_free_queues.specs.Queues.Closes.{Closes};
 ghost use Rattle.lock_free_queues.specs.Queues.Reads.{WasRead, HasRead, LastWords};
@@ -19,8 +22,8 @@ impl Token {
         ensures queue { token_queue self.new ≡ token_queue self.old }
         ensures fits { result < 2 ^ 64 }
         ensures read { HasRead (token_view self.old) (token_view self.new) }
-        ensures found { WasRead (token_queue self.old).capacity (token_view self.old) (token_view self.new) word result }
-        ensures last { WasRead (token_queue self.old).capacity (token_view self.new) (token_view self.new) word result }
+        ensures found { WasRead one_word kinds.IndexQueue (token_queue self.old).capacity (token_view self.old) (token_view self.new) word result }
+        ensures last { WasRead one_word kinds.IndexQueue (token_queue self.old).capacity (token_view self.new) (token_view self.new) word result }
     {
         let seated = &mut self.seated;
         seated.table.shared.load::<Look>(&mut seated.seat, word)
@@ -29,7 +32,7 @@ impl Token {
     /// The words of the list that the queue is in the end: two loads, and one for each cell. What is published after the
     /// first load is not in it, and the read position, which comes last, says what was taken.
     pub fn last_words(&mut self, alloc: Global) -> Result<Vec<u64>, AllocError>
-        ensures { IfOk result (λ words. LastWords (token_queue self.old).capacity (token_view self.old) words.items) }
+        ensures { IfOk result (λ words. LastWords one_word kinds.IndexQueue (token_queue self.old).capacity (token_view self.old) words.items) }
     {
         let count = FIRST_CELL + self.capacity as usize;
         let mut words = Vec::with_capacity(alloc, count)?;
@@ -59,7 +62,7 @@ impl IndexQueue {
     /// then too. Else one growth, and 2 atomic steps more than the capacity. This project's own.
     pub fn close(self, pass: Pass) -> Result<List, UniqueIndexCreationError>
         requires { IsPassOf self pass }
-        ensures list { IfOk result (λ q. Closes (capacity_of self) (view pass) q) }
+        ensures list { IfOk result (λ q. Closes Index (capacity_of self) (view pass) q) }
         ensures refused { IfErr result (λ e. e ≡ NoMemory) }
     {
         let Pass { mut token } = pass;
@@ -76,7 +79,7 @@ impl<const CAPACITY: usize> FixedSizeIndexQueue<CAPACITY> {
     /// memory, refusal and atomic steps. This project's own.
     pub fn close(self, pass: Pass) -> Result<List, UniqueIndexCreationError>
         requires { IsPassOf (inner self) pass }
-        ensures list { IfOk result (λ q. Closes CAPACITY (view pass) q) }
+        ensures list { IfOk result (λ q. Closes Index CAPACITY (view pass) q) }
         ensures refused { IfErr result (λ e. e ≡ NoMemory) }
     {
         let FixedSizeIndexQueue { queue } = self;

@@ -2,12 +2,14 @@
 ghost use Rattle.std.specs.Prelude.{◌≡◌, ◌⊎◌, ◌-◌, ◌^◌, None, Some, IfOk, IfErr, OnOk};
 ghost use Rattle.steps.specs.Enums.{capacity_refusal};
 ghost use Rattle.steps.specs.declared.enums.UniqueIndexCreationError.TheVariants.{NoMemory};
+ghost use Rattle.model.specs.declared.event.Item.TheVariants.{Index};
 ghost use Rattle.history.specs.Views.{first_view};
-ghost use Rattle.lock_free_queues.specs.Queues.Opened.{position_at, opened_view};
+ghost use Rattle.lock_free_queues.specs.Queues.Opened.{opened_view};
 ghost use Rattle.lock_free_queues.specs.Queues.Calls.{capacity_of, inner, IsPassOf, view};
 
 use super::rule::Origin;
 use super::{FixedSizeIndexQueue, IndexQueue, Pass, Token};
+use crate::spsc::places::start_at;
 use atomic_table::Table;
 use lock_free_sp::driver::seated::Seated;
 use std::alloc::{AllocError, Global};
@@ -15,17 +17,10 @@ use std::sync::Arc;
 use steps::enums::{UniqueIndexCreationError, capacity_refusal};
 use steps::queues::ring::{CONSUMER, FIRST_CELL, PRODUCER, READ, WRITE};
 
-/// Where both positions stand. Without capacity nothing was pushed.
-fn start_at(capacity: u32, position: u64) -> u64
-    ensures { result ≡ position_at capacity position }
-{
-    if capacity == 0 { 0 } else { position }
-}
-
 impl IndexQueue {
     /// An empty queue with both positions here, and its first pass.
     fn of(alloc: Global, capacity: u32, position: u64) -> Result<(IndexQueue, Pass), AllocError>
-        ensures pass { IfOk result (λ r. IsPassOf r.0 r.1 × (view r.1 ≡ opened_view capacity position)) }
+        ensures pass { IfOk result (λ r. IsPassOf r.0 r.1 × (view r.1 ≡ opened_view (Index 0) capacity position)) }
         ensures capacity { IfOk result (λ r. capacity_of r.0 ≡ capacity) }
     {
         let start = start_at(capacity, position);
@@ -72,14 +67,14 @@ impl IndexQueue {
         IndexQueue::new_at(alloc, capacity, 0)
     }
 
-    /// The same with both positions at `position`, as after so many pushes and pops, which its history begins with;
-    /// without capacity there are none. This project's own.
+    /// The same with both positions at `position`, as after so many pushes and pops of the number 0, which its history
+    /// begins with; without capacity there are none. This project's own.
     pub fn new_at(
         alloc: Global,
         capacity: usize,
         position: u64,
     ) -> Result<(IndexQueue, Pass), UniqueIndexCreationError>
-        ensures pass { IfOk result (λ r. IsPassOf r.0 r.1 × (view r.1 ≡ opened_view capacity position)) }
+        ensures pass { IfOk result (λ r. IsPassOf r.0 r.1 × (view r.1 ≡ opened_view (Index 0) capacity position)) }
         ensures capacity { IfOk result (λ r. capacity_of r.0 ≡ capacity) }
         ensures admitted { OnOk result (capacity_refusal 0 (2 ^ 32 - 1) capacity ≡ None) }
         ensures refused { IfErr result (λ e. (capacity_refusal 0 (2 ^ 32 - 1) capacity ≡ Some e)

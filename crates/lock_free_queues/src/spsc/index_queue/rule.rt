@@ -1,5 +1,6 @@
 //! The rule of an index queue's table: it is a machine of its kind, and one word more.
 ghost use Rattle.model.specs.Coding.{one_word};
+ghost use Rattle.model.specs.declared.event.Item.TheVariants.{Index};
 ghost use Rattle.model.specs.declared.turn.Kind.TheVariants as kinds;
 
 use atomic_table::TableRule;
@@ -22,7 +23,7 @@ impl TableRule<(), View<u64>, Origin> for QueueRule {
 
     ghost holds = { λ key. IsMachine one_word kinds.IndexQueue key.capacity };
 
-    ghost first = { λ key. opened_view key.capacity key.position };
+    ghost first = { λ key. opened_view (Index 0) key.capacity key.position };
 }
 
 impl Rule<View<u64>, Origin> for QueueRule {

@@ -1,10 +1,15 @@
-use Rattle.std.proofs.Common.{rules, ◌≡◌, ℕ, ◌+◌, suc, List, [], ◌∷◌, ◌++◌, set, replicate, sym, ap, subst, ◌∙◌, arith}
+use Rattle.std.proofs.Common.{rules, ◌≡◌, ℕ, ◌+◌, ◌*◌, suc, min, List, [], ◌∷◌, ◌++◌, set, replicate, sym, ap, subst, ◌∙◌, arith}
 use Rattle.std.proofs.lemmas.Grind.{common_steps}
 use Rattle.steps.specs.declared.queues.roles.Role.TheVariants.{Producer, Consumer}
+use Rattle.model.specs.declared.event.Item.{Item}
+use Rattle.model.specs.declared.event.Item.TheVariants.{Index}
+use Rattle.model.specs.Coding.{one_word}
+use Rattle.queue_laws.proofs.Ring.Kinds.{of_indices}
 use Rattle.history.proofs.Passes.{one_more}
 use Rattle.lock_free_queues.specs.Queues.Opened.{position_at, opened}
 use Rattle.lock_free_queues.specs.Queues.Roles.{LacksRole}
-use Rattle.lock_free_queues.proofs.Queues.Opened.{queue_opens, has_none}
+use Rattle.lock_free_queues.proofs.Queues.Indices.{is_coding}
+use Rattle.lock_free_queues.proofs.Queues.Opened.{queue_opens, has_none, zeros_stay}
 use Rattle.lock_free_queues.proofs.spsc.index_queue.IndexQueue.of.Goals as goal
 
 -- the words with the positions and the roles
@@ -18,12 +23,17 @@ filled capacity start words same =
 
 pub of_words-requires : goal.of_words-requires
 of_words-requires c =
-    let items : c.in_ok-words.words.items ≡ replicate (4 + c.args.capacity + 1) 0 = grind (arith, common_steps) in
-    queue_opens c.args.capacity c.args.position c.ranges.capacity.fits c.ranges.position.fits c.as_slice.result.now
-    (c.as_slice.ensures.value ∙ (filled c.args.capacity c.start_at-start.result c.in_ok-words.words.items items ∙ ap (λ n. n ∷ n ∷ 1 ∷ 1 ∷ (replicate c.args.capacity 0 ++ 0 ∷ [])) c.start_at-start.ensures))
+    let capacity = c.args.capacity in
+    let start = position_at capacity c.args.position in
+    let items : c.in_ok-words.words.items ≡ replicate (4 + capacity + 1) 0 = grind (arith, common_steps) in
+    queue_opens one_word is_coding of_indices 0 capacity c.ranges.capacity.fits c.args.position c.ranges.position.fits c.as_slice.result.now
+    (c.as_slice.ensures.value ∙ (filled capacity c.start_at-start.result c.in_ok-words.words.items items ∙ (ap (λ n. n ∷ n ∷ 1 ∷ 1 ∷ (replicate capacity 0 ++ 0 ∷ [])) c.start_at-start.ensures
+    ∙ ap (λ zs. start ∷ start ∷ 1 ∷ 1 ∷ (zs ++ 0 ∷ [])) (sym (zeros_stay capacity (1 * min c.args.position capacity))))))
 
 pub invariant_of-result : goal.invariant_of-result
 invariant_of-result c =
-    let none = has_none (position_at c.args.capacity c.args.position) in
-    let made : c.in_ok-table.seat.me.0.made ≡ opened (position_at c.args.capacity c.args.position) = search rules in
+    let start = position_at c.args.capacity c.args.position in
+    let it : Item ℕ = Index 0 in
+    let none = has_none it start in
+    let made : c.in_ok-table.seat.me.0.made ≡ opened it start = search rules in
     record { none = (subst (LacksRole Producer) (sym made) none.0, subst (LacksRole Consumer) (sym made) none.1) }

@@ -4,10 +4,12 @@ use Rattle.model.specs.Coding.{one_word}
 use Rattle.model.specs.declared.turn.Kind.TheVariants as kinds
 use Rattle.model.specs.declared.event.Item.TheVariants.{Index}
 use Rattle.lock_free_sp.specs.Seats.{seen}
+use Rattle.queue_laws.proofs.Ring.Kinds.{of_indices}
 use Rattle.history.specs.Stages.{At}
 use Rattle.history.specs.Queues.{pushes_index}
 use Rattle.history.proofs.QueueCalls.{push_keeps, push_first}
-use Rattle.lock_free_queues.proofs.Queues.Indices.{pushed, published_if, full}
+use Rattle.lock_free_queues.proofs.Queues.Ended.{pushed, published_if, full}
+use Rattle.lock_free_queues.proofs.Queues.Indices.{index_push}
 use Rattle.lock_free_queues.specs.Queues.Told.{HasPushed, WasFull, WasAtEnd}
 use Rattle.lock_free_queues.proofs.spsc.index_queue.Token.push.Goals as goal
 
@@ -23,15 +25,21 @@ drive-end-requires-clause-at c =
 pub returns-clause-full : goal.returns-clause-full
 returns-clause-full c is =
     let mine = c.args.self.now in
+    let v = c.args.value in
     let x = seen mine.seated in
     let w = seen c.drive-end.new.self in
-    subst (λ n. WasFull n (Index c.args.value) x w ⊎ WasAtEnd x w) mine.known (full x w mine.idle c.args.value mine.alone mine.some.0 c.requires c.drive-end.result tt c.drive-end.ensures.end (sym c.answer.ensures ∙ is))
+    subst (λ n. WasFull n (Index v) x w ⊎ WasAtEnd x w) mine.known (full one_word of_indices x w mine.idle (Index v) (pushes_index v) (index_push v) mine.alone mine.some.0 c.requires c.drive-end.result tt c.drive-end.ensures.end (sym c.answer.ensures ∙ is))
 
 pub returns-clause-published : goal.returns-clause-published
-returns-clause-published c is = published_if (seen c.args.self.now.seated) (seen c.drive-end.new.self) c.args.self.now.idle c.args.value c.args.self.now.alone c.args.self.now.some.0 c.requires c.drive-end.result tt c.drive-end.ensures.end (sym c.answer.ensures ∙ is)
+returns-clause-published c is =
+    let mine = c.args.self.now in
+    let v = c.args.value in
+    published_if one_word of_indices (seen mine.seated) (seen c.drive-end.new.self) mine.idle (Index v) (pushes_index v) (index_push v) mine.alone mine.some.0 c.requires c.drive-end.result tt c.drive-end.ensures.end (sym c.answer.ensures ∙ is)
 
 pub returns-clause-pushed : goal.returns-clause-pushed
 returns-clause-pushed c =
-    let x = seen c.args.self.now.seated in
+    let mine = c.args.self.now in
+    let v = c.args.value in
+    let x = seen mine.seated in
     let w = seen c.drive-end.new.self in
-    subst (λ b. HasPushed (Index c.args.value) b x w ⊎ (b ≡ false) × WasAtEnd x w) (sym c.answer.ensures) (pushed x w c.args.self.now.idle c.args.value c.args.self.now.alone c.args.self.now.some.0 c.requires c.drive-end.result tt c.drive-end.ensures.end)
+    subst (λ b. HasPushed (Index v) b x w ⊎ (b ≡ false) × WasAtEnd x w) (sym c.answer.ensures) (pushed one_word of_indices x w mine.idle (Index v) (pushes_index v) (index_push v) mine.alone mine.some.0 c.requires c.drive-end.result tt c.drive-end.ensures.end)

@@ -1,45 +1,34 @@
-use Rattle.std.proofs.Common.{rules, ◌≡◌, ℕ, [], sym, ap, subst, arith}
+use Rattle.std.proofs.Common.{rules, ◌≡◌, ◌<◌, subst, arith}
 use Rattle.atomic_table.specs.Seated.{TableId}
-use Rattle.atomic_table.specs.Table.{Me, Allows}
-use Rattle.model.specs.Coding.{one_word}
 use Rattle.model.specs.declared.turn.Kind.TheVariants as kinds
-use Rattle.history.specs.declared.view.View.{View}
-use Rattle.history.specs.History.{IsMachine}
-use Rattle.history.specs.Views.{LooksAt}
-use Rattle.history.proofs.Passes.{looks_word}
-use Rattle.lock_free_queues.proofs.Queues.Reads.{was_read, was_read_last, has_read}
+use Rattle.model.specs.Coding.{one_word}
+use Rattle.queue_laws.proofs.Ring.Kinds.{of_indices}
+use Rattle.lock_free_queues.proofs.Queues.Reads.{owed, was_read, was_read_last, has_read}
 use Rattle.lock_free_queues.proofs.spsc.index_queue.Token.read.Goals as goal
-
--- what a look owes, where the seat knows this
-abbrev Owed : ℕ → ℕ → ℕ → ℕ → Me (Unit {0}) (View ℕ) → Type 0
-Owed key slots id word me = Allows (IsMachine one_word kinds.IndexQueue key) slots id me word (λ n. n) (λ found new. LooksAt one_word kinds.IndexQueue me.0.capacity word me.0 found new.0 × (new.1 ≡ []))
 
 pub load-requires : goal.load-requires
 load-requires c =
     let mine = c.args.self.now in
     let v = mine.seated.seat.me.0 in
-    let slots = c.deref.result.now.shared.table_id.slots in
-    let id = mine.seated.seat.id in
+    let key = c.deref.result.now.shared.key.capacity in
     let at : mine.seated.seat.table_id ≡ c.deref.result.now.shared.table_id = search rules in
-    let size : v.capacity ≡ c.deref.result.now.shared.key.capacity = search rules in
-    let me : mine.seated.seat.me ≡ (v, []) = search rules in
-    let owed : Owed v.capacity slots id c.args.word (v, []) = looks_word one_word kinds.IndexQueue v.capacity slots id c.args.word v mine.some.0 in (
+    let size : v.capacity ≡ key = search rules in (
       at,
-      (let wide = mine.sized in let low = c.requires in let same = ap (λ (t : TableId). t.words) at in omega arith),
-      subst (λ (m : Me (Unit {0}) (View ℕ)). Owed c.deref.result.now.shared.key.capacity slots id c.args.word m) (sym me) (subst (λ k. Owed k slots id c.args.word (v, [])) size owed),
+      subst (λ (t : TableId). c.args.word < t.words) at (let wide = mine.sized in let low = c.requires in omega arith),
+      owed one_word kinds.IndexQueue key c.deref.result.now.shared.table_id.slots mine.seated.seat.id c.args.word v mine.seated.seat.me (search rules) size mine.some.0,
     )
 
 pub returns-clause-read : goal.returns-clause-read
 returns-clause-read c =
     let mine = c.args.self.now in
-    has_read mine.capacity c.args.word c.load.result mine.seated.seat.me.0 c.load.new.seat.me.0 mine.known c.requires (search rules) mine.alone
+    has_read one_word of_indices mine.capacity c.args.word c.load.result mine.seated.seat.me.0 c.load.new.seat.me.0 mine.known (let low = c.requires in omega arith) (search rules) mine.alone
 
 pub returns-clause-found : goal.returns-clause-found
 returns-clause-found c =
     let mine = c.args.self.now in
-    was_read mine.capacity c.args.word c.load.result mine.seated.seat.me.0 c.load.new.seat.me.0 mine.known c.requires (search rules)
+    was_read one_word of_indices mine.capacity c.args.word c.load.result mine.seated.seat.me.0 c.load.new.seat.me.0 mine.known (let low = c.requires in omega arith) (search rules)
 
 pub returns-clause-last : goal.returns-clause-last
 returns-clause-last c =
     let mine = c.args.self.now in
-    was_read_last mine.capacity c.args.word c.load.result mine.seated.seat.me.0 c.load.new.seat.me.0 mine.known c.requires (search rules)
+    was_read_last one_word of_indices mine.capacity c.args.word c.load.result mine.seated.seat.me.0 c.load.new.seat.me.0 mine.known (let low = c.requires in omega arith) (search rules)

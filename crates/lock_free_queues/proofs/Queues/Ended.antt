@@ -1,0 +1,103 @@
+-- What a push and a pop say once they have ended, on a queue of indices or of values.
+use Rattle.std.proofs.Common.{◌≡◌, ◌⊎◌, inl, inr, ℕ, Bool, true, false, Option, Some, None, IfSome, IfNone, List, [], length, sym, ap, subst, ◌∙◌, slice_index, ◌-◌, ◌^◌, ◌<◌}
+use Rattle.std.specs.Option.{option_map}
+use Rattle.steps.specs.Queues.Ring.{pop_answer}
+use Rattle.steps.specs.declared.ask.Ask.{Ask}
+use Rattle.steps.specs.declared.ask.Want.TheVariants as wants
+use Rattle.steps.specs.declared.queues.roles.Role.TheVariants.{Producer}
+use Rattle.model.specs.declared.event.Answer.{Answer}
+use Rattle.model.specs.declared.event.Answer.TheVariants.{Truth}
+use Rattle.model.specs.declared.event.Event.{Event}
+use Rattle.model.specs.declared.event.Item.{Item}
+use Rattle.model.specs.declared.event.Start.{Start}
+use Rattle.model.specs.declared.event.Start.TheVariants.{Queues}
+use Rattle.model.specs.declared.families.Flight.{Flight}
+use Rattle.model.specs.declared.families.queues.QueueStart.TheVariants.{Pop}
+use Rattle.model.specs.Coding.{Coding}
+use Rattle.model.specs.Families.{want_of}
+use Rattle.model.specs.Families.Queues.Reading.{published}
+use Rattle.queue_laws.proofs.Queues.Invariant.{machine_kind}
+use Rattle.queue_laws.proofs.Ring.Kinds.{Ring, kind_of}
+use Rattle.history.specs.declared.view.View.{View}
+use Rattle.history.specs.History.{Called, IsHistory}
+use Rattle.history.specs.Roles.{HasRole}
+use Rattle.history.specs.Stages.{Calling, Ends, Over, LeftOut}
+use Rattle.history.proofs.Drives.{called}
+use Rattle.history.proofs.Queues.{queue_goes_on}
+use Rattle.lock_free_queues.specs.Queues.Told.{push_of, push_told, popped_item, pop_told, HasPushed, HasPublished, HasTakenOut, WasAtEnd, WasFull, HasPopped, WasEmpty}
+use Rattle.lock_free_queues.proofs.Queues.Facts.{was_full, has_published, was_empty, has_taken_out, looked_alone}
+
+module _ {T : Type 0} where
+  -- the call is a push of the item, which is left out where its first load finds the last position
+  pub record IsPush {C : Type 0} (code : Coding T) (item : Item T) (call : Calling T C (Unit {0}) Bool) : Type 0 where
+    pub start : call.start ≡ Queues (push_of item)
+    pub answer : (e : Bool) (m : Unit {0}) → call.answer e m ≡ Truth e
+    pub tells : (n p : ℕ) (from : Option (Start T × Flight T)) (e : Bool) (m : Unit {0}) (es : List (Event T)) → call.wrote_all n p from e m es → es ≡ push_told p item e
+    pub left : (e : Bool) → call.left e → e ≡ false
+    pub at_end : (c : C) (m : Unit {0}) (n : ℕ) (a : Ask) → call.skips c n ≡ true → want_of code (call.flight c m) ≡ wants.Ask a → (a.word ≡ 0) × (n ≡ 2 ^ 64 - 1)
+
+  -- the call is a pop, by way of a room that has this value in the end
+  pub record IsPop {C M V : Type 0} (named : V → Item T) (value : M → V) (call : Calling T C M Bool) : Type 0 where
+    pub start : call.start ≡ Queues Pop
+    pub answer : (e : Bool) (m : M) → call.answer e m ≡ popped_item (option_map named (pop_answer (value m) e))
+    pub tells : (n p : ℕ) (from : Option (Start T × Flight T)) (e : Bool) (m : M) (es : List (Event T)) → call.wrote_all n p from e m es → es ≡ pop_told p (option_map named (pop_answer (value m) e))
+
+module _ {T : Type 0} (code : Coding T) (r : Ring) (base w : View T) (idle : base.going ≡ None) where
+  -- ---- pushes
+
+  module _ {C : Type 0} (item : Item T) (call : Calling T C (Unit {0}) Bool) (is : IsPush code item call) (alone : base.other ≡ []) (some : 0 < base.share.part) (has : HasRole Producer base.made) where
+    pushed_so : (e : Bool) (m : Unit {0}) → Ends code (machine_kind (kind_of r)) call base e m w → HasPushed item e base w
+    pushed_so e m ends =
+        record {
+          by = ends.party;
+          mine = ends.mine;
+          called =
+              subst (λ s. Called ends.party s (Truth e) (push_told ends.party item e) base w) is.start
+              (subst (λ a. Called ends.party call.start a (push_told ends.party item e) base w) (is.answer e m)
+              (subst (λ es. Called ends.party call.start (call.answer e m) es base w) (is.tells base.capacity ends.party base.going e m ends.wrote ends.tells)
+              (called code (machine_kind (kind_of r)) call base w e m idle ends)));
+        }
+
+    was_at_end : (e : Bool) (m : Unit {0}) → LeftOut code (machine_kind (kind_of r)) call base e m w → WasAtEnd base w
+    was_at_end e m left =
+        let queue = queue_goes_on code (kind_of r) base left.trace left.run in
+        let at = is.at_end left.from left.room left.word left.ask left.skipped left.asks in
+        let word : slice_index left.trace.world.words 0 ≡ 2 ^ 64 - 1 = ap (λ n. slice_index left.trace.world.words n) (sym at.0) ∙ (left.found ∙ at.1) in
+        record { since = left.looked.mine; made = left.looked.made; end = ap (λ es. length (published es)) left.seen ∙ (sym queue.book.write ∙ word); list = looked_alone code r Producer base w left.looked alone some has }
+
+    pub pushed : (e : Bool) (m : Unit {0}) → Over code (machine_kind (kind_of r)) call base e m w → HasPushed item e base w ⊎ (e ≡ false) × WasAtEnd base w
+    pushed e m (inl ends) = inl (pushed_so e m ends)
+    pushed e m (inr left) = inr (is.left e left.left, was_at_end e m left)
+
+    pub published_if : (e : Bool) (m : Unit {0}) → Over code (machine_kind (kind_of r)) call base e m w → e ≡ true → HasPublished item base w
+    published_if e m (inl ends) took = has_published code r base.capacity base w item ends.history (subst (λ b. HasPushed item b base w) took (pushed_so e m ends))
+    published_if e m (inr left) took = (let never : false ≡ true = sym (is.left e left.left) ∙ took in absurd (cc))
+
+    pub full : (e : Bool) (m : Unit {0}) → Over code (machine_kind (kind_of r)) call base e m w → e ≡ false → WasFull base.capacity item base w ⊎ WasAtEnd base w
+    full e m (inl ends) refused = inl (was_full code r base.capacity base w item ends.history (subst (λ b. HasPushed item b base w) refused (pushed_so e m ends)))
+    full e m (inr left) refused = inr (was_at_end e m left)
+
+  -- ---- pops
+
+  pub has_popped : {C M V : Type 0} (named : V → Item T) (value : M → V) (call : Calling T C M Bool) → IsPop named value call → (e : Bool) (m : M) → Ends code (machine_kind (kind_of r)) call base e m w → HasPopped (option_map named (pop_answer (value m) e)) base w
+  has_popped named value call is e m ends =
+      let told = pop_told ends.party (option_map named (pop_answer (value m) e)) in
+      record {
+        by = ends.party;
+        mine = ends.mine;
+        called =
+            subst (λ s. Called ends.party s (popped_item (option_map named (pop_answer (value m) e))) told base w) is.start
+            (subst (λ (a : Answer T). Called ends.party call.start a told base w) (is.answer e m)
+            (subst (λ es. Called ends.party call.start (call.answer e m) es base w) (is.tells base.capacity ends.party base.going e m ends.wrote ends.tells)
+            (called code (machine_kind (kind_of r)) call base w e m idle ends)));
+      }
+
+-- what its answer says of the list
+module _ {T V : Type 0} (code : Coding T) (r : Ring) (named : V → Item T) (capacity : ℕ) (base w : View T) (h : IsHistory code (machine_kind (kind_of r)) capacity w.seen) where
+  pub taken_if : (o : Option V) → HasPopped (option_map named o) base w → IfSome o (λ x. HasTakenOut (named x) base w)
+  taken_if None popping = tt
+  taken_if (Some x) popping = has_taken_out code r capacity base w h (named x) popping
+
+  pub empty_if : (o : Option V) → HasPopped (option_map named o) base w → IfNone o (WasEmpty base w)
+  empty_if None popping = was_empty code r capacity base w h popping
+  empty_if (Some x) popping = tt

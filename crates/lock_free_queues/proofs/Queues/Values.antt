@@ -1,0 +1,46 @@
+-- The push and the pop of a queue of values.
+use Rattle.std.proofs.Common.{◌≡◌, ℕ, Bool, true, false, Option, Some, None, List, refl, ◌∙◌}
+use Rattle.std.specs.Option.{option_map}
+use Rattle.steps.specs.Queues.Ring.{pop_answer}
+use Rattle.model.specs.declared.event.Item.{Item}
+use Rattle.model.specs.declared.event.Item.TheVariants.{Value}
+use Rattle.model.specs.Coding.{Coding}
+use Rattle.model.specs.Families.Queues.Calls.{popped_value}
+use Rattle.history.specs.ValueQueue.{value_push_wrote, value_pop_wrote, pushes_value, value_there, pops_value}
+use Rattle.lock_free_queues.specs.Queues.Told.{push_told, popped_item, pop_told}
+use Rattle.lock_free_queues.proofs.Queues.Ended.{IsPush, IsPop}
+use Rattle.lock_free_queues.proofs.Queues.Indices.{ends_at}
+
+module _ {T : Type 0} (code : Coding T) where
+  abbrev pub value_of : T → Item T
+  value_of v = Value v
+
+  pub value_push : (v : T) → IsPush code (Value v) (pushes_value code v)
+  value_push v =
+      record {
+        start = refl;
+        answer = λ e m. refl;
+        tells = λ n p from e m es h. h ∙ told p e;
+        left = λ e h. h;
+        at_end = λ c m n a skip asks. ends_at code.words_of v n a c.stage skip asks;
+      }
+    where
+      told : (p : ℕ) (taken : Bool) → value_push_wrote {T = T} p v taken ≡ push_told p (Value v) taken
+      told p true = refl
+      told p false = refl
+
+  pub value_pop : {R : Type 0} (words_in : R → List ℕ) → IsPop value_of (value_there code words_in) (pops_value code words_in)
+  value_pop words_in =
+      record {
+        start = refl;
+        answer = λ e m. answers (pop_answer (value_there code words_in m) e);
+        tells = λ n p from e m es h. h ∙ told p (value_there code words_in m) e;
+      }
+    where
+      answers : (o : Option T) → popped_value o ≡ popped_item (option_map value_of o)
+      answers None = refl
+      answers (Some x) = refl
+
+      told : (p : ℕ) (x : T) (e : Bool) → value_pop_wrote p x e ≡ pop_told p (option_map value_of (pop_answer x e))
+      told p x true = refl
+      told p x false = refl

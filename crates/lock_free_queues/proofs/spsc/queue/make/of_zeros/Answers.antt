@@ -1,0 +1,6 @@
+use Rattle.std.proofs.Common.{◌∙◌}
+use Rattle.lock_free_queues.proofs.Queues.Opened.{zeros_in}
+use Rattle.lock_free_queues.proofs.spsc.queue.make.of_zeros.Goals as goal
+
+pub returns : goal.returns
+returns g c = c.value.ensures ∙ zeros_in g.T.Words.value_of g.T.Words.WORDS 128 g.met.T.Words.few

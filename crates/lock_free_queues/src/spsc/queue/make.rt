@@ -1,0 +1,124 @@
+//! How a queue is made.
+ghost use Rattle.std.specs.Prelude.{◌≡◌, ◌⊎◌, ◌-◌, ◌^◌, None, Some, IfOk, IfErr, OnOk, replicate};
+ghost use Rattle.steps.specs.Enums.{capacity_refusal};
+ghost use Rattle.steps.specs.declared.enums.UniqueIndexCreationError.TheVariants.{NoMemory};
+ghost use Rattle.model.specs.declared.event.Item.TheVariants.{Value};
+ghost use Rattle.history.specs.Views.{first_view};
+ghost use Rattle.lock_free_queues.specs.Queues.Opened.{opened_view};
+ghost use Rattle.lock_free_queues.specs.Queues.Values.{capacity_of, inner, IsPassOf, view};
+
+use super::rule::Origin;
+use super::{Held, Pass, Queue, Ring};
+use crate::spsc::places::{cells_used, start_at};
+use atomic_table::Table;
+use lock_free_sp::driver::seated::Seated;
+use std::alloc::{AllocError, Global};
+use std::sync::Arc;
+use steps::copied::{Kept, Room};
+use steps::enums::{UniqueIndexCreationError, capacity_refusal};
+use steps::queues::ring::{CONSUMER, FIRST_CELL, PRODUCER, READ, WRITE};
+use steps::words::Words;
+
+/// The value that words of zeros make.
+fn of_zeros<T: Words>() -> T
+    ensures { result ≡ T.value_of (replicate T.WORDS 0) }
+{
+    Kept::<128> { words: [0; 128] }.value()
+}
+
+impl<T: Words> Ring<T> {
+    /// An empty queue with both positions here, and its first pass. The cells that so many pushes have used have the
+    /// words of what they pushed.
+    fn of(alloc: Global, capacity: u32, position: u64) -> Result<(Ring<T>, Pass<T>), AllocError>
+        ensures pass { IfOk result (λ r. IsPassOf r.0 r.1
+            × (view r.1 ≡ opened_view (Value (T.value_of (replicate T.WORDS 0))) capacity position)) }
+        ensures capacity { IfOk result (λ r. capacity_of r.0 ≡ capacity) }
+    {
+        let start = start_at(capacity, position);
+        let size = T::WORDS;
+        let value = of_zeros::<T>();
+        let mut words = Vec::from_elem(alloc, 0u64, FIRST_CELL + size * capacity as usize + 1)?;
+        words[WRITE] = start;
+        words[READ] = start;
+        words[PRODUCER] = 1;
+        words[CONSUMER] = 1;
+        let used = size * cells_used(capacity, position) as usize;
+        for at in 0..used {
+            let word = value.word(at % size);
+            words[FIRST_CELL + at] = word;
+        }
+        let origin = Origin {
+            capacity: capacity as u64,
+            position,
+        };
+        let (table, seat) = Table::of_words(alloc, words.as_slice(), &origin)?;
+        let table = Arc::new(alloc, table)?;
+        let shared = Arc::try_clone(&table)?;
+        let token = Held {
+            seated: Seated {
+                seat,
+                table: shared,
+            },
+            capacity,
+        };
+        let ring = Ring {
+            table,
+            capacity,
+            alloc,
+        };
+        Ok((ring, Pass { token }))
+    }
+
+    /// An empty queue with both positions here, and its first pass.
+    fn open(
+        alloc: Global,
+        capacity: usize,
+        position: u64,
+    ) -> Result<(Ring<T>, Pass<T>), UniqueIndexCreationError>
+        ensures pass { IfOk result (λ r. IsPassOf r.0 r.1
+            × (view r.1 ≡ opened_view (Value (T.value_of (replicate T.WORDS 0))) capacity position)) }
+        ensures capacity { IfOk result (λ r. capacity_of r.0 ≡ capacity) }
+        ensures admitted { OnOk result (capacity_refusal 0 (2 ^ 32 - 1) capacity ≡ None) }
+        ensures refused { IfErr result (λ e. (capacity_refusal 0 (2 ^ 32 - 1) capacity ≡ Some e)
+            ⊎ (capacity_refusal 0 (2 ^ 32 - 1) capacity ≡ None) × (e ≡ NoMemory)) }
+    {
+        if let Some(error) = capacity_refusal(capacity as u64, 0, u32::MAX as u64) {
+            return Err(error);
+        }
+        match Ring::of(alloc, capacity as u32, position) {
+            Ok(made) => Ok(made),
+            Err(_) => Err(UniqueIndexCreationError::NoMemory),
+        }
+    }
+}
+
+impl<T: Words, const CAPACITY: usize> Queue<T, CAPACITY> {
+    /// An empty queue and its first pass, which has the whole share and has seen nothing: the history is empty.
+    ///
+    /// Refused are, in this order, a CAPACITY above 2^32 - 1 (`ProvidedCapacityGreaterThanMaxCapacity`) and memory
+    /// (`NoMemory`). After `Queue::new` of the Rust crate.
+    pub fn new(alloc: Global) -> Result<(Queue<T, CAPACITY>, Pass<T>), UniqueIndexCreationError>
+        ensures pass { IfOk result (λ r. IsPassOf (inner r.0) r.1 × (view r.1 ≡ first_view CAPACITY)) }
+        ensures admitted { OnOk result (capacity_refusal 0 (2 ^ 32 - 1) CAPACITY ≡ None) }
+        ensures refused { IfErr result (λ e. (capacity_refusal 0 (2 ^ 32 - 1) CAPACITY ≡ Some e)
+            ⊎ (capacity_refusal 0 (2 ^ 32 - 1) CAPACITY ≡ None) × (e ≡ NoMemory)) }
+    {
+        Queue::new_at(alloc, 0)
+    }
+
+    /// The same with both positions at `position`, as after so many pushes and pops of the value that words of zeros
+    /// make, which its history begins with; without capacity there are none. This project's own.
+    pub fn new_at(
+        alloc: Global,
+        position: u64,
+    ) -> Result<(Queue<T, CAPACITY>, Pass<T>), UniqueIndexCreationError>
+        ensures pass { IfOk result (λ r. IsPassOf (inner r.0) r.1
+            × (view r.1 ≡ opened_view (Value (T.value_of (replicate T.WORDS 0))) CAPACITY position)) }
+        ensures admitted { OnOk result (capacity_refusal 0 (2 ^ 32 - 1) CAPACITY ≡ None) }
+        ensures refused { IfErr result (λ e. (capacity_refusal 0 (2 ^ 32 - 1) CAPACITY ≡ Some e)
+            ⊎ (capacity_refusal 0 (2 ^ 32 - 1) CAPACITY ≡ None) × (e ≡ NoMemory)) }
+    {
+        let (ring, pass) = Ring::open(alloc, CAPACITY, position)?;
+        Ok((Queue { ring }, pass))
+    }
+}

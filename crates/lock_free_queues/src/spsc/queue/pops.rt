@@ -1,0 +1,58 @@
+//! The pop at a seat, by way of a room.
+ghost use Rattle.std.specs.Prelude.{◌≡◌, ◌≤◌, ℕ, replicate, IfSome, IfNone};
+ghost use Rattle.std.specs.Option.{option_map};
+ghost use Rattle.steps.specs.declared.queues.roles.Role.{Role};
+ghost use Rattle.steps.specs.declared.queues.roles.Role.TheVariants as roles;
+ghost use Rattle.model.specs.declared.event.Item.TheVariants.{Value};
+ghost use Rattle.history.specs.Roles.{HasRole};
+ghost use Rattle.lock_free_queues.specs.Queues.Roles.{Moved};
+ghost use Rattle.lock_free_queues.specs.Queues.Told.{HasPopped, HasTakenOut, WasEmpty};
+ghost use Rattle.lock_free_queues.specs.Queues.Values.{token_view, IsSameQueue};
+
+use super::Held;
+use super::drives::Pops;
+use super::rule::RingRule;
+use steps::copied::{Kept, Room};
+use steps::queues::ring::Pop;
+use steps::routine::Routine;
+use steps::words::Words;
+
+impl<T: Words> Held<T, RingRule<T>> {
+    /// Takes the oldest value, or None where the queue is empty.
+    pub fn pop(&mut self) -> Option<T>
+        requires { HasRole roles.Consumer (token_view self.old).made }
+        ensures same { IsSameQueue self.old self.new }
+        ensures popped { HasPopped (option_map Value result) (token_view self.old) (token_view self.new) }
+        ensures taken { IfSome result (λ x. HasTakenOut (Value x) (token_view self.old) (token_view self.new)) }
+        ensures empty { IfNone result (WasEmpty (token_view self.old) (token_view self.new)) }
+        ensures roles { (r : Role) → Moved r 0 0 (token_view self.old).made (token_view self.new).made }
+    {
+        // a room is filled with zeros: the smallest that the words fit in
+        if T::WORDS <= 2 {
+            self.pop_by(Kept::<2> { words: [0; 2] })
+        } else if T::WORDS <= 16 {
+            self.pop_by(Kept::<16> { words: [0; 16] })
+        } else {
+            self.pop_by(Kept::<128> { words: [0; 128] })
+        }
+    }
+
+    /// The same by way of this room.
+    #[inline(always)]
+    pub fn pop_by<R: Room<T> + Drop>(&mut self, room: R) -> Option<T>
+        requires role { HasRole roles.Consumer (token_view self.old).made }
+        requires room { (n : ℕ) × (T.WORDS ≤ n) × (n ≤ 128) × (R.words_in room ≡ replicate n 0) }
+        ensures same { IsSameQueue self.old self.new }
+        ensures popped { HasPopped (option_map Value result) (token_view self.old) (token_view self.new) }
+        ensures taken { IfSome result (λ x. HasTakenOut (Value x) (token_view self.old) (token_view self.new)) }
+        ensures empty { IfNone result (WasEmpty (token_view self.old) (token_view self.new)) }
+        ensures roles { (r : Role) → Moved r 0 0 (token_view self.old).made (token_view self.new).made }
+    {
+        let call = Pop::<T, R>::new(self.capacity);
+        let mut room = room;
+        let end = self
+            .seated
+            .drive::<Pop<T, R>, Pops<T, R>>(call, &(), &mut room);
+        Pop::<T, R>::answer(end, &(), &room)
+    }
+}
