@@ -1,4 +1,5 @@
 //! The worked pieces of README.md and of CALLING.md.
+mod handles;
 mod percent;
 mod readme;
 mod roles;
