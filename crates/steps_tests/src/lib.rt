@@ -3,11 +3,11 @@
 #![tactic(auto)]
 
 #[cfg(test)]
-mod calls;
-#[cfg(test)]
 mod container;
 #[cfg(test)]
 mod drive;
+#[cfg(test)]
+mod driven;
 #[cfg(test)]
 mod queues;
 #[cfg(test)]

@@ -1,6 +1,6 @@
 //! Bounded queues of values of one word, of a pair, of three words and of 128.
-use crate::calls::{overflow_pop, overflow_push, pop, pop_one};
 use crate::drive::{ends, with};
+use crate::driven::{overflow_pop, overflow_push, pop, pop_one};
 use crate::rows::{Row, fills_and_empties, play};
 use calls::long_values::{Greatest, Three};
 use steps::ask::{Call, Want};

@@ -1,6 +1,6 @@
 //! The single value, step by step.
-use crate::calls::{load, load_one, store};
 use crate::drive::{ends, partly, with};
+use crate::driven::{load, load_one, store};
 use crate::rows::{Row, play};
 use calls::long_values::{Greatest, Three};
 use std::process::Abort;
