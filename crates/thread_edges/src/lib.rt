@@ -9,6 +9,8 @@ mod crossing;
 #[cfg(test)]
 mod examples;
 #[cfg(test)]
+mod loans;
+#[cfg(test)]
 mod openings;
 #[cfg(test)]
 mod plain_containers;

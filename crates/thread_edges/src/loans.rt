@@ -1,0 +1,24 @@
+//! A sender of a loan channel that memory is refused to.
+use lock_free::mpmc::unique_index_set::UniqueIndexSet;
+use lock_free::spsc::index_queue::IndexQueue;
+use lock_free::spsc::loan::LoanSender;
+use lock_free::spsc::safely_overflowing_index_queue::SafelyOverflowingIndexQueue;
+use std::test::Fail;
+
+/// Where memory is refused to the sender the test fails by that alone: both roles are free then, and not while it lives.
+#[test]
+fn a_refused_sender(rt: HostRuntime) -> Result<(), Fail> {
+    let (set, slots) = UniqueIndexSet::new(rt.alloc(), 12)?;
+    let (submission, mut sends) = SafelyOverflowingIndexQueue::new(rt.alloc(), 2)?;
+    let (completion, mut returns) = IndexQueue::new(rt.alloc(), 12)?;
+    let sending = sends.split().ok_or("no further pass")?;
+    let taking = returns.split().ok_or("no further pass")?;
+    let producer = submission.acquire_producer(sends).map_err(|_| "taken")?;
+    let consumer = completion.acquire_consumer(returns).map_err(|_| "taken")?;
+    let sender = LoanSender::new(rt.alloc(), &set, slots, producer, consumer);
+    let lives = sender.is_ok();
+    assert!(rt; submission.acquire_producer(sending).is_err() == lives);
+    assert!(rt; completion.acquire_consumer(taking).is_err() == lives);
+    sender.map_err(|_| "no memory")?;
+    Ok(())
+}
