@@ -16,7 +16,7 @@ use Rattle.queue_laws.proofs.Queues.Sound.{kept_is}
 use Rattle.queue_laws.proofs.Queues.Values.{Val, encoded, item}
 use Rattle.queue_laws.proofs.Ring.Kinds.{Ring, of_indices, of_values, kind_of, cells_are}
 use Rattle.history.specs.History.{IsRun}
-use Rattle.history.proofs.Queues.{sound}
+use Rattle.history.proofs.Queues.{sound_of}
 
 pub get_behind : {A : Type 0} (xs ys : List A) (k : ℕ) → slice_get (xs ++ ys) (length xs + k) ≡ slice_get ys k
 get_behind [] ys k = (let same : 0 + k ≡ k = omega arith in ap (slice_get ys) same)
@@ -38,7 +38,7 @@ module _ {T : Type 0} (code : Coding T) (r : Ring) (capacity : ℕ) (t : Trace T
 
   module _ (i : ℕ) (x : Item T) (at : slice_get (published t.events) i ≡ Some x) (low : length (handed_out t.events) ≤ i) where
     abbrev s : frame.Sound (family t.world.coding (kind_of r) t.world.capacity) t
-    s = sound code capacity r t run
+    s = sound_of code capacity (kind_of r) t run
 
     abbrev rank : ℕ
     rank = i - length (handed_out t.events)

@@ -1,10 +1,12 @@
 -- What one load of a queue's word tells, and what the loads of all words tell together.
-use Rattle.std.proofs.Common.{◌≡◌, ⊎_elim, ℕ, ◌+◌, ◌*◌, ◌<◌, ◌≤◌, ◌^◌, List, [], ◌∷◌, ◌++◌, length, max, set, slice_index, refl, sym, ap, subst, ◌∙◌, append_assoc, append-nil, length-set, length-append, get_or-set_same, get_or-set_other, arith}
+use Rattle.std.proofs.Common.{◌≡◌, ⊎_elim, ℕ, Option, ◌+◌, ◌*◌, ◌<◌, ◌≤◌, ◌^◌, List, [], ◌∷◌, ◌++◌, length, max, set, slice_index, refl, sym, ap, subst, ◌∙◌, append_assoc, append-nil, length-set, length-append, get_or-set_same, get_or-set_other, arith}
 use Rattle.std.proofs.lemmas.Bool.{cases_lt}
 use Rattle.std.proofs.lemmas.List.{get_or_append_left}
 use Rattle.std.proofs.Math.Seq.{get_or-append_seam}
 use Rattle.atomic_table.specs.Table.{Me, Allows}
 use Rattle.model.specs.declared.event.Event.{Event}
+use Rattle.model.specs.declared.event.Start.{Start}
+use Rattle.model.specs.declared.families.Flight.{Flight}
 use Rattle.model.specs.declared.turn.Kind.{Kind}
 use Rattle.model.specs.Coding.{Coding}
 use Rattle.model.specs.Families.Queues.Opening.{words_of_cell}
@@ -13,7 +15,7 @@ use Rattle.queue_laws.proofs.Queues.Invariant.{machine_kind}
 use Rattle.queue_laws.proofs.Ring.Kinds.{Ring, kind_of}
 use Rattle.history.specs.declared.view.View.{View}
 use Rattle.history.specs.History.{IsBeginning, IsMachine, IsRun}
-use Rattle.history.specs.Views.{Looks, LooksAt}
+use Rattle.history.specs.Views.{Looks, LooksAt, WhenIdle}
 use Rattle.history.proofs.Passes.{looks_word}
 use Rattle.history.proofs.Queues.{ring_owes}
 use Rattle.lock_free_queues.specs.Queues.Told.{HasLooked}
@@ -63,8 +65,13 @@ module _ {T : Type 0} (code : Coding T) (kind : Kind) where
   abbrev pub Owed : ℕ → ℕ → ℕ → ℕ → Me (Unit {0}) (View T) → Type 0
   Owed key slots id word me = Allows (IsMachine code kind key) slots id me word (λ n. n) (λ found new. LooksAt code kind me.0.capacity word me.0 found new.0 × (new.1 ≡ []))
 
-  pub owed : (key slots id word : ℕ) (v : View T) (me : Me (Unit {0}) (View T)) → me ≡ (v, []) → v.capacity ≡ key → 0 < v.share.part → Owed key slots id word me
-  owed key slots id word v me same size some = subst (Owed key slots id word) (sym same) (subst (λ k. Owed k slots id word (v, [])) size (looks_word code kind v.capacity slots id word v some))
+  -- of a kind whose looks tell also while a call is under way
+  pub owed : ((going : Option (Start T × Flight T)) (Told : Type 0) → WhenIdle kind going Told → Told) → (key slots id word : ℕ) (v : View T) (me : Me (Unit {0}) (View T)) → me ≡ (v, []) → v.capacity ≡ key → 0 < v.share.part → Owed key slots id word me
+  owed tells key slots id word v me same size some =
+      subst (Owed key slots id word) (sym same)
+      (subst (λ k. Owed k slots id word (v, [])) size
+      (λ s holds many at low.
+      let r = looks_word code kind v.capacity slots id word v some s holds many at low in (r.0, r.1, r.2, r.3, (tells v.going _ r.4.0, r.4.1))))
 
   pub has_looked : (v w : View T) → v.other ≡ [] → Looks code kind v.capacity v w → HasLooked v w
   has_looked v w alone looks =

@@ -15,7 +15,7 @@ load-requires c =
     let size : v.capacity ≡ key = search rules in (
       at,
       subst (λ (t : TableId). 0 < t.words) at (let wide = mine.sized in omega arith),
-      owed one_word kinds.IndexQueue key c.deref.result.now.shared.table_id.slots mine.seated.seat.id 0 v mine.seated.seat.me (search rules) size mine.some.0,
+      owed one_word kinds.IndexQueue (λ going told x. x) key c.deref.result.now.shared.table_id.slots mine.seated.seat.id 0 v mine.seated.seat.me (search rules) size mine.some.0,
     )
 
 pub returns-clause-looked : goal.returns-clause-looked

@@ -15,7 +15,7 @@ load-requires c =
     let size : v.capacity ≡ key = search rules in (
       at,
       subst (λ (t : TableId). c.args.word < t.words) at (let wide = mine.sized in let low = c.requires in omega arith),
-      owed one_word kinds.IndexQueue key c.deref.result.now.shared.table_id.slots mine.seated.seat.id c.args.word v mine.seated.seat.me (search rules) size mine.some.0,
+      owed one_word kinds.IndexQueue (λ going told x. x) key c.deref.result.now.shared.table_id.slots mine.seated.seat.id c.args.word v mine.seated.seat.me (search rules) size mine.some.0,
     )
 
 pub returns-clause-read : goal.returns-clause-read

@@ -31,5 +31,5 @@ load-requires g c =
     let some = positive v.share.part w.share.parts mine.some.0 c.args.other.some.1 in (
       at,
       subst (λ (t : TableId). 0 < t.words) (sym old ∙ at) (let wide = mine.sized in omega arith),
-      owed (coding_of g.T.Words.WORDS g.T.Words.words_of g.T.Words.value_of) kinds.Queue key c.deref-2.result.now.shared.table_id.slots c.join_seat.new.seat.id 0 (joined_view v w) c.join_seat.new.seat.me (search rules) size (omega arith),
+      owed (coding_of g.T.Words.WORDS g.T.Words.words_of g.T.Words.value_of) kinds.Queue (λ going told x. x) key c.deref-2.result.now.shared.table_id.slots c.join_seat.new.seat.id 0 (joined_view v w) c.join_seat.new.seat.me (search rules) size (omega arith),
     )
