@@ -1,5 +1,5 @@
 //! The rows of the queues.
-ghost use Rattle.lock_free.specs.Ends as ends;
+ghost use Rattle.lock_free.specs.Queues.Rings as ends;
 
 use crate::hand::queues as by_hand;
 use crate::timing::{Row, Timed, print_timed};

@@ -73,6 +73,7 @@ impl Said {
 /// What a call answers. Where nothing is said the structure has no such call.
 #[derive(Drop)]
 pub struct Answer {
+    alloc: Global,
     said: Vec<Said>,
     /// Memory was refused.
     lost: bool,
@@ -81,9 +82,15 @@ pub struct Answer {
 impl Answer {
     pub fn new(alloc: Global) -> Answer {
         Answer {
+            alloc,
             said: Vec::new(alloc),
             lost: false,
         }
+    }
+
+    /// Where a call takes memory for its answer.
+    pub fn alloc(&self) -> Global {
+        self.alloc
     }
 
     pub fn clear(&mut self) {

@@ -15,4 +15,5 @@ pub mod owners;
 pub mod play;
 pub mod said;
 pub mod stage;
+pub mod two;
 pub mod words;

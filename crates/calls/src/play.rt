@@ -1,6 +1,7 @@
 //! The lines of a block, made on two forms of a structure: that of one caller, and one of threads.
 //!
-//! A further structure is a type of calls with `Call`, and `Answers` of its forms.
+//! A further structure is a type of calls with `Call`, and `Answers` of its forms. Where a line says `other`, the next calls
+//! are made by another pass.
 use crate::answer::Answer;
 use crate::drawn::Draws;
 use crate::stage::{Line, Scene, Stage};
@@ -10,6 +11,11 @@ use std::sync::Wait;
 /// A structure that answers calls.
 pub trait Answers<C> {
     fn answer(&mut self, rt: &impl Wait, call: C, answer: &mut Answer);
+
+    /// The next calls are made by another pass: whether there is one.
+    fn turns(&mut self) -> bool {
+        false
+    }
 }
 
 /// In place of a form of one caller, where there is none.
@@ -147,6 +153,13 @@ fn make_call<C: Call, P: Answers<C>, S: Answers<C>>(
     stage.compare(scene.form, line, &one, &other);
 }
 
+/// The next calls are made by another pass of the structure of threads, which has to have one.
+fn turn<C, S: Answers<C>>(stage: &mut Stage, line: Line<'_>, shared: &mut S) {
+    if !stage.skips() && !shared.turns() {
+        stage.not_read(line);
+    }
+}
+
 /// Makes what a line says on both. A line that begins with `#` says nothing.
 fn make_line<C: Call, P: Answers<C>, S: Answers<C>>(
     rt: &impl Wait,
@@ -158,6 +171,9 @@ fn make_line<C: Call, P: Answers<C>, S: Answers<C>>(
 ) {
     if line.call.starts_with('#') || line.call.is_empty() {
         return;
+    }
+    if line.call == "other" {
+        return turn::<C, S>(stage, line, shared);
     }
     match part_of(line) {
         Some(part) => {

@@ -2,55 +2,19 @@
 use crate::container::alone::Alone;
 use crate::container::call::ContainerCall;
 use crate::container::user::User;
-use calls::forms::{Form, on};
+use calls::forms::{Form, Made, Plain, on, plays};
 use calls::long_values::{Greatest, Sixteen, Three};
 use calls::numbered::Numbered;
-use calls::play::play;
 use calls::stage::{Scene, Stage};
 use calls::words::Words;
 use lock_free_owners::mpmc::container::{Container, FixedSizeContainer};
 use std::marker::PhantomData;
 use std::sync::Wait;
-use steps::enums::UniqueIndexCreationError;
 
 mod alone;
 mod call;
 mod kept;
 mod user;
-
-/// Plays the block on a container of one caller and on one of threads. Where there is no user of one, memory was refused.
-fn plays<T: Numbered>(
-    rt: &impl Wait,
-    scene: Scene<'_>,
-    stage: &mut Stage,
-    alone: Option<Alone<T>>,
-    user: Option<User<'_, T>>,
-) -> Result<(), UniqueIndexCreationError> {
-    let Some(mut alone) = alone else {
-        return Err(UniqueIndexCreationError::NoMemory);
-    };
-    let Some(mut user) = user else {
-        return Err(UniqueIndexCreationError::NoMemory);
-    };
-    play::<ContainerCall, _, _>(rt, scene, stage, &mut alone, &mut user);
-    Ok(())
-}
-
-/// One of one caller, which is only made.
-struct Plain<T> {
-    values: PhantomData<T>,
-}
-
-impl<T: Numbered> Form for Plain<T> {
-    fn plays(
-        _rt: &impl Wait,
-        scene: Scene<'_>,
-        _stage: &mut Stage,
-    ) -> Result<(), UniqueIndexCreationError> {
-        plain::Container::<T>::new(scene.alloc, scene.capacity, scene.number)?;
-        Ok(())
-    }
-}
 
 /// One of threads.
 struct Heap<T> {
@@ -58,15 +22,10 @@ struct Heap<T> {
 }
 
 impl<T: Numbered> Form for Heap<T> {
-    fn plays(
-        rt: &impl Wait,
-        scene: Scene<'_>,
-        stage: &mut Stage,
-    ) -> Result<(), UniqueIndexCreationError> {
-        let alone = Alone::<T>::new(scene.alloc, scene.capacity, scene.number);
+    fn plays(rt: &impl Wait, scene: Scene<'_>, stage: &mut Stage) -> Made {
         let (container, pass) = Container::<T>::new(scene.alloc, scene.capacity, scene.number)?;
-        let user = User::new(rt, scene.alloc, &container, pass, scene.number);
-        plays(rt, scene, stage, alone, user)
+        let user = User::new(rt, scene, &container, pass);
+        plays::<ContainerCall, Alone<T>, _>(rt, scene, stage, user)
     }
 }
 
@@ -76,15 +35,10 @@ struct Fixed<T, const CAPACITY: usize> {
 }
 
 impl<T: Numbered, const CAPACITY: usize> Form for Fixed<T, CAPACITY> {
-    fn plays(
-        rt: &impl Wait,
-        scene: Scene<'_>,
-        stage: &mut Stage,
-    ) -> Result<(), UniqueIndexCreationError> {
-        let alone = Alone::<T>::new(scene.alloc, scene.capacity, scene.number);
+    fn plays(rt: &impl Wait, scene: Scene<'_>, stage: &mut Stage) -> Made {
         let (container, pass) = FixedSizeContainer::<T, CAPACITY>::new(scene.alloc, scene.number)?;
-        let user = User::new(rt, scene.alloc, &container, pass, scene.number);
-        plays(rt, scene, stage, alone, user)
+        let user = User::new(rt, scene, &container, pass);
+        plays::<ContainerCall, Alone<T>, _>(rt, scene, stage, user)
     }
 }
 
@@ -98,7 +52,7 @@ fn on_fixed<T: Numbered, const CAPACITY: usize>(
 
 /// Plays the block on all forms.
 fn of<T: Numbered>(rt: &impl Wait, scene: Scene<'_>, stage: &mut Stage) {
-    on::<Plain<T>>(rt, scene, stage, "plain");
+    on::<Plain<ContainerCall, Alone<T>>>(rt, scene, stage, "plain");
     on::<Heap<T>>(rt, scene, stage, "heap");
     match scene.capacity {
         0 => on_fixed::<T, 0>(rt, scene, stage),

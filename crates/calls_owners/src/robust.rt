@@ -1,8 +1,7 @@
 //! Sets of indices of owners.
-use crate::robust::alone::Alone;
 use crate::robust::call::RobustCall;
-use crate::robust::user::User;
-use calls::forms::{Form, on};
+use crate::robust::user::two;
+use calls::forms::{Form, Made, Plain, on, plays};
 use calls::play::{Nobody, play};
 use calls::stage::{Scene, Stage};
 use calls::words::Words;
@@ -10,59 +9,21 @@ use lock_free_owners::mpmc::robust_unique_index_set::{
     RobustUniqueIndexSet, StaticRobustUniqueIndexSet,
 };
 use std::sync::Wait;
-use steps::enums::UniqueIndexCreationError;
 
 mod alone;
 mod call;
 mod user;
 
-/// Plays the block on a set of one caller and on one of threads. Where there is no user of that, memory was refused.
-fn plays(
-    rt: &impl Wait,
-    scene: Scene<'_>,
-    stage: &mut Stage,
-    user: Option<User<'_>>,
-) -> Result<(), UniqueIndexCreationError> {
-    let set = plain::RobustUniqueIndexSet::new(scene.alloc, scene.capacity)?;
-    let mut alone = Alone {
-        set,
-        alloc: scene.alloc,
-    };
-    let Some(mut user) = user else {
-        return Err(UniqueIndexCreationError::NoMemory);
-    };
-    play::<RobustCall, _, _>(rt, scene, stage, &mut alone, &mut user);
-    Ok(())
-}
-
-/// One of one caller, which is only made.
-struct Plain;
-
-impl Form for Plain {
-    fn plays(
-        _rt: &impl Wait,
-        scene: Scene<'_>,
-        _stage: &mut Stage,
-    ) -> Result<(), UniqueIndexCreationError> {
-        plain::RobustUniqueIndexSet::new(scene.alloc, scene.capacity)?;
-        Ok(())
-    }
-}
-
 /// One of one caller from a generation on, which is played on alone.
 struct OfGeneration;
 
 impl Form for OfGeneration {
-    fn plays(
-        rt: &impl Wait,
-        scene: Scene<'_>,
-        stage: &mut Stage,
-    ) -> Result<(), UniqueIndexCreationError> {
-        let set = plain::RobustUniqueIndexSet::new_at(scene.alloc, scene.capacity, scene.number)?;
-        let mut alone = Alone {
-            set,
-            alloc: scene.alloc,
-        };
+    fn plays(rt: &impl Wait, scene: Scene<'_>, stage: &mut Stage) -> Made {
+        let mut alone = plain::RobustUniqueIndexSet::new_at(
+            scene.alloc,
+            scene.capacity,
+            scene.number,
+        )?;
         let mut nobody = Nobody;
         play::<RobustCall, _, _>(rt, scene, stage, &mut nobody, &mut alone);
         let Nobody = nobody;
@@ -74,13 +35,9 @@ impl Form for OfGeneration {
 struct Heap;
 
 impl Form for Heap {
-    fn plays(
-        rt: &impl Wait,
-        scene: Scene<'_>,
-        stage: &mut Stage,
-    ) -> Result<(), UniqueIndexCreationError> {
+    fn plays(rt: &impl Wait, scene: Scene<'_>, stage: &mut Stage) -> Made {
         let (set, pass) = RobustUniqueIndexSet::new(scene.alloc, scene.capacity)?;
-        plays(rt, scene, stage, User::new(scene.alloc, &set, pass))
+        plays::<RobustCall, plain::RobustUniqueIndexSet, _>(rt, scene, stage, two(&set, pass))
     }
 }
 
@@ -88,13 +45,9 @@ impl Form for Heap {
 struct Fixed<const CAPACITY: usize>;
 
 impl<const CAPACITY: usize> Form for Fixed<CAPACITY> {
-    fn plays(
-        rt: &impl Wait,
-        scene: Scene<'_>,
-        stage: &mut Stage,
-    ) -> Result<(), UniqueIndexCreationError> {
+    fn plays(rt: &impl Wait, scene: Scene<'_>, stage: &mut Stage) -> Made {
         let (set, pass) = StaticRobustUniqueIndexSet::<CAPACITY>::new(scene.alloc)?;
-        plays(rt, scene, stage, User::new(scene.alloc, &set, pass))
+        plays::<RobustCall, plain::RobustUniqueIndexSet, _>(rt, scene, stage, two(&set, pass))
     }
 }
 
@@ -102,16 +55,12 @@ impl<const CAPACITY: usize> Form for Fixed<CAPACITY> {
 struct Reduced<const CAPACITY: usize>;
 
 impl<const CAPACITY: usize> Form for Reduced<CAPACITY> {
-    fn plays(
-        rt: &impl Wait,
-        scene: Scene<'_>,
-        stage: &mut Stage,
-    ) -> Result<(), UniqueIndexCreationError> {
+    fn plays(rt: &impl Wait, scene: Scene<'_>, stage: &mut Stage) -> Made {
         let (set, pass) = StaticRobustUniqueIndexSet::<CAPACITY>::new_with_reduced_capacity(
             scene.alloc,
             scene.capacity,
         )?;
-        plays(rt, scene, stage, User::new(scene.alloc, &set, pass))
+        plays::<RobustCall, plain::RobustUniqueIndexSet, _>(rt, scene, stage, two(&set, pass))
     }
 }
 
@@ -165,7 +114,7 @@ pub fn forms(
     if let Some(word) = words.word() {
         return forms_of(rt, scene, stage, word, words.number()?);
     }
-    on::<Plain>(rt, scene, stage, "plain");
+    on::<Plain<RobustCall, plain::RobustUniqueIndexSet>>(rt, scene, stage, "plain");
     on::<Heap>(rt, scene, stage, "heap");
     match scene.capacity {
         0 => on_fixed::<0>(rt, scene, stage),

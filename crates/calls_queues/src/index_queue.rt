@@ -1,11 +1,11 @@
 //! Index queues.
 ghost use Rattle.std.specs.Prelude.{◌≡◌};
 
-use crate::queue_user::{ends, plays};
+use crate::queue_user::{User, ends, plays};
 use calls::forms::{Form, on};
-use calls::stage::{Scene, Stage};
+use calls::stage::{Line, Scene, Stage};
 use calls::words::Words;
-use lock_free_sp::spsc::index_queue::{FixedSizeIndexQueue, IndexQueue};
+use lock_free_queues::spsc::index_queue::{FixedSizeIndexQueue, IndexQueue};
 use std::sync::Wait;
 use steps::enums::UniqueIndexCreationError;
 
@@ -32,10 +32,16 @@ impl Form for Heap {
         scene: Scene<'_>,
         stage: &mut Stage,
     ) -> Result<(), UniqueIndexCreationError> {
-        let (queue, pass) = IndexQueue::new_at(scene.alloc, scene.capacity, scene.number)?;
+        let (queue, mut pass) = IndexQueue::new_at(scene.alloc, scene.capacity, scene.number)?;
         let mut alone = plain::IndexQueue::new_at(scene.alloc, scene.capacity, scene.number)?;
-        let (last, _other) = plays(rt, scene, stage, &mut alone, &queue, pass);
-        ends(rt, scene, stage, &mut alone, queue.close(last)?);
+        let Some(mut user) = User::beside(&queue, &mut pass) else {
+            stage.not_read(Line::new("no further pass", 0));
+            return Ok(());
+        };
+        let stays = plays(rt, scene, stage, &mut alone, &mut user);
+        let other = user.leaves();
+        let _beside = stays.then_some(other);
+        ends(rt, scene, stage, &mut alone, queue.close(pass)?);
         Ok(())
     }
 }
@@ -49,10 +55,16 @@ impl<const CAPACITY: usize> Form for Fixed<CAPACITY> {
         scene: Scene<'_>,
         stage: &mut Stage,
     ) -> Result<(), UniqueIndexCreationError> {
-        let (queue, pass) = FixedSizeIndexQueue::<CAPACITY>::new(scene.alloc)?;
+        let (queue, mut pass) = FixedSizeIndexQueue::<CAPACITY>::new(scene.alloc)?;
         let mut alone = plain::IndexQueue::new(scene.alloc, scene.capacity)?;
-        let (last, _other) = plays(rt, scene, stage, &mut alone, &queue, pass);
-        ends(rt, scene, stage, &mut alone, queue.close(last)?);
+        let Some(mut user) = User::beside(&queue, &mut pass) else {
+            stage.not_read(Line::new("no further pass", 0));
+            return Ok(());
+        };
+        let stays = plays(rt, scene, stage, &mut alone, &mut user);
+        let other = user.leaves();
+        let _beside = stays.then_some(other);
+        ends(rt, scene, stage, &mut alone, queue.close(pass)?);
         Ok(())
     }
 }

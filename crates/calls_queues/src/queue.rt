@@ -1,15 +1,40 @@
 //! Queues of values.
 ghost use Rattle.std.specs.Prelude.{◌≡◌};
-ghost use Rattle.lock_free_sp.specs.Ends.{ring_of, IsPassOf};
+ghost use Rattle.lock_free_queues.specs.Queues.Rings.{inner, IsPassOf};
 
-use crate::queue_user::{ends, plays};
+use crate::queue_calls::QueueCall;
+use crate::queue_user::{User, ends, plays};
+use calls::answer::Answer;
 use calls::long_values::{Greatest, Sixteen, Three};
 use calls::numbered::Numbered;
-use calls::stage::{Scene, Stage};
+use calls::play::Answers;
+use calls::stage::{Line, Scene, Stage};
 use calls::words::Words;
-use lock_free_sp::spsc::queue::{Pass, Queue};
+use lock_free_queues::spsc::queue::{Pass, Queue};
+use lock_free_queues::spsc::ring::rule::Values;
 use std::sync::Wait;
 use steps::enums::UniqueIndexCreationError;
+use steps::words::Words as Coded;
+
+/// Who uses a queue of values.
+#[derive(Drop)]
+struct ValueUser<'a, T: Coded> {
+    user: User<'a, Values, T>,
+}
+
+impl<'a, T: Coded> ValueUser<'a, T> {
+    /// The pass; the guards give their roles back.
+    fn leaves(self) -> Pass<T> {
+        let ValueUser { user } = self;
+        user.leaves()
+    }
+}
+
+impl<'a, T: Numbered> Answers<QueueCall> for ValueUser<'a, T> {
+    fn answer(&mut self, rt: &impl Wait, call: QueueCall, answer: &mut Answer) {
+        self.user.answer(rt, call, answer);
+    }
+}
 
 /// Plays the block on a queue of one caller and on one of threads, and what follows the line `close` on what is left of
 /// both.
@@ -21,11 +46,19 @@ fn plays_both<T: Numbered, const CAPACITY: usize>(
     queue: Queue<T, CAPACITY>,
     pass: Pass<T>,
 ) -> Result<(), UniqueIndexCreationError>
-    requires { IsPassOf (ring_of queue) pass }
+    requires { IsPassOf (inner queue) pass }
 {
     let mut alone = alone;
-    let (last, _other) = plays(rt, scene, stage, &mut alone, &queue, pass);
-    ends(rt, scene, stage, &mut alone, queue.close(last)?);
+    let mut pass = pass;
+    let Some(user) = User::beside(&queue, &mut pass) else {
+        stage.not_read(Line::new("no further pass", 0));
+        return Ok(());
+    };
+    let mut user = ValueUser { user };
+    let stays = plays(rt, scene, stage, &mut alone, &mut user);
+    let other = user.leaves();
+    let _beside = stays.then_some(other);
+    ends(rt, scene, stage, &mut alone, queue.close(pass)?);
     Ok(())
 }
 

@@ -1,20 +1,21 @@
 //! Who uses a queue of threads.
 ghost use Rattle.std.specs.Prelude.{◌≡◌};
 ghost use Rattle.std.specs.Option.{ForSome};
-ghost use Rattle.lock_free_sp.specs.Ends.{queue_id, IsPassOf, producer_queue, consumer_queue};
+ghost use Rattle.lock_free_queues.specs.Queues.Rings.{queue_id, IsPassOf, producer_queue, consumer_queue};
 
 use crate::queue_calls::{QueueCall, Role, RoleCall, popped};
 use calls::answer::Answer;
 use calls::numbered::Numbered;
 use calls::play::{Answers, play};
 use calls::stage::{Line, Scene, Stage};
-use lock_free_sp::ring::ends::{Consumer, Pass, Producer, Ring};
-use lock_free_sp::ring::rule::{Numbers, Overflowing, RingRule, Spare, Values};
+use lock_free_queues::spsc::ring;
+use lock_free_queues::spsc::ring::rule::{Numbers, Overflowing, Values};
+use lock_free_queues::spsc::ring::{Consumer, Pass, Producer, Ring};
 use std::sync::Wait;
 use steps::words::Words;
 
 /// A kind of the threads' queues: how it is pushed to and popped from.
-pub trait Kind<T: Words>: Spare + Sized {
+pub trait Kind<T: Words>: ring::rule::Kind + Sized {
     fn push(producer: &mut Producer<'_, Self, T>, number: u64, answer: &mut Answer)
         ensures { producer_queue producer.new ≡ producer_queue producer.old };
 
@@ -54,8 +55,8 @@ impl Kind<u64> for Overflowing {
 
 /// A pass, and a guard of each role that is taken.
 #[derive(Drop)]
-struct User<'a, E: Spare, T: Words> {
-    queue: &'a Ring<E, T, RingRule<E, T>>,
+pub struct User<'a, E: ring::rule::Kind, T: Words> {
+    queue: &'a Ring<E, T>,
     pass: Pass<E, T>,
     producer: Option<Producer<'a, E, T>>,
     consumer: Option<Consumer<'a, E, T>>,
@@ -64,7 +65,32 @@ struct User<'a, E: Spare, T: Words> {
     ghost consuming: { ForSome consumer (λ c. consumer_queue c ≡ queue_id queue.now) },
 }
 
-impl<'a, E: Spare, T: Words> User<'a, E, T> {
+impl<'a, E: ring::rule::Kind, T: Words> User<'a, E, T> {
+    /// One with a further pass, and no guard. None where there is no further pass.
+    pub fn beside(queue: &'a Ring<E, T>, pass: &mut Pass<E, T>) -> Option<User<'a, E, T>>
+        requires { IsPassOf queue.now pass.old }
+        ensures { IsPassOf queue.now pass.new }
+    {
+        let own = pass.split()?;
+        Some(User {
+            queue,
+            pass: own,
+            producer: None,
+            consumer: None,
+        })
+    }
+
+    /// The pass; the guards give their roles back.
+    pub fn leaves(self) -> Pass<E, T> {
+        let User {
+            queue: _,
+            pass,
+            producer: _,
+            consumer: _,
+        } = self;
+        pass
+    }
+
     fn number(&mut self, rt: &impl Wait, answer: &mut Answer) {
         answer.number(self.queue.len(rt, &mut self.pass) as u64);
     }
@@ -282,42 +308,17 @@ pub fn ends<P: Answers<QueueCall>, Q: Answers<QueueCall> + Drop>(
     }
 }
 
-/// Plays a block up to its end, or to its line `close`, on a queue of one caller and on one of threads. The first pass
-/// is for closing the queue, and the second one lives beside it, where the line says `close beside a pass`.
-pub fn plays<E: Kind<T>, T: Words, P: Answers<QueueCall>>(
+/// Plays a block up to its end, or to its line `close`, on a queue of one caller and on one of threads. Whether another
+/// pass is to live beside that as it is closed, where the line says `close beside a pass`.
+pub fn plays<P: Answers<QueueCall>, U: Answers<QueueCall>>(
     rt: &impl Wait,
     scene: Scene<'_>,
     stage: &mut Stage,
     alone: &mut P,
-    queue: &Ring<E, T, RingRule<E, T>>,
-    pass: Pass<E, T>,
-) -> (Pass<E, T>, Option<Pass<E, T>>)
-    requires { IsPassOf queue.now pass }
-    ensures { IsPassOf queue.now result.0 }
-{
-    let mut last = pass;
-    let Some(pass) = last.split() else {
-        stage.not_read(Line::new("no further pass", 0));
-        return (last, None);
-    };
-    let mut user = User {
-        queue,
-        pass,
-        producer: None,
-        consumer: None,
-    };
-    play::<QueueCall, _, _>(rt, opening(scene), stage, alone, &mut user);
-    let User {
-        queue: _,
-        pass,
-        producer: _,
-        consumer: _,
-    } = user;
-    if lives_beside(scene) {
-        (last, Some(pass))
-    } else {
-        (last, None)
-    }
+    user: &mut U,
+) -> bool {
+    play::<QueueCall, _, _>(rt, opening(scene), stage, alone, user);
+    lives_beside(scene)
 }
 
 fn lives_beside(scene: Scene<'_>) -> bool {

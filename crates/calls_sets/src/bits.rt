@@ -1,15 +1,14 @@
 //! Bit sets.
-ghost use Rattle.std.specs.Prelude.{◌≡◌};
 ghost use Rattle.lock_free.specs.Bits.Calls.{IsPassOf};
 
 use calls::answer::Answer;
 use calls::drawn::Draws;
-use calls::forms::{Form, on};
-use calls::play::{Answers, Call, play};
+use calls::forms::{Alone, Form, Made, Plain, on, plays};
+use calls::play::{Answers, Call};
 use calls::stage::{Scene, Stage};
+use calls::two::Two;
 use calls::words::Words;
-use lock_free::mpmc::bit_set::{BitSet, FixedSizeBitSet, Pass};
-use std::mem;
+use lock_free::mpmc::bit_set::{BitSet, FixedSizeBitSet, Handle, Pass};
 use std::sync::Wait;
 use steps::enums::UniqueIndexCreationError;
 
@@ -20,8 +19,6 @@ pub enum BitCall {
     Next,
     All,
     Capacity,
-    /// The next calls are made by another pass.
-    Other,
 }
 
 impl Call for BitCall {
@@ -31,7 +28,6 @@ impl Call for BitCall {
             "reset_next" => Some(BitCall::Next),
             "reset_all" => Some(BitCall::All),
             "capacity" => Some(BitCall::Capacity),
-            "other" => Some(BitCall::Other),
             _ => None,
         }
     }
@@ -96,110 +92,53 @@ impl Answers<BitCall> for plain::BitSet {
             BitCall::Next => perhaps(self.reset_next(), answer),
             BitCall::All => empties(self, answer),
             BitCall::Capacity => answer.number(self.capacity() as u64),
-            BitCall::Other => {}
         }
     }
 }
 
-/// Who uses a bit set of threads.
-#[derive(Drop)]
-struct User<'a> {
-    set: &'a BitSet,
-    pass: Pass,
-    other: Pass,
-    ghost of: { IsPassOf set.now pass },
-    ghost of_other: { IsPassOf set.now other },
-}
-
-impl<'a> User<'a> {
-    /// With another pass, which is made of two.
-    fn new(set: &'a BitSet, pass: Pass) -> Option<User<'a>>
-        requires { IsPassOf set.now pass }
-    {
-        let mut pass = pass;
-        let mut other = pass.split()?;
-        other.join(pass.split()?);
-        Some(User { set, pass, other })
-    }
-
-    fn sets(&mut self, rt: &impl Wait, place: usize, answer: &mut Answer) {
-        if place < self.set.capacity() {
-            answer.truth(self.set.set(rt, place, &mut self.pass));
-        } else {
-            answer.refused();
-        }
-    }
-
-    fn resets(&mut self, rt: &impl Wait, answer: &mut Answer) {
-        perhaps(self.set.reset_next(rt, &mut self.pass), answer);
-    }
-
-    fn empties(&mut self, answer: &mut Answer) {
-        answer.word("done");
-        self.set
-            .reset_all(|place| answer.number(place as u64), &mut self.pass);
-    }
-
-    fn turns(&mut self) {
-        mem::swap(&mut self.pass, &mut self.other);
+impl Alone<BitCall> for plain::BitSet {
+    fn alone(scene: Scene<'_>) -> Result<plain::BitSet, UniqueIndexCreationError> {
+        plain::BitSet::new(scene.alloc, scene.capacity)
     }
 }
 
-impl<'a> Answers<BitCall> for User<'a> {
+impl<'a> Answers<BitCall> for Handle<'a> {
     fn answer(&mut self, rt: &impl Wait, call: BitCall, answer: &mut Answer) {
         match call {
-            BitCall::Set(place) => self.sets(rt, place, answer),
-            BitCall::Next => self.resets(rt, answer),
-            BitCall::All => self.empties(answer),
-            BitCall::Capacity => answer.number(self.set.capacity() as u64),
-            BitCall::Other => self.turns(),
+            BitCall::Set(place) => {
+                if place < self.capacity() {
+                    answer.truth(self.set(rt, place));
+                } else {
+                    answer.refused();
+                }
+            }
+            BitCall::Next => perhaps(self.reset_next(rt), answer),
+            BitCall::All => {
+                answer.word("done");
+                self.reset_all(|place| answer.number(place as u64));
+            }
+            BitCall::Capacity => answer.number(self.capacity() as u64),
         }
     }
 }
 
-/// Plays the block on a set of one caller and on one of threads.
-fn plays(
-    rt: &impl Wait,
-    scene: Scene<'_>,
-    stage: &mut Stage,
-    set: &BitSet,
-    pass: Pass,
-) -> Result<(), UniqueIndexCreationError>
+/// The set by two passes, of which one is made of two.
+fn two<'a>(set: &'a BitSet, pass: Pass) -> Option<Two<Handle<'a>>>
     requires { IsPassOf set.now pass }
 {
-    let mut alone = plain::BitSet::new(scene.alloc, scene.capacity)?;
-    let Some(mut user) = User::new(set, pass) else {
-        return Err(UniqueIndexCreationError::NoMemory);
-    };
-    play::<BitCall, _, _>(rt, scene, stage, &mut alone, &mut user);
-    Ok(())
-}
-
-/// One of one caller, which is only made.
-struct Plain;
-
-impl Form for Plain {
-    fn plays(
-        _rt: &impl Wait,
-        scene: Scene<'_>,
-        _stage: &mut Stage,
-    ) -> Result<(), UniqueIndexCreationError> {
-        plain::BitSet::new(scene.alloc, scene.capacity)?;
-        Ok(())
-    }
+    let mut pass = pass;
+    let mut other = pass.split()?;
+    other.join(pass.split()?);
+    Some(Two::new(set.handle(pass), set.handle(other)))
 }
 
 /// One of threads.
 struct Heap;
 
 impl Form for Heap {
-    fn plays(
-        rt: &impl Wait,
-        scene: Scene<'_>,
-        stage: &mut Stage,
-    ) -> Result<(), UniqueIndexCreationError> {
+    fn plays(rt: &impl Wait, scene: Scene<'_>, stage: &mut Stage) -> Made {
         let (set, pass) = BitSet::new(scene.alloc, scene.capacity)?;
-        plays(rt, scene, stage, &set, pass)
+        plays::<BitCall, plain::BitSet, _>(rt, scene, stage, two(&set, pass))
     }
 }
 
@@ -207,13 +146,9 @@ impl Form for Heap {
 struct Fixed<const CAPACITY: usize>;
 
 impl<const CAPACITY: usize> Form for Fixed<CAPACITY> {
-    fn plays(
-        rt: &impl Wait,
-        scene: Scene<'_>,
-        stage: &mut Stage,
-    ) -> Result<(), UniqueIndexCreationError> {
+    fn plays(rt: &impl Wait, scene: Scene<'_>, stage: &mut Stage) -> Made {
         let (set, pass) = FixedSizeBitSet::<CAPACITY>::new(scene.alloc)?;
-        plays(rt, scene, stage, &set, pass)
+        plays::<BitCall, plain::BitSet, _>(rt, scene, stage, two(&set, pass))
     }
 }
 
@@ -229,7 +164,7 @@ pub fn forms(
     stage: &mut Stage,
 ) -> Option<()> {
     let scene = scene.of_capacity(words.place()?);
-    on::<Plain>(rt, scene, stage, "plain");
+    on::<Plain<BitCall, plain::BitSet>>(rt, scene, stage, "plain");
     on::<Heap>(rt, scene, stage, "heap");
     match scene.capacity {
         0 => on_fixed::<0>(rt, scene, stage),

@@ -1,16 +1,16 @@
 //! Counting bit sets.
-ghost use Rattle.std.specs.Prelude.{◌≡◌};
 ghost use Rattle.lock_free.specs.Counts.Calls.{IsPassOf};
 
 use calls::answer::Answer;
 use calls::drawn::Draws;
-use calls::forms::{Form, on};
-use calls::play::{Answers, Call, play};
+use calls::forms::{Alone, Form, Made, Plain, on, plays};
+use calls::play::{Answers, Call};
 use calls::stage::{Scene, Stage};
+use calls::two::Two;
 use calls::words::Words;
-use lock_free::mpmc::counting_bit_set::{CountingBitSet, FixedSizeCountingBitSet, Pass};
-use std::mem;
+use lock_free::mpmc::counting_bit_set::{CountingBitSet, FixedSizeCountingBitSet, Handle, Pass};
 use std::sync::Wait;
+use steps::bits::counting_bit_set::BitState;
 use steps::enums::UniqueIndexCreationError;
 
 /// How often one place is counted.
@@ -22,8 +22,6 @@ pub enum CountCall {
     Set(usize),
     All,
     Capacity,
-    /// The next calls are made by another pass.
-    Other,
     MaxCount,
 }
 
@@ -33,7 +31,6 @@ impl Call for CountCall {
             "set" => Some(CountCall::Set(words.place()?)),
             "reset_all" => Some(CountCall::All),
             "capacity" => Some(CountCall::Capacity),
-            "other" => Some(CountCall::Other),
             "max_count" => Some(CountCall::MaxCount),
             _ => None,
         }
@@ -75,14 +72,16 @@ impl Call for CountCall {
     }
 }
 
-/// What an emptying hands out: each place with its count.
+/// What an emptying hands out: a place with its count.
+fn says(state: BitState, answer: &mut Answer) {
+    answer.number(state.bit() as u64);
+    answer.number(state.count());
+}
+
 #[tactic(auto, using(plain::proofs::Visits::takes_any))]
 fn empties(set: &mut plain::CountingBitSet, answer: &mut Answer) {
     answer.word("done");
-    set.reset_all(|state| {
-        answer.number(state.bit() as u64);
-        answer.number(state.count());
-    });
+    set.reset_all(|state| says(state, answer));
 }
 
 impl Answers<CountCall> for plain::CountingBitSet {
@@ -97,112 +96,54 @@ impl Answers<CountCall> for plain::CountingBitSet {
             }
             CountCall::All => empties(self, answer),
             CountCall::Capacity => answer.number(self.capacity() as u64),
-            CountCall::Other => {}
             CountCall::MaxCount => answer.number(plain::CountingBitSet::max_count()),
         }
     }
 }
 
-/// Who uses a counting bit set of threads.
-#[derive(Drop)]
-struct User<'a> {
-    set: &'a CountingBitSet,
-    pass: Pass,
-    other: Pass,
-    ghost of: { IsPassOf set.now pass },
-    ghost of_other: { IsPassOf set.now other },
-}
-
-impl<'a> User<'a> {
-    /// With another pass, which is made of two.
-    fn new(set: &'a CountingBitSet, pass: Pass) -> Option<User<'a>>
-        requires { IsPassOf set.now pass }
-    {
-        let mut pass = pass;
-        let mut other = pass.split()?;
-        other.join(pass.split()?);
-        Some(User { set, pass, other })
-    }
-
-    fn counts(&mut self, place: usize, answer: &mut Answer) {
-        if place < self.set.capacity() {
-            answer.number(self.set.set(place, &mut self.pass));
-        } else {
-            answer.refused();
-        }
-    }
-
-    fn empties(&mut self, answer: &mut Answer) {
-        answer.word("done");
-        self.set.reset_all(
-            |state| {
-                answer.number(state.bit() as u64);
-                answer.number(state.count());
-            },
-            &mut self.pass,
-        );
-    }
-
-    fn turns(&mut self) {
-        mem::swap(&mut self.pass, &mut self.other);
+impl Alone<CountCall> for plain::CountingBitSet {
+    fn alone(scene: Scene<'_>) -> Result<plain::CountingBitSet, UniqueIndexCreationError> {
+        plain::CountingBitSet::new(scene.alloc, scene.capacity)
     }
 }
 
-impl<'a> Answers<CountCall> for User<'a> {
+impl<'a> Answers<CountCall> for Handle<'a> {
     fn answer(&mut self, _rt: &impl Wait, call: CountCall, answer: &mut Answer) {
         match call {
-            CountCall::Set(place) => self.counts(place, answer),
-            CountCall::All => self.empties(answer),
-            CountCall::Capacity => answer.number(self.set.capacity() as u64),
-            CountCall::Other => self.turns(),
+            CountCall::Set(place) => {
+                if place < self.capacity() {
+                    answer.number(self.set(place));
+                } else {
+                    answer.refused();
+                }
+            }
+            CountCall::All => {
+                answer.word("done");
+                self.reset_all(|state| says(state, answer));
+            }
+            CountCall::Capacity => answer.number(self.capacity() as u64),
             CountCall::MaxCount => answer.number(CountingBitSet::max_count()),
         }
     }
 }
 
-/// Plays the block on a set of one caller and on one of threads.
-fn plays(
-    rt: &impl Wait,
-    scene: Scene<'_>,
-    stage: &mut Stage,
-    set: &CountingBitSet,
-    pass: Pass,
-) -> Result<(), UniqueIndexCreationError>
+/// The set by two passes, of which one is made of two.
+fn two<'a>(set: &'a CountingBitSet, pass: Pass) -> Option<Two<Handle<'a>>>
     requires { IsPassOf set.now pass }
 {
-    let mut alone = plain::CountingBitSet::new(scene.alloc, scene.capacity)?;
-    let Some(mut user) = User::new(set, pass) else {
-        return Err(UniqueIndexCreationError::NoMemory);
-    };
-    play::<CountCall, _, _>(rt, scene, stage, &mut alone, &mut user);
-    Ok(())
-}
-
-/// One of one caller, which is only made.
-struct Plain;
-
-impl Form for Plain {
-    fn plays(
-        _rt: &impl Wait,
-        scene: Scene<'_>,
-        _stage: &mut Stage,
-    ) -> Result<(), UniqueIndexCreationError> {
-        plain::CountingBitSet::new(scene.alloc, scene.capacity)?;
-        Ok(())
-    }
+    let mut pass = pass;
+    let mut other = pass.split()?;
+    other.join(pass.split()?);
+    Some(Two::new(set.handle(pass), set.handle(other)))
 }
 
 /// One of threads.
 struct Heap;
 
 impl Form for Heap {
-    fn plays(
-        rt: &impl Wait,
-        scene: Scene<'_>,
-        stage: &mut Stage,
-    ) -> Result<(), UniqueIndexCreationError> {
+    fn plays(rt: &impl Wait, scene: Scene<'_>, stage: &mut Stage) -> Made {
         let (set, pass) = CountingBitSet::new(scene.alloc, scene.capacity)?;
-        plays(rt, scene, stage, &set, pass)
+        plays::<CountCall, plain::CountingBitSet, _>(rt, scene, stage, two(&set, pass))
     }
 }
 
@@ -210,13 +151,9 @@ impl Form for Heap {
 struct Fixed<const CAPACITY: usize>;
 
 impl<const CAPACITY: usize> Form for Fixed<CAPACITY> {
-    fn plays(
-        rt: &impl Wait,
-        scene: Scene<'_>,
-        stage: &mut Stage,
-    ) -> Result<(), UniqueIndexCreationError> {
+    fn plays(rt: &impl Wait, scene: Scene<'_>, stage: &mut Stage) -> Made {
         let (set, pass) = FixedSizeCountingBitSet::<CAPACITY>::new(scene.alloc)?;
-        plays(rt, scene, stage, &set, pass)
+        plays::<CountCall, plain::CountingBitSet, _>(rt, scene, stage, two(&set, pass))
     }
 }
 
@@ -232,7 +169,7 @@ pub fn forms(
     stage: &mut Stage,
 ) -> Option<()> {
     let scene = scene.of_capacity(words.place()?);
-    on::<Plain>(rt, scene, stage, "plain");
+    on::<Plain<CountCall, plain::CountingBitSet>>(rt, scene, stage, "plain");
     on::<Heap>(rt, scene, stage, "heap");
     match scene.capacity {
         0 => on_fixed::<0>(rt, scene, stage),

@@ -1,58 +1,24 @@
 //! Unique index sets.
 use crate::indices::call::IndexCall;
 use crate::indices::user::User;
-use calls::forms::{Form, on};
-use calls::play::play;
+use calls::forms::{Form, Made, Plain, on, plays};
 use calls::stage::{Scene, Stage};
 use calls::words::Words;
 use lock_free::mpmc::unique_index_set::{FixedSizeUniqueIndexSet, UniqueIndexSet};
 use std::sync::Wait;
-use steps::enums::UniqueIndexCreationError;
 
 mod alone;
 mod call;
 mod user;
 
-/// Plays the block on a set of one caller and on one of threads. Where there is no user of that, memory was refused.
-fn plays(
-    rt: &impl Wait,
-    scene: Scene<'_>,
-    stage: &mut Stage,
-    user: Option<User<'_>>,
-) -> Result<(), UniqueIndexCreationError> {
-    let mut alone = plain::UniqueIndexSet::new(scene.alloc, scene.capacity)?;
-    let Some(mut user) = user else {
-        return Err(UniqueIndexCreationError::NoMemory);
-    };
-    play::<IndexCall, _, _>(rt, scene, stage, &mut alone, &mut user);
-    Ok(())
-}
-
-/// One of one caller, which is only made.
-struct Plain;
-
-impl Form for Plain {
-    fn plays(
-        _rt: &impl Wait,
-        scene: Scene<'_>,
-        _stage: &mut Stage,
-    ) -> Result<(), UniqueIndexCreationError> {
-        plain::UniqueIndexSet::new(scene.alloc, scene.capacity)?;
-        Ok(())
-    }
-}
-
 /// One of threads.
 struct Heap;
 
 impl Form for Heap {
-    fn plays(
-        rt: &impl Wait,
-        scene: Scene<'_>,
-        stage: &mut Stage,
-    ) -> Result<(), UniqueIndexCreationError> {
+    fn plays(rt: &impl Wait, scene: Scene<'_>, stage: &mut Stage) -> Made {
         let (set, pass) = UniqueIndexSet::new(scene.alloc, scene.capacity)?;
-        plays(rt, scene, stage, User::new(scene.alloc, &set, pass))
+        let user = User::new(scene.alloc, &set, pass);
+        plays::<IndexCall, plain::UniqueIndexSet, _>(rt, scene, stage, user)
     }
 }
 
@@ -60,13 +26,10 @@ impl Form for Heap {
 struct Fixed<const CAPACITY: usize>;
 
 impl<const CAPACITY: usize> Form for Fixed<CAPACITY> {
-    fn plays(
-        rt: &impl Wait,
-        scene: Scene<'_>,
-        stage: &mut Stage,
-    ) -> Result<(), UniqueIndexCreationError> {
+    fn plays(rt: &impl Wait, scene: Scene<'_>, stage: &mut Stage) -> Made {
         let (set, pass) = FixedSizeUniqueIndexSet::<CAPACITY>::new(scene.alloc)?;
-        plays(rt, scene, stage, User::new(scene.alloc, &set, pass))
+        let user = User::new(scene.alloc, &set, pass);
+        plays::<IndexCall, plain::UniqueIndexSet, _>(rt, scene, stage, user)
     }
 }
 
@@ -74,16 +37,13 @@ impl<const CAPACITY: usize> Form for Fixed<CAPACITY> {
 struct Reduced<const CAPACITY: usize>;
 
 impl<const CAPACITY: usize> Form for Reduced<CAPACITY> {
-    fn plays(
-        rt: &impl Wait,
-        scene: Scene<'_>,
-        stage: &mut Stage,
-    ) -> Result<(), UniqueIndexCreationError> {
+    fn plays(rt: &impl Wait, scene: Scene<'_>, stage: &mut Stage) -> Made {
         let (set, pass) = FixedSizeUniqueIndexSet::<CAPACITY>::new_with_reduced_capacity(
             scene.alloc,
             scene.capacity,
         )?;
-        plays(rt, scene, stage, User::new(scene.alloc, &set, pass))
+        let user = User::new(scene.alloc, &set, pass);
+        plays::<IndexCall, plain::UniqueIndexSet, _>(rt, scene, stage, user)
     }
 }
 
@@ -123,7 +83,7 @@ pub fn forms(
             None
         };
     }
-    on::<Plain>(rt, scene, stage, "plain");
+    on::<Plain<IndexCall, plain::UniqueIndexSet>>(rt, scene, stage, "plain");
     on::<Heap>(rt, scene, stage, "heap");
     match scene.capacity {
         0 => on_fixed::<0>(rt, scene, stage),

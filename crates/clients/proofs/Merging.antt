@@ -1,364 +1,432 @@
--- Numbers that are popped or handed back, and what is known of them once the passes are joined.
-use Rattle.std.proofs.Common.{◌≡◌, ℕ, suc, ◌+◌, ◌<◌, ◌≤◌, ◌⊎◌, inl, inr, ⊎_elim, List, [], ◌∷◌, ◌++◌, length, map, get_or, take, sym, refl, ap, subst, ◌∙◌, arith, append-nil, append_assoc}
-use Rattle.std.specs.Prelude.{Some}
-use Rattle.std.specs.List.{All, AllPairs}
-use Rattle.std.proofs.lemmas.List.{take_more, take_all, map-append}
-use Rattle.std.proofs.lemmas.List.Elements.{All-head, All-push}
-use Rattle.std.proofs.lemmas.List.Quantifiers.{all_pairs_push}
+-- Who took out what, by one history, and what that comes to once the passes are joined.
+use Rattle.std.proofs.Common.{◌≡◌, ◌≢◌, ◌⊎◌, inl, inr, ℕ, suc, ◌+◌, ◌-◌, ◌^◌, ◌<◌, ◌≤◌, Bool, true, false, true≢false, if◌then◌else◌, List, [], ◌∷◌, ◌++◌, length, map, get_or, take, sym, refl, ap, subst, ◌∙◌, arith, append-nil, append_assoc, length-append, sum_by}
+use mathlib.Core.List.{map-append}
+use Rattle.std.specs.Prelude.{Some, None, Option}
+use Rattle.std.specs.Option.{option_map}
+use Rattle.std.proofs.lemmas.List.{take_more, take_all}
+use Rattle.std.proofs.lemmas.List.Sums.{sum_by-append}
+use Rattle.lock_free.specs.Coding.{one_word}
+use Rattle.lock_free.specs.Event.{Event}
+use Rattle.lock_free.specs.Event.TheVariants.{Published, HandedOut, Acted, Finished}
+use Rattle.lock_free.specs.HistoryKnown.{events_by}
+use Rattle.lock_free.specs.HistoryView.View.{View}
+use Rattle.lock_free.specs.History.{IsBeginning}
 use Rattle.lock_free.specs.Share.{Share}
-use Rattle.lock_free.specs.QueueView.View.{View}
-use Rattle.lock_free.specs.Shares.{both_of, IsAll}
-use Rattle.lock_free.specs.Orders.{placed, by_position, values_in_order}
-use Rattle.lock_free.specs.Ring.Views.{opened, halved, half, joined, with_producer, without_producer, with_consumer, without_consumer, IsWhole}
-use Rattle.lock_free.specs.Ring.Between.{Sound, Complete, Emptied}
-use Rattle.lock_free.specs.Ring.Calls as calls
-use Rattle.lock_free.proofs.Orders.{by_less, Above, Rising, in_order_already}
-use Rattle.lock_free.proofs.Whole.{emptied_is_all}
-use Rattle.lock_free.proofs.Lists.{all_left, all_right, pairs_append}
-use Rattle.clients.specs.Overflow.{Merges, Piled, HasPushedAll, HasTaken, HasDrained}
+use Rattle.lock_free.specs.Shares.{half_of, both_of, IsAll, all_shares}
+use Rattle.lock_free.specs.Queues.Answer.TheVariants.{PoppedIndex}
+use Rattle.lock_free.specs.Queues.Item.{Item}
+use Rattle.lock_free.specs.Queues.Item.TheVariants.{Index}
+use Rattle.lock_free.specs.Queues.Overflowing.{GoesOn, HasHistory, MissesNothing, HasOverflowed, TookNone}
+use Rattle.lock_free.specs.Queues.QueueKind as kinds
+use Rattle.lock_free.specs.Queues.QueueStart.TheVariants.{PushIndex, Pop}
+use Rattle.lock_free.specs.Queues.Reading.{publishes, published, handed_out}
+use Rattle.lock_free.specs.Queues.Role.{Role}
+use Rattle.lock_free.specs.Queues.Start.TheVariants.{Queues}
+use Rattle.lock_free.specs.Queues.Sums.{puts, gets, HasDone}
+use Rattle.lock_free.specs.Queues.Told.{HasPublished, WasAtEnd, HasPopped, HasAcquired, HasReleased, HasSplit, HasJoined}
+use Rattle.lock_free.specs.Queues.Views.{first_view}
+use Rattle.lock_free.proofs.HistoryKnown.{by_more}
+use Rattle.lock_free.proofs.QueueWrote.{find_own, first_wrote}
+use Rattle.lock_free.proofs.QueueSums.{done_added, done_replaced, done_popped, done_none, done_acquired, done_released, done_then, whole_counted, all_puts}
+use Rattle.lock_free.proofs.QueueWhole.{all_taken, nothing_more}
+use Rattle.clients.specs.Rows.{HasAdded}
+use Rattle.clients.specs.Overflow.{Merges, StandIn, by_pop, by_push, taken, TookOut, HasPushedAll, HasPushedUpTo, HasTaken, HasDrained}
+use Rattle.clients.proofs.Rows.{item, same_length, added_none, added_more, added_same, only_these}
 
-abbrev Up : ℕ × ℕ → ℕ × ℕ → Type 0
-Up x y = x.0 < y.0
+-- ---- lists that stand in others
 
-abbrev values : List (ℕ × ℕ) → List ℕ
-values xs = map (λ (x : ℕ × ℕ). x.1) xs
+module _ {A : Type 0} where
+  in_nothing : (zs ys : List A) → StandIn zs [] → StandIn zs ys
+  in_nothing [] ys h = tt
+  in_nothing (z ∷ zs) ys h = absurd h
 
--- ---- a list that grows
+  in_longer : (zs : List A) (y : A) (ys : List A) → StandIn zs ys → StandIn zs (y ∷ ys)
+  in_longer [] y ys h = tt
+  in_longer (z ∷ zs) y ys h = inr h
 
-pub piled_none : (xs : List (ℕ × ℕ)) → Piled [] xs xs
-piled_none xs =
+  no_longer : (zs ys : List A) → StandIn zs ys → length zs ≤ length ys
+  no_longer [] ys h = omega arith
+  no_longer (z ∷ zs) [] h = absurd h
+  no_longer (z ∷ zs) (y ∷ ys) (inl h) = let rest = no_longer zs ys h.1 in omega arith
+  no_longer (z ∷ zs) (y ∷ ys) (inr h) = let rest = no_longer (z ∷ zs) ys h in omega arith
+
+  -- a list in which as many stand is the same
+  same_list : (zs ys : List A) → StandIn zs ys → length ys ≤ length zs → zs ≡ ys
+  same_list [] [] h few = refl
+  same_list [] (y ∷ ys) h few = absurd (omega arith)
+  same_list (z ∷ zs) [] h few = absurd h
+  same_list (z ∷ zs) (y ∷ ys) (inl h) few = ap (λ xs. z ∷ xs) (same_list zs ys h.1 (omega arith)) ∙ ap (λ x. x ∷ ys) h.0
+  same_list (z ∷ zs) (y ∷ ys) (inr h) few = (let rest = no_longer (z ∷ zs) ys h in absurd (omega arith))
+
+-- ---- what was taken out, as the history grows
+
+module _ (by : List (Event ℕ) → Bool) (lasts : (xs ys : List (Event ℕ)) → by xs ≡ true → by (xs ++ ys) ≡ true) where
+  next_lasts : (p : ℕ) (es ys : List (Event ℕ)) → by (events_by p es) ≡ true → by (events_by p (es ++ ys)) ≡ true
+  next_lasts p es ys t = ap by (by_more p es ys) ∙ lasts (events_by p es) (events_by p ys) t
+
+  either : (b : Bool) (zs : List (Item ℕ)) (x : Item ℕ) (xs : List (Item ℕ)) → StandIn zs xs → StandIn zs (if b then x ∷ xs else xs)
+  either true zs x xs h = in_longer zs x xs h
+  either false zs x xs h = h
+
+  grows : (zs : List (Item ℕ)) (xs ys : List (Event ℕ)) → StandIn zs (taken by xs) → StandIn zs (taken by (xs ++ ys))
+  grows zs [] ys h = in_nothing zs (taken by ys) h
+  grows zs (HandedOut p x ∷ es) ys h = go (by (events_by p es)) refl (λ vs. grows vs es ys) h
+    where
+      here : (us : List (Item ℕ)) → ((vs : List (Item ℕ)) → StandIn vs (taken by es) → StandIn vs (taken by (es ++ ys))) → StandIn us (x ∷ taken by es) → StandIn us (x ∷ taken by (es ++ ys))
+      here [] later k = tt
+      here (u ∷ us) later (inl k) = inl (k.0, later us k.1)
+      here (u ∷ us) later (inr k) = inr (later (u ∷ us) k)
+
+      go : (b : Bool) → by (events_by p es) ≡ b → ((vs : List (Item ℕ)) → StandIn vs (taken by es) → StandIn vs (taken by (es ++ ys))) → StandIn zs (if b then x ∷ taken by es else taken by es) → StandIn zs (taken by (HandedOut p x ∷ (es ++ ys)))
+      go true t later k = (let more = next_lasts p es ys t in rw more (here zs later k))
+      go false t later k = either (by (events_by p (es ++ ys))) zs x (taken by (es ++ ys)) (later zs k)
+  grows zs (e ∷ es) ys h = grows zs es ys h
+
+  -- one more that was taken out so stands behind them
+  one_more : (zs : List (Item ℕ)) (p : ℕ) (x : Item ℕ) (xs ys : List (Event ℕ)) → by (events_by p ys) ≡ true → StandIn zs (taken by xs) → StandIn (zs ++ x ∷ []) (taken by (xs ++ HandedOut p x ∷ ys))
+  one_more [] p x [] ys t h = rw t (inl (refl, tt))
+  one_more (z ∷ zs) p x [] ys t h = absurd h
+  one_more zs p x (HandedOut q y ∷ es) ys t h = go (by (events_by q es)) refl (λ vs. one_more vs p x es ys t) h
+    where
+      rest : List (Event ℕ)
+      rest = es ++ HandedOut p x ∷ ys
+
+      here : (us : List (Item ℕ)) → ((vs : List (Item ℕ)) → StandIn vs (taken by es) → StandIn (vs ++ x ∷ []) (taken by rest)) → StandIn us (y ∷ taken by es) → StandIn (us ++ x ∷ []) (y ∷ taken by rest)
+      here [] later k = inr (later [] tt)
+      here (u ∷ us) later (inl k) = inl (k.0, later us k.1)
+      here (u ∷ us) later (inr k) = inr (later (u ∷ us) k)
+
+      go : (b : Bool) → by (events_by q es) ≡ b → ((vs : List (Item ℕ)) → StandIn vs (taken by es) → StandIn (vs ++ x ∷ []) (taken by rest)) → StandIn zs (if b then y ∷ taken by es else taken by es) → StandIn (zs ++ x ∷ []) (taken by (HandedOut q y ∷ rest))
+      go true s later k = (let more = next_lasts q es (HandedOut p x ∷ ys) s in rw more (here zs later k))
+      go false s later k = either (by (events_by q rest)) (zs ++ x ∷ []) y (taken by rest) (later zs k)
+  one_more zs p x (e ∷ es) ys t h = one_more zs p x es ys t h
+
+  took_none : (v w : View ℕ) → IsBeginning v.seen w.seen → TookOut by [] v w
+  took_none v w begins earlier h =
+      subst (λ es. StandIn (earlier ++ []) (taken by es)) (sym begins.is)
+      (subst (λ zs. StandIn zs (taken by (v.seen ++ begins.rest))) (sym (append-nil earlier)) (grows earlier v.seen begins.rest h))
+
+  took_same : (xs : List ℕ) (v w u : View ℕ) → TookOut by xs v w → IsBeginning w.seen u.seen → TookOut by xs v u
+  took_same xs v w u k begins earlier h = subst (λ es. StandIn (earlier ++ map Index xs) (taken by es)) (sym begins.is) (grows (earlier ++ map Index xs) w.seen begins.rest (k earlier h))
+
+  took_more : (xs : List ℕ) (x p : ℕ) (v w u : View ℕ) (before after : List (Event ℕ)) → TookOut by xs v w → IsBeginning w.seen before → u.seen ≡ before ++ HandedOut p (Index x) ∷ after → by (events_by p after) ≡ true → TookOut by (xs ++ x ∷ []) v u
+  took_more xs x p v w u before after k begins is t earlier h =
+      let there : StandIn (earlier ++ map Index xs) (taken by before) = subst (λ es. StandIn (earlier ++ map Index xs) (taken by es)) (sym begins.is) (grows (earlier ++ map Index xs) w.seen begins.rest (k earlier h)) in
+      let more : StandIn ((earlier ++ map Index xs) ++ item x ∷ []) (taken by (before ++ HandedOut p (Index x) ∷ after)) = one_more (earlier ++ map Index xs) p (item x) before after t there in
+      let list : (earlier ++ map Index xs) ++ item x ∷ [] ≡ earlier ++ map Index (xs ++ x ∷ []) = append_assoc earlier (map Index xs) (item x ∷ []) ∙ ap (λ zs. earlier ++ zs) (sym (map-append Index xs (x ∷ []))) in
+      subst (λ es. StandIn (earlier ++ map Index (xs ++ x ∷ [])) (taken by es)) (sym is)
+      (subst (λ zs. StandIn zs (taken by (before ++ HandedOut p (Index x) ∷ after))) list more)
+
+pop_lasts : (xs ys : List (Event ℕ)) → by_pop xs ≡ true → by_pop (xs ++ ys) ≡ true
+pop_lasts [] ys t = absurd (true≢false (sym t))
+pop_lasts (Acted p (Queues Pop) answer ∷ es) ys t = refl
+pop_lasts (e ∷ es) ys t = absurd (true≢false (sym t))
+
+push_lasts : (xs ys : List (Event ℕ)) → by_push xs ≡ true → by_push (xs ++ ys) ≡ true
+push_lasts [] ys t = absurd (true≢false (sym t))
+push_lasts (Acted p (Queues (PushIndex value)) answer ∷ es) ys t = refl
+push_lasts (e ∷ es) ys t = absurd (true≢false (sym t))
+
+one_of_two : (es : List (Event ℕ)) → by_pop es ≡ true → by_push es ≡ false
+one_of_two [] t = refl
+one_of_two (Acted p (Queues Pop) answer ∷ es) t = refl
+one_of_two (e ∷ es) t = absurd (true≢false (sym t))
+
+-- ---- all that was taken out is a merge of both
+
+few_taken : (es : List (Event ℕ)) → length (taken by_pop es) + length (taken by_push es) ≤ length (handed_out es)
+few_taken [] = omega arith
+few_taken (HandedOut p x ∷ es) = go (by_pop (events_by p es)) (by_push (events_by p es)) refl refl (few_taken es)
+  where
+    go : (a b : Bool) → by_pop (events_by p es) ≡ a → by_push (events_by p es) ≡ b → length (taken by_pop es) + length (taken by_push es) ≤ length (handed_out es) → length (if a then x ∷ taken by_pop es else taken by_pop es) + length (if b then x ∷ taken by_push es else taken by_push es) ≤ suc (length (handed_out es))
+    go true true s t few = absurd (true≢false (sym t ∙ one_of_two (events_by p es) s))
+    go true false s t few = omega arith
+    go false true s t few = omega arith
+    go false false s t few = omega arith
+few_taken (e ∷ es) = few_taken es
+
+merged : (es : List (Event ℕ)) → length (taken by_pop es) + length (taken by_push es) ≡ length (handed_out es) → Merges (taken by_pop es) (taken by_push es) (handed_out es)
+merged [] e = (refl, refl)
+merged (HandedOut p x ∷ es) e = go (by_pop (events_by p es)) (by_push (events_by p es)) refl refl (few_taken es) (λ k. merged es k) e
+  where
+    pops : List (Item ℕ)
+    pops = taken by_pop es
+
+    pushes : List (Item ℕ)
+    pushes = taken by_push es
+
+    go : (a b : Bool) → by_pop (events_by p es) ≡ a → by_push (events_by p es) ≡ b → length pops + length pushes ≤ length (handed_out es) → (length pops + length pushes ≡ length (handed_out es) → Merges pops pushes (handed_out es))
+        → length (if a then x ∷ pops else pops) + length (if b then x ∷ pushes else pushes) ≡ suc (length (handed_out es))
+        → Merges (if a then x ∷ pops else pops) (if b then x ∷ pushes else pushes) (x ∷ handed_out es)
+    go true true s t few later k = absurd (true≢false (sym t ∙ one_of_two (events_by p es) s))
+    go true false s t few later k = inl (pops, refl, later (omega arith))
+    go false true s t few later k = inr (pushes, refl, later (omega arith))
+    go false false s t few later k = absurd (omega arith)
+merged (e ∷ es) k = merged es k
+
+-- numbers for items
+none_of : (xs : List ℕ) → map item xs ≡ [] → xs ≡ []
+none_of [] e = refl
+none_of (x ∷ xs) e = absurd (cc)
+
+first_of_items : (xs : List ℕ) (z : ℕ) (rest : List (Item ℕ)) → map item xs ≡ item z ∷ rest → (ws : List ℕ) × (xs ≡ z ∷ ws) × (rest ≡ map item ws)
+first_of_items [] z rest e = absurd (cc)
+first_of_items (x ∷ xs) z rest e =
+    let here : item x ≡ item z = cc in
+    let same : x ≡ z = cc in
+    let more : map item xs ≡ rest = cc in
+    (xs, ap (λ w. w ∷ xs) same, sym more)
+
+numbers_merge : (xs ys zs : List ℕ) → Merges (map item xs) (map item ys) (map item zs) → Merges xs ys zs
+numbers_merge xs ys [] h = (none_of xs h.0, none_of ys h.1)
+numbers_merge xs ys (z ∷ zs) (inl h) =
+    let it = first_of_items xs z h.0 h.1 in
+    inl (it.0, it.1, numbers_merge it.0 ys zs (subst (λ rest. Merges rest (map item ys) (map item zs)) it.2 h.2))
+numbers_merge xs ys (z ∷ zs) (inr h) =
+    let it = first_of_items ys z h.0 h.1 in
+    inr (it.0, it.1, numbers_merge xs it.0 zs (subst (λ rest. Merges (map item xs) rest (map item zs)) it.2 h.2))
+
+-- ---- pops
+
+begins_on : {xs ys zs : List (Event ℕ)} → IsBeginning xs ys → IsBeginning ys zs → IsBeginning xs zs
+begins_on {xs} a b = record { rest = a.rest ++ b.rest; is = b.is ∙ (ap (λ es. es ++ b.rest) a.is ∙ append_assoc xs a.rest b.rest) }
+
+pop_wrote : (xs : List ℕ) (x : ℕ) (v w u : View ℕ) → TookOut by_pop xs v w → HasPopped (Some (Index x)) w u → TookOut by_pop (xs ++ x ∷ []) v u
+pop_wrote xs x v w u k h =
+    let p = h.by in
+    let at = first_wrote p (Queues Pop) (PoppedIndex x) (HandedOut p (Index x)) (Acted p (Queues Pop) (PoppedIndex x) ∷ []) w u h.called in
+    took_more by_pop pop_lasts xs x p v w u at.before at.after k at.since at.is (ap by_pop at.mine)
+
+pub takes_none : (c : ℕ) (role : Role) (v w : View ℕ) → GoesOn c v w → HasAcquired role true v w → HasTaken [] v w
+takes_none c role v w goes h = record { since = goes.since; popped = took_none by_pop pop_lasts v w goes.since; done = done_acquired v w role true h; share = goes.share; all = λ none. goes.all }
+
+pub takes_one : (c : ℕ) (xs : List ℕ) (x : ℕ) (v w u : View ℕ) → HasTaken xs v w → GoesOn c w u → HasPopped (Some (Index x)) w u → HasTaken (xs ++ x ∷ []) v u
+takes_one c xs x v w u k goes h =
     record {
-      pairs = [];
-      are = sym (append-nil xs);
-      values = refl;
-      rising = λ i k d lt within. absurd (omega arith);
-      above = λ i d lt k e near. absurd (omega arith);
+      since = begins_on k.since goes.since;
+      popped = pop_wrote xs x v w u k.popped h;
+      done = subst (λ n. HasDone 0 n v u) (sym (length-append xs (x ∷ []))) (done_then 0 (length xs) 0 1 v w u k.done (done_popped w u (Index x) h));
+      share = goes.share ∙ k.share;
+      all = λ none. goes.all;
     }
 
-pub piled_more : (xs : List ℕ) (y p : ℕ) (old new : List (ℕ × ℕ)) → Piled xs old new → All (λ (z : ℕ × ℕ). z.0 < p) new → Piled (xs ++ y ∷ []) old (new ++ (p, y) ∷ [])
-piled_more xs y p old new k low =
-    let below : All (λ (z : ℕ × ℕ). z.0 < p) (old ++ k.pairs) = subst (All (λ (z : ℕ × ℕ). z.0 < p)) k.are low in
+same_done : (a b : ℕ) (v w u : View ℕ) → HasDone a b v w → HasDone 0 0 w u → HasDone a b v u
+same_done a b v w u x y = record { puts_more = (let p = x.puts_more in let q = y.puts_more in omega arith); gets_more = (let p = x.gets_more in let q = y.gets_more in omega arith) }
+
+takes_same : (c : ℕ) (xs : List ℕ) (v w u : View ℕ) → HasTaken xs v w → GoesOn c w u → HasDone 0 0 w u → HasTaken xs v u
+takes_same c xs v w u k goes done = record { since = begins_on k.since goes.since; popped = took_same by_pop pop_lasts xs v w u k.popped goes.since; done = same_done 0 (length xs) v w u k.done done; share = goes.share ∙ k.share; all = λ none. goes.all }
+
+pub takes_nothing : (c : ℕ) (xs : List ℕ) (v w u : View ℕ) → HasTaken xs v w → GoesOn c w u → HasPopped None w u → HasTaken xs v u
+takes_nothing c xs v w u k goes h = takes_same c xs v w u k goes (done_none w u h)
+
+pub takes_all : (c : ℕ) (xs : List ℕ) (role : Role) (v w u : View ℕ) → HasTaken xs v w → GoesOn c w u → HasReleased role w u → HasTaken xs v u
+takes_all c xs role v w u k goes h = takes_same c xs v w u k goes (done_released w u role h)
+
+pub takes_here : (v : View ℕ) → HasTaken [] v v
+takes_here v = record { since = record { rest = []; is = sym (append-nil v.seen) }; popped = took_none by_pop pop_lasts v v (record { rest = []; is = sym (append-nil v.seen) }); done = record { puts_more = omega arith; gets_more = omega arith }; share = refl; all = λ none. none }
+
+pub drained : (c : ℕ) (old new more : List ℕ) (v w u : View ℕ) → new ≡ old ++ more → HasTaken more v w → GoesOn c w u → HasPopped None w u → HasDrained old new v u
+drained c old new more v w u is k goes h =
     record {
-      pairs = k.pairs ++ (p, y) ∷ [];
-      are = ap (λ z. z ++ (p, y) ∷ []) k.are ∙ append_assoc old k.pairs ((p, y) ∷ []);
-      values = map-append (λ (x : ℕ × ℕ). x.1) k.pairs ((p, y) ∷ []) ∙ ap (λ z. z ++ y ∷ []) k.values;
-      rising = all_pairs_push Up k.pairs (p, y) k.rising (all_right (λ (z : ℕ × ℕ). z.0 < p) old k.pairs below);
-      above = λ i d lt. All-push (Up (get_or old i d)) k.pairs (p, y) (k.above i d lt) (all_left (λ (z : ℕ × ℕ). z.0 < p) old k.pairs below i d lt);
+      more = more;
+      numbers = is;
+      popped = takes_nothing c more v w u k goes h;
+      emptied = λ whole none. (let it = all_taken one_word kinds.TheVariants.Overflow c w u (subst IsAll (sym k.share) whole) (k.all none) goes h in it.1);
     }
 
--- ---- the two ends
+-- ---- pushes
 
-pub record Pushing (xs back : List ℕ) (v w : View ℕ) : Type 0 where
-  pub before : List ℕ
-  pub pushed : List ℕ
-  pub after : List ℕ
-  pub older : List ℕ
-  pub numbers : xs ≡ before ++ (pushed ++ after)
-  pub returned : back ≡ before ++ (older ++ after)
-  pub fresh : pushed ≡ [] → older ≡ []
-  pub ended : (after ≡ []) ⊎ calls.TakesNone w
-  pub published : Piled pushed v.published w.published
-  pub newest : (pushed ≡ []) ⊎ ((q : ℕ) × (w.last_push ≡ Some q))
-  pub taken : Piled older v.taken w.taken
-  pub share : w.share ≡ v.share
-  pub capacity : w.capacity ≡ v.capacity
+push_wrote : (back : List ℕ) (value oldest : ℕ) (v w u : View ℕ) → TookOut by_push back v w → HasOverflowed value (Some oldest) w u → TookOut by_push (back ++ oldest ∷ []) v u
+push_wrote back value oldest v w u k h =
+    let p = h.by in
+    let act : Event ℕ = Acted p (Queues (PushIndex value)) (PoppedIndex oldest) in
+    let last : Event ℕ = Finished p (Queues (PushIndex value)) (PoppedIndex oldest) in
+    let at = first_wrote p (Queues (PushIndex value)) (PoppedIndex oldest) (Published p (Index value)) (HandedOut p (Index oldest) ∷ act ∷ []) w u h.called in
+    let part = find_own p at.after (act ∷ last ∷ []) (HandedOut p (Index oldest)) at.mine in
+    let before : List (Event ℕ) = at.before ++ Published p (Index value) ∷ part.0 in
+    let is : u.seen ≡ before ++ HandedOut p (Index oldest) ∷ part.1 = at.is ∙ (ap (λ es. at.before ++ Published p (Index value) ∷ es) part.2 ∙ sym (append_assoc at.before (Published p (Index value) ∷ part.0) (HandedOut p (Index oldest) ∷ part.1))) in
+    let since : IsBeginning w.seen before =
+    record { rest = at.since.rest ++ Published p (Index value) ∷ part.0; is = ap (λ es. es ++ Published p (Index value) ∷ part.0) at.since.is ∙ append_assoc w.seen at.since.rest (Published p (Index value) ∷ part.0) } in
+    took_more by_push push_lasts back oldest p v w u before part.1 k since is (ap by_push part.4)
 
-pub pushing_none : (all : List ℕ) (v w : View ℕ) → w ≡ with_producer v → Pushing (take 0 all) [] v w
-pushing_none all v w e =
+-- what was published stays so
+seen_later : (v w : View ℕ) → IsBeginning v.seen w.seen → length (published v.seen) ≤ length (published w.seen)
+seen_later v w begins =
+    let a = all_puts v.seen in
+    let b = all_puts w.seen in
+    let all : sum_by puts w.seen ≡ sum_by puts (v.seen ++ begins.rest) = ap (sum_by puts) begins.is in
+    let both = sum_by-append puts v.seen begins.rest in
+    omega arith
+
+counted_as : (xs : List ℕ) (put got put' got' : ℕ) (v w : View ℕ) → put ≡ put' → got ≡ got' → HasAdded publishes xs put got v w → HasAdded publishes xs put' got' v w
+counted_as xs put got put' got' v w p q k = subst (λ (t : ℕ × ℕ). HasAdded publishes xs t.0 t.1 v w) (λ i. (p i, q i)) k
+
+pub pushed_none : (c : ℕ) (all : List ℕ) (role : Role) (v w : View ℕ) → GoesOn c v w → HasAcquired role true v w → HasPushedUpTo (take 0 all) [] v w
+pushed_none c all role v w goes h =
+    let done = done_acquired v w role true h in
     record {
-      before = [];
-      pushed = [];
-      after = [];
-      older = [];
-      numbers = refl;
-      returned = refl;
-      fresh = λ e. refl;
-      ended = inl refl;
-      published = subst (λ (z : View ℕ). Piled [] v.published z.published) (sym e) (piled_none v.published);
-      newest = inl refl;
-      taken = subst (λ (z : View ℕ). Piled [] v.taken z.taken) (sym e) (piled_none v.taken);
-      share = ap (λ (z : View ℕ). z.share) e;
-      capacity = ap (λ (z : View ℕ). z.capacity) e;
+      few = (let p = done.puts_more in omega arith);
+      share = goes.share;
+      all = λ under. record { added = added_none publishes v w goes.since goes.share done; returned = took_none by_push push_lasts v w goes.since };
     }
 
--- one more behind three lists of which the last is empty, or behind the last
-behind : (a b c : List ℕ) (x : ℕ) (xs : List ℕ) → xs ≡ a ++ (b ++ c) → xs ++ x ∷ [] ≡ a ++ (b ++ (c ++ x ∷ []))
-behind a b c x xs e = ap (λ z. z ++ x ∷ []) e ∙ (append_assoc a (b ++ c) (x ∷ []) ∙ ap (λ z. a ++ z) (append_assoc b c (x ∷ [])))
+module _ (c : ℕ) (some : 0 < c) (xs back : List ℕ) (x : ℕ) (v w u : View ℕ) (k : HasPushedUpTo xs back v w) (goes : GoesOn c w u) where
+  long : length (xs ++ x ∷ []) ≡ length xs + 1
+  long = length-append xs (x ∷ [])
 
-between : (a b c : List ℕ) (x : ℕ) (xs : List ℕ) → c ≡ [] → xs ≡ a ++ (b ++ c) → xs ++ x ∷ [] ≡ a ++ ((b ++ x ∷ []) ++ [])
-between a b c x xs none e =
-    ap (λ z. z ++ x ∷ []) (e ∙ ap (λ z. a ++ z) (ap (λ z. b ++ z) none ∙ append-nil b))
-    ∙ (append_assoc a b (x ∷ []) ∙ ap (λ z. a ++ z) (sym (append-nil (b ++ x ∷ []))))
+  earlier : length (published u.seen) < 2 ^ 64 - 1 → HasPushedAll xs back v w
+  earlier under = k.all (let low = seen_later w u goes.since in omega arith)
 
--- the same where the middle list stays as it is
-beside : (a b c : List ℕ) (xs : List ℕ) → c ≡ [] → xs ≡ a ++ (b ++ c) → xs ≡ a ++ (b ++ [])
-beside a b c xs none e = e ∙ ap (λ z. a ++ (b ++ z)) none
+  pushes_one : HasOverflowed x None w u → HasPublished (Index x) w u → HasPushedUpTo (xs ++ x ∷ []) back v u
+  pushes_one h p =
+      let done = done_added w u x h in
+      record {
+        few = (let f = k.few in let d = done.puts_more in let l = long in omega arith);
+        share = goes.share ∙ k.share;
+        all = λ under. (let was = earlier under in
+            record {
+              added = counted_as (xs ++ x ∷ []) (length xs + 1) (length back + 0) (length (xs ++ x ∷ [])) (length back) v u (sym long) (omega arith) (added_more publishes xs (length xs) (length back) v w u was.added goes.share x 1 0 done p.list);
+              returned = took_same by_push push_lasts back v w u was.returned goes.since;
+            });
+      }
 
-some_more : (xs : List ℕ) (x : ℕ) → xs ++ x ∷ [] ≡ [] → ⊥
-some_more [] x e = let n = ap length e in omega arith
-some_more (y ∷ ys) x e = let n = ap length e in omega arith
+  replaces_one : (oldest : ℕ) → HasOverflowed x (Some oldest) w u → HasPublished (Index x) w u → HasPushedUpTo (xs ++ x ∷ []) (back ++ oldest ∷ []) v u
+  replaces_one oldest h p =
+      let done = done_replaced w u x oldest h in
+      record {
+        few = (let f = k.few in let d = done.puts_more in let l = long in omega arith);
+        share = goes.share ∙ k.share;
+        all = λ under. (let was = earlier under in
+            record {
+              added = counted_as (xs ++ x ∷ []) (length xs + 1) (length back + 1) (length (xs ++ x ∷ [])) (length (back ++ oldest ∷ [])) v u (sym long) (sym (length-append back (oldest ∷ []))) (added_more publishes xs (length xs) (length back) v w u was.added goes.share x 1 1 done p.list);
+              returned = push_wrote back x oldest v w u was.returned h;
+            });
+      }
 
-module _ (all : List ℕ) (n x : ℕ) (back : List ℕ) (v w u : View ℕ) (lt : n < length all) (is : x ≡ get_or all n 0) (k : Pushing (take n all) back v w) where
+  -- at the last position nothing is said of the order
+  took_none_there : (back' : List ℕ) → TookNone c w u → HasPushedUpTo (xs ++ x ∷ []) back' v u
+  took_none_there back' (inl h) = (let none = h.0 in absurd (omega arith))
+  took_none_there back' (inr h) =
+      record {
+        few = (let f = k.few in let same = ap (sum_by puts) h.made in let l = long in omega arith);
+        share = goes.share ∙ k.share;
+        all = λ under. (let end = h.end in absurd (omega arith));
+      }
+
+  pub adds : HasOverflowed x None w u ⊎ (None ≡ Some x) × TookNone c w u → HasPublished (Index x) w u → HasPushedUpTo (xs ++ x ∷ []) back v u
+  adds (inl h) p = pushes_one h p
+  adds (inr h) p = took_none_there back h.1
+
+  pub returns_one : {Taken : Type 0} (y : ℕ) → HasOverflowed x (Some y) w u ⊎ (Some y ≡ Some x) × TookNone c w u → HasPublished (Index x) w u × Taken ⊎ (y ≡ x) × TookNone c w u → HasPushedUpTo (xs ++ x ∷ []) (back ++ y ∷ []) v u
+  returns_one y (inl h) (inl p) = replaces_one y h p.0
+  returns_one y (inl h) (inr p) = took_none_there (back ++ y ∷ []) p.1
+  returns_one y (inr h) p = took_none_there (back ++ y ∷ []) h.1
+
+module _ (c : ℕ) (some : 0 < c) (all : List ℕ) (n x : ℕ) (back : List ℕ) (v w u : View ℕ) (lt : n < length all) (is : x ≡ get_or all n 0) (k : HasPushedUpTo (take n all) back v w) (goes : GoesOn c w u) where
   longer : take n all ++ x ∷ [] ≡ take (n + 1) all
   longer = ap (λ z. take n all ++ z ∷ []) is ∙ sym (take_more all n 0 lt)
 
-  more : (back' : List ℕ) → Pushing (take n all ++ x ∷ []) back' v u → Pushing (take (n + 1) all) back' v u
-  more back' h = subst (λ xs. Pushing xs back' v u) longer h
+  pub pushes_next : (answer : Option ℕ) → answer ≡ None → HasOverflowed x answer w u ⊎ (answer ≡ Some x) × TookNone c w u → HasPublished (Index x) w u → HasPushedUpTo (take (n + 1) all) back v u
+  pushes_next answer none called p = subst (λ xs. HasPushedUpTo xs back v u) longer (adds c some (take n all) back x v w u k goes (subst (λ o. HasOverflowed x o w u ⊎ (o ≡ Some x) × TookNone c w u) none called) p)
 
-  pub pushes_one : calls.HasAdded x w u → (calls.TakesNone w → ⊥) → Pushing (take (n + 1) all) back v u
-  pushes_one h takes = more back (go k.ended)
-    where
-      go : (k.after ≡ []) ⊎ calls.TakesNone w → Pushing (take n all ++ x ∷ []) back v u
-      go t =
-          ⊎_elim
-          (λ none.
+  pub returns_next : {Taken : Type 0} (answer : Option ℕ) (y : ℕ) → answer ≡ Some y → HasOverflowed x answer w u ⊎ (answer ≡ Some x) × TookNone c w u → HasPublished (Index x) w u × Taken ⊎ (y ≡ x) × TookNone c w u → HasPushedUpTo (take (n + 1) all) (back ++ y ∷ []) v u
+  returns_next answer y one called p = subst (λ xs. HasPushedUpTo xs (back ++ y ∷ []) v u) longer (returns_one c some (take n all) back x v w u k goes y (subst (λ o. HasOverflowed x o w u ⊎ (o ≡ Some x) × TookNone c w u) one called) p)
+
+pub pushed_all : (c : ℕ) (all : List ℕ) (n : ℕ) (back : List ℕ) (role : Role) (v w u : View ℕ) → length all ≤ n → HasPushedUpTo (take n all) back v w → GoesOn c w u → HasReleased role w u → published u.seen ≡ published w.seen → HasPushedUpTo all back v u
+pushed_all c all n back role v w u past k goes h is =
+    let done = done_released w u role h in
+    subst (λ xs. HasPushedUpTo xs back v u) (take_all n all past)
+    (record {
+      few = (let f = k.few in let d = done.puts_more in omega arith);
+      share = goes.share ∙ k.share;
+      all = λ under. (let was = k.all (let same = ap length is in omega arith) in
           record {
-            before = k.before;
-            pushed = k.pushed ++ x ∷ [];
-            after = [];
-            older = k.older;
-            numbers = between k.before k.pushed k.after x (take n all) none k.numbers;
-            returned = beside k.before k.older k.after back none k.returned;
-            fresh = λ e. absurd (some_more k.pushed x e);
-            ended = inl refl;
-            published = subst (λ (z : View ℕ). Piled (k.pushed ++ x ∷ []) v.published z.published) (sym h.adds) (piled_more k.pushed x h.position v.published w.published k.published h.above.0);
-            newest = inr (h.position, ap (λ (z : View ℕ). z.last_push) h.adds);
-            taken = subst (λ (z : View ℕ). Piled k.older v.taken z.taken) (sym h.adds) k.taken;
-            share = ap (λ (z : View ℕ). z.share) h.adds ∙ k.share;
-            capacity = ap (λ (z : View ℕ). z.capacity) h.adds ∙ k.capacity;
-          })
-          (λ shut. absurd (takes shut)) t
+            added = added_same publishes (take n all) (length (take n all)) (length back) v w u was.added goes.share done is;
+            returned = took_same by_push push_lasts back v w u was.returned goes.since;
+          });
+    })
 
-  replaced : (y : ℕ) → k.after ≡ [] → calls.HasReplaced x y w u → Pushing (take n all ++ x ∷ []) (back ++ y ∷ []) v u
-  replaced y none h =
-      record {
-        before = k.before;
-        pushed = k.pushed ++ x ∷ [];
-        after = [];
-        older = k.older ++ y ∷ [];
-        numbers = between k.before k.pushed k.after x (take n all) none k.numbers;
-        returned = between k.before k.older k.after y back none k.returned;
-        fresh = λ e. absurd (some_more k.pushed x e);
-        ended = inl refl;
-        published = subst (λ (z : View ℕ). Piled (k.pushed ++ x ∷ []) v.published z.published) (sym h.adds) (piled_more k.pushed x h.position v.published w.published k.published h.above.0);
-        newest = inr (h.position, ap (λ (z : View ℕ). z.last_push) h.adds);
-        taken = subst (λ (z : View ℕ). Piled (k.older ++ y ∷ []) v.taken z.taken) (sym h.adds) (piled_more k.older y h.oldest v.taken w.taken k.taken h.taken);
-        share = ap (λ (z : View ℕ). z.share) h.adds ∙ k.share;
-        capacity = ap (λ (z : View ℕ). z.capacity) h.adds ∙ k.capacity;
-      }
+-- ---- both joined, and what waited is popped
 
-  -- it came back itself, and the queue takes none any more
-  own_after : (y : ℕ) → y ≡ x → u ≡ w → calls.TakesNone w → Pushing (take n all ++ x ∷ []) (back ++ y ∷ []) v u
-  own_after y own same shut =
-      record {
-        before = k.before;
-        pushed = k.pushed;
-        after = k.after ++ x ∷ [];
-        older = k.older;
-        numbers = behind k.before k.pushed k.after x (take n all) k.numbers;
-        returned = ap (λ z. back ++ z ∷ []) own ∙ behind k.before k.older k.after x back k.returned;
-        fresh = k.fresh;
-        ended = inr (subst (λ (z : View ℕ). calls.TakesNone z) (sym same) shut);
-        published = subst (λ (z : View ℕ). Piled k.pushed v.published z.published) (sym same) k.published;
-        newest = subst (λ (z : View ℕ). (k.pushed ≡ []) ⊎ ((q : ℕ) × (z.last_push ≡ Some q))) (sym same) k.newest;
-        taken = subst (λ (z : View ℕ). Piled k.older v.taken z.taken) (sym same) k.taken;
-        share = ap (λ (z : View ℕ). z.share) same ∙ k.share;
-        capacity = ap (λ (z : View ℕ). z.capacity) same ∙ k.capacity;
-      }
+module _ (d n : ℕ) (role : Role) (all back came new : List ℕ) (v left right a b z k u : View ℕ) (fits : length all < 2 ^ 64 - 1) (opens : v ≡ first_view n) (cut : HasSplit v left right) (s : HasPushedUpTo all back left a) (r : HasTaken came right b) (h : HasJoined a b z) (none : MissesNothing z) (goes : GoesOn d z k) (acquired : HasAcquired role true z k) (drain : HasDrained came new k u) where
+  whole : IsAll k.share
+  whole =
+      let start : v.share ≡ all_shares = ap (λ (t : View ℕ). t.share) opens in
+      subst IsAll (sym (goes.share ∙ (h.share ∙ ap (λ (t : Share × Share). both_of t.0 t.1) (λ i. (
+        (s.share ∙ (cut.share ∙ ap half_of start)) i,
+        (r.share ∙ (cut.right_share ∙ ap half_of start)) i,
+      ))))) refl
 
-  -- it came back itself before the queue took any
-  own_before : (y : ℕ) → y ≡ x → u ≡ w → k.pushed ≡ [] → k.after ≡ [] → Pushing (take n all ++ x ∷ []) (back ++ y ∷ []) v u
-  own_before y own same first none =
-      let old : k.older ≡ [] = k.fresh first in
-      record {
-        before = k.before ++ x ∷ [];
-        pushed = [];
-        after = [];
-        older = [];
-        numbers = ap (λ z. z ++ x ∷ []) (k.numbers ∙ (ap (λ z. k.before ++ (z ++ k.after)) first ∙ ap (λ z. k.before ++ z) none ∙ append-nil k.before)) ∙ sym (append-nil (k.before ++ x ∷ []));
-        returned = ap (λ z. back ++ z ∷ []) own ∙ ap (λ z. z ++ x ∷ []) (k.returned ∙ (ap (λ z. k.before ++ (z ++ k.after)) old ∙ ap (λ z. k.before ++ z) none ∙ append-nil k.before)) ∙ sym (append-nil (k.before ++ x ∷ []));
-        fresh = λ e. refl;
-        ended = inl refl;
-        published = subst (λ (z : View ℕ). Piled [] v.published z.published) (sym same) (subst (λ xs. Piled xs v.published w.published) first k.published);
-        newest = inl refl;
-        taken = subst (λ (z : View ℕ). Piled [] v.taken z.taken) (sym same) (subst (λ xs. Piled xs v.taken w.taken) old k.taken);
-        share = ap (λ (z : View ℕ). z.share) same ∙ k.share;
-        capacity = ap (λ (z : View ℕ). z.capacity) same ∙ k.capacity;
-      }
+  whole_there : IsAll u.share
+  whole_there = subst IsAll (sym drain.popped.share) whole
 
-  own_one : (y : ℕ) → k.after ≡ [] → calls.WasHandedBack x y w u → Pushing (take n all ++ x ∷ []) (back ++ y ∷ []) v u
-  own_one y none h =
-      ⊎_elim
-      (λ first. own_before y h.own h.same first none)
-      (λ t. own_after y h.own h.same (⊎_elim (λ bare. inl bare) (λ end. inr (t.1 ∙ ap Some (end t.0 t.1))) h.end))
-      k.newest
+  counted : (length (published u.seen) ≡ sum_by puts u.made) × (length (handed_out u.seen) ≡ sum_by gets u.made)
+  counted = whole_counted u whole_there (drain.popped.all goes.all)
 
-  pub returns_one : (y : ℕ) → (calls.HasReplaced x y w u) ⊎ (calls.WasHandedBack x y w u) → (calls.TakesNone w → (y ≡ x) × (u ≡ w)) → Pushing (take (n + 1) all) (back ++ y ∷ []) v u
-  returns_one y t own =
-      more (back ++ y ∷ [])
-      (⊎_elim
-      (λ none. ⊎_elim (replaced y none) (own_one y none) t)
-      (λ shut. let o = own shut in own_after y o.0 o.1 shut)
-      k.ended)
+  fresh_left : left.seen ≡ []
+  fresh_left = cut.seen ∙ ap (λ (t : View ℕ). t.seen) opens
 
-pub pushed_all : (all : List ℕ) (n : ℕ) (back : List ℕ) (v w u : View ℕ) → length all ≤ n → Pushing (take n all) back v w → u ≡ without_producer w → HasPushedAll all back v u
-pushed_all all n back v w u past k e =
-    record {
-      before = k.before;
-      pushed = k.pushed;
-      after = k.after;
-      older = k.older;
-      numbers = sym (take_all n all past) ∙ k.numbers;
-      returned = k.returned;
-      published = subst (λ (z : View ℕ). Piled k.pushed v.published z.published) (sym e) k.published;
-      taken = subst (λ (z : View ℕ). Piled k.older v.taken z.taken) (sym e) k.taken;
-      share = ap (λ (z : View ℕ). z.share) e ∙ k.share;
-      capacity = ap (λ (z : View ℕ). z.capacity) e ∙ k.capacity;
-    }
+  since : IsBeginning a.seen u.seen
+  since = begins_on (begins_on h.ours goes.since) drain.popped.since
 
-pub takes_none : (v w : View ℕ) → w ≡ with_consumer v → HasTaken [] v w
-takes_none v w e =
-    record {
-      published = ap (λ (z : View ℕ). z.published) e;
-      taken = subst (λ (z : View ℕ). Piled [] v.taken z.taken) (sym e) (piled_none v.taken);
-      share = ap (λ (z : View ℕ). z.share) e;
-      capacity = ap (λ (z : View ℕ). z.capacity) e;
-    }
+  -- how much was pushed, and taken out
+  puts_all : sum_by puts u.made ≡ sum_by puts a.made
+  puts_all =
+      let drains = drain.popped.done.puts_more in
+      let takes = (done_acquired z k role true acquired).puts_more in
+      let both : sum_by puts z.made ≡ sum_by puts a.made + sum_by puts b.made = ap (sum_by puts) h.made ∙ sum_by-append puts a.made b.made in
+      let theirs : sum_by puts right.made ≡ 0 = ap (sum_by puts) cut.right_made in
+      let pops = r.done.puts_more in
+      omega arith
 
-pub takes_one : (xs : List ℕ) (x : ℕ) (v w u : View ℕ) → HasTaken xs v w → calls.HasTaken x w u → HasTaken (xs ++ x ∷ []) v u
-takes_one xs x v w u k h =
-    record {
-      published = ap (λ (z : View ℕ). z.published) h.adds ∙ k.published;
-      taken = subst (λ (z : View ℕ). Piled (xs ++ x ∷ []) v.taken z.taken) (sym h.adds) (piled_more xs x h.position v.taken w.taken k.taken h.above);
-      share = ap (λ (z : View ℕ). z.share) h.adds ∙ k.share;
-      capacity = ap (λ (z : View ℕ). z.capacity) h.adds ∙ k.capacity;
-    }
+  mine : sum_by puts left.made ≡ 0
+  mine = ap (sum_by puts) cut.made ∙ ap (λ (t : View ℕ). sum_by puts t.made) opens
 
-pub takes_same : (xs : List ℕ) (v w u : View ℕ) → HasTaken xs v w → u ≡ w → HasTaken xs v u
-takes_same xs v w u k e = subst (HasTaken xs v) (sym e) k
+  pushed : HasPushedAll all back left a
+  pushed = s.all (let low = seen_later a u since in let size = counted.0 in let few = s.few in let one = puts_all in let start = mine in omega arith)
 
-pub takes_all : (xs : List ℕ) (v w u : View ℕ) → HasTaken xs v w → u ≡ without_consumer w → HasTaken xs v u
-takes_all xs v w u k e =
-    record {
-      published = ap (λ (z : View ℕ). z.published) e ∙ k.published;
-      taken = subst (λ (z : View ℕ). Piled xs v.taken z.taken) (sym e) k.taken;
-      share = ap (λ (z : View ℕ). z.share) e ∙ k.share;
-      capacity = ap (λ (z : View ℕ). z.capacity) e ∙ k.capacity;
-    }
+  all_published : published u.seen ≡ map Index all
+  all_published = only_these publishes all (length all) (length back) left a u.seen (ap published fresh_left) pushed.added since (let size = counted.0 in let one = puts_all in let start = mine in let put = pushed.added.done.puts_more in omega arith)
 
-pub drained : (old new more : List ℕ) (v w u : View ℕ) → new ≡ old ++ more → HasTaken more v w → u ≡ w → (IsWhole w → 0 < w.capacity → Emptied w) → HasDrained old new v u
-drained old new more v w u numbers k e emptied =
-    record {
-      more = more;
-      numbers = numbers;
-      popped = takes_same more v w u k e;
-      emptied = subst (λ (z : View ℕ). IsWhole z → 0 < z.capacity → Emptied z) (sym e) emptied;
-    }
+  emptied : handed_out u.seen ≡ published u.seen
+  emptied = drain.emptied whole goes.all
 
--- ---- two lists in the order of their positions
+  gets_all : length (handed_out u.seen) ≡ length back + (length came + length drain.more)
+  gets_all =
+      let size = counted.1 in
+      let drains = drain.popped.done.gets_more in
+      let takes = (done_acquired z k role true acquired).gets_more in
+      let both : sum_by gets z.made ≡ sum_by gets a.made + sum_by gets b.made = ap (sum_by gets) h.made ∙ sum_by-append gets a.made b.made in
+      let ours : sum_by gets left.made ≡ 0 = ap (sum_by gets) cut.made ∙ ap (λ (t : View ℕ). sum_by gets t.made) opens in
+      let theirs : sum_by gets right.made ≡ 0 = ap (sum_by gets) cut.right_made in
+      let pushes = pushed.added.done.gets_more in
+      let pops = r.done.gets_more in
+      omega arith
 
--- the same of pairs
-abbrev Mixes : List (ℕ × ℕ) → List (ℕ × ℕ) → List (ℕ × ℕ) → Type 0
-Mixes xs ys [] = (xs ≡ []) × (ys ≡ [])
-Mixes xs ys (z ∷ zs) = ((rest : List (ℕ × ℕ)) × (xs ≡ z ∷ rest) × Mixes rest ys zs) ⊎ ((rest : List (ℕ × ℕ)) × (ys ≡ z ∷ rest) × Mixes xs rest zs)
+  -- what each had stands in what its calls took out
+  in_pushes : StandIn (map Index back) (taken by_push u.seen)
+  in_pushes = subst (λ es. StandIn (map Index back) (taken by_push es)) (sym since.is) (grows by_push push_lasts (map Index back) a.seen since.rest (pushed.returned [] tt))
 
-merged : (xs ys zs : List (ℕ × ℕ)) → Mixes xs ys zs → Merges (values xs) (values ys) (values zs)
-merged xs ys [] m = (ap values m.0, ap values m.1)
-merged xs ys (z ∷ zs) m =
-    ⊎_elim (λ t. inl (values t.0, ap values t.1, merged t.0 ys zs t.2)) (λ t. inr (values t.0, ap values t.1, merged xs t.0 zs t.2)) m
+  in_pops : StandIn (map Index came ++ map Index drain.more) (taken by_pop u.seen)
+  in_pops =
+      let on = begins_on h.others goes.since in
+      drain.popped.popped (map Index came) (subst (λ es. StandIn (map Index came) (taken by_pop es)) (sym on.is) (grows by_pop pop_lasts (map Index came) b.seen on.rest (r.popped [] tt)))
 
-mixes_left : (xs : List (ℕ × ℕ)) → Mixes xs [] xs
-mixes_left [] = (refl, refl)
-mixes_left (x ∷ xs) = inl (xs, refl, mixes_left xs)
+  sizes : (length (map {B = Item ℕ} Index back) ≡ length back) × (length (map {B = Item ℕ} Index came ++ map Index drain.more) ≡ length came + length drain.more)
+  sizes = (same_length back, (let e = length-append (map {B = Item ℕ} Index came) (map Index drain.more) in let x = same_length came in let y = same_length drain.more in omega arith))
 
-mixes_placed : (xs : List (ℕ × ℕ)) (h : ℕ × ℕ) (hs zs : List (ℕ × ℕ)) → Above h.0 hs → Mixes xs hs zs → Mixes xs (h ∷ hs) (placed h zs)
-mixes_placed xs h hs [] above m = inr (hs, refl, m)
-mixes_placed xs h hs (z ∷ zs) above m =
-    by_less (Mixes xs (h ∷ hs)) h.0 z.0 (h ∷ z ∷ zs) (z ∷ placed h zs)
-    (λ lt. inr (hs, refl, m))
-    (λ over. ⊎_elim
-    (λ t. inl (t.0, t.1, mixes_placed t.0 h hs zs above t.2))
-    (λ t. let lt = All-head (λ (y : ℕ × ℕ). h.0 < y.0) z t.0 (subst (Above h.0) t.1 above) in absurd (omega arith))
-    m)
+  all_pushes : map Index back ≡ taken by_push u.seen
+  all_pushes = same_list (map Index back) (taken by_push u.seen) in_pushes (let x = sizes.0 in let y = sizes.1 in let low = no_longer _ _ in_pops in let few = few_taken u.seen in let all = gets_all in omega arith)
 
-mixes : (hs xs : List (ℕ × ℕ)) → Rising hs → Rising xs → Mixes xs hs (by_position (hs ++ xs))
-mixes [] xs up up' = subst (Mixes xs []) (sym (in_order_already xs up')) (mixes_left xs)
-mixes (h ∷ hs) xs up up' = mixes_placed xs h hs (by_position (hs ++ xs)) up.0 (mixes hs xs up.1 up')
+  all_pops : map Index came ++ map Index drain.more ≡ taken by_pop u.seen
+  all_pops = same_list (map Index came ++ map Index drain.more) (taken by_pop u.seen) in_pops (let x = sizes.0 in let y = sizes.1 in let low = no_longer _ _ in_pushes in let few = few_taken u.seen in let all = gets_all in omega arith)
 
-rising_of : (xs : List (ℕ × ℕ)) → AllPairs Up xs → Rising xs
-rising_of [] up = tt
-rising_of (x ∷ xs) up = ((λ k d lt. up 0 (suc k) d (omega arith) (omega arith)), rising_of xs (λ i k d lt within. up (suc i) (suc k) d (omega arith) (omega arith)))
-
--- what came back at once stands before the others, or after them
-merges_behind : (fs xs ys zs : List ℕ) → Merges xs ys zs → Merges xs (fs ++ ys) (fs ++ zs)
-merges_behind [] xs ys zs m = m
-merges_behind (f ∷ fs) xs ys zs m = inr (fs ++ ys, refl, merges_behind fs xs ys zs m)
-
-merges_alone : (ls : List ℕ) → Merges [] ls ls
-merges_alone [] = (refl, refl)
-merges_alone (l ∷ ls) = inr (ls, refl, merges_alone ls)
-
-merges_ahead : (ls xs ys zs : List ℕ) → Merges xs ys zs → Merges xs (ys ++ ls) (zs ++ ls)
-merges_ahead ls xs ys [] m = subst (λ (t : List ℕ × List ℕ). Merges t.0 (t.1 ++ ls) ls) (λ i. (sym m.0 i, sym m.1 i)) (merges_alone ls)
-merges_ahead ls xs ys (z ∷ zs) m =
-    ⊎_elim
-    (λ t. inl (t.0, t.1, merges_ahead ls t.0 ys zs t.2))
-    (λ t. inr (t.0 ++ ls, ap (λ l. l ++ ls) t.1, merges_ahead ls xs t.0 zs t.2))
-    m
-
--- ---- all joined
-
-module _ (capacity : ℕ) (some : 0 < capacity) (all back first came : List ℕ) (a b z c u y : View ℕ) (s : HasPushedAll all back (halved (opened capacity 0)) a) (r : HasTaken first (half (opened capacity 0)) b) (is : z ≡ joined a b)
-    (begins : c ≡ with_consumer z) (d : HasDrained first came c u) (ends : y ≡ without_consumer u) (sound : Sound y) (complete : IsWhole y → Complete y) where
-  whole : IsWhole y
-  whole = subst IsAll (sym (ap (λ (t : View ℕ). t.share) ends ∙ (d.popped.share ∙ (ap (λ (t : View ℕ). t.share) begins ∙ (ap (λ (t : View ℕ). t.share) is ∙ ap (λ (t : Share × Share). both_of t.0 t.1) (λ i. (s.share i, r.share i))))))) refl
-
-  wide : 0 < u.capacity
-  wide = subst (λ n. 0 < n) (sym (d.popped.capacity ∙ (ap (λ (t : View ℕ). t.capacity) begins ∙ (ap (λ (t : View ℕ). t.capacity) is ∙ s.capacity)))) some
-
-  emptied : Emptied y
-  emptied = subst (λ (t : View ℕ). Emptied t) (sym ends) (d.emptied (subst (λ (t : View ℕ). IsWhole t) ends whole) wide)
-
-  published : y.published ≡ s.published.pairs
-  published =
-      ap (λ (t : View ℕ). t.published) ends ∙ (d.popped.published ∙ (ap (λ (t : View ℕ). t.published) begins ∙ (ap (λ (t : View ℕ). t.published) is
-      ∙ (ap (λ xs. a.published ++ xs) r.published ∙ (append-nil a.published ∙ s.published.are)))))
-
-  -- which stand in order already
-  in_order : values_in_order s.published.pairs ≡ s.pushed
-  in_order = ap values (in_order_already s.published.pairs (rising_of s.published.pairs s.published.rising)) ∙ s.published.values
-
-  abbrev hs : List (ℕ × ℕ)
-  hs = s.taken.pairs
-
-  abbrev ps : List (ℕ × ℕ)
-  ps = r.taken.pairs
-
-  abbrev ds : List (ℕ × ℕ)
-  ds = d.popped.taken.pairs
-
-  before : c.taken ≡ hs ++ ps
-  before = ap (λ (t : View ℕ). t.taken) begins ∙ (ap (λ (t : View ℕ). t.taken) is ∙ ap (λ (t : List (ℕ × ℕ) × List (ℕ × ℕ)). t.0 ++ t.1) (λ i. (s.taken.are i, r.taken.are i)))
-
-  taken : y.taken ≡ hs ++ (ps ++ ds)
-  taken = ap (λ (t : View ℕ). t.taken) ends ∙ (d.popped.taken.are ∙ (ap (λ xs. xs ++ ds) before ∙ append_assoc hs ps ds))
-
-  rising : AllPairs Up (ps ++ ds)
-  rising =
-      pairs_append Up ps ds r.taken.rising d.popped.taken.rising
-      (all_right (λ (x : ℕ × ℕ). All (Up x) ds) hs ps (subst (All (λ (x : ℕ × ℕ). All (Up x) ds)) before d.popped.taken.above))
-
-  numbers : values (ps ++ ds) ≡ came
-  numbers = map-append (λ (x : ℕ × ℕ). x.1) ps ds ∙ (ap (λ (t : List ℕ × List ℕ). t.0 ++ t.1) (λ i. (r.taken.values i, d.popped.taken.values i)) ∙ sym d.numbers)
-
-  merged_older : Merges came s.older s.pushed
-  merged_older =
-      let mixed = merged (ps ++ ds) hs (by_position (hs ++ (ps ++ ds))) (mixes hs (ps ++ ds) (rising_of hs s.taken.rising) (rising_of (ps ++ ds) rising)) in
-      let ordered : values (by_position (hs ++ (ps ++ ds))) ≡ s.pushed =
-      ap values_in_order (sym taken) ∙ (emptied_is_all y sound (complete whole) emptied ∙ (ap values_in_order published ∙ in_order)) in
-      subst (λ (t : List ℕ × List ℕ × List ℕ). Merges t.0 t.1 t.2) (λ i. (numbers i, s.taken.values i, ordered i)) mixed
-
-  pub overflowed : Merges came back all
+  -- so what was pushed is a merge of both
+  pub overflowed : Merges new back all
   overflowed =
-      subst (λ (t : List ℕ × List ℕ). Merges came t.0 t.1) (λ i. (sym s.returned i, sym s.numbers i))
-      (merges_behind s.before came (s.older ++ s.after) (s.pushed ++ s.after) (merges_ahead s.after came s.older s.pushed merged_older))
+      let both = merged u.seen (let x = sizes.0 in let y = sizes.1 in let p = ap length all_pops in let q = ap length all_pushes in let all = gets_all in omega arith) in
+      let pops : taken by_pop u.seen ≡ map item new = sym all_pops ∙ (sym (map-append Index came drain.more) ∙ ap (map item) (sym drain.numbers)) in
+      numbers_merge new back all
+      (subst (λ zs. Merges (map item new) (map item back) zs) (emptied ∙ all_published)
+      (subst (λ ys. Merges (map item new) ys (handed_out u.seen)) (sym all_pushes)
+      (subst (λ xs. Merges xs (taken by_push u.seen) (handed_out u.seen)) pops both)))

@@ -1,162 +1,265 @@
--- Numbers at consecutive positions, and what is known of them once the passes are joined.
-use Rattle.std.proofs.Common.{◌≡◌, ℕ, suc, ◌+◌, ◌<◌, ◌≤◌, List, [], ◌∷◌, ◌++◌, length, map, get_or, take, sym, refl, ap, subst, ◌∙◌, arith, append-nil, append_assoc, length-append}
-use Rattle.std.specs.Prelude.{Option, Some, None}
-use Rattle.std.specs.List.{All}
+-- Numbers that were pushed and popped, and what is known of them once the passes are joined.
+use Rattle.std.proofs.Common.{◌≡◌, ◌≢◌, ◌⊎◌, inl, inr, ℕ, suc, ◌+◌, ◌<◌, ◌≤◌, Bool, true, false, true≢false, List, [], ◌∷◌, ◌++◌, length, map, get_or, take, sym, refl, ap, subst, ◌∙◌, arith, append-nil, append_assoc, length-append, sum_by}
+use mathlib.Core.List.{map-append}
+use Rattle.std.specs.Prelude.{Some, None, Option, Result, Ok, Err, IfOk, IfSome, IfNone, MatchResult, is_ok, is_some, not}
+use Rattle.std.specs.Option.{option_map}
+use Rattle.std.specs.List.{flat_map}
 use Rattle.std.proofs.lemmas.List.{take_more, take_all}
-use Rattle.std.proofs.lemmas.List.Elements.{All-nil, All-cons}
+use Rattle.std.proofs.lemmas.List.Concat.{flat_map-append}
+use Rattle.std.proofs.lemmas.List.Sums.{sum_by-append}
+use Rattle.lock_free.specs.Coding.{one_word}
+use Rattle.lock_free.specs.Event.{Event}
+use Rattle.lock_free.specs.HistoryView.View.{View}
+use Rattle.lock_free.specs.History.{IsBeginning}
 use Rattle.lock_free.specs.Share.{Share}
-use Rattle.lock_free.specs.QueueView.View.{View}
-use Rattle.lock_free.specs.Shares.{both_of, IsAll}
-use Rattle.lock_free.specs.Orders.{values_in_order}
-use Rattle.lock_free.specs.Ring.Views.{opened, halved, half, joined, with_producer, without_producer, with_consumer, without_consumer, IsWhole}
-use Rattle.lock_free.specs.Ring.Between.{Sound, Complete, Emptied}
-use Rattle.lock_free.specs.Ring.Calls.{HasPushed, HasPopped}
-use Rattle.lock_free.proofs.Orders.{Rising, in_order_already}
-use Rattle.lock_free.proofs.Whole.{taken_is_beginning, emptied_is_all}
-use Rattle.clients.specs.Rows.{row, HasSent, HasReceived}
+use Rattle.lock_free.specs.Shares.{half_of, both_of, IsAll, all_shares}
+use Rattle.lock_free.specs.Queues.Calls.{GoesOn, HasHistory, MissesNothing}
+use Rattle.lock_free.specs.Queues.Item.{Item}
+use Rattle.lock_free.specs.Queues.Item.TheVariants.{Index}
+use Rattle.lock_free.specs.Queues.Positions.{IsSound}
+use Rattle.lock_free.specs.Queues.QueueKind as kinds
+use Rattle.lock_free.specs.Queues.Reading.{publishes, hands_out, published, handed_out, waiting}
+use Rattle.lock_free.specs.Queues.Role.{Role}
+use Rattle.lock_free.specs.Queues.Sums.{puts, gets, HasDone}
+use Rattle.lock_free.specs.Queues.Told.{HasPushed, HasPublished, WasAtEnd, WasFull, HasPopped, HasTakenOut, WasEmpty, HasAcquired, HasReleased, HasSplit, HasJoined}
+use Rattle.lock_free.specs.Queues.Views.{first_view}
+use Rattle.lock_free.proofs.QueuePromises.{sound}
+use Rattle.lock_free.proofs.QueueSums.{done_pushed, done_refused, done_popped, done_none, done_acquired, done_released, done_then, whole_counted}
+use Rattle.lock_free.proofs.QueueWhole.{all_taken, nothing_more}
+use Rattle.clients.specs.Rows.{HasAdded, HasSent, HasReceived}
 
--- ---- rows
+none_left : {A : Type 0} (xs : List A) → length xs ≡ 0 → xs ≡ []
+none_left [] e = refl
+none_left (x ∷ xs) e = absurd (omega arith)
 
-pub length_row : (p : ℕ) (xs : List ℕ) → length (row p xs) ≡ length xs
-length_row p [] = refl
-length_row p (x ∷ xs) = ap suc (length_row (suc p) xs)
+-- the number as an item of a queue
+abbrev pub item : ℕ → Item ℕ
+item x = Index x
 
-pub row_push : (p : ℕ) (xs : List ℕ) (x : ℕ) → row p (xs ++ x ∷ []) ≡ row p xs ++ (p + length xs, x) ∷ []
-row_push p [] x = let e : p ≡ p + 0 = omega arith in ap (λ z. (z, x) ∷ []) e
-row_push p (y ∷ ys) x = let e : suc p + length ys ≡ p + length (y ∷ ys) = omega arith in ap (λ zs. (p, y) ∷ zs) (row_push (suc p) ys x ∙ ap (λ z. row (suc p) ys ++ (z, x) ∷ []) e)
+pub same_length : (xs : List ℕ) → length (map item xs) ≡ length xs
+same_length [] = refl
+same_length (x ∷ xs) = ap suc (same_length xs)
 
-row_above : (p q : ℕ) (xs : List ℕ) → p < q → All (λ (y : ℕ × ℕ). p < y.0) (row q xs)
-row_above p q [] lt = All-nil (λ (y : ℕ × ℕ). p < y.0)
-row_above p q (x ∷ xs) lt = All-cons (λ (y : ℕ × ℕ). p < y.0) (q, x) (row (suc q) xs) lt (row_above p (suc q) xs (omega arith))
+-- ---- what a call said, where its answer was handed on
 
-row_rising : (p : ℕ) (xs : List ℕ) → Rising (row p xs)
-row_rising p [] = tt
-row_rising p (x ∷ xs) = (row_above p (suc p) xs (omega arith), row_rising (suc p) xs)
+pub said_of_ok : {A E D : Type 0} (P : A → Type 0) (Q : E → Type 0) {m : Result A D} (r : Result A E) (x : A) → MatchResult r (λ y. m ≡ Ok y) Q → is_ok m ≡ is_ok r → m ≡ Ok x → IfOk r P → P x
+said_of_ok P Q (Ok y) x same ok is said = (let e : y ≡ x = cc in subst P e said)
+said_of_ok P Q (Err e) x same ok is said = absurd (true≢false (sym (ap is_ok is) ∙ ok))
 
-row_values : (p : ℕ) (xs : List ℕ) → map (λ (y : ℕ × ℕ). y.1) (row p xs) ≡ xs
-row_values p [] = refl
-row_values p (x ∷ xs) = ap (λ zs. x ∷ zs) (row_values (suc p) xs)
+pub said_of_some : (P : ℕ → Type 0) (o : Option ℕ) (x : ℕ) → o ≡ Some x → IfSome o P → P x
+said_of_some P o x is said = subst (λ z. IfSome z P) is said
 
-pub row_in_order : (p : ℕ) (xs : List ℕ) → values_in_order (row p xs) ≡ xs
-row_in_order p xs = ap (map (λ (y : ℕ × ℕ). y.1)) (in_order_already (row p xs) (row_rising p xs)) ∙ row_values p xs
+-- ---- a list that grows
 
--- ---- a row that grows
+module _ (tells : Event ℕ → List (Item ℕ)) where
+  pub added_none : (v w : View ℕ) → IsBeginning v.seen w.seen → w.share ≡ v.share → HasDone 0 0 v w → HasAdded tells [] 0 0 v w
+  added_none v w begins share done =
+      record {
+        others = flat_map tells begins.rest;
+        list = ap (flat_map tells) begins.is ∙ (flat_map-append tells v.seen begins.rest ∙ sym (append-nil (flat_map tells v.seen ++ flat_map tells begins.rest)));
+        done = done;
+        share = share;
+      }
 
--- beyond the old pairs stand these numbers in a row, the last at this position
-pub record Grown (xs : List ℕ) (old new : List (ℕ × ℕ)) (last : Option ℕ) : Type 0 where
-  pub from : ℕ
-  pub pairs : new ≡ old ++ row from xs
-  pub newest : (m : ℕ) → length xs ≡ m + 1 → last ≡ Some (from + m)
+  module _ (xs : List ℕ) (put got : ℕ) (v w u : View ℕ) (k : HasAdded tells xs put got v w) (share : u.share ≡ w.share) where
+    pub added_more : (x p g : ℕ) → HasDone p g w u → flat_map tells u.seen ≡ flat_map tells w.seen ++ Index x ∷ [] → HasAdded tells (xs ++ x ∷ []) (put + p) (got + g) v u
+    added_more x p g done is =
+        record {
+          others = k.others;
+          list = is
+              ∙ (ap (λ ys. ys ++ Index x ∷ []) k.list
+              ∙ (append_assoc (flat_map tells v.seen ++ k.others) (map Index xs) (Index x ∷ []) ∙ ap (λ ys. (flat_map tells v.seen ++ k.others) ++ ys) (sym (map-append Index xs (x ∷ [])))));
+          done = done_then put got p g v w u k.done done;
+          share = share ∙ k.share;
+        }
 
-pub grown_none : (pairs : List (ℕ × ℕ)) (last : Option ℕ) → Grown [] pairs pairs last
-grown_none pairs last = record { from = 0; pairs = sym (append-nil pairs); newest = λ m e. absurd (omega arith) }
+    pub added_same : HasDone 0 0 w u → flat_map tells u.seen ≡ flat_map tells w.seen → HasAdded tells xs put got v u
+    added_same done is =
+        let a = k.done in
+        record {
+          others = k.others;
+          list = is ∙ k.list;
+          done = record { puts_more = (let p = a.puts_more in let q = done.puts_more in omega arith); gets_more = (let p = a.gets_more in let q = done.gets_more in omega arith) };
+          share = share ∙ k.share;
+        }
 
--- where the row begins, once one more stands in it
-follows : (xs : List ℕ) (old new : List (ℕ × ℕ)) (last : Option ℕ) (position : ℕ) → Grown xs old new last → ((q : ℕ) → last ≡ Some q → position ≡ q + 1)
-    → (from : ℕ) × (new ≡ old ++ row from xs) × (position ≡ from + length xs)
-follows [] old new last position g next = (position, g.pairs, (let e : position ≡ position + 0 = omega arith in e))
-follows (x ∷ xs) old new last position g next = (g.from, g.pairs, (let e = next (g.from + length xs) (g.newest (length xs) (omega arith)) in omega arith))
+  -- nothing else was told where the list is no longer
+  pub only_these : (xs : List ℕ) (put got : ℕ) (v w : View ℕ) (seen : List (Event ℕ)) → flat_map tells v.seen ≡ [] → HasAdded tells xs put got v w → IsBeginning w.seen seen → length (flat_map tells seen) ≡ length xs → flat_map tells seen ≡ map Index xs
+  only_these xs put got v w seen fresh k begins long =
+      let rest : List (Item ℕ) = flat_map tells begins.rest in
+      let list : flat_map tells seen ≡ (k.others ++ map Index xs) ++ rest = ap (flat_map tells) begins.is ∙ (flat_map-append tells w.seen begins.rest ∙ ap (λ ys. ys ++ rest) (k.list ∙ ap (λ ys. (ys ++ k.others) ++ map Index xs) fresh)) in
+      let size = ap length list in
+      let one = length-append (k.others ++ map Index xs) rest in
+      let two = length-append k.others (map Index xs) in
+      let same = same_length xs in
+      let no_others : k.others ≡ [] = none_left k.others (omega arith) in
+      let no_rest : rest ≡ [] = none_left rest (omega arith) in
+      list ∙ (ap (λ ys. (k.others ++ map Index xs) ++ ys) no_rest ∙ (append-nil (k.others ++ map Index xs) ∙ ap (λ ys. ys ++ map Index xs) no_others))
 
-pub grown_more : (xs : List ℕ) (x position : ℕ) (old new : List (ℕ × ℕ)) (last : Option ℕ) → Grown xs old new last → ((q : ℕ) → last ≡ Some q → position ≡ q + 1)
-    → Grown (xs ++ x ∷ []) old (new ++ (position, x) ∷ []) (Some position)
-grown_more xs x position old new last g next =
-    let t = follows xs old new last position g next in
-    let at = t.2 in
-    record {
-      from = t.0;
-      pairs = ap (λ z. z ++ (position, x) ∷ []) t.1 ∙ (append_assoc old (row t.0 xs) ((position, x) ∷ []) ∙ ap (λ z. old ++ z) (ap (λ z. row t.0 xs ++ (z, x) ∷ []) at ∙ sym (row_push t.0 xs x)));
-      newest = λ m e. let long = length-append xs (x ∷ []) in let same : length xs ≡ m = omega arith in ap Some (at ∙ ap (λ z. t.0 + z) same);
-    }
+-- ---- the sender
 
--- ---- the two ends
+was_pushed : (item : Item ℕ) (taken : Bool) (w u : View ℕ) → taken ≡ true → HasPushed item taken w u ⊎ (taken ≡ false) × WasAtEnd w u → HasPushed item true w u
+was_pushed item taken w u is (inl h) = subst (λ t. HasPushed item t w u) is h
+was_pushed item taken w u is (inr h) = absurd (true≢false (sym is ∙ h.0))
 
-pub record Sending (xs : List ℕ) (v w : View ℕ) : Type 0 where
-  pub published : Grown xs v.published w.published w.last_push
-  pub taken : w.taken ≡ v.taken
-  pub share : w.share ≡ v.share
+pub sent_none : (c : ℕ) (all : List ℕ) (role : Role) (v w : View ℕ) → GoesOn c v w → HasAcquired role true v w → HasSent (take 0 all) v w
+sent_none c all role v w goes h = added_none publishes v w goes.since goes.share (done_acquired v w role true h)
 
-pub record Receiving (xs : List ℕ) (v w : View ℕ) : Type 0 where
-  pub taken : Grown xs v.taken w.taken w.last_pop
-  pub published : w.published ≡ v.published
-  pub share : w.share ≡ v.share
+pub sent_more : (c : ℕ) (xs : List ℕ) (x : ℕ) (taken : Bool) (v w u : View ℕ) → HasSent xs v w → GoesOn c w u → taken ≡ true → HasPushed (Index x) taken w u ⊎ (taken ≡ false) × WasAtEnd w u → HasPublished (Index x) w u → HasSent (xs ++ x ∷ []) v u
+sent_more c xs x taken v w u k goes is h p = subst (λ n. HasAdded publishes (xs ++ x ∷ []) n 0 v u) (sym (length-append xs (x ∷ []))) (added_more publishes xs (length xs) 0 v w u k goes.share x 1 0 (done_pushed w u (Index x) (was_pushed (Index x) taken w u is h)) p.list)
 
-pub sending_none : (all : List ℕ) (v w : View ℕ) → w ≡ with_producer v → Sending (take 0 all) v w
-sending_none all v w e =
-    record {
-      published = subst (λ (z : View ℕ). Grown (take 0 all) v.published z.published z.last_push) (sym e) (grown_none v.published None);
-      taken = ap (λ (z : View ℕ). z.taken) e;
-      share = ap (λ (z : View ℕ). z.share) e;
-    }
+pub sends : (c : ℕ) (all : List ℕ) (n x : ℕ) (taken : Bool) (v w u : View ℕ) → n < length all → x ≡ get_or all n 0 → HasSent (take n all) v w → GoesOn c w u → taken ≡ true → HasPushed (Index x) taken w u ⊎ (taken ≡ false) × WasAtEnd w u → HasPublished (Index x) w u → HasSent (take (n + 1) all) v u
+sends c all n x taken v w u lt is k goes took h p = subst (λ xs. HasSent xs v u) (ap (λ z. take n all ++ z ∷ []) is ∙ sym (take_more all n 0 lt)) (sent_more c (take n all) x taken v w u k goes took h p)
 
-pub receiving_none : (v w : View ℕ) → w ≡ with_consumer v → Receiving [] v w
-receiving_none v w e =
-    record {
-      taken = subst (λ (z : View ℕ). Grown [] v.taken z.taken z.last_pop) (sym e) (grown_none v.taken None);
-      published = ap (λ (z : View ℕ). z.published) e;
-      share = ap (λ (z : View ℕ). z.share) e;
-    }
+pub sends_none : (c : ℕ) (xs : List ℕ) (x : ℕ) (taken : Bool) (v w u : View ℕ) → HasSent xs v w → GoesOn c w u → taken ≡ false → HasPushed (Index x) taken w u ⊎ (taken ≡ false) × WasAtEnd w u → WasFull c (Index x) w u ⊎ WasAtEnd w u → HasSent xs v u
+sends_none c xs x taken v w u k goes refused h full = added_same publishes xs (length xs) 0 v w u k goes.share (done_refused w u (Index x) taken refused h) (same full)
+  where
+    same : WasFull c (Index x) w u ⊎ WasAtEnd w u → published u.seen ≡ published w.seen
+    same (inl f) = f.list
+    same (inr f) = f.list
 
-pub sends : (all : List ℕ) (n x : ℕ) (v w u : View ℕ) → n < length all → x ≡ get_or all n 0 → Sending (take n all) v w → HasPushed x w u → Sending (take (n + 1) all) v u
-sends all n x v w u lt is k h =
-    subst (λ xs. Sending xs v u) (ap (λ z. take n all ++ z ∷ []) is ∙ sym (take_more all n 0 lt))
-    (record {
-      published = subst (λ (z : View ℕ). Grown (take n all ++ x ∷ []) v.published z.published z.last_push) (sym h.adds) (grown_more (take n all) x h.position v.published w.published w.last_push k.published h.next);
-      taken = ap (λ (z : View ℕ). z.taken) h.adds ∙ k.taken;
-      share = ap (λ (z : View ℕ). z.share) h.adds ∙ k.share;
-    })
+pub sent_all : (c : ℕ) (all : List ℕ) (n : ℕ) (role : Role) (v w u : View ℕ) → length all ≤ n → HasSent (take n all) v w → GoesOn c w u → HasReleased role w u → published u.seen ≡ published w.seen → HasSent all v u
+sent_all c all n role v w u past k goes h is = subst (λ xs. HasSent xs v u) (take_all n all past) (added_same publishes (take n all) (length (take n all)) 0 v w u k goes.share (done_released w u role h) is)
 
-pub gets : (xs : List ℕ) (x : ℕ) (v w u : View ℕ) → Receiving xs v w → HasPopped x w u → Receiving (xs ++ x ∷ []) v u
-gets xs x v w u k h =
-    record {
-      taken = subst (λ (z : View ℕ). Grown (xs ++ x ∷ []) v.taken z.taken z.last_pop) (sym h.adds) (grown_more xs x h.position v.taken w.taken w.last_pop k.taken h.next);
-      published = ap (λ (z : View ℕ). z.published) h.adds ∙ k.published;
-      share = ap (λ (z : View ℕ). z.share) h.adds ∙ k.share;
-    }
+-- ---- the receiver
 
-pub sent_all : (all : List ℕ) (n : ℕ) (v w u : View ℕ) → length all ≤ n → Sending (take n all) v w → u ≡ without_producer w → HasSent all v u
-sent_all all n v w u past k e =
-    record {
-      from = k.published.from;
-      published = ap (λ (z : View ℕ). z.published) e ∙ (k.published.pairs ∙ ap (λ xs. v.published ++ row k.published.from xs) (take_all n all past));
-      taken = ap (λ (z : View ℕ). z.taken) e ∙ k.taken;
-      share = ap (λ (z : View ℕ). z.share) e ∙ k.share;
-    }
+pub received_none : (c : ℕ) (role : Role) (v w : View ℕ) → GoesOn c v w → HasAcquired role true v w → HasReceived [] v w
+received_none c role v w goes h = added_none hands_out v w goes.since goes.share (done_acquired v w role true h)
 
-pub received_all : (xs : List ℕ) (v w u : View ℕ) → Receiving xs v w → u ≡ without_consumer w → HasReceived xs v u
-received_all xs v w u k e =
-    record {
-      from = k.taken.from;
-      published = ap (λ (z : View ℕ). z.published) e ∙ k.published;
-      taken = ap (λ (z : View ℕ). z.taken) e ∙ k.taken.pairs;
-      share = ap (λ (z : View ℕ). z.share) e ∙ k.share;
-    }
+pub gets_one : (c : ℕ) (xs : List ℕ) (x : ℕ) (v w u : View ℕ) → HasReceived xs v w → GoesOn c w u → HasPopped (Some (Index x)) w u → HasTakenOut (Index x) w u → HasReceived (xs ++ x ∷ []) v u
+gets_one c xs x v w u k goes h p = subst (λ n. HasAdded hands_out (xs ++ x ∷ []) 0 n v u) (sym (length-append xs (x ∷ []))) (added_more hands_out xs 0 (length xs) v w u k goes.share x 0 1 (done_popped w u (Index x) h) p.list)
+
+pub gets_none : (c : ℕ) (xs : List ℕ) (v w u : View ℕ) → HasReceived xs v w → GoesOn c w u → HasPopped None w u → WasEmpty w u → HasReceived xs v u
+gets_none c xs v w u k goes h p = added_same hands_out xs 0 (length xs) v w u k goes.share (done_none w u h) p.list
+
+pub received_all : (c : ℕ) (xs : List ℕ) (role : Role) (v w u : View ℕ) → HasReceived xs v w → GoesOn c w u → HasReleased role w u → handed_out u.seen ≡ handed_out w.seen → HasReceived xs v u
+received_all c xs role v w u k goes h is = added_same hands_out xs 0 (length xs) v w u k goes.share (done_released w u role h) is
 
 -- ---- both joined
 
-module _ (capacity : ℕ) (all xs : List ℕ) (a b z : View ℕ) (s : HasSent all (halved (opened capacity 0)) a) (r : HasReceived xs (half (opened capacity 0)) b) (is : z ≡ joined a b) where
-  -- the joined pass has the whole right
-  pub whole : IsWhole z
-  whole = subst IsAll (sym (ap (λ (u : View ℕ). u.share) is ∙ ap (λ (t : Share × Share). both_of t.0 t.1) (λ i. (s.share i, r.share i)))) refl
+-- what begins so begins with these numbers
+begins_with : (xs ys : List ℕ) (zs : List (Item ℕ)) → map Index ys ≡ map Index xs ++ zs → xs ≡ take (length xs) ys
+begins_with [] ys zs e = refl
+begins_with (x ∷ xs) [] zs e = absurd (cc)
+begins_with (x ∷ xs) (y ∷ ys) zs e =
+    let more : map Index ys ≡ map Index xs ++ zs = cc in
+    let here : item y ≡ item x = cc in
+    let same : y ≡ x = cc in
+    ap (λ ws. x ∷ ws) (begins_with xs ys zs more) ∙ ap (λ w. w ∷ take (length xs) ys) (sym same)
 
-  published : z.published ≡ row s.from all
-  published = ap (λ (u : View ℕ). u.published) is ∙ (ap (λ xs. a.published ++ xs) r.published ∙ (append-nil a.published ∙ s.published))
+pub same_numbers : (xs ys : List ℕ) → map {B = Item ℕ} Index xs ≡ map Index ys → xs ≡ ys
+same_numbers [] [] e = refl
+same_numbers [] (y ∷ ys) e = absurd (cc)
+same_numbers (x ∷ xs) [] e = absurd (cc)
+same_numbers (x ∷ xs) (y ∷ ys) e =
+    let more : map {B = Item ℕ} Index xs ≡ map Index ys = cc in
+    let here : item x ≡ item y = cc in
+    let same : x ≡ y = cc in
+    ap (λ ws. x ∷ ws) (same_numbers xs ys more) ∙ ap (λ w. w ∷ ys) same
 
-  taken : z.taken ≡ row r.from xs
-  taken = ap (λ (u : View ℕ). u.taken) is ∙ (ap (λ ys. ys ++ b.taken) s.taken ∙ r.taken)
+module _ (c n : ℕ) (all xs : List ℕ) (v left right a b z : View ℕ) (opens : v ≡ first_view n) (cut : HasSplit v left right) (s : HasSent all left a) (r : HasReceived xs right b) (h : HasJoined a b z) (history : HasHistory c z) (none : MissesNothing z) where
+  pub whole : IsAll z.share
+  whole =
+      let start : v.share ≡ all_shares = ap (λ (t : View ℕ). t.share) opens in
+      subst IsAll (sym (h.share ∙ ap (λ (t : Share × Share). both_of t.0 t.1) (λ i. (
+        (s.share ∙ (cut.share ∙ ap half_of start)) i,
+        (r.share ∙ (cut.right_share ∙ ap half_of start)) i,
+      )))) refl
 
-  ordered : values_in_order z.published ≡ all
-  ordered = ap values_in_order published ∙ row_in_order s.from all
+  fresh_left : left.seen ≡ []
+  fresh_left = cut.seen ∙ ap (λ (t : View ℕ). t.seen) opens
 
-  came_in_order : values_in_order z.taken ≡ xs
-  came_in_order = ap values_in_order taken ∙ row_in_order r.from xs
+  fresh_right : right.seen ≡ []
+  fresh_right = cut.right_seen ∙ ap (λ (t : View ℕ). t.seen) opens
+
+  -- nobody else pushed, or popped, anything
+  pushed_these : length (published z.seen) ≡ length all
+  pushed_these =
+      let counted = (whole_counted z whole none).0 in
+      let both : sum_by puts z.made ≡ sum_by puts a.made + sum_by puts b.made = ap (sum_by puts) h.made ∙ sum_by-append puts a.made b.made in
+      let mine : sum_by puts left.made ≡ 0 = ap (sum_by puts) cut.made ∙ ap (λ (t : View ℕ). sum_by puts t.made) opens in
+      let theirs : sum_by puts right.made ≡ 0 = ap (sum_by puts) cut.right_made in
+      let sent = s.done.puts_more in
+      let received = r.done.puts_more in
+      omega arith
+
+  popped_these : length (handed_out z.seen) ≡ length xs
+  popped_these =
+      let counted = (whole_counted z whole none).1 in
+      let both : sum_by gets z.made ≡ sum_by gets a.made + sum_by gets b.made = ap (sum_by gets) h.made ∙ sum_by-append gets a.made b.made in
+      let mine : sum_by gets left.made ≡ 0 = ap (sum_by gets) cut.made ∙ ap (λ (t : View ℕ). sum_by gets t.made) opens in
+      let theirs : sum_by gets right.made ≡ 0 = ap (sum_by gets) cut.right_made in
+      let sent = s.done.gets_more in
+      let received = r.done.gets_more in
+      omega arith
+
+  pub all_published : published z.seen ≡ map Index all
+  all_published = only_these publishes all (length all) 0 left a z.seen (ap published fresh_left) s h.ours pushed_these
+
+  pub all_handed_out : handed_out z.seen ≡ map Index xs
+  all_handed_out = only_these hands_out xs 0 (length xs) right b z.seen (ap handed_out fresh_right) r h.others popped_these
+
+  sound_here : IsSound c z.seen
+  sound_here = sound one_word kinds.TheVariants.IndexQueue c z tt history
 
   -- so what came is a beginning of what was sent
-  pub came : Sound z → (IsWhole z → Complete z) → xs ≡ take (length xs) all
-  came sound complete =
-      sym came_in_order
-      ∙ (taken_is_beginning z sound (complete whole)
-      ∙ ap (λ (t : ℕ × List ℕ). take t.0 t.1) (λ i. ((ap length taken ∙ length_row r.from xs) i, ordered i)))
+  book : map Index all ≡ map Index xs ++ waiting z.seen
+  book = sym all_published ∙ (sound_here.book z.seen [] (sym (append-nil z.seen)) ∙ ap (λ ys. ys ++ waiting z.seen) all_handed_out)
 
-  -- and all of it where nothing waits
-  pub came_all : Sound z → (IsWhole z → Complete z) → (IsWhole z → Emptied z) → xs ≡ all
-  came_all sound complete emptied = sym came_in_order ∙ (emptied_is_all z sound (complete whole) (emptied whole) ∙ ordered)
+  pub came : xs ≡ take (length xs) all
+  came = begins_with xs all (waiting z.seen) book
+
+  -- and no more is left than the queue has room for
+  pub few_left : length all ≤ length xs + c
+  few_left =
+      let most = sound_here.few z.seen [] (sym (append-nil z.seen)) in
+      let long = ap length book in
+      let one = length-append (map Index xs) (waiting z.seen) in
+      let two = same_length xs in
+      let three = same_length all in
+      omega arith
+
+  -- ---- a last pop
+
+  module _ (d e : ℕ) (role : Role) (k u : View ℕ) (goes : GoesOn d z k) (acquired : HasAcquired role true z k) (pops : GoesOn e k u) where
+    whole_there : IsAll k.share
+    whole_there = subst IsAll (sym goes.share) whole
+
+    still_published : published k.seen ≡ published z.seen
+    still_published = nothing_more publishes one_word _ d z k _ whole none goes acquired.called.made refl
+
+    still_handed_out : handed_out k.seen ≡ handed_out z.seen
+    still_handed_out = nothing_more hands_out one_word _ d z k _ whole none goes acquired.called.made refl
+
+    -- finds nothing where all came
+    pub came_all : HasPopped None k u → WasEmpty k u → xs ≡ all
+    came_all popping empty =
+        let it = all_taken one_word kinds.TheVariants.IndexQueue e k u whole_there goes.all pops popping in
+        same_numbers xs all (sym all_handed_out ∙ (sym still_handed_out ∙ (sym empty.list ∙ (it.1 ∙ (it.0 ∙ (still_published ∙ all_published))))))
+
+    -- and something where not all did
+    pub came_less : (x : ℕ) → HasPopped (Some (Index x)) k u → HasTakenOut (Index x) k u → length xs < length all
+    came_less x popping took =
+        let same : published u.seen ≡ published k.seen = nothing_more publishes one_word _ e k u _ whole_there goes.all pops popping.called.made refl in
+        let list : map Index all ≡ (map Index xs ++ Index x ∷ []) ++ waiting u.seen =
+        sym all_published
+        ∙ (sym still_published
+        ∙ (sym same
+        ∙ ((sound one_word kinds.TheVariants.IndexQueue e u tt pops.history).book u.seen [] (sym (append-nil u.seen))
+        ∙ ap (λ ys. ys ++ waiting u.seen) (took.list ∙ ap (λ ys. ys ++ Index x ∷ []) (still_handed_out ∙ all_handed_out)))))
+        in
+        let long = ap length list in
+        let one = length-append (map Index xs ++ Index x ∷ []) (waiting u.seen) in
+        let two = length-append (map {B = Item ℕ} Index xs) (Index x ∷ []) in
+        let three = same_length xs in
+        let four = same_length all in
+        omega arith
+
+    -- by what the pop answered
+    pub came_where_none : (answer : Option ℕ) (none_left_there : Bool) → is_some answer ≡ not none_left_there → none_left_there ≡ true → HasPopped (option_map Index answer) k u → IfNone answer (WasEmpty k u) → xs ≡ all
+    came_where_none None t is yes_none popping empty = came_all popping empty
+    came_where_none (Some x) t is yes_none popping empty = absurd (true≢false (is ∙ ap not yes_none))
+
+    pub came_where_some : (answer : Option ℕ) (none_left_there : Bool) → is_some answer ≡ not none_left_there → none_left_there ≡ false → HasPopped (option_map Index answer) k u → IfSome answer (λ x. HasTakenOut (Index x) k u) → length xs < length all
+    came_where_some None t is no_none popping took = absurd (true≢false (sym (is ∙ ap not no_none)))
+    came_where_some (Some x) t is no_none popping took = came_less x popping took

@@ -1,22 +1,25 @@
--- What a thread has added to what its pass knew: numbers at consecutive positions.
-use Rattle.std.specs.Prelude.{◌≡◌, ℕ, suc, List, [], ◌∷◌, ◌++◌}
-use Rattle.lock_free.specs.QueueView.View.{View}
+-- What a thread has done with a queue since its pass knew less: which numbers it pushed, or popped.
+use Rattle.std.specs.Prelude.{◌≡◌, ℕ, List, ◌++◌, length, map}
+use Rattle.std.specs.List.{flat_map}
+use Rattle.lock_free.specs.Event.{Event}
+use Rattle.lock_free.specs.HistoryView.View.{View}
+use Rattle.lock_free.specs.Queues.Item.{Item}
+use Rattle.lock_free.specs.Queues.Item.TheVariants.{Index}
+use Rattle.lock_free.specs.Queues.Reading.{publishes, hands_out}
+use Rattle.lock_free.specs.Queues.Sums.{HasDone}
 
--- the numbers at consecutive positions, from p on
-abbrev pub row : ℕ → List ℕ → List (ℕ × ℕ)
-row p [] = []
-row p (x ∷ xs) = (p, x) ∷ row (suc p) xs
-
--- it has pushed these numbers, one right after the other
-pub record HasSent (xs : List ℕ) (v w : View ℕ) : Type 0 where
-  pub from : ℕ
-  pub published : w.published ≡ v.published ++ row from xs
-  pub taken : w.taken ≡ v.taken
+-- the list that the events tell ends with these numbers, and it has pushed and popped so many
+pub record HasAdded (tells : Event ℕ → List (Item ℕ)) (xs : List ℕ) (put got : ℕ) (v w : View ℕ)
+    : Type 0 where
+  pub others : List (Item ℕ)
+  pub list : flat_map tells w.seen ≡ (flat_map tells v.seen ++ others) ++ map Index xs
+  pub done : HasDone put got v w
   pub share : w.share ≡ v.share
 
--- it has popped these numbers, one right after the other
-pub record HasReceived (xs : List ℕ) (v w : View ℕ) : Type 0 where
-  pub from : ℕ
-  pub published : w.published ≡ v.published
-  pub taken : w.taken ≡ v.taken ++ row from xs
-  pub share : w.share ≡ v.share
+-- it has pushed these numbers, one after the other, and popped none
+abbrev pub HasSent : List ℕ → View ℕ → View ℕ → Type 0
+HasSent xs v w = HasAdded publishes xs (length xs) 0 v w
+
+-- it has popped these numbers, one after the other, and pushed none
+abbrev pub HasReceived : List ℕ → View ℕ → View ℕ → Type 0
+HasReceived xs v w = HasAdded hands_out xs 0 (length xs) v w

@@ -1,8 +1,8 @@
 //! Sends numbers from one thread to another, through a queue that holds a few of them. Proved: the numbers that came are
-//! the first of those that were sent, in their order, and all of them where none waits at the end.
+//! the first of those that were sent, in their order, and all of them just where none waits at the end.
 
-ghost use Rattle.std.specs.Prelude.{◌≡◌, IfOk, IsTrue, length, take};
-ghost use Rattle.lock_free.specs.Ends.{view, queue_of, IsPassOf};
+ghost use Rattle.std.specs.Prelude.{◌≡◌, ◌<◌, ◌≤◌, ◌+◌, IfOk, IsTrue, IsFalse, length, take};
+ghost use Rattle.lock_free.specs.Queues.Calls.{view, queue_of, IsPassOf};
 ghost use Rattle.clients.specs.Rows.{HasSent, HasReceived};
 
 use lock_free::spsc::index_queue::{IndexQueue, Pass};
@@ -91,8 +91,8 @@ pub struct Relayed {
 }
 
 /// Sends the numbers from one thread to another, which takes so many of them. What comes is a beginning of them, in
-/// their order, and all of them where nothing waits at the end. Where more are asked for than there are, or more than four
-/// are left over, which is what the queue has room for, it waits for good.
+/// their order, and all of them just where nothing waits at the end. At most four are left over, which is what the queue
+/// has room for: where there are more, or more are asked for than there are, it waits for good.
 pub fn relay<R: Threads + Wait + Sync>(
     rt: &R,
     alloc: Global,
@@ -101,6 +101,8 @@ pub fn relay<R: Threads + Wait + Sync>(
 ) -> Result<Relayed, RelayError>
     ensures beginning { IfOk result (λ r. r.numbers.items ≡ take count numbers.now) }
     ensures all { IfOk result (λ r. IsTrue r.emptied → r.numbers.items ≡ numbers.now) }
+    ensures some { IfOk result (λ r. IsFalse r.emptied → length r.numbers.items < length numbers.now) }
+    ensures few { IfOk result (λ r. length numbers.now ≤ length r.numbers.items + 4) }
 {
     let Ok((queue, mut mine)) = IndexQueue::new(alloc, 4) else {
         return Err(RelayError::NoMemory);

@@ -1,9 +1,9 @@
 //! Sends numbers from one thread to another that may be slow, through a queue that hands back its oldest where it is full.
 //! Proved: each number was popped or handed back, once, and both lists stand in the order in which they were sent.
 
-ghost use Rattle.std.specs.Prelude.{◌≡◌, IfSome};
-ghost use Rattle.lock_free.specs.Ends.{view, queue_of, IsPassOf, consumer_view, consumer_queue};
-ghost use Rattle.clients.specs.Overflow.{HasPushedAll, HasTaken, HasDrained, Merges};
+ghost use Rattle.std.specs.Prelude.{◌≡◌, ◌<◌, IfSome};
+ghost use Rattle.lock_free.specs.Queues.Overflowing.{view, queue_of, IsPassOf, consumer_view, consumer_queue};
+ghost use Rattle.clients.specs.Overflow.{HasPushedUpTo, HasTaken, HasDrained, Merges};
 
 use lock_free::spsc::safely_overflowing_index_queue::{
     Consumer, Pass, SafelyOverflowingIndexQueue,
@@ -22,7 +22,8 @@ fn push_all(
 ) -> Option<(Pass, Vec<u64>)>
     requires { IsPassOf queue.now pass }
     ensures queue { IfSome result (λ r. queue_of r.0 ≡ queue_of pass) }
-    ensures pushed { IfSome result (λ r. HasPushedAll numbers.now r.1.items (view pass) (view r.0)) }
+    ensures pushed { 0 < (queue_of pass).capacity
+        → IfSome result (λ r. HasPushedUpTo numbers.now r.1.items (view pass) (view r.0)) }
 {
     let Ok(mut producer) = queue.acquire_producer(pass) else {
         return None;
@@ -48,7 +49,8 @@ fn pop_some(
 ) -> Option<(Pass, Vec<u64>)>
     requires { IsPassOf queue.now pass }
     ensures queue { IfSome result (λ r. queue_of r.0 ≡ queue_of pass) }
-    ensures popped { IfSome result (λ r. HasTaken r.1.items (view pass) (view r.0)) }
+    ensures popped { 0 < (queue_of pass).capacity
+        → IfSome result (λ r. HasTaken r.1.items (view pass) (view r.0)) }
 {
     let Ok(mut consumer) = queue.acquire_consumer(pass) else {
         return None;
@@ -67,7 +69,8 @@ fn pop_some(
 /// Pops until nothing waits.
 fn drain(rt: &impl Wait, consumer: &mut Consumer<'_>, numbers: &mut Vec<u64>) -> Option<()>
     ensures queue { consumer_queue consumer.new ≡ consumer_queue consumer.old }
-    ensures drained { IfSome result (λ _. HasDrained numbers.old.items numbers.new.items
+    ensures drained { 0 < (consumer_queue consumer.old).capacity
+        → IfSome result (λ _. HasDrained numbers.old.items numbers.new.items
         (consumer_view consumer.old) (consumer_view consumer.new)) }
 {
     for _ in rt.forever() {
@@ -111,8 +114,6 @@ pub fn overflow<R: Threads + Wait + Sync>(
         return None;
     };
     drain(rt, &mut consumer, &mut popped)?;
-    let mut pass = consumer.release();
-    pass.look();
     Some(Overflowed {
         popped,
         handed_back,

@@ -6,6 +6,8 @@ pub mod Steps
 pub mod Passes
 pub mod Called
 pub mod Sized
+pub mod CallsIn
+pub mod CallTurns
 pub mod Drives
 pub mod Made
 pub mod Sets

@@ -29,7 +29,7 @@ use Rattle.model.specs.Coding.{Coding}
 use Rattle.model.specs.Families.{step_of, beside_of, after_of, going_rows}
 use Rattle.model.specs.Families.Queues.Calls.{after, read_word}
 use Rattle.model.specs.Families.Queues.Opening.{holds}
-use Rattle.model.specs.Families.Queues.Steps.{effects_of, effect_of, pending, beside, overflow_push_effect, overflow_pop_effect, takes_effect, acts_if_done}
+use Rattle.model.specs.Families.Queues.Steps.{effects_of, effect_of, pending, overflow_push_effect, overflow_pop_effect, takes_effect, acts_if_done}
 use Rattle.model.specs.Parties.{party_of}
 use Rattle.model.specs.Families.Queues.Reading.{producer_of}
 use Rattle.model.specs.Reading.{whose}

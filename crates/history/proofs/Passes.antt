@@ -1,5 +1,5 @@
 -- How passes are made of one another, and a look at the whole history, under the rule of a machine.
-use Rattle.std.proofs.Common.{◌≡◌, ◌≢◌, ◌⊎◌, inl, inr, ⊎_elim, ℕ, zero, suc, ◌+◌, ◌-◌, ◌^◌, ◌<◌, ◌≤◌, ◌==◌, true, false, if◌then◌else◌, Option, Some, None, IfSome, List, [], ◌∷◌, ◌++◌, length, replicate, get_or, set, slice_index, slice_set, refl, sym, ap, subst, ◌∙◌, append_assoc, append-nil, arith, length-set, sum_by}
+use Rattle.std.proofs.Common.{◌≡◌, ◌≢◌, ◌⊎◌, inl, inr, ⊎_elim, ℕ, zero, suc, ◌+◌, ◌<◌, ◌≤◌, ◌==◌, true, false, Option, Some, None, IfSome, List, [], ◌∷◌, ◌++◌, length, replicate, get_or, set, slice_index, slice_set, refl, sym, ap, subst, ◌∙◌, append_assoc, append-nil, arith, length-set, sum_by}
 use mathlib.Core.Option.{some, some-injective, some-ne-none}
 use lib.ListN.{get_elem?}
 use Rattle.atomic_table.specs.Table.{State, Allows, Splits, Joins, Enters, opening}
@@ -8,7 +8,7 @@ use Rattle.atomic_table.proofs.Lists.{at_set}
 use Rattle.model.specs.declared.event.Event.{Event}
 use Rattle.model.specs.declared.turn.Kind.{Kind}
 use Rattle.model.specs.declared.turn.Kind.TheVariants as kinds
-use Rattle.model.specs.Coding.{Coding, IsCoding, one_word}
+use Rattle.model.specs.Coding.{Coding, IsCoding}
 use Rattle.std.proofs.lemmas.Bool.{cases_eq}
 use Rattle.std.proofs.lemmas.Bool.Decides.{nat_tests}
 use Rattle.std.proofs.lemmas.List.Sums.{sum_by-append}

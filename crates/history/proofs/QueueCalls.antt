@@ -10,7 +10,6 @@ use Rattle.steps.specs.declared.ask.Want.TheVariants as wants
 use Rattle.steps.specs.declared.copied.OneWord.{OneWord}
 use Rattle.steps.specs.declared.queues.ring.Push.{Push}
 use Rattle.steps.specs.declared.queues.ring.PushStage as pushes
-use Rattle.steps.specs.declared.queues.ring.Pop as pop_calls
 use Rattle.steps.specs.declared.queues.ring.PopStage as pops
 use Rattle.steps.specs.Copied.{kept_in_one}
 use Rattle.steps.specs.Queues.Ring.{first_push, first_pop, cell_word, word_at, at_push, push_asks, push_want, push_takes, push_after, after_position, distance, at_pop, pop_asks, pop_want, pop_takes, pop_after, pop_kept, pop_keeps, pop_answer}
@@ -18,20 +17,14 @@ use Rattle.model.specs.declared.event.Answer.{Answer}
 use Rattle.model.specs.declared.event.Answer.TheVariants.{Truth}
 use Rattle.model.specs.declared.event.Event.{Event}
 use Rattle.model.specs.declared.event.Event.TheVariants.{Published, HandedOut, Acted}
-use Rattle.model.specs.declared.event.Answer.TheVariants as answers
 use Rattle.model.specs.declared.event.Item.TheVariants.{Index}
-use Rattle.model.specs.declared.event.Start.{Start}
 use Rattle.model.specs.declared.event.Start.TheVariants.{Queues}
 use Rattle.model.specs.declared.families.Flight.{Flight}
-use Rattle.model.specs.declared.families.Flight as flights
 use Rattle.model.specs.declared.families.queues.QueueStart.TheVariants.{PushIndex, Pop}
-use Rattle.model.specs.declared.families.queues.calls.RingCall as rings
-use Rattle.model.specs.declared.families.queues.calls.QueueFlight.TheVariants.{Indices}
 use Rattle.model.specs.Coding.{Coding}
 use Rattle.model.specs.Families.{after_of, first_of, opening_of}
-use Rattle.model.specs.Families.Queues.Calls.{after, words_of_index, popped, length_answer}
+use Rattle.model.specs.Families.Queues.Calls.{words_of_index, popped, length_answer}
 use Rattle.model.specs.Families.Queues.Steps.{effects_of, push_effect, pop_effect}
-use Rattle.model.specs.Step.{answer_in}
 use Rattle.lock_free_sp.specs.Driver.{answered}
 use Rattle.queue_laws.proofs.Ring.Knows.{IsFresh}
 use Rattle.history.specs.Stages.{Calling}
@@ -55,9 +48,9 @@ use Rattle.model.specs.declared.families.queues.Roles.{Roles}
 use Rattle.model.specs.declared.families.queues.calls.LengthOf.{LengthOf}
 use Rattle.model.specs.declared.families.queues.calls.LengthOf as measures
 use Rattle.model.specs.Families.Queues.Opening.{holds, lacks_role}
-use Rattle.history.specs.Queues.{takes_role, gives_role, length_start, counts_waiting, push_skips, PushStage, PushStands, push_wrote, pushes_index, Taking, PopStage, PopStands, pop_wrote, pops_index}
+use Rattle.history.specs.Queues.{takes_role, gives_role, length_start, counts_waiting, push_skips, PushStage, push_wrote, pushes_index, Taking, PopStage, pop_wrote, pops_index}
 use Rattle.history.specs.Stages.{Over}
-use Rattle.history.proofs.Drives.{IsCallOf, goes, keeps, keeps_all, AtSized, EndsSized, keeps_sized}
+use Rattle.history.proofs.Drives.{IsCallOf, goes, keeps, keeps_all, keeps_sized}
 use Rattle.history.proofs.Queues.{queue_effects, index_owes, plain_starts, role_starts}
 
 -- the holder lacks no role

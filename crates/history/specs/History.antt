@@ -22,7 +22,7 @@ use Rattle.model.specs.Coding.{Coding}
 use Rattle.model.specs.Parties.{party_of}
 use Rattle.model.specs.Turns.{IsReachedOn}
 use Rattle.model.specs.World.{World, Trace}
-use Rattle.queue_laws.proofs.Queues.Sound.{IsFreshRun}
+use Rattle.queue_laws.specs.Fresh.{IsFreshRun}
 use Rattle.lock_free_sp.specs.Shares.{IsAll}
 use Rattle.history.specs.Known.{Known, events_by, by_party, owned}
 use Rattle.history.specs.declared.view.View.{View}

@@ -9,7 +9,8 @@ const PAGE: usize = 60;
 
 const LEGEND: &str = "
 + begins a call; | is a step on one word; < a step that goes back; ' a turn without a step; = ends the call;
-x is refused, with why; : stands while others have turns; * numbers what acts or changes something; ? is not sure yet
+x is refused, with why; : stands while others have turns; * numbers what acts or changes something; ? is not sure yet;
+.. says how many more there are
 ";
 
 fn sign_of(did: Did) -> &'static str {

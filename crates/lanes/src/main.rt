@@ -11,7 +11,7 @@ mod svg;
 mod teller;
 
 use recorded::{MOST, record};
-use schedule::arguments::is_given;
+use schedule::arguments::{is_given, unread};
 use schedule::error::ScheduleError;
 use schedule::input::whole_input;
 use schedule::output::{flush, put};
@@ -106,13 +106,14 @@ fn draw_and_tell<R: Read, W: Write, E: Write>(
 }
 
 fn main(rt: HostRuntime) -> io::Result<ExitCode> {
-    let form = match is_given(&rt, "--text")? {
-        Some(true) => Form::Columns,
-        Some(false) => Form::Svg,
-        None => {
+    let form = match is_given(&rt, "--text") {
+        Ok(Some(true)) => Form::Columns,
+        Ok(Some(false)) => Form::Svg,
+        Ok(None) => {
             eprintln!(rt; "usage: lanes [--text] <SCHEDULE")?;
             return Ok(ExitCode::from(2));
         }
+        Err(error) => return unread(error, &mut rt.stderr()),
     };
     let exit = draw_and_tell(
         rt.alloc(),

@@ -27,8 +27,8 @@ const DARK: &str =
 const LEGEND: [&str; 4] = [
     "bar: a call, open at the right where it has not ended; tick: a step on one word;",
     "hook: a step that goes back; dashed tick: a turn without a step, as a decision;",
-    "numbered dot: its call acts or changes something; words below: what else happens;",
-    "x: a refused turn, with why; ?: an index of which its owner is not sure yet",
+    "numbered dot on a grey line: its call acts or changes something; words below: what else happens;",
+    "x: a refused turn, with why; ?: its owner is not sure yet; ..: how many more there are",
 ];
 
 /// The part of a run that stands on one page.

@@ -1,10 +1,13 @@
 -- For clients: what follows for who has the whole share, and what their proofs are made of.
-pub use Rattle.lock_free_sp.proofs.Whole
 pub use Rattle.lock_free_value.proofs.Versions as ValueVersions
+pub use Rattle.history.proofs.Known as HistoryKnown
+pub use Rattle.lock_free_queues.proofs.Queues.Positions as QueuePositions
+pub use Rattle.lock_free_queues.proofs.Queues.Promised as QueuePromises
+pub use Rattle.lock_free_queues.proofs.Queues.Sums as QueueSums
+pub use Rattle.lock_free_queues.proofs.Queues.Whole as QueueWhole
+pub use Rattle.lock_free_queues.proofs.Queues.Wrote as QueueWrote
 pub use Rattle.lock_free_sp.proofs.Fractions
-pub use Rattle.lock_free_sp.proofs.Orders
 pub use Rattle.lock_free_sp.proofs.Shares
-pub use Rattle.lock_free_sp.proofs.Rules.Ring.Lists
 pub mod Sums
 pub mod Unique
 pub mod Loan

@@ -1,15 +1,13 @@
 -- The words of the public contracts.
-pub use Rattle.lock_free_sp.specs.Ends
-pub use Rattle.lock_free_sp.specs.Ring
 pub use Rattle.lock_free_sp.specs.Shares
 pub use Rattle.lock_free_sp.specs.Parts
-pub use Rattle.lock_free_sp.specs.Orders
 pub use Rattle.lock_free_owners.specs.Robust
 pub use Rattle.lock_free_owners.specs.RobustUniqueIndexSet
 pub use Rattle.lock_free_owners.specs.Container
 pub use Rattle.steps.specs.Enums
 pub use Rattle.steps.specs.Container.State as ContainerState
 pub use Rattle.history.specs.History
+pub use Rattle.history.specs.Known as HistoryKnown
 pub use Rattle.model.specs.Coding
 pub use Rattle.history.specs.Held as HistoryHeld
 pub use Rattle.model.specs.Families.Indices.Reading as IndexReading
@@ -19,8 +17,7 @@ pub use Rattle.model.specs.Families.Bits.Reading as Sums
 pub use Rattle.atomic_table.specs.Seated.{TableId}
 pub use Rattle.model.specs.declared.event.Event
 pub use Rattle.history.specs.declared.view as HistoryView
-pub use Rattle.lock_free_sp.specs.declared.ring.view as QueueView
-pub use Rattle.lock_free_sp.specs.declared.ring.ends as QueueEnds
+pub use Rattle.lock_free_queues.specs.declared.spsc.ring as QueueEnds
 pub use Rattle.lock_free_owners.specs.declared.robust.view as RobustView
 pub use Rattle.lock_free.specs.declared.spsc.loan.places.Place
 pub use Rattle.lock_free_sp.specs.declared.share.Share
@@ -32,6 +29,7 @@ pub use Rattle.steps.specs.declared.indices.enums.UniqueIndexSetAcquireFailure
 pub use Rattle.steps.specs.declared.bits.counting_bit_set.BitState
 pub use Rattle.steps.specs.declared.words.Words
 pub mod Value
+pub mod Queues
 pub mod Unique
 pub mod UniqueIndexSet
 pub mod Bits

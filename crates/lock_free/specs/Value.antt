@@ -6,3 +6,4 @@ pub use Rattle.lock_free_value.specs.Calls
 pub use Rattle.lock_free_value.specs.Roles
 pub use Rattle.lock_free_value.specs.Told
 pub use Rattle.lock_free_value.specs.Versions
+pub use Rattle.lock_free_value.specs.Handles

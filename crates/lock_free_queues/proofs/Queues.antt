@@ -4,7 +4,16 @@ pub mod Facts
 pub mod Ended
 pub mod Indices
 pub mod Values
+pub mod Tests
+pub mod Grants
+pub mod Kinds
+pub mod OverPushes
+pub mod OverEnded
+pub mod Filled
+pub mod Single
 pub mod Opened
+pub mod Alone
+pub mod OverOpened
 pub mod Positions
 pub mod Reads
 pub mod Cells
@@ -12,3 +21,5 @@ pub mod Closes
 pub mod Promised
 pub mod Whole
 pub mod Sums
+pub mod Free
+pub mod OverCloses

@@ -3,8 +3,11 @@ pub mod Roles
 pub mod Opened
 pub mod Bounded
 pub mod Goes
+pub mod Kinds
+pub mod Rings
 pub mod Calls
 pub mod Values
+pub mod Overflowing
 pub mod Told
 pub mod Sums
 pub mod Positions

@@ -1,13 +1,14 @@
-//! What one history of a queue says: laws of every history that a pass has seen. Those that name a kind are of queues of
-//! indices and of queues of values. These functions do nothing: the contract of each is a law, whose proof is a lemma
-//! that a client's proof can cite.
-ghost use Rattle.std.specs.Prelude.{◌≡◌, ◌⊎◌, ◌<◌, ◌+◌, ℕ, Bool, true, false, Some, None, List, length, sum_by};
+//! What one history of a queue says: laws of every history that a pass has seen. Those that name a kind are of a queue
+//! of any kind, and with `IsBounded` of those that refuse a push where they are full. These functions do nothing: the
+//! contract of each is a law, whose proof is a lemma that a client's proof can cite.
+ghost use Rattle.std.specs.Prelude.{◌≡◌, ◌⊎◌, ◌<◌, ◌≤◌, ◌+◌, ℕ, Bool, true, false, Some, None, List, length, sum_by};
 ghost use Rattle.steps.specs.declared.queues.roles.Role.{Role};
 ghost use Rattle.model.specs.declared.event.Answer.{Answer};
 ghost use Rattle.model.specs.declared.event.Event.{Event};
 ghost use Rattle.model.specs.declared.event.Item.{Item};
 ghost use Rattle.model.specs.declared.families.queues.QueueKind.{QueueKind};
 ghost use Rattle.model.specs.declared.families.queues.calls.LengthOf.{LengthOf};
+ghost use Rattle.model.specs.declared.turn.Kind.TheVariants as kinds;
 ghost use Rattle.model.specs.Coding.{Coding};
 ghost use Rattle.model.specs.Families.Queues.Reading.{published, handed_out};
 ghost use Rattle.model.specs.Linearizable.{IsLinearizable};
@@ -18,9 +19,10 @@ ghost use Rattle.history.specs.declared.view.View.{View};
 ghost use Rattle.history.specs.History.{IsBeginning, IsHistory};
 ghost use Rattle.lock_free_queues.specs.Queues.Bounded.{IsBounded, machine_of};
 ghost use Rattle.lock_free_queues.specs.Queues.Goes.{Goes, MissesNothing};
-ghost use Rattle.lock_free_queues.specs.Queues.Positions.{IsPublished, IsTaken, IsSound};
+ghost use Rattle.lock_free_queues.specs.Queues.Overflowing.{HasOverflowed};
+ghost use Rattle.lock_free_queues.specs.Queues.Positions.{IsPublished, IsTaken, IsSound, IsOverSound};
 ghost use Rattle.lock_free_queues.specs.Queues.Sums.{puts, gets, HasDone};
-ghost use Rattle.lock_free_queues.specs.Queues.Told.{HasPushed, HasPublished, WasAtEnd, WasFull, HasPopped, HasTakenOut, WasEmpty, HasMeasured, HasAcquired, HasReleased};
+ghost use Rattle.lock_free_queues.specs.Queues.Told.{HasPushed, HasPublished, WasAtEnd, WasFull, HasPopped, HasTakenOut, HasTakenFirst, WasEmpty, FoundNone, HasMeasured, HasAcquired, HasReleased};
 
 /// A history of a queue is linearizable as its list: the calls of all passes, pushes and pops. The lemma is
 /// `linearizable` of `proofs/Queues/Promised.antt`.
@@ -37,9 +39,15 @@ pub fn histories_are_sound<T>()
         → IsHistory code (machine_of kind) capacity v.seen → IsSound capacity v.seen }
 {}
 
-/// Each call is wait-free, or obstruction-free, as docs/FIELD.md says: in the machine that has the history, whatever the
-/// number of turns, no call has taken more steps than that. Each atomic step of a thread's call is one turn of it, and a
-/// look at the last position one step and none. The lemma is `guarantees` there.
+/// The same of an overflowing queue, of which at most one more than the capacity waits, while a push is under way: each
+/// value that leaves it, by a push or by a pop, is the oldest that waits. The lemma is `over_sound` there.
+pub fn overflowing_histories_are_sound<T>()
+    ensures { (code : Coding T) (capacity : ℕ) (v : View T) → IsHistory code kinds.Overflow capacity v.seen → IsOverSound capacity v.seen }
+{}
+
+/// Each call is wait-free, or obstruction-free, as docs/FIELD.md says: in the machine that has the history, whatever
+/// the number of turns, no call has taken more steps than that. Each atomic step of a thread's call is one turn of it,
+/// and a look at the last position one step and none. The lemma is `guarantees` there.
 pub fn calls_keep_guarantees<T>()
     ensures { (code : Coding T) (kind : QueueKind) (capacity : ℕ) (v : View T)
         → (h : IsHistory code (machine_of kind) capacity v.seen) → KeepsGuarantees h.trace }
@@ -54,7 +62,7 @@ pub fn positions_are_once<T>()
 
 /// Equal positions have equal values. The lemma is `agree` of `proofs/Queues/Promised.antt`.
 pub fn values_agree<T>()
-    ensures { (code : Coding T) (kind : QueueKind) (capacity p q i : ℕ) (x y : Item T) (v : View T) → IsBounded kind
+    ensures { (code : Coding T) (kind : QueueKind) (capacity p q i : ℕ) (x y : Item T) (v : View T)
         → IsHistory code (machine_of kind) capacity v.seen → IsPublished p i x v.seen → IsTaken q i y v.seen → x ≡ y }
 {}
 
@@ -77,6 +85,16 @@ pub fn positions_rise<T>()
     ensures below { (old : View T) (q j : ℕ) (y : Item T) → IsTaken q j y old.seen → j < length (handed_out old.seen) }
 {}
 
+/// What a push or a pop took out of an overflowing queue stood at a position above all that its guard had seen taken;
+/// and where a pop found nothing, each position that its guard had seen published had been taken. The lemmas are
+/// `taken_first` and `none_waited` there.
+pub fn overflowing_takes_in_order<T>()
+    ensures taken { (item : Item T) (old new : View T) → HasTakenFirst item old new
+        → (p i : ℕ) × IsTaken p i item new.seen × (length (handed_out old.seen) ≤ i) }
+    ensures none { (old new : View T) → FoundNone old new → (q j : ℕ) (y : Item T) → IsPublished q j y old.seen
+        → (i : ℕ) × (j < i) × (i ≤ length (handed_out new.seen)) }
+{}
+
 /// Where a pop found nothing, each position that its guard had seen published lies below the next to be taken; where a
 /// push found the queue full, each that its guard had seen taken lies more than the capacity below the next to be
 /// published. The lemmas are `none_later_than` and `full_above` there.
@@ -87,10 +105,11 @@ pub fn refusals_are_right<T>()
         → (q j : ℕ) (y : Item T) → IsTaken q j y old.seen → j + capacity < length (published old.seen) }
 {}
 
-/// Who has the whole share and finds nothing has all that was published taken out: the two lists are equal. The lemma is
-/// `emptied` there, beside `nothing_more` of `proofs/Queues/Whole.antt`: nobody else has published or taken out anything.
+/// Who has the whole share and finds nothing has all that was published taken out: the two lists are equal. The lemma
+/// is `all_taken` of `proofs/Queues/Whole.antt`, beside `nothing_more` there: nobody else has published or taken out
+/// anything.
 pub fn emptied_is_all<T>()
-    ensures { (code : Coding T) (kind : QueueKind) (capacity : ℕ) (old new : View T) → IsBounded kind → IsAll old.share → MissesNothing old
+    ensures { (code : Coding T) (kind : QueueKind) (capacity : ℕ) (old new : View T) → IsAll old.share → MissesNothing old
         → Goes code (machine_of kind) capacity old new
         → HasPopped None old new → (published new.seen ≡ published old.seen) × (handed_out new.seen ≡ published new.seen) }
 {}
@@ -101,6 +120,8 @@ pub fn calls_are_counted<T>()
     ensures pushed { (item : Item T) (old new : View T) → HasPushed item true old new → HasDone 1 0 old new }
     ensures refused { (item : Item T) (taken : Bool) (old new : View T) → taken ≡ false
         → HasPushed item taken old new ⊎ (taken ≡ false) × WasAtEnd old new → HasDone 0 0 old new }
+    ensures added { (value : ℕ) (old new : View T) → HasOverflowed value None old new → HasDone 1 0 old new }
+    ensures replaced { (value oldest : ℕ) (old new : View T) → HasOverflowed value (Some oldest) old new → HasDone 1 1 old new }
     ensures popped { (item : Item T) (old new : View T) → HasPopped (Some item) old new → HasDone 0 1 old new }
     ensures none { (old new : View T) → HasPopped None old new → HasDone 0 0 old new }
     ensures acquired { (role : Role) (taken : Bool) (old new : View T) → HasAcquired role taken old new → HasDone 0 0 old new }

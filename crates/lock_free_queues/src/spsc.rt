@@ -2,3 +2,5 @@
 pub mod index_queue;
 mod places;
 pub mod queue;
+pub mod ring;
+pub mod safely_overflowing_index_queue;

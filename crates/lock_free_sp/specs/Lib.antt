@@ -4,6 +4,3 @@ pub mod Sets
 pub mod Callable
 pub mod Shares
 pub mod Parts
-pub mod Orders
-pub mod Ring
-pub mod Ends

@@ -4,3 +4,5 @@ pub mod Roles
 pub mod Told
 pub mod Calls
 pub mod Versions
+pub mod Loads
+pub mod Handles

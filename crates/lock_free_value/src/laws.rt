@@ -7,6 +7,7 @@ ghost use Rattle.model.specs.declared.turn.Kind.TheVariants as kinds;
 ghost use Rattle.model.specs.Coding.{Coding};
 ghost use Rattle.model.specs.Linearizable.{IsLinearizable};
 ghost use Rattle.model.specs.Linearized.{as_value};
+ghost use Rattle.model.specs.Progress.{KeepsGuarantees};
 ghost use Rattle.history.specs.declared.view.View.{View};
 ghost use Rattle.history.specs.History.{IsBeginning, IsHistory};
 ghost use Rattle.lock_free_sp.specs.Shares.{IsAll};
@@ -25,6 +26,14 @@ pub fn histories_are_linearizable<T>()
 pub fn histories_are_sound<T>()
     ensures { (code : Coding T) (events : List (Event T)) → IsHistory code kinds.Atomic 1 events
         → IsSound code events }
+{}
+
+/// Each call is wait-free, or obstruction-free, as docs/FIELD.md says: in the machine that has the history, whatever the
+/// number of turns, no call has taken more steps than that. Each atomic step of a thread's call is one turn of it, and a
+/// look at the last version one step and none.
+pub fn calls_keep_guarantees<T>()
+    ensures { (code : Coding T) (events : List (Event T))
+        → (h : IsHistory code kinds.Atomic 1 events) → KeepsGuarantees h.trace }
 {}
 
 /// No version is stored twice.

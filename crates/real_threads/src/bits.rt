@@ -14,7 +14,7 @@ use std::thread::Threads;
 use std::time::Clock;
 
 /// How often each place is set, and how often places are taken out.
-const ROUNDS: u64 = 100;
+const ROUNDS: u64 = 200;
 
 /// A number for each place.
 #[derive(Drop)]

@@ -1,14 +1,25 @@
-//! Containers between threads: pairs come and go, and are seen, found and recovered whole.
-use crate::limit::{Limit, SECONDS};
+//! Containers between threads: pairs come and go, and are seen, found and recovered whole; and the lock keeps all out.
+use crate::deaths::deaths_beside;
+use crate::hall::{Hall, is_locked_by_four};
+use crate::last::{BETWEEN, counted_beside, one_of_both};
+use crate::limit::{ENOUGH, Limit, SECONDS};
 use crate::pairs::{Pair, PairUser};
-use crate::tasks::{Counted, Task, User, another_turns, four_run, three_run};
+use crate::tasks::{Counted, Task, User, another_turns, four_run, three_run, two_run};
 use lock_free::mpmc::container::{Container, ContainerState, OwnerId};
+use std::alloc::Global;
 use std::sync::Wait;
 use std::sync::atomic::{AtomicU64, Ordering};
 use std::test::Fail;
 use std::thread;
 use std::thread::Threads;
 use std::time::Clock;
+
+/// How often a pair is added, replaced and removed, found, or added and removed.
+const CHANGES: u64 = 1000;
+
+const FINDS: u64 = 2000;
+
+const TURNS: u64 = 1_000_000;
 
 /// Adds a pair, replaces it and removes it, many times.
 #[derive(Drop)]
@@ -19,7 +30,7 @@ struct Changes<'a> {
 impl<'a> Task for Changes<'a> {
     fn run(mut self, rt: &(impl Wait + Clock)) -> bool {
         let mut well = true;
-        for number in 0..300 {
+        for number in 0..CHANGES {
             well &= self.user.change(rt, number);
             thread::yield_now();
         }
@@ -68,7 +79,7 @@ struct Finds<'a> {
 impl<'a> Task for Finds<'a> {
     fn run(mut self, _rt: &(impl Wait + Clock)) -> bool {
         let mut well = true;
-        for _ in 0..600 {
+        for _ in 0..FINDS {
             well &= self.user.finds_whole();
             thread::yield_now();
         }
@@ -119,8 +130,8 @@ fn turns_are_seen<R: Wait + Threads + Clock + Sync>(
     rt: &R,
     user: &mut PairUser<'_>,
 ) -> Option<bool> {
-    let one = another_turns(user, 1, 10_000)?;
-    let other = another_turns(user, 2, 10_000)?;
+    let one = another_turns(user, 1, TURNS)?;
+    let other = another_turns(user, 2, TURNS)?;
     seen_beside(rt, user, one, other)
 }
 
@@ -138,30 +149,40 @@ fn changes_are_seen<R: Wait + Threads + Clock + Sync>(
     seen_beside(rt, user, one, other)
 }
 
-#[test]
-fn pairs_are_seen_whole(rt: HostRuntime) -> Result<(), Fail> {
-    let owner = OwnerId::new(0)?;
-    let (container, pass) = Container::new(rt.alloc(), 3, 1)?;
-    let mut user = PairUser::new(&container, owner, pass);
-    assert!(rt; turns_are_seen(&rt, &mut user) == Some(true));
-    Ok(())
+/// What is done with a container.
+#[derive(Clone, Copy)]
+enum Play<'s> {
+    /// Pairs come and go, and are seen.
+    AreSeen,
+    /// Pairs are replaced too.
+    ChangesAreSeen,
+    /// Two add, replace and remove, one finds the pairs of the first, and one recovers the owner of the pairs 40 and 2.
+    OwnersBeside,
+    /// Owners die one after another, with pairs of their numbers.
+    ManyDie,
+    /// Two of one owner add pairs and remove them.
+    TwoOfOne,
+    /// One asks for the length beside another who always holds an index.
+    Counting,
+    /// One removes the last pair, after such a pause, while another wants to add one.
+    OneLocks(u64),
+    /// Four come and go until one locks.
+    FourVisit(&'s Hall),
 }
 
-#[test]
-fn whole_pairs(rt: HostRuntime) -> Result<(), Fail> {
-    let owner = OwnerId::new(0)?;
-    let (container, pass) = Container::new(rt.alloc(), 3, 1)?;
-    let mut user = PairUser::new(&container, owner, pass);
-    assert!(rt; changes_are_seen(&rt, &mut user) == Some(true));
-    Ok(())
-}
+/// How many owners die, and how often a container is made that is locked, at most.
+const DEATHS: u64 = 100_000;
 
-/// Whether two who add, replace and remove, one who finds the pairs of the first, and one who recovers the owner of the
-/// pairs 40 and 2 all go well, and no index has an owner in the end. None where there are no further passes.
+const ROUNDS: u64 = 1000;
+
+/// Whether two who add, replace and remove, one who finds, and one who recovers all go well, and no index has an owner in
+/// the end. None where there are no further passes.
 fn owners_beside<R: Wait + Threads + Clock + Sync>(
     rt: &R,
     user: &mut PairUser<'_>,
 ) -> Option<bool> {
+    user.add(rt, 40)?;
+    user.add(rt, 2)?;
     let one = Changes {
         user: user.another(1)?,
     };
@@ -178,12 +199,130 @@ fn owners_beside<R: Wait + Threads + Clock + Sync>(
     Some(well && user.number(rt) == 0)
 }
 
+/// Whether all goes well as owners die, and no index has an owner in the end. None where there are no further passes.
+fn many_die<R: Wait + Threads + Clock + Sync>(rt: &R, user: &mut PairUser<'_>) -> Option<bool> {
+    let well = deaths_beside(rt, user, DEATHS, TURNS)?;
+    Some(well && user.number(rt) == 0)
+}
+
+/// Whether two of one owner find each pair that they add. None where there are no further passes.
+fn two_of_one<R: Wait + Threads + Clock + Sync>(rt: &R, user: &mut PairUser<'_>) -> Option<bool> {
+    let one = another_turns(user, 1, TURNS)?;
+    let other = another_turns(user, 1, TURNS)?;
+    Some(two_run(rt, one, other))
+}
+
+/// Whether the length is right beside another who always holds an index. None where there is no further pass.
+fn counting<R: Wait + Threads + Clock + Sync>(rt: &R, user: &mut PairUser<'_>) -> Option<bool> {
+    let holder = user.another(1)?.holding(rt)?;
+    let mut other = user.another(2)?;
+    let filled = other.fills(rt, BETWEEN);
+    Some(filled & counted_beside(rt, holder, other, TURNS))
+}
+
+/// Whether either it is locked or the other is in. None where there is no further pass.
+fn one_locks<R: Wait + Threads + Clock + Sync>(
+    rt: &R,
+    user: &mut PairUser<'_>,
+    pause: u64,
+) -> Option<bool> {
+    let other = user.another(2)?;
+    let holder = user.another(1)?.holding(rt)?;
+    Some(one_of_both(rt, holder, other, pause))
+}
+
+/// Whether it goes well. None where there are no further passes.
+fn plays<R: Wait + Threads + Clock + Sync>(
+    rt: &R,
+    user: &mut PairUser<'_>,
+    play: Play<'_>,
+) -> Option<bool> {
+    match play {
+        Play::AreSeen => turns_are_seen(rt, user),
+        Play::ChangesAreSeen => changes_are_seen(rt, user),
+        Play::OwnersBeside => owners_beside(rt, user),
+        Play::ManyDie => many_die(rt, user),
+        Play::TwoOfOne => two_of_one(rt, user),
+        Play::Counting => counting(rt, user),
+        Play::OneLocks(pause) => one_locks(rt, user, pause),
+        Play::FourVisit(hall) => Some(is_locked_by_four(rt, user, hall, 4)),
+    }
+}
+
+/// Whether it goes well with a new container of this capacity.
+fn played<R: Wait + Threads + Clock + Sync>(
+    rt: &R,
+    alloc: Global,
+    capacity: usize,
+    play: Play<'_>,
+) -> Result<bool, Fail> {
+    let owner = OwnerId::new(0)?;
+    let (container, pass) = Container::new(alloc, capacity, 1)?;
+    let mut user = PairUser::new(&container, owner, pass);
+    Ok(plays(rt, &mut user, play) == Some(true))
+}
+
+#[test]
+fn pairs_are_seen_whole(rt: HostRuntime) -> Result<(), Fail> {
+    assert!(rt; played(&rt, rt.alloc(), 3, Play::AreSeen)?);
+    Ok(())
+}
+
+#[test]
+fn whole_pairs(rt: HostRuntime) -> Result<(), Fail> {
+    assert!(rt; played(&rt, rt.alloc(), 3, Play::ChangesAreSeen)?);
+    Ok(())
+}
+
 #[test]
 fn owners_between_threads(rt: HostRuntime) -> Result<(), Fail> {
-    let dead = OwnerId::new(3)?;
-    let (container, pass) = Container::new(rt.alloc(), 5, 1)?;
-    let mut user = PairUser::new(&container, dead, pass);
-    let added = user.add(&rt, 40).is_some() & user.add(&rt, 2).is_some();
-    assert!(rt; added && owners_beside(&rt, &mut user) == Some(true));
+    assert!(rt; played(&rt, rt.alloc(), 5, Play::OwnersBeside)?);
+    Ok(())
+}
+
+#[test]
+fn owners_die_beside_two_others(rt: HostRuntime) -> Result<(), Fail> {
+    assert!(rt; played(&rt, rt.alloc(), 6, Play::ManyDie)?);
+    Ok(())
+}
+
+/// A remove that frees an index twice frees it of the next one of its owner.
+#[test]
+fn two_adders_of_one_owner(rt: HostRuntime) -> Result<(), Fail> {
+    assert!(rt; played(&rt, rt.alloc(), 3, Play::TwoOfOne)?);
+    Ok(())
+}
+
+/// A length that does not look once more whether anything has changed misses the index.
+#[test]
+fn a_length_beside_one_who_always_holds_one(rt: HostRuntime) -> Result<(), Fail> {
+    assert!(rt; played(&rt, rt.alloc(), BETWEEN + 2, Play::Counting)?);
+    Ok(())
+}
+
+#[test]
+fn nobody_is_added_once_it_is_locked(rt: HostRuntime) -> Result<(), Fail> {
+    let enough = Limit::new(&rt, ENOUGH);
+    let mut well = true;
+    for round in 0..ROUNDS {
+        if enough.has_time(&rt) {
+            well &= played(&rt, rt.alloc(), 64, Play::OneLocks(round % 64))?;
+        }
+    }
+    assert!(rt; well);
+    Ok(())
+}
+
+#[test]
+fn four_add_until_it_is_locked(rt: HostRuntime) -> Result<(), Fail> {
+    let enough = Limit::new(&rt, ENOUGH);
+    let mut well = true;
+    for _ in 0..ROUNDS {
+        if enough.has_time(&rt) {
+            let hall = Hall::new(rt.alloc(), 3)?;
+            well &= played(&rt, rt.alloc(), 3, Play::FourVisit(&hall))?;
+        }
+    }
+    assert!(rt; well);
     Ok(())
 }

@@ -1,20 +1,28 @@
 //! The ends of a queue: numbers go in at one, and come out at the other in their order.
+ghost use Rattle.lock_free.specs.Queues.Rings.{IsPassOf};
+
 use crate::limit::{Limit, SECONDS};
 use crate::tasks::Task;
-use lock_free::spsc::{index_queue, queue};
+use lock_free::spsc::{index_queue, queue, safely_overflowing_index_queue as overflowing};
 use std::sync::Wait;
 use std::time::Clock;
 
 /// The end that numbers go in at.
 pub trait Gives: Drop + Sized {
-    /// Whether the number is taken.
-    fn gives(&mut self, number: u64) -> bool;
+    /// The number that does not wait thereafter, if any: this one, which is not taken, or the oldest in its place.
+    fn gives(&mut self, number: u64) -> Option<u64>;
 }
 
 /// The end that numbers come out at.
 pub trait Takes: Drop + Sized {
     /// The number that came, if any: one that is past all others where a value came that was made of none.
-    fn takes(&mut self) -> Option<u64>;
+    fn takes(&mut self, rt: &impl Wait) -> Option<u64>;
+}
+
+/// One beside both.
+pub trait Length: Drop + Sized {
+    /// How many numbers wait. None where it does not ask.
+    fn length(&mut self, rt: &impl Wait) -> Option<u64>;
 }
 
 /// A word that both halves of which tell the number.
@@ -22,14 +30,19 @@ fn word_of(number: u64) -> u64 {
     (!number << 32) | (number & 0xffff_ffff)
 }
 
+/// The number that does not wait where this one is taken or not.
+fn unless(taken: bool, number: u64) -> Option<u64> {
+    if taken { None } else { Some(number) }
+}
+
 impl<'a> Gives for index_queue::Producer<'a> {
-    fn gives(&mut self, number: u64) -> bool {
-        self.push(word_of(number))
+    fn gives(&mut self, number: u64) -> Option<u64> {
+        unless(self.push(word_of(number)), number)
     }
 }
 
 impl<'a> Takes for index_queue::Consumer<'a> {
-    fn takes(&mut self) -> Option<u64> {
+    fn takes(&mut self, _rt: &impl Wait) -> Option<u64> {
         let word = self.pop()?;
         let number = word & 0xffff_ffff;
         if word_of(number) == word {
@@ -41,19 +54,63 @@ impl<'a> Takes for index_queue::Consumer<'a> {
 }
 
 impl<'a> Gives for queue::Producer<'a, (u64, u64)> {
-    fn gives(&mut self, number: u64) -> bool {
-        self.push(&(number, number))
+    fn gives(&mut self, number: u64) -> Option<u64> {
+        unless(self.push(&(number, number)), number)
     }
 }
 
 impl<'a> Takes for queue::Consumer<'a, (u64, u64)> {
-    fn takes(&mut self) -> Option<u64> {
+    fn takes(&mut self, _rt: &impl Wait) -> Option<u64> {
         let (left, right) = self.pop()?;
         if left == right {
             Some(left)
         } else {
             Some(u64::MAX)
         }
+    }
+}
+
+impl<'a> Gives for overflowing::Producer<'a> {
+    fn gives(&mut self, number: u64) -> Option<u64> {
+        self.push(number)
+    }
+}
+
+impl<'a> Takes for overflowing::Consumer<'a> {
+    fn takes(&mut self, rt: &impl Wait) -> Option<u64> {
+        self.pop(rt)
+    }
+}
+
+/// One who has a pass of an index queue.
+#[derive(Drop)]
+pub struct QueueLength<'a> {
+    queue: &'a index_queue::IndexQueue,
+    pass: index_queue::Pass,
+    ghost of: { IsPassOf queue.now pass },
+}
+
+impl<'a> QueueLength<'a> {
+    pub fn new(queue: &'a index_queue::IndexQueue, pass: index_queue::Pass) -> QueueLength<'a>
+        requires { IsPassOf queue.now pass }
+    {
+        QueueLength { queue, pass }
+    }
+}
+
+impl<'a> Length for QueueLength<'a> {
+    fn length(&mut self, rt: &impl Wait) -> Option<u64> {
+        Some(self.queue.len(rt, &mut self.pass) as u64)
+    }
+}
+
+/// Nobody beside both.
+#[derive(Drop)]
+pub struct Nobody;
+
+impl Length for Nobody {
+    fn length(&mut self, _rt: &impl Wait) -> Option<u64> {
+        None
     }
 }
 
@@ -69,7 +126,7 @@ impl<E: Gives> GivesAll<E> {
     /// Whether this number is taken, within the limit.
     fn gives_one(&mut self, rt: &impl Clock, number: u64, limit: &mut Limit) -> bool {
         for _ in 0..u64::MAX {
-            if self.end.gives(number) {
+            if self.end.gives(number).is_none() {
                 return true;
             }
             if !limit.waits(rt) {
@@ -100,9 +157,9 @@ pub struct TakesAll<E: Takes> {
 }
 
 /// The number that comes next. None at the limit.
-pub fn next<E: Takes>(rt: &impl Clock, end: &mut E, limit: &mut Limit) -> Option<u64> {
+pub fn next<E: Takes>(rt: &(impl Wait + Clock), end: &mut E, limit: &mut Limit) -> Option<u64> {
     for _ in 0..u64::MAX {
-        if let Some(number) = end.takes() {
+        if let Some(number) = end.takes(rt) {
             return Some(number);
         }
         if !limit.waits(rt) {
@@ -120,6 +177,6 @@ impl<E: Takes> Task for TakesAll<E> {
                 return false;
             }
         }
-        self.end.takes().is_none()
+        self.end.takes(rt).is_none()
     }
 }

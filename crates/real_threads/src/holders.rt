@@ -27,10 +27,20 @@ impl Holders {
         }
     }
 
+    /// Takes this index: whether nobody else had it.
+    pub fn enter(&self, index: usize) -> bool {
+        self.swaps(index, 1)
+    }
+
+    /// Leaves this index: whether somebody had it.
+    pub fn leave(&self, index: usize) -> bool {
+        self.swaps(index, 0)
+    }
+
     /// Whether nobody else has this index for a while.
     pub fn stay(&self, index: usize) -> bool {
-        let entered = self.swaps(index, 1);
+        let entered = self.enter(index);
         thread::yield_now();
-        entered & self.swaps(index, 0)
+        entered & self.leave(index)
     }
 }

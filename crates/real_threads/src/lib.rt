@@ -4,15 +4,27 @@
 #[cfg(test)]
 mod bits;
 #[cfg(test)]
+mod bounds;
+#[cfg(test)]
 mod containers;
+#[cfg(test)]
+mod deaths;
 #[cfg(test)]
 mod ends;
 #[cfg(test)]
+mod hall;
+#[cfg(test)]
 mod holders;
+#[cfg(test)]
+mod last;
 #[cfg(test)]
 mod limit;
 #[cfg(test)]
 mod loan;
+#[cfg(test)]
+mod log;
+#[cfg(test)]
+mod logged;
 #[cfg(test)]
 mod overflowing;
 #[cfg(test)]

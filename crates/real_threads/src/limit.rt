@@ -1,9 +1,13 @@
 //! How long a thread waits.
+use std::sync::atomic::{AtomicU64, Ordering};
 use std::thread;
 use std::time::{Clock, Instant};
 
 /// After how many seconds a thread gives up.
 pub const SECONDS: u64 = 30;
+
+/// After how many seconds a thread that does the same thing many times has done enough.
+pub const ENOUGH: u64 = 2;
 
 /// When a thread began to wait, and for how long it does. One that has no clock gives up soon.
 #[derive(Clone, Copy)]
@@ -22,7 +26,8 @@ impl Limit {
         }
     }
 
-    fn has_time(&self, rt: &impl Clock) -> bool {
+    /// Whether there is time left.
+    pub fn has_time(&self, rt: &impl Clock) -> bool {
         match self.begun {
             Some(begun) => match begun.elapsed(rt) {
                 Ok(time) => time.as_secs() < self.seconds,
@@ -32,6 +37,12 @@ impl Limit {
         }
     }
 
+    /// Whether the time is over, which each 64th time is looked up.
+    pub fn is_over(&mut self, rt: &impl Clock) -> bool {
+        self.waits = self.waits.wrapping_add(1);
+        self.waits % 64 == 0 && !self.has_time(rt)
+    }
+
     /// Lets another thread run, each sixteenth time: whether there is time left, which each 1024th time is looked up.
     pub fn waits(&mut self, rt: &impl Clock) -> bool {
         self.waits = self.waits.wrapping_add(1);
@@ -39,5 +50,43 @@ impl Limit {
             thread::yield_now();
         }
         self.waits % 1024 != 0 || self.has_time(rt)
+    }
+}
+
+/// Where threads wait until so many have come.
+#[derive(Drop)]
+pub struct Meeting {
+    number: u64,
+    come: AtomicU64,
+}
+
+impl Meeting {
+    pub fn new(number: u64) -> Meeting {
+        Meeting {
+            number,
+            come: AtomicU64::new(0),
+        }
+    }
+
+    /// Waits until all have come. False at the limit.
+    pub fn wait(&self, rt: &impl Clock) -> bool {
+        self.come.fetch_add(1, Ordering::SeqCst);
+        let mut limit = Limit::new(rt, SECONDS);
+        for _ in 0..u64::MAX {
+            if self.come.load(Ordering::SeqCst) == self.number {
+                return true;
+            }
+            if !limit.waits(rt) {
+                return false;
+            }
+        }
+        false
+    }
+
+    /// Lets the time of so many loads pass.
+    pub fn pause(&self, loads: u64) {
+        for _ in 0..loads {
+            let _ = self.come.load(Ordering::SeqCst);
+        }
     }
 }

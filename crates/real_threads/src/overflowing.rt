@@ -1,21 +1,24 @@
 //! Overflowing queues: no number is lost, and none comes twice.
 ghost use Rattle.std.specs.Prelude.{◌≡◌};
-ghost use Rattle.lock_free.specs.Ends.{queue_of, IsPassOf};
+ghost use Rattle.lock_free.specs.Queues.Rings.{queue_of, IsPassOf};
 
+use crate::ends::Nobody;
 use crate::limit::{Limit, SECONDS};
+use crate::logged::are_in_turn;
 use crate::tasks::{Task, two_run};
 use lock_free::spsc::safely_overflowing_index_queue::{
     Consumer, Pass, Producer, SafelyOverflowingIndexQueue,
 };
+use std::alloc::Global;
 use std::sync::Wait;
 use std::test::Fail;
 use std::thread::Threads;
 use std::time::Clock;
 
 /// How many numbers are pushed, and from which on some are left.
-const NUMBERS: u64 = 10_000;
+const NUMBERS: u64 = 50_000;
 
-const MOST: u64 = 9000;
+const MOST: u64 = 45_000;
 
 /// Pushes all numbers, and keeps those that are handed back.
 #[derive(Drop)]
@@ -37,7 +40,7 @@ impl<'a, 's> Task for Overflows<'a, 's> {
     }
 }
 
-/// Pops until a number of at least 9,000 comes, so that some are left, and keeps those that came.
+/// Pops until a number of at least 45,000 comes, so that some are left, and keeps those that came.
 #[derive(Drop)]
 struct Drains<'a, 's> {
     consumer: Consumer<'a>,
@@ -135,12 +138,44 @@ fn is_left(queue: SafelyOverflowingIndexQueue, pass: Pass, left: &mut Vec<u64>) 
 #[test]
 fn numbers_come_or_are_handed_back(rt: HostRuntime) -> Result<(), Fail> {
     // The room is had before the threads start: a thread that had none would leave the other waiting.
-    let mut back = Vec::with_capacity(rt.alloc(), 10_000)?;
-    let mut came = Vec::with_capacity(rt.alloc(), 10_000)?;
+    let mut back = Vec::with_capacity(rt.alloc(), 50_000)?;
+    let mut came = Vec::with_capacity(rt.alloc(), 50_000)?;
     let mut left = Vec::with_capacity(rt.alloc(), 2)?;
     let (queue, mut pass) = SafelyOverflowingIndexQueue::new(rt.alloc(), 2)?;
     let mut well = beside(&rt, &queue, &mut pass, &mut back, &mut came) == Some(true);
     well &= is_left(queue, pass, &mut left);
     assert!(rt; well && are_all(back.as_slice(), came.as_slice(), left.as_slice()));
+    Ok(())
+}
+
+/// Whether pushes and pops of two threads answer as if one after another. None where the roles are not to be had.
+fn calls_are_in_turn<R: Wait + Threads + Clock + Sync>(
+    rt: &R,
+    alloc: Global,
+    queue: &SafelyOverflowingIndexQueue,
+    pass: Pass,
+) -> Result<Option<bool>, Fail>
+    requires { IsPassOf queue.now pass }
+{
+    let mut pass = pass;
+    let Some(other) = pass.split() else {
+        return Ok(None);
+    };
+    let Ok(producer) = queue.acquire_producer(pass) else {
+        return Ok(None);
+    };
+    let Ok(consumer) = queue.acquire_consumer(other) else {
+        return Ok(None);
+    };
+    let capacity = queue.capacity() as u64;
+    Ok(Some(are_in_turn(rt, alloc, capacity, producer, consumer, Nobody)?))
+}
+
+/// Each number that comes or is handed back, and each None, is right at some moment between the times before and after
+/// its call.
+#[test]
+fn calls_as_if_one_after_another(rt: HostRuntime) -> Result<(), Fail> {
+    let (queue, pass) = SafelyOverflowingIndexQueue::new(rt.alloc(), 3)?;
+    assert!(rt; calls_are_in_turn(&rt, rt.alloc(), &queue, pass)? == Some(true));
     Ok(())
 }

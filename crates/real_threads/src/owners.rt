@@ -1,125 +1,54 @@
-//! Robust unique index sets: no index has two holders, each an owner of its own, and those of a dead one come back.
-ghost use Rattle.lock_free.specs.RobustUniqueIndexSet.{IsPassOf};
-
+//! Robust unique index sets: no index has two holders, those of a dead owner come back, and the lock keeps all out.
+use crate::deaths::deaths_beside;
+use crate::hall::{Hall, is_locked_by_four};
 use crate::holders::Holders;
+use crate::last::{BETWEEN, counted_beside, one_of_both};
+use crate::limit::{ENOUGH, Limit};
 use crate::tasks::{Task, User, another_turns, four_turn, three_run};
-use lock_free::mpmc::robust_unique_index_set::{
-    CallbackProgression, OwnerId, Pass, RobustUniqueIndexSet,
-};
-use lock_free::mpmc::unique_index_set_enums::{ReleaseMode, ReleaseState};
+use lock_free::mpmc::robust_unique_index_set::{OwnerId, RobustUniqueIndexSet};
+use lock_free::mpmc::unique_index_set_enums::ReleaseMode;
+use std::alloc::Global;
 use std::sync::Wait;
 use std::test::Fail;
 use std::thread::Threads;
 use std::time::Clock;
+use user::OwnerUser;
 
-/// An owner who takes indices of a set and gives them back.
-#[derive(Drop)]
-struct OwnerUser<'a> {
-    set: &'a RobustUniqueIndexSet,
-    holders: &'a Holders,
-    owner: OwnerId,
-    pass: Pass,
-    ghost of: { IsPassOf set.now pass },
+mod user;
+
+/// What is done with a set.
+#[derive(Clone, Copy)]
+enum Play<'s> {
+    /// Four owners take indices and give them back.
+    FourOwners,
+    /// Four users of one owner do.
+    FourOfOne,
+    /// One of two owners of 68 indices dies.
+    OneDies,
+    /// Owners die one after another.
+    ManyDie,
+    /// One counts beside another who always holds an index.
+    Counting,
+    /// One gives the last index back, after such a pause, while another wants in.
+    OneLocks(u64),
+    /// Four come and go until one locks.
+    FourVisit(&'s Hall),
 }
 
-impl<'a> OwnerUser<'a> {
-    fn acquire(&mut self, rt: &impl Wait) -> Option<usize> {
-        self.set.acquire(rt, self.owner, &mut self.pass).ok()
-    }
+/// How often each of four takes an index.
+const TURNS: u64 = 1_000_000;
 
-    /// Whether the index could be given back.
-    fn release(&mut self, rt: &impl Wait, index: usize) -> bool {
-        let mode = ReleaseMode::Default;
-        index < self.set.capacity()
-            && self
-                .set
-                .release(rt, index, self.owner, mode, &mut self.pass)
-                == Ok(ReleaseState::Unlocked)
-    }
+/// How often a set is made that is locked, at most.
+const ROUNDS: u64 = 1000;
 
-    fn borrowed(&mut self, rt: &impl Wait) -> usize {
-        self.set.borrowed_indices(rt, &mut self.pass)
-    }
-
-    fn is_locked(&mut self) -> bool {
-        self.set.is_locked(&mut self.pass)
-    }
-
-    /// Whether each of so many indices goes to one of three owners, in turn.
-    fn fills(&mut self, rt: &impl Wait, owners: [OwnerId; 3], number: usize) -> bool {
-        let mut right = true;
-        for index in 0..number {
-            self.owner = owners[index % 3];
-            right &= self.acquire(rt) == Some(index);
-        }
-        right
-    }
-
-    /// How many indices an owner has.
-    fn finds(&mut self, owner: OwnerId) -> usize {
-        self.set
-            .find(owner, |_| CallbackProgression::Continue, &mut self.pass)
-    }
-
-    /// Recovers an owner, and locks the set if it is its last index: how many indices came back, or None where they did
-    /// not ascend, were another's, or the set was locked.
-    fn recovers(&mut self, rt: &impl Wait, dead: OwnerId) -> Option<u64> {
-        let (mut number, mut next) = (0u64, 0usize);
-        let mut well = true;
-        let state = self.set.recover(
-            rt,
-            ReleaseMode::LockIfLastIndex,
-            |owner, _| owner == dead,
-            |owner, index| {
-                well &= owner == dead && next <= index;
-                next = index.wrapping_add(1);
-                number = number.wrapping_add(1);
-            },
-            &mut self.pass,
-        );
-        if well && state == ReleaseState::Unlocked {
-            Some(number)
-        } else {
-            None
-        }
-    }
-}
-
-impl<'a> User for OwnerUser<'a> {
-    fn another(&mut self, number: u64) -> Option<OwnerUser<'a>> {
-        let owner = OwnerId::new(number).ok()?;
-        let pass = self.pass.split()?;
-        Some(OwnerUser {
-            set: self.set,
-            holders: self.holders,
-            owner,
-            pass,
-        })
-    }
-
-    fn turn(&mut self, rt: &impl Wait, _at: u64) -> Option<bool> {
-        let index = self.acquire(rt)?;
-        let alone = self.holders.stay(index);
-        Some(self.release(rt, index) && alone)
-    }
-}
-
-#[test]
-fn four_owners_on_three_indices(rt: HostRuntime) -> Result<(), Fail> {
-    let owner = OwnerId::new(0)?;
-    let holders = Holders::new(rt.alloc(), 3)?;
-    let (set, pass) = RobustUniqueIndexSet::new(rt.alloc(), 3)?;
-    let mut user = OwnerUser {
-        set: &set,
-        holders: &holders,
-        owner,
-        pass,
-    };
-    let mut right = four_turn(&rt, &mut user, 10_000) == Some(true);
-    right &= user.borrowed(&rt) == 0;
-    right &= !user.is_locked();
-    assert!(rt; right);
-    Ok(())
+/// Whether four users go well, and leave nothing behind. None where there are no further passes.
+fn four_go<R: Wait + Threads + Clock + Sync>(
+    rt: &R,
+    user: &mut OwnerUser<'_>,
+    owners: [u64; 4],
+) -> Option<bool> {
+    let right = four_turn(rt, user, owners, TURNS)?;
+    Some(right && user.borrowed(rt) == 0 && !user.is_locked())
 }
 
 /// Recovers an owner: whether 45 indices come back.
@@ -132,11 +61,11 @@ struct Recovers<'a> {
 impl<'a> Task for Recovers<'a> {
     fn run(mut self, rt: &(impl Wait + Clock)) -> bool {
         let dead = self.dead;
-        self.user.recovers(rt, dead) == Some(45)
+        self.user.recovers(rt, dead, ReleaseMode::LockIfLastIndex) == Some(45)
     }
 }
 
-/// Whether 45 of 68 indices come back as the owner 9 is recovered while two others take the two that are left and give
+/// Whether 45 of 68 indices come back as the owner is recovered while two others take the two that are left and give
 /// them back. None where there are no further passes.
 fn recovers_beside<R: Wait + Threads + Clock + Sync>(
     rt: &R,
@@ -149,31 +78,127 @@ fn recovers_beside<R: Wait + Threads + Clock + Sync>(
     Some(three_run(rt, first, second, Recovers { user, dead }))
 }
 
-/// Whether 23 indices are left of 68 of two owners once one has died.
-fn dies<R: Wait + Threads + Clock + Sync>(
-    rt: &R,
-    user: &mut OwnerUser<'_>,
-    dead: OwnerId,
-    alive: OwnerId,
-) -> bool {
+/// Whether 23 indices are left of 68 of two owners once one has died. None where there are no further passes.
+fn one_dies<R: Wait + Threads + Clock + Sync>(rt: &R, user: &mut OwnerUser<'_>) -> Option<bool> {
+    let (dead, alive) = (OwnerId::new(9).ok()?, OwnerId::new(3).ok()?);
     let mut right = user.fills(rt, [dead, alive, dead], 68);
-    right &= recovers_beside(rt, user, dead) == Some(true);
+    right &= recovers_beside(rt, user, dead)?;
     right &= user.finds(dead) == 0;
     right &= user.finds(alive) == 23;
-    right & (user.borrowed(rt) == 23)
+    Some(right & (user.borrowed(rt) == 23))
+}
+
+/// Whether all goes well as owners die, and no index is out in the end. None where there are no further passes.
+fn many_die<R: Wait + Threads + Clock + Sync>(rt: &R, user: &mut OwnerUser<'_>) -> Option<bool> {
+    let well = deaths_beside(rt, user, 100_000, TURNS)?;
+    Some(well && user.borrowed(rt) == 0)
+}
+
+/// Whether one who counts beside another who always holds an index counts right. None where there is no further pass.
+fn counting<R: Wait + Threads + Clock + Sync>(rt: &R, user: &mut OwnerUser<'_>) -> Option<bool> {
+    let holder = user.another(1)?.holding(rt)?;
+    let mut other = user.another(2)?;
+    let filled = other.fills(rt, [other.owner; 3], BETWEEN);
+    Some(filled & counted_beside(rt, holder, other, TURNS))
+}
+
+/// Whether either it is locked or the other is in. None where there is no further pass.
+fn one_locks<R: Wait + Threads + Clock + Sync>(
+    rt: &R,
+    user: &mut OwnerUser<'_>,
+    pause: u64,
+) -> Option<bool> {
+    let other = user.another(2)?;
+    let holder = user.another(1)?.holding(rt)?;
+    Some(one_of_both(rt, holder, other, pause))
+}
+
+/// Whether it goes well. None where there are no further passes.
+fn plays<R: Wait + Threads + Clock + Sync>(
+    rt: &R,
+    user: &mut OwnerUser<'_>,
+    play: Play<'_>,
+) -> Option<bool> {
+    match play {
+        Play::FourOwners => four_go(rt, user, [1, 2, 3, 4]),
+        Play::FourOfOne => four_go(rt, user, [1, 1, 1, 1]),
+        Play::OneDies => one_dies(rt, user),
+        Play::ManyDie => many_die(rt, user),
+        Play::Counting => counting(rt, user),
+        Play::OneLocks(pause) => one_locks(rt, user, pause),
+        Play::FourVisit(hall) => Some(is_locked_by_four(rt, user, hall, 4)),
+    }
+}
+
+/// Whether it goes well with a new set of so many indices.
+fn played<R: Wait + Threads + Clock + Sync>(
+    rt: &R,
+    alloc: Global,
+    capacity: usize,
+    play: Play<'_>,
+) -> Result<bool, Fail> {
+    let owner = OwnerId::new(0)?;
+    let holders = Holders::new(alloc, capacity)?;
+    let (set, pass) = RobustUniqueIndexSet::new(alloc, capacity)?;
+    let mut user = OwnerUser::new(&set, &holders, owner, pass);
+    Ok(plays(rt, &mut user, play) == Some(true))
+}
+
+#[test]
+fn four_owners_on_three_indices(rt: HostRuntime) -> Result<(), Fail> {
+    assert!(rt; played(&rt, rt.alloc(), 3, Play::FourOwners)?);
+    Ok(())
+}
+
+/// A release that frees an index twice frees it of the next one of its owner.
+#[test]
+fn four_of_one_owner(rt: HostRuntime) -> Result<(), Fail> {
+    assert!(rt; played(&rt, rt.alloc(), 3, Play::FourOfOne)?);
+    Ok(())
 }
 
 #[test]
 fn a_recovery_beside_two_owners(rt: HostRuntime) -> Result<(), Fail> {
-    let (dead, alive) = (OwnerId::new(9)?, OwnerId::new(3)?);
-    let holders = Holders::new(rt.alloc(), 70)?;
-    let (set, pass) = RobustUniqueIndexSet::new(rt.alloc(), 70)?;
-    let mut user = OwnerUser {
-        set: &set,
-        holders: &holders,
-        owner: alive,
-        pass,
-    };
-    assert!(rt; dies(&rt, &mut user, dead, alive));
+    assert!(rt; played(&rt, rt.alloc(), 70, Play::OneDies)?);
+    Ok(())
+}
+
+#[test]
+fn owners_die_beside_two_others(rt: HostRuntime) -> Result<(), Fail> {
+    assert!(rt; played(&rt, rt.alloc(), 6, Play::ManyDie)?);
+    Ok(())
+}
+
+/// A count that does not look once more whether anything has changed misses the index.
+#[test]
+fn a_count_beside_one_who_always_holds_one(rt: HostRuntime) -> Result<(), Fail> {
+    assert!(rt; played(&rt, rt.alloc(), BETWEEN + 2, Play::Counting)?);
+    Ok(())
+}
+
+#[test]
+fn nobody_gets_in_once_it_is_locked(rt: HostRuntime) -> Result<(), Fail> {
+    let enough = Limit::new(&rt, ENOUGH);
+    let mut well = true;
+    for round in 0..ROUNDS {
+        if enough.has_time(&rt) {
+            well &= played(&rt, rt.alloc(), 64, Play::OneLocks(round % 64))?;
+        }
+    }
+    assert!(rt; well);
+    Ok(())
+}
+
+#[test]
+fn four_visit_until_it_is_locked(rt: HostRuntime) -> Result<(), Fail> {
+    let enough = Limit::new(&rt, ENOUGH);
+    let mut well = true;
+    for _ in 0..ROUNDS {
+        if enough.has_time(&rt) {
+            let hall = Hall::new(rt.alloc(), 3)?;
+            well &= played(&rt, rt.alloc(), 3, Play::FourVisit(&hall))?;
+        }
+    }
+    assert!(rt; well);
     Ok(())
 }

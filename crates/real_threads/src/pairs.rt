@@ -1,9 +1,13 @@
 //! Containers of pairs with equal halves: one who uses such a container, alone.
 ghost use Rattle.lock_free.specs.Container.Names.{IsPassOf};
 
+use crate::deaths::Mortal;
+use crate::hall::{Hall, Visit, Visitor};
+use crate::last::{Beside, Holds};
 use crate::tasks::User;
 use lock_free::mpmc::container::{
-    CallbackProgression, Container, ContainerHandle, ContainerState, OwnerId, Pass,
+    CallbackProgression, Container, ContainerAddFailure, ContainerHandle, ContainerState, OwnerId,
+    Pass,
 };
 use lock_free::mpmc::unique_index_set_enums::{ReleaseMode, ReleaseState};
 use std::sync::Wait;
@@ -48,10 +52,28 @@ impl<'a> PairUser<'a> {
             .ok()
     }
 
+    /// Removes a pair: what is told of the lock. None where it was not there.
+    fn remove_in(
+        &mut self,
+        rt: &impl Wait,
+        handle: ContainerHandle,
+        mode: ReleaseMode,
+    ) -> Option<ReleaseState> {
+        self.container.remove(rt, handle, mode, &mut self.pass).ok()
+    }
+
+    /// Whether so many pairs could be added.
+    pub fn fills(&mut self, rt: &impl Wait, number: usize) -> bool {
+        let mut well = true;
+        for _ in 0..number {
+            well &= self.add(rt, 2).is_some();
+        }
+        well
+    }
+
     /// Whether the pair was there.
     pub fn remove(&mut self, rt: &impl Wait, handle: ContainerHandle) -> bool {
-        let mode = ReleaseMode::Default;
-        self.container.remove(rt, handle, mode, &mut self.pass) == Ok(ReleaseState::Unlocked)
+        self.remove_in(rt, handle, ReleaseMode::Default) == Some(ReleaseState::Unlocked)
     }
 
     /// Whether the pair was there, and one of this number stands in its place.
@@ -125,6 +147,11 @@ impl<'a> PairUser<'a> {
         }
     }
 
+    /// Whether a find of the owner comes to an index.
+    fn has_any(&mut self) -> bool {
+        self.container.find(self.owner, |_, _| CallbackProgression::Stop, &mut self.pass) != 0
+    }
+
     /// How many indices have an owner.
     pub fn number(&mut self, rt: &impl Wait) -> usize {
         self.container.len(rt, &mut self.pass)
@@ -153,5 +180,91 @@ impl<'a> User for PairUser<'a> {
     fn turn(&mut self, rt: &impl Wait, at: u64) -> Option<bool> {
         let handle = self.add(rt, at)?;
         Some(self.remove(rt, handle))
+    }
+}
+
+impl<'a> PairUser<'a> {
+    /// One who holds the index of a pair. None where there is none.
+    pub fn holding(mut self, rt: &impl Wait) -> Option<Holding<'a>> {
+        let held = self.add(rt, 0)?;
+        Some(Holding { user: self, held })
+    }
+}
+
+impl<'a> Visitor for PairUser<'a> {
+    fn visit(&mut self, rt: &impl Wait, hall: &Hall) -> Visit {
+        let handle = match self.container.add(rt, (1, 1), self.owner, &mut self.pass) {
+            Ok(handle) => handle,
+            Err(ContainerAddFailure::OutOfSpace) => return Visit::Full,
+            Err(ContainerAddFailure::IsLocked) => return Visit::Closed,
+        };
+        if !hall.stay(handle.index()) {
+            return Visit::Wrong;
+        }
+        match self.remove_in(rt, handle, ReleaseMode::LockIfLastIndex) {
+            Some(ReleaseState::Unlocked) => Visit::Left,
+            Some(ReleaseState::Locked) => Visit::Locked,
+            None => Visit::Wrong,
+        }
+    }
+
+    fn is_closed(&mut self, rt: &impl Wait) -> bool {
+        self.container.is_locked(&mut self.pass) && self.number(rt) == 0
+    }
+}
+
+impl<'a> Mortal for PairUser<'a> {
+    /// Adds a pair of the owner's number.
+    fn keeps(&mut self, rt: &impl Wait, number: u64) -> Option<bool> {
+        self.owner = OwnerId::new(number).ok()?;
+        self.add(rt, number)?;
+        Some(true)
+    }
+
+    /// By the sum of its pairs.
+    fn buries(&mut self, rt: &impl Wait, number: u64, things: u64) -> bool {
+        let Ok(dead) = OwnerId::new(number) else {
+            return false;
+        };
+        self.owner = dead;
+        self.recovers(rt) == Some(number.wrapping_mul(things)) && !self.has_any()
+    }
+}
+
+impl<'a> Beside for PairUser<'a> {
+    fn number(&mut self, rt: &impl Wait) -> usize {
+        self.container.len(rt, &mut self.pass)
+    }
+
+    fn gets_in(&mut self, rt: &impl Wait) -> Option<bool> {
+        match self.container.add(rt, (2, 2), self.owner, &mut self.pass) {
+            Ok(_) => Some(true),
+            Err(ContainerAddFailure::IsLocked) => Some(false),
+            Err(ContainerAddFailure::OutOfSpace) => None,
+        }
+    }
+}
+
+/// One who holds the index of a pair.
+#[derive(Drop)]
+pub struct Holding<'a> {
+    user: PairUser<'a>,
+    held: ContainerHandle,
+}
+
+impl<'a> Holds for Holding<'a> {
+    fn changes(&mut self, rt: &impl Wait) -> bool {
+        let Some(next) = self.user.add(rt, 1) else {
+            return false;
+        };
+        let was_there = self.user.remove(rt, self.held);
+        self.held = next;
+        was_there
+    }
+
+    fn locks(&mut self, rt: &impl Wait) -> Option<bool> {
+        let mode = ReleaseMode::LockIfLastIndex;
+        let state = self.user.remove_in(rt, self.held, mode)?;
+        Some(state == ReleaseState::Locked)
     }
 }

@@ -1,12 +1,15 @@
 //! Queues between two threads: many numbers, and two that wait for one another.
-ghost use Rattle.lock_free.specs.Ends.{ring_of, IsPassOf};
+ghost use Rattle.lock_free.specs.Queues.Rings.{inner, IsPassOf};
 
-use crate::ends::{Gives, GivesAll, TakesAll, next};
+use crate::bounds::are_within;
+use crate::ends::{Gives, GivesAll, QueueLength, TakesAll, next};
 use crate::limit::{Limit, SECONDS};
+use crate::logged::are_in_turn;
 use crate::tasks::{Task, two_run};
 use lock_free::spsc::index_queue::{Consumer, FixedSizeIndexQueue, IndexQueue, Pass, Producer};
 use lock_free::spsc::queue;
 use lock_free::spsc::queue::Queue;
+use std::alloc::Global;
 use std::sync::Wait;
 use std::test::Fail;
 use std::thread::Threads;
@@ -23,7 +26,10 @@ pub fn ends<'a>(queue: &'a IndexQueue, pass: Pass) -> Option<(Producer<'a>, Cons
     Some((producer, consumer))
 }
 
-/// Whether 1,000 numbers come in order from one thread to another. None where the roles are not to be had.
+/// How many numbers come.
+const NUMBERS: u64 = 20_000;
+
+/// Whether all numbers come in order from one thread to another. None where the roles are not to be had.
 fn numbers_come<R: Wait + Threads + Clock + Sync>(
     rt: &R,
     queue: &IndexQueue,
@@ -35,11 +41,11 @@ fn numbers_come<R: Wait + Threads + Clock + Sync>(
     let gives = GivesAll {
         end: producer,
         from: 0,
-        to: 1000,
+        to: NUMBERS,
     };
     let takes = TakesAll {
         end: consumer,
-        number: 1000,
+        number: NUMBERS,
     };
     Some(two_run(rt, gives, takes))
 }
@@ -50,18 +56,18 @@ fn pairs_come<R: Wait + Threads + Clock + Sync>(
     queue: &Queue<(u64, u64), 4>,
     pass: queue::Pass<(u64, u64)>,
 ) -> Option<bool>
-    requires { IsPassOf (ring_of queue.now) pass }
+    requires { IsPassOf (inner queue.now) pass }
 {
     let mut pass = pass;
     let other = pass.split()?;
     let gives = GivesAll {
         end: queue.acquire_producer(pass).ok()?,
         from: 0,
-        to: 1000,
+        to: NUMBERS,
     };
     let takes = TakesAll {
         end: queue.acquire_consumer(other).ok()?,
-        number: 1000,
+        number: NUMBERS,
     };
     Some(two_run(rt, gives, takes))
 }
@@ -80,6 +86,52 @@ fn many_pairs(rt: HostRuntime) -> Result<(), Fail> {
     Ok(())
 }
 
+/// Both guards of a queue, and one who asks for its length.
+fn three<'a>(
+    queue: &'a IndexQueue,
+    pass: Pass,
+) -> Option<(Producer<'a>, Consumer<'a>, QueueLength<'a>)>
+    requires { IsPassOf queue.now pass }
+{
+    let mut pass = pass;
+    let third = pass.split()?;
+    let (producer, consumer) = ends(queue, pass)?;
+    Some((producer, consumer, QueueLength::new(queue, third)))
+}
+
+/// Whether three who push, pop and ask for the length of a new queue are answered right: as if one after another, where
+/// each call is logged, or else within bounds.
+fn are_right<R: Wait + Threads + Clock + Sync>(
+    rt: &R,
+    alloc: Global,
+    is_logged: bool,
+) -> Result<bool, Fail> {
+    let (queue, pass) = IndexQueue::new(alloc, 3)?;
+    let Some((producer, consumer, length)) = three(&queue, pass) else {
+        return Ok(false);
+    };
+    if is_logged {
+        are_in_turn(rt, alloc, 3, producer, consumer, length)
+    } else {
+        Ok(are_within(rt, 3, producer, consumer, length))
+    }
+}
+
+/// Each refusal, each number and each length is right at some moment between the times before and after its call, by one
+/// order of all calls.
+#[test]
+fn calls_as_if_one_after_another(rt: HostRuntime) -> Result<(), Fail> {
+    assert!(rt; are_right(&rt, rt.alloc(), true)?);
+    Ok(())
+}
+
+/// More calls, each alone: by what had passed the other end before it, and may have passed after it.
+#[test]
+fn calls_within_bounds(rt: HostRuntime) -> Result<(), Fail> {
+    assert!(rt; are_right(&rt, rt.alloc(), false)?);
+    Ok(())
+}
+
 /// One who gives a number into a queue, and takes another from another.
 #[derive(Drop)]
 struct Giver<'a> {
@@ -91,7 +143,7 @@ struct Giver<'a> {
 
 impl<'a> Giver<'a> {
     /// Gives its number, and waits for so many seconds: the number that comes.
-    fn gives_and_takes(&mut self, rt: &impl Clock, seconds: u64) -> Option<u64> {
+    fn gives_and_takes(&mut self, rt: &(impl Wait + Clock), seconds: u64) -> Option<u64> {
         self.mine.gives(self.gives);
         let mut limit = Limit::new(rt, seconds);
         next(rt, &mut self.other, &mut limit)
@@ -148,7 +200,7 @@ fn at_once<R: Wait + Threads + Clock + Sync>(
 
 /// What each takes, the second after the first has given up.
 fn in_turn(
-    rt: &impl Clock,
+    rt: &(impl Wait + Clock),
     one: &IndexQueue,
     of_one: Pass,
     two: &IndexQueue,

@@ -1,5 +1,5 @@
 //! A role that goes from one thread to another.
-ghost use Rattle.lock_free.specs.Ends.{IsPassOf};
+ghost use Rattle.lock_free.specs.Queues.Calls.{IsPassOf};
 
 use crate::ends::{GivesAll, TakesAll};
 use crate::limit::{Limit, SECONDS};

@@ -1,5 +1,5 @@
 //! What threads do side by side.
-use crate::limit::{Limit, SECONDS};
+use crate::limit::{ENOUGH, Limit, SECONDS};
 use std::sync::Wait;
 use std::sync::atomic::{AtomicU64, Ordering};
 use std::thread;
@@ -74,7 +74,7 @@ pub trait User: Drop + Sized {
     fn turn(&mut self, rt: &impl Wait, at: u64) -> Option<bool>;
 }
 
-/// A user who takes so many things, one after another.
+/// A user who takes so many things, one after another, or as many as it can until it is enough.
 #[derive(Drop)]
 pub struct Turns<U: User> {
     pub user: U,
@@ -100,9 +100,13 @@ impl<U: User> Turns<U> {
 impl<U: User> Task for Turns<U> {
     fn run(mut self, rt: &(impl Wait + Clock)) -> bool {
         let mut limit = Limit::new(rt, SECONDS);
+        let mut enough = Limit::new(rt, ENOUGH);
         for at in 0..self.number {
             if self.next(rt, at, &mut limit) != Some(true) {
                 return false;
+            }
+            if enough.is_over(rt) {
+                return true;
             }
         }
         true
@@ -115,16 +119,17 @@ pub fn another_turns<U: User>(user: &mut U, who: u64, number: u64) -> Option<Tur
     Some(Turns { user, number })
 }
 
-/// Whether four more users, each in a thread, take so many things that are their own. None where there are no further
-/// passes.
+/// Whether four more users of these numbers, each in a thread, take so many things that are their own. None where there
+/// are no further passes.
 pub fn four_turn<R: Wait + Threads + Clock + Sync, U: User + Send>(
     rt: &R,
     user: &mut U,
+    who: [u64; 4],
     number: u64,
 ) -> Option<bool> {
-    let first = another_turns(user, 1, number)?;
-    let second = another_turns(user, 2, number)?;
-    let third = another_turns(user, 3, number)?;
-    let fourth = another_turns(user, 4, number)?;
+    let first = another_turns(user, who[0], number)?;
+    let second = another_turns(user, who[1], number)?;
+    let third = another_turns(user, who[2], number)?;
+    let fourth = another_turns(user, who[3], number)?;
     Some(four_run(rt, first, second, third, fourth))
 }

@@ -1,11 +1,17 @@
-//! Unique index sets: no index has two holders.
+//! Unique index sets: no index has two holders, and the lock comes once, where none has one.
 ghost use Rattle.lock_free.specs.UniqueIndexSet.{IsPassOf};
 
+use crate::hall::{Hall, Visit, Visitor, is_locked_by_four};
 use crate::holders::Holders;
+use crate::limit::{ENOUGH, Limit};
 use crate::tasks::{User, four_turn};
 use lock_free::mpmc::unique_index_set::{Pass, UniqueIndexSet};
+use lock_free::mpmc::unique_index_set_enums::{ReleaseState, UniqueIndexSetAcquireFailure};
+use std::alloc::Global;
 use std::sync::Wait;
 use std::test::Fail;
+use std::thread::Threads;
+use std::time::Clock;
 
 /// One who takes indices of a set and gives them back.
 #[derive(Drop)]
@@ -61,16 +67,89 @@ impl<'a> User for IndexUser<'a> {
     }
 }
 
-#[test]
-fn four_threads_on_three_indices(rt: HostRuntime) -> Result<(), Fail> {
-    let holders = Holders::new(rt.alloc(), 3)?;
-    let (set, pass) = UniqueIndexSet::new(rt.alloc(), 3)?;
+impl<'a> Visitor for IndexUser<'a> {
+    fn visit(&mut self, rt: &impl Wait, hall: &Hall) -> Visit {
+        let index = match self.set.acquire_raw_index(rt, &mut self.pass) {
+            Ok(index) => index,
+            Err(UniqueIndexSetAcquireFailure::OutOfIndices) => return Visit::Full,
+            Err(UniqueIndexSetAcquireFailure::IsLocked) => return Visit::Closed,
+        };
+        let alone = hall.stay(index as usize);
+        let state = self.set.release_or_lock(rt, index, &mut self.pass);
+        match state {
+            _ if !alone => Visit::Wrong,
+            ReleaseState::Unlocked => Visit::Left,
+            ReleaseState::Locked => Visit::Locked,
+        }
+    }
+
+    fn is_closed(&mut self, _rt: &impl Wait) -> bool {
+        self.set.is_locked(&mut self.pass) && self.borrowed() == 0
+    }
+}
+
+/// What is done with a set.
+#[derive(Clone, Copy)]
+enum Play<'s> {
+    /// Four take indices and give them back.
+    FourTurn,
+    /// Four come and go until one locks.
+    FourVisit(&'s Hall),
+}
+
+/// How often each of four takes an index.
+const TURNS: u64 = 1_000_000;
+
+/// How often a set is made that is locked, at most.
+const ROUNDS: u64 = 1000;
+
+/// Whether it goes well. None where there are no further passes.
+fn plays<R: Wait + Threads + Clock + Sync>(
+    rt: &R,
+    user: &mut IndexUser<'_>,
+    play: Play<'_>,
+) -> Option<bool> {
+    match play {
+        Play::FourTurn => {
+            let alone = four_turn(rt, user, [1, 2, 3, 4], TURNS)?;
+            Some(alone && user.borrowed() == 0)
+        }
+        Play::FourVisit(hall) => Some(is_locked_by_four(rt, user, hall, 1)),
+    }
+}
+
+/// Whether it goes well with a new set of three indices.
+fn played<R: Wait + Threads + Clock + Sync>(
+    rt: &R,
+    alloc: Global,
+    play: Play<'_>,
+) -> Result<bool, Fail> {
+    let holders = Holders::new(alloc, 3)?;
+    let (set, pass) = UniqueIndexSet::new(alloc, 3)?;
     let mut user = IndexUser {
         set: &set,
         holders: &holders,
         pass,
     };
-    let alone = four_turn(&rt, &mut user, 10_000);
-    assert!(rt; alone == Some(true) && user.borrowed() == 0);
+    Ok(plays(rt, &mut user, play) == Some(true))
+}
+
+#[test]
+fn four_threads_on_three_indices(rt: HostRuntime) -> Result<(), Fail> {
+    assert!(rt; played(&rt, rt.alloc(), Play::FourTurn)?);
+    Ok(())
+}
+
+#[test]
+fn four_visit_until_it_is_locked(rt: HostRuntime) -> Result<(), Fail> {
+    let enough = Limit::new(&rt, ENOUGH);
+    let mut well = true;
+    for _ in 0..ROUNDS {
+        if enough.has_time(&rt) {
+            let hall = Hall::new(rt.alloc(), 3)?;
+            well &= played(&rt, rt.alloc(), Play::FourVisit(&hall))?;
+        }
+    }
+    assert!(rt; well);
     Ok(())
 }

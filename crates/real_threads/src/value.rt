@@ -13,7 +13,7 @@ use std::time::Clock;
 type Pair = (u64, u64);
 
 /// The number of the last pair.
-const LAST: u64 = 10_000;
+const LAST: u64 = 200_000;
 
 /// Stores (1, 1) to the last pair.
 #[derive(Drop)]

@@ -1,4 +1,5 @@
 pub mod Examples
+pub mod Known
 pub mod Lines
 pub mod Turns
 pub mod Whole

@@ -1,8 +1,10 @@
 -- What is told of a run's end, and its exit status.
-use Rattle.std.specs.Prelude.{ℕ, List, [], Result, Ok, Err}
+use Rattle.std.specs.Prelude.{ℕ, Option, List, [], Result, Ok, Err}
+use Rattle.std.specs.Io.KnownBytes.{Appends}
 use Rattle.texts.specs.declared.error.ScheduleError.{ScheduleError}
 use Rattle.texts.specs.declared.error.ScheduleError.TheVariants as errors
 use Rattle.texts.specs.Print.{error_text}
+use Rattle.schedule.specs.Written.{AppendsPart}
 
 -- what is told of a run that ended so
 unfoldable pub message_text : Result (Unit {0}) ScheduleError → List ℕ
@@ -19,3 +21,9 @@ error_exit errors.NoMemory = 1
 abbrev pub exit_of : Result (Unit {0}) ScheduleError → ℕ
 exit_of (Ok u) = 0
 exit_of (Err e) = error_exit e
+
+-- a line was told, or a beginning of it, and more behind that
+abbrev pub TellsMore : Option (List ℕ) → Option (List ℕ) → List ℕ → Type 0
+TellsMore old new line =
+    (between : Option (List ℕ)) × AppendsPart old between line
+    × (more : List ℕ) × Appends between new more

@@ -1,5 +1,6 @@
 //! Calls of a machine, and of what reads and prints a schedule, for those who need no contract: a caller of these
 //! loads and carries none of theirs.
+use crate::explained::run_and_explain;
 use crate::runs::{self, machine_of, run_and_tell, run_in};
 use crate::told::status;
 use machine::event::Event;
@@ -131,4 +132,14 @@ pub fn ran_and_told<A: Allocator, R: Read, W: Write, E: Write>(
     errors: &mut E,
 ) -> u8 {
     run_and_tell(buffers, alloc, reader, output, errors)
+}
+
+/// A whole run, what is told of it with what explains it, and the exit status.
+pub fn ran_and_explained<R: Read, W: Write, E: Write>(
+    alloc: Global,
+    reader: &mut R,
+    output: &mut W,
+    errors: &mut E,
+) -> u8 {
+    run_and_explain(alloc, reader, output, errors)
 }

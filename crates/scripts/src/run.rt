@@ -2,7 +2,7 @@
 use crate::blocks::Rows;
 use crate::pieces::Pieces;
 use crate::text::{adds_bytes, adds_line, behind_space, number};
-use schedule::bare::ran_and_told;
+use schedule::bare::{ran_and_explained, ran_and_told};
 use std::alloc::Global;
 
 /// Whether a schedule has this output, this is told, and this is its exit.
@@ -11,6 +11,15 @@ fn runs_so(alloc: Global, input: &[u8], output: &[u8], told: &[u8], exit: u64) -
     let mut written = Vec::new(alloc);
     let mut errors = Vec::new(alloc);
     let ended = ran_and_told(alloc, alloc, &mut reader, &mut written, &mut errors);
+    written.as_slice() == output && errors.as_slice() == told && u64::from(ended) == exit
+}
+
+/// The same, where what is told has more, which explains it.
+fn is_explained_so(alloc: Global, input: &[u8], output: &[u8], told: &[u8], exit: u64) -> bool {
+    let mut reader = input;
+    let mut written = Vec::new(alloc);
+    let mut errors = Vec::new(alloc);
+    let ended = ran_and_explained(alloc, &mut reader, &mut written, &mut errors);
     written.as_slice() == output && errors.as_slice() == told && u64::from(ended) == exit
 }
 
@@ -65,6 +74,15 @@ impl Run {
     fn judges(&self, row: &str, value: u64) -> Option<bool> {
         match row {
             "exit" => Some(runs_so(self.alloc, &self.input, &self.output, &self.told, value)),
+            "explained" => {
+                let Run {
+                    input,
+                    output,
+                    told,
+                    ..
+                } = self;
+                Some(is_explained_so(self.alloc, input, output, told, value))
+            }
             "more" => Some(self.input.len() as u64 > value),
             "ends" => Some(self.has_line_end(value)),
             _ => None,

@@ -1,4 +1,6 @@
 //! A text that grows. Where memory fails it stays as it is from then on, and that is told once, in the end.
+ghost use Rattle.std.specs.Prelude.{◌≡◌, true, false, IfOk, IfErr};
+
 use std::alloc::{AllocError, Global};
 
 /// What is written so far.
@@ -50,7 +52,10 @@ impl Pen {
     }
 
     /// The whole text, or that memory was refused somewhere.
-    pub fn done(self) -> Result<String, AllocError> {
+    pub fn done(self) -> Result<String, AllocError>
+        ensures written { IfOk result (λ text. (text ≡ self.text) × (self.has_failed ≡ false)) }
+        ensures refused { IfErr result (λ e. self.has_failed ≡ true) }
+    {
         if self.has_failed {
             return Err(AllocError);
         }

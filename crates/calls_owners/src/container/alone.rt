@@ -2,18 +2,19 @@
 use super::call::{ContainerCall, Recovery, Show, Update};
 use super::kept::Kept;
 use calls::answer::Answer;
+use calls::forms;
 use calls::frees::Asked;
 use calls::heard::Heard;
 use calls::numbered::Numbered;
 use calls::play::Answers;
 use calls::said::{ended, goes_on};
+use calls::stage::Scene;
 use plain::Container;
-use std::alloc::Global;
 use std::sync::Wait;
 use steps::container::enums::{ContainerAddFailure, ContainerRemoveError};
 use steps::container::handle::ContainerHandle;
 use steps::container::state::ContainerState;
-use steps::enums::OwnerId;
+use steps::enums::{OwnerId, UniqueIndexCreationError};
 use steps::indices::enums::{ReleaseMode, ReleaseState};
 
 /// Says the handle of a value that was added, or why there is none.
@@ -89,20 +90,19 @@ pub struct Alone<T: Numbered> {
     container: Container<T>,
     state: ContainerState<T>,
     kept: Kept<T>,
-    alloc: Global,
     number: u64,
 }
 
 impl<T: Numbered> Alone<T> {
-    pub fn new(alloc: Global, capacity: usize, number: u64) -> Option<Alone<T>> {
-        let mut container = Container::new(alloc, capacity, number).ok()?;
+    /// A container with its first state, and where others are kept.
+    fn of(scene: Scene<'_>, container: Container<T>) -> Option<Alone<T>> {
+        let mut container = container;
         let state = container.get_state().ok()?;
         Some(Alone {
             container,
             state,
-            kept: Kept::new(alloc, number, capacity)?,
-            alloc,
-            number,
+            kept: Kept::new(scene.alloc, scene.number, scene.capacity)?,
+            number: scene.number,
         })
     }
 
@@ -145,7 +145,7 @@ impl<T: Numbered> Alone<T> {
     }
 
     fn shows_other(&mut self, capacity: usize, number: u64, answer: &mut Answer) {
-        match Container::<T>::new(self.alloc, capacity, number) {
+        match Container::<T>::new(answer.alloc(), capacity, number) {
             Ok(mut container) => {
                 if container.is_state_of(&self.state) {
                     answer.truth(container.update_state(&mut self.state));
@@ -172,7 +172,7 @@ impl<T: Numbered> Alone<T> {
     fn recovers(&mut self, how: Recovery, answer: &mut Answer) {
         let Recovery { owner, frees, mode } = how;
         let mut answers = Asked::new(frees);
-        let mut asked = Heard::new(self.alloc);
+        let mut asked = Heard::new(answer.alloc());
         let state = self.container.recover(
             owner,
             |value| {
@@ -204,7 +204,13 @@ impl<T: Numbered> Answers<ContainerCall> for Alone<T> {
             ContainerCall::IsEmpty => answer.truth(self.container.is_empty()),
             ContainerCall::IsLocked => answer.truth(self.container.is_locked()),
             ContainerCall::Capacity => answer.number(self.container.capacity() as u64),
-            ContainerCall::Other => {}
         }
+    }
+}
+
+impl<T: Numbered> forms::Alone<ContainerCall> for Alone<T> {
+    fn alone(scene: Scene<'_>) -> Result<Alone<T>, UniqueIndexCreationError> {
+        let container = Container::new(scene.alloc, scene.capacity, scene.number)?;
+        Alone::of(scene, container).ok_or(UniqueIndexCreationError::NoMemory)
     }
 }

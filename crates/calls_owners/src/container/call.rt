@@ -30,8 +30,6 @@ pub enum ContainerCall {
     IsEmpty,
     IsLocked,
     Capacity,
-    /// The next calls are made by another pass.
-    Other,
 }
 
 /// How the values of an owner are recovered.
@@ -126,7 +124,6 @@ fn look(word: &str) -> Option<ContainerCall> {
         "is_empty" => Some(ContainerCall::IsEmpty),
         "is_locked" => Some(ContainerCall::IsLocked),
         "capacity" => Some(ContainerCall::Capacity),
-        "other" => Some(ContainerCall::Other),
         _ => None,
     }
 }

@@ -10,58 +10,49 @@ use calls::heard::Heard;
 use calls::numbered::Numbered;
 use calls::play::Answers;
 use calls::said::{ended, goes_on};
+use calls::stage::Scene;
+use calls::two::Two;
 use lock_free_owners::mpmc::container::{
-    Container, ContainerHandle, ContainerState, OwnerId, Pass,
+    Container, ContainerHandle, ContainerState, Handle, OwnerId, Pass,
 };
-use std::alloc::Global;
-use std::mem;
 use std::sync::Wait;
 use steps::indices::enums::ReleaseMode;
 
 /// Who uses a container of threads, and the state that was taken last.
 #[derive(Drop)]
 pub struct User<'a, T: Numbered> {
-    container: &'a Container<T>,
-    pass: Pass<T>,
-    other: Pass<T>,
+    two: Two<Handle<'a, T>>,
     state: ContainerState<T>,
     kept: Kept<T>,
-    alloc: Global,
     number: u64,
-    ghost of: { IsPassOf container.now pass },
-    ghost of_other: { IsPassOf container.now other },
 }
 
 impl<'a, T: Numbered> User<'a, T> {
-    /// One of the container of this number, with another pass, which is made of two.
+    /// One of the container that the scene says, with another pass, which is made of two.
     pub fn new(
         rt: &impl Wait,
-        alloc: Global,
+        scene: Scene<'_>,
         container: &'a Container<T>,
         pass: Pass<T>,
-        number: u64,
     ) -> Option<User<'a, T>>
         requires { IsPassOf container.now pass }
     {
         let mut pass = pass;
         let mut other = pass.split()?;
         other.join(pass.split()?);
-        let state = container.get_state(rt, &mut pass).ok()?;
-        let kept = Kept::new(alloc, number, container.capacity())?;
+        let mut now = container.handle(pass);
+        let state = now.get_state(rt).ok()?;
         Some(User {
-            container,
-            pass,
-            other,
+            two: Two::new(now, container.handle(other)),
             state,
-            kept,
-            alloc,
-            number,
+            kept: Kept::new(scene.alloc, scene.number, scene.capacity)?,
+            number: scene.number,
         })
     }
 
     fn adds(&mut self, rt: &impl Wait, number: u64, owner: OwnerId, answer: &mut Answer) {
         let value = T::of_number(number);
-        added(self.container.add(rt, value, owner, &mut self.pass), answer);
+        added(self.two.now.add(rt, value, owner), answer);
     }
 
     fn removes(
@@ -71,23 +62,17 @@ impl<'a, T: Numbered> User<'a, T> {
         mode: ReleaseMode,
         answer: &mut Answer,
     ) {
-        removed(
-            self.container.remove(rt, handle, mode, &mut self.pass),
-            answer,
-        );
+        removed(self.two.now.remove(rt, handle, mode), answer);
     }
 
     fn replaces(&mut self, handle: ContainerHandle, number: u64, answer: &mut Answer) {
         let value = T::of_number(number);
-        replaced(
-            self.container.replace(handle, value, &mut self.pass),
-            answer,
-        );
+        replaced(self.two.now.replace(handle, value), answer);
     }
 
     /// Takes a state anew.
     fn gets_state(&mut self, rt: &impl Wait, answer: &mut Answer) {
-        match self.container.get_state(rt, &mut self.pass) {
+        match self.two.now.get_state(rt) {
             Ok(state) => self.state = state,
             Err(_) => answer.word("no_memory"),
         }
@@ -95,11 +80,8 @@ impl<'a, T: Numbered> User<'a, T> {
 
     /// Brings the state up to date.
     fn updates(&mut self, rt: &impl Wait, answer: &mut Answer) {
-        if self.container.is_state_of(&self.state) {
-            let changed = self
-                .container
-                .update_state(rt, &mut self.state, &mut self.pass);
-            answer.truth(changed);
+        if self.two.now.is_state_of(&self.state) {
+            answer.truth(self.two.now.update_state(rt, &mut self.state));
         } else {
             answer.refused();
         }
@@ -115,7 +97,7 @@ impl<'a, T: Numbered> User<'a, T> {
     }
 
     fn shows_other(&mut self, rt: &impl Wait, capacity: usize, number: u64, answer: &mut Answer) {
-        match Container::<T>::new(self.alloc, capacity, number) {
+        match Container::<T>::new(answer.alloc(), capacity, number) {
             Ok((container, mut pass)) => {
                 if container.is_state_of(&self.state) {
                     answer.truth(container.update_state(rt, &mut self.state, &mut pass));
@@ -130,15 +112,11 @@ impl<'a, T: Numbered> User<'a, T> {
     fn finds(&mut self, owner: OwnerId, stop: u64, answer: &mut Answer) {
         let mut number = 0u64;
         let container = self.number;
-        let came = self.container.find(
-            owner,
-            |value, handle| {
-                number = number.wrapping_add(1);
-                found(value, handle, owner, container, answer);
-                goes_on(number, stop)
-            },
-            &mut self.pass,
-        );
+        let came = self.two.now.find(owner, |value, handle| {
+            number = number.wrapping_add(1);
+            found(value, handle, owner, container, answer);
+            goes_on(number, stop)
+        });
         answer.word("found");
         answer.number(came as u64);
     }
@@ -146,8 +124,8 @@ impl<'a, T: Numbered> User<'a, T> {
     fn recovers(&mut self, rt: &impl Wait, how: Recovery, answer: &mut Answer) {
         let Recovery { owner, frees, mode } = how;
         let mut answers = Asked::new(frees);
-        let mut asked = Heard::new(self.alloc);
-        let state = self.container.recover(
+        let mut asked = Heard::new(answer.alloc());
+        let state = self.two.now.recover(
             rt,
             owner,
             |value| {
@@ -155,26 +133,9 @@ impl<'a, T: Numbered> User<'a, T> {
                 answers.next(frees, owner)
             },
             mode,
-            &mut self.pass,
         );
         ended(state, answer);
         asked.say("asked", answer);
-    }
-
-    fn number(&mut self, rt: &impl Wait, answer: &mut Answer) {
-        answer.number(self.container.len(rt, &mut self.pass) as u64);
-    }
-
-    fn is_empty(&mut self, rt: &impl Wait, answer: &mut Answer) {
-        answer.truth(self.container.is_empty(rt, &mut self.pass));
-    }
-
-    fn is_locked(&mut self, answer: &mut Answer) {
-        answer.truth(self.container.is_locked(&mut self.pass));
-    }
-
-    fn turns(&mut self) {
-        mem::swap(&mut self.pass, &mut self.other);
     }
 }
 
@@ -192,11 +153,15 @@ impl<'a, T: Numbered> Answers<ContainerCall> for User<'a, T> {
             ContainerCall::State(at) => self.kept.turns(&mut self.state, at),
             ContainerCall::Find(owner, stop) => self.finds(owner, stop, answer),
             ContainerCall::Recover(how) => self.recovers(rt, how, answer),
-            ContainerCall::Len => self.number(rt, answer),
-            ContainerCall::IsEmpty => self.is_empty(rt, answer),
-            ContainerCall::IsLocked => self.is_locked(answer),
-            ContainerCall::Capacity => answer.number(self.container.capacity() as u64),
-            ContainerCall::Other => self.turns(),
+            ContainerCall::Len => answer.number(self.two.now.len(rt) as u64),
+            ContainerCall::IsEmpty => answer.truth(self.two.now.is_empty(rt)),
+            ContainerCall::IsLocked => answer.truth(self.two.now.is_locked()),
+            ContainerCall::Capacity => answer.number(self.two.now.capacity() as u64),
         }
+    }
+
+    fn turns(&mut self) -> bool {
+        self.two.turn();
+        true
     }
 }

@@ -1,14 +1,15 @@
 //! A set of indices of owners of one caller answers calls.
 use super::call::RobustCall;
 use calls::answer::Answer;
+use calls::forms::Alone;
 use calls::frees::{Asked, Frees};
 use calls::heard::Heard;
 use calls::play::Answers;
 use calls::said::{ended, failed, goes_on};
+use calls::stage::Scene;
 use plain::RobustUniqueIndexSet;
-use std::alloc::Global;
 use std::sync::Wait;
-use steps::enums::OwnerId;
+use steps::enums::{OwnerId, UniqueIndexCreationError};
 use steps::indices::enums::{
     ReleaseMode, ReleaseState, RobustUniqueIndexSetReleaseError, UniqueIndexSetAcquireFailure,
 };
@@ -57,69 +58,67 @@ pub fn hear(heard: &mut Heard, says: bool, owner: OwnerId, index: usize) {
     heard.hear(index as u64);
 }
 
-/// A set of one caller.
-#[derive(Drop)]
-pub struct Alone {
-    pub set: RobustUniqueIndexSet,
-    pub alloc: Global,
-}
-
-impl Alone {
-    fn acquires(&mut self, owner: OwnerId, answer: &mut Answer) {
-        acquired(self.set.acquire(owner), answer);
-    }
-
-    fn releases(&mut self, index: usize, owner: OwnerId, mode: ReleaseMode, answer: &mut Answer) {
-        if index >= self.set.capacity() {
-            answer.refused();
-            return;
-        }
-        released(self.set.release(index, owner, mode), answer);
-    }
-
-    fn finds(&mut self, owner: OwnerId, stop: u64, answer: &mut Answer) {
-        let mut number = 0u64;
-        answer.word("at");
-        let found = self.set.find(owner, |index| {
-            number = number.wrapping_add(1);
-            answer.number(index as u64);
-            goes_on(number, stop)
-        });
-        answer.word("found");
-        answer.number(found as u64);
-    }
-
-    fn recovers(&mut self, mode: ReleaseMode, frees: Frees, answer: &mut Answer) {
-        let mut answers = Asked::new(frees);
-        let mut asked = Heard::new(self.alloc);
-        let mut told = Heard::new(self.alloc);
-        let state = self.set.recover(
-            mode,
-            |owner, index| {
-                hear(&mut asked, asks_owner(frees), owner, index);
-                answers.next(frees, owner)
-            },
-            |owner, index| hear(&mut told, says_owner(frees, owner), owner, index),
-        );
-        ended(state, answer);
-        asked.say("asked", answer);
-        told.say("told", answer);
+fn releases(
+    set: &mut RobustUniqueIndexSet,
+    index: usize,
+    owner: OwnerId,
+    mode: ReleaseMode,
+    answer: &mut Answer,
+) {
+    if index < set.capacity() {
+        released(set.release(index, owner, mode), answer);
+    } else {
+        answer.refused();
     }
 }
 
-impl Answers<RobustCall> for Alone {
+fn finds(set: &mut RobustUniqueIndexSet, owner: OwnerId, stop: u64, answer: &mut Answer) {
+    let mut number = 0u64;
+    answer.word("at");
+    let found = set.find(owner, |index| {
+        number = number.wrapping_add(1);
+        answer.number(index as u64);
+        goes_on(number, stop)
+    });
+    answer.word("found");
+    answer.number(found as u64);
+}
+
+fn recovers(set: &mut RobustUniqueIndexSet, mode: ReleaseMode, frees: Frees, answer: &mut Answer) {
+    let mut answers = Asked::new(frees);
+    let mut asked = Heard::new(answer.alloc());
+    let mut told = Heard::new(answer.alloc());
+    let state = set.recover(
+        mode,
+        |owner, index| {
+            hear(&mut asked, asks_owner(frees), owner, index);
+            answers.next(frees, owner)
+        },
+        |owner, index| hear(&mut told, says_owner(frees, owner), owner, index),
+    );
+    ended(state, answer);
+    asked.say("asked", answer);
+    told.say("told", answer);
+}
+
+impl Answers<RobustCall> for RobustUniqueIndexSet {
     fn answer(&mut self, _rt: &impl Wait, call: RobustCall, answer: &mut Answer) {
         match call {
-            RobustCall::Acquire(owner) => self.acquires(owner, answer),
-            RobustCall::Release(index, owner, mode) => self.releases(index, owner, mode, answer),
-            RobustCall::Find(owner, stop) => self.finds(owner, stop, answer),
-            RobustCall::Recover(mode, frees) => self.recovers(mode, frees, answer),
-            RobustCall::Borrowed => answer.number(self.set.borrowed_indices() as u64),
-            RobustCall::IsLocked => answer.truth(self.set.is_locked()),
+            RobustCall::Acquire(owner) => acquired(self.acquire(owner), answer),
+            RobustCall::Release(index, owner, mode) => releases(self, index, owner, mode, answer),
+            RobustCall::Find(owner, stop) => finds(self, owner, stop, answer),
+            RobustCall::Recover(mode, frees) => recovers(self, mode, frees, answer),
+            RobustCall::Borrowed => answer.number(self.borrowed_indices() as u64),
+            RobustCall::IsLocked => answer.truth(self.is_locked()),
             RobustCall::IsLockedFurther => {}
-            RobustCall::Capacity => answer.number(self.set.capacity() as u64),
+            RobustCall::Capacity => answer.number(self.capacity() as u64),
             RobustCall::NoOwner => answer.word("InvalidOwnerValue"),
-            RobustCall::Other => {}
         }
+    }
+}
+
+impl Alone<RobustCall> for RobustUniqueIndexSet {
+    fn alone(scene: Scene<'_>) -> Result<RobustUniqueIndexSet, UniqueIndexCreationError> {
+        RobustUniqueIndexSet::new(scene.alloc, scene.capacity)
     }
 }

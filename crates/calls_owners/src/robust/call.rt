@@ -17,13 +17,11 @@ pub enum RobustCall {
     Recover(ReleaseMode, Frees),
     Borrowed,
     IsLocked,
-    /// The same by a further pass, which is joined then: only of threads.
+    /// The same by a further pass: only of threads.
     IsLockedFurther,
     Capacity,
     /// The number is that of no owner.
     NoOwner,
-    /// The next calls are made by another pass.
-    Other,
 }
 
 fn acquire(words: &mut Words<'_>) -> Option<RobustCall> {
@@ -80,7 +78,6 @@ impl Call for RobustCall {
             "is_locked" => Some(RobustCall::IsLocked),
             "is_locked_further" => Some(RobustCall::IsLockedFurther),
             "capacity" => Some(RobustCall::Capacity),
-            "other" => Some(RobustCall::Other),
             _ => None,
         }
     }

@@ -1,10 +1,13 @@
 //! A unique index set of one caller answers calls.
 use super::call::IndexCall;
 use calls::answer::Answer;
+use calls::forms::Alone;
 use calls::play::Answers;
 use calls::said::{acquired, ended};
+use calls::stage::Scene;
 use plain::UniqueIndexSet;
 use std::sync::Wait;
+use steps::enums::UniqueIndexCreationError;
 
 fn releases(set: &mut UniqueIndexSet, index: u32, answer: &mut Answer) {
     if set.is_out(index) {
@@ -52,7 +55,12 @@ impl Answers<IndexCall> for UniqueIndexSet {
             IndexCall::IsLocked => answer.truth(self.is_locked()),
             IndexCall::IsLockedFurther => {}
             IndexCall::Capacity => answer.number(self.capacity() as u64),
-            IndexCall::Other => {}
         }
+    }
+}
+
+impl Alone<IndexCall> for UniqueIndexSet {
+    fn alone(scene: Scene<'_>) -> Result<UniqueIndexSet, UniqueIndexCreationError> {
+        UniqueIndexSet::new(scene.alloc, scene.capacity)
     }
 }

@@ -24,11 +24,9 @@ pub enum IndexCall {
     Holds(u32),
     Borrowed,
     IsLocked,
-    /// The same by a further pass, which is joined then: only of threads.
+    /// The same by a further pass: only of threads.
     IsLockedFurther,
     Capacity,
-    /// The next calls are made by another pass.
-    Other,
 }
 
 fn index(words: &mut Words<'_>) -> Option<u32> {
@@ -56,7 +54,6 @@ impl Call for IndexCall {
             "is_locked" => Some(IndexCall::IsLocked),
             "is_locked_further" => Some(IndexCall::IsLockedFurther),
             "capacity" => Some(IndexCall::Capacity),
-            "other" => Some(IndexCall::Other),
             word => of_index(word, index(words)?),
         }
     }

@@ -1,13 +1,14 @@
 //! Who uses a unique index set of threads.
 ghost use Rattle.std.specs.Prelude.{◌≡◌};
 ghost use Rattle.lock_free.specs.HistoryHeld.{Holds};
-ghost use Rattle.lock_free.specs.UniqueIndexSet.{made, set_id, IsPassOf, index_set};
+ghost use Rattle.lock_free.specs.Unique.Handles.{set_in};
+ghost use Rattle.lock_free.specs.UniqueIndexSet.{made, IsPassOf};
 
 use super::call::IndexCall;
 use calls::answer::Answer;
 use calls::play::Answers;
 use calls::said::{ended, failed};
-use lock_free::mpmc::unique_index_set::{Pass, UniqueIndex, UniqueIndexSet};
+use lock_free::mpmc::unique_index_set::{Handle, Pass, UniqueIndex, UniqueIndexSet};
 use std::alloc::Global;
 use std::mem;
 use std::sync::Wait;
@@ -42,45 +43,21 @@ impl<'a> Raw<'a> {
     }
 }
 
-/// A held index, with its set.
-#[derive(Drop)]
-struct Held<'a> {
-    set: &'a UniqueIndexSet,
-    index: UniqueIndex<'a>,
-    ghost of: { index_set index ≡ set_id set.now },
-}
-
-impl<'a> Held<'a> {
-    /// It is given back in mode `Default`.
-    fn goes(self, answer: &mut Answer) {
-        let Held { set: _, index } = self;
-        index.release();
-        answer.word("unlocked");
-    }
-
-    /// It is given back and taken as a raw one first.
-    fn goes_or_locks(self, rt: &impl Wait, answer: &mut Answer) {
-        let Held { set, index } = self;
-        let mut pass = index.release();
-        match set.acquire_raw_index(rt, &mut pass) {
-            Ok(again) => ended(set.release_or_lock(rt, again, &mut pass), answer),
-            Err(failure) => failed(failure, answer),
-        }
-    }
-}
-
 /// An index that is out.
 #[derive(Drop)]
 enum Index<'a> {
     Raw(Raw<'a>),
-    Held(Held<'a>),
+    Held(UniqueIndex<'a>),
 }
 
 impl<'a> Index<'a> {
     fn goes(self, answer: &mut Answer) {
         match self {
             Index::Raw(raw) => raw.goes(answer),
-            Index::Held(held) => held.goes(answer),
+            Index::Held(held) => {
+                held.release();
+                answer.word("unlocked");
+            }
         }
     }
 
@@ -98,7 +75,10 @@ impl<'a> Index<'a> {
     fn goes_or_locks(self, rt: &impl Wait, answer: &mut Answer) {
         match self {
             Index::Raw(raw) => raw.goes_or_locks(rt, answer),
-            Index::Held(held) => held.goes_or_locks(rt, answer),
+            Index::Held(held) => {
+                let (state, _handle) = held.give_back_or_lock(rt);
+                ended(state, answer);
+            }
         }
     }
 
@@ -106,7 +86,7 @@ impl<'a> Index<'a> {
     fn value(&self, answer: &mut Answer) {
         match self {
             Index::Raw(_) => answer.word("raw"),
-            Index::Held(held) => answer.number(held.index.value() as u64),
+            Index::Held(held) => answer.number(held.value() as u64),
         }
     }
 }
@@ -115,24 +95,26 @@ impl<'a> Index<'a> {
 #[derive(Drop)]
 pub struct User<'a> {
     set: &'a UniqueIndexSet,
-    pass: Pass,
-    other: Pass,
+    now: Handle<'a>,
+    other: Handle<'a>,
     /// Those that are out, each at its place.
     out: Vec<Option<Index<'a>>>,
-    ghost of: { IsPassOf set.now pass },
-    ghost of_other: { IsPassOf set.now other },
+    ghost of: { set_in now ≡ set.now },
+    ghost of_other: { set_in other ≡ set.now },
 }
 
 impl<'a> User<'a> {
+    /// With another pass, which is made of two.
     pub fn new(alloc: Global, set: &'a UniqueIndexSet, pass: Pass) -> Option<User<'a>>
         requires { IsPassOf set.now pass }
     {
         let mut pass = pass;
-        let other = pass.split()?;
+        let mut other = pass.split()?;
+        other.join(pass.split()?);
         Some(User {
             set,
-            pass,
-            other,
+            now: set.handle(pass),
+            other: set.handle(other),
             out: Vec::new(alloc),
         })
     }
@@ -169,11 +151,13 @@ impl<'a> User<'a> {
         }
     }
 
+    /// Takes a raw index by a further pass.
     fn acquires(&mut self, rt: &impl Wait, answer: &mut Answer) {
-        let Some(mut pass) = self.pass.split() else {
+        let Some(further) = self.now.split() else {
             answer.word("no_pass");
             return;
         };
+        let mut pass = further.into_pass();
         match self.set.acquire_raw_index(rt, &mut pass) {
             Ok(index) => {
                 let raw = Raw {
@@ -183,36 +167,25 @@ impl<'a> User<'a> {
                 };
                 self.comes(index, Index::Raw(raw), answer);
             }
-            Err(failure) => {
-                self.pass.join(pass);
-                failed(failure, answer);
-            }
+            Err(failure) => failed(failure, answer),
         }
     }
 
+    /// Takes an index that a guard holds.
     fn holds(&mut self, rt: &impl Wait, answer: &mut Answer) {
-        let Some(pass) = self.pass.split() else {
+        let Some(further) = self.now.split() else {
             answer.word("no_pass");
             return;
         };
-        match self.set.acquire(rt, pass) {
-            Ok(index) => {
-                let value = index.value();
-                let held = Held {
-                    set: self.set,
-                    index,
-                };
-                self.comes(value, Index::Held(held), answer);
-            }
-            Err((failure, pass)) => {
-                self.pass.join(pass);
-                failed(failure, answer);
-            }
+        match further.acquire(rt) {
+            Ok(held) => self.comes(held.value(), Index::Held(held), answer),
+            Err((failure, _)) => failed(failure, answer),
         }
     }
 
     fn keeps_one(&mut self, rt: &impl Wait) -> Option<u32> {
-        self.set.acquire_raw_index(rt, &mut self.pass).ok()
+        let mut pass = self.now.split()?.into_pass();
+        self.set.acquire_raw_index(rt, &mut pass).ok()
     }
 
     /// Takes so many indices: how many come in order, from 0 on.
@@ -264,26 +237,12 @@ impl<'a> User<'a> {
         }
     }
 
-    fn borrowed(&mut self, answer: &mut Answer) {
-        answer.number(self.set.borrowed_indices(&mut self.pass) as u64);
-    }
-
-    fn is_locked(&mut self, answer: &mut Answer) {
-        answer.truth(self.set.is_locked(&mut self.pass));
-    }
-
-    /// Whether the set is locked, by a further pass, which is joined then.
+    /// Whether the set is locked, by a further pass.
     fn is_locked_further(&mut self, answer: &mut Answer) {
-        let Some(mut further) = self.pass.split() else {
-            answer.word("no_pass");
-            return;
-        };
-        answer.truth(self.set.is_locked(&mut further));
-        self.pass.join(further);
-    }
-
-    fn turns(&mut self) {
-        mem::swap(&mut self.pass, &mut self.other);
+        match self.now.split() {
+            Some(mut further) => answer.truth(further.is_locked()),
+            None => answer.word("no_pass"),
+        }
     }
 }
 
@@ -298,11 +257,15 @@ impl<'a> Answers<IndexCall> for User<'a> {
             IndexCall::ReleaseOrLock(index) => self.releases_or_locks(rt, index, answer),
             IndexCall::IsOut(_) => {}
             IndexCall::Holds(index) => self.value(index, answer),
-            IndexCall::Borrowed => self.borrowed(answer),
-            IndexCall::IsLocked => self.is_locked(answer),
+            IndexCall::Borrowed => answer.number(self.now.borrowed_indices() as u64),
+            IndexCall::IsLocked => answer.truth(self.now.is_locked()),
             IndexCall::IsLockedFurther => self.is_locked_further(answer),
-            IndexCall::Capacity => answer.number(self.set.capacity() as u64),
-            IndexCall::Other => self.turns(),
+            IndexCall::Capacity => answer.number(self.now.capacity() as u64),
         }
+    }
+
+    fn turns(&mut self) -> bool {
+        mem::swap(&mut self.now, &mut self.other);
+        true
     }
 }

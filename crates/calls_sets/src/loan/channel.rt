@@ -1,6 +1,6 @@
 //! What a loan channel is made of.
 ghost use Rattle.lock_free.specs.UniqueIndexSet.{IsPassOf};
-ghost use Rattle.lock_free.specs.Ends as ends;
+ghost use Rattle.lock_free.specs.Queues.Rings as ends;
 
 use lock_free::mpmc::unique_index_set::{Pass, UniqueIndexSet};
 use lock_free::spsc::index_queue::IndexQueue;

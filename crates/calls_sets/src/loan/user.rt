@@ -3,7 +3,7 @@ ghost use Rattle.std.specs.Prelude.{◌≡◌, IfSome};
 ghost use Rattle.std.specs.Option.{ForSome};
 ghost use Rattle.lock_free.specs.Unique.Held.{HoldsNothing};
 ghost use Rattle.lock_free.specs.UniqueIndexSet.{made, IsPassOf};
-ghost use Rattle.lock_free.specs.Ends as ends;
+ghost use Rattle.lock_free.specs.Queues.Rings as ends;
 ghost use Rattle.lock_free.specs.Loan.Sender.{submission_of, IsSenderOf};
 
 use super::call::LoanCall;

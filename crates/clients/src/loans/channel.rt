@@ -3,10 +3,10 @@
 //! ghost field of the record, which each that takes the slot may rely on. Which of the records that were written there
 //! it is no clause says, since none follows a value from one thread to another: that they come in order, the stored run
 //! shows.
-ghost use Rattle.std.specs.Prelude.{◌≡◌, All, IfOk, length};
+ghost use Rattle.std.specs.Prelude.{◌≡◌, All, IfOk, IfSome, length};
 ghost use Rattle.lock_free.specs.UniqueIndexSet.{made, set_of, IsPassOf};
 ghost use Rattle.lock_free.specs.Unique.Held.{HoldsNothing};
-ghost use Rattle.lock_free.specs.Ends as ends;
+ghost use Rattle.lock_free.specs.Queues.Rings as ends;
 ghost use Rattle.lock_free.specs.Loan.Sender.{set_of_sender, IsLoaned};
 ghost use Rattle.clients.specs.Records.{IsWritten};
 
@@ -118,6 +118,26 @@ fn send_records(
     Ok(sender.finish())
 }
 
+/// Reads the next record, and gives its slot back. None where none has come.
+fn receive_one(
+    rt: &impl Wait,
+    slots: &[Mutex<Record>],
+    consumer: &mut overflow::Consumer<'_>,
+    producer: &mut index_queue::Producer<'_>,
+) -> Result<Option<Reading>, LoansError>
+    ensures { IfOk result (λ o. IfSome o IsWritten) }
+{
+    let Some(index) = consumer.pop(rt) else {
+        return Ok(None);
+    };
+    let reading = read_in(slots, index)?;
+    if producer.push(index) {
+        Ok(Some(reading))
+    } else {
+        Err(LoansError::NoRoom)
+    }
+}
+
 /// Reads so many records, and gives each slot back.
 fn receive_records(
     rt: &impl Wait,
@@ -145,16 +165,13 @@ fn receive_records(
         if readings.len() >= count as usize {
             break;
         }
-        let Some(index) = consumer.pop(rt) else {
-            thread::yield_now();
-            continue;
-        };
-        let reading = read_in(slots, index)?;
-        if readings.push(reading).is_err() {
-            return Err(LoansError::NoMemory);
-        }
-        if !producer.push(index) {
-            return Err(LoansError::NoRoom);
+        match receive_one(rt, slots, &mut consumer, &mut producer)? {
+            Some(reading) => {
+                if readings.push(reading).is_err() {
+                    return Err(LoansError::NoMemory);
+                }
+            }
+            None => thread::yield_now(),
         }
     }
     Ok(readings)

@@ -1,11 +1,9 @@
 -- What clauses see of a sender.
 use Rattle.std.specs.Prelude.{◌≡◌, ℕ, List}
-use Rattle.atomic_table.specs.Seated.{TableId}
 use Rattle.lock_free.specs.UniqueIndexSet.{SetId, view, set_of, IsPassOf}
 use Rattle.history.specs.declared.view.View.{View}
 use Rattle.lock_free_sp.specs.declared.share.Share.{Share}
-use Rattle.lock_free_sp.specs.declared.ring.view.View as queue
-use Rattle.lock_free_sp.specs.Ends.{producer_view, producer_queue, consumer_view}
+use Rattle.lock_free_queues.specs.Queues.Rings.{QueueId, producer_view, producer_queue, consumer_view, consumer_queue}
 use Rattle.lock_free.specs.declared.mpmc.unique_index_set.UniqueIndexSet.{UniqueIndexSet}
 use Rattle.lock_free.specs.declared.spsc.loan.places.Place.{Place}
 use Rattle.lock_free.specs.declared.spsc.loan.places.Place.TheVariants.{Loaned}
@@ -32,21 +30,26 @@ set_of_sender s = set_of s.pass
 abbrev pub IsSenderOf : UniqueIndexSet → LoanSender → Type 0
 IsSenderOf set s = IsPassOf set s.pass
 
--- what its ends of the two queues know, and through which queue it sends
-abbrev pub submission_view : LoanSender → queue.View ℕ
+-- what its ends of the two queues know, and which queues they are
+abbrev pub submission_view : LoanSender → View ℕ
 submission_view s = producer_view s.submission
 
-abbrev pub completion_view : LoanSender → queue.View ℕ
+abbrev pub completion_view : LoanSender → View ℕ
 completion_view s = consumer_view s.completion
 
-abbrev pub submission_of : LoanSender → TableId
+abbrev pub submission_of : LoanSender → QueueId
 submission_of s = producer_queue s.submission
+
+abbrev pub completion_of : LoanSender → QueueId
+completion_of s = consumer_queue s.completion
 
 -- what is known of the queues stays
 abbrev pub KeepsQueues : LoanSender → LoanSender → Type 0
 KeepsQueues s t =
     (submission_view t ≡ submission_view s) × (completion_view t ≡ completion_view s)
 
--- it loans from the same set, and sends through the same queue
+-- it loans from the same set, sends through the same queue, and takes back from the same one
 abbrev pub IsSame : LoanSender → LoanSender → Type 0
-IsSame s t = (set_of_sender t ≡ set_of_sender s) × (submission_of t ≡ submission_of s)
+IsSame s t =
+    (set_of_sender t ≡ set_of_sender s) × (submission_of t ≡ submission_of s)
+    × (completion_of t ≡ completion_of s)

@@ -6,7 +6,7 @@ ghost use Rattle.lock_free.specs.Loan.Places.{IsBookOf};
 
 use self::places::Place;
 use crate::mpmc::unique_index_set::{Pass, UniqueIndexSet};
-use lock_free_sp::spsc::{index_queue, safely_overflowing_index_queue as overflow};
+use lock_free_queues::spsc::{index_queue, safely_overflowing_index_queue as overflow};
 use thiserror::Error;
 
 mod calls;

@@ -1,9 +1,11 @@
--- What the words of a cell are, by the history of a queue: those of the value that was published there, while nobody has
--- taken it out.
+-- What the words of a cell are, by the history of a queue: those of the value that was published there, while nobody
+-- has taken it out.
 use Rattle.std.proofs.Common.{◌≡◌, ℕ, suc, ◌+◌, ◌-◌, ◌*◌, ◌%◌, ◌<◌, ◌≤◌, Option, Some, None, List, [], ◌∷◌, ◌++◌, length, map, get_or, slice_get, slice_index, refl, sym, ap, subst, ◌∙◌, arith}
 use Rattle.std.proofs.lemmas.Option.{slice_get-map}
 use Rattle.std.specs.Option.{option_map}
 use Rattle.model.specs.declared.event.Item.{Item}
+use Rattle.model.specs.declared.families.queues.QueueKind.{QueueKind}
+use Rattle.model.specs.declared.families.queues.QueueKind.TheVariants.{IndexQueue, Overflow, Queue}
 use Rattle.model.specs.Coding.{Coding}
 use Rattle.model.specs.Families.Queues.Opening.{cells_of}
 use Rattle.model.specs.Families.Queues.Reading.{published, handed_out}
@@ -14,7 +16,6 @@ use Rattle.queue_laws.proofs.Queues.Invariant.{family, machine_kind}
 use Rattle.queue_laws.proofs.Queues.Knows.{free}
 use Rattle.queue_laws.proofs.Queues.Sound.{kept_is}
 use Rattle.queue_laws.proofs.Queues.Values.{Val, encoded, item}
-use Rattle.queue_laws.proofs.Ring.Kinds.{Ring, of_indices, of_values, kind_of, cells_are}
 use Rattle.history.specs.History.{IsRun}
 use Rattle.history.proofs.Queues.{sound_of}
 
@@ -22,29 +23,30 @@ pub get_behind : {A : Type 0} (xs ys : List A) (k : ℕ) → slice_get (xs ++ ys
 get_behind [] ys k = (let same : 0 + k ≡ k = omega arith in ap (slice_get ys) same)
 get_behind (x ∷ xs) ys k = (let same : length (x ∷ xs) + k ≡ suc (length xs + k) = omega arith in ap (slice_get (x ∷ (xs ++ ys))) same ∙ get_behind xs ys k)
 
-pub item_same : {T : Type 0} (r : Ring) (x y : Val T (kind_of r)) → item {T = T} (kind_of r) x ≡ item (kind_of r) y → x ≡ y
-item_same of_indices x y e = cc
-item_same of_values x y e = cc
+pub item_same : {T : Type 0} (kd : QueueKind) (x y : Val T kd) → item {T = T} kd x ≡ item kd y → x ≡ y
+item_same IndexQueue x y e = cc
+item_same Overflow x y e = cc
+item_same Queue x y e = cc
 
-module _ {T : Type 0} (code : Coding T) (r : Ring) (capacity : ℕ) (t : Trace T) (run : IsRun code (machine_kind (kind_of r)) capacity t) where
+module _ {T : Type 0} (code : Coding T) (kd : QueueKind) (capacity : ℕ) (t : Trace T) (run : IsRun code (machine_kind kd) capacity t) where
   abbrev size : ℕ
-  size = (encoded code (kind_of r)).size
+  size = (encoded code kd).size
 
   -- the value, and its words in the cell
   pub record Stands (i : ℕ) (x : Item T) : Type 0 where
-    pub value : Val T (kind_of r)
-    pub is : x ≡ item (kind_of r) value
-    pub words : (k : ℕ) → k < size → slice_index t.world.words (4 + (size * (i % capacity) + k)) ≡ get_or ((encoded code (kind_of r)).words_of value) k 0
+    pub value : Val T kd
+    pub is : x ≡ item kd value
+    pub words : (k : ℕ) → k < size → slice_index t.world.words (4 + (size * (i % cells_of kd capacity) + k)) ≡ get_or ((encoded code kd).words_of value) k 0
 
   module _ (i : ℕ) (x : Item T) (at : slice_get (published t.events) i ≡ Some x) (low : length (handed_out t.events) ≤ i) where
-    abbrev s : frame.Sound (family t.world.coding (kind_of r) t.world.capacity) t
-    s = sound_of code capacity (kind_of r) t run
+    abbrev s : frame.Sound (family t.world.coding kd t.world.capacity) t
+    s = sound_of code capacity kd t run
 
     abbrev rank : ℕ
     rank = i - length (handed_out t.events)
 
-    abbrev named : Val T (kind_of r) → Item T
-    named y = item (kind_of r) y
+    abbrev named : Val T kd → Item T
+    named y = item kd y
 
     there : option_map named (slice_get s.state.core.waiting rank) ≡ Some x
     there =
@@ -54,19 +56,19 @@ module _ {T : Type 0} (code : Coding T) (r : Ring) (capacity : ℕ) (t : Trace T
         ∙ (ap (slice_get (handed_out t.events ++ map named s.state.core.waiting)) same
         ∙ (ap (λ zs. slice_get zs i) (sym s.holds.book) ∙ at)))
 
-    abbrev Lies : Coding T → ℕ → ℕ → Val T (kind_of r) → Type 0
-    Lies en cells position y = core.Holds (encoded en (kind_of r)).size (encoded en (kind_of r)).words_of cells s.state.core.cells position y (encoded en (kind_of r)).size
+    abbrev Lies : Coding T → ℕ → ℕ → Val T kd → Type 0
+    Lies en cells position y = core.Holds (encoded en kd).size (encoded en kd).words_of cells s.state.core.cells position y (encoded en kd).size
 
-    lies : (y : Val T (kind_of r)) → slice_get s.state.core.waiting rank ≡ Some y → Lies code capacity i y
+    lies : (y : Val T kd) → slice_get s.state.core.waiting rank ≡ Some y → Lies code (cells_of kd capacity) i y
     lies y e =
         let out = s.holds.out in
         let place : s.state.core.read + rank ≡ i = omega arith in
-        let cells : cells_of (kind_of r) t.world.capacity ≡ capacity = cells_are r t.world.capacity ∙ run.sized in
-        subst (λ (en : Coding T). Lies en capacity i y) run.coded
-        (subst (λ p. Lies t.world.coding capacity p y) place
+        let cells : cells_of kd t.world.capacity ≡ cells_of kd capacity = ap (cells_of kd) run.sized in
+        subst (λ (en : Coding T). Lies en (cells_of kd capacity) i y) run.coded
+        (subst (λ p. Lies t.world.coding (cells_of kd capacity) p y) place
         (subst (λ c. Lies t.world.coding c (s.state.core.read + rank) y) cells (s.holds.good.held rank y e)))
 
-    go : (o : Option (Val T (kind_of r))) → slice_get s.state.core.waiting rank ≡ o → Stands i x
+    go : (o : Option (Val T kd)) → slice_get s.state.core.waiting rank ≡ o → Stands i x
     go None e = (let no : None ≡ Some x = ap (option_map named) (sym e) ∙ there in absurd (cc))
     go (Some y) e =
         let is : Some (named y) ≡ Some x = ap (option_map named) (sym e) ∙ there in
@@ -74,8 +76,8 @@ module _ {T : Type 0} (code : Coding T) (r : Ring) (capacity : ℕ) (t : Trace T
           value = y;
           is = (let back : x ≡ named y = cc in back);
           words = λ k below.
-              ap (λ ws. slice_index ws (4 + (size * (i % capacity) + k))) (kept_is t.world.kept t.world.words s.state s.fit).1
-              ∙ (core.word_at s.state.core.write s.state.core.read (free s.state.roles.producer) (free s.state.roles.consumer) s.state.core.cells (4 + (size * (i % capacity) + k)) (size * (i % capacity) + k) refl
+              ap (λ ws. slice_index ws (4 + (size * (i % cells_of kd capacity) + k))) (kept_is t.world.kept t.world.words s.state s.fit).1
+              ∙ (core.word_at s.state.core.write s.state.core.read (free s.state.roles.producer) (free s.state.roles.consumer) s.state.core.cells (4 + (size * (i % cells_of kd capacity) + k)) (size * (i % cells_of kd capacity) + k) refl
               ∙ lies y e k below);
         }
 

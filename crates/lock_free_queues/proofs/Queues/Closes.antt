@@ -1,5 +1,5 @@
 -- What the words that were read say of the list that is made of them.
-use Rattle.std.proofs.Common.{◌≡◌, inl, inr, ⊎_elim, ℕ, zero, suc, ◌+◌, ◌-◌, ◌*◌, ◌%◌, ◌<◌, ◌≤◌, Some, List, [], ◌∷◌, ◌++◌, length, map, get_or, slice_get, slice_index, refl, sym, ap, subst, ◌∙◌, length-append, append-nil, arith}
+use Rattle.std.proofs.Common.{◌≡◌, inl, inr, ⊎_elim, ℕ, zero, suc, ◌+◌, ◌-◌, ◌*◌, ◌%◌, ◌<◌, ◌≤◌, Some, List, [], ◌∷◌, ◌++◌, length, map, max, get_or, slice_get, slice_index, refl, sym, ap, subst, ◌∙◌, length-append, append-nil, arith}
 use Rattle.std.proofs.lemmas.Bool.{cases_lt}
 use Rattle.std.proofs.lemmas.Grind.{flat_map-append}
 use Rattle.std.proofs.lemmas.List.{length-map}
@@ -9,21 +9,26 @@ use Rattle.plain.specs.Queues.{words_from, value_at, values_from, Fits}
 use Rattle.plain.proofs.Lists.Cells.{values_length}
 use Rattle.plain.proofs.Words.{words_all}
 use Rattle.model.specs.declared.event.Item.{Item}
+use Rattle.model.specs.declared.families.queues.QueueKind.{QueueKind}
+use Rattle.model.specs.declared.families.queues.QueueKind.TheVariants.{IndexQueue, Overflow, Queue}
 use Rattle.model.specs.declared.turn.Kind.{Kind}
 use Rattle.model.specs.Coding.{Coding, IsCoding}
+use Rattle.model.specs.Families.Queues.Opening.{cells_of}
 use Rattle.model.specs.Families.Queues.Reading.{published, handed_out, waiting, publishes, hands_out}
 use Rattle.lock_free_sp.specs.Shares.{IsAll}
 use Rattle.queue_laws.proofs.Queues.Core.{cell_within}
 use Rattle.queue_laws.proofs.Queues.Invariant.{machine_kind}
 use Rattle.queue_laws.proofs.Queues.Values.{Val, encoded, item}
-use Rattle.queue_laws.proofs.Ring.Kinds.{Ring, kind_of, are_words}
 use Rattle.history.specs.declared.view.View.{View}
 use Rattle.history.specs.Views.{first_view}
-use Rattle.history.proofs.Holders.{always_listed, IsListed}
+use Rattle.history.proofs.Holders.{IsListed}
 use Rattle.history.proofs.Queues.{queue_goes_on}
 use Rattle.lock_free_queues.specs.Queues.Closes.{Closes}
+use Rattle.lock_free_queues.specs.Queues.Kinds.{words_in_cells}
 use Rattle.lock_free_queues.specs.Queues.Reads.{WasRead, LastWords}
 use Rattle.lock_free_queues.proofs.Queues.Cells.{get_behind, item_same, Stands, stands}
+use Rattle.lock_free_queues.proofs.Queues.Facts.{listed_always}
+use Rattle.lock_free_queues.proofs.Queues.Indices.{is_coding}
 use Rattle.lock_free_queues.proofs.Queues.Positions.{get_left, hits_grow}
 use Rattle.lock_free_queues.proofs.Queues.Reads.{begins_further}
 
@@ -60,32 +65,46 @@ value_in_list value_of size capacity words p (suc m) (suc k) low =
 
 -- ---- the words that were read
 
-module _ {T : Type 0} (code : Coding T) (law : IsCoding code) (r : Ring) (even : (encoded code (kind_of r)).size ≡ code.size) (capacity : ℕ) (v : View T) (words : List ℕ) (l : LastWords code (machine_kind (kind_of r)) capacity v words) where
+cells_are_words : {T : Type 0} (code : Coding T) (kd : QueueKind) (capacity : ℕ) → words_in_cells code.size kd capacity ≡ (encoded code kd).size * cells_of kd capacity
+cells_are_words code IndexQueue capacity = omega arith
+cells_are_words code Overflow capacity = omega arith
+cells_are_words code Queue capacity = refl
+
+-- the values of each kind have words
+coded : {T : Type 0} (code : Coding T) → IsCoding code → (kd : QueueKind) → IsCoding (encoded code kd)
+coded code law IndexQueue = is_coding
+coded code law Overflow = is_coding
+coded code law Queue = law
+
+module _ {T : Type 0} (code : Coding T) (law : IsCoding code) (kd : QueueKind) (capacity : ℕ) (v : View T) (words : List ℕ) (l : LastWords code (machine_kind kd) (words_in_cells code.size kd capacity) capacity v words) where
   abbrev kind : Kind
-  kind = machine_kind (kind_of r)
+  kind = machine_kind kd
+
+  abbrev cells : ℕ
+  cells = cells_of kd capacity
 
   -- the values of the queue, and their words
   abbrev V : Type 0
-  V = Val T (kind_of r)
+  V = Val T kd
 
   abbrev z : Coding V
-  z = encoded code (kind_of r)
+  z = encoded code kd
 
   abbrev named : V → Item T
-  named x = item (kind_of r) x
+  named x = item kd x
 
   abbrev some_view : View T
   some_view = first_view capacity
 
-  listed : (word found : ℕ) (old new : View T) → (w : WasRead code kind capacity old new word found) → IsListed capacity w.trace.events
-  listed word found old new w = always_listed capacity code r w.trace.events (record { trace = w.trace; run = w.run; is = refl }) w.trace.events [] (sym (append-nil w.trace.events))
+  listed : (word found : ℕ) (old new : View T) → (w : WasRead code kind capacity old new word found) → IsListed cells w.trace.events
+  listed word found old new w = listed_always code capacity w.trace.events kd (record { trace = w.trace; run = w.run; is = refl }) w.trace.events [] (sym (append-nil w.trace.events))
 
   -- the positions that were loaded
   write_is : l.write ≡ length (published l.first_read.trace.events)
-  write_is = l.first_read.found_is ∙ (queue_goes_on code (kind_of r) some_view l.first_read.trace l.first_read.run).book.write
+  write_is = l.first_read.found_is ∙ (queue_goes_on code kd some_view l.first_read.trace l.first_read.run).book.write
 
   taken_is : l.taken ≡ length (handed_out l.last_read.trace.events)
-  taken_is = l.last_read.found_is ∙ (queue_goes_on code (kind_of r) some_view l.last_read.trace l.last_read.run).book.read
+  taken_is = l.last_read.found_is ∙ (queue_goes_on code kd some_view l.last_read.trace l.last_read.run).book.read
 
   -- what was taken out as any of the words was read
   taken_by : (word found : ℕ) → (w : WasRead code kind capacity v l.new word found) → length (handed_out w.trace.events) ≤ l.taken
@@ -97,7 +116,7 @@ module _ {T : Type 0} (code : Coding T) (law : IsCoding code) (r : Ring) (even :
   seen_taken : length (handed_out v.seen) ≤ l.taken
   seen_taken = (let is = taken_is in let grown = hits_grow hands_out v.seen l.last_read.trace.events (begins_further v.seen l.new.seen l.last_read.trace.events l.read.since l.last_read.since) in omega arith)
 
-  near : l.write ≤ l.taken + capacity
+  near : l.write ≤ l.taken + cells
   near =
       let is = write_is in
       let low = taken_by 0 l.write l.first_read in
@@ -107,49 +126,50 @@ module _ {T : Type 0} (code : Coding T) (law : IsCoding code) (r : Ring) (even :
       let few = list.few in
       omega arith
 
-  long : length words ≡ 4 + z.size * capacity
-  long = l.long ∙ ap (λ n. 4 + n * capacity) (sym even)
+  long : length words ≡ 4 + z.size * cells
+  long = l.long ∙ ap (λ n. 4 + n) (cells_are_words code kd capacity)
 
-  pub fits : Fits z.size capacity words
-  fits =
+  -- of a queue with as many cells as its capacity
+  pub fits : cells ≡ capacity → Fits z.size capacity words
+  fits even =
       let first = l.first in
       let last = l.last in
       let n = near in
       let a = l.fits in
       let b = l.taken_fits in
-      record { long = long; small = l.small; behind = omega arith; near = omega arith; fits = omega arith }
+      record { long = subst (λ m. length words ≡ 4 + z.size * m) even long; small = l.small; behind = omega arith; near = omega arith; fits = omega arith }
 
   -- a value that was seen at a position that nobody had taken from as the read position was read
   pub record Waits (i : ℕ) (x : Item T) : Type 0 where
     pub low : i < l.write
     pub value : V
     pub is : x ≡ named value
-    pub there : value_at z.value_of z.size capacity words i ≡ value
+    pub there : value_at z.value_of z.size cells words i ≡ value
 
   module _ (i : ℕ) (x : Item T) (at : slice_get (published v.seen) i ≡ Some x) (high : l.taken ≤ i) where
     low_one : i < l.write
     low_one = (let inside = slice_get_within (published v.seen) i x at in let ahead = seen_published in omega arith)
 
-    some : 0 < capacity
+    some : 0 < cells
     some = (let low = low_one in let n = near in omega arith)
 
     abbrev place : ℕ → ℕ
-    place k = 4 + (z.size * (i % capacity) + k)
+    place k = 4 + (z.size * (i % cells) + k)
 
     read_at : (k : ℕ) → k < z.size → WasRead code kind capacity v l.new (place k) (slice_index words (place k))
-    read_at k below = (let inside = cell_within z.size capacity i k some below in let all = long in l.cells (place k) (omega arith) (omega arith))
+    read_at k below = (let inside = cell_within z.size cells i k some below in let all = long in l.cells (place k) (omega arith) (omega arith))
 
-    stood : (k : ℕ) → (below : k < z.size) → Stands code r capacity (read_at k below).trace (read_at k below).run i x
+    stood : (k : ℕ) → (below : k < z.size) → Stands code kd capacity (read_at k below).trace (read_at k below).run i x
     stood k below =
         let w = read_at k below in
         let t = w.trace in
         let there : slice_get (published t.events) i ≡ Some x = ap (λ es. slice_get (published es) i) w.since.is ∙ (ap (λ xs. slice_get xs i) (flat_map-append publishes v.seen w.since.rest) ∙ get_left (published v.seen) (published w.since.rest) i x at) in
         let taken = taken_by (place k) (slice_index words (place k)) w in
-        stands code r capacity t w.run i x there (omega arith)
+        stands code kd capacity t w.run i x there (omega arith)
 
     -- it has a word
     one : 0 < z.size
-    one = (let a = (are_words code r law).some in omega arith)
+    one = (let a = (coded code law kd).some in omega arith)
 
     abbrev first_one : V
     first_one = (stood 0 one).value
@@ -157,42 +177,26 @@ module _ {T : Type 0} (code : Coding T) (law : IsCoding code) (r : Ring) (even :
     same_words : (k : ℕ) → k < z.size → get_or words (place k) 0 ≡ get_or (z.words_of first_one) k 0
     same_words k below =
         let s = stood k below in
-        let same : s.value ≡ first_one = item_same r s.value first_one (sym s.is ∙ (stood 0 one).is) in
+        let same : s.value ≡ first_one = item_same kd s.value first_one (sym s.is ∙ (stood 0 one).is) in
         (read_at k below).found_is ∙ (s.words k below ∙ ap (λ y. get_or (z.words_of y) k 0) same)
 
     pub waits : Waits i x
     waits =
         let y = first_one in
-        let long_one = (are_words code r law).sized y in
-        let alike : words_from words (4 + z.size * (i % capacity)) z.size ≡ words_from (z.words_of y) 0 z.size = words_alike words (z.words_of y) (4 + z.size * (i % capacity)) 0 z.size (λ k below.
-        let here : 4 + z.size * (i % capacity) + k ≡ place k = omega arith in
+        let long_one = (coded code law kd).sized y in
+        let alike : words_from words (4 + z.size * (i % cells)) z.size ≡ words_from (z.words_of y) 0 z.size = words_alike words (z.words_of y) (4 + z.size * (i % cells)) 0 z.size (λ k below.
+        let here : 4 + z.size * (i % cells) + k ≡ place k = omega arith in
         let there : k ≡ 0 + k = omega arith in
         ap (λ n. get_or words n 0) here ∙ (same_words k below ∙ ap (λ n. get_or (z.words_of y) n 0) there)) in
         let all : words_from (z.words_of y) 0 z.size ≡ z.words_of y = subst (λ n. words_from (z.words_of y) 0 n ≡ z.words_of y) long_one (words_all (z.words_of y)) in
-        record { low = low_one; value = y; is = (stood 0 one).is; there = ap z.value_of (alike ∙ all) ∙ (are_words code r law).given_back y }
-
-  -- ---- the list
-
-  abbrev count : ℕ
-  count = slice_index words 0 - slice_index words 1
-
-  abbrev values : List V
-  values = values_from z.value_of z.size capacity words (slice_index words 1) count
-
-  value_there : (i : ℕ) → l.taken ≤ i → i < l.write → slice_get values (i - slice_index words 1) ≡ Some (value_at z.value_of z.size capacity words i)
-  value_there i high low =
-      let first = l.first in
-      let last = l.last in
-      let at : slice_index words 1 + (i - slice_index words 1) ≡ i = omega arith in
-      value_in_list z.value_of z.size capacity words (slice_index words 1) count (i - slice_index words 1) (omega arith)
-      ∙ ap (λ q. Some (value_at z.value_of z.size capacity words q)) at
+        record { low = low_one; value = y; is = (stood 0 one).is; there = ap z.value_of (alike ∙ all) ∙ (coded code law kd).given_back y }
 
   -- who has the whole share has seen all of it
   module _ (all : IsAll v.share) where
     same_seen : l.new.seen ≡ v.seen
     same_seen = l.read.whole all
 
-    write_all : l.write ≡ length (published v.seen)
+    pub write_all : l.write ≡ length (published v.seen)
     write_all =
         let is = write_is in
         let low = seen_published in
@@ -200,7 +204,7 @@ module _ {T : Type 0} (code : Coding T) (law : IsCoding code) (r : Ring) (even :
         let same : length (published l.new.seen) ≡ length (published v.seen) = ap (λ es. length (published es)) same_seen in
         omega arith
 
-    taken_all : l.taken ≡ length (handed_out v.seen)
+    pub taken_all : l.taken ≡ length (handed_out v.seen)
     taken_all =
         let is = taken_is in
         let low = seen_taken in
@@ -208,44 +212,64 @@ module _ {T : Type 0} (code : Coding T) (law : IsCoding code) (r : Ring) (even :
         let same : length (handed_out l.new.seen) ≡ length (handed_out v.seen) = ap (λ es. length (handed_out es)) same_seen in
         omega arith
 
-    list_seen : IsListed capacity v.seen
-    list_seen = (let t = l.first_read.trace in always_listed capacity code r t.events (record { trace = t; run = l.first_read.run; is = refl }) v.seen l.first_read.since.rest l.first_read.since.is)
+    list_seen : IsListed cells v.seen
+    list_seen = (let t = l.first_read.trace in listed_always code capacity t.events kd (record { trace = t; run = l.first_read.run; is = refl }) v.seen l.first_read.since.rest l.first_read.since.is)
 
-    number_is : length (waiting v.seen) ≡ count
-    number_is =
-        let a = write_all in
-        let b = taken_all in
-        let first = l.first in
-        let last = l.last in
-        let book = ap length list_seen.book in
-        let long = length-append (handed_out v.seen) (waiting v.seen) in
-        omega arith
+  -- ---- the list: these words, but that it may begin later
 
-    waiting_is : waiting v.seen ≡ map named values
-    waiting_is = same_list (waiting v.seen) (map named values) (number_is ∙ (sym (values_length z.value_of z.size capacity words (slice_index words 1) count) ∙ sym (length-map values named))) each
-      where
-        each : (k : ℕ) (x : Item T) → slice_get (waiting v.seen) k ≡ Some x → slice_get (map named values) k ≡ Some x
-        each k x e =
-            let i : ℕ = length (handed_out v.seen) + k in
-            let at : slice_get (published v.seen) i ≡ Some x = ap (λ xs. slice_get xs i) list_seen.book ∙ (get_behind (handed_out v.seen) (waiting v.seen) k ∙ e) in
-            let b = taken_all in
-            let first = l.first in
-            let w = waits i x at (omega arith) in
-            let place : i - slice_index words 1 ≡ k = omega arith in
-            let there : slice_get values k ≡ Some (value_at z.value_of z.size capacity words i) = ap (slice_get values) (sym place) ∙ value_there i (omega arith) w.low in
-            slice_get-map named values k ∙ (ap (λ o. option_map named o) there ∙ ap Some (ap named w.there ∙ sym w.is))
+  module _ (ws : List ℕ) (alike : (word : ℕ) → 4 ≤ word → slice_index ws word ≡ slice_index words word) (end : slice_index ws 0 ≡ max l.write l.taken) (from : l.taken ≤ slice_index ws 1) where
+    abbrev count : ℕ
+    count = slice_index ws 0 - slice_index ws 1
 
-  pub closes : Closes named capacity v (record { capacity = capacity; first = slice_index words 1; values = values })
-  closes =
-      let first = l.first in
-      record {
-        same = refl;
-        published_there = λ i x at. ⊎_elim (λ (before : i < slice_index words 1). inl before)
-            (λ (from : slice_index words 1 ≤ i).
-            let w = waits i (named x) at (omega arith) in
-            let same : w.value ≡ x = item_same r w.value x (sym w.is) in
-            inr (from, value_there i (omega arith) w.low ∙ ap Some (w.there ∙ same)))
-            (cases_lt i (slice_index words 1));
-        taken = (let low = seen_taken in omega arith);
-        whole = λ all. (first ∙ taken_all all, (list_seen all).book ∙ ap (λ xs. handed_out v.seen ++ xs) (waiting_is all));
-      }
+    abbrev values : List V
+    values = values_from z.value_of z.size cells ws (slice_index ws 1) count
+
+    same_value : (i : ℕ) → value_at z.value_of z.size cells ws i ≡ value_at z.value_of z.size cells words i
+    same_value i = ap z.value_of (words_alike ws words (4 + z.size * (i % cells)) (4 + z.size * (i % cells)) z.size (λ k below. alike (4 + z.size * (i % cells) + k) (omega arith)))
+
+    value_there : (i : ℕ) → slice_index ws 1 ≤ i → i < l.write → slice_get values (i - slice_index ws 1) ≡ Some (value_at z.value_of z.size cells words i)
+    value_there i high low =
+        let at : slice_index ws 1 + (i - slice_index ws 1) ≡ i = omega arith in
+        value_in_list z.value_of z.size cells ws (slice_index ws 1) count (i - slice_index ws 1) (omega arith)
+        ∙ (ap (λ q. Some (value_at z.value_of z.size cells ws q)) at ∙ ap Some (same_value i))
+
+    -- who has the whole share has seen all of it
+    module _ (all : IsAll v.share) (exact : slice_index ws 1 ≡ l.taken) where
+      number_is : length (waiting v.seen) ≡ count
+      number_is =
+          let a = write_all all in
+          let b = taken_all all in
+          let book = ap length (list_seen all).book in
+          let long = length-append (handed_out v.seen) (waiting v.seen) in
+          omega arith
+
+      waiting_is : waiting v.seen ≡ map named values
+      waiting_is = same_list (waiting v.seen) (map named values) (number_is ∙ (sym (values_length z.value_of z.size cells ws (slice_index ws 1) count) ∙ sym (length-map values named))) each
+        where
+          each : (k : ℕ) (x : Item T) → slice_get (waiting v.seen) k ≡ Some x → slice_get (map named values) k ≡ Some x
+          each k x e =
+              let i : ℕ = length (handed_out v.seen) + k in
+              let at : slice_get (published v.seen) i ≡ Some x = ap (λ xs. slice_get xs i) (list_seen all).book ∙ (get_behind (handed_out v.seen) (waiting v.seen) k ∙ e) in
+              let b = taken_all all in
+              let w = waits i x at (omega arith) in
+              let place : i - slice_index ws 1 ≡ k = omega arith in
+              let there : slice_get values k ≡ Some (value_at z.value_of z.size cells words i) = ap (slice_get values) (sym place) ∙ value_there i (omega arith) w.low in
+              slice_get-map named values k ∙ (ap (λ o. option_map named o) there ∙ ap Some (ap named w.there ∙ sym w.is))
+
+    pub closes_later : (IsAll v.share → slice_index ws 1 ≡ l.taken) → Closes named capacity v (record { capacity = capacity; first = slice_index ws 1; values = values })
+    closes_later exact =
+        record {
+          same = refl;
+          published_there = λ i x at. ⊎_elim (λ (before : i < slice_index ws 1). inl before)
+              (λ (after : slice_index ws 1 ≤ i).
+              let w = waits i (named x) at (omega arith) in
+              let same : w.value ≡ x = item_same kd w.value x (sym w.is) in
+              inr (after, value_there i (omega arith) w.low ∙ ap Some (w.there ∙ same)))
+              (cases_lt i (slice_index ws 1));
+          taken = (let low = seen_taken in omega arith);
+          whole = λ all. (exact all ∙ taken_all all, (list_seen all).book ∙ ap (λ xs. handed_out v.seen ++ xs) (waiting_is all (exact all)));
+        }
+
+  -- just these words
+  pub closes : Closes named capacity v (record { capacity = capacity; first = slice_index words 1; values = values_from z.value_of z.size cells words (slice_index words 1) (slice_index words 0 - slice_index words 1) })
+  closes = (let first = l.first in closes_later words (λ word high. refl) l.last (omega arith) (λ all. first))

@@ -12,6 +12,7 @@ use Rattle.model.specs.declared.event.Item.{Item}
 use Rattle.model.specs.declared.event.Start.{Start}
 use Rattle.model.specs.declared.event.Start.TheVariants.{Queues}
 use Rattle.model.specs.declared.families.Flight.{Flight}
+use Rattle.model.specs.declared.families.queues.QueueKind.{QueueKind}
 use Rattle.model.specs.declared.families.queues.QueueStart.TheVariants.{Pop}
 use Rattle.model.specs.Coding.{Coding}
 use Rattle.model.specs.Families.{want_of}
@@ -25,7 +26,7 @@ use Rattle.history.specs.Stages.{Calling, Ends, Over, LeftOut}
 use Rattle.history.proofs.Drives.{called}
 use Rattle.history.proofs.Queues.{queue_goes_on}
 use Rattle.lock_free_queues.specs.Queues.Told.{push_of, push_told, popped_item, pop_told, HasPushed, HasPublished, HasTakenOut, WasAtEnd, WasFull, HasPopped, WasEmpty}
-use Rattle.lock_free_queues.proofs.Queues.Facts.{was_full, has_published, was_empty, has_taken_out, looked_alone}
+use Rattle.lock_free_queues.proofs.Queues.Facts.{was_full, has_published, was_empty, has_taken_out, looked_alone, role_alone, IsAlone}
 
 module _ {T : Type 0} where
   -- the call is a push of the item, which is left out where its first load finds the last position
@@ -42,9 +43,17 @@ module _ {T : Type 0} where
     pub answer : (e : Bool) (m : M) → call.answer e m ≡ popped_item (option_map named (pop_answer (value m) e))
     pub tells : (n p : ℕ) (from : Option (Start T × Flight T)) (e : Bool) (m : M) (es : List (Event T)) → call.wrote_all n p from e m es → es ≡ pop_told p (option_map named (pop_answer (value m) e))
 
-module _ {T : Type 0} (code : Coding T) (r : Ring) (base w : View T) (idle : base.going ≡ None) where
-  -- ---- pushes
+module _ {T : Type 0} (code : Coding T) (kd : QueueKind) (base w : View T) where
+  -- a push that is left out finds the last position, by a load of the write position
+  pub was_at_end : {C M E : Type 0} (call : Calling T C M E) → ((c : C) (m : M) (n : ℕ) (a : Ask) → call.skips c n ≡ true → want_of code (call.flight c m) ≡ wants.Ask a → (a.word ≡ 0) × (n ≡ 2 ^ 64 - 1))
+      → IsAlone kd Producer → base.other ≡ [] → 0 < base.share.part → HasRole Producer base.made → (e : E) (m : M) → LeftOut code (machine_kind kd) call base e m w → WasAtEnd base w
+  was_at_end call at_end only alone some has e m left =
+      let queue = queue_goes_on code kd base left.trace left.run in
+      let at = at_end left.from left.room left.word left.ask left.skipped left.asks in
+      let word : slice_index left.trace.world.words 0 ≡ 2 ^ 64 - 1 = ap (λ n. slice_index left.trace.world.words n) (sym at.0) ∙ (left.found ∙ at.1) in
+      record { since = left.looked.mine; made = left.looked.made; end = ap (λ es. length (published es)) left.seen ∙ (sym queue.book.write ∙ word); list = looked_alone code kd Producer only base w left.looked alone some has }
 
+module _ {T : Type 0} (code : Coding T) (r : Ring) (base w : View T) (idle : base.going ≡ None) where
   module _ {C : Type 0} (item : Item T) (call : Calling T C (Unit {0}) Bool) (is : IsPush code item call) (alone : base.other ≡ []) (some : 0 < base.share.part) (has : HasRole Producer base.made) where
     pushed_so : (e : Bool) (m : Unit {0}) → Ends code (machine_kind (kind_of r)) call base e m w → HasPushed item e base w
     pushed_so e m ends =
@@ -58,28 +67,25 @@ module _ {T : Type 0} (code : Coding T) (r : Ring) (base w : View T) (idle : bas
               (called code (machine_kind (kind_of r)) call base w e m idle ends)));
         }
 
-    was_at_end : (e : Bool) (m : Unit {0}) → LeftOut code (machine_kind (kind_of r)) call base e m w → WasAtEnd base w
-    was_at_end e m left =
-        let queue = queue_goes_on code (kind_of r) base left.trace left.run in
-        let at = is.at_end left.from left.room left.word left.ask left.skipped left.asks in
-        let word : slice_index left.trace.world.words 0 ≡ 2 ^ 64 - 1 = ap (λ n. slice_index left.trace.world.words n) (sym at.0) ∙ (left.found ∙ at.1) in
-        record { since = left.looked.mine; made = left.looked.made; end = ap (λ es. length (published es)) left.seen ∙ (sym queue.book.write ∙ word); list = looked_alone code r Producer base w left.looked alone some has }
+    at_last : (e : Bool) (m : Unit {0}) → LeftOut code (machine_kind (kind_of r)) call base e m w → WasAtEnd base w
+    at_last e m left = was_at_end code (kind_of r) base w call is.at_end (role_alone r Producer) alone some has e m left
 
     pub pushed : (e : Bool) (m : Unit {0}) → Over code (machine_kind (kind_of r)) call base e m w → HasPushed item e base w ⊎ (e ≡ false) × WasAtEnd base w
     pushed e m (inl ends) = inl (pushed_so e m ends)
-    pushed e m (inr left) = inr (is.left e left.left, was_at_end e m left)
+    pushed e m (inr left) = inr (is.left e left.left, at_last e m left)
 
     pub published_if : (e : Bool) (m : Unit {0}) → Over code (machine_kind (kind_of r)) call base e m w → e ≡ true → HasPublished item base w
-    published_if e m (inl ends) took = has_published code r base.capacity base w item ends.history (subst (λ b. HasPushed item b base w) took (pushed_so e m ends))
+    published_if e m (inl ends) took = has_published code r base.capacity base w ends.history item (subst (λ b. HasPushed item b base w) took (pushed_so e m ends))
     published_if e m (inr left) took = (let never : false ≡ true = sym (is.left e left.left) ∙ took in absurd (cc))
 
     pub full : (e : Bool) (m : Unit {0}) → Over code (machine_kind (kind_of r)) call base e m w → e ≡ false → WasFull base.capacity item base w ⊎ WasAtEnd base w
-    full e m (inl ends) refused = inl (was_full code r base.capacity base w item ends.history (subst (λ b. HasPushed item b base w) refused (pushed_so e m ends)))
-    full e m (inr left) refused = inr (was_at_end e m left)
+    full e m (inl ends) refused = inl (was_full code r base.capacity base w ends.history item (subst (λ b. HasPushed item b base w) refused (pushed_so e m ends)))
+    full e m (inr left) refused = inr (at_last e m left)
 
-  -- ---- pops
+-- ---- pops
 
-  pub has_popped : {C M V : Type 0} (named : V → Item T) (value : M → V) (call : Calling T C M Bool) → IsPop named value call → (e : Bool) (m : M) → Ends code (machine_kind (kind_of r)) call base e m w → HasPopped (option_map named (pop_answer (value m) e)) base w
+module _ {T : Type 0} (code : Coding T) (kd : QueueKind) (base w : View T) (idle : base.going ≡ None) where
+  pub has_popped : {C M V : Type 0} (named : V → Item T) (value : M → V) (call : Calling T C M Bool) → IsPop named value call → (e : Bool) (m : M) → Ends code (machine_kind kd) call base e m w → HasPopped (option_map named (pop_answer (value m) e)) base w
   has_popped named value call is e m ends =
       let told = pop_told ends.party (option_map named (pop_answer (value m) e)) in
       record {
@@ -89,7 +95,7 @@ module _ {T : Type 0} (code : Coding T) (r : Ring) (base w : View T) (idle : bas
             subst (λ s. Called ends.party s (popped_item (option_map named (pop_answer (value m) e))) told base w) is.start
             (subst (λ (a : Answer T). Called ends.party call.start a told base w) (is.answer e m)
             (subst (λ es. Called ends.party call.start (call.answer e m) es base w) (is.tells base.capacity ends.party base.going e m ends.wrote ends.tells)
-            (called code (machine_kind (kind_of r)) call base w e m idle ends)));
+            (called code (machine_kind kd) call base w e m idle ends)));
       }
 
 -- what its answer says of the list

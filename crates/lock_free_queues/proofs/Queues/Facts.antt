@@ -1,11 +1,12 @@
--- What is known of whole calls on a queue, of indices or of values.
+-- What is known of whole calls on a queue.
 use Rattle.std.proofs.Common.{◌≡◌, ◌≤◌, inl, inr, ℕ, Bool, true, false, Some, None, List, [], ◌∷◌, ◌++◌, length, refl, sym, ap, subst, ◌∙◌, append_assoc, append-nil, arith, sum_by, ◌<◌}
 use Rattle.std.proofs.lemmas.Grind.{flat_map-append}
 use Rattle.std.specs.List.{flat_map}
 use Rattle.steps.specs.declared.queues.roles.Role.{Role}
 use Rattle.steps.specs.declared.queues.roles.Role.TheVariants.{Producer, Consumer}
-use Rattle.history.specs.Roles.{ByHolder, HasRole, marks, release_start}
-use Rattle.history.proofs.Holders.{history_by_holders, back_over, always_listed}
+use Rattle.history.specs.Roles.{ByHolder, ByHolderOf, HasRole, marks, release_start}
+use Rattle.history.proofs.Holders.{history_by_holders, back_over_of, always_listed, IsListed, IsPlain, ArePlain}
+use Rattle.history.proofs.OverflowHolders.{history_by_producers, over_listed}
 use Rattle.model.specs.Families.Queues.Roles.{GrantsRight}
 use Rattle.model.specs.declared.event.Answer.{Answer}
 use Rattle.model.specs.declared.event.Answer.TheVariants.{Truth, Done}
@@ -15,6 +16,8 @@ use Rattle.model.specs.declared.event.Item.TheVariants.{Index}
 use Rattle.model.specs.declared.event.Start.{Start}
 use Rattle.model.specs.declared.event.Start.TheVariants.{Queues}
 use Rattle.model.specs.declared.families.queues.QueueStart.TheVariants.{Pop}
+use Rattle.model.specs.declared.families.queues.QueueKind.{QueueKind}
+use Rattle.model.specs.declared.families.queues.QueueKind.TheVariants.{IndexQueue, Overflow, Queue}
 use Rattle.model.specs.declared.families.queues.calls.LengthOf.{LengthOf}
 use Rattle.model.specs.declared.families.queues.calls.LengthOf.TheVariants as measures
 use Rattle.model.specs.Families.Queues.Calls.{length_answer}
@@ -32,7 +35,7 @@ use Rattle.history.proofs.Drives.{called}
 use Rattle.history.proofs.Queues.{queue_goes_on}
 use Rattle.history.proofs.Roles.{role_by}
 use Rattle.lock_free_sp.specs.Shares.{IsAll}
-use Rattle.lock_free_queues.specs.Queues.Told.{HasPushed, HasPublished, HasTakenOut, WasFull, HasPopped, WasEmpty, HasMeasured, HasReleased}
+use Rattle.lock_free_queues.specs.Queues.Told.{HasPushed, HasPublished, HasTakenOut, WasFull, HasPopped, WasEmpty, HasMeasured, HasReleased, FoundNone}
 use Rattle.model.specs.declared.event.Item.{Item}
 use Rattle.model.specs.declared.event.Item.TheVariants.{Value}
 use Rattle.model.specs.declared.turn.Kind.{Kind}
@@ -40,30 +43,39 @@ use Rattle.model.specs.Coding.{Coding}
 use Rattle.model.specs.Families.Queues.Book.{AnswersRight}
 use Rattle.model.specs.Families.Queues.Reading.{producer_of}
 use Rattle.queue_laws.proofs.Queues.Invariant.{machine_kind}
-use Rattle.queue_laws.proofs.Ring.Kinds.{Ring, kind_of}
-use Rattle.history.proofs.Holders.{IsPlain}
+use Rattle.queue_laws.proofs.Ring.Kinds.{Ring, of_indices, of_values, kind_of}
 use Rattle.lock_free_queues.specs.Queues.Goes.{Goes}
+use Rattle.lock_free_queues.specs.Queues.Kinds.{NoneTaken, most_waiting}
 use Rattle.lock_free_queues.specs.Queues.Told.{push_of, popped_item}
 use Rattle.lock_free_queues.proofs.Queues.Wrote.{held, each_left, first_wrote, listed, none_between}
 
 -- ---- what a history says of itself
 
-module _ {T : Type 0} (code : Coding T) (r : Ring) where
+-- the roles whose holder alone writes what it marks: from an overflowing queue the producer takes out too
+abbrev pub IsAlone : QueueKind → Role → Type 0
+IsAlone Overflow Consumer = ⊥
+IsAlone kd role = Unit {0}
+
+module _ {T : Type 0} where
+  of_one : (role : Role) (before : List (Event T)) (e : Event T) → ByHolder before e → ByHolderOf role before e
+  of_one Producer before (Published p item) holds = holds
+  of_one Consumer before (HandedOut p item) holds = holds
+  of_one Producer before e holds = tt
+  of_one Consumer before e holds = tt
+
+module _ {T : Type 0} (code : Coding T) (kd : QueueKind) where
   abbrev pub kind_here : Kind
-  kind_here = machine_kind (kind_of r)
+  kind_here = machine_kind kd
 
   abbrev pub IsSeen : ℕ → List (Event T) → Type 0
   IsSeen capacity seen = IsHistory code kind_here capacity seen
 
   -- the promise of the machine, of what was seen
-  promised : (capacity : ℕ) (seen : List (Event T)) → (h : IsSeen capacity seen) → IsQueue (kind_of r) h.trace
-  promised capacity seen h = queue_goes_on code (kind_of r) (first_view capacity) h.trace h.run
+  promised : (capacity : ℕ) (seen : List (Event T)) → (h : IsSeen capacity seen) → IsQueue kd h.trace
+  promised capacity seen h = queue_goes_on code kd (first_view capacity) h.trace h.run
 
   pub grants : (capacity : ℕ) (seen : List (Event T)) → IsSeen capacity seen → Each GrantsRight seen
   grants capacity seen h = subst (Each GrantsRight) (sym h.is) (promised capacity seen h).roles
-
-  pub by_holder : (capacity : ℕ) (seen : List (Event T)) → IsSeen capacity seen → Each ByHolder seen
-  by_holder capacity seen h = history_by_holders code r capacity seen h
 
   pub answers_right : (capacity : ℕ) (seen : List (Event T)) → IsSeen capacity seen → Each (AnswersRight capacity) seen
   answers_right capacity seen h = subst (λ es. Each (AnswersRight capacity) es) (sym h.is) (subst (λ n. Each (AnswersRight n) h.trace.events) h.run.sized (promised capacity seen h).answers)
@@ -71,8 +83,28 @@ module _ {T : Type 0} (code : Coding T) (r : Ring) where
   pub tells_lengths : (capacity : ℕ) (seen : List (Event T)) → IsSeen capacity seen → Each (TellsLength capacity) seen
   tells_lengths capacity seen h = subst (λ es. Each (TellsLength capacity) es) (sym h.is) (subst (λ n. Each (TellsLength n) h.trace.events) h.run.sized (promised capacity seen h).lengths)
 
-  -- ---- pushes
+pub by_holder : {T : Type 0} (code : Coding T) (r : Ring) (capacity : ℕ) (seen : List (Event T)) → IsSeen code (kind_of r) capacity seen → Each ByHolder seen
+by_holder code r capacity seen h = history_by_holders code r capacity seen h
 
+module _ {T : Type 0} (code : Coding T) (capacity : ℕ) (seen : List (Event T)) where
+  ring_marked : (r : Ring) (role : Role) → IsSeen code (kind_of r) capacity seen → Each (ByHolderOf role) seen
+  ring_marked r role h before after e is = of_one role before e (by_holder code r capacity seen h before after e is)
+
+  pub by_its_holder : (kd : QueueKind) (role : Role) → IsAlone kd role → IsSeen code kd capacity seen → Each (ByHolderOf role) seen
+  by_its_holder IndexQueue role alone h = ring_marked of_indices role h
+  by_its_holder Queue role alone h = ring_marked of_values role h
+  by_its_holder Overflow Producer alone h = history_by_producers code capacity seen h
+  by_its_holder Overflow Consumer alone h = absurd alone
+
+  -- at any time what was taken out is a beginning of what was published, and so many wait at most
+  pub listed_always : (kd : QueueKind) → IsSeen code kd capacity seen → (part rest : List (Event T)) → seen ≡ part ++ rest → IsListed (most_waiting kd capacity) part
+  listed_always IndexQueue h part rest is = always_listed capacity code of_indices seen h part rest is
+  listed_always Queue h part rest is = always_listed capacity code of_values seen h part rest is
+  listed_always Overflow h part rest is = over_listed code capacity seen h part rest is
+
+-- ---- pushes
+
+module _ {T : Type 0} where
   -- what a push of an item is
   acted_by : (item : Item T) (p : ℕ) (taken : Bool) (before : List (Event T)) → ByHolder before (Acted p (Queues (push_of item)) (Truth taken)) → producer_of before ≡ Some p
   acted_by (Index v) p taken before h = h
@@ -86,13 +118,46 @@ module _ {T : Type 0} (code : Coding T) (r : Ring) where
   plain_end (Index v) p taken = (refl, refl)
   plain_end (Value v) p taken = (refl, refl)
 
-  module _ (capacity : ℕ) (base w : View T) (item : Item T) (h : IsSeen capacity w.seen) where
+-- a push that published first, and then wrote what neither publishes nor moves a role
+pub published_by : {T : Type 0} (code : Coding T) (kd : QueueKind) (capacity : ℕ) (base w : View T) (item : Item T) (p : ℕ) (answer : Answer T) (rest : List (Event T)) → IsSeen code kd capacity w.seen → IsAlone kd Producer → Called p (Queues (push_of item)) answer (Published p item ∷ rest) base w
+    → ArePlain p Producer (rest ++ Finished p (Queues (push_of item)) answer ∷ []) → HasPublished item base w
+published_by code kd capacity base w item p answer rest h alone call plain =
+    let at = first_wrote p (Queues (push_of item)) answer (Published p item) rest base w call in
+    let all = by_its_holder code capacity w.seen kd Producer alone h in
+    let holds = all at.before at.after (Published p item) at.is in
+    record {
+      by = p;
+      before = at.before;
+      after = at.after;
+      is = at.is;
+      since = at.since;
+      next = at.next Producer all holds;
+      list = listed Producer p (Published p item) (rest ++ Finished p (Queues (push_of item)) answer ∷ []) base w at all (grants code kd capacity w.seen h) holds refl plain;
+    }
+
+-- where a pop answers None nothing waited as it acted
+pub found_none : {T : Type 0} (code : Coding T) (kd : QueueKind) (capacity : ℕ) (base w : View T) → IsSeen code kd capacity w.seen → HasPopped None base w → FoundNone base w
+found_none code kd capacity base w h popping =
+    let p = popping.by in
+    let act = Acted p (Queues Pop) (popped_item None) in
+    let at = first_wrote p (Queues Pop) (popped_item None) act [] base w popping.called in
+    record { by = p; before = at.before; after = at.after; is = at.is; since = at.since; empty = answers_right code kd capacity w.seen h at.before at.after act at.is }
+
+pub role_alone : (r : Ring) (role : Role) → IsAlone (kind_of r) role
+role_alone of_indices role = tt
+role_alone of_values role = tt
+
+module _ {T : Type 0} (code : Coding T) (r : Ring) (capacity : ℕ) (base w : View T) (h : IsSeen code (kind_of r) capacity w.seen) where
+  marked : (role : Role) → Each (ByHolderOf role) w.seen
+  marked role = ring_marked code capacity w.seen r role h
+
+  module _ (item : Item T) where
     pub was_full : HasPushed item false base w → WasFull capacity item base w
     was_full pushing =
         let p = pushing.by in
         let act : Event T = Acted p (Queues (push_of item)) (Truth false) in
         let at = first_wrote p (Queues (push_of item)) (Truth false) act [] base w pushing.called in
-        let all = by_holder capacity w.seen h in
+        let all = by_holder code r capacity w.seen h in
         let holds = acted_by item p false at.before (all at.before at.after act at.is) in
         record {
           by = p;
@@ -100,76 +165,62 @@ module _ {T : Type 0} (code : Coding T) (r : Ring) where
           after = at.after;
           is = at.is;
           since = at.since;
-          next = at.next Producer all holds;
-          full = full_by item p capacity at.before (answers_right capacity w.seen h at.before at.after act at.is);
-          list = listed Producer p act (Finished p (Queues (push_of item)) (Truth false) ∷ []) base w at all (grants capacity w.seen h) holds refl (plain_end item p false, tt) ∙ append-nil (published base.seen);
+          next = at.next Producer (marked Producer) holds;
+          full = full_by item p capacity at.before (answers_right code (kind_of r) capacity w.seen h at.before at.after act at.is);
+          list = listed Producer p act (Finished p (Queues (push_of item)) (Truth false) ∷ []) base w at (marked Producer) (grants code (kind_of r) capacity w.seen h) holds refl (plain_end item p false, tt) ∙ append-nil (published base.seen);
         }
 
     pub has_published : HasPushed item true base w → HasPublished item base w
-    has_published pushing =
-        let p = pushing.by in
-        let act : Event T = Acted p (Queues (push_of item)) (Truth true) in
-        let at = first_wrote p (Queues (push_of item)) (Truth true) (Published p item) (act ∷ []) base w pushing.called in
-        let all = by_holder capacity w.seen h in
-        let holds = all at.before at.after (Published p item) at.is in
-        record {
-          by = p;
-          before = at.before;
-          after = at.after;
-          is = at.is;
-          since = at.since;
-          next = at.next Producer all holds;
-          list = listed Producer p (Published p item) (act ∷ Finished p (Queues (push_of item)) (Truth true) ∷ []) base w at all (grants capacity w.seen h) holds refl ((refl, refl), (plain_end item p true, tt));
-        }
+    has_published pushing = (let p = pushing.by in published_by code (kind_of r) capacity base w item p (Truth true) (Acted p (Queues (push_of item)) (Truth true) ∷ []) h (role_alone r Producer) pushing.called ((refl, refl), (plain_end item p true, tt)))
 
   -- ---- pops
 
-  module _ (capacity : ℕ) (base w : View T) (h : IsSeen capacity w.seen) where
-    pub was_empty : HasPopped None base w → WasEmpty base w
-    was_empty popping =
-        let p = popping.by in
-        let act : Event T = Acted p (Queues Pop) (popped_item None) in
-        let at = first_wrote p (Queues Pop) (popped_item None) act [] base w popping.called in
-        let all = by_holder capacity w.seen h in
-        let holds = all at.before at.after act at.is in
-        record {
-          by = p;
-          before = at.before;
-          after = at.after;
-          is = at.is;
-          since = at.since;
-          next = at.next Consumer all holds;
-          empty = answers_right capacity w.seen h at.before at.after act at.is;
-          list = listed Consumer p act (Finished p (Queues Pop) (popped_item None) ∷ []) base w at all (grants capacity w.seen h) holds refl ((refl, refl), tt) ∙ append-nil (handed_out base.seen);
-        }
+  pub was_empty : HasPopped None base w → WasEmpty base w
+  was_empty popping =
+      let p = popping.by in
+      let act : Event T = Acted p (Queues Pop) (popped_item None) in
+      let at = first_wrote p (Queues Pop) (popped_item None) act [] base w popping.called in
+      let all = by_holder code r capacity w.seen h in
+      let holds = all at.before at.after act at.is in
+      record {
+        by = p;
+        before = at.before;
+        after = at.after;
+        is = at.is;
+        since = at.since;
+        next = at.next Consumer (marked Consumer) holds;
+        empty = answers_right code (kind_of r) capacity w.seen h at.before at.after act at.is;
+        list = listed Consumer p act (Finished p (Queues Pop) (popped_item None) ∷ []) base w at (marked Consumer) (grants code (kind_of r) capacity w.seen h) holds refl ((refl, refl), tt) ∙ append-nil (handed_out base.seen);
+      }
 
-    pub has_taken_out : (item : Item T) → HasPopped (Some item) base w → HasTakenOut item base w
-    has_taken_out item popping =
-        let p = popping.by in
-        let act : Event T = Acted p (Queues Pop) (popped_item (Some item)) in
-        let at = first_wrote p (Queues Pop) (popped_item (Some item)) (HandedOut p item) (act ∷ []) base w popping.called in
-        let all = by_holder capacity w.seen h in
-        let holds = all at.before at.after (HandedOut p item) at.is in
-        record {
-          by = p;
-          before = at.before;
-          after = at.after;
-          is = at.is;
-          since = at.since;
-          next = at.next Consumer all holds;
-          list = listed Consumer p (HandedOut p item) (act ∷ Finished p (Queues Pop) (popped_item (Some item)) ∷ []) base w at all (grants capacity w.seen h) holds refl ((refl, refl), ((refl, refl), tt));
-        }
+  pub has_taken_out : (item : Item T) → HasPopped (Some item) base w → HasTakenOut item base w
+  has_taken_out item popping =
+      let p = popping.by in
+      let act : Event T = Acted p (Queues Pop) (popped_item (Some item)) in
+      let at = first_wrote p (Queues Pop) (popped_item (Some item)) (HandedOut p item) (act ∷ []) base w popping.called in
+      let all = by_holder code r capacity w.seen h in
+      let holds = all at.before at.after (HandedOut p item) at.is in
+      record {
+        by = p;
+        before = at.before;
+        after = at.after;
+        is = at.is;
+        since = at.since;
+        next = at.next Consumer (marked Consumer) holds;
+        list = listed Consumer p (HandedOut p item) (act ∷ Finished p (Queues Pop) (popped_item (Some item)) ∷ []) base w at (marked Consumer) (grants code (kind_of r) capacity w.seen h) holds refl ((refl, refl), ((refl, refl), tt));
+      }
 
+module _ {T : Type 0} (code : Coding T) (kd : QueueKind) where
   -- a look by who has a role: nobody else wrote what its holder writes
-  pub looked_alone : (role : Role) (base w : View T) → Looks code kind_here base.capacity base w → base.other ≡ [] → 0 < base.share.part → HasRole role base.made → flat_map (marks role) w.seen ≡ flat_map (marks role) base.seen
-  looked_alone role base w looks alone some has =
+  pub looked_alone : (role : Role) → IsAlone kd role → (base w : View T) → Looks code (machine_kind kd) base.capacity base w → base.other ≡ [] → 0 < base.share.part → HasRole role base.made → flat_map (marks role) w.seen ≡ flat_map (marks role) base.seen
+  looked_alone role only base w looks alone some has =
       let m = marks {T = T} role in
       let q = looks.parties in
       let h = looks.history in
-      let by = role_by q.owner q.seat role w.seen base.made (grants base.capacity w.seen h) (λ f. ap (sum_by f) (sym looks.made) ∙ q.sums f) has in
+      let by = role_by q.owner q.seat role w.seen base.made (grants code kd base.capacity w.seen h) (λ f. ap (sum_by f) (sym looks.made) ∙ q.sums f) has in
       let rest = looks.mine.rest in
       let is : w.seen ≡ base.seen ++ rest = looks.mine.is in
-      let back = back_over by.0 role base.seen rest (subst (Each ByHolder) is (by_holder base.capacity w.seen h)) (looks.apart alone some by.0 by.1) (ap (held role) (sym is) ∙ by.2) in
+      let back = back_over_of by.0 role base.seen rest (subst (Each (ByHolderOf role)) is (by_its_holder code base.capacity w.seen kd role only h)) (looks.apart alone some by.0 by.1) (ap (held role) (sym is) ∙ by.2) in
       ap (flat_map m) is ∙ (flat_map-append m base.seen rest ∙ (ap (λ zs. flat_map m base.seen ++ zs) back.1 ∙ append-nil (flat_map m base.seen)))
 
   module _ (base w : View T) (idle : base.going ≡ None) where
@@ -180,50 +231,50 @@ module _ {T : Type 0} (code : Coding T) (r : Ring) where
     stood_as measures.IsEmpty p c answer xs h = h
     stood_as measures.IsFull p c answer xs h = h
 
-    pub measured : (which : LengthOf) (n : ℕ) (m : Unit {0}) → Ends code kind_here (counts_waiting which base.capacity) base n m w → HasMeasured which base.capacity (length_answer which base.capacity n) base w
+    pub measured : (which : LengthOf) (n : ℕ) (m : Unit {0}) → Ends code (machine_kind kd) (counts_waiting which base.capacity) base n m w → HasMeasured which base.capacity (length_answer which base.capacity n) base w
     measured which n m ends =
         let p = ends.party in
         let start : Start T = Queues (length_start which) in
         let answer : Answer T = length_answer which base.capacity n in
-        let c = called code kind_here (counts_waiting which base.capacity) base w n m idle ends in
+        let c = called code (machine_kind kd) (counts_waiting which base.capacity) base w n m idle ends in
         let it : Called p start answer [] base w = subst (λ es. Called p start answer es base w) ends.tells c in
         let xs : List (Event T) = (base.seen ++ it.others) ++ Begun p start ∷ it.during in
         let last : Event T = Finished p start answer in
         let is : w.seen ≡ xs ++ last ∷ [] = it.is ∙ sym (append_assoc (base.seen ++ it.others) (Begun p start ∷ it.during) (last ∷ [])) in
         let h = ends.history in
-        let told : TellsLength base.capacity xs last = subst (λ k. TellsLength k xs last) h.run.sized ((promised base.capacity w.seen h).lengths xs [] last (sym h.is ∙ is)) in
+        let told : TellsLength base.capacity xs last = subst (λ k. TellsLength k xs last) h.run.sized ((promised code kd base.capacity w.seen h).lengths xs [] last (sym h.is ∙ is)) in
         record { by = p; mine = ends.mine; called = it; before = xs; is = is; stood = stood_as which p base.capacity answer xs told }
 
-    pub few : (n : ℕ) (m : Unit {0}) → Ends code kind_here (counts_waiting measures.Len base.capacity) base n m w → n ≤ base.capacity
+    pub few : (n : ℕ) (m : Unit {0}) → Ends code (machine_kind kd) (counts_waiting measures.Len base.capacity) base n m w → n ≤ most_waiting kd base.capacity
     few n m ends =
         let told = measured measures.Len n m ends in
         let stood = told.stood in
         let same : n ≡ length (waiting stood.part) = (let e = stood.held in cc) in
         let last : Event T = Finished told.by (Queues (length_start measures.Len)) (length_answer measures.Len base.capacity n) in
         let is : w.seen ≡ stood.part ++ (stood.rest ++ last ∷ []) = told.is ∙ (ap (λ xs. xs ++ last ∷ []) stood.is ∙ append_assoc stood.part stood.rest (last ∷ [])) in
-        let low = (always_listed base.capacity code r w.seen ends.history stood.part (stood.rest ++ last ∷ []) is).few in
+        let low = (listed_always code base.capacity w.seen kd ends.history stood.part (stood.rest ++ last ∷ []) is).few in
         omega arith
 
     -- ---- releases: while the role was held, and as it was given back, nobody else wrote what its holder writes
 
-    released : (role : Role) (e m : Unit {0}) → Ends code kind_here (gives_role role) base e m w → HasReleased role base w
-    released role e m ends = record { by = ends.party; mine = ends.mine; called = subst (λ es. Called ends.party (Queues (release_start role)) Done es base w) ends.tells (called code kind_here (gives_role role) base w e m idle ends) }
+    released : (role : Role) (e m : Unit {0}) → Ends code (machine_kind kd) (gives_role role) base e m w → HasReleased role base w
+    released role e m ends = record { by = ends.party; mine = ends.mine; called = subst (λ es. Called ends.party (Queues (release_start role)) Done es base w) ends.tells (called code (machine_kind kd) (gives_role role) base w e m idle ends) }
 
-    left_after : (role : Role) → IsHistory code kind_here base.capacity w.seen → HasReleased role base w → flat_map (marks role) w.seen ≡ flat_map (marks role) base.seen
-    left_after role h left =
+    left_after : (role : Role) → IsAlone kd role → IsHistory code (machine_kind kd) base.capacity w.seen → HasReleased role base w → flat_map (marks role) w.seen ≡ flat_map (marks role) base.seen
+    left_after role only h left =
         let p = left.by in
         let start : Start T = Queues (release_start role) in
         let c = left.called in
         let xs : List (Event T) = (base.seen ++ c.others) ++ Begun p start ∷ c.during in
         let last : Event T = Finished p start Done in
         let is : w.seen ≡ xs ++ last ∷ [] = c.is ∙ sym (append_assoc (base.seen ++ c.others) (Begun p start ∷ c.during) (last ∷ [])) in
-        let holds : held role xs ≡ Some p = held_at role p xs (grants base.capacity w.seen h xs [] last is) in
+        let holds : held role xs ≡ Some p = held_at role p xs (grants code kd base.capacity w.seen h xs [] last is) in
         let m = marks {T = T} role in
         ap (flat_map m) is
         ∙ (flat_map-append m xs (last ∷ [])
         ∙ (ap (λ zs. flat_map m xs ++ (zs ++ [])) (no_mark role p)
         ∙ (append-nil (flat_map m xs)
-        ∙ none_between role p start base.seen c.others c.during (each_left xs (last ∷ []) (subst (Each ByHolder) is (by_holder base.capacity w.seen h))) c.others_own c.during_own holds)))
+        ∙ none_between role p start base.seen c.others c.during (each_left xs (last ∷ []) (subst (Each (ByHolderOf role)) is (by_its_holder code base.capacity w.seen kd role only h))) c.others_own c.during_own holds)))
       where
         held_at : (r : Role) (p : ℕ) (xs : List (Event T)) → GrantsRight xs (Finished p (Queues (release_start r)) Done) → held r xs ≡ Some p
         held_at Producer p xs h = h.1
@@ -233,8 +284,20 @@ module _ {T : Type 0} (code : Coding T) (r : Ring) where
         no_mark Producer p = refl
         no_mark Consumer p = refl
 
-    pub left_alone : (role : Role) (e m : Unit {0}) → Ends code kind_here (gives_role role) base e m w → flat_map (marks role) w.seen ≡ flat_map (marks role) base.seen
-    left_alone role e m ends = left_after role ends.history (released role e m ends)
+    pub left_alone : (role : Role) → IsAlone kd role → (e m : Unit {0}) → Ends code (machine_kind kd) (gives_role role) base e m w → flat_map (marks role) w.seen ≡ flat_map (marks role) base.seen
+    left_alone role only e m ends = left_after role only ends.history (released role e m ends)
+
+-- a producer's release; and a consumer's, where it says what was taken out
+module _ {T : Type 0} (code : Coding T) (base w : View T) (idle : base.going ≡ None) (e m : Unit {0}) where
+  pub left_published : (kd : QueueKind) → Ends code (machine_kind kd) (gives_role Producer) base e m w → published w.seen ≡ published base.seen
+  left_published IndexQueue ends = left_alone code IndexQueue base w idle Producer tt e m ends
+  left_published Overflow ends = left_alone code Overflow base w idle Producer tt e m ends
+  left_published Queue ends = left_alone code Queue base w idle Producer tt e m ends
+
+  pub left_taken : (kd : QueueKind) → Ends code (machine_kind kd) (gives_role Consumer) base e m w → NoneTaken kd base w
+  left_taken IndexQueue ends = left_alone code IndexQueue base w idle Consumer tt e m ends
+  left_taken Overflow ends = tt
+  left_taken Queue ends = left_alone code Queue base w idle Consumer tt e m ends
 
 -- ---- what each call leaves
 

@@ -1,5 +1,5 @@
 -- The laws of positions.
-use Rattle.std.proofs.Common.{◌≡◌, ℕ, zero, suc, ◌+◌, ◌<◌, ◌≤◌, Some, List, [], ◌∷◌, ◌++◌, length, drop, slice_get, refl, sym, ap, ◌∙◌, append_assoc, append-nil, false, arith}
+use Rattle.std.proofs.Common.{◌≡◌, ℕ, zero, suc, ◌+◌, ◌<◌, ◌≤◌, Some, List, [], ◌∷◌, ◌++◌, length, drop, slice_get, refl, sym, ap, ◌∙◌, append_assoc, false, arith}
 use Rattle.std.specs.List.{flat_map}
 use Rattle.std.proofs.lemmas.List.{length-append, length-drop}
 use Rattle.std.proofs.lemmas.Grind.{flat_map-append}
@@ -17,7 +17,7 @@ use Rattle.queue_laws.proofs.Ring.Kinds.{Ring, kind_of}
 use Rattle.history.proofs.Holders.{always_listed}
 use Rattle.lock_free_queues.proofs.Queues.Facts.{answers_right, tells_lengths, grants, by_holder}
 use Rattle.lock_free_queues.specs.Queues.Positions.{IsPublished, IsTaken, IsSound}
-use Rattle.lock_free_queues.specs.Queues.Told.{push_of, HasPublished, HasTakenOut, WasEmpty, WasFull}
+use Rattle.lock_free_queues.specs.Queues.Told.{push_of, HasPublished, HasTakenOut, WasEmpty, FoundNone, WasFull}
 
 get_here : {A : Type 0} (xs ys : List A) (x : A) → slice_get (xs ++ x ∷ ys) (length xs) ≡ Some x
 get_here [] ys x = refl
@@ -93,11 +93,11 @@ module _ {T : Type 0} (p q i : ℕ) (x y : Item T) (events : List (Event T)) whe
       let same : ◌≡◌ {A = Event T} (HandedOut p x) (HandedOut q y) = same_place hands_out a.before b.before a.after b.after (HandedOut p x) (HandedOut q y) x y refl refl (sym a.is ∙ b.is) (sym a.rank ∙ b.rank) in
       (let l : p ≡ q = cc in l, let r : x ≡ y = cc in r)
 
-  pub values_agree : (capacity : ℕ) → IsSound capacity events → IsPublished p i x events → IsTaken q i y events → x ≡ y
-  values_agree capacity sound a b =
+  pub values_agree : published events ≡ handed_out events ++ waiting events → IsPublished p i x events → IsTaken q i y events → x ≡ y
+  values_agree book a b =
       let one : slice_get (published events) i ≡ Some x = ap (λ es. slice_get (published es) i) a.is ∙ (ap (slice_get (published (a.before ++ Published p x ∷ a.after))) a.rank ∙ at_rank publishes a.before a.after (Published p x) x refl) in
       let two : slice_get (handed_out events) i ≡ Some y = ap (λ es. slice_get (handed_out es) i) b.is ∙ (ap (slice_get (handed_out (b.before ++ HandedOut q y ∷ b.after))) b.rank ∙ at_rank hands_out b.before b.after (HandedOut q y) y refl) in
-      let both : Some x ≡ Some y = sym one ∙ (ap (λ xs. slice_get xs i) (sound.book events [] (sym (append-nil events))) ∙ get_left (handed_out events) (waiting events) i y two) in
+      let both : Some x ≡ Some y = sym one ∙ (ap (λ xs. slice_get xs i) book ∙ get_left (handed_out events) (waiting events) i y two) in
       cc
 
   -- what stands in a beginning stands in the whole
@@ -112,9 +112,9 @@ sound_history code r capacity events h =
     record {
       book = λ part rest is. (always_listed capacity code r events h part rest is).book;
       few = λ part rest is. (always_listed capacity code r events h part rest is).few;
-      answers = answers_right code r capacity events h;
-      lengths = tells_lengths code r capacity events h;
-      roles = grants code r capacity events h;
+      answers = answers_right code (kind_of r) capacity events h;
+      lengths = tells_lengths code (kind_of r) capacity events h;
+      roles = grants code (kind_of r) capacity events h;
       holders = by_holder code r capacity events h;
     }
 
@@ -129,14 +129,17 @@ module _ {T : Type 0} (old new : View T) where
   taken_at item h = record { before = h.before; after = h.after; is = h.is; rank = refl }
 
   -- where a pop found nothing, each position that was known to be published had been taken
-  pub none_later : (h : WasEmpty old new) (q j : ℕ) (y : Item T) → IsPublished q j y old.seen → j < length (handed_out h.before)
-  none_later h q j y a =
+  pub found_later : (h : FoundNone old new) (q j : ℕ) (y : Item T) → IsPublished q j y old.seen → j < length (handed_out h.before)
+  found_later h q j y a =
       let low = rank_low publishes old.seen a.before a.after (Published q y) y refl a.is in
       let grown = hits_grow publishes old.seen h.before h.since in
       let rank = a.rank in
       let none : length (drop (length (handed_out h.before)) (published h.before)) ≡ 0 = ap length h.empty in
       let left = length-drop (length (handed_out h.before)) (published h.before) in
       omega arith
+
+  pub none_later : (h : WasEmpty old new) (q j : ℕ) (y : Item T) → IsPublished q j y old.seen → j < length (handed_out h.before)
+  none_later h q j y a = found_later (record { by = h.by; before = h.before; after = h.after; is = h.is; since = h.since; empty = h.empty }) q j y a
 
   -- where a push found the queue full, each position that was known to be taken lies more than the capacity below
   pub full_below : (capacity : ℕ) (item : Item T) → (h : WasFull capacity item old new) → IsSound capacity new.seen → (q j : ℕ) (y : Item T) → IsTaken q j y old.seen → j + capacity < length (published h.before)

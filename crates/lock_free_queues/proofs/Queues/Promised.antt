@@ -1,28 +1,31 @@
 -- The laws in the forms in which they are promised.
-use Rattle.std.proofs.Common.{◌≡◌, ℕ, ◌+◌, ◌<◌, None, List, length, sym, ap, subst}
+use Rattle.std.proofs.Common.{◌≡◌, ℕ, ◌+◌, ◌<◌, ◌≤◌, List, [], ◌∷◌, length, refl, sym, ap, subst, append-nil}
+use Rattle.model.specs.declared.event.Answer.TheVariants.{PoppedNone}
 use Rattle.model.specs.declared.event.Event.{Event}
+use Rattle.model.specs.declared.event.Event.TheVariants.{HandedOut, Acted}
 use Rattle.model.specs.declared.event.Item.{Item}
+use Rattle.model.specs.declared.event.Start.TheVariants.{Queues}
 use Rattle.model.specs.declared.families.queues.QueueKind.{QueueKind}
 use Rattle.model.specs.declared.families.queues.QueueKind as queues
+use Rattle.model.specs.declared.families.queues.QueueStart.TheVariants.{Pop}
 use Rattle.model.specs.Coding.{Coding}
-use Rattle.model.specs.Families.Queues.Reading.{published, handed_out}
+use Rattle.model.specs.Families.Queues.Reading.{published, handed_out, hands_out}
 use Rattle.model.specs.Linearizable.{IsLinearizable}
 use Rattle.model.specs.Linearized.{as_list, IsLinearized}
 use Rattle.model.specs.Progress.{KeepsGuarantees}
 use Rattle.model.proofs.Linearizable.Kinds.{run_linearizable}
 use Rattle.model.proofs.Progress.{keeps_guarantees}
-use Rattle.lock_free_sp.specs.Shares.{IsAll}
 use Rattle.queue_laws.proofs.Queues.Invariant.{machine_kind}
 use Rattle.queue_laws.proofs.Queues.Kept.{kept_on}
 use Rattle.queue_laws.proofs.Ring.Kinds.{of_indices, of_values}
 use Rattle.history.specs.declared.view.View.{View}
 use Rattle.history.specs.History.{IsHistory}
+use Rattle.history.proofs.OverflowHolders.{history_by_over_holders, over_lists_kept, over_listed}
 use Rattle.lock_free_queues.specs.Queues.Bounded.{IsBounded, machine_of}
-use Rattle.lock_free_queues.specs.Queues.Goes.{Goes, MissesNothing}
-use Rattle.lock_free_queues.specs.Queues.Positions.{IsPublished, IsTaken, IsSound}
-use Rattle.lock_free_queues.specs.Queues.Told.{HasPublished, HasPopped, HasTakenOut, WasEmpty, WasFull}
-use Rattle.lock_free_queues.proofs.Queues.Positions.{values_agree, sound_history, published_at, taken_at, none_later, full_below}
-use Rattle.lock_free_queues.proofs.Queues.Whole.{all_taken}
+use Rattle.lock_free_queues.specs.Queues.Positions.{IsPublished, IsTaken, IsSound, IsOverSound}
+use Rattle.lock_free_queues.specs.Queues.Told.{HasPublished, HasTakenOut, HasTakenFirst, WasEmpty, FoundNone, WasFull}
+use Rattle.lock_free_queues.proofs.Queues.Positions.{values_agree, sound_history, published_at, taken_at, none_later, found_later, full_below, hits_grow}
+use Rattle.lock_free_queues.proofs.Queues.Facts.{answers_right, tells_lengths, grants, listed_always}
 
 module _ {T : Type 0} (code : Coding T) where
   abbrev IsSeen : QueueKind → ℕ → List (Event T) → Type 0
@@ -49,13 +52,20 @@ module _ {T : Type 0} (code : Coding T) where
   sound queues.TheVariants.Overflow capacity v b h = absurd b
   sound queues.TheVariants.Queue capacity v b h = sound_history code of_values capacity v.seen h
 
-  pub agree : (kind : QueueKind) (capacity p q i : ℕ) (x y : Item T) (v : View T) → IsBounded kind → IsSeen kind capacity v.seen → IsPublished p i x v.seen → IsTaken q i y v.seen → x ≡ y
-  agree kind capacity p q i x y v bounded h a b = values_agree p q i x y v.seen capacity (sound kind capacity v bounded h) a b
+  pub agree : (kind : QueueKind) (capacity p q i : ℕ) (x y : Item T) (v : View T) → IsSeen kind capacity v.seen → IsPublished p i x v.seen → IsTaken q i y v.seen → x ≡ y
+  agree kind capacity p q i x y v h a b = values_agree p q i x y v.seen (listed_always code capacity v.seen kind h v.seen [] (sym (append-nil v.seen))).book a b
 
-  pub emptied : (kind : QueueKind) (capacity : ℕ) (old new : View T) → IsBounded kind → IsAll old.share → MissesNothing old → Goes code (machine_of kind) capacity old new → HasPopped None old new → (published new.seen ≡ published old.seen) × (handed_out new.seen ≡ published new.seen)
-  emptied queues.TheVariants.IndexQueue capacity old new b all before goes popping = all_taken code of_indices capacity old new all before goes popping
-  emptied queues.TheVariants.Overflow capacity old new b all before goes popping = absurd b
-  emptied queues.TheVariants.Queue capacity old new b all before goes popping = all_taken code of_values capacity old new all before goes popping
+  pub over_sound : (capacity : ℕ) (v : View T) → IsSeen queues.TheVariants.Overflow capacity v.seen → IsOverSound capacity v.seen
+  over_sound capacity v h =
+      record {
+        book = λ part rest is. (over_listed code capacity v.seen h part rest is).book;
+        few = λ part rest is. (over_listed code capacity v.seen h part rest is).few;
+        oldest = λ before after p x is. over_lists_kept code capacity v.seen h before after (HandedOut p x) is;
+        answers = answers_right code queues.TheVariants.Overflow capacity v.seen h;
+        lengths = tells_lengths code queues.TheVariants.Overflow capacity v.seen h;
+        roles = grants code queues.TheVariants.Overflow capacity v.seen h;
+        holders = history_by_over_holders code capacity v.seen h;
+      }
 
 -- ---- by what the guard had seen
 
@@ -71,3 +81,9 @@ module _ {T : Type 0} (old new : View T) where
 
   pub full_above : (capacity : ℕ) (item : Item T) → IsSound capacity new.seen → WasFull capacity item old new → (q j : ℕ) (y : Item T) → IsTaken q j y old.seen → j + capacity < length (published old.seen)
   full_above capacity item all h q j y a = subst (λ n. j + capacity < n) (ap length h.next) (full_below old new capacity item h all q j y a)
+
+  pub taken_first : (item : Item T) → HasTakenFirst item old new → (p i : ℕ) × IsTaken p i item new.seen × (length (handed_out old.seen) ≤ i)
+  taken_first item h = (h.by, length (handed_out h.before), record { before = h.before; after = h.after; is = h.is; rank = refl }, hits_grow hands_out old.seen h.before h.since)
+
+  pub none_waited : FoundNone old new → (q j : ℕ) (y : Item T) → IsPublished q j y old.seen → (i : ℕ) × (j < i) × (i ≤ length (handed_out new.seen))
+  none_waited h q j y a = (length (handed_out h.before), found_later old new h q j y a, hits_grow hands_out h.before new.seen (record { rest = Acted h.by (Queues Pop) PoppedNone ∷ h.after; is = h.is }))

@@ -1,24 +1,22 @@
 -- What one load of a queue's word tells, and what the loads of all words tell together.
-use Rattle.std.proofs.Common.{◌≡◌, ⊎_elim, ℕ, Option, ◌+◌, ◌*◌, ◌<◌, ◌≤◌, ◌^◌, List, [], ◌∷◌, ◌++◌, length, max, set, slice_index, refl, sym, ap, subst, ◌∙◌, append_assoc, append-nil, length-set, length-append, get_or-set_same, get_or-set_other, arith}
+use Rattle.std.proofs.Common.{◌≡◌, ⊎_elim, ℕ, None, ◌+◌, ◌<◌, ◌≤◌, ◌^◌, List, [], ◌∷◌, ◌++◌, length, max, set, slice_index, refl, sym, ap, subst, ◌∙◌, append_assoc, append-nil, length-set, length-append, get_or-set_same, get_or-set_other, arith}
 use Rattle.std.proofs.lemmas.Bool.{cases_lt}
 use Rattle.std.proofs.lemmas.List.{get_or_append_left}
 use Rattle.std.proofs.Math.Seq.{get_or-append_seam}
 use Rattle.atomic_table.specs.Table.{Me, Allows}
 use Rattle.model.specs.declared.event.Event.{Event}
-use Rattle.model.specs.declared.event.Start.{Start}
-use Rattle.model.specs.declared.families.Flight.{Flight}
+use Rattle.model.specs.declared.families.queues.QueueKind.{QueueKind}
 use Rattle.model.specs.declared.turn.Kind.{Kind}
 use Rattle.model.specs.Coding.{Coding}
-use Rattle.model.specs.Families.Queues.Opening.{words_of_cell}
 use Rattle.lock_free_sp.specs.Shares.{IsAll}
 use Rattle.queue_laws.proofs.Queues.Invariant.{machine_kind}
-use Rattle.queue_laws.proofs.Ring.Kinds.{Ring, kind_of}
 use Rattle.history.specs.declared.view.View.{View}
 use Rattle.history.specs.History.{IsBeginning, IsMachine, IsRun}
-use Rattle.history.specs.Views.{Looks, LooksAt, WhenIdle}
+use Rattle.history.specs.Views.{Looks, LooksAt}
 use Rattle.history.proofs.Passes.{looks_word}
-use Rattle.history.proofs.Queues.{ring_owes}
+use Rattle.lock_free_queues.specs.Queues.Kinds.{words_in_cells}
 use Rattle.lock_free_queues.specs.Queues.Told.{HasLooked}
+use Rattle.lock_free_queues.proofs.Queues.Kinds.{told_idle, words_long}
 use Rattle.lock_free_queues.specs.Queues.Reads.{WasRead, CellsRead, HasRead, LastWords}
 
 module _ {T : Type 0} where
@@ -33,23 +31,23 @@ module _ {T : Type 0} where
   begins_nothing (x ∷ xs) h = (let no : [] ≡ x ∷ (xs ++ h.rest) = h.is in absurd (cc))
 
   pub then_read : (v w x : View T) → HasRead v w → HasRead w x → HasRead v x
-  then_read v w x a b = record { share = b.share ∙ a.share; since = begins_further v.seen w.seen x.seen a.since b.since; whole = λ all. b.whole (subst IsAll (sym a.share) all) ∙ a.whole all }
+  then_read v w x a b = record { share = b.share ∙ a.share; since = begins_further v.seen w.seen x.seen a.since b.since; made = b.made ∙ a.made; whole = λ all. b.whole (subst IsAll (sym a.share) all) ∙ a.whole all; all = b.all }
 
-module _ {T : Type 0} (code : Coding T) (r : Ring) where
-  module _ (capacity word found : ℕ) (v w : View T) (same : v.capacity ≡ capacity) (low : word < 4 + words_of_cell code.size (kind_of r) * capacity) (l : LooksAt code (machine_kind (kind_of r)) v.capacity word v found w) where
-    run : IsRun code (machine_kind (kind_of r)) capacity l.trace
-    run = subst (λ n. IsRun code (machine_kind (kind_of r)) n l.trace) same l.run
+module _ {T : Type 0} (code : Coding T) (kd : QueueKind) where
+  module _ (capacity word found : ℕ) (v w : View T) (same : v.capacity ≡ capacity) (low : word < 4 + words_in_cells code.size kd capacity) (l : LooksAt code (machine_kind kd) v.capacity word v found w) where
+    run : IsRun code (machine_kind kd) capacity l.trace
+    run = subst (λ n. IsRun code (machine_kind kd) n l.trace) same l.run
 
     has_word : found ≡ slice_index l.trace.world.words word
-    has_word = l.word_is (let size = (ring_owes code capacity r).size l.trace run in omega arith)
+    has_word = l.word_is (let size = words_long code kd capacity l.trace run in omega arith)
 
     ends_there : IsBeginning l.trace.events w.seen
     ends_there = record { rest = []; is = l.seen ∙ sym (append-nil l.trace.events) }
 
-    pub was_read : WasRead code (machine_kind (kind_of r)) capacity v w word found
+    pub was_read : WasRead code (machine_kind kd) capacity v w word found
     was_read = record { trace = l.trace; run = run; since = subst (IsBeginning v.seen) l.seen l.looks.mine; until = ends_there; found_is = has_word }
 
-    pub was_read_last : WasRead code (machine_kind (kind_of r)) capacity w w word found
+    pub was_read_last : WasRead code (machine_kind kd) capacity w w word found
     was_read_last = record { trace = l.trace; run = run; since = subst (IsBeginning w.seen) l.seen (begins_itself w.seen); until = ends_there; found_is = has_word }
 
     pub has_read : v.other ≡ [] → HasRead v w
@@ -57,22 +55,24 @@ module _ {T : Type 0} (code : Coding T) (r : Ring) where
         record {
           share = l.looks.share;
           since = l.looks.mine;
+          made = l.looks.made;
+          all = λ all. l.looks.all (subst IsAll l.looks.share all);
           whole = λ all. ⊎_elim (λ e. e) (λ e. (let none : w.seen ≡ [] = e ∙ alone in none ∙ sym (begins_nothing v.seen (subst (IsBeginning v.seen) none l.looks.mine)))) (l.looks.whole all);
         }
 
-module _ {T : Type 0} (code : Coding T) (kind : Kind) where
+module _ {T : Type 0} (code : Coding T) (kd : QueueKind) where
   -- what a look owes, where the seat knows this
   abbrev pub Owed : ℕ → ℕ → ℕ → ℕ → Me (Unit {0}) (View T) → Type 0
-  Owed key slots id word me = Allows (IsMachine code kind key) slots id me word (λ n. n) (λ found new. LooksAt code kind me.0.capacity word me.0 found new.0 × (new.1 ≡ []))
+  Owed key slots id word me = Allows (IsMachine code (machine_kind kd) key) slots id me word (λ n. n) (λ found new. LooksAt code (machine_kind kd) me.0.capacity word me.0 found new.0 × (new.1 ≡ []))
 
-  -- of a kind whose looks tell also while a call is under way
-  pub owed : ((going : Option (Start T × Flight T)) (Told : Type 0) → WhenIdle kind going Told → Told) → (key slots id word : ℕ) (v : View T) (me : Me (Unit {0}) (View T)) → me ≡ (v, []) → v.capacity ≡ key → 0 < v.share.part → Owed key slots id word me
-  owed tells key slots id word v me same size some =
+  pub owed : (key slots id word : ℕ) (v : View T) (me : Me (Unit {0}) (View T)) → me ≡ (v, []) → v.capacity ≡ key → v.going ≡ None → 0 < v.share.part → Owed key slots id word me
+  owed key slots id word v me same size idle some =
       subst (Owed key slots id word) (sym same)
       (subst (λ k. Owed k slots id word (v, [])) size
       (λ s holds many at low.
-      let r = looks_word code kind v.capacity slots id word v some s holds many at low in (r.0, r.1, r.2, r.3, (tells v.going _ r.4.0, r.4.1))))
+      let r = looks_word code (machine_kind kd) v.capacity slots id word v some s holds many at low in (r.0, r.1, r.2, r.3, (told_idle kd v.going _ idle r.4.0, r.4.1))))
 
+module _ {T : Type 0} (code : Coding T) (kind : Kind) where
   pub has_looked : (v w : View T) → v.other ≡ [] → Looks code kind v.capacity v w → HasLooked v w
   has_looked v w alone looks =
       record {
@@ -107,9 +107,9 @@ module _ {T : Type 0} (code : Coding T) (kind : Kind) where
         (cases_lt word (length words))
 
     -- the words, with the positions of the list
-    pub last_words : (words : List ℕ) (write taken : ℕ) → capacity < 2 ^ 32 → HasRead v w → length words ≡ 4 + code.size * capacity → write < 2 ^ 64 → taken < 2 ^ 64
-        → WasRead code kind capacity v w 0 write → CellsRead code kind capacity v w words → WasRead code kind capacity w w 1 taken → LastWords code kind capacity v (set (set words 0 (max write taken)) 1 taken)
-    last_words words write taken small read long fits taken_fits first cells last =
+    pub last_words : (wide : ℕ) (words : List ℕ) (write taken : ℕ) → capacity < 2 ^ 32 → HasRead v w → length words ≡ 4 + wide → write < 2 ^ 64 → taken < 2 ^ 64
+        → WasRead code kind capacity v w 0 write → CellsRead code kind capacity v w words → WasRead code kind capacity w w 1 taken → LastWords code kind wide capacity v (set (set words 0 (max write taken)) 1 taken)
+    last_words wide words write taken small read long fits taken_fits first cells last =
         let a : List ℕ = set words 0 (max write taken) in
         let la = length-set words 0 (max write taken) in
         let lb = length-set a 1 taken in

@@ -14,6 +14,7 @@ use Rattle.history.specs.History.{Called}
 use Rattle.history.proofs.Known.{sum_first}
 use Rattle.lock_free_sp.specs.Shares.{IsAll}
 use Rattle.lock_free_queues.specs.Queues.Goes.{MissesNothing}
+use Rattle.lock_free_queues.specs.Queues.Overflowing.{HasOverflowed}
 use Rattle.lock_free_queues.specs.Queues.Sums.{puts, gets, HasDone}
 use Rattle.lock_free_queues.specs.Queues.Told.{HasPushed, WasAtEnd, HasPopped, HasMeasured, HasAcquired, HasReleased}
 
@@ -46,6 +47,12 @@ module _ {T : Type 0} where
       where
         same_made : new.made ≡ old.made → HasDone 0 0 old new
         same_made e = record { puts_more = (let a = ap (sum_by puts) e in omega arith); gets_more = (let b = ap (sum_by gets) e in omega arith) }
+
+    pub done_added : (value : ℕ) → HasOverflowed value None old new → HasDone 1 0 old new
+    done_added value h = (let d = done h.by _ _ _ old new h.called in record { puts_more = d.puts_more; gets_more = d.gets_more })
+
+    pub done_replaced : (value oldest : ℕ) → HasOverflowed value (Some oldest) old new → HasDone 1 1 old new
+    done_replaced value oldest h = (let d = done h.by _ _ _ old new h.called in record { puts_more = d.puts_more; gets_more = d.gets_more })
 
     pub done_popped : (item : Item T) → HasPopped (Some item) old new → HasDone 0 1 old new
     done_popped item h = (let d = done h.by _ _ _ old new h.called in record { puts_more = d.puts_more; gets_more = d.gets_more })

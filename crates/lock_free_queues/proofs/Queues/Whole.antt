@@ -8,6 +8,7 @@ use Rattle.model.specs.declared.event.Event.{Event}
 use Rattle.model.specs.declared.event.Event.TheVariants.{Begun, Acted, Finished}
 use Rattle.model.specs.declared.event.Item.{Item}
 use Rattle.model.specs.declared.event.Start.TheVariants.{Queues}
+use Rattle.model.specs.declared.families.queues.QueueKind.{QueueKind}
 use Rattle.model.specs.declared.families.queues.QueueStart.TheVariants.{Pop}
 use Rattle.model.specs.Families.Queues.Reading.{publishes, hands_out, published, handed_out}
 use Rattle.lock_free_sp.specs.Shares.{IsAll}
@@ -17,13 +18,11 @@ use Rattle.history.proofs.Known.{sum_first}
 use Rattle.model.specs.declared.turn.Kind.{Kind}
 use Rattle.model.specs.Coding.{Coding}
 use Rattle.queue_laws.proofs.Queues.Invariant.{machine_kind}
-use Rattle.queue_laws.proofs.Ring.Kinds.{Ring, kind_of}
 use Rattle.lock_free_queues.specs.Queues.Goes.{Goes, MissesNothing}
-use Rattle.lock_free_queues.specs.Queues.Told.{HasPopped, WasEmpty}
-use Rattle.lock_free_queues.proofs.Queues.Facts.{was_empty}
-use Rattle.lock_free_queues.proofs.Queues.Positions.{sound_history}
+use Rattle.lock_free_queues.specs.Queues.Told.{HasPopped, FoundNone}
+use Rattle.lock_free_queues.proofs.Queues.Facts.{found_none, listed_always}
 
-none_more : {A : Type 0} (xs ys zs : List A) → zs ≡ xs ++ ys → length zs ≡ length xs → zs ≡ xs
+pub none_more : {A : Type 0} (xs ys zs : List A) → zs ≡ xs ++ ys → length zs ≡ length xs → zs ≡ xs
 none_more xs [] zs is long = is ∙ append-nil xs
 none_more xs (y ∷ ys) zs is long = (let all = ap length is in let both = length-append xs (y ∷ ys) in absurd (omega arith))
 
@@ -55,17 +54,19 @@ module _ {T : Type 0} (m : Event T → List (Item T)) where
         none_more (flat_map m old.seen) (flat_map m goes.since.rest) (flat_map m new.seen) (ap (flat_map m) goes.since.is ∙ flat_map-append m old.seen goes.since.rest) (omega arith)
 
 -- where a pop finds nothing, all that was published was taken
-pub all_taken : {T : Type 0} (code : Coding T) (r : Ring) (capacity : ℕ) (old new : View T) → IsAll old.share → MissesNothing old → Goes code (machine_kind (kind_of r)) capacity old new → HasPopped None old new → (published new.seen ≡ published old.seen) × (handed_out new.seen ≡ published new.seen)
-all_taken {T} code r capacity old new all before goes popping =
+pub all_taken : {T : Type 0} (code : Coding T) (kd : QueueKind) (capacity : ℕ) (old new : View T) → IsAll old.share → MissesNothing old → Goes code (machine_kind kd) capacity old new → HasPopped None old new → (published new.seen ≡ published old.seen) × (handed_out new.seen ≡ published new.seen)
+all_taken {T} code kd capacity old new all before goes popping =
     let p = popping.by in
     let es : List (Event T) = Begun p (Queues Pop) ∷ Acted p (Queues Pop) PoppedNone ∷ Finished p (Queues Pop) PoppedNone ∷ [] in
-    let out : published new.seen ≡ published old.seen = nothing_more publishes code (machine_kind (kind_of r)) capacity old new es all before goes popping.called.made refl in
-    let took : handed_out new.seen ≡ handed_out old.seen = nothing_more hands_out code (machine_kind (kind_of r)) capacity old new es all before goes popping.called.made refl in
-    let empty : WasEmpty old new = was_empty code r capacity old new goes.history popping in
-    let book = (sound_history code r capacity new.seen goes.history).book empty.before (Acted empty.by (Queues Pop) PoppedNone ∷ empty.after) empty.is in
-    let same : published empty.before ≡ published old.seen = between publishes empty.before (Acted empty.by (Queues Pop) PoppedNone ∷ empty.after) old new empty.since empty.is out in
+    let out : published new.seen ≡ published old.seen = nothing_more publishes code (machine_kind kd) capacity old new es all before goes popping.called.made refl in
+    let took : handed_out new.seen ≡ handed_out old.seen = nothing_more hands_out code (machine_kind kd) capacity old new es all before goes popping.called.made refl in
+    let empty : FoundNone old new = found_none code kd capacity old new goes.history popping in
+    let after : List (Event T) = Acted empty.by (Queues Pop) PoppedNone ∷ empty.after in
+    let book = (listed_always code capacity new.seen kd goes.history empty.before after empty.is).book in
+    let same : published empty.before ≡ published old.seen = between publishes empty.before after old new empty.since empty.is out in
+    let taken : handed_out empty.before ≡ handed_out old.seen = between hands_out empty.before after old new empty.since empty.is took in
     let rest : published empty.before ≡ handed_out empty.before = book ∙ (ap (λ xs. handed_out empty.before ++ xs) empty.empty ∙ append-nil (handed_out empty.before)) in
-    (out, took ∙ (sym empty.next ∙ (sym rest ∙ (same ∙ sym out))))
+    (out, took ∙ (sym taken ∙ (sym rest ∙ (same ∙ sym out))))
   where
     -- what stands between two that tell the same
     between : (m : Event T → List (Item T)) (xs ys : List (Event T)) (v w : View T) → IsBeginning v.seen xs → w.seen ≡ xs ++ ys → flat_map m w.seen ≡ flat_map m v.seen → flat_map m xs ≡ flat_map m v.seen

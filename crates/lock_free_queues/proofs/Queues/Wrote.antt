@@ -5,8 +5,8 @@ use Rattle.std.proofs.lemmas.List.Sums.{fold-append}
 use Rattle.std.specs.List.{flat_map}
 use Rattle.steps.specs.declared.queues.roles.Role.{Role}
 use Rattle.steps.specs.declared.queues.roles.Role.TheVariants.{Producer, Consumer}
-use Rattle.history.specs.Roles.{ByHolder, role_after, marks}
-use Rattle.history.proofs.Holders.{back_over, forth_over, ArePlain}
+use Rattle.history.specs.Roles.{ByHolderOf, role_after, marks}
+use Rattle.history.proofs.Holders.{back_over_of, forth_over_of, ArePlain}
 use Rattle.history.proofs.Known.{by_more}
 use Rattle.model.specs.Families.Queues.Roles.{GrantsRight}
 use Rattle.std.proofs.lemmas.Bool.Decides.{nat_tests}
@@ -21,7 +21,7 @@ use Rattle.history.specs.Known.{events_by}
 
 module _ {T : Type 0} where
   -- the first event of the party stands somewhere
-  find_own : (p : ℕ) (xs es : List (Event T)) (e : Event T) → events_by p xs ≡ e ∷ es → (ls : List (Event T)) × (rs : List (Event T)) × (xs ≡ ls ++ e ∷ rs) × (events_by p ls ≡ []) × (events_by p rs ≡ es)
+  pub find_own : (p : ℕ) (xs es : List (Event T)) (e : Event T) → events_by p xs ≡ e ∷ es → (ls : List (Event T)) × (rs : List (Event T)) × (xs ≡ ls ++ e ∷ rs) × (events_by p ls ≡ []) × (events_by p rs ≡ es)
   find_own p [] es e is = absurd (cc)
   find_own p (x ∷ xs) es e is = go (λ rest. find_own p xs es e rest) (is_party p (whose x)) refl
     where
@@ -47,7 +47,7 @@ module _ {T : Type 0} where
     pub since : IsBeginning base.seen before
     -- where the party held a role there, nobody else did since
     pub mine : events_by p after ≡ own
-    pub next : (role : Role) → Each ByHolder w.seen → held role before ≡ Some p → flat_map (marks role) before ≡ flat_map (marks role) base.seen
+    pub next : (role : Role) → Each (ByHolderOf role) w.seen → held role before ≡ Some p → flat_map (marks role) before ≡ flat_map (marks role) base.seen
 
   pub each_left : {P : List (Event T) → Event T → Type 0} (xs ys : List (Event T)) → Each P (xs ++ ys) → Each P xs
   each_left xs ys each before after e is = each before (after ++ ys) e (ap (λ zs. zs ++ ys) is ∙ append_assoc before (e ∷ after) ys)
@@ -60,17 +60,17 @@ module _ {T : Type 0} where
   begun_marks Producer p start = refl
   begun_marks Consumer p start = refl
 
-  module _ (role : Role) (p : ℕ) (start : Start T) (seen others part : List (Event T)) (each : Each ByHolder ((seen ++ others) ++ Begun p start ∷ part)) (none_others : events_by p others ≡ []) (none_part : events_by p part ≡ []) (holds : held role ((seen ++ others) ++ Begun p start ∷ part) ≡ Some p) where
+  module _ (role : Role) (p : ℕ) (start : Start T) (seen others part : List (Event T)) (each : Each (ByHolderOf role) ((seen ++ others) ++ Begun p start ∷ part)) (none_others : events_by p others ≡ []) (none_part : events_by p part ≡ []) (holds : held role ((seen ++ others) ++ Begun p start ∷ part) ≡ Some p) where
     split : ((seen ++ others) ++ Begun p start ∷ []) ++ part ≡ (seen ++ others) ++ Begun p start ∷ part
     split = append_assoc (seen ++ others) (Begun p start ∷ []) part
 
     later : (held role ((seen ++ others) ++ Begun p start ∷ []) ≡ Some p) × (flat_map (marks role) part ≡ [])
-    later = back_over p role ((seen ++ others) ++ Begun p start ∷ []) part (subst (Each ByHolder) (sym split) each) none_part (ap (held role) split ∙ holds)
+    later = back_over_of p role ((seen ++ others) ++ Begun p start ∷ []) part (subst (Each (ByHolderOf role)) (sym split) each) none_part (ap (held role) split ∙ holds)
 
     earlier : (held role seen ≡ Some p) × (flat_map (marks role) others ≡ [])
     earlier =
         let back : held role (seen ++ others) ≡ Some p = sym (begun_leaves role (held role (seen ++ others)) p start) ∙ (sym (fold-append (role_after role) None (seen ++ others) (Begun p start ∷ [])) ∙ later.0) in
-        back_over p role seen others (each_left (seen ++ others) (Begun p start ∷ part) each) none_others back
+        back_over_of p role seen others (each_left (seen ++ others) (Begun p start ∷ part) each) none_others back
 
     pub none_between : flat_map (marks role) ((seen ++ others) ++ Begun p start ∷ part) ≡ flat_map (marks role) seen
     none_between =
@@ -101,16 +101,16 @@ module _ {T : Type 0} where
         is = whole;
         since = record { rest = c.others ++ Begun p start ∷ part.0; is = append_assoc base.seen c.others (Begun p start ∷ part.0) };
         mine = by_more p part.1 last ∙ (ap (λ zs. zs ++ events_by p last) part.4 ∙ ap (λ zs. es ++ zs) (it_is p start answer));
-        next = λ role each holds. none_between role p start base.seen c.others part.0 (each_left (xs ++ Begun p start ∷ part.0) (e ∷ (part.1 ++ last)) (subst (Each ByHolder) whole each)) c.others_own part.3 holds;
+        next = λ role each holds. none_between role p start base.seen c.others part.0 (each_left (xs ++ Begun p start ∷ part.0) (e ∷ (part.1 ++ last)) (subst (Each (ByHolderOf role)) whole each)) c.others_own part.3 holds;
       }
 
   -- with the event that the holder wrote the list is longer by what it tells, and by nothing else
-  pub listed : (role : Role) (p : ℕ) (e : Event T) (own : List (Event T)) (base w : View T) (at : Wrote p e own base w) → Each ByHolder w.seen → Each GrantsRight w.seen → held role at.before ≡ Some p → role_after role (Some p) e ≡ Some p → ArePlain p role own → flat_map (marks role) w.seen ≡ flat_map (marks role) base.seen ++ marks role e
+  pub listed : (role : Role) (p : ℕ) (e : Event T) (own : List (Event T)) (base w : View T) (at : Wrote p e own base w) → Each (ByHolderOf role) w.seen → Each GrantsRight w.seen → held role at.before ≡ Some p → role_after role (Some p) e ≡ Some p → ArePlain p role own → flat_map (marks role) w.seen ≡ flat_map (marks role) base.seen ++ marks role e
   listed role p e own base w at each grants holds stays plain =
       let m = marks {T = T} role in
       let split : w.seen ≡ (at.before ++ e ∷ []) ++ at.after = at.is ∙ sym (append_assoc at.before (e ∷ []) at.after) in
       let now : held role (at.before ++ e ∷ []) ≡ Some p = fold-append (role_after role) None at.before (e ∷ []) ∙ (ap (λ o. role_after role o e) holds ∙ stays) in
-      let rest : flat_map m at.after ≡ [] = forth_over p role (at.before ++ e ∷ []) at.after (subst (Each ByHolder) split each) (subst (Each GrantsRight) split grants) (subst (ArePlain p role) (sym at.mine) plain) now in
+      let rest : flat_map m at.after ≡ [] = forth_over_of p role (at.before ++ e ∷ []) at.after (subst (Each (ByHolderOf role)) split each) (subst (Each GrantsRight) split grants) (subst (ArePlain p role) (sym at.mine) plain) now in
       ap (flat_map m) at.is
       ∙ (flat_map-append m at.before (e ∷ at.after)
       ∙ (ap (λ zs. flat_map m at.before ++ (m e ++ zs)) rest

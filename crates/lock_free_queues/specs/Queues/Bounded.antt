@@ -2,13 +2,11 @@
 use Rattle.model.specs.declared.families.queues.QueueKind.{QueueKind}
 use Rattle.model.specs.declared.families.queues.QueueKind as queues
 use Rattle.model.specs.declared.turn.Kind.{Kind}
-use Rattle.model.specs.declared.turn.Kind.TheVariants as kinds
+use Rattle.queue_laws.proofs.Queues.Invariant.{machine_kind}
 
 -- the machine that has such a queue
 abbrev pub machine_of : QueueKind → Kind
-machine_of queues.TheVariants.IndexQueue = kinds.IndexQueue
-machine_of queues.TheVariants.Overflow = kinds.Overflow
-machine_of queues.TheVariants.Queue = kinds.Queue
+machine_of kind = machine_kind kind
 
 -- a push to a full one is refused: those of indices and of values
 abbrev pub IsBounded : QueueKind → Type 0

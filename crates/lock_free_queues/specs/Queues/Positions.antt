@@ -1,5 +1,5 @@
 -- Positions of a queue, by a history: how many were published, or handed out, before.
-use Rattle.std.specs.Prelude.{◌≡◌, ◌≤◌, ℕ, List, ◌∷◌, ◌++◌, length}
+use Rattle.std.specs.Prelude.{◌≡◌, ◌≤◌, ℕ, ◌+◌, List, ◌∷◌, ◌++◌, length}
 use Rattle.model.specs.declared.event.Event.{Event}
 use Rattle.model.specs.declared.event.Event.TheVariants.{Published, HandedOut}
 use Rattle.model.specs.declared.event.Item.{Item}
@@ -8,6 +8,7 @@ use Rattle.model.specs.Families.Queues.Lengths.{TellsLength}
 use Rattle.model.specs.Families.Queues.Reading.{published, handed_out, waiting}
 use Rattle.model.specs.Families.Queues.Roles.{GrantsRight}
 use Rattle.model.specs.Reading.{Each}
+use Rattle.history.specs.Overflow.{ByOverHolder}
 use Rattle.history.specs.Roles.{ByHolder}
 
 module _ {T : Type 0} where
@@ -36,3 +37,19 @@ module _ {T : Type 0} where
     pub lengths : Each (TellsLength capacity) events
     pub roles : Each GrantsRight events
     pub holders : Each ByHolder events
+
+  -- What every history of an overflowing queue of this capacity says of itself: at any time what was handed out is a
+  -- beginning of what was published, each value as the oldest that waited, and at most one more than the capacity
+  -- waits; each answer is right; and who publishes has the producer's role, who takes out one of the two.
+  pub record IsOverSound (capacity : ℕ) (events : List (Event T)) : Type 0 where
+    pub book : (part rest : List (Event T)) → events ≡ part ++ rest
+        → published part ≡ handed_out part ++ waiting part
+    pub few : (part rest : List (Event T)) → events ≡ part ++ rest
+        → length (waiting part) ≤ capacity + 1
+    pub oldest : (before after : List (Event T)) (p : ℕ) (x : Item T)
+        → events ≡ before ++ HandedOut p x ∷ after
+        → (rest : List (Item T)) × (waiting before ≡ x ∷ rest)
+    pub answers : Each (AnswersRight capacity) events
+    pub lengths : Each (TellsLength capacity) events
+    pub roles : Each GrantsRight events
+    pub holders : Each ByOverHolder events

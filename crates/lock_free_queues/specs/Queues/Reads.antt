@@ -1,11 +1,12 @@
 -- What the words say that are read while a queue is closed.
-use Rattle.std.specs.Prelude.{◌≡◌, ℕ, ◌+◌, ◌*◌, ◌^◌, ◌<◌, ◌≤◌, max, List, length, slice_index}
+use Rattle.std.specs.Prelude.{◌≡◌, ℕ, ◌+◌, ◌^◌, ◌<◌, ◌≤◌, max, List, length, slice_index}
 use Rattle.model.specs.declared.turn.Kind.{Kind}
 use Rattle.model.specs.Coding.{Coding}
 use Rattle.model.specs.World.{Trace}
 use Rattle.lock_free_sp.specs.Shares.{IsAll}
 use Rattle.history.specs.declared.view.View.{View}
 use Rattle.history.specs.History.{IsBeginning, IsRun}
+use Rattle.lock_free_queues.specs.Queues.Goes.{MissesNothing}
 
 module _ {T : Type 0} (code : Coding T) (kind : Kind) where
   -- the word was read of a machine whose history lies between the two
@@ -26,15 +27,17 @@ module _ {T : Type 0} (code : Coding T) (kind : Kind) where
 pub record HasRead {T : Type 0} (old new : View T) : Type 0 where
   pub share : new.share ≡ old.share
   pub since : IsBeginning old.seen new.seen
+  pub made : new.made ≡ old.made
   pub whole : IsAll old.share → new.seen ≡ old.seen
+  pub all : MissesNothing new
 
--- the words, with the positions of the list, and what stood there
-pub record LastWords {T : Type 0} (code : Coding T) (kind : Kind) (capacity : ℕ) (old : View T)
+-- the words, so many of them of cells, with the positions of the list, and what stood there
+pub record LastWords {T : Type 0} (code : Coding T) (kind : Kind) (wide capacity : ℕ) (old : View T)
     (words : List ℕ) : Type 0 where
   pub new : View T
   pub read : HasRead old new
   pub small : capacity < 2 ^ 32
-  pub long : length words ≡ 4 + code.size * capacity
+  pub long : length words ≡ 4 + wide
   pub write : ℕ
   pub taken : ℕ
   pub fits : write < 2 ^ 64

@@ -45,8 +45,8 @@ module _ {T : Type 0} where
     pub end : length (published new.seen) ≡ 2 ^ 64 - 1
     pub list : published new.seen ≡ published old.seen
 
-  -- The item was published after all that was seen. Its position is the number of those that were published before it, and
-  -- these are all known: right after the last one that was seen.
+  -- The item was published after all that was seen. Its position is the number of those that were published before it,
+  -- and these are all known: right after the last one that was seen.
   pub record HasPublished (item : Item T) (old new : View T) : Type 0 where
     pub by : ℕ
     pub before : List (Event T)
@@ -105,6 +105,25 @@ module _ {T : Type 0} where
     pub next : handed_out before ≡ handed_out old.seen
     pub empty : waiting before ≡ []
     pub list : handed_out new.seen ≡ handed_out old.seen
+
+  -- the item was taken out after all that was seen, as the oldest that waited
+  pub record HasTakenFirst (item : Item T) (old new : View T) : Type 0 where
+    pub by : ℕ
+    pub before : List (Event T)
+    pub after : List (Event T)
+    pub is : new.seen ≡ before ++ HandedOut by item ∷ after
+    pub since : IsBeginning old.seen before
+    pub rest : List (Item T)
+    pub oldest : waiting before ≡ item ∷ rest
+
+  -- as the pop acted nothing waited
+  pub record FoundNone (old new : View T) : Type 0 where
+    pub by : ℕ
+    pub before : List (Event T)
+    pub after : List (Event T)
+    pub is : new.seen ≡ before ++ Acted by (Queues Pop) PoppedNone ∷ after
+    pub since : IsBeginning old.seen before
+    pub empty : waiting before ≡ []
 
   -- ---- lengths
 

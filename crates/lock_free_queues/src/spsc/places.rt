@@ -1,6 +1,9 @@
 //! Where a queue stands that opens after so many pushes and pops.
-ghost use Rattle.std.specs.Prelude.{◌≡◌, min};
+ghost use Rattle.std.specs.Prelude.{◌≡◌, ◌<◌, ◌^◌, ◌∷◌, ◌++◌, [], min, replicate, IfOk};
 ghost use Rattle.lock_free_queues.specs.Queues.Opened.{position_at};
+
+use std::alloc::{AllocError, Global};
+use steps::queues::ring::{CONSUMER, FIRST_CELL, PRODUCER, READ, WRITE};
 
 /// Where both positions stand. Without capacity nothing was pushed.
 pub fn start_at(capacity: u32, position: u64) -> u64
@@ -19,4 +22,18 @@ pub fn cells_used(capacity: u32, position: u64) -> u64
     } else {
         capacity
     }
+}
+
+/// The words of a queue with both positions here, both roles free and zeros in so many words of cells, and one word
+/// more.
+pub fn empty_words(alloc: Global, cells: usize, start: u64) -> Result<Vec<u64>, AllocError>
+    requires { cells < 2 ^ 63 }
+    ensures { IfOk result (λ words. words.items ≡ start ∷ start ∷ 1 ∷ 1 ∷ (replicate cells 0 ++ 0 ∷ [])) }
+{
+    let mut words = Vec::from_elem(alloc, 0u64, FIRST_CELL + cells + 1)?;
+    words[WRITE] = start;
+    words[READ] = start;
+    words[PRODUCER] = 1;
+    words[CONSUMER] = 1;
+    Ok(words)
 }

@@ -15,10 +15,13 @@ use steps::words::Words;
 mod calls;
 mod drives;
 mod ends;
+mod handles;
 mod loads;
 mod make;
 mod passes;
 pub mod rule;
+
+pub use handles::Handle;
 
 /// A value that threads share by reference. One producer at a time stores it, and any number of readers load it whole.
 /// After `UnrestrictedAtomic` of the Rust crate.

@@ -15,6 +15,7 @@ use Rattle.model.specs.declared.families.queues.Roles.{Roles}
 use Rattle.model.specs.Families.Queues.Calls.{words_of_index}
 use Rattle.queue_laws.proofs.Queues.Core.{Core, Holds}
 use Rattle.queue_laws.proofs.Queues.Core.{GoesUp}
+pub use Rattle.queue_laws.specs.Fresh.{IsFreshOver}
 
 -- ---- the calls by their stages
 
@@ -40,11 +41,6 @@ KnowsOverflowPush c k v (overflow_pushes.TheVariants.StoresWrite write read) =
 KnowsOverflowPush c k v (overflow_pushes.TheVariants.MovesRead read) =
     (0 < c) × (read ≤ k.read) × (k.write ≡ read + c + 1) × (read ≡ k.read → (others : List ℕ) × (k.waiting ≡ others ++ v ∷ []))
 KnowsOverflowPush c k v (overflow_pushes.TheVariants.LoadsCell read) = (0 < c) × (read < k.read) × (k.write ≡ read + c + 1)
-
--- a push that is to load the write position does not find the last
-abbrev pub IsFreshOver : ℕ → overflow_pushes.PushStage → Type 0
-IsFreshOver write overflow_pushes.TheVariants.LoadsWrite = write < 2 ^ 64 - 1
-IsFreshOver write stage = Unit {0}
 
 -- once the cell is loaded, the room has the front value, unless the read position has moved
 abbrev pub KnowsOverflowPop : ℕ → Core ℕ → OneWord → overflow_pops.PopStage → Type 0

@@ -1,5 +1,5 @@
 -- Runs in which no push finds the last position, and no store of the single value the last version.
-use Rattle.std.proofs.Common.{◌≡◌, ℕ, Some, None, List, [], ◌∷◌, ◌++◌, get_or, refl, sym, ap, subst, ◌∙◌}
+use Rattle.std.proofs.Common.{◌≡◌, ℕ, None, List, [], ◌∷◌, ◌++◌, get_or, refl, sym, ap, subst, ◌∙◌}
 use Rattle.model.specs.declared.families.Flight.{Flight}
 use Rattle.model.specs.declared.families.Flight as flights
 use Rattle.model.specs.declared.families.atomic.calls.AtomicFlight as values
@@ -21,12 +21,12 @@ use Rattle.model.specs.Refusals.{call_refusal}
 use Rattle.model.specs.declared.turn.Kind.{Kind}
 use Rattle.model.proofs.Reached.{turn_making}
 use Rattle.model.specs.declared.turn.Turn.{Turn}
-use Rattle.model.specs.declared.turn.Turn.TheVariants.{Next}
 use Rattle.queue_laws.proofs.Queues.Runs.{AllMay}
-use Rattle.model.specs.World.{Trace, opening, flight_in}
+use Rattle.model.specs.World.{Trace, opening}
 use Rattle.queue_laws.proofs.Overflow.Knows.{overflow_push_at}
 use Rattle.queue_laws.proofs.Queues.Knows.{IsFreshAt, IsFreshStore, IsFreshCall}
 use Rattle.queue_laws.proofs.Ring.Knows.{IsFresh}
+pub use Rattle.queue_laws.specs.Fresh.{IsFreshTurn, IsFreshRun}
 
 -- a push loads the write position first
 module _ {T : Type 0} (z : Coding T) where
@@ -101,19 +101,6 @@ module _ {T : Type 0} (z : Coding T) where
       go (stores.TheVariants.StoresCell cell at) h = tt
       go stores.TheVariants.AddsVersion h = tt
   fresh_any words flight h = tt
-
--- the turn is no push that finds the last position by its first load, and no store of the single value that finds the
--- last version so
-abbrev pub IsFreshTurn : {T : Type 0} → Trace T → Turn T → Type 0
-IsFreshTurn {T} t (Next p) = (flight : Flight T) → flight_in t.world p ≡ Some flight → IsFreshCall (old_of t.world.words (ask_of (want_of t.world.coding flight))) flight
-IsFreshTurn t turn = Unit {0}
-
--- some turns lead here from the opening, none of which is a push that finds the last position, nor a store that finds
--- the last version
-pub record IsFreshRun {T : Type 0} (t : Trace T) : Type 0 where
-  pub turns : List (Turn T)
-  pub is : t ≡ run_on turns (opening t.world.coding t.world.kind t.world.capacity t.world.parties)
-  pub fresh : AllMay IsFreshTurn turns (opening t.world.coding t.world.kind t.world.capacity t.world.parties)
 
 module _ {T : Type 0} where
   run_more : (turns : List (Turn T)) (turn : Turn T) (t : Trace T) → run_on (turns ++ turn ∷ []) t ≡ attempt_on (run_on turns t) turn

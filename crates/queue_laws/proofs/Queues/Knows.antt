@@ -38,6 +38,7 @@ use Rattle.model.specs.declared.families.Flight as flights
 use Rattle.model.specs.declared.families.atomic.calls.AtomicFlight as values
 use Rattle.queue_laws.proofs.Ring.Knows.{ring_number, IsFresh, PushAt, PopAt}
 use Rattle.queue_laws.proofs.Overflow.Knows.{IsFreshOver, KnowsBacks, backs_keep, overflow_wrote, overflow_push_number, overflow_pop_number, OverflowAt}
+pub use Rattle.queue_laws.specs.Fresh.{IsFreshStore, IsFreshAt, IsFreshCall}
 
 -- ---- the words
 
@@ -100,11 +101,6 @@ fresh_over write (overflow_pushes.TheVariants.StoresCell w read) low = tt
 fresh_over write (overflow_pushes.TheVariants.StoresWrite w read) low = tt
 fresh_over write (overflow_pushes.TheVariants.MovesRead read) low = tt
 fresh_over write (overflow_pushes.TheVariants.LoadsCell read) low = tt
-
--- of a store of the single value
-abbrev pub IsFreshStore : ℕ → stores.StoreStage → Type 0
-IsFreshStore version stores.TheVariants.LoadsVersion = version < 2 ^ 64 - 1
-IsFreshStore version stage = Unit {0}
 
 fresh_store : (version : ℕ) (stage : stores.StoreStage) → version < 2 ^ 64 - 1 → IsFreshStore version stage
 fresh_store version stores.TheVariants.LoadsVersion low = low
@@ -201,12 +197,6 @@ module _ {T : Type 0} where
 
   -- ---- a call that is to load the number which it moves finds another than the last
 
-  abbrev pub IsFreshAt : ℕ → QueueFlight T → Type 0
-  IsFreshAt write (Indices (rings.TheVariants.Push run)) = IsFresh write run.call.stage
-  IsFreshAt write (Values (rings.TheVariants.Push run)) = IsFresh write run.call.stage
-  IsFreshAt write (Overflow (overflows.TheVariants.Push run)) = IsFreshOver write run.call.stage
-  IsFreshAt write flight = Unit {0}
-
   pub all_fresh : (write : ℕ) (flight : QueueFlight T) → write < 2 ^ 64 - 1 → IsFreshAt write flight
   all_fresh write (Role call) low = tt
   all_fresh write (Indices (rings.TheVariants.Push run)) low = fresh_push write run.call.stage low
@@ -216,12 +206,6 @@ module _ {T : Type 0} where
   all_fresh write (Overflow (overflows.TheVariants.Push run)) low = fresh_over write run.call.stage low
   all_fresh write (Overflow (overflows.TheVariants.Pop run)) low = tt
   all_fresh write (Length which run) low = tt
-
-  -- of any call of a machine: a push finds the write position, a store of the single value its version
-  abbrev pub IsFreshCall : ℕ → Flight T → Type 0
-  IsFreshCall found (flights.TheVariants.Queues flight) = IsFreshAt found flight
-  IsFreshCall found (flights.TheVariants.Atomic (values.TheVariants.Store run)) = IsFreshStore found run.call.stage
-  IsFreshCall found flight = Unit {0}
 
   pub any_fresh : (found : ℕ) (flight : Flight T) → found < 2 ^ 64 - 1 → IsFreshCall found flight
   any_fresh found (flights.TheVariants.Queues flight) low = all_fresh found flight low

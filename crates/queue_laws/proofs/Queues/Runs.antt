@@ -1,48 +1,31 @@
--- The laws of a family with a premise on the turn (trial: they stand in model's Frame in place of LawsWhere).
-use Rattle.std.proofs.Common.{◌≡◌, ◌≢◌, ℕ, ◌+◌, ◌-◌, ◌^◌, ◌<◌, ◌≤◌, ⊎_elim, Bool, true, false, not, Option, Some, None, List, [], ◌∷◌, ◌++◌, fold, refl, sym, ap, subst, ◌∙◌, append-nil, arith}
-use Rattle.std.proofs.lemmas.Bool.{cases_eq}
+-- The laws of a family with a premise on the turn.
+use Rattle.std.proofs.Common.{◌≡◌, ℕ, ◌+◌, Bool, true, Option, Some, None, List, [], ◌∷◌, ◌++◌, refl, sym, ap, subst, ◌∙◌, append-nil}
 use Rattle.steps.specs.declared.ask.Ask.{Ask}
-use Rattle.model.specs.declared.event.Answer.{Answer}
-use Rattle.model.specs.declared.event.Event.{Event}
 use Rattle.model.specs.declared.event.Event.TheVariants.{Begun, Died}
 use Rattle.model.specs.declared.event.Start.{Start}
 use Rattle.model.specs.declared.families.Flight.{Flight}
-use Rattle.model.specs.declared.families.Kept.{Kept}
 use Rattle.model.specs.declared.party.Doing.{Doing}
 use Rattle.model.specs.declared.party.Doing.TheVariants.{Going, Over}
 use Rattle.model.specs.declared.party.Party.{Party}
-use Rattle.model.specs.declared.turn.Kind.{Kind}
 use Rattle.model.specs.declared.turn.Turn.{Turn}
 use Rattle.model.specs.declared.turn.Turn.TheVariants.{Begin, Next, Decide, Die}
-use Rattle.model.specs.Coding.{Coding}
-use Rattle.model.specs.Families.{first_of, want_of, ask_of, is_question, going_rows, has_owners, kept_after_begin, kept_after_death}
-use Rattle.model.specs.Families.Loan.Opening.{is_loan}
-use Rattle.model.specs.Parties.{party_of, put, doing_of, flight_of, progress_after}
-use Rattle.model.specs.Promises.Bounds.{Progresses}
-use Rattle.model.specs.Promise.{Promise}
-use Rattle.model.specs.Promises.Spans.{Stands, StandsRight}
-use Rattle.model.specs.Reading.{Each, Span, Never, Open, Ended, own_after, span_of}
+use Rattle.model.specs.Families.{first_of, want_of, ask_of, is_question, going_rows, kept_after_begin}
+use Rattle.model.specs.Parties.{party_of, doing_of, flight_of}
+use Rattle.model.specs.Promises.Spans.{StandsRight}
+use Rattle.model.specs.Reading.{span_of}
 use Rattle.model.specs.Refusals.{call_refusal, is_due}
 use Rattle.model.specs.Rows.{first_row}
-use Rattle.model.specs.Shape.{IsShut}
-use Rattle.model.specs.Turns.{old_of, words_after, change_of, step_count, number_of, ask_of_doing, party_at_begin, after_begin, party_after, after_step, step_in, after_answer, after_next, after_decision, after_turn, events_of_step, events_of_answer, events_of_next, events_of_decision, IsReached, IsReachedOn}
-use Rattle.model.specs.World.{Trace, opening, opened, queue_error, flight_in}
-use Rattle.model.proofs.Openings.{opened_others}
-use Rattle.model.proofs.Parties.{party_put_same, party_put_other}
-use Rattle.model.proofs.Reached.{kept_by_runs, kept_by_runs_on}
-use Rattle.model.proofs.Readings.{AreRight, Each-append, AreOwn, AllFollow, span_of-own, span_of-other, span_of-death, spans_right}
-use Rattle.model.proofs.Rows.{may_begin, may_die, must_be_due, next_passes, decision_passes, passes, MayBegin, MayDie}
+use Rattle.model.specs.Turns.{old_of, change_of, step_count, number_of, ask_of_doing, party_at_begin, after_begin, party_after, after_step, step_in, after_answer, after_next, after_decision, after_turn, events_of_step, events_of_answer, events_of_next, events_of_decision}
+use Rattle.model.specs.World.{Trace, flight_in}
+use Rattle.model.proofs.Readings.{Each-append, span_of-death}
+use Rattle.model.proofs.Rows.{may_begin, may_die, must_be_due, next_passes, decision_passes, MayBegin, MayDie}
 use Rattle.model.proofs.Frame as frame
 use Rattle.model.proofs.Frame.{Family, Sound, is_true}
 use Rattle.model.specs.declared.turn.Refusal.{Refusal}
 use Rattle.model.specs.Turns.{run_on, attempt_on, unless_refused}
+pub use Rattle.queue_laws.specs.Fresh.{AllMay}
 
 -- ---- runs of turns that may be taken
-
-module _ {T : Type 0} where
-  abbrev pub AllMay : (Trace T → Turn T → Type 0) → List (Turn T) → Trace T → Type 0
-  AllMay May [] t = Unit {0}
-  AllMay May (turn ∷ turns) t = (call_refusal t.world turn ≡ None → May t turn) × AllMay May turns (attempt_on t turn)
 
 module _ {T : Type 0} (F : Family T) where
   -- what a family owes, of a call that passes its rows, in a machine of which this holds

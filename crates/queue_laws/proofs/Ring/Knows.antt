@@ -8,6 +8,7 @@ use Rattle.model.specs.declared.families.queues.calls.RingCall as rings
 use Rattle.model.specs.declared.families.queues.Roles.{Roles}
 use Rattle.model.specs.Coding.{Coding}
 use Rattle.queue_laws.proofs.Queues.Core.{Core, Holds}
+pub use Rattle.queue_laws.specs.Fresh.{IsFresh}
 
 -- ---- the calls by their stages
 
@@ -42,11 +43,6 @@ module _ {V : Type 0} (en : Coding V) where
       × ((i : ℕ) → i < at → get_or room i 0 ≡ get_or (en.words_of v) i 0)
   KnowsPop c k room (pops.TheVariants.StoresRead read) =
       (rest : List V) × (read ≡ k.read) × (k.waiting ≡ value_in en.value_of en.size room ∷ rest)
-
--- a push that is to load the write position does not find the last
-abbrev pub IsFresh : ℕ → pushes.PushStage → Type 0
-IsFresh write pushes.TheVariants.LoadsWrite = write < 2 ^ 64 - 1
-IsFresh write stage = Unit {0}
 
 -- how many steps the call has taken at most, where a value has so many words
 abbrev pub push_number : ℕ → pushes.PushStage → ℕ

@@ -2,7 +2,7 @@
 ghost use Rattle.std.specs.Prelude.{◌≡◌, [], IfSome};
 ghost use Rattle.lock_free.specs.Unique.Held.{HoldsNothing};
 ghost use Rattle.lock_free.specs.UniqueIndexSet.{made, IsPassOf};
-ghost use Rattle.lock_free.specs.Ends as ends;
+ghost use Rattle.lock_free.specs.Queues.Rings as ends;
 ghost use Rattle.lock_free.specs.Loan.Sender.{submission_of, IsSenderOf};
 
 use lock_free::mpmc::unique_index_set::{Pass, UniqueIndexSet};

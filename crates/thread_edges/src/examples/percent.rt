@@ -1,9 +1,7 @@
 //! A value whose type has a fact: each one that is popped or loaded has it too.
 ghost use Rattle.std.specs.Prelude.{◌≤◌, IfSome};
-ghost use Rattle.lock_free.specs.Value.Calls.{IsPassOf};
 
-use lock_free::spmc::unrestricted_atomic;
-use lock_free::spmc::unrestricted_atomic::UnrestrictedAtomic;
+use lock_free::spmc::unrestricted_atomic::{Handle, UnrestrictedAtomic};
 use lock_free::spsc::queue;
 use lock_free::spsc::queue::Queue;
 use lock_free::words::Words;
@@ -60,16 +58,11 @@ fn pop_percent(consumer: &mut queue::Consumer<'_, Percent>) -> Option<u8>
     Some(percent.value)
 }
 
-/// Loads a number, of a version not below any that the pass knows. It is at most 100, whoever stored it.
-fn load_percent(
-    rt: &impl Wait,
-    value: &UnrestrictedAtomic<Percent>,
-    pass: &mut unrestricted_atomic::Pass<Percent>,
-) -> u8
-    requires { IsPassOf value.now pass.old }
+/// Loads a number, which is at most 100 whoever stored it.
+fn load_percent(rt: &impl Wait, value: &mut Handle<'_, Percent>) -> u8
     ensures { result ≤ 100 }
 {
-    value.load(rt, pass).value
+    value.load(rt).value
 }
 
 #[test]
@@ -86,7 +79,7 @@ fn a_percent_through_a_queue(rt: HostRuntime) -> Result<(), Fail> {
 
 #[test]
 fn a_percent_that_is_stored(rt: HostRuntime) -> Result<(), Fail> {
-    let (value, mut pass) = UnrestrictedAtomic::new(rt.alloc(), Percent { value: 40 })?;
-    assert_eq!(rt; load_percent(&rt, &value, &mut pass), 40);
+    let (value, pass) = UnrestrictedAtomic::new(rt.alloc(), Percent { value: 40 })?;
+    assert_eq!(rt; load_percent(&rt, &mut value.handle(pass)), 40);
     Ok(())
 }

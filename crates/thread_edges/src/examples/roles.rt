@@ -1,18 +1,20 @@
 //! A role that another may have.
 ghost use Rattle.std.specs.Prelude.{◌≡◌, IfOk};
-ghost use Rattle.lock_free.specs.Ends.{view, queue_of, IsPassOf, producer_view, producer_queue};
-ghost use Rattle.lock_free.specs.Ring.Views.{with_producer};
+ghost use Rattle.lock_free.specs.Queues.Calls.{view, queue_of, IsPassOf, producer_view, producer_queue};
+ghost use Rattle.lock_free.specs.Queues.Sums.{HasDone};
 
 use lock_free::spsc::index_queue::{IndexQueue, Pass, Producer};
 use std::sync::Wait;
 use std::test::Fail;
 use std::thread;
 
-/// Waits for the producer's role: where another has it, the pass comes back, as it was.
+/// Waits for the producer's role: where another has it, the pass comes back, and has seen more. It neither pushes nor
+/// pops.
 fn wait_for_producer<'a>(rt: &impl Wait, queue: &'a IndexQueue, pass: Pass) -> Producer<'a>
     requires { IsPassOf queue.now pass }
     ensures queue { producer_queue result ≡ queue_of pass }
-    ensures view { producer_view result ≡ with_producer (view pass) }
+    ensures share { (producer_view result).share ≡ (view pass).share }
+    ensures none { HasDone 0 0 (view pass) (producer_view result) }
 {
     let mut waiting = pass;
     for _ in rt.forever() {

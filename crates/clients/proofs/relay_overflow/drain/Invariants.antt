@@ -1,5 +1,5 @@
-use Rattle.std.proofs.Common.{◌≡◌, ℕ, List, ◌++◌}
-use Rattle.lock_free.specs.Ends.{consumer_view, consumer_queue}
+use Rattle.std.proofs.Common.{◌≡◌, ◌<◌, ℕ, List, ◌++◌}
+use Rattle.lock_free.specs.Queues.Overflowing.{consumer_view, consumer_queue}
 use Rattle.clients.specs.Overflow.{HasTaken}
 use Rattle.clients.proofs.relay_overflow.drain.Given as goal
 
@@ -8,4 +8,4 @@ invariant-loop g l =
     (consumer_queue l.consumer ≡ consumer_queue l.fn.consumer)
     × (more : List ℕ)
     × (l.numbers.items ≡ l.fn.numbers.items ++ more)
-    × HasTaken more (consumer_view l.fn.consumer) (consumer_view l.consumer)
+    × (0 < (consumer_queue l.fn.consumer).capacity → HasTaken more (consumer_view l.fn.consumer) (consumer_view l.consumer))

@@ -1,20 +1,24 @@
 //! The calls of a sender, each an equation on its table.
-ghost use Rattle.std.specs.Prelude.{◌≡◌, ◌⊎◌, ◌↔◌, IsTrue, IfOk, IfErr, IfSome, IfNone, slice_set, map, replicate, count_by};
+ghost use Rattle.std.specs.Prelude.{◌≡◌, ◌⊎◌, ◌↔◌, ◌<◌, Some, IsTrue, IfOk, IfErr, IfSome, IfNone, slice_set, map, replicate, count_by};
 ghost use Rattle.lock_free.specs.UniqueIndexSet.{view, made, set_of, capacity_of, IsPassOf};
 ghost use Rattle.steps.specs.declared.indices.enums.ReleaseState.TheVariants.{Unlocked};
 ghost use Rattle.lock_free.specs.Unique.Held.{HoldsNothing};
 ghost use Rattle.lock_free.specs.Unique.Told.{HasAcquired, WasRefused, HasGiven};
-ghost use Rattle.lock_free_sp.specs.Ends.{producer_view, producer_queue, consumer_view, consumer_queue};
-ghost use Rattle.lock_free_sp.specs.Ring.Calls.{HasAdded, HasReplaced, WasHandedBack, HasPopped, WasEmpty};
+ghost use Rattle.std.specs.Option.{option_map};
+ghost use Rattle.model.specs.declared.event.Item.TheVariants.{Index};
+ghost use Rattle.lock_free_queues.specs.Queues.Calls as returns;
+ghost use Rattle.lock_free_queues.specs.Queues.Overflowing as sends;
+ghost use Rattle.lock_free_queues.specs.Queues.Overflowing.{HasOverflowed, TookNone};
+ghost use Rattle.lock_free_queues.specs.Queues.Told.{HasPublished, HasPopped, HasTakenOut, HasTakenFirst, WasEmpty};
 ghost use Rattle.lock_free.specs.declared.spsc.loan.places.Place.TheVariants.{Free, Loaned, Sent};
 ghost use Rattle.lock_free.specs.Loan.Places.{is_out, is_sent, place_at, returned, reclaimed, IsBookOf};
-ghost use Rattle.lock_free.specs.Loan.Sender.{places_of, pass_view, share_of, submission_view, completion_view, submission_of, KeepsQueues, set_of_sender, IsSame, IsSenderOf, IsLoaned};
+ghost use Rattle.lock_free.specs.Loan.Sender.{places_of, pass_view, share_of, submission_view, completion_view, submission_of, completion_of, KeepsQueues, set_of_sender, IsSame, IsSenderOf, IsLoaned};
 
 use super::places::Place;
 use super::{LoanError, LoanSender};
 use crate::mpmc::unique_index_set::{Pass, UniqueIndexSet};
 use crate::mpmc::unique_index_set_enums::UniqueIndexSetAcquireFailure;
-use lock_free_sp::spsc::{index_queue, safely_overflowing_index_queue as overflow};
+use lock_free_queues::spsc::{index_queue, safely_overflowing_index_queue as overflow};
 use std::alloc::Global;
 use std::sync::Wait;
 
@@ -35,11 +39,12 @@ impl<'a> LoanSender<'a> {
         ensures free { IfOk result (λ s. places_of s ≡ replicate (capacity_of set.now) Free) }
         ensures set { IfOk result (λ s. IsSenderOf set.now s) }
         ensures pass { IfOk result (λ s. pass_view s ≡ view pass) }
-        ensures queue { IfOk result (λ s. submission_of s ≡ producer_queue submission.entry) }
+        ensures queues { IfOk result (λ s. (submission_of s ≡ sends.producer_queue submission.entry)
+            × (completion_of s ≡ returns.consumer_queue completion.entry)) }
         ensures submission { IfOk result
-            (λ s. submission_view s ≡ producer_view submission.entry) }
+            (λ s. submission_view s ≡ sends.producer_view submission.entry) }
         ensures completion { IfOk result
-            (λ s. completion_view s ≡ consumer_view completion.entry) }
+            (λ s. completion_view s ≡ returns.consumer_view completion.entry) }
         ensures refused { IfErr result
             (λ r. (set_of r.1 ≡ set_of pass) × (view r.1 ≡ view pass)) }
     {
@@ -146,11 +151,18 @@ impl<'a> LoanSender<'a> {
             (places_of self.new ≡ slice_set (places_of self.old) index Sent) }
         ensures back { IfSome result (λ y. places_of self.new
             ≡ returned y (slice_set (places_of self.old) index Sent)) }
-        ensures added { IfNone result
-            (HasAdded index (submission_view self.old) (submission_view self.new)) }
+        ensures goes { 0 < (submission_of self.old).capacity
+            → sends.GoesOn (submission_of self.old).capacity (submission_view self.old) (submission_view self.new) }
+        ensures called { HasOverflowed index result (submission_view self.old) (submission_view self.new)
+            ⊎ (result ≡ Some index)
+            × TookNone (submission_of self.old).capacity (submission_view self.old) (submission_view self.new) }
+        ensures published { IfNone result
+            (HasPublished (Index index) (submission_view self.old) (submission_view self.new)) }
         ensures handed_back { IfSome result
-            (λ y. HasReplaced index y (submission_view self.old) (submission_view self.new)
-            ⊎ WasHandedBack index y (submission_view self.old) (submission_view self.new)) }
+            (λ y. HasPublished (Index index) (submission_view self.old) (submission_view self.new)
+            × HasTakenFirst (Index y) (submission_view self.old) (submission_view self.new)
+            ⊎ (y ≡ index)
+            × TookNone (submission_of self.old).capacity (submission_view self.old) (submission_view self.new)) }
         ensures completion { completion_view self.new ≡ completion_view self.old }
         ensures same { IsSame self.old self.new }
         ensures share { share_of self.new ≡ share_of self.old }
@@ -168,8 +180,12 @@ impl<'a> LoanSender<'a> {
     pub fn take_back(&mut self) -> Option<u64>
         ensures back { IfSome result
             (λ y. places_of self.new ≡ returned y (places_of self.old)) }
+        ensures goes { returns.GoesOn (completion_of self.old).capacity
+            (completion_view self.old) (completion_view self.new) }
+        ensures called { HasPopped (option_map Index result)
+            (completion_view self.old) (completion_view self.new) }
         ensures popped { IfSome result
-            (λ y. HasPopped y (completion_view self.old) (completion_view self.new)) }
+            (λ y. HasTakenOut (Index y) (completion_view self.old) (completion_view self.new)) }
         ensures none { IfNone result (places_of self.new ≡ places_of self.old) }
         ensures empty { IfNone result
             (WasEmpty (completion_view self.old) (completion_view self.new)) }
@@ -189,12 +205,12 @@ impl<'a> LoanSender<'a> {
     /// Both queues are popped until they are empty, so no bound stands where another thread gives back at the same time;
     /// at most 5 atomic steps for each index that is freed.
     pub fn reclaim(&mut self, rt: &impl Wait, receiver: &mut overflow::Consumer<'_>) -> usize
-        requires { consumer_queue receiver.old ≡ submission_of self.old }
+        requires { sends.consumer_queue receiver.old ≡ submission_of self.old }
         ensures places { places_of self.new ≡ map reclaimed (places_of self.old) }
         ensures number { result ≡ count_by is_sent (places_of self.old) }
         ensures same { IsSame self.old self.new }
         ensures share { share_of self.new ≡ share_of self.old }
-        ensures receiver { consumer_queue receiver.new ≡ consumer_queue receiver.old }
+        ensures receiver { sends.consumer_queue receiver.new ≡ sends.consumer_queue receiver.old }
     {
         for _ in rt.forever() {
             if receiver.pop(rt).is_none() {

@@ -1,4 +1,4 @@
-use Rattle.lock_free_queues.proofs.Queues.Sums.{done_pushed, done_refused, done_popped, done_none, done_acquired, done_released, done_measured}
+use Rattle.lock_free_queues.proofs.Queues.Sums.{done_pushed, done_refused, done_added, done_replaced, done_popped, done_none, done_acquired, done_released, done_measured}
 use Rattle.lock_free_queues.proofs.laws.calls_are_counted.Goals as goal
 
 pub returns-clause-pushed : goal.returns-clause-pushed
@@ -6,6 +6,12 @@ returns-clause-pushed g c value old new h = done_pushed old new value h
 
 pub returns-clause-refused : goal.returns-clause-refused
 returns-clause-refused g c value taken old new is h = done_refused old new value taken is h
+
+pub returns-clause-added : goal.returns-clause-added
+returns-clause-added g c value old new h = done_added old new value h
+
+pub returns-clause-replaced : goal.returns-clause-replaced
+returns-clause-replaced g c value oldest old new h = done_replaced old new value oldest h
 
 pub returns-clause-popped : goal.returns-clause-popped
 returns-clause-popped g c value old new h = done_popped old new value h

@@ -1,5 +1,5 @@
-use Rattle.lock_free_queues.proofs.Queues.Promised.{emptied}
+use Rattle.lock_free_queues.proofs.Queues.Whole.{all_taken}
 use Rattle.lock_free_queues.proofs.laws.emptied_is_all.Goals as goal
 
 pub returns : goal.returns
-returns g c code kind capacity old new b all before goes popping = emptied code kind capacity old new b all before goes popping
+returns g c code kind capacity old new all before goes popping = all_taken code kind capacity old new all before goes popping

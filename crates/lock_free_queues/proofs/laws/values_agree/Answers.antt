@@ -2,4 +2,4 @@ use Rattle.lock_free_queues.proofs.Queues.Promised.{agree}
 use Rattle.lock_free_queues.proofs.laws.values_agree.Goals as goal
 
 pub returns : goal.returns
-returns g c code kind capacity p q i x y v bounded h a b = agree code kind capacity p q i x y v bounded h a b
+returns g c code kind capacity p q i x y v h a b = agree code kind capacity p q i x y v h a b

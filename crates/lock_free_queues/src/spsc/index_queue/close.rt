@@ -1,57 +1,15 @@
 //! How a queue ends: what waits in it goes on as the queue of one caller.
-ghost use Rattle.std.specs.Prelude.{◌≡◌, ◌+◌, ◌<◌, ◌^◌, IfOk, IfErr};
+ghost use Rattle.std.specs.Prelude.{◌≡◌, IfOk, IfErr};
 ghost use Rattle.steps.specs.declared.enums.UniqueIndexCreationError.TheVariants.{NoMemory};
-ghost use Rattle.model.specs.Coding.{one_word};
 ghost use Rattle.model.specs.declared.event.Item.TheVariants.{Index};
-ghost use Rattle.model.specs.declared.turn.Kind.TheVariants as kinds;
-ghost use Rattle.lock_free_queues.specs.Queues.Calls.{capacity_of, inner, token_queue, token_view, view, IsPassOf};
+ghost use Rattle.lock_free_queues.specs.Queues.Calls.{capacity_of, inner, view, IsPassOf};
 ghost use Rattle.lock_free_queues.specs.Queues.Closes.{Closes};
-ghost use Rattle.lock_free_queues.specs.Queues.Reads.{WasRead, HasRead, LastWords};
 
-use super::drives::Look;
-use super::{FixedSizeIndexQueue, IndexQueue, Pass, Token};
+use super::{FixedSizeIndexQueue, IndexQueue, Pass};
+use crate::spsc::ring;
 use plain::IndexQueue as List;
-use std::alloc::{AllocError, Global};
 use steps::enums::UniqueIndexCreationError;
-use steps::queues::ring::{FIRST_CELL, READ, WRITE};
-
-impl Token {
-    /// One load, which shows the whole history as it stands there.
-    pub fn read(&mut self, word: usize) -> u64
-        requires { word < 4 + (token_queue self.old).capacity }
-        ensures queue { token_queue self.new ≡ token_queue self.old }
-        ensures fits { result < 2 ^ 64 }
-        ensures read { HasRead (token_view self.old) (token_view self.new) }
-        ensures found { WasRead one_word kinds.IndexQueue (token_queue self.old).capacity (token_view self.old) (token_view self.new) word result }
-        ensures last { WasRead one_word kinds.IndexQueue (token_queue self.old).capacity (token_view self.new) (token_view self.new) word result }
-    {
-        let seated = &mut self.seated;
-        seated.table.shared.load::<Look>(&mut seated.seat, word)
-    }
-
-    /// The words of the list that the queue is in the end: two loads, and one for each cell. What is published after the
-    /// first load is not in it, and the read position, which comes last, says what was taken.
-    pub fn last_words(&mut self, alloc: Global) -> Result<Vec<u64>, AllocError>
-        ensures { IfOk result (λ words. LastWords one_word kinds.IndexQueue (token_queue self.old).capacity (token_view self.old) words.items) }
-    {
-        let count = FIRST_CELL + self.capacity as usize;
-        let mut words = Vec::with_capacity(alloc, count)?;
-        let write = self.read(WRITE);
-        words.push_reserved(write);
-        words.push_reserved(0);
-        words.push_reserved(1);
-        words.push_reserved(1);
-        for at in FIRST_CELL..count {
-            let word = self.read(at);
-            words.push_reserved(word);
-        }
-        let read = self.read(READ);
-        // all that was published before the first load may have been taken, and more
-        words[WRITE] = write.max(read);
-        words[READ] = read;
-        Ok(words)
-    }
-}
+use steps::queues::ring::FIRST_CELL;
 
 impl IndexQueue {
     /// The queue of one caller that this one is in the end. Each number that the pass has seen published waits in it at
@@ -65,9 +23,9 @@ impl IndexQueue {
         ensures list { IfOk result (λ q. Closes Index (capacity_of self) (view pass) q) }
         ensures refused { IfErr result (λ e. e ≡ NoMemory) }
     {
-        let Pass { mut token } = pass;
+        let ring::Pass { mut token } = pass;
         let capacity = token.capacity;
-        match token.last_words(self.alloc) {
+        match token.last_words(self.alloc, FIRST_CELL + capacity as usize) {
             Ok(words) => Ok(List::of_words(words, capacity)),
             Err(_) => Err(UniqueIndexCreationError::NoMemory),
         }
@@ -82,7 +40,7 @@ impl<const CAPACITY: usize> FixedSizeIndexQueue<CAPACITY> {
         ensures list { IfOk result (λ q. Closes Index CAPACITY (view pass) q) }
         ensures refused { IfErr result (λ e. e ≡ NoMemory) }
     {
-        let FixedSizeIndexQueue { queue } = self;
-        queue.close(pass)
+        let ring::FixedSize { ring } = self;
+        ring.close(pass)
     }
 }

@@ -1,53 +1,11 @@
-//! How a role is taken and given back, and the calls of those that have it.
-ghost use Rattle.std.specs.Prelude.{◌≡◌, ◌⊎◌, true, false, IsTrue, IsFalse, IfOk, IfErr, IfSome, IfNone};
+//! The calls of those that have a role.
+ghost use Rattle.std.specs.Prelude.{◌≡◌, ◌⊎◌, false, IsTrue, IsFalse, IfSome, IfNone};
 ghost use Rattle.std.specs.Option.{option_map};
-ghost use Rattle.steps.specs.declared.queues.roles.Role.TheVariants as roles;
 ghost use Rattle.model.specs.declared.event.Item.TheVariants.{Index};
-ghost use Rattle.model.specs.Families.Queues.Reading.{published, handed_out};
-ghost use Rattle.lock_free_queues.specs.Queues.Calls.{queue_of, view, producer_queue, producer_view, consumer_queue, consumer_view, IsPassOf, GoesOn};
-ghost use Rattle.lock_free_queues.specs.Queues.Told.{HasPushed, HasPublished, HasTakenOut, WasAtEnd, WasFull, HasPopped, WasEmpty, HasAcquired, HasReleased};
+ghost use Rattle.lock_free_queues.specs.Queues.Calls.{producer_queue, producer_view, consumer_queue, consumer_view, GoesOn};
+ghost use Rattle.lock_free_queues.specs.Queues.Told.{HasPushed, HasPublished, HasTakenOut, WasAtEnd, WasFull, HasPopped, WasEmpty};
 
-use super::{Consumer, IndexQueue, Pass, Producer};
-
-impl IndexQueue {
-    /// Takes the producer's role, or hands the pass back where another has it. One atomic step. After
-    /// `acquire_producer` of the Rust crate.
-    pub fn acquire_producer(&self, pass: Pass) -> Result<Producer<'_>, Pass>
-        requires { IsPassOf self.now pass }
-        ensures acquired { IfOk result (λ p. (producer_queue p ≡ queue_of pass)
-            × GoesOn (queue_of pass).capacity (view pass) (producer_view p)
-            × HasAcquired roles.Producer true (view pass) (producer_view p)) }
-        ensures refused { IfErr result (λ p. (queue_of p ≡ queue_of pass)
-            × GoesOn (queue_of pass).capacity (view pass) (view p)
-            × HasAcquired roles.Producer false (view pass) (view p)) }
-    {
-        let Pass { mut token } = pass;
-        if token.take_producer() {
-            Ok(Producer { queue: self, token })
-        } else {
-            Err(Pass { token })
-        }
-    }
-
-    /// Takes the consumer's role, or hands the pass back where another has it. One atomic step. After
-    /// `acquire_consumer` of the Rust crate.
-    pub fn acquire_consumer(&self, pass: Pass) -> Result<Consumer<'_>, Pass>
-        requires { IsPassOf self.now pass }
-        ensures acquired { IfOk result (λ c. (consumer_queue c ≡ queue_of pass)
-            × GoesOn (queue_of pass).capacity (view pass) (consumer_view c)
-            × HasAcquired roles.Consumer true (view pass) (consumer_view c)) }
-        ensures refused { IfErr result (λ p. (queue_of p ≡ queue_of pass)
-            × GoesOn (queue_of pass).capacity (view pass) (view p)
-            × HasAcquired roles.Consumer false (view pass) (view p)) }
-    {
-        let Pass { mut token } = pass;
-        if token.take_consumer() {
-            Ok(Consumer { queue: self, token })
-        } else {
-            Err(Pass { token })
-        }
-    }
-}
+use super::{Consumer, Producer};
 
 impl<'a> Producer<'a> {
     /// Appends a number: true, or false where the queue is full or its write position at u64::MAX. At most 4 atomic
@@ -64,21 +22,6 @@ impl<'a> Producer<'a> {
     {
         self.token.push(value)
     }
-
-    /// Gives the role back and hands the pass out. One atomic step. This project's own, beside the drop.
-    pub fn release(self) -> Pass
-        ensures queue { queue_of result ≡ producer_queue self.entry }
-        ensures goes { GoesOn (producer_queue self.entry).capacity (producer_view self.entry) (view result) }
-        ensures released { HasReleased roles.Producer (producer_view self.entry) (view result) }
-        ensures list { published (view result).seen ≡ published (producer_view self.entry).seen }
-    {
-        let Producer {
-            queue: _,
-            mut token,
-        } = self;
-        token.leave_producer();
-        Pass { token }
-    }
 }
 
 impl<'a> Consumer<'a> {
@@ -92,20 +35,5 @@ impl<'a> Consumer<'a> {
         ensures empty { IfNone result (WasEmpty (consumer_view self.old) (consumer_view self.new)) }
     {
         self.token.pop()
-    }
-
-    /// Gives the role back and hands the pass out. One atomic step. This project's own, beside the drop.
-    pub fn release(self) -> Pass
-        ensures queue { queue_of result ≡ consumer_queue self.entry }
-        ensures goes { GoesOn (consumer_queue self.entry).capacity (consumer_view self.entry) (view result) }
-        ensures released { HasReleased roles.Consumer (consumer_view self.entry) (view result) }
-        ensures list { handed_out (view result).seen ≡ handed_out (consumer_view self.entry).seen }
-    {
-        let Consumer {
-            queue: _,
-            mut token,
-        } = self;
-        token.leave_consumer();
-        Pass { token }
     }
 }

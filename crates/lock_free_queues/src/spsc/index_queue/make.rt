@@ -7,15 +7,11 @@ ghost use Rattle.history.specs.Views.{first_view};
 ghost use Rattle.lock_free_queues.specs.Queues.Opened.{opened_view};
 ghost use Rattle.lock_free_queues.specs.Queues.Calls.{capacity_of, inner, IsPassOf, view};
 
-use super::rule::Origin;
-use super::{FixedSizeIndexQueue, IndexQueue, Pass, Token};
-use crate::spsc::places::start_at;
-use atomic_table::Table;
-use lock_free_sp::driver::seated::Seated;
+use super::{FixedSizeIndexQueue, IndexQueue, Pass};
+use crate::spsc::places::{empty_words, start_at};
+use crate::spsc::ring;
 use std::alloc::{AllocError, Global};
-use std::sync::Arc;
 use steps::enums::{UniqueIndexCreationError, capacity_refusal};
-use steps::queues::ring::{CONSUMER, FIRST_CELL, PRODUCER, READ, WRITE};
 
 impl IndexQueue {
     /// An empty queue with both positions here, and its first pass.
@@ -24,29 +20,8 @@ impl IndexQueue {
         ensures capacity { IfOk result (λ r. capacity_of r.0 ≡ capacity) }
     {
         let start = start_at(capacity, position);
-        let mut words = Vec::from_elem(alloc, 0u64, FIRST_CELL + capacity as usize + 1)?;
-        words[WRITE] = start;
-        words[READ] = start;
-        words[PRODUCER] = 1;
-        words[CONSUMER] = 1;
-        let origin = Origin {
-            capacity: capacity as u64,
-            position,
-        };
-        let (table, seat) = Table::of_words(alloc, words.as_slice(), &origin)?;
-        let table = Arc::new(alloc, table)?;
-        let shared = Arc::try_clone(&table)?;
-        let seated = Seated {
-            seat,
-            table: shared,
-        };
-        let token = Token { seated, capacity };
-        let queue = IndexQueue {
-            table,
-            capacity,
-            alloc,
-        };
-        Ok((queue, Pass { token }))
+        let words = empty_words(alloc, capacity as usize, start)?;
+        IndexQueue::of_words(alloc, words, capacity, position)
     }
 
     /// An empty queue for at most `capacity` numbers, and its first pass, which has the whole share and has seen
@@ -103,7 +78,7 @@ impl<const CAPACITY: usize> FixedSizeIndexQueue<CAPACITY> {
         ensures refused { IfErr result (λ e. (capacity_refusal 0 (2 ^ 32 - 1) CAPACITY ≡ Some e)
             ⊎ (capacity_refusal 0 (2 ^ 32 - 1) CAPACITY ≡ None) × (e ≡ NoMemory)) }
     {
-        let (queue, pass) = IndexQueue::new(alloc, CAPACITY)?;
-        Ok((FixedSizeIndexQueue { queue }, pass))
+        let (ring, pass) = IndexQueue::new(alloc, CAPACITY)?;
+        Ok((ring::FixedSize { ring }, pass))
     }
 }

@@ -1,62 +1,16 @@
 //! How a queue ends: what waits in it goes on as the queue of one caller.
-ghost use Rattle.std.specs.Prelude.{◌≡◌, ◌+◌, ◌*◌, ◌<◌, ◌^◌, IfOk, IfErr};
+ghost use Rattle.std.specs.Prelude.{◌≡◌, IfOk, IfErr};
 ghost use Rattle.steps.specs.declared.enums.UniqueIndexCreationError.TheVariants.{NoMemory};
-ghost use Rattle.model.specs.Coding.{coding_of};
 ghost use Rattle.model.specs.declared.event.Item.TheVariants.{Value};
-ghost use Rattle.model.specs.declared.turn.Kind.TheVariants as kinds;
-ghost use Rattle.lock_free_queues.specs.Queues.Values.{capacity_of, inner, token_queue, token_view, view, IsPassOf};
+ghost use Rattle.lock_free_queues.specs.Queues.Values.{capacity_of, inner, view, IsPassOf};
 ghost use Rattle.lock_free_queues.specs.Queues.Closes.{Closes};
-ghost use Rattle.lock_free_queues.specs.Queues.Reads.{WasRead, HasRead, LastWords};
 
-use super::drives::Look;
-use super::rule::RingRule;
-use super::{Held, Pass, Queue, Ring};
+use super::{Pass, Queue, Ring};
+use crate::spsc::ring;
 use plain::Queue as List;
-use std::alloc::{AllocError, Global};
 use steps::enums::UniqueIndexCreationError;
-use steps::queues::ring::{FIRST_CELL, READ, WRITE};
+use steps::queues::ring::FIRST_CELL;
 use steps::words::Words;
-
-impl<T: Words> Held<T, RingRule<T>> {
-    /// One load, which shows the whole history as it stands there.
-    pub fn read(&mut self, word: usize) -> u64
-        requires { word < 4 + T.WORDS * (token_queue self.old).capacity }
-        ensures queue { token_queue self.new ≡ token_queue self.old }
-        ensures fits { result < 2 ^ 64 }
-        ensures read { HasRead (token_view self.old) (token_view self.new) }
-        ensures found { WasRead (coding_of T.WORDS T.words_of T.value_of) kinds.Queue (token_queue self.old).capacity
-            (token_view self.old) (token_view self.new) word result }
-        ensures last { WasRead (coding_of T.WORDS T.words_of T.value_of) kinds.Queue (token_queue self.old).capacity
-            (token_view self.new) (token_view self.new) word result }
-    {
-        let seated = &mut self.seated;
-        seated.table.shared.load::<Look>(&mut seated.seat, word)
-    }
-
-    /// The words of the list that the queue is in the end: two loads, and one for each word of the cells. What is
-    /// published after the first load is not in it, and the read position, which comes last, says what was taken.
-    pub fn last_words(&mut self, alloc: Global) -> Result<Vec<u64>, AllocError>
-        ensures { IfOk result (λ words. LastWords (coding_of T.WORDS T.words_of T.value_of) kinds.Queue
-            (token_queue self.old).capacity (token_view self.old) words.items) }
-    {
-        let count = FIRST_CELL + T::WORDS * self.capacity as usize;
-        let mut words = Vec::with_capacity(alloc, count)?;
-        let write = self.read(WRITE);
-        words.push_reserved(write);
-        words.push_reserved(0);
-        words.push_reserved(1);
-        words.push_reserved(1);
-        for at in FIRST_CELL..count {
-            let word = self.read(at);
-            words.push_reserved(word);
-        }
-        let read = self.read(READ);
-        // all that was published before the first load may have been taken, and more
-        words[WRITE] = write.max(read);
-        words[READ] = read;
-        Ok(words)
-    }
-}
 
 impl<T: Words> Ring<T> {
     /// The queue of one caller that this one is in the end. Each value that the pass has seen published waits in it at
@@ -70,9 +24,10 @@ impl<T: Words> Ring<T> {
         ensures list { IfOk result (λ q. Closes Value (capacity_of self) (view pass) q) }
         ensures refused { IfErr result (λ e. e ≡ NoMemory) }
     {
-        let Pass { mut token } = pass;
+        let ring::Pass { mut token } = pass;
         let capacity = token.capacity;
-        match token.last_words(self.alloc) {
+        let count = FIRST_CELL + T::WORDS * capacity as usize;
+        match token.last_words(self.alloc, count) {
             Ok(words) => Ok(List::of_words(words, capacity)),
             Err(_) => Err(UniqueIndexCreationError::NoMemory),
         }
@@ -87,7 +42,7 @@ impl<T: Words, const CAPACITY: usize> Queue<T, CAPACITY> {
         ensures list { IfOk result (λ q. Closes Value CAPACITY (view pass) q) }
         ensures refused { IfErr result (λ e. e ≡ NoMemory) }
     {
-        let Queue { ring } = self;
+        let ring::FixedSize { ring } = self;
         ring.close(pass)
     }
 }

@@ -7,16 +7,13 @@ ghost use Rattle.history.specs.Views.{first_view};
 ghost use Rattle.lock_free_queues.specs.Queues.Opened.{opened_view};
 ghost use Rattle.lock_free_queues.specs.Queues.Values.{capacity_of, inner, IsPassOf, view};
 
-use super::rule::Origin;
-use super::{Held, Pass, Queue, Ring};
-use crate::spsc::places::{cells_used, start_at};
-use atomic_table::Table;
-use lock_free_sp::driver::seated::Seated;
+use super::{Pass, Queue, Ring};
+use crate::spsc::places::{cells_used, empty_words, start_at};
+use crate::spsc::ring;
 use std::alloc::{AllocError, Global};
-use std::sync::Arc;
 use steps::copied::{Kept, Room};
 use steps::enums::{UniqueIndexCreationError, capacity_refusal};
-use steps::queues::ring::{CONSUMER, FIRST_CELL, PRODUCER, READ, WRITE};
+use steps::queues::ring::FIRST_CELL;
 use steps::words::Words;
 
 /// The value that words of zeros make.
@@ -37,36 +34,13 @@ impl<T: Words> Ring<T> {
         let start = start_at(capacity, position);
         let size = T::WORDS;
         let value = of_zeros::<T>();
-        let mut words = Vec::from_elem(alloc, 0u64, FIRST_CELL + size * capacity as usize + 1)?;
-        words[WRITE] = start;
-        words[READ] = start;
-        words[PRODUCER] = 1;
-        words[CONSUMER] = 1;
+        let mut words = empty_words(alloc, size * capacity as usize, start)?;
         let used = size * cells_used(capacity, position) as usize;
         for at in 0..used {
             let word = value.word(at % size);
             words[FIRST_CELL + at] = word;
         }
-        let origin = Origin {
-            capacity: capacity as u64,
-            position,
-        };
-        let (table, seat) = Table::of_words(alloc, words.as_slice(), &origin)?;
-        let table = Arc::new(alloc, table)?;
-        let shared = Arc::try_clone(&table)?;
-        let token = Held {
-            seated: Seated {
-                seat,
-                table: shared,
-            },
-            capacity,
-        };
-        let ring = Ring {
-            table,
-            capacity,
-            alloc,
-        };
-        Ok((ring, Pass { token }))
+        Ring::<T>::of_words(alloc, words, capacity, position)
     }
 
     /// An empty queue with both positions here, and its first pass.
@@ -85,7 +59,7 @@ impl<T: Words> Ring<T> {
         if let Some(error) = capacity_refusal(capacity as u64, 0, u32::MAX as u64) {
             return Err(error);
         }
-        match Ring::of(alloc, capacity as u32, position) {
+        match Ring::<T>::of(alloc, capacity as u32, position) {
             Ok(made) => Ok(made),
             Err(_) => Err(UniqueIndexCreationError::NoMemory),
         }
@@ -103,7 +77,7 @@ impl<T: Words, const CAPACITY: usize> Queue<T, CAPACITY> {
         ensures refused { IfErr result (λ e. (capacity_refusal 0 (2 ^ 32 - 1) CAPACITY ≡ Some e)
             ⊎ (capacity_refusal 0 (2 ^ 32 - 1) CAPACITY ≡ None) × (e ≡ NoMemory)) }
     {
-        Queue::new_at(alloc, 0)
+        Queue::<T, CAPACITY>::new_at(alloc, 0)
     }
 
     /// The same with both positions at `position`, as after so many pushes and pops of the value that words of zeros
@@ -118,7 +92,7 @@ impl<T: Words, const CAPACITY: usize> Queue<T, CAPACITY> {
         ensures refused { IfErr result (λ e. (capacity_refusal 0 (2 ^ 32 - 1) CAPACITY ≡ Some e)
             ⊎ (capacity_refusal 0 (2 ^ 32 - 1) CAPACITY ≡ None) × (e ≡ NoMemory)) }
     {
-        let (ring, pass) = Ring::open(alloc, CAPACITY, position)?;
-        Ok((Queue { ring }, pass))
+        let (ring, pass) = Ring::<T>::open(alloc, CAPACITY, position)?;
+        Ok((ring::FixedSize { ring }, pass))
     }
 }

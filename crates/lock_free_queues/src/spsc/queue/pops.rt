@@ -9,15 +9,15 @@ ghost use Rattle.lock_free_queues.specs.Queues.Roles.{Moved};
 ghost use Rattle.lock_free_queues.specs.Queues.Told.{HasPopped, HasTakenOut, WasEmpty};
 ghost use Rattle.lock_free_queues.specs.Queues.Values.{token_view, IsSameQueue};
 
-use super::Held;
 use super::drives::Pops;
-use super::rule::RingRule;
+use crate::spsc::ring::Held;
+use crate::spsc::ring::rule::{RingRule, Values};
 use steps::copied::{Kept, Room};
 use steps::queues::ring::Pop;
 use steps::routine::Routine;
 use steps::words::Words;
 
-impl<T: Words> Held<T, RingRule<T>> {
+impl<T: Words> Held<Values, T, RingRule<Values, T>> {
     /// Takes the oldest value, or None where the queue is empty.
     pub fn pop(&mut self) -> Option<T>
         requires { HasRole roles.Consumer (token_view self.old).made }

@@ -7,7 +7,7 @@ use atomic_table::Play;
 use history::view::View;
 use lock_free_sp::driver::rule::Drives;
 use std::marker::PhantomData;
-use steps::atomic::{Load, LoadStage, Store};
+use steps::atomic::{Load, Store};
 use steps::copied::Room;
 use steps::queues::roles::{AcquireRole, ReleaseRole};
 use steps::words::Words;
@@ -66,16 +66,6 @@ impl<T: Words, R: Room<T> + Drop> Drives<View<T>, Load<T, R>> for Loads<T, R> {
 
     ghost ends = { λ given. Ends (coding_of T.WORDS T.words_of T.value_of) kinds.Atomic
         (loads_value (coding_of T.WORDS T.words_of T.value_of) R.words_in) };
-
-    /// The loads of a cell come many times in a row.
-    #[inline(always)]
-    fn repeats(call: Load<T, R>) -> bool {
-        match call.stage {
-            LoadStage::LoadsVersion => false,
-            LoadStage::LoadsCell { .. } => true,
-            LoadStage::ChecksVersion { .. } => false,
-        }
-    }
 }
 
 /// A look at the whole history.

@@ -1,17 +1,137 @@
-//! The load at a seat, by way of a room.
+//! The load at a seat, by way of a room. The loads of a cell have a loop of their own.
 ghost use Rattle.std.specs.Prelude.{◌≡◌, ◌≤◌, ℕ, replicate};
+ghost use Rattle.steps.specs.Atomic.{at_load, first_load, load_after};
+ghost use Rattle.steps.specs.declared.atomic.LoadStage.TheVariants as stages;
+ghost use Rattle.model.specs.Coding.{coding_of};
+ghost use Rattle.lock_free_sp.specs.Seats as seats;
 ghost use Rattle.lock_free_value.specs.Calls.{seen, IsSame};
+ghost use Rattle.lock_free_value.specs.Loads.{IsBoard, LoadAt, LoadEnds, LoadNext};
 ghost use Rattle.lock_free_value.specs.Roles.{Moved};
 ghost use Rattle.lock_free_value.specs.Told.{HasLoaded};
 
 use super::Held;
 use super::drives::Loads;
-use super::rule::ValueRule;
+use super::rule::{Origin, ValueRule};
+use history::view::View;
+use lock_free_sp::driver::seated::Seated;
+use std::marker::PhantomData;
 use std::sync::Wait;
-use steps::atomic::Load;
+use steps::ask::After;
+use steps::atomic::{Load, LoadStage};
 use steps::copied::{Kept, Room};
 use steps::routine::Routine;
 use steps::words::Words;
+
+type Seat<T> = Seated<View<T>, Origin<T>, ValueRule<T>>;
+
+/// Takes one step of the load.
+#[inline(always)]
+fn step_load<T: Words, R: Room<T> + Drop>(
+    seat: &mut Seat<T>,
+    call: Load<T, R>,
+    room: &mut R,
+) -> After<Load<T, R>, ()>
+    requires board { IsBoard T.WORDS seat.old }
+    requires at { (base : View T) × LoadAt (coding_of T.WORDS T.words_of T.value_of) R.words_in base (seats.seen seat.old) call room.old }
+    ensures same { seats.IsSame seat.old seat.new }
+    ensures board { IsBoard T.WORDS seat.new }
+    ensures after { (k : ℕ) × (result ≡ load_after T.WORDS call k) }
+    ensures goes { (base : View T)
+        → LoadAt (coding_of T.WORDS T.words_of T.value_of) R.words_in base (seats.seen seat.old) call room.old
+        → LoadNext (coding_of T.WORDS T.words_of T.value_of) R.words_in base result room.new (seats.seen seat.new) }
+{
+    seat.step::<Load<T, R>, Loads<T, R>>(call, &(), room)
+}
+
+/// Takes the steps of the load that load the cell, from this place on. Their loop keeps no more than their stage does.
+#[inline(always)]
+fn copy_words<T: Words, R: Room<T> + Drop>(
+    seat: &mut Seat<T>,
+    version: u64,
+    cell: usize,
+    first: u8,
+    room: &mut R,
+) -> After<Load<T, R>, ()>
+    requires board { IsBoard T.WORDS seat.old }
+    requires at { (base : View T) × LoadAt (coding_of T.WORDS T.words_of T.value_of) R.words_in base (seats.seen seat.old)
+        (at_load first_load (stages.LoadsCell version cell first)) room.old }
+    ensures same { seats.IsSame seat.old seat.new }
+    ensures board { IsBoard T.WORDS seat.new }
+    ensures goes { (base : View T)
+        → LoadAt (coding_of T.WORDS T.words_of T.value_of) R.words_in base (seats.seen seat.old)
+        (at_load first_load (stages.LoadsCell version cell first)) room.old
+        → LoadNext (coding_of T.WORDS T.words_of T.value_of) R.words_in base result room.new (seats.seen seat.new) }
+{
+    let mut of = version;
+    let mut start = cell;
+    let mut place = first;
+    'words: loop {
+        let here = Load {
+            stage: LoadStage::LoadsCell {
+                version: of,
+                cell: start,
+                at: place,
+            },
+            of: PhantomData,
+        };
+        match step_load(seat, here, room) {
+            After::GoOn(next) => {
+                let stage = next.stage;
+                match stage {
+                    LoadStage::LoadsCell { version, cell, at } => {
+                        of = version;
+                        start = cell;
+                        place = at;
+                    }
+                    _ => return After::GoOn(next),
+                }
+            }
+            After::Done(end) => return After::Done(end),
+        }
+    }
+}
+
+/// Takes steps of the load.
+#[inline(always)]
+fn load_next<T: Words, R: Room<T> + Drop>(
+    seat: &mut Seat<T>,
+    call: Load<T, R>,
+    room: &mut R,
+) -> After<Load<T, R>, ()>
+    requires board { IsBoard T.WORDS seat.old }
+    requires at { (base : View T) × LoadAt (coding_of T.WORDS T.words_of T.value_of) R.words_in base (seats.seen seat.old) call room.old }
+    ensures same { seats.IsSame seat.old seat.new }
+    ensures board { IsBoard T.WORDS seat.new }
+    ensures goes { (base : View T)
+        → LoadAt (coding_of T.WORDS T.words_of T.value_of) R.words_in base (seats.seen seat.old) call room.old
+        → LoadNext (coding_of T.WORDS T.words_of T.value_of) R.words_in base result room.new (seats.seen seat.new) }
+{
+    let stage = call.stage;
+    match stage {
+        LoadStage::LoadsCell { version, cell, at } => copy_words(seat, version, cell, at, room),
+        _ => step_load(seat, call, room),
+    }
+}
+
+/// Takes the steps of the load, from its first one on.
+#[inline(always)]
+fn load_all<T: Words, R: Room<T> + Drop>(seat: &mut Seat<T>, rt: &impl Wait, room: &mut R) -> ()
+    requires board { IsBoard T.WORDS seat.old }
+    requires at { LoadAt (coding_of T.WORDS T.words_of T.value_of) R.words_in (seats.seen seat.old) (seats.seen seat.old)
+        first_load room.old }
+    ensures same { seats.IsSame seat.old seat.new }
+    ensures board { IsBoard T.WORDS seat.new }
+    ensures ends { LoadEnds (coding_of T.WORDS T.words_of T.value_of) R.words_in (seats.seen seat.old) result room.new (seats.seen seat.new) }
+{
+    let mut call = Load::new();
+    for _ in rt.forever() {
+        match load_next(seat, call, room) {
+            After::GoOn(next) => call = next,
+            After::Done(end) => return end,
+        }
+    }
+    unreachable!()
+}
 
 impl<T: Words> Held<T, ValueRule<T>> {
     /// The value at one moment of the call.
@@ -39,9 +159,7 @@ impl<T: Words> Held<T, ValueRule<T>> {
         ensures role { Moved 0 0 (seen self.old).made (seen self.new).made }
     {
         let mut room = room;
-        let end = self
-            .seated
-            .drive_on::<Load<T, R>, Loads<T, R>>(rt, Load::new(), &(), &mut room);
+        let end = load_all(&mut self.seated, rt, &mut room);
         Load::<T, R>::answer(end, &(), &room)
     }
 }

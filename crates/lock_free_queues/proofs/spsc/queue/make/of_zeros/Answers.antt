@@ -1,5 +1,5 @@
 use Rattle.std.proofs.Common.{◌∙◌}
-use Rattle.lock_free_queues.proofs.Queues.Opened.{zeros_in}
+use Rattle.lock_free_queues.proofs.Queues.Filled.{zeros_in}
 use Rattle.lock_free_queues.proofs.spsc.queue.make.of_zeros.Goals as goal
 
 pub returns : goal.returns

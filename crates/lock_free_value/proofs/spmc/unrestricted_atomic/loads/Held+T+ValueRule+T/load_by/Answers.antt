@@ -1,36 +1,26 @@
 use Rattle.std.proofs.Common.{ap, sym, subst, ◌∙◌}
-use Rattle.model.specs.declared.turn.Kind.TheVariants as kinds
 use Rattle.model.specs.Coding.{Coding, IsCoding, coding_of}
 use Rattle.history.specs.Rooms.{room_of}
-use Rattle.history.specs.Stages.{At}
-use Rattle.history.specs.Value.{loads_value}
 use Rattle.history.proofs.Rooms.{room_fresh}
-use Rattle.history.proofs.ValueCalls.{load_keeps_rule, load_first}
+use Rattle.history.proofs.ValueCalls.{load_first}
 use Rattle.lock_free_value.specs.Calls.{seen}
 use Rattle.lock_free_value.specs.Told.{HasLoaded}
 use Rattle.lock_free_value.proofs.Facts.{has_loaded}
 use Rattle.lock_free_value.proofs.spmc.unrestricted_atomic.loads.Held+T+ValueRule+T.load_by.Goals as goal
 
-pub drive_on-end-requires-clause-rule : goal.drive_on-end-requires-clause-rule
-drive_on-end-requires-clause-rule g c base v call m key =
-    let met = g.met.T.Words in
-    let code : Coding g.row.T.Denot = coding_of g.T.Words.WORDS g.T.Words.words_of g.T.Words.value_of in
-    let law : IsCoding code = record { some = met.some; few = met.few; sized = met.sized; given_back = met.given_back } in
-    load_keeps_rule code law g.R.Room.words_in g.R.Room.with_word g.met.R.Room.put_in base v call m 1
-
-pub drive_on-end-requires-clause-at : goal.drive_on-end-requires-clause-at
-drive_on-end-requires-clause-at g c =
+pub load_all-end-requires-clause-at : goal.load_all-end-requires-clause-at
+load_all-end-requires-clause-at g c =
     let mine = c.args.self.now in
     let met = g.met.T.Words in
     let code : Coding g.row.T.Denot = coding_of g.T.Words.WORDS g.T.Words.words_of g.T.Words.value_of in
     let law : IsCoding code = record { some = met.some; few = met.few; sized = met.sized; given_back = met.given_back } in
     let room = c.requires.room in
     let zeros = ap (room_of code.size) room.3 ∙ room_fresh code.size room.0 room.1 room.2 in
-    subst (λ call. At code kinds.Atomic (loads_value code g.R.Room.words_in) (seen mine) (seen mine) call c.args.room) (sym c.new.ensures) (load_first code law g.R.Room.words_in g.R.Room.with_word g.met.R.Room.put_in (seen mine) c.args.room zeros mine.idle mine.alone mine.some.0)
+    load_first code law g.R.Room.words_in g.R.Room.with_word g.met.R.Room.put_in (seen mine) c.args.room zeros mine.idle mine.alone mine.some.0
 
 pub returns-clause-loaded : goal.returns-clause-loaded
 returns-clause-loaded g c =
     let mine = c.args.self.now in
     let code : Coding g.row.T.Denot = coding_of g.T.Words.WORDS g.T.Words.words_of g.T.Words.value_of in
-    let w = c.drive_on-end.new.self.seat.me.0 in
-    subst (λ x. HasLoaded x (seen mine) w) (sym c.answer.ensures) (has_loaded code (seen mine) w mine.idle mine.known g.R.Room.words_in mine.begun c.drive_on-end.result c.drive_on-end.new.room c.drive_on-end.ensures.end)
+    let w = c.load_all-end.new.seat.seat.me.0 in
+    subst (λ x. HasLoaded x (seen mine) w) (sym c.answer.ensures) (has_loaded code (seen mine) w mine.idle mine.known g.R.Room.words_in mine.begun c.load_all-end.result c.load_all-end.new.room c.load_all-end.ensures.ends)

@@ -1,0 +1,139 @@
+-- What a call of the driver is as a call of a machine, and what is so as it takes a step.
+use Rattle.std.proofs.Common.{◌^◌, Bool, true, false, ◌≡◌, ℕ, ◌<◌, Option, Some, None, List, [], ◌∷◌, ◌++◌, refl, sym, ap, subst, ◌∙◌, append_assoc, append-nil, arith, fold, ◌==◌}
+use Rattle.std.proofs.lemmas.Bool.Decides.{nat_tests}
+use Rattle.std.proofs.lemmas.List.Sums.{fold-append}
+use Rattle.steps.specs.Ask.{written}
+use Rattle.steps.specs.declared.ask.Ask.{Ask}
+use Rattle.steps.specs.declared.ask.After.{After}
+use Rattle.steps.specs.declared.ask.After.TheVariants.{GoOn, Done}
+use Rattle.steps.specs.declared.ask.Want.{Want}
+use Rattle.steps.specs.declared.ask.Want.TheVariants as wants
+use Rattle.model.specs.declared.event.Answer.{Answer}
+use Rattle.model.specs.declared.event.Event.{Event}
+use Rattle.model.specs.declared.event.Event.TheVariants.{Begun}
+use Rattle.model.specs.declared.event.Start.{Start}
+use Rattle.model.specs.declared.families.Flight.{Flight}
+use Rattle.model.specs.declared.turn.Kind.{Kind}
+use Rattle.model.specs.Coding.{Coding}
+use Rattle.model.specs.Families.{want_of, after_of, ask_of}
+use Rattle.model.specs.Reading.{whose, is_party, span_of, span_after, own_after, Span, Never, Open}
+use Rattle.model.specs.Turns.{old_of}
+use Rattle.model.specs.World.{World, Trace}
+use Rattle.lock_free_sp.specs.Driver.{answered}
+use Rattle.lock_free_sp.specs.Shares.{IsAll}
+use Rattle.history.specs.declared.view.View.{View}
+use Rattle.history.specs.Known.{events_by}
+use Rattle.history.specs.History.{IsRun, IsLate, call_in}
+use Rattle.history.specs.Stages.{Calling, opened}
+use Rattle.queue_laws.proofs.Queues.Knows.{IsFreshCall}
+
+pub by_bool : {A : Type 0} → (b : Bool) → (b ≡ true → A) → (b ≡ false → A) → A
+by_bool true t f = t refl
+by_bool false t f = f refl
+
+pub no_rest : {A : Type 0} → (xs rest : List A) → xs ≡ xs ++ rest → rest ≡ []
+no_rest [] rest e = sym e
+no_rest (x ∷ xs) rest e = let same : xs ≡ xs ++ rest = cc in no_rest xs rest same
+
+pub same_rest : {A : Type 0} → (xs a b : List A) → xs ++ a ≡ xs ++ b → a ≡ b
+same_rest [] a b e = e
+same_rest (x ∷ xs) a b e = (let same : xs ++ a ≡ xs ++ b = cc in same_rest xs a b same)
+
+pub none_after : {A : Type 0} → (xs rest : List A) → [] ≡ xs ++ rest → rest ≡ []
+none_after [] rest e = sym e
+none_after (x ∷ xs) rest e = absurd (cc)
+
+-- a list that a call begins or goes on with, and more of it
+pub regroup : {A : Type 0} → (xs os ds es ls : List A) → (xs ++ (os ++ ds)) ++ (es ++ ls) ≡ xs ++ (os ++ ((ds ++ es) ++ ls))
+regroup xs os ds es ls = append_assoc xs (os ++ ds) (es ++ ls) ∙ ap (λ zs. xs ++ zs) (append_assoc os ds (es ++ ls) ∙ ap (λ zs. os ++ zs) (sym (append_assoc ds es ls)))
+
+-- a call of the driver as a call of the model
+module _ {T C M E : Type 0} (call : Calling T C M E) where
+  abbrev pub goes : After C E → M → After (Flight T) (Answer T)
+  goes (GoOn d) m = GoOn (call.flight d m)
+  goes (Done e) m = Done (call.answer e m)
+
+pub record IsCallOf {T C M E : Type 0} (code : Coding T) (effects : ℕ → Flight T → ℕ → List (Event T)) (size_of : ℕ → ℕ) (want : C → Want (Unit {0})) (after : C → ℕ → After C E) (kept : C → M → ℕ → M) (call : Calling T C M E) : Type 0 where
+  pub same_want : (c : C) (m : M) → want_of code (call.flight c m) ≡ want c
+  pub same_after : (capacity : ℕ) (c : C) (m : M) (n : ℕ) → call.stands capacity c → after_of code (call.flight c m) n ≡ goes call (after c n) (kept c m n)
+  pub hears : (c : C) (m : M) (a : Ask) (n : ℕ) → want c ≡ wants.Ask a → (after c (answered a.op n) ≡ after c n) × (kept c m (answered a.op n) ≡ kept c m n)
+  pub stays : (capacity : ℕ) (c d : C) (n : ℕ) → call.stands capacity c → after c n ≡ GoOn d → call.stands capacity d
+  pub asks : (capacity : ℕ) (c : C) → call.stands capacity c → (a : Ask) × (a.word < size_of capacity) × (want c ≡ wants.Ask a)
+  pub past : (capacity : ℕ) (c d : C) (n k : ℕ) → call.stands capacity c → after c n ≡ GoOn d → call.skips d k ≡ false
+  pub finds : (c : C) (m : M) (n : ℕ) → n < 2 ^ 64 → call.skips c n ≡ false → IsFreshCall n (call.flight c m)
+  pub leaves : (c : C) (a : Ask) (n : ℕ) → call.skips c n ≡ true → want c ≡ wants.Ask a → (written a.op n ≡ n) × (e : E) × call.left e × (after c n ≡ Done e)
+  pub tells : (capacity p : ℕ) (from : Option (Start T × Flight T)) (c d : C) (m : M) (n : ℕ) (es : List (Event T)) → call.stands capacity c → call.wrote capacity p from c m es → after c n ≡ GoOn d → call.wrote capacity p from d (kept c m n) (es ++ effects p (call.flight c m) n)
+  pub tells_all : (capacity p : ℕ) (from : Option (Start T × Flight T)) (c : C) (e : E) (m : M) (n : ℕ) (es : List (Event T)) → call.stands capacity c → call.skips c n ≡ false → call.wrote capacity p from c m es → after c n ≡ Done e → call.wrote_all capacity p from e (kept c m n) (es ++ effects p (call.flight c m) n)
+
+-- what is so as a call is to take a step: of a machine that has this word there, of which the party, where its call began
+-- in this drive, wrote this since then
+pub record Met {T : Type 0} (code : Coding T) (kind : Kind) (capacity : ℕ) (start : Start T) (flight : Flight T) (p : ℕ) (from : Option (Start T × Flight T)) (es : List (Event T)) (n : ℕ) (t : Trace T) : Type 0 where
+  pub run : IsRun code kind capacity t
+  pub there : call_in t.world p ≡ Some (start, flight)
+  pub found : old_of t.world.words (ask_of (want_of code flight)) ≡ n
+  pub span : from ≡ None → span_of p t.events ≡ fold own_after (Open start []) es
+
+-- a call of a kind whose steps write by what the machine is, and for which another may have written
+pub record IsCallIn {T C M E : Type 0} (code : Coding T) (kind : Kind) (effects : World T → ℕ → Flight T → ℕ → List (Event T)) (size_of : ℕ → ℕ) (want : C → Want (Unit {0})) (after : C → ℕ → After C E) (kept : C → M → ℕ → M) (call : Calling T C M E) : Type 0 where
+  pub same_want : (c : C) (m : M) → want_of code (call.flight c m) ≡ want c
+  pub same_after : (capacity : ℕ) (c : C) (m : M) (n : ℕ) → call.stands capacity c → after_of code (call.flight c m) n ≡ goes call (after c n) (kept c m n)
+  pub hears : (c : C) (m : M) (a : Ask) (n : ℕ) → want c ≡ wants.Ask a → (after c (answered a.op n) ≡ after c n) × (kept c m (answered a.op n) ≡ kept c m n)
+  pub stays : (capacity : ℕ) (c d : C) (n : ℕ) → call.stands capacity c → after c n ≡ GoOn d → call.stands capacity d
+  pub asks : (capacity : ℕ) (c : C) → call.stands capacity c → (a : Ask) × (a.word < size_of capacity) × (want c ≡ wants.Ask a)
+  pub past : (capacity : ℕ) (c d : C) (n k : ℕ) → call.stands capacity c → after c n ≡ GoOn d → call.skips d k ≡ false
+  pub finds : (c : C) (m : M) (n : ℕ) → n < 2 ^ 64 → call.skips c n ≡ false → IsFreshCall n (call.flight c m)
+  pub leaves : (c : C) (a : Ask) (n : ℕ) → call.skips c n ≡ true → want c ≡ wants.Ask a → (written a.op n ≡ n) × (e : E) × call.left e × (after c n ≡ Done e)
+  pub tells : (capacity p : ℕ) (from : Option (Start T × Flight T)) (c d : C) (m : M) (n : ℕ) (es late : List (Event T)) (t : Trace T) → call.stands capacity c → call.wrote capacity p from c m es → IsLate kind (Some (call.start, call.flight c m)) late
+      → Met code kind capacity call.start (call.flight c m) p from (es ++ late) n t → after c n ≡ GoOn d → call.wrote capacity p from d (kept c m n) ((es ++ late) ++ events_by p (effects t.world p (call.flight c m) n))
+  pub tells_all : (capacity p : ℕ) (from : Option (Start T × Flight T)) (c : C) (e : E) (m : M) (n : ℕ) (es late : List (Event T)) (t : Trace T) → call.stands capacity c → call.skips c n ≡ false → call.wrote capacity p from c m es → IsLate kind (Some (call.start, call.flight c m)) late
+      → Met code kind capacity call.start (call.flight c m) p from (es ++ late) n t → after c n ≡ Done e → call.wrote_all capacity p from e (kept c m n) ((es ++ late) ++ events_by p (effects t.world p (call.flight c m) n))
+
+-- a call that writes by its own is such a call, of any kind for which nobody else writes
+pub in_machine : {T C M E : Type 0} (code : Coding T) (kind : Kind) (effects : World T → ℕ → Flight T → ℕ → List (Event T)) (own : ℕ → Flight T → ℕ → List (Event T)) (size_of : ℕ → ℕ) (want : C → Want (Unit {0})) (after : C → ℕ → After C E) (kept : C → M → ℕ → M) (call : Calling T C M E)
+    → ((c : C) (m : M) (late : List (Event T)) → IsLate kind (Some (call.start, call.flight c m)) late → late ≡ [])
+    → ((capacity p : ℕ) (c : C) (m : M) (n : ℕ) (t : Trace T) → IsRun code kind capacity t → call_in t.world p ≡ Some (call.start, call.flight c m) → events_by p (effects t.world p (call.flight c m) n) ≡ own p (call.flight c m) n)
+    → IsCallOf code own size_of want after kept call → IsCallIn code kind effects size_of want after kept call
+in_machine {T} {C} {M} {E} code kind effects own size_of want after kept call never same h =
+    record {
+      same_want = h.same_want;
+      same_after = h.same_after;
+      hears = h.hears;
+      stays = h.stays;
+      asks = h.asks;
+      past = h.past;
+      finds = h.finds;
+      leaves = h.leaves;
+      tells = λ capacity p from c d m n es late t stands wrote waits met e. subst (λ zs. call.wrote capacity p from d (kept c m n) zs) (sym (all capacity p from c m n es late t waits met)) (h.tells capacity p from c d m n es stands wrote e);
+      tells_all = λ capacity p from c e m n es late t stands skip wrote waits met is. subst (λ zs. call.wrote_all capacity p from e (kept c m n) zs) (sym (all capacity p from c m n es late t waits met)) (h.tells_all capacity p from c e m n es stands skip wrote is);
+    }
+  where
+    all : (capacity p : ℕ) (from : Option (Start T × Flight T)) (c : C) (m : M) (n : ℕ) (es late : List (Event T)) (t : Trace T) → IsLate kind (Some (call.start, call.flight c m)) late → Met code kind capacity call.start (call.flight c m) p from (es ++ late) n t → (es ++ late) ++ events_by p (effects t.world p (call.flight c m) n) ≡ es ++ own p (call.flight c m) n
+    all capacity p from c m n es late t waits met =
+        ap (λ zs. (es ++ zs) ++ events_by p (effects t.world p (call.flight c m) n)) (never c m late waits)
+        ∙ (ap (λ zs. zs ++ events_by p (effects t.world p (call.flight c m) n)) (append-nil es) ∙ ap (λ zs. es ++ zs) (same capacity p c m n t met.run met.there))
+
+-- no step of the call is the first load of a push
+abbrev pub NeverPushes : {T C M : Type 0} → (C → M → Flight T) → Type 0
+NeverPushes {T} {C} {M} flight = (c : C) (m : M) (n : ℕ) → IsFreshCall n (flight c m)
+
+-- what was seen and made from a view on, before the step
+pub record Prior {T : Type 0} (p : ℕ) (start : Start T) (wrote : List (Event T)) (base : View T) (events made : List (Event T)) : Type 0 where
+  pub others : List (Event T)
+  pub during : List (Event T)
+  pub is : events ≡ (base.seen ++ others) ++ (opened p start base.going ++ during)
+  pub alone : IsAll base.share → others ≡ []
+  pub others_own : events_by p others ≡ []
+  pub during_own : events_by p during ≡ wrote
+  pub made_is : made ≡ base.made ++ (opened p start base.going ++ wrote)
+
+-- what the party did decides its span
+span_by : {T : Type 0} (p : ℕ) (a : Span T) (es : List (Event T)) → fold (span_after p) a es ≡ fold own_after a (events_by p es)
+span_by p a [] = refl
+span_by p a (e ∷ es) = by_bool (is_party p (whose e)) (λ t. rw t (span_by p (own_after a e) es)) (λ t. rw t (span_by p a es))
+
+pub span_since : {T : Type 0} (p : ℕ) (start : Start T) (xs during : List (Event T)) → span_of p (xs ++ Begun p start ∷ during) ≡ fold own_after (Open start []) (events_by p during)
+span_since {T} p start xs during =
+    fold-append (span_after p) Never xs (Begun p start ∷ during) ∙ (ap (λ a. fold (span_after p) a during) (begins (span_of p xs)) ∙ span_by p (Open start []) during)
+  where
+    begins : (a : Span T) → span_after p a (Begun p start) ≡ Open start []
+    begins a = (let same : (p == p) ≡ true = grind (arith, nat_tests) in rw same refl)

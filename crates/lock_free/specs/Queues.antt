@@ -1,0 +1,22 @@
+-- Queues, on one history: of any kind (Rings), of numbers (Calls), of values (Values), and the overflowing one.
+pub use Rattle.model.specs.Families.Queues.Reading
+pub use Rattle.model.specs.declared.event.Item
+pub use Rattle.model.specs.declared.event.Answer
+pub use Rattle.model.specs.declared.event.Start
+pub use Rattle.model.specs.declared.families.queues.QueueKind
+pub use Rattle.model.specs.declared.families.queues.QueueStart
+pub use Rattle.steps.specs.declared.queues.roles.Role
+pub use Rattle.history.specs.Views
+pub use Rattle.lock_free_queues.specs.Queues.Bounded
+pub use Rattle.lock_free_queues.specs.Queues.Calls
+pub use Rattle.lock_free_queues.specs.Queues.Closes
+pub use Rattle.lock_free_queues.specs.Queues.Goes
+pub use Rattle.lock_free_queues.specs.Queues.Kinds
+pub use Rattle.lock_free_queues.specs.Queues.Opened
+pub use Rattle.lock_free_queues.specs.Queues.Overflowing
+pub use Rattle.lock_free_queues.specs.Queues.Positions
+pub use Rattle.lock_free_queues.specs.Queues.Rings
+pub use Rattle.lock_free_queues.specs.Queues.Roles
+pub use Rattle.lock_free_queues.specs.Queues.Sums
+pub use Rattle.lock_free_queues.specs.Queues.Told
+pub use Rattle.lock_free_queues.specs.Queues.Values

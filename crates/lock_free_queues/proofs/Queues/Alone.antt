@@ -1,0 +1,151 @@
+-- A machine that one party has to itself, of any kind: what it is after the calls of that party, from its opening on.
+use Rattle.std.proofs.Common.{◌≡◌, ◌≢◌, ℕ, zero, suc, ◌+◌, ◌<◌, Option, Some, None, List, [], ◌∷◌, ◌++◌, slice_index, slice_set, refl, sym, ap, subst, ◌∙◌, append-nil, arith, sum_by}
+use mathlib.Core.Option.{some, some-injective, some-ne-none}
+use lib.ListN.{get_elem?}
+use Rattle.atomic_table.specs.Table.{State, opening}
+use Rattle.steps.specs.Ask.{written}
+use Rattle.steps.specs.declared.ask.Ask.{Ask}
+use Rattle.steps.specs.declared.ask.After.{After}
+use Rattle.steps.specs.declared.ask.After.TheVariants.{GoOn, Done}
+use Rattle.steps.specs.declared.ask.Want.TheVariants as wants
+use Rattle.model.specs.declared.event.Answer.{Answer}
+use Rattle.model.specs.declared.event.Event.{Event}
+use Rattle.model.specs.declared.event.Event.TheVariants.{Begun}
+use Rattle.model.specs.declared.event.Start.{Start}
+use Rattle.model.specs.declared.families.Flight.{Flight}
+use Rattle.model.specs.declared.turn.Kind.{Kind}
+use Rattle.model.specs.declared.turn.Turn.TheVariants.{Begin, Next}
+use Rattle.model.specs.Coding.{Coding, IsCoding}
+use Rattle.model.specs.Families.{opening_of, want_of, after_of, begin_rows}
+use Rattle.model.specs.Rows.{first_row}
+use Rattle.model.specs.Step.{answer_in}
+use Rattle.model.specs.Turns.{after_turn, events_of, ending_of}
+use Rattle.model.specs.World.{World, Trace, capacity_error}
+use Rattle.model.specs.World as worlds
+use Rattle.model.proofs.Reached.{reached_on_opening}
+use Rattle.queue_laws.proofs.Queues.Knows.{IsFreshCall}
+use Rattle.queue_laws.proofs.Queues.Sound.{fresh_opening}
+use Rattle.lock_free_sp.specs.Shares.{all_shares}
+use Rattle.history.specs.declared.view.View.{View}
+use Rattle.history.specs.History.{IsMachine, call_in}
+use Rattle.history.specs.Known.{owned, events_by}
+use Rattle.history.specs.Stages.{Calling, Starts}
+use Rattle.history.specs.Views.{first_view}
+use Rattle.history.proofs.Alone.{same_seat}
+use Rattle.history.proofs.Calls.{call_then}
+use Rattle.history.proofs.Known.{known_alone, by_mine, AreOf}
+use Rattle.history.proofs.Steps.{settle}
+use Rattle.history.proofs.Turns.{MachineLaws, Between, begun, begun_at, gone, goes_to, told, own_told}
+
+module _ {T : Type 0} (code : Coding T) (kind : Kind) (capacity size : ℕ) (effects : World T → ℕ → Flight T → ℕ → List (Event T)) (laws : MachineLaws code kind capacity size effects) where
+  abbrev alone : List ℕ → State (Unit {0}) (View T)
+  alone words = record { words = words; homes = []; views = first_view capacity ∷ [] }
+
+  -- the machine has these words, one more among them, and these events, and the party this call under way
+  pub record Here (words : List ℕ) (es : List (Event T)) (going : Option (Start T × Flight T)) : Type 0 where
+    pub u : Trace T
+    pub between : Between code kind capacity same_seat (alone words) 0 0 es u
+    pub events : u.events ≡ es
+    pub there : call_in u.world 0 ≡ going
+
+  pub opens_here : IsCoding code → capacity_error kind capacity ≡ None → Here ((opening_of kind).words code.size capacity ++ 0 ∷ []) [] None
+  opens_here coded admitted =
+      let t : Trace T = worlds.opening code kind capacity 0 in
+      let known = known_alone (first_view capacity) refl refl in
+      record {
+        u = t;
+        between =
+            record {
+              run = record { reached = reached_on_opening code kind capacity 0 coded admitted; coded = refl; of_kind = refl; sized = refl; fresh = fresh_opening code kind capacity 0 };
+              words = refl;
+              others = λ j v ne at. absurd (other j v ne at);
+              mine = refl;
+              self = refl;
+              idle = λ q of_id ne. refl;
+              made_own = made_own;
+              inside = λ q low. low;
+              fresh = λ q past. refl;
+              further = λ j ne past. refl;
+              made_none = λ j ne past. refl;
+              shares = known.shares;
+              someone = refl;
+              spent = known.spent;
+            };
+        events = refl;
+        there = refl;
+      }
+    where
+      other : (j : ℕ) (v : View T) → j ≢ 0 → get_elem? (first_view capacity ∷ []) j ≡ some v → ⊥
+      other zero v ne at = ne refl
+      other (suc j) v ne at = some-ne-none v (sym at)
+
+      made_own : (v : View T) → get_elem? (first_view capacity ∷ []) 0 ≡ some v → (f : Event T → ℕ) → sum_by f v.made + 0 ≡ 0
+      made_own v at f = (let same = some-injective (first_view capacity) v at in let none : sum_by f v.made ≡ 0 = ap (λ (z : View T). sum_by f z.made) (sym same) in omega arith)
+
+  -- ---- a call begins
+
+  -- a pass that has made these events
+  abbrev pub maker : List (Event T) → View T
+  maker es = record { capacity = capacity; party = Some 0; share = all_shares; seen = es; other = []; made = es; going = None }
+
+  pub sums : (words : List ℕ) (es : List (Event T)) (going : Option (Start T × Flight T)) → (h : Here words es going) → (f : Event T → ℕ) → sum_by f (maker es).made ≡ sum_by (owned same_seat 0 f) h.u.events
+  sums words es going h f = (let all = h.between.made_own (first_view capacity) refl f in omega arith)
+
+  pub begins : {C M E : Type 0} (call : Calling T C M E) (c : C) (m : M) (words : List ℕ) (es : List (Event T)) → (h : Here words es None) → Starts code kind call (maker es) c m h.u same_seat 0 → Here words (es ++ Begun 0 call.start ∷ []) (Some (call.start, call.flight c m))
+  begins call c m words es h s =
+      let is : s.party ≡ 0 = s.mine in
+      let may : first_row (begin_rows kind capacity h.u.world.kept 0 call.start) ≡ None = subst (λ p. first_row (begin_rows kind capacity h.u.world.kept p call.start) ≡ None) is s.may in
+      record {
+        u = after_turn h.u (Begin 0 call.start);
+        between = begun code kind capacity size effects laws same_seat (alone words) 0 0 es h.u h.between call.start (call.flight c m) h.there s.first may;
+        events = ap (λ xs. xs ++ Begun 0 call.start ∷ []) h.events;
+        there = begun_at code kind capacity size effects laws same_seat (alone words) 0 0 es h.u h.between call.start (call.flight c m) h.there s.first may;
+      }
+
+  -- ---- it takes a step
+
+  module _ (words : List ℕ) (es : List (Event T)) (start : Start T) (flight : Flight T) (h : Here words es (Some (start, flight))) (a : Ask) (low : a.word < size) (asks : want_of code flight ≡ wants.Ask a) (finds : IsFreshCall (slice_index words a.word) flight) where
+    abbrev found : ℕ
+    found = slice_index words a.word
+
+    abbrev comes : After (Flight T) (Answer T)
+    comes = after_of code flight found
+
+    -- it wrote this, all of it its own
+    module _ (own : List (Event T)) (is : effects h.u.world 0 flight found ≡ own) (only : AreOf 0 own) where
+      abbrev wrote : List (Event T)
+      wrote = own ++ ending_of 0 start (answer_in comes)
+
+      took : Here (slice_set words a.word (written a.op found)) (es ++ wrote) (call_then start comes)
+      took =
+          let tells : events_of h.u.world (Next 0) ≡ wrote = told code kind capacity size effects laws same_seat (alone words) 0 0 es h.u h.between start flight (Some a) low h.there asks finds ∙ ap (λ zs. zs ++ ending_of 0 start (answer_in comes)) is in
+          let mine : events_by 0 (effects h.u.world 0 flight found) ≡ own = ap (events_by 0) is ∙ by_mine 0 own only in
+          let told_own : events_by 0 (events_of h.u.world (Next 0)) ≡ wrote = own_told code kind capacity size effects laws same_seat (alone words) 0 0 es h.u h.between start flight (Some a) low h.there asks finds ∙ ap (λ zs. zs ++ ending_of 0 start (answer_in comes)) mine in
+          record {
+            u = after_turn h.u (Next 0);
+            between = subst (λ zs. Between code kind capacity same_seat (alone (slice_set words a.word (written a.op found))) 0 0 (es ++ zs) (after_turn h.u (Next 0))) told_own (gone code kind capacity size effects laws same_seat (alone words) 0 0 es h.u h.between start flight (Some a) low h.there asks finds);
+            events = ap (λ xs. xs ++ events_of h.u.world (Next 0)) h.events ∙ ap (λ zs. es ++ zs) tells;
+            there = goes_to code kind capacity size effects laws same_seat (alone words) 0 0 es h.u h.between start flight (Some a) low h.there asks finds;
+          }
+
+    -- it goes on, and tells nothing
+    pub goes_on : (words' : List ℕ) (next : Flight T) → slice_set words a.word (written a.op found) ≡ words' → comes ≡ GoOn next → effects h.u.world 0 flight found ≡ [] → Here words' es (Some (start, next))
+    goes_on words' next same is none =
+        let quiet : es ++ wrote [] none tt ≡ es = ap (λ (r : After (Flight T) (Answer T)). es ++ ending_of 0 start (answer_in r)) is ∙ append-nil es in
+        subst (λ o. Here words' es o) (ap (call_then start) is) (subst (λ zs. Here words' zs (call_then start comes)) quiet (subst (λ ws. Here ws (es ++ wrote [] none tt) (call_then start comes)) same (took [] none tt)))
+
+    -- it ends, and tells this
+    pub ends : (words' : List ℕ) (answer : Answer T) (own last : List (Event T)) → slice_set words a.word (written a.op found) ≡ words' → comes ≡ Done answer → effects h.u.world 0 flight found ≡ own → AreOf 0 own → own ++ ending_of 0 start (Some answer) ≡ last → Here words' (es ++ last) None
+    ends words' answer own last same is wrote_own only tells =
+        let all : wrote own wrote_own only ≡ last = ap (λ (r : After (Flight T) (Answer T)). own ++ ending_of 0 start (answer_in r)) is ∙ tells in
+        subst (λ o. Here words' (es ++ last) o) (ap (call_then start) is) (subst (λ zs. Here words' (es ++ zs) (call_then start comes)) all (subst (λ ws. Here ws (es ++ wrote own wrote_own only) (call_then start comes)) same (took own wrote_own only)))
+
+  -- ---- a table opens so
+
+  pub opens_so : (words : List ℕ) (es : List (Event T)) → Here words es None → IsMachine code kind capacity (opening words [] (maker es))
+  opens_so words es h =
+      let first : View T = first_view capacity in
+      subst (λ v. IsMachine code kind capacity (opening words [] v))
+      (ap (λ zs. record { capacity = capacity; party = Some 0; share = all_shares; seen = zs; other = []; made = es; going = call_in h.u.world 0 }) h.events
+      ∙ ap (λ o. record { capacity = capacity; party = Some 0; share = all_shares; seen = es; other = []; made = es; going = o }) h.there)
+      (settle code kind capacity 0 0 same_seat words (alone words) first es h.u refl (omega arith) h.between)

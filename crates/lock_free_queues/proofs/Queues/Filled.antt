@@ -1,0 +1,62 @@
+-- Words of the cells of a queue, of which so many hold those of one value, again and again.
+use Rattle.std.proofs.Common.{◌≡◌, ⊎_elim, ℕ, zero, suc, ◌+◌, ◌*◌, ◌-◌, ◌%◌, ◌<◌, ◌≤◌, List, [], ◌∷◌, ◌++◌, length, get_or, set, replicate, refl, sym, ap, ◌∙◌, length-set, take, get_or-set_same, get_or-set_other, arith}
+use Rattle.std.proofs.lemmas.Bool.{cases_lt}
+use Rattle.std.proofs.lemmas.List.{length-replicate, take-replicate}
+use Rattle.steps.specs.Copied.{value_in}
+use Rattle.queue_laws.proofs.Queues.Core as core
+use Rattle.history.proofs.Calls.{set_left}
+use Rattle.history.proofs.Passes.{set_same}
+use Rattle.lock_free_queues.proofs.Queues.Tests.{not_below}
+
+-- the value of words that are zeros
+pub zeros_in : {V : Type 0} (value_of : List ℕ → V) (size n : ℕ) → size ≤ n → value_in value_of size (replicate n 0) ≡ value_of (replicate size 0)
+zeros_in value_of size n low =
+    let long = length-replicate {A = ℕ} n 0 in
+    let t = not_below (length {A = ℕ} (replicate n 0)) size (omega arith) in
+    let is : value_of (take size (replicate n 0)) ≡ value_of (replicate size 0) = ap value_of (take-replicate size n 0 low) in
+    rw t is
+
+module _ (ws : List ℕ) (size capacity : ℕ) where
+  abbrev pub filled : ℕ → List ℕ
+  filled zero = replicate (size * capacity) 0
+  filled (suc n) = set (filled n) n (get_or ws (n % size) 0)
+
+  pub filled_length : (n : ℕ) → length (filled n) ≡ size * capacity
+  filled_length zero = length-replicate (size * capacity) 0
+  filled_length (suc n) = length-set (filled n) n (get_or ws (n % size) 0) ∙ filled_length n
+
+  -- what was written stands there
+  pub filled_there : (n j : ℕ) → j < n → n ≤ size * capacity → get_or (filled n) j 0 ≡ get_or ws (j % size) 0
+  filled_there zero j low most = absurd (omega arith)
+  filled_there (suc n) j low most =
+      let long = filled_length n in
+      ⊎_elim (λ (before : j < n). get_or-set_other (filled n) n j (get_or ws (n % size) 0) 0 (λ e. absurd (omega arith)) ∙ filled_there n j before (omega arith))
+      (λ (here : n ≤ j).
+      let same : j ≡ n = omega arith in
+      ap (λ k. get_or (filled (suc n)) k 0) same ∙ (get_or-set_same (filled n) n (get_or ws (n % size) 0) 0 (omega arith) ∙ ap (λ k. get_or ws (k % size) 0) (sym same)))
+      (cases_lt j n)
+
+  -- and is written again
+  pub filled_again : (j : ℕ) → j < size * capacity → set (filled (size * capacity)) j (get_or ws (j % size) 0) ≡ filled (size * capacity)
+  filled_again j low = ap (set (filled (size * capacity)) j) (sym (filled_there (size * capacity) j low (omega arith))) ∙ set_same (filled (size * capacity)) j
+
+  -- one word more
+  pub fills_more : (a b c d at word : ℕ) → at < size * capacity → word ≡ get_or ws (at % size) 0
+      → set (a ∷ b ∷ c ∷ d ∷ (filled at ++ 0 ∷ [])) (4 + at) word ≡ a ∷ b ∷ c ∷ d ∷ (filled (at + 1) ++ 0 ∷ [])
+  fills_more a b c d at word low is =
+      let long = filled_length at in
+      let next : suc at ≡ at + 1 = omega arith in
+      core.set_at a b c d (filled at ++ 0 ∷ []) (4 + at) at word refl
+      ∙ ap (λ zs. a ∷ b ∷ c ∷ d ∷ zs) (set_left (filled at) (0 ∷ []) at word (omega arith) ∙ ap (λ zs. zs ++ 0 ∷ []) (ap (set (filled at) at) is ∙ ap filled next))
+
+-- the cells of an index queue, in which the number 0 was written, are as they were
+pub zeros_stay : (capacity n : ℕ) → filled (0 ∷ []) 1 capacity n ≡ replicate capacity 0
+zeros_stay capacity zero = (let same : 1 * capacity ≡ capacity = omega arith in ap (λ m. replicate m 0) same)
+zeros_stay capacity (suc n) =
+    let one : n % 1 ≡ 0 = omega arith in
+    ap (λ i. set (filled (0 ∷ []) 1 capacity n) n (get_or (0 ∷ []) i 0)) one ∙ (ap (λ zs. set zs n 0) (zeros_stay capacity n) ∙ put_zero capacity n)
+  where
+    put_zero : (c k : ℕ) → set {A = ℕ} (replicate c 0) k 0 ≡ replicate c 0
+    put_zero zero k = refl
+    put_zero (suc c) zero = refl
+    put_zero (suc c) (suc k) = ap (λ zs. 0 ∷ zs) (put_zero c k)

@@ -1,0 +1,62 @@
+-- What a party has made that pushes and pops one item again and again: its roles.
+use Rattle.std.proofs.Common.{◌≡◌, true, ℕ, zero, suc, ◌+◌, ◌-◌, List, ◌++◌, sum_by, refl, subst, append_assoc, arith}
+use Rattle.std.proofs.lemmas.List.Sums.{sum_by-append}
+use Rattle.steps.specs.declared.queues.roles.Role.{Role}
+use Rattle.steps.specs.declared.queues.roles.Role.TheVariants.{Producer, Consumer}
+use Rattle.model.specs.declared.event.Answer.{Answer}
+use Rattle.model.specs.declared.event.Answer.TheVariants.{Truth, PoppedNone}
+use Rattle.model.specs.declared.event.Event.{Event}
+use Rattle.model.specs.declared.event.Item.{Item}
+use Rattle.model.specs.declared.event.Item.TheVariants.{Index, Value}
+use Rattle.history.specs.Roles.{HasRole, takes, gives}
+use Rattle.lock_free_queues.specs.Queues.Roles.{LacksRole}
+use Rattle.lock_free_queues.specs.Queues.Opened.{pushed_once, popped_once, given_roles, rounds, opened}
+
+module _ {T : Type 0} where
+  -- what moves no role leaves it
+  pub still_has : (role : Role) (es more : List (Event T)) → sum_by (takes role) more ≡ 0 → sum_by (gives role) more ≡ 0 → HasRole role es → HasRole role (es ++ more)
+  still_has role es more a b has =
+      let t = sum_by-append (takes role) es more in
+      let g = sum_by-append (gives role) es more in
+      omega arith
+
+  lacks_after : (role : Role) (es more : List (Event T)) → sum_by (takes role) more ≡ 0 → sum_by (gives role) more ≡ 1 → HasRole role es → LacksRole role (es ++ more)
+  lacks_after role es more a b has =
+      let t = sum_by-append (takes role) es more in
+      let g = sum_by-append (gives role) es more in
+      omega arith
+
+  pub after_pop : (role : Role) (x : Item T) (es : List (Event T)) → HasRole role es → HasRole role (es ++ popped_once x)
+  after_pop Producer x es has = still_has Producer es (popped_once x) refl refl has
+  after_pop Consumer x es has = still_has Consumer es (popped_once x) refl refl has
+
+-- a push moves no role: of a bounded queue, and of an overflowing one
+module _ {T : Type 0} where
+  abbrev pub IsQuiet : Answer T → Type 0
+  IsQuiet answer = (role : Role) (x : Item T) → (sum_by (takes role) (pushed_once answer x) ≡ 0) × (sum_by (gives role) (pushed_once answer x) ≡ 0)
+
+  pub quiet_true : IsQuiet (Truth true)
+  quiet_true Producer (Index i) = (refl, refl)
+  quiet_true Producer (Value v) = (refl, refl)
+  quiet_true Consumer (Index i) = (refl, refl)
+  quiet_true Consumer (Value v) = (refl, refl)
+
+  pub quiet_none : IsQuiet PoppedNone
+  quiet_none Producer (Index i) = (refl, refl)
+  quiet_none Producer (Value v) = (refl, refl)
+  quiet_none Consumer (Index i) = (refl, refl)
+  quiet_none Consumer (Value v) = (refl, refl)
+
+module _ {T : Type 0} (answer : Answer T) (quiet : IsQuiet answer) where
+  pub after_push : (role : Role) (x : Item T) (es : List (Event T)) → HasRole role es → HasRole role (es ++ pushed_once answer x)
+  after_push role x es has = (let none = quiet role x in still_has role es (pushed_once answer x) none.0 none.1 has)
+
+  pub has_it : (x : Item T) (n : ℕ) (role : Role) → HasRole role (rounds answer x n)
+  has_it x zero Producer = refl
+  has_it x zero Consumer = refl
+  has_it x (suc n) role = subst (HasRole role) (append_assoc (rounds answer x n) (pushed_once answer x) (popped_once x)) (after_pop role x (rounds answer x n ++ pushed_once answer x) (after_push role x (rounds answer x n) (has_it x n role)))
+
+  -- the first pass has no role
+  pub has_none : (x : Item T) (n : ℕ) → LacksRole Producer (opened answer x n) × LacksRole Consumer (opened answer x n)
+  has_none x zero = (refl, refl)
+  has_none x (suc n) = (lacks_after Producer (rounds answer x (suc n)) given_roles refl refl (has_it x (suc n) Producer), lacks_after Consumer (rounds answer x (suc n)) given_roles refl refl (has_it x (suc n) Consumer))

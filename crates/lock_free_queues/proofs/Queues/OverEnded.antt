@@ -1,0 +1,159 @@
+-- What a push and a pop say once they have ended, on an overflowing queue.
+use Rattle.std.proofs.Common.{◌≡◌, ◌⊎◌, inl, inr, ℕ, Bool, true, false, Option, Some, None, IfSome, IfNone, List, [], ◌∷◌, ◌++◌, refl, sym, ap, subst, ◌∙◌, append_assoc, ◌<◌}
+use Rattle.std.specs.Option.{option_map}
+use Rattle.steps.specs.declared.copied.OneWord.{OneWord}
+use Rattle.steps.specs.declared.queues.overflow.PushEnd.{PushEnd}
+use Rattle.steps.specs.declared.queues.overflow.PushEnd.TheVariants.{Added, Own, Oldest}
+use Rattle.steps.specs.declared.queues.roles.Role.TheVariants.{Producer}
+use Rattle.steps.specs.Queues.Overflow.{push_answer, pop_answer}
+use Rattle.steps.specs.Queues.Ring as rings
+use Rattle.model.specs.declared.event.Answer.TheVariants.{PoppedNone, PoppedIndex}
+use Rattle.model.specs.declared.event.Event.{Event}
+use Rattle.model.specs.declared.event.Event.TheVariants.{Published, HandedOut, Acted, Finished}
+use Rattle.model.specs.declared.event.Item.{Item}
+use Rattle.model.specs.declared.event.Item.TheVariants.{Index}
+use Rattle.model.specs.declared.event.Start.TheVariants.{Queues}
+use Rattle.model.specs.declared.families.queues.QueueKind.TheVariants.{Overflow}
+use Rattle.model.specs.declared.families.queues.QueueStart.TheVariants.{PushIndex, Pop}
+use Rattle.model.specs.declared.turn.Kind.TheVariants as kinds
+use Rattle.model.specs.Coding.{Coding}
+use Rattle.model.specs.Families.Queues.Calls.{popped}
+use Rattle.model.specs.Families.Queues.Reading.{waiting}
+use Rattle.history.specs.declared.view.View.{View}
+use Rattle.history.specs.History.{Called, IsHistory}
+use Rattle.history.specs.Overflow.{over_push_wrote, pops_over}
+use Rattle.history.specs.Queues.{pop_wrote}
+use Rattle.history.specs.Roles.{HasRole}
+use Rattle.history.specs.Stages.{Ends, Over}
+use Rattle.history.proofs.Drives.{called}
+use Rattle.history.proofs.OverflowHolders.{over_lists_kept}
+use Rattle.lock_free_queues.specs.Queues.Overflowing.{HasActed, HasOverflowed, over_push_told, pushes_told}
+use Rattle.lock_free_queues.specs.Queues.Told.{HasPublished, HasPopped, WasAtEnd, popped_item, pop_told, HasTakenFirst, FoundNone}
+use Rattle.lock_free_queues.proofs.Queues.Ended.{was_at_end, has_popped, IsPop}
+use Rattle.lock_free_queues.proofs.Queues.Facts.{found_none, published_by}
+use Rattle.lock_free_queues.proofs.Queues.Indices.{in_room}
+use Rattle.lock_free_queues.proofs.Queues.OverPushes.{over_ends_at}
+use Rattle.lock_free_queues.proofs.Queues.Wrote.{find_own, first_wrote}
+
+module _ {T : Type 0} where
+  told_is : (p value : ℕ) (m : OneWord) (e : PushEnd) → HasActed e → over_push_wrote {T = T} p value m.0 e ≡ over_push_told p value (push_answer value m.0 e)
+  told_is p value m Added acted = refl
+  told_is p value m Own acted = absurd acted
+  told_is p value m Oldest acted = refl
+
+module _ {T : Type 0} (code : Coding T) (base w : View T) (h : IsHistory code kinds.Overflow base.capacity w.seen) where
+  -- what leaves is what waited first
+  first_of_all : (p : ℕ) (item : Item T) (before after : List (Event T)) → w.seen ≡ before ++ HandedOut p item ∷ after → (rest : List (Item T)) × (waiting before ≡ item ∷ rest)
+  first_of_all p item before after is = over_lists_kept code base.capacity w.seen h before after (HandedOut p item) is
+
+  -- ---- pushes
+
+  pub over_published : (value : ℕ) (back : Option ℕ) → HasOverflowed value back base w → HasPublished (Index value) base w
+  over_published value None push = (let p = push.by in published_by code Overflow base.capacity base w (Index value) p PoppedNone (Acted p (Queues (PushIndex value)) PoppedNone ∷ []) h tt push.called ((refl, refl), ((refl, refl), tt)))
+  over_published value (Some oldest) push =
+      (let p = push.by in published_by code Overflow base.capacity base w (Index value) p (PoppedIndex oldest) (HandedOut p (Index oldest) ∷ Acted p (Queues (PushIndex value)) (PoppedIndex oldest) ∷ []) h tt push.called ((refl, refl), ((refl, refl), ((refl, refl), tt))))
+
+  pub over_took : (value oldest : ℕ) → HasOverflowed value (Some oldest) base w → HasTakenFirst (Index oldest) base w
+  over_took value oldest push =
+      let p = push.by in
+      let start = Queues (PushIndex value) in
+      let act : Event T = Acted p start (PoppedIndex oldest) in
+      let out : Event T = HandedOut p (Index oldest) in
+      let at = first_wrote p start (PoppedIndex oldest) (Published p (Index value)) (out ∷ act ∷ []) base w push.called in
+      let then = find_own p at.after (act ∷ Finished p start (PoppedIndex oldest) ∷ []) out at.mine in
+      let before : List (Event T) = at.before ++ Published p (Index value) ∷ then.0 in
+      let is : w.seen ≡ before ++ out ∷ then.1 = at.is ∙ (ap (λ zs. at.before ++ Published p (Index value) ∷ zs) then.2 ∙ sym (append_assoc at.before (Published p (Index value) ∷ then.0) (out ∷ then.1))) in
+      let first = first_of_all p (Index oldest) before then.1 is in
+      record {
+        by = p;
+        before = before;
+        after = then.1;
+        is = is;
+        since = record { rest = at.since.rest ++ Published p (Index value) ∷ then.0; is = ap (λ zs. zs ++ Published p (Index value) ∷ then.0) at.since.is ∙ append_assoc base.seen at.since.rest (Published p (Index value) ∷ then.0) };
+        rest = first.0;
+        oldest = first.1;
+      }
+
+  pub over_both : (value : ℕ) (back : Option ℕ) → HasOverflowed value back base w → IfSome back (λ y. HasPublished (Index value) base w × HasTakenFirst (Index y) base w)
+  over_both value None push = tt
+  over_both value (Some oldest) push = (over_published value (Some oldest) push, over_took value oldest push)
+
+  -- ---- pops
+
+  pub over_taken : (x : ℕ) → HasPopped (Some (Index x)) base w → HasTakenFirst (Index x) base w
+  over_taken x popping =
+      let p = popping.by in
+      let act : Event T = Acted p (Queues Pop) (PoppedIndex x) in
+      let at = first_wrote p (Queues Pop) (PoppedIndex x) (HandedOut p (Index x)) (act ∷ []) base w popping.called in
+      let first = first_of_all p (Index x) at.before at.after at.is in
+      record { by = p; before = at.before; after = at.after; is = at.is; since = at.since; rest = first.0; oldest = first.1 }
+
+  pub over_taken_if : (o : Option ℕ) → HasPopped (option_map Index o) base w → IfSome o (λ x. HasTakenFirst (Index x) base w)
+  over_taken_if None popping = tt
+  over_taken_if (Some x) popping = over_taken x popping
+
+  pub over_empty_if : (o : Option ℕ) → HasPopped (option_map Index o) base w → IfNone o (FoundNone base w)
+  over_empty_if None popping = found_none code Overflow base.capacity base w h popping
+  over_empty_if (Some x) popping = tt
+
+-- ---- how they ended
+
+module _ {T : Type 0} (code : Coding T) (base w : View T) (idle : base.going ≡ None) where
+  module _ (value : ℕ) (alone : base.other ≡ []) (some : 0 < base.share.part) (has : HasRole Producer base.made) where
+    -- a call of the history, or a look at a queue whose last position is reached
+    abbrev pub Pushed : Option ℕ → Type 0
+    Pushed back = HasOverflowed value back base w ⊎ (back ≡ Some value) × WasAtEnd base w
+
+    overflowed : (e : PushEnd) (m : OneWord) → Ends code kinds.Overflow (pushes_told value) base e m w → HasOverflowed value (push_answer value m.0 e) base w
+    overflowed e m ends =
+        let p = ends.party in
+        record {
+          by = p;
+          mine = ends.mine;
+          called = subst (λ es. Called p (Queues (PushIndex value)) (popped (push_answer value m.0 e)) es base w) (ends.tells.1 ∙ told_is p value m e ends.tells.0) (called code kinds.Overflow (pushes_told value) base w e m idle ends);
+        }
+
+    pub over_pushed : (e : PushEnd) (m : OneWord) → Over code kinds.Overflow (pushes_told value) base e m w → Pushed (push_answer value m.0 e)
+    over_pushed e m (inl ends) = inl (overflowed e m ends)
+    over_pushed e m (inr left) = inr (ap (push_answer value m.0) left.left, was_at_end code Overflow base w (pushes_told value) (λ c m n a skip asks. over_ends_at c.capacity value n a c.stage skip asks) tt alone some has e m left)
+
+  -- what it hands back
+  module _ (value : ℕ) (h : IsHistory code kinds.Overflow base.capacity w.seen) where
+    abbrev Back : Option ℕ → Type 0
+    Back back = HasOverflowed value back base w ⊎ (back ≡ Some value) × WasAtEnd base w
+
+    pub over_none : (back : Option ℕ) → Back back → IfNone back (HasPublished (Index value) base w)
+    over_none None (inl push) = over_published code base w h value None push
+    over_none None (inr left) = (let no : None ≡ Some value = left.0 in absurd (cc))
+    over_none (Some y) pushed = tt
+
+    pub over_some : (back : Option ℕ) → Back back → IfSome back (λ y. HasPublished (Index value) base w × HasTakenFirst (Index y) base w ⊎ (y ≡ value) × WasAtEnd base w)
+    over_some None pushed = tt
+    over_some (Some y) (inl push) = inl (over_published code base w h value (Some y) push, over_took code base w h value y push)
+    over_some (Some y) (inr left) = inr ((let both : Some y ≡ Some value = left.0 in cc), left.1)
+
+  abbrev named : ℕ → Item T
+  named x = Index x
+
+  over_pop : IsPop named in_room pops_over
+  over_pop =
+      record {
+        start = refl;
+        answer = λ e m. answers m.0 e;
+        tells = λ n p from e m es h. h ∙ told p m.0 e;
+      }
+    where
+      answers : (x : ℕ) (e : Bool) → popped {T = T} (pop_answer x e) ≡ popped_item (option_map Index (rings.pop_answer x e))
+      answers x true = refl
+      answers x false = refl
+
+      told : (p x : ℕ) (e : Bool) → pop_wrote {T = T} p x e ≡ pop_told p (option_map Index (rings.pop_answer x e))
+      told p x true = refl
+      told p x false = refl
+
+  pub over_popped : (e : Bool) (m : OneWord) → Ends code kinds.Overflow pops_over base e m w → HasPopped (option_map Index (pop_answer m.0 e)) base w
+  over_popped e m ends = subst (λ o. HasPopped (option_map Index o) base w) (same m.0 e) (has_popped code Overflow base w idle named in_room pops_over over_pop e m ends)
+    where
+      same : (x : ℕ) (e : Bool) → rings.pop_answer x e ≡ pop_answer x e
+      same x true = refl
+      same x false = refl

@@ -1,0 +1,101 @@
+-- The push of an overflowing queue, which is a call of the history but where its own number comes back: that is a look.
+use Rattle.std.proofs.Common.{inl, ◌≡◌, ℕ, ◌+◌, ◌-◌, ◌^◌, ◌<◌, ◌==◌, Bool, true, false, cond, None, [], refl, sym, ap, subst, ◌∙◌, arith}
+use Rattle.std.proofs.lemmas.Bool.Decides.{nat_tests}
+use Rattle.steps.specs.declared.ask.Ask.{Ask}
+use Rattle.steps.specs.declared.ask.After.{After}
+use Rattle.steps.specs.declared.ask.After.TheVariants.{GoOn, Done}
+use Rattle.steps.specs.declared.ask.Op.TheVariants.{Load}
+use Rattle.steps.specs.declared.ask.Want.TheVariants as wants
+use Rattle.steps.specs.declared.copied.OneWord.{OneWord}
+use Rattle.steps.specs.declared.queues.overflow.Push.{Push}
+use Rattle.steps.specs.declared.queues.overflow.PushEnd.{PushEnd}
+use Rattle.steps.specs.declared.queues.overflow.PushEnd.TheVariants.{Added, Oldest}
+use Rattle.steps.specs.declared.queues.overflow.PushStage as pushes
+use Rattle.steps.specs.declared.queues.roles.Role.TheVariants.{Producer}
+use Rattle.steps.specs.Queues.Ring.{distance}
+use Rattle.steps.specs.Queues.Overflow.{first_push, at_push, push_asks, push_want, push_takes, push_after, push_kept}
+use Rattle.model.specs.declared.families.queues.QueueKind.TheVariants.{Overflow}
+use Rattle.model.specs.declared.families.queues.QueueStart.TheVariants.{PushIndex}
+use Rattle.model.specs.declared.turn.Kind.TheVariants as kinds
+use Rattle.model.specs.Coding.{Coding}
+use Rattle.lock_free_sp.specs.Driver.{KeepsRule}
+use Rattle.history.specs.declared.view.View.{View}
+use Rattle.history.specs.History.{IsMachine}
+use Rattle.history.specs.Overflow.{over_push_skips, HasPushWord, pushes_over}
+use Rattle.history.specs.Roles.{HasRole}
+use Rattle.history.specs.Stages.{Calling, At, Over}
+use Rattle.history.proofs.Drives.{IsCallIn, goes, keeps_in}
+use Rattle.history.proofs.OverflowCalls.{push_is_call}
+use Rattle.history.proofs.Overflows.{over_effects, overflow_owes}
+use Rattle.history.proofs.QueueCalls.{holds_it}
+use Rattle.history.proofs.Queues.{role_starts}
+use Rattle.lock_free_queues.specs.Queues.Overflowing.{HasActed, pushes_told}
+
+-- it ends as a call where it is not left out
+acts : (c : Push) (e : PushEnd) (n : ℕ) (stage : pushes.PushStage) → HasPushWord stage → over_push_skips stage n ≡ false → push_takes c stage n ≡ Done e → HasActed e
+acts c e n pushes.TheVariants.HandsBack h skip ends = absurd h
+acts c e n pushes.TheVariants.LoadsWrite h skip ends = (let no : GoOn (at_push c (pushes.TheVariants.LoadsRead n)) ≡ Done e = rw skip at ends in absurd (cc))
+acts c e n (pushes.TheVariants.LoadsRead write) h skip ends = absurd (cc)
+acts c e n (pushes.TheVariants.StoresCell write at) h skip ends = absurd (cc)
+acts c e n (pushes.TheVariants.StoresWrite write at) h skip ends = go (distance write at == c.capacity) ends
+  where
+    go : (b : Bool) → cond b (GoOn (at_push c (pushes.TheVariants.MovesRead at))) (Done Added) ≡ Done e → HasActed e
+    go true d = absurd (cc)
+    go false d = (let same : Added ≡ e = cc in subst HasActed same tt)
+acts c e n (pushes.TheVariants.MovesRead at) h skip ends = go (n == at) ends
+  where
+    go : (b : Bool) → cond b (GoOn (at_push c (pushes.TheVariants.LoadsCell at))) (Done Added) ≡ Done e → HasActed e
+    go true d = absurd (cc)
+    go false d = (let same : Added ≡ e = cc in subst HasActed same tt)
+acts c e n (pushes.TheVariants.LoadsCell at) h skip ends = (let same : Oldest ≡ e = cc in subst HasActed same tt)
+
+-- it is left out where its first load finds the last position
+pub over_ends_at : (capacity value n : ℕ) (a : Ask) (stage : pushes.PushStage) → over_push_skips stage n ≡ true → push_asks capacity stage value ≡ wants.Ask a → (a.word ≡ 0) × (n ≡ 2 ^ 64 - 1)
+over_ends_at capacity value n a pushes.TheVariants.HandsBack t e = absurd (cc)
+over_ends_at capacity value n a pushes.TheVariants.LoadsWrite t e = (let is : record { word = 0; op = Load } ≡ a = cc in (ap (λ (z : Ask). z.word) (sym is), grind (arith, nat_tests)))
+over_ends_at capacity value n a (pushes.TheVariants.LoadsRead write) t e = absurd (cc)
+over_ends_at capacity value n a (pushes.TheVariants.StoresCell write read) t e = absurd (cc)
+over_ends_at capacity value n a (pushes.TheVariants.StoresWrite write read) t e = absurd (cc)
+over_ends_at capacity value n a (pushes.TheVariants.MovesRead read) t e = absurd (cc)
+over_ends_at capacity value n a (pushes.TheVariants.LoadsCell read) t e = absurd (cc)
+
+module _ {T : Type 0} (code : Coding T) (value : ℕ) where
+  abbrev pushing : Calling T Push OneWord PushEnd
+  pushing = pushes_told value
+
+  same_goes : (r : After Push PushEnd) (m : OneWord) → goes (pushes_over {T = T} value) r m ≡ goes pushing r m
+  same_goes (GoOn d) m = refl
+  same_goes (Done e) m = refl
+
+  told_is_call : IsCallIn code kinds.Overflow over_effects (λ capacity. 4 + (capacity + 1)) (λ c. push_want c value) push_after push_kept pushing
+  told_is_call =
+      let h = push_is_call code value in
+      record {
+        same_want = h.same_want;
+        same_after = λ capacity c m n stands. h.same_after capacity c m n stands ∙ same_goes (push_after c n) (push_kept c m n);
+        hears = h.hears;
+        stays = h.stays;
+        asks = h.asks;
+        past = h.past;
+        finds = h.finds;
+        leaves = h.leaves;
+        tells = h.tells;
+        tells_all = λ capacity p from c e m n es late t stands skip wrote waits met is. (acts c e n c.stage stands.2 skip is, h.tells_all capacity p from c e m n es late t stands skip wrote waits met is);
+      }
+
+  pub told_keeps : KeepsRule (λ (z : View T). z.capacity) (At code kinds.Overflow pushing) (Over code kinds.Overflow pushing) (λ key. 4 + (key + 1) + 1) (λ key. key) (λ key. IsMachine code kinds.Overflow key) (λ c. push_want c value) push_after push_kept
+  told_keeps = keeps_in code kinds.Overflow over_effects (λ capacity. 4 + (capacity + 1)) (overflow_owes code) (λ c. push_want c value) push_after push_kept pushing told_is_call
+
+  pub told_first : (x : View T) → x.going ≡ None → x.other ≡ [] → 0 < x.share.part → 0 < x.capacity → x.capacity < 2 ^ 32 → HasRole Producer x.made → At code kinds.Overflow pushing x x (first_push x.capacity) (record { 0 = 0 })
+  told_first x idle alone any has_cells small has =
+      let some : (x.capacity == 0) ≡ false = grind (arith, nat_tests) in
+      inl (record {
+        is = refl;
+        idle = idle;
+        fresh = alone;
+        standing = (small, refl, rw some tt);
+        some = any;
+        first = refl;
+        starts = role_starts code Overflow x pushing (PushIndex value) (first_push x.capacity) (record { 0 = 0 }) refl (λ kept. refl) Producer (λ o p. tt) (λ roles p is. holds_it roles.producer p is) has;
+        wrote = λ p. (refl, tt);
+      })

@@ -1,0 +1,28 @@
+-- Tests of numbers, as the calls of a queue make them.
+use Rattle.std.proofs.Common.{◌≡◌, ℕ, ◌+◌, ◌*◌, ◌-◌, ◌^◌, ◌<◌, ◌≤◌, ◌==◌, min, nat_lt, true, false, ap, ◌∙◌, arith}
+use Rattle.std.proofs.lemmas.Bool.Decides.{nat_tests}
+use Rattle.steps.specs.Queues.Ring.{distance}
+
+pub not_last : (n : ℕ) → n < 2 ^ 64 - 1 → (n == 2 ^ 64 - 1) ≡ false
+not_last n low = grind (arith, nat_tests)
+
+pub some_cells : (c : ℕ) → 0 < c → (c == 0) ≡ false
+some_cells c some = grind (arith, nat_tests)
+
+pub not_full : (n c : ℕ) → n < 2 ^ 64 → 0 < c → (distance n n == c) ≡ false
+not_full n c low some = (let none : distance n n ≡ 0 = omega arith in grind (arith, nat_tests))
+
+pub one_apart : (n : ℕ) → ((n + 1) == n) ≡ false
+one_apart n = grind (arith, nat_tests)
+
+pub at_last : (k size : ℕ) → k + 1 ≡ size → nat_lt (k + 1) size ≡ false
+at_last k size is = grind (arith, nat_tests)
+
+pub before_last : (k size : ℕ) → k + 1 < size → nat_lt (k + 1) size ≡ true
+before_last k size low = grind (arith, nat_tests)
+
+pub not_below : (n m : ℕ) → m ≤ n → nat_lt n m ≡ false
+not_below n m low = grind (arith, nat_tests)
+
+pub none_used : (size capacity : ℕ) → size * min 0 capacity ≡ 0
+none_used size capacity = (let none : min 0 capacity ≡ 0 = omega arith in let nothing : size * 0 ≡ 0 = omega arith in ap (λ m. size * m) none ∙ nothing)

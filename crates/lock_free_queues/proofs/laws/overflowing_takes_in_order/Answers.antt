@@ -1,0 +1,8 @@
+use Rattle.lock_free_queues.proofs.Queues.Promised.{taken_first, none_waited}
+use Rattle.lock_free_queues.proofs.laws.overflowing_takes_in_order.Goals as goal
+
+pub returns-clause-taken : goal.returns-clause-taken
+returns-clause-taken g c item old new h = taken_first old new item h
+
+pub returns-clause-none : goal.returns-clause-none
+returns-clause-none g c old new h q j y a = none_waited old new h q j y a

@@ -1,0 +1,50 @@
+use Rattle.std.proofs.Common.{◌<◌, ◌^◌, IfSome, IfNone, sym, ap, subst, ◌∙◌}
+use Rattle.std.specs.Option.{option_map}
+use Rattle.steps.specs.Queues.Ring.{first_pop, pop_answer}
+use Rattle.model.specs.Coding.{one_word}
+use Rattle.model.specs.declared.turn.Kind.TheVariants as kinds
+use Rattle.model.specs.declared.event.Item.TheVariants.{Index}
+use Rattle.model.specs.declared.families.queues.QueueKind.TheVariants.{IndexQueue}
+use Rattle.lock_free_sp.specs.Seats.{seen}
+use Rattle.queue_laws.proofs.Ring.Kinds.{of_indices}
+use Rattle.history.specs.Stages.{At}
+use Rattle.history.specs.Queues.{pops_index}
+use Rattle.history.proofs.QueueCalls.{pop_keep_all, pop_first}
+use Rattle.lock_free_queues.proofs.Queues.Ended.{has_popped, taken_if, empty_if}
+use Rattle.lock_free_queues.proofs.Queues.Indices.{index_of, in_room, index_pop}
+use Rattle.lock_free_queues.specs.Queues.Told.{HasPopped, HasTakenOut, WasEmpty}
+use Rattle.lock_free_queues.proofs.spsc.index_queue.calls.Held+Numbers+u64+RingRule+Numbers+u64.pop.Goals as goal
+
+pub drive-end-requires-clause-rule : goal.drive-end-requires-clause-rule
+drive-end-requires-clause-rule c base v call m key = pop_keep_all one_word base v call m key.capacity
+
+pub drive-end-requires-clause-at : goal.drive-end-requires-clause-at
+drive-end-requires-clause-at c =
+    let mine = c.args.self.now in
+    let v = seen mine.seated in
+    subst (λ call. At one_word kinds.IndexQueue pops_index v v call (record { 0 = 0 })) (ap first_pop mine.known ∙ sym c.new-call.ensures) (pop_first one_word v mine.idle mine.alone mine.some.0 (subst (λ n. n < 2 ^ 32) (sym mine.known) mine.small) c.requires)
+
+pub returns-clause-popped : goal.returns-clause-popped
+returns-clause-popped c =
+    let mine = c.args.self.now in
+    let x = seen mine.seated in
+    let w = seen c.drive-end.new.self in
+    subst (λ z. HasPopped (option_map index_of z) x w) (sym c.answer.ensures) (has_popped one_word IndexQueue x w mine.idle index_of in_room pops_index index_pop c.drive-end.result c.drive-end.new.room c.drive-end.ensures.end)
+
+pub returns-clause-empty : goal.returns-clause-empty
+returns-clause-empty c =
+    let mine = c.args.self.now in
+    let x = seen mine.seated in
+    let w = seen c.drive-end.new.self in
+    let ends = c.drive-end.ensures.end in
+    let o = pop_answer c.drive-end.new.room.0 c.drive-end.result in
+    subst (λ z. IfNone z (WasEmpty x w)) (sym c.answer.ensures) (empty_if one_word of_indices index_of x.capacity x w ends.history o (has_popped one_word IndexQueue x w mine.idle index_of in_room pops_index index_pop c.drive-end.result c.drive-end.new.room ends))
+
+pub returns-clause-taken : goal.returns-clause-taken
+returns-clause-taken c =
+    let mine = c.args.self.now in
+    let x = seen mine.seated in
+    let w = seen c.drive-end.new.self in
+    let ends = c.drive-end.ensures.end in
+    let o = pop_answer c.drive-end.new.room.0 c.drive-end.result in
+    subst (λ z. IfSome z (λ k. HasTakenOut (Index k) x w)) (sym c.answer.ensures) (taken_if one_word of_indices index_of x.capacity x w ends.history o (has_popped one_word IndexQueue x w mine.idle index_of in_room pops_index index_pop c.drive-end.result c.drive-end.new.room ends))

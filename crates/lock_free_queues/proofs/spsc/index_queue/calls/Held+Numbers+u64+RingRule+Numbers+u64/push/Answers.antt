@@ -1,0 +1,45 @@
+use Rattle.std.proofs.Common.{◌≡◌, ◌<◌, ◌^◌, ◌⊎◌, false, sym, ap, subst, ◌∙◌}
+use Rattle.steps.specs.Queues.Ring.{first_push}
+use Rattle.model.specs.Coding.{one_word}
+use Rattle.model.specs.declared.turn.Kind.TheVariants as kinds
+use Rattle.model.specs.declared.event.Item.TheVariants.{Index}
+use Rattle.lock_free_sp.specs.Seats.{seen}
+use Rattle.queue_laws.proofs.Ring.Kinds.{of_indices}
+use Rattle.history.specs.Stages.{At}
+use Rattle.history.specs.Queues.{pushes_index}
+use Rattle.history.proofs.QueueCalls.{push_keeps, push_first}
+use Rattle.lock_free_queues.proofs.Queues.Ended.{pushed, published_if, full}
+use Rattle.lock_free_queues.proofs.Queues.Indices.{index_push}
+use Rattle.lock_free_queues.specs.Queues.Told.{HasPushed, WasFull, WasAtEnd}
+use Rattle.lock_free_queues.proofs.spsc.index_queue.calls.Held+Numbers+u64+RingRule+Numbers+u64.push.Goals as goal
+
+pub drive-end-requires-clause-rule : goal.drive-end-requires-clause-rule
+drive-end-requires-clause-rule c base v call m key = push_keeps one_word c.args.value base v call m key.capacity
+
+pub drive-end-requires-clause-at : goal.drive-end-requires-clause-at
+drive-end-requires-clause-at c =
+    let mine = c.args.self.now in
+    let v = seen mine.seated in
+    subst (λ call. At one_word kinds.IndexQueue (pushes_index c.args.value) v v call tt) (ap first_push mine.known ∙ sym c.new-call.ensures) (push_first one_word c.args.value v tt mine.idle mine.alone mine.some.0 (subst (λ n. n < 2 ^ 32) (sym mine.known) mine.small) c.requires)
+
+pub returns-clause-full : goal.returns-clause-full
+returns-clause-full c is =
+    let mine = c.args.self.now in
+    let v = c.args.value in
+    let x = seen mine.seated in
+    let w = seen c.drive-end.new.self in
+    subst (λ n. WasFull n (Index v) x w ⊎ WasAtEnd x w) mine.known (full one_word of_indices x w mine.idle (Index v) (pushes_index v) (index_push v) mine.alone mine.some.0 c.requires c.drive-end.result tt c.drive-end.ensures.end (sym c.answer.ensures ∙ is))
+
+pub returns-clause-published : goal.returns-clause-published
+returns-clause-published c is =
+    let mine = c.args.self.now in
+    let v = c.args.value in
+    published_if one_word of_indices (seen mine.seated) (seen c.drive-end.new.self) mine.idle (Index v) (pushes_index v) (index_push v) mine.alone mine.some.0 c.requires c.drive-end.result tt c.drive-end.ensures.end (sym c.answer.ensures ∙ is)
+
+pub returns-clause-pushed : goal.returns-clause-pushed
+returns-clause-pushed c =
+    let mine = c.args.self.now in
+    let v = c.args.value in
+    let x = seen mine.seated in
+    let w = seen c.drive-end.new.self in
+    subst (λ b. HasPushed (Index v) b x w ⊎ (b ≡ false) × WasAtEnd x w) (sym c.answer.ensures) (pushed one_word of_indices x w mine.idle (Index v) (pushes_index v) (index_push v) mine.alone mine.some.0 c.requires c.drive-end.result tt c.drive-end.ensures.end)

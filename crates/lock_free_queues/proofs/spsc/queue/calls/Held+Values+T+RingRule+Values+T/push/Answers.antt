@@ -1,0 +1,69 @@
+use Rattle.std.proofs.Common.{rules, ◌≡◌, ◌<◌, ◌^◌, ◌⊎◌, false, sym, ap, subst, ◌∙◌}
+use Rattle.steps.specs.Queues.Ring.{first_push}
+use Rattle.model.specs.Coding.{Coding, IsCoding, coding_of}
+use Rattle.model.specs.declared.turn.Kind.TheVariants as kinds
+use Rattle.model.specs.declared.event.Item.TheVariants.{Value}
+use Rattle.queue_laws.proofs.Ring.Kinds.{of_values}
+use Rattle.history.specs.Stages.{At}
+use Rattle.history.specs.ValueQueue.{pushes_value}
+use Rattle.history.proofs.ValueQueueCalls.{value_push_keeps, value_push_first}
+use Rattle.lock_free_queues.specs.Queues.Goes.{Goes}
+use Rattle.lock_free_queues.specs.Queues.Values.{token_view}
+use Rattle.lock_free_queues.specs.Queues.Told.{HasPushed, WasFull, WasAtEnd}
+use Rattle.lock_free_queues.proofs.Queues.Ended.{pushed, published_if, full}
+use Rattle.lock_free_queues.proofs.Queues.Facts.{goes_over}
+use Rattle.lock_free_queues.proofs.Queues.Values.{value_push}
+use Rattle.lock_free_queues.proofs.spsc.queue.calls.Held+Values+T+RingRule+Values+T.push.Goals as goal
+
+pub drive-end-requires-clause-rule : goal.drive-end-requires-clause-rule
+drive-end-requires-clause-rule g c base v call m key =
+    let met = g.met.T.Words in
+    let code : Coding g.row.T.Denot = coding_of g.T.Words.WORDS g.T.Words.words_of g.T.Words.value_of in
+    let law : IsCoding code = record { some = met.some; few = met.few; sized = met.sized; given_back = met.given_back } in
+    value_push_keeps code law c.args.value.now base v call m key.capacity
+
+pub drive-end-requires-clause-at : goal.drive-end-requires-clause-at
+drive-end-requires-clause-at g c =
+    let mine = c.args.self.now in
+    let v = token_view mine in
+    let met = g.met.T.Words in
+    let code : Coding g.row.T.Denot = coding_of g.T.Words.WORDS g.T.Words.words_of g.T.Words.value_of in
+    let law : IsCoding code = record { some = met.some; few = met.few; sized = met.sized; given_back = met.given_back } in
+    let x = c.args.value.now in
+    subst (λ call. At code kinds.Queue (pushes_value code x) v v call tt) (ap first_push mine.known ∙ sym c.new-call.ensures) (value_push_first code law x v tt mine.idle mine.alone mine.some.0 (subst (λ n. n < 2 ^ 32) (sym mine.known) mine.small) c.requires)
+
+pub returns-clause-full : goal.returns-clause-full
+returns-clause-full g c is =
+    let mine = c.args.self.now in
+    let code : Coding g.row.T.Denot = coding_of g.T.Words.WORDS g.T.Words.words_of g.T.Words.value_of in
+    let v = c.args.value.now in
+    let x = token_view mine in
+    let w = c.drive-end.new.self.seat.me.0 in
+    subst (λ n. WasFull n (Value v) x w ⊎ WasAtEnd x w) mine.known (full code of_values x w mine.idle (Value v) (pushes_value code v) (value_push code v) mine.alone mine.some.0 c.requires c.drive-end.result tt c.drive-end.ensures.end (sym c.answer.ensures ∙ is))
+
+pub returns-clause-published : goal.returns-clause-published
+returns-clause-published g c is =
+    let mine = c.args.self.now in
+    let code : Coding g.row.T.Denot = coding_of g.T.Words.WORDS g.T.Words.words_of g.T.Words.value_of in
+    let v = c.args.value.now in
+    published_if code of_values (token_view mine) c.drive-end.new.self.seat.me.0 mine.idle (Value v) (pushes_value code v) (value_push code v) mine.alone mine.some.0 c.requires c.drive-end.result tt c.drive-end.ensures.end (sym c.answer.ensures ∙ is)
+
+pub returns-clause-pushed : goal.returns-clause-pushed
+returns-clause-pushed g c =
+    let mine = c.args.self.now in
+    let code : Coding g.row.T.Denot = coding_of g.T.Words.WORDS g.T.Words.words_of g.T.Words.value_of in
+    let v = c.args.value.now in
+    let x = token_view mine in
+    let w = c.drive-end.new.self.seat.me.0 in
+    subst (λ b. HasPushed (Value v) b x w ⊎ (b ≡ false) × WasAtEnd x w) (sym c.answer.ensures) (pushed code of_values x w mine.idle (Value v) (pushes_value code v) (value_push code v) mine.alone mine.some.0 c.requires c.drive-end.result tt c.drive-end.ensures.end)
+
+pub returns-clause-same : goal.returns-clause-same
+returns-clause-same g c =
+    let mine = c.args.self.now in
+    let code : Coding g.row.T.Denot = coding_of g.T.Words.WORDS g.T.Words.words_of g.T.Words.value_of in
+    let v = token_view mine in
+    let w = c.drive-end.new.self.seat.me.0 in
+    record {
+      queue = search rules;
+      goes = subst (λ n. Goes code kinds.Queue n v w) mine.known (goes_over code kinds.Queue (pushes_value code c.args.value.now) v w c.drive-end.result tt c.drive-end.ensures.end);
+    }

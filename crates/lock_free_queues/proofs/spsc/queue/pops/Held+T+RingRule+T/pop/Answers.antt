@@ -1,8 +1,0 @@
-use Rattle.std.proofs.Common.{rules, refl, arith}
-use Rattle.lock_free_queues.proofs.spsc.queue.pops.Held+T+RingRule+T.pop.Goals as goal
-
-pub pop_by-requires-clause-room : goal.pop_by-requires-clause-room
-pop_by-requires-clause-room g c = (2, search rules, omega arith, refl)
-
-pub pop_by-requires-then-WORDS-le16-clause-room : goal.pop_by-requires-then-WORDS-le16-clause-room
-pop_by-requires-then-WORDS-le16-clause-room g c = (16, search rules, omega arith, refl)

@@ -1,0 +1,64 @@
+use Rattle.std.proofs.Common.{◌<◌, ◌^◌, IfSome, IfNone, sym, ap, subst, ◌∙◌}
+use Rattle.std.specs.Option.{option_map}
+use Rattle.steps.specs.Queues.Ring.{first_pop, pop_answer}
+use Rattle.model.specs.Coding.{Coding, IsCoding, coding_of}
+use Rattle.model.specs.declared.turn.Kind.TheVariants as kinds
+use Rattle.model.specs.declared.event.Item.TheVariants.{Value}
+use Rattle.model.specs.declared.families.queues.QueueKind.TheVariants.{Queue}
+use Rattle.queue_laws.proofs.Ring.Kinds.{of_values}
+use Rattle.history.specs.Rooms.{room_of}
+use Rattle.history.specs.Stages.{At}
+use Rattle.history.specs.ValueQueue.{value_there, pops_value}
+use Rattle.history.proofs.Rooms.{room_fresh}
+use Rattle.history.proofs.ValueQueueCalls.{value_pop_keeps, value_pop_first}
+use Rattle.lock_free_queues.specs.Queues.Values.{token_view}
+use Rattle.lock_free_queues.specs.Queues.Told.{HasPopped, HasTakenOut, WasEmpty}
+use Rattle.lock_free_queues.proofs.Queues.Ended.{has_popped, taken_if, empty_if}
+use Rattle.lock_free_queues.proofs.Queues.Values.{value_of, value_pop}
+use Rattle.lock_free_queues.proofs.spsc.queue.pops.Held+Values+T+RingRule+Values+T.pop_by.Goals as goal
+
+pub drive-end-requires-clause-rule : goal.drive-end-requires-clause-rule
+drive-end-requires-clause-rule g c base v call m key =
+    let met = g.met.T.Words in
+    let code : Coding g.row.T.Denot = coding_of g.T.Words.WORDS g.T.Words.words_of g.T.Words.value_of in
+    let law : IsCoding code = record { some = met.some; few = met.few; sized = met.sized; given_back = met.given_back } in
+    value_pop_keeps code law g.R.Room.words_in g.R.Room.with_word g.met.R.Room.put_in base v call m key.capacity
+
+pub drive-end-requires-clause-at : goal.drive-end-requires-clause-at
+drive-end-requires-clause-at g c =
+    let mine = c.args.self.now in
+    let v = token_view mine in
+    let met = g.met.T.Words in
+    let code : Coding g.row.T.Denot = coding_of g.T.Words.WORDS g.T.Words.words_of g.T.Words.value_of in
+    let law : IsCoding code = record { some = met.some; few = met.few; sized = met.sized; given_back = met.given_back } in
+    let room = c.requires.room in
+    let zeros = ap (room_of code.size) room.3 ∙ room_fresh code.size room.0 room.1 room.2 in
+    subst (λ call. At code kinds.Queue (pops_value code g.R.Room.words_in) v v call c.args.room) (ap first_pop mine.known ∙ sym c.new-call.ensures) (value_pop_first code law g.R.Room.words_in g.R.Room.with_word g.met.R.Room.put_in v c.args.room zeros mine.idle mine.alone mine.some.0 (subst (λ n. n < 2 ^ 32) (sym mine.known) mine.small) c.requires.role)
+
+pub returns-clause-popped : goal.returns-clause-popped
+returns-clause-popped g c =
+    let mine = c.args.self.now in
+    let code : Coding g.row.T.Denot = coding_of g.T.Words.WORDS g.T.Words.words_of g.T.Words.value_of in
+    let x = token_view mine in
+    let w = c.drive-end.new.self.seat.me.0 in
+    subst (λ z. HasPopped (option_map (value_of code) z) x w) (sym c.answer.ensures) (has_popped code Queue x w mine.idle (value_of code) (value_there code g.R.Room.words_in) (pops_value code g.R.Room.words_in) (value_pop code g.R.Room.words_in) c.drive-end.result c.drive-end.new.room c.drive-end.ensures.end)
+
+pub returns-clause-empty : goal.returns-clause-empty
+returns-clause-empty g c =
+    let mine = c.args.self.now in
+    let code : Coding g.row.T.Denot = coding_of g.T.Words.WORDS g.T.Words.words_of g.T.Words.value_of in
+    let x = token_view mine in
+    let w = c.drive-end.new.self.seat.me.0 in
+    let ends = c.drive-end.ensures.end in
+    let o = pop_answer (value_there code g.R.Room.words_in c.drive-end.new.room) c.drive-end.result in
+    subst (λ z. IfNone z (WasEmpty x w)) (sym c.answer.ensures) (empty_if code of_values (value_of code) x.capacity x w ends.history o (has_popped code Queue x w mine.idle (value_of code) (value_there code g.R.Room.words_in) (pops_value code g.R.Room.words_in) (value_pop code g.R.Room.words_in) c.drive-end.result c.drive-end.new.room ends))
+
+pub returns-clause-taken : goal.returns-clause-taken
+returns-clause-taken g c =
+    let mine = c.args.self.now in
+    let code : Coding g.row.T.Denot = coding_of g.T.Words.WORDS g.T.Words.words_of g.T.Words.value_of in
+    let x = token_view mine in
+    let w = c.drive-end.new.self.seat.me.0 in
+    let ends = c.drive-end.ensures.end in
+    let o = pop_answer (value_there code g.R.Room.words_in c.drive-end.new.room) c.drive-end.result in
+    subst (λ z. IfSome z (λ k. HasTakenOut (Value k) x w)) (sym c.answer.ensures) (taken_if code of_values (value_of code) x.capacity x w ends.history o (has_popped code Queue x w mine.idle (value_of code) (value_there code g.R.Room.words_in) (pops_value code g.R.Room.words_in) (value_pop code g.R.Room.words_in) c.drive-end.result c.drive-end.new.room ends))

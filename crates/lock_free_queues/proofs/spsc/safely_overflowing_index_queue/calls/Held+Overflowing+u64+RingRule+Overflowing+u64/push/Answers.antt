@@ -1,0 +1,61 @@
+use Rattle.std.proofs.Common.{rules, ◌≡◌, ◌<◌, ◌^◌, ◌⊎◌, Some, IfSome, IfNone, sym, ap, subst, ◌∙◌}
+use Rattle.steps.specs.Queues.Overflow.{first_push, push_answer}
+use Rattle.model.specs.Coding.{one_word}
+use Rattle.model.specs.declared.turn.Kind.TheVariants as kinds
+use Rattle.model.specs.declared.event.Item.TheVariants.{Index}
+use Rattle.history.specs.Stages.{At}
+use Rattle.lock_free_queues.specs.Queues.Goes.{Goes}
+use Rattle.lock_free_queues.specs.Queues.Overflowing.{token_view, HasOverflowed, pushes_told}
+use Rattle.lock_free_queues.specs.Queues.Told.{HasPublished, WasAtEnd, HasTakenFirst}
+use Rattle.lock_free_queues.proofs.Queues.Facts.{goes_over}
+use Rattle.lock_free_queues.proofs.Queues.OverEnded.{over_pushed, over_none, over_some}
+use Rattle.lock_free_queues.proofs.Queues.OverPushes.{told_keeps, told_first}
+use Rattle.lock_free_queues.proofs.spsc.safely_overflowing_index_queue.calls.Held+Overflowing+u64+RingRule+Overflowing+u64.push.Goals as goal
+
+pub drive-end-requires-clause-rule : goal.drive-end-requires-clause-rule
+drive-end-requires-clause-rule c base v call m key = told_keeps one_word c.args.value base v call m key.capacity
+
+pub drive-end-requires-clause-at : goal.drive-end-requires-clause-at
+drive-end-requires-clause-at c =
+    let mine = c.args.self.now in
+    let v = token_view mine in
+    subst (λ call. At one_word kinds.Overflow (pushes_told c.args.value) v v call (record { 0 = 0 })) (ap first_push mine.known ∙ sym c.new-call.ensures)
+    (told_first one_word c.args.value v mine.idle mine.alone mine.some.0 (subst (λ n. 0 < n) (sym mine.known) c.requires.some) (subst (λ n. n < 2 ^ 32) (sym mine.known) mine.small) c.requires.role)
+
+pub returns-clause-called : goal.returns-clause-called
+returns-clause-called c =
+    let mine = c.args.self.now in
+    let v = c.args.value in
+    let x = token_view mine in
+    let w = c.drive-end.new.self.seat.me.0 in
+    subst (λ o. HasOverflowed v o x w ⊎ (o ≡ Some v) × WasAtEnd x w) (sym c.answer.ensures) (over_pushed one_word x w mine.idle v mine.alone mine.some.0 c.requires.role c.drive-end.result c.drive-end.new.room c.drive-end.ensures.end)
+
+pub returns-clause-same : goal.returns-clause-same
+returns-clause-same c =
+    let mine = c.args.self.now in
+    let v = token_view mine in
+    let w = c.drive-end.new.self.seat.me.0 in
+    record {
+      queue = search rules;
+      goes = subst (λ n. Goes one_word kinds.Overflow n v w) mine.known (goes_over one_word kinds.Overflow (pushes_told c.args.value) v w c.drive-end.result c.drive-end.new.room c.drive-end.ensures.end);
+    }
+
+pub returns-clause-published : goal.returns-clause-published
+returns-clause-published c =
+    let mine = c.args.self.now in
+    let v = c.args.value in
+    let x = token_view mine in
+    let w = c.drive-end.new.self.seat.me.0 in
+    let o = push_answer v c.drive-end.new.room.0 c.drive-end.result in
+    let goes = goes_over one_word kinds.Overflow (pushes_told v) x w c.drive-end.result c.drive-end.new.room c.drive-end.ensures.end in
+    subst (λ z. IfNone z (HasPublished (Index v) x w)) (sym c.answer.ensures) (over_none one_word x w mine.idle v goes.history o (over_pushed one_word x w mine.idle v mine.alone mine.some.0 c.requires.role c.drive-end.result c.drive-end.new.room c.drive-end.ensures.end))
+
+pub returns-clause-handed_back : goal.returns-clause-handed_back
+returns-clause-handed_back c =
+    let mine = c.args.self.now in
+    let v = c.args.value in
+    let x = token_view mine in
+    let w = c.drive-end.new.self.seat.me.0 in
+    let o = push_answer v c.drive-end.new.room.0 c.drive-end.result in
+    let goes = goes_over one_word kinds.Overflow (pushes_told v) x w c.drive-end.result c.drive-end.new.room c.drive-end.ensures.end in
+    subst (λ z. IfSome z (λ y. HasPublished (Index v) x w × HasTakenFirst (Index y) x w ⊎ (y ≡ v) × WasAtEnd x w)) (sym c.answer.ensures) (over_some one_word x w mine.idle v goes.history o (over_pushed one_word x w mine.idle v mine.alone mine.some.0 c.requires.role c.drive-end.result c.drive-end.new.room c.drive-end.ensures.end))

@@ -1,0 +1,35 @@
+-- What differs between the kinds of queues.
+use Rattle.std.specs.Prelude.{◌≡◌, ℕ, ◌+◌, ◌*◌, replicate}
+use Rattle.model.specs.declared.event.Item.TheVariants.{Index, Value}
+use Rattle.model.specs.declared.families.queues.QueueKind.{QueueKind}
+use Rattle.model.specs.declared.families.queues.QueueKind.TheVariants.{IndexQueue, Overflow, Queue}
+use Rattle.model.specs.Coding.{Coding}
+use Rattle.model.specs.Families.Queues.Opening.{cells_of}
+use Rattle.model.specs.Families.Queues.Reading.{handed_out}
+use Rattle.history.specs.declared.view.View.{View}
+use Rattle.lock_free_queues.specs.Queues.Opened.{opened_view, over_opened_view}
+
+-- how many words the cells have, of values of so many words
+abbrev pub words_in_cells : ℕ → QueueKind → ℕ → ℕ
+words_in_cells size IndexQueue capacity = capacity
+words_in_cells size Overflow capacity = capacity + 1
+words_in_cells size Queue capacity = size * capacity
+
+-- At most so many values wait: the capacity, and in an overflowing queue one more while a push is under way. There are
+-- as many cells.
+abbrev pub most_waiting : QueueKind → ℕ → ℕ
+most_waiting kind capacity = cells_of kind capacity
+
+module _ {T : Type 0} where
+  -- no value was taken out; of an overflowing queue, whose pushes take out too, nothing is said
+  abbrev pub NoneTaken : QueueKind → View T → View T → Type 0
+  NoneTaken IndexQueue old new = handed_out new.seen ≡ handed_out old.seen
+  NoneTaken Overflow old new = Unit {0}
+  NoneTaken Queue old new = handed_out new.seen ≡ handed_out old.seen
+
+  -- what the first pass of a queue knows that opens at a position: of so many pushes and pops of this
+  abbrev pub opened_by : Coding T → QueueKind → ℕ → ℕ → View T
+  opened_by code IndexQueue capacity position = opened_view (Index 0) capacity position
+  opened_by code Overflow capacity position = over_opened_view capacity position
+  opened_by code Queue capacity position =
+      opened_view (Value (code.value_of (replicate code.size 0))) capacity position

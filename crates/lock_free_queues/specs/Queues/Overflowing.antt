@@ -1,0 +1,62 @@
+-- Which overflowing queue a pass is for, and what it knows of the queue's history; what its pushes and pops say.
+use Rattle.std.specs.Prelude.{◌≡◌, ◌⊎◌, ℕ, Option, Some, None, List, [], ◌∷◌}
+use Rattle.steps.specs.declared.copied.OneWord.{OneWord}
+use Rattle.steps.specs.declared.queues.overflow.Push.{Push}
+use Rattle.steps.specs.declared.queues.overflow.PushEnd.{PushEnd}
+use Rattle.steps.specs.declared.queues.overflow.PushEnd as ends
+use Rattle.model.specs.declared.event.Answer.TheVariants.{PoppedNone, PoppedIndex}
+use Rattle.model.specs.declared.event.Event.{Event}
+use Rattle.model.specs.declared.event.Event.TheVariants.{Published, HandedOut, Acted}
+use Rattle.model.specs.declared.event.Item.TheVariants.{Index}
+use Rattle.model.specs.declared.event.Start.TheVariants.{Queues}
+use Rattle.model.specs.declared.families.queues.QueueStart.TheVariants.{PushIndex}
+use Rattle.model.specs.declared.turn.Kind.TheVariants as kinds
+use Rattle.model.specs.Coding.{one_word}
+use Rattle.model.specs.Families.Queues.Calls.{popped}
+use Rattle.history.specs.declared.view.View.{View}
+use Rattle.history.specs.History.{Called, IsHistory}
+use Rattle.history.specs.Overflow.{over_push_wrote, pushes_over}
+use Rattle.history.specs.Stages.{Calling}
+use Rattle.lock_free_queues.specs.Queues.Told.{WasAtEnd}
+pub use Rattle.lock_free_queues.specs.Queues.Rings.{Goes, MissesNothing, QueueId, queue_id, capacity_of, inner, token_queue, token_view, queue_of, producer_queue, consumer_queue, view, producer_view, consumer_view, IsPassOf, IsSameQueue}
+
+-- it has seen a history of a queue of this capacity
+abbrev pub HasHistory : ℕ → View ℕ → Type 0
+HasHistory capacity v = IsHistory one_word kinds.Overflow capacity v.seen
+
+-- what each call leaves
+abbrev pub GoesOn : ℕ → View ℕ → View ℕ → Type 0
+GoesOn capacity old new = Goes one_word kinds.Overflow capacity old new
+
+module _ {T : Type 0} where
+  -- what a push writes: it publishes its number, and where there was no room it takes out the oldest
+  abbrev pub over_push_told : ℕ → ℕ → Option ℕ → List (Event T)
+  over_push_told p value None =
+      Published p (Index value) ∷ Acted p (Queues (PushIndex value)) PoppedNone ∷ []
+  over_push_told p value (Some oldest) =
+      Published p (Index value) ∷ HandedOut p (Index oldest)
+      ∷ Acted p (Queues (PushIndex value)) (PoppedIndex oldest) ∷ []
+
+  -- the push is a call of the history, which handed this back
+  pub record HasOverflowed (value : ℕ) (back : Option ℕ) (old new : View T) : Type 0 where
+    pub by : ℕ
+    pub mine : new.party ≡ Some by
+    pub called : Called by (Queues (PushIndex value)) (popped back) (over_push_told by value back) old new
+
+-- the push is none: without capacity nothing changes, not even what was seen, and where the last position is reached it
+-- is a look
+abbrev pub TookNone : {T : Type 0} → ℕ → View T → View T → Type 0
+TookNone capacity old new = (capacity ≡ 0) × (new ≡ old) ⊎ WasAtEnd old new
+
+-- ---- what the steps of a push are driven for
+
+-- it ended as a call: where its number comes back to it, it is none
+abbrev pub HasActed : PushEnd → Type 0
+HasActed ends.TheVariants.Own = ⊥
+HasActed end = Unit {0}
+
+abbrev pub pushes_told : {T : Type 0} → ℕ → Calling T Push OneWord PushEnd
+pushes_told value =
+    record (pushes_over value) {
+      wrote_all = λ capacity p from e m es. HasActed e × (es ≡ over_push_wrote p value m.0 e);
+    }

@@ -1,0 +1,82 @@
+-- Which queue a pass is for, and what it knows of the queue's history: of queues of any kind.
+use Rattle.std.specs.Prelude.{◌≡◌, ℕ}
+use Rattle.std.specs.Arc.{arc_value}
+use Rattle.atomic_table.specs.Seated.{TableId}
+use Rattle.steps.specs.declared.words.Words.{Ghosts}
+use Rattle.model.specs.declared.families.queues.QueueKind.{QueueKind}
+use Rattle.model.specs.Coding.{Coding, coding_of}
+use Rattle.history.specs.declared.view.View.{View}
+use Rattle.history.specs.History.{IsHistory}
+use Rattle.lock_free_queues.specs.Queues.Bounded.{machine_of}
+pub use Rattle.lock_free_queues.specs.Queues.Goes.{Goes, MissesNothing}
+use Rattle.lock_free_queues.specs.declared.spsc.ring.rule.Kind as kinds
+use Rattle.lock_free_queues.specs.declared.spsc.ring.rule.RingRule.{RingRule}
+use Rattle.lock_free_queues.specs.declared.spsc.ring.Ring.{Ring}
+use Rattle.lock_free_queues.specs.declared.spsc.ring.FixedSize.{FixedSize}
+use Rattle.lock_free_queues.specs.declared.spsc.ring.Held.{Held}
+use Rattle.lock_free_queues.specs.declared.spsc.ring.Pass.{Pass}
+use Rattle.lock_free_queues.specs.declared.spsc.ring.Producer.{Producer}
+use Rattle.lock_free_queues.specs.declared.spsc.ring.Consumer.{Consumer}
+
+-- what names a queue
+pub record QueueId : Type 0 where
+  pub table : TableId
+  pub capacity : ℕ
+
+module _ {T : Type 0} where
+  -- it has seen a history of a queue of this kind and capacity
+  abbrev pub HasHistory : Coding T → QueueKind → ℕ → View T → Type 0
+  HasHistory code kind capacity v = IsHistory code (machine_of kind) capacity v.seen
+
+  -- what each call leaves
+  abbrev pub GoesOn : Coding T → QueueKind → ℕ → View T → View T → Type 0
+  GoesOn code kind capacity old new = Goes code (machine_of kind) capacity old new
+
+module _ {E T : Type 0} where
+  abbrev pub queue_id : Ring E T → QueueId
+  queue_id q = record { table = (arc_value q.table).shared.table_id; capacity = q.capacity }
+
+  abbrev pub capacity_of : Ring E T → ℕ
+  capacity_of q = q.capacity
+
+  -- the queue of one whose capacity is part of its type
+  module _ {CAPACITY : ℕ} where
+    abbrev pub inner : FixedSize E T CAPACITY → Ring E T
+    inner q = q.ring
+
+module _ {E T : Type 0} {kind : kinds.Ghosts E} {words : Ghosts T} where
+  abbrev pub token_queue : Held E T (RingRule E T) kind words → QueueId
+  token_queue t = record { table = t.seated.seat.table_id; capacity = t.capacity }
+
+  abbrev pub token_view : Held E T (RingRule E T) kind words → View T
+  token_view t = t.seated.seat.me.0
+
+  abbrev pub queue_of : Pass E T kind words → QueueId
+  queue_of p = token_queue p.token
+
+  abbrev pub producer_queue : Producer E T kind words → QueueId
+  producer_queue p = token_queue p.token
+
+  abbrev pub consumer_queue : Consumer E T kind words → QueueId
+  consumer_queue c = token_queue c.token
+
+  abbrev pub view : Pass E T kind words → View T
+  view p = token_view p.token
+
+  abbrev pub producer_view : Producer E T kind words → View T
+  producer_view p = token_view p.token
+
+  abbrev pub consumer_view : Consumer E T kind words → View T
+  consumer_view c = token_view c.token
+
+  abbrev pub IsPassOf : Ring E T → Pass E T kind words → Type 0
+  IsPassOf q p = queue_of p ≡ queue_id q
+
+  -- how its values are written in words
+  abbrev pub code_of : Held E T (RingRule E T) kind words → Coding T
+  code_of t = coding_of words.WORDS words.words_of words.value_of
+
+  -- the same of a seat, of the same queue
+  pub record IsSameQueue (old new : Held E T (RingRule E T) kind words) : Type 0 where
+    pub queue : token_queue new ≡ token_queue old
+    pub goes : GoesOn (code_of old) kind.KIND (token_queue old).capacity (token_view old) (token_view new)

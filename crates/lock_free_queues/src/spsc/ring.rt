@@ -1,0 +1,101 @@
+//! What the queues have in common: what threads share, what each of them holds, and the calls but pushes and pops. The
+//! queues are this with a kind E and values T; each module of `spsc` has its own names for them.
+ghost use Rattle.std.specs.Prelude.{◌≡◌, ◌<◌, ◌+◌, ◌^◌, [], None};
+ghost use Rattle.std.specs.Arc.{arc_value};
+ghost use Rattle.steps.specs.declared.queues.roles.Role.TheVariants as roles;
+ghost use Rattle.history.specs.Roles.{HasRole};
+ghost use Rattle.lock_free_queues.specs.Queues.Kinds.{words_in_cells};
+ghost use Rattle.lock_free_queues.specs.Queues.Roles.{LacksRole};
+
+use self::rule::{Board, Kind, Origin, RingRule};
+use atomic_table::TableRule;
+use history::view::View;
+use lock_free_sp::driver::seated::Seated;
+use std::alloc::Global;
+use std::marker::PhantomData;
+use std::sync::Arc;
+use steps::words::Words;
+
+mod calls;
+mod drives;
+mod ends;
+mod fixed;
+mod lengths;
+mod make;
+mod passes;
+mod reads;
+pub mod rule;
+
+/// A queue, which threads share by reference. One producer pushes and one consumer pops at a time.
+#[derive(Drop)]
+pub struct Ring<E: Kind, T: Words> {
+    table: Arc<Board<E, T>, Global>,
+    pub(crate) capacity: u32,
+    pub(crate) alloc: Global,
+}
+
+/// A queue whose capacity is part of its type. It is used as the queue that it has.
+#[derive(Drop)]
+pub struct FixedSize<E: Kind, T: Words, const CAPACITY: usize> {
+    pub(crate) ring: Ring<E, T>,
+    ghost sized: { ring.capacity ≡ CAPACITY },
+}
+
+/// A seat at a queue's table, with no call under way. Its rule is a parameter: only so can its size be told by
+/// `T::WORDS`.
+#[derive(Drop)]
+pub struct Held<E: Kind, T: Words, Q: TableRule<(), View<T>, Origin>> {
+    pub of: PhantomData<E>,
+    pub seated: Seated<View<T>, Origin, Q>,
+    pub capacity: u32,
+    ghost sized: { seated.seat.table_id.words ≡ 4 + words_in_cells T.WORDS E.KIND capacity + 1 },
+    ghost keyed: { (arc_value seated.table).shared.key.capacity ≡ capacity },
+    ghost known: { seated.seat.me.0.capacity ≡ capacity },
+    ghost small: { capacity < 2 ^ 32 },
+    ghost idle: { seated.seat.me.0.going ≡ None },
+    ghost alone: { seated.seat.me.0.other ≡ [] },
+    ghost some: { (0 < seated.seat.me.0.share.part) × (0 < seated.seat.me.0.share.parts) },
+}
+
+pub type Token<E, T> = Held<E, T, RingRule<E, T>>;
+
+/// What a caller makes each call with: it says which queue it is for, how much of the queue's history it has seen, and
+/// what of it is its own doing. Each call is made with a pass of its queue, which is the caller's concern. It has no
+/// role. This project's own.
+#[derive(Drop)]
+pub struct Pass<E: Kind, T: Words> {
+    pub(crate) token: Token<E, T>,
+    ghost none: { LacksRole roles.Producer token.seated.seat.me.0.made × LacksRole roles.Consumer token.seated.seat.me.0.made },
+}
+
+/// The end of a queue that pushes. There is one at a time. It owns the pass that it was acquired with, and gives the
+/// role back when it is dropped. After `Producer` of the Rust crate.
+pub struct Producer<'a, E: Kind, T: Words> {
+    ring: &'a Ring<E, T>,
+    pub(crate) token: Token<E, T>,
+    ghost role: { HasRole roles.Producer token.seated.seat.me.0.made × LacksRole roles.Consumer token.seated.seat.me.0.made },
+}
+
+/// The end of a queue that pops. There is one at a time. It owns the pass that it was acquired with, and gives the
+/// role back when it is dropped. After `Consumer` of the Rust crate.
+pub struct Consumer<'a, E: Kind, T: Words> {
+    ring: &'a Ring<E, T>,
+    pub(crate) token: Token<E, T>,
+    ghost role: { HasRole roles.Consumer token.seated.seat.me.0.made × LacksRole roles.Producer token.seated.seat.me.0.made },
+}
+
+impl<'a, E: Kind, T: Words> Drop for Producer<'a, E, T> {
+    /// Gives the role back. One atomic step.
+    fn drop(self) {
+        let Self { ring: _, mut token } = self;
+        token.leave_producer();
+    }
+}
+
+impl<'a, E: Kind, T: Words> Drop for Consumer<'a, E, T> {
+    /// Gives the role back. One atomic step.
+    fn drop(self) {
+        let Self { ring: _, mut token } = self;
+        token.leave_consumer();
+    }
+}

@@ -1,0 +1,82 @@
+//! How a role is taken and given back.
+ghost use Rattle.std.specs.Prelude.{◌≡◌, true, false, IfOk, IfErr};
+ghost use Rattle.steps.specs.declared.queues.roles.Role.TheVariants as roles;
+ghost use Rattle.model.specs.Families.Queues.Reading.{published};
+ghost use Rattle.model.specs.Coding.{coding_of};
+ghost use Rattle.lock_free_queues.specs.Queues.Kinds.{NoneTaken};
+ghost use Rattle.lock_free_queues.specs.Queues.Rings.{queue_of, view, producer_queue, producer_view, consumer_queue, consumer_view, IsPassOf, GoesOn};
+ghost use Rattle.lock_free_queues.specs.Queues.Told.{HasAcquired, HasReleased};
+
+use super::rule::Kind;
+use super::{Consumer, Pass, Producer, Ring};
+use steps::words::Words;
+
+impl<E: Kind, T: Words> Ring<E, T> {
+    /// Takes the producer's role, or hands the pass back where another has it. One atomic step. After
+    /// `acquire_producer` of the Rust crate.
+    pub fn acquire_producer(&self, pass: Pass<E, T>) -> Result<Producer<'_, E, T>, Pass<E, T>>
+        requires { IsPassOf self.now pass }
+        ensures acquired { IfOk result (λ p. (producer_queue p ≡ queue_of pass)
+            × GoesOn (coding_of T.WORDS T.words_of T.value_of) E.KIND (queue_of pass).capacity (view pass) (producer_view p)
+            × HasAcquired roles.Producer true (view pass) (producer_view p)) }
+        ensures refused { IfErr result (λ p. (queue_of p ≡ queue_of pass)
+            × GoesOn (coding_of T.WORDS T.words_of T.value_of) E.KIND (queue_of pass).capacity (view pass) (view p)
+            × HasAcquired roles.Producer false (view pass) (view p)) }
+    {
+        let Pass { mut token } = pass;
+        if token.take_producer() {
+            Ok(Producer { ring: self, token })
+        } else {
+            Err(Pass { token })
+        }
+    }
+
+    /// Takes the consumer's role, or hands the pass back where another has it. One atomic step. After
+    /// `acquire_consumer` of the Rust crate.
+    pub fn acquire_consumer(&self, pass: Pass<E, T>) -> Result<Consumer<'_, E, T>, Pass<E, T>>
+        requires { IsPassOf self.now pass }
+        ensures acquired { IfOk result (λ c. (consumer_queue c ≡ queue_of pass)
+            × GoesOn (coding_of T.WORDS T.words_of T.value_of) E.KIND (queue_of pass).capacity (view pass) (consumer_view c)
+            × HasAcquired roles.Consumer true (view pass) (consumer_view c)) }
+        ensures refused { IfErr result (λ p. (queue_of p ≡ queue_of pass)
+            × GoesOn (coding_of T.WORDS T.words_of T.value_of) E.KIND (queue_of pass).capacity (view pass) (view p)
+            × HasAcquired roles.Consumer false (view pass) (view p)) }
+    {
+        let Pass { mut token } = pass;
+        if token.take_consumer() {
+            Ok(Consumer { ring: self, token })
+        } else {
+            Err(Pass { token })
+        }
+    }
+}
+
+impl<'a, E: Kind, T: Words> Producer<'a, E, T> {
+    /// Gives the role back and hands the pass out. One atomic step. This project's own, beside the drop.
+    pub fn release(self) -> Pass<E, T>
+        ensures queue { queue_of result ≡ producer_queue self.entry }
+        ensures goes { GoesOn (coding_of T.WORDS T.words_of T.value_of) E.KIND (producer_queue self.entry).capacity
+            (producer_view self.entry) (view result) }
+        ensures released { HasReleased roles.Producer (producer_view self.entry) (view result) }
+        ensures list { published (view result).seen ≡ published (producer_view self.entry).seen }
+    {
+        let Producer { ring: _, mut token } = self;
+        token.leave_producer();
+        Pass { token }
+    }
+}
+
+impl<'a, E: Kind, T: Words> Consumer<'a, E, T> {
+    /// Gives the role back and hands the pass out. One atomic step. This project's own, beside the drop.
+    pub fn release(self) -> Pass<E, T>
+        ensures queue { queue_of result ≡ consumer_queue self.entry }
+        ensures goes { GoesOn (coding_of T.WORDS T.words_of T.value_of) E.KIND (consumer_queue self.entry).capacity
+            (consumer_view self.entry) (view result) }
+        ensures released { HasReleased roles.Consumer (consumer_view self.entry) (view result) }
+        ensures list { NoneTaken E.KIND (consumer_view self.entry) (view result) }
+    {
+        let Consumer { ring: _, mut token } = self;
+        token.leave_consumer();
+        Pass { token }
+    }
+}

@@ -1,0 +1,194 @@
+//! How many values wait in a queue.
+ghost use Rattle.std.specs.Prelude.{◌≡◌, ◌≤◌};
+ghost use Rattle.steps.specs.declared.queues.roles.Role.{Role};
+ghost use Rattle.model.specs.declared.event.Answer.TheVariants.{Number, Truth};
+ghost use Rattle.model.specs.declared.families.queues.calls.LengthOf.TheVariants as measures;
+ghost use Rattle.model.specs.Coding.{coding_of};
+ghost use Rattle.lock_free_queues.specs.Queues.Kinds.{most_waiting};
+ghost use Rattle.lock_free_queues.specs.Queues.Roles.{Moved};
+ghost use Rattle.lock_free_queues.specs.Queues.Rings.{capacity_of, token_queue, token_view, queue_of, view, producer_queue, producer_view, consumer_queue, consumer_view, IsPassOf, GoesOn, IsSameQueue};
+ghost use Rattle.lock_free_queues.specs.Queues.Told.{HasMeasured};
+
+use super::drives::{Measures, MeasuresAll, MeasuresNone};
+use super::rule::{Kind, RingRule};
+use super::{Consumer, Held, Pass, Producer, Ring};
+use std::sync::Wait;
+use steps::queues::lengths::Len;
+use steps::words::Words;
+
+impl<E: Kind, T: Words> Held<E, T, RingRule<E, T>> {
+    /// How many values waited at one moment of the call.
+    pub fn len(&mut self, rt: &impl Wait) -> u64
+        ensures same { IsSameQueue self.old self.new }
+        ensures counted { HasMeasured measures.Len (token_queue self.old).capacity (Number result)
+            (token_view self.old) (token_view self.new) }
+        ensures few { result ≤ most_waiting E.KIND (token_queue self.old).capacity }
+        ensures roles { (r : Role) → Moved r 0 0 (token_view self.old).made (token_view self.new).made }
+    {
+        let call = Len::new(self.capacity);
+        self.seated
+            .drive_on::<Len, Measures<E>>(rt, call, &(), &mut ())
+    }
+
+    /// Whether none waited.
+    pub fn is_empty(&mut self, rt: &impl Wait) -> bool
+        ensures same { IsSameQueue self.old self.new }
+        ensures told { HasMeasured measures.IsEmpty (token_queue self.old).capacity (Truth result)
+            (token_view self.old) (token_view self.new) }
+        ensures roles { (r : Role) → Moved r 0 0 (token_view self.old).made (token_view self.new).made }
+    {
+        let call = Len::new(self.capacity);
+        let waiting = self
+            .seated
+            .drive_on::<Len, MeasuresNone<E>>(rt, call, &(), &mut ());
+        waiting == 0
+    }
+
+    /// Whether as many waited as the capacity.
+    pub fn is_full(&mut self, rt: &impl Wait) -> bool
+        ensures same { IsSameQueue self.old self.new }
+        ensures told { HasMeasured measures.IsFull (token_queue self.old).capacity (Truth result)
+            (token_view self.old) (token_view self.new) }
+        ensures roles { (r : Role) → Moved r 0 0 (token_view self.old).made (token_view self.new).made }
+    {
+        let call = Len::new(self.capacity);
+        let waiting = self
+            .seated
+            .drive_on::<Len, MeasuresAll<E>>(rt, call, &(), &mut ());
+        waiting == self.capacity as u64
+    }
+}
+
+impl<E: Kind, T: Words> Ring<E, T> {
+    /// The number of values that waited at one moment of the call; at most the capacity, or one more in an
+    /// overflowing queue while a push is under way. Four atomic steps, and at most 4 more for each time that a position
+    /// moved between two of its loads. After `len` of the Rust crate.
+    pub fn len(&self, rt: &impl Wait, pass: &mut Pass<E, T>) -> usize
+        requires { IsPassOf self.now pass.old }
+        ensures queue { queue_of pass.new ≡ queue_of pass.old }
+        ensures goes { GoesOn (coding_of T.WORDS T.words_of T.value_of) E.KIND (queue_of pass.old).capacity
+            (view pass.old) (view pass.new) }
+        ensures counted { HasMeasured measures.Len (capacity_of self.now) (Number result)
+            (view pass.old) (view pass.new) }
+        ensures few { result ≤ most_waiting E.KIND (capacity_of self.now) }
+    {
+        pass.token.len(rt) as usize
+    }
+
+    /// Whether that number was 0. As many atomic steps. After `is_empty` of the Rust crate.
+    pub fn is_empty(&self, rt: &impl Wait, pass: &mut Pass<E, T>) -> bool
+        requires { IsPassOf self.now pass.old }
+        ensures queue { queue_of pass.new ≡ queue_of pass.old }
+        ensures goes { GoesOn (coding_of T.WORDS T.words_of T.value_of) E.KIND (queue_of pass.old).capacity
+            (view pass.old) (view pass.new) }
+        ensures told { HasMeasured measures.IsEmpty (capacity_of self.now) (Truth result)
+            (view pass.old) (view pass.new) }
+    {
+        pass.token.is_empty(rt)
+    }
+
+    /// Whether that number was the capacity. As many atomic steps. After `is_full` of the Rust crate.
+    pub fn is_full(&self, rt: &impl Wait, pass: &mut Pass<E, T>) -> bool
+        requires { IsPassOf self.now pass.old }
+        ensures queue { queue_of pass.new ≡ queue_of pass.old }
+        ensures goes { GoesOn (coding_of T.WORDS T.words_of T.value_of) E.KIND (queue_of pass.old).capacity
+            (view pass.old) (view pass.new) }
+        ensures told { HasMeasured measures.IsFull (capacity_of self.now) (Truth result)
+            (view pass.old) (view pass.new) }
+    {
+        pass.token.is_full(rt)
+    }
+
+    /// The capacity that it was made with. After `capacity` of the Rust crate.
+    pub fn capacity(&self) -> usize
+        ensures { result ≡ capacity_of self.now }
+    {
+        self.capacity as usize
+    }
+}
+
+impl<'a, E: Kind, T: Words> Producer<'a, E, T> {
+    /// As `len` of its queue, with as many atomic steps. This project's own.
+    pub fn len(&mut self, rt: &impl Wait) -> usize
+        ensures queue { producer_queue self.new ≡ producer_queue self.old }
+        ensures goes { GoesOn (coding_of T.WORDS T.words_of T.value_of) E.KIND (producer_queue self.old).capacity
+            (producer_view self.old) (producer_view self.new) }
+        ensures counted { HasMeasured measures.Len (producer_queue self.old).capacity (Number result)
+            (producer_view self.old) (producer_view self.new) }
+        ensures few { result ≤ most_waiting E.KIND (producer_queue self.old).capacity }
+    {
+        self.token.len(rt) as usize
+    }
+
+    /// As `is_empty` of its queue, with as many atomic steps. This project's own.
+    pub fn is_empty(&mut self, rt: &impl Wait) -> bool
+        ensures queue { producer_queue self.new ≡ producer_queue self.old }
+        ensures goes { GoesOn (coding_of T.WORDS T.words_of T.value_of) E.KIND (producer_queue self.old).capacity
+            (producer_view self.old) (producer_view self.new) }
+        ensures told { HasMeasured measures.IsEmpty (producer_queue self.old).capacity (Truth result)
+            (producer_view self.old) (producer_view self.new) }
+    {
+        self.token.is_empty(rt)
+    }
+
+    /// As `is_full` of its queue, with as many atomic steps. This project's own.
+    pub fn is_full(&mut self, rt: &impl Wait) -> bool
+        ensures queue { producer_queue self.new ≡ producer_queue self.old }
+        ensures goes { GoesOn (coding_of T.WORDS T.words_of T.value_of) E.KIND (producer_queue self.old).capacity
+            (producer_view self.old) (producer_view self.new) }
+        ensures told { HasMeasured measures.IsFull (producer_queue self.old).capacity (Truth result)
+            (producer_view self.old) (producer_view self.new) }
+    {
+        self.token.is_full(rt)
+    }
+
+    /// The capacity of its queue. This project's own.
+    pub fn capacity(&self) -> usize
+        ensures { result ≡ (producer_queue self.now).capacity }
+    {
+        self.token.capacity as usize
+    }
+}
+
+impl<'a, E: Kind, T: Words> Consumer<'a, E, T> {
+    /// As `len` of its queue, with as many atomic steps. This project's own.
+    pub fn len(&mut self, rt: &impl Wait) -> usize
+        ensures queue { consumer_queue self.new ≡ consumer_queue self.old }
+        ensures goes { GoesOn (coding_of T.WORDS T.words_of T.value_of) E.KIND (consumer_queue self.old).capacity
+            (consumer_view self.old) (consumer_view self.new) }
+        ensures counted { HasMeasured measures.Len (consumer_queue self.old).capacity (Number result)
+            (consumer_view self.old) (consumer_view self.new) }
+        ensures few { result ≤ most_waiting E.KIND (consumer_queue self.old).capacity }
+    {
+        self.token.len(rt) as usize
+    }
+
+    /// As `is_empty` of its queue, with as many atomic steps. This project's own.
+    pub fn is_empty(&mut self, rt: &impl Wait) -> bool
+        ensures queue { consumer_queue self.new ≡ consumer_queue self.old }
+        ensures goes { GoesOn (coding_of T.WORDS T.words_of T.value_of) E.KIND (consumer_queue self.old).capacity
+            (consumer_view self.old) (consumer_view self.new) }
+        ensures told { HasMeasured measures.IsEmpty (consumer_queue self.old).capacity (Truth result)
+            (consumer_view self.old) (consumer_view self.new) }
+    {
+        self.token.is_empty(rt)
+    }
+
+    /// As `is_full` of its queue, with as many atomic steps. This project's own.
+    pub fn is_full(&mut self, rt: &impl Wait) -> bool
+        ensures queue { consumer_queue self.new ≡ consumer_queue self.old }
+        ensures goes { GoesOn (coding_of T.WORDS T.words_of T.value_of) E.KIND (consumer_queue self.old).capacity
+            (consumer_view self.old) (consumer_view self.new) }
+        ensures told { HasMeasured measures.IsFull (consumer_queue self.old).capacity (Truth result)
+            (consumer_view self.old) (consumer_view self.new) }
+    {
+        self.token.is_full(rt)
+    }
+
+    /// The capacity of its queue. This project's own.
+    pub fn capacity(&self) -> usize
+        ensures { result ≡ (consumer_queue self.now).capacity }
+    {
+        self.token.capacity as usize
+    }
+}

@@ -1,0 +1,131 @@
+//! How passes are made of one another.
+ghost use Rattle.std.specs.Prelude.{◌≡◌, IfSome, IfNone};
+ghost use Rattle.model.specs.Coding.{coding_of};
+ghost use Rattle.lock_free_queues.specs.Queues.Rings.{token_queue, token_view, queue_of, view, producer_queue, producer_view, consumer_queue, consumer_view, HasHistory, MissesNothing, GoesOn, IsSameQueue};
+ghost use Rattle.lock_free_queues.specs.Queues.Told.{HasSplit, HasJoined, HasLooked};
+
+use super::drives::Look;
+use super::rule::{Kind, RingRule};
+use super::{Consumer, Held, Pass, Producer, Token};
+use history::plays::{Both, Cut};
+use lock_free_sp::driver::seated::Seated;
+use std::marker::PhantomData;
+use std::sync::Arc;
+use steps::queues::ring::WRITE;
+use steps::words::Words;
+
+impl<E: Kind, T: Words> Held<E, T, RingRule<E, T>> {
+    /// A new seat of the same queue, which has seen the same and made nothing. None where no further reference can be
+    /// counted (no clause says when).
+    pub fn split(&mut self) -> Option<Token<E, T>>
+        ensures queue { token_queue self.new ≡ token_queue self.old }
+        ensures new { IfSome result (λ t. token_queue t ≡ token_queue self.old) }
+        ensures cut { IfSome result (λ t. HasSplit (token_view self.old) (token_view self.new) (token_view t)) }
+        ensures made { (token_view self.new).made ≡ (token_view self.old).made }
+        ensures none { IfNone result (token_view self.new ≡ token_view self.old) }
+    {
+        let seated = &mut self.seated;
+        let Ok(table) = Arc::try_clone(&seated.table) else {
+            return None;
+        };
+        let seat = seated.table.shared.split_seat::<Cut>(&mut seated.seat);
+        Some(Held {
+            of: PhantomData,
+            seated: Seated { seat, table },
+            capacity: self.capacity,
+        })
+    }
+
+    /// Takes in the other seat of the queue.
+    pub fn join(&mut self, other: Token<E, T>)
+        requires { token_queue other ≡ token_queue self.old }
+        ensures queue { token_queue self.new ≡ token_queue self.old }
+        ensures joined { HasJoined (token_view self.old) (token_view other) (token_view self.new) }
+        ensures history { HasHistory (coding_of T.WORDS T.words_of T.value_of) E.KIND (token_queue self.old).capacity (token_view self.new) }
+        ensures all { MissesNothing (token_view self.new) }
+    {
+        let Held { seated: other, .. } = other;
+        let Seated { seat, .. } = other;
+        let seated = &mut self.seated;
+        seated
+            .table
+            .shared
+            .join_seat::<Both>(&mut seated.seat, seat);
+        let _ = seated.table.shared.load::<Look<E>>(&mut seated.seat, WRITE);
+    }
+
+    /// A look at the whole history: one load.
+    pub fn look(&mut self)
+        ensures same { IsSameQueue self.old self.new }
+        ensures looked { HasLooked (token_view self.old) (token_view self.new) }
+    {
+        let seated = &mut self.seated;
+        let _ = seated.table.shared.load::<Look<E>>(&mut seated.seat, WRITE);
+    }
+}
+
+impl<E: Kind, T: Words> Pass<E, T> {
+    /// A new pass of the same queue, which has seen the same and made nothing. Each has half of this one's share of the
+    /// right to know the whole. None, and nothing changes, where no further pass can be counted (no clause says when).
+    /// One load. This project's own.
+    pub fn split(&mut self) -> Option<Pass<E, T>>
+        ensures queue { queue_of self.new ≡ queue_of self.old }
+        ensures new { IfSome result (λ p. queue_of p ≡ queue_of self.old) }
+        ensures cut { IfSome result (λ p. HasSplit (view self.old) (view self.new) (view p)) }
+        ensures none { IfNone result (view self.new ≡ view self.old) }
+    {
+        let token = self.token.split()?;
+        Some(Pass { token })
+    }
+
+    /// Takes in the other pass of the queue, and sees a history that goes on from both. With the whole share one of the
+    /// two had seen all of it, and each event in it was made by one of them. Two loads. This project's own.
+    pub fn join(&mut self, other: Pass<E, T>)
+        requires { queue_of other ≡ queue_of self.old }
+        ensures queue { queue_of self.new ≡ queue_of self.old }
+        ensures joined { HasJoined (view self.old) (view other) (view self.new) }
+        ensures history { HasHistory (coding_of T.WORDS T.words_of T.value_of) E.KIND (queue_of self.old).capacity (view self.new) }
+        ensures all { MissesNothing (view self.new) }
+    {
+        let Pass { token } = other;
+        self.token.join(token);
+    }
+
+    /// A look at the history, by one load. With the whole share there is nothing more to see. This project's own.
+    pub fn look(&mut self)
+        ensures queue { queue_of self.new ≡ queue_of self.old }
+        ensures goes { GoesOn (coding_of T.WORDS T.words_of T.value_of) E.KIND (queue_of self.old).capacity
+            (view self.old) (view self.new) }
+        ensures looked { HasLooked (view self.old) (view self.new) }
+    {
+        self.token.look();
+    }
+}
+
+impl<'a, E: Kind, T: Words> Producer<'a, E, T> {
+    /// Takes in a pass of the queue, as a pass does. Two loads. This project's own.
+    pub fn join(&mut self, other: Pass<E, T>)
+        requires { queue_of other ≡ producer_queue self.old }
+        ensures queue { producer_queue self.new ≡ producer_queue self.old }
+        ensures joined { HasJoined (producer_view self.old) (view other) (producer_view self.new) }
+        ensures history { HasHistory (coding_of T.WORDS T.words_of T.value_of) E.KIND (producer_queue self.old).capacity (producer_view self.new) }
+        ensures all { MissesNothing (producer_view self.new) }
+    {
+        let Pass { token } = other;
+        self.token.join(token);
+    }
+}
+
+impl<'a, E: Kind, T: Words> Consumer<'a, E, T> {
+    /// Takes in a pass of the queue, as a pass does. Two loads. This project's own.
+    pub fn join(&mut self, other: Pass<E, T>)
+        requires { queue_of other ≡ consumer_queue self.old }
+        ensures queue { consumer_queue self.new ≡ consumer_queue self.old }
+        ensures joined { HasJoined (consumer_view self.old) (view other) (consumer_view self.new) }
+        ensures history { HasHistory (coding_of T.WORDS T.words_of T.value_of) E.KIND (consumer_queue self.old).capacity (consumer_view self.new) }
+        ensures all { MissesNothing (consumer_view self.new) }
+    {
+        let Pass { token } = other;
+        self.token.join(token);
+    }
+}

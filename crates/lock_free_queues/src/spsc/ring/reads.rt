@@ -1,0 +1,57 @@
+//! How all words of a queue are read, while others may still step.
+ghost use Rattle.std.specs.Prelude.{◌≡◌, ◌+◌, ◌<◌, ◌^◌, IfOk};
+ghost use Rattle.model.specs.Coding.{coding_of};
+ghost use Rattle.lock_free_queues.specs.Queues.Bounded.{machine_of};
+ghost use Rattle.lock_free_queues.specs.Queues.Kinds.{words_in_cells};
+ghost use Rattle.lock_free_queues.specs.Queues.Rings.{token_queue, token_view};
+ghost use Rattle.lock_free_queues.specs.Queues.Reads.{WasRead, HasRead, LastWords};
+
+use super::Held;
+use super::drives::Look;
+use super::rule::{Kind, RingRule};
+use std::alloc::{AllocError, Global};
+use steps::queues::ring::{FIRST_CELL, READ, WRITE};
+use steps::words::Words;
+
+impl<E: Kind, T: Words> Held<E, T, RingRule<E, T>> {
+    /// One load, which shows the whole history as it stands there.
+    pub fn read(&mut self, word: usize) -> u64
+        requires { word < 4 + words_in_cells T.WORDS E.KIND (token_queue self.old).capacity }
+        ensures queue { token_queue self.new ≡ token_queue self.old }
+        ensures fits { result < 2 ^ 64 }
+        ensures read { HasRead (token_view self.old) (token_view self.new) }
+        ensures found { WasRead (coding_of T.WORDS T.words_of T.value_of) (machine_of E.KIND) (token_queue self.old).capacity
+            (token_view self.old) (token_view self.new) word result }
+        ensures last { WasRead (coding_of T.WORDS T.words_of T.value_of) (machine_of E.KIND) (token_queue self.old).capacity
+            (token_view self.new) (token_view self.new) word result }
+    {
+        let seated = &mut self.seated;
+        seated.table.shared.load::<Look<E>>(&mut seated.seat, word)
+    }
+
+    /// The words of the list that the queue is in the end, so many of them: two loads, and one for each word of the
+    /// cells. What is published after the first load is not in it, and the read position, which comes last, says what
+    /// was taken.
+    pub fn last_words(&mut self, alloc: Global, count: usize) -> Result<Vec<u64>, AllocError>
+        requires { count ≡ 4 + words_in_cells T.WORDS E.KIND (token_queue self.old).capacity }
+        ensures { IfOk result (λ words. LastWords (coding_of T.WORDS T.words_of T.value_of) (machine_of E.KIND)
+            (words_in_cells T.WORDS E.KIND (token_queue self.old).capacity) (token_queue self.old).capacity
+            (token_view self.old) words.items) }
+    {
+        let mut words = Vec::with_capacity(alloc, count)?;
+        let write = self.read(WRITE);
+        words.push_reserved(write);
+        words.push_reserved(0);
+        words.push_reserved(1);
+        words.push_reserved(1);
+        for at in FIRST_CELL..count {
+            let word = self.read(at);
+            words.push_reserved(word);
+        }
+        let read = self.read(READ);
+        // all that was published before the first load may have been taken, and more
+        words[WRITE] = write.max(read);
+        words[READ] = read;
+        Ok(words)
+    }
+}

@@ -1,0 +1,73 @@
+//! The rule of a queue's table: it is a machine of its kind, and one word more.
+ghost use Rattle.model.specs.Coding.{coding_of};
+ghost use Rattle.model.specs.declared.families.queues.QueueKind.{QueueKind};
+ghost use Rattle.model.specs.declared.families.queues.QueueKind.TheVariants as queues;
+
+use atomic_table::{Table, TableRule};
+use history::view::View;
+use lock_free_sp::driver::rule::Rule;
+use std::alloc::Global;
+use std::marker::PhantomData;
+use steps::words::Words;
+
+/// Which queue of the model it is, as a type.
+pub trait Kind {
+    ghost KIND: { QueueKind };
+}
+
+/// The queue of numbers that refuses a push where it is full.
+pub struct Numbers;
+
+impl Kind for Numbers {
+    ghost KIND = { queues.IndexQueue };
+}
+
+/// The queue of values that refuses a push where it is full.
+pub struct Values;
+
+impl Kind for Values {
+    ghost KIND = { queues.Queue };
+}
+
+/// The queue of numbers that hands its oldest number back where it is full. It keeps a cell for the number that pushes
+/// it out.
+pub struct Overflowing;
+
+impl Kind for Overflowing {
+    ghost KIND = { queues.Overflow };
+}
+
+/// What a queue is made with, and so its key: its capacity, and after how many pushes and pops it opens.
+#[derive(Clone, Copy)]
+pub struct Origin {
+    pub capacity: u64,
+    pub position: u64,
+}
+
+/// The rule.
+pub struct RingRule<E, T> {
+    of: PhantomData<(E, T)>,
+}
+
+impl<E: Kind, T: Words> TableRule<(), View<T>, Origin> for RingRule<E, T> {
+    ghost use Rattle.history.specs.History.{IsMachine};
+    ghost use Rattle.lock_free_queues.specs.Queues.Bounded.{machine_of};
+    ghost use Rattle.lock_free_queues.specs.Queues.Kinds.{opened_by};
+
+    ghost holds = { λ key. IsMachine (coding_of T.WORDS T.words_of T.value_of) (machine_of E.KIND) key.capacity };
+
+    ghost first = { λ key. opened_by (coding_of T.WORDS T.words_of T.value_of) E.KIND key.capacity key.position };
+}
+
+impl<E: Kind, T: Words> Rule<View<T>, Origin> for RingRule<E, T> {
+    ghost use Rattle.std.specs.Prelude.{◌+◌};
+    ghost use Rattle.lock_free_queues.specs.Queues.Kinds.{words_in_cells};
+
+    ghost size = { λ key. 4 + words_in_cells T.WORDS E.KIND key.capacity + 1 };
+
+    ghost capacity = { λ key. key.capacity };
+
+    ghost capacity_seen = { λ v. v.capacity };
+}
+
+pub type Board<E, T> = Table<(), View<T>, Origin, RingRule<E, T>, Global>;

@@ -1,0 +1,56 @@
+//! The push and the pop of `steps`, which a seat drives at a queue that has a capacity.
+ghost use Rattle.std.specs.Prelude.{◌≡◌, ◌⊎◌, ◌<◌, Some, IfSome, IfNone};
+ghost use Rattle.std.specs.Option.{option_map};
+ghost use Rattle.steps.specs.declared.queues.roles.Role.{Role};
+ghost use Rattle.steps.specs.declared.queues.roles.Role.TheVariants as roles;
+ghost use Rattle.model.specs.declared.event.Item.TheVariants.{Index};
+ghost use Rattle.history.specs.Roles.{HasRole};
+ghost use Rattle.lock_free_queues.specs.Queues.Overflowing.{token_view, IsSameQueue, HasOverflowed};
+ghost use Rattle.lock_free_queues.specs.Queues.Roles.{Moved};
+ghost use Rattle.lock_free_queues.specs.Queues.Told.{HasPublished, WasAtEnd, HasPopped, HasTakenFirst, FoundNone};
+
+use super::drives::{Pops, Pushes};
+use crate::spsc::ring::Held;
+use crate::spsc::ring::rule::{Overflowing, RingRule};
+use std::sync::Wait;
+use steps::copied::OneWord;
+use steps::queues::overflow::{Pop, Push};
+use steps::routine::Routine;
+
+impl Held<Overflowing, u64, RingRule<Overflowing, u64>> {
+    /// Appends a number: None, or the oldest where the queue is full, or the number itself where the write position is
+    /// at its end.
+    pub fn push(&mut self, value: u64) -> Option<u64>
+        requires role { HasRole roles.Producer (token_view self.old).made }
+        requires some { 0 < self.old.capacity }
+        ensures same { IsSameQueue self.old self.new }
+        ensures called { HasOverflowed value result (token_view self.old) (token_view self.new)
+            ⊎ (result ≡ Some value) × WasAtEnd (token_view self.old) (token_view self.new) }
+        ensures published { IfNone result (HasPublished (Index value) (token_view self.old) (token_view self.new)) }
+        ensures handed_back { IfSome result (λ y. HasPublished (Index value) (token_view self.old) (token_view self.new)
+            × HasTakenFirst (Index y) (token_view self.old) (token_view self.new)
+            ⊎ (y ≡ value) × WasAtEnd (token_view self.old) (token_view self.new)) }
+        ensures roles { (r : Role) → Moved r 0 0 (token_view self.old).made (token_view self.new).made }
+    {
+        let mut room = OneWord(0);
+        let call = Push::new(self.capacity);
+        let end = self.seated.drive::<Push, Pushes>(call, &value, &mut room);
+        Push::answer(end, &value, &room)
+    }
+
+    /// Takes the oldest number, or None where the queue is empty.
+    pub fn pop(&mut self, rt: &impl Wait) -> Option<u64>
+        requires role { HasRole roles.Consumer (token_view self.old).made }
+        requires some { 0 < self.old.capacity }
+        ensures same { IsSameQueue self.old self.new }
+        ensures popped { HasPopped (option_map Index result) (token_view self.old) (token_view self.new) }
+        ensures taken { IfSome result (λ x. HasTakenFirst (Index x) (token_view self.old) (token_view self.new)) }
+        ensures empty { IfNone result (FoundNone (token_view self.old) (token_view self.new)) }
+        ensures roles { (r : Role) → Moved r 0 0 (token_view self.old).made (token_view self.new).made }
+    {
+        let mut room = OneWord(0);
+        let call = Pop::new(self.capacity);
+        let end = self.seated.drive_on::<Pop, Pops>(rt, call, &(), &mut room);
+        Pop::answer(end, &(), &room)
+    }
+}

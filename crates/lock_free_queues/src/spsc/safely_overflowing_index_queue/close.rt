@@ -1,0 +1,56 @@
+//! How a queue ends: what waits in it goes on as the queue of one caller.
+ghost use Rattle.std.specs.Prelude.{◌≡◌, IfOk, IfErr};
+ghost use Rattle.steps.specs.declared.enums.UniqueIndexCreationError.TheVariants.{NoMemory};
+ghost use Rattle.model.specs.declared.event.Item.TheVariants.{Index};
+ghost use Rattle.lock_free_queues.specs.Queues.Overflowing.{capacity_of, inner, view, IsPassOf};
+ghost use Rattle.lock_free_queues.specs.Queues.Closes.{Closes};
+
+use super::{FixedSizeSafelyOverflowingIndexQueue, Pass, SafelyOverflowingIndexQueue};
+use crate::spsc::ring;
+use plain::SafelyOverflowingIndexQueue as List;
+use steps::enums::UniqueIndexCreationError;
+use steps::queues::ring::{FIRST_CELL, READ, WRITE};
+
+impl SafelyOverflowingIndexQueue {
+    /// The queue of one caller that this one is in the end. Each number that the pass has seen published waits in it at
+    /// its place or lies before it, and each that it has seen taken lies before it. Who has the whole share knows that
+    /// just what was published and not taken waits. Other passes may still live. At most the capacity waits: where one
+    /// number more was published, the oldest is left out; who has the whole share knows that none was.
+    ///
+    /// Refused is memory (`NoMemory`), for which it asks before the first atomic step; the queue and the pass are gone
+    /// then too. Else one growth, and 3 atomic steps more than the capacity. This project's own.
+    pub fn close(self, pass: Pass) -> Result<List, UniqueIndexCreationError>
+        requires { IsPassOf self pass }
+        ensures list { IfOk result (λ q. Closes Index (capacity_of self) (view pass) q) }
+        ensures refused { IfErr result (λ e. e ≡ NoMemory) }
+    {
+        let ring::Pass { mut token } = pass;
+        let capacity = token.capacity;
+        match token.last_words(self.alloc, FIRST_CELL + (capacity as usize + 1)) {
+            Ok(words) => {
+                let mut words = words;
+                // while a push is under way one number more than the capacity can wait, of which the oldest is on its
+                // way out
+                let write = words.as_slice()[WRITE];
+                let read = words.as_slice()[READ];
+                let oldest = write.saturating_sub(capacity as u64);
+                words[READ] = read.max(oldest);
+                Ok(List::of_words(words, capacity))
+            }
+            Err(_) => Err(UniqueIndexCreationError::NoMemory),
+        }
+    }
+}
+
+impl<const CAPACITY: usize> FixedSizeSafelyOverflowingIndexQueue<CAPACITY> {
+    /// The queue of one caller that the queue which it has is in the end: as `close` of that says, with the same
+    /// memory, refusal and atomic steps. This project's own.
+    pub fn close(self, pass: Pass) -> Result<List, UniqueIndexCreationError>
+        requires { IsPassOf (inner self) pass }
+        ensures list { IfOk result (λ q. Closes Index CAPACITY (view pass) q) }
+        ensures refused { IfErr result (λ e. e ≡ NoMemory) }
+    {
+        let ring::FixedSize { ring } = self;
+        ring.close(pass)
+    }
+}

@@ -1,0 +1,58 @@
+//! The calls of those that have a role. Without capacity no step is taken, and nothing changes.
+ghost use Rattle.std.specs.Prelude.{◌≡◌, ◌⊎◌, ◌<◌, Some, None, IfSome, IfNone};
+ghost use Rattle.std.specs.Option.{option_map};
+ghost use Rattle.model.specs.declared.event.Item.TheVariants.{Index};
+ghost use Rattle.lock_free_queues.specs.Queues.Overflowing.{producer_queue, producer_view, consumer_queue, consumer_view, GoesOn, HasOverflowed, TookNone};
+ghost use Rattle.lock_free_queues.specs.Queues.Told.{HasPublished, HasPopped, HasTakenFirst, FoundNone};
+
+use super::{Consumer, Producer};
+use std::sync::Wait;
+
+impl<'a> Producer<'a> {
+    /// Appends a number: None, or the oldest number where the queue is full, so that at most the capacity waits. The
+    /// number itself comes back, and nothing is published, without capacity or where the write position is u64::MAX. At
+    /// most 6 atomic steps. After `Producer::push` of the Rust crate.
+    pub fn push(&mut self, value: u64) -> Option<u64>
+        ensures queue { producer_queue self.new ≡ producer_queue self.old }
+        ensures goes { 0 < (producer_queue self.old).capacity
+            → GoesOn (producer_queue self.old).capacity (producer_view self.old) (producer_view self.new) }
+        ensures called { HasOverflowed value result (producer_view self.old) (producer_view self.new)
+            ⊎ (result ≡ Some value)
+            × TookNone (producer_queue self.old).capacity (producer_view self.old) (producer_view self.new) }
+        ensures published { IfNone result (HasPublished (Index value) (producer_view self.old) (producer_view self.new)) }
+        ensures handed_back { IfSome result (λ y. HasPublished (Index value) (producer_view self.old) (producer_view self.new)
+            × HasTakenFirst (Index y) (producer_view self.old) (producer_view self.new)
+            ⊎ (y ≡ value) × TookNone (producer_queue self.old).capacity (producer_view self.old) (producer_view self.new)) }
+        ensures own { (producer_queue self.old).capacity ≡ 0
+            → (result ≡ Some value) × (producer_view self.new ≡ producer_view self.old) }
+    {
+        if self.token.capacity == 0 {
+            Some(value)
+        } else {
+            self.token.push(value)
+        }
+    }
+}
+
+impl<'a> Consumer<'a> {
+    /// Takes the oldest number, or None where the queue is empty. At most 4 atomic steps, and 2 more for each time that
+    /// a push moved the read position between its load and the exchange. After `Consumer::pop` of the Rust crate.
+    pub fn pop(&mut self, rt: &impl Wait) -> Option<u64>
+        ensures queue { consumer_queue self.new ≡ consumer_queue self.old }
+        ensures goes { 0 < (consumer_queue self.old).capacity
+            → GoesOn (consumer_queue self.old).capacity (consumer_view self.old) (consumer_view self.new) }
+        ensures called { 0 < (consumer_queue self.old).capacity
+            → HasPopped (option_map Index result) (consumer_view self.old) (consumer_view self.new) }
+        ensures popped { IfSome result (λ x. HasTakenFirst (Index x) (consumer_view self.old) (consumer_view self.new)) }
+        ensures empty { 0 < (consumer_queue self.old).capacity
+            → IfNone result (FoundNone (consumer_view self.old) (consumer_view self.new)) }
+        ensures none { (consumer_queue self.old).capacity ≡ 0
+            → (result ≡ None) × (consumer_view self.new ≡ consumer_view self.old) }
+    {
+        if self.token.capacity == 0 {
+            None
+        } else {
+            self.token.pop(rt)
+        }
+    }
+}

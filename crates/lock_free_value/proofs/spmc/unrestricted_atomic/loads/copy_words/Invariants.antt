@@ -1,0 +1,18 @@
+use Rattle.std.proofs.Common.{◌-◌}
+use Rattle.steps.specs.Atomic.{at_load, first_load}
+use Rattle.steps.specs.declared.atomic.LoadStage.TheVariants as stages
+use Rattle.model.specs.Coding.{coding_of}
+use Rattle.history.specs.declared.view.View.{View}
+use Rattle.lock_free_sp.specs.Seats.{seen, IsSame}
+use Rattle.lock_free_value.specs.Loads.{IsBoard, LoadAt}
+use Rattle.lock_free_value.proofs.spmc.unrestricted_atomic.loads.copy_words.Given as goal
+
+-- whatever the view with which the load began
+abbrev pub invariant-words : goal.invariant-words
+invariant-words g l =
+    IsSame l.fn.seat l.seat × IsBoard g.T.Words.WORDS l.seat
+    × ((base : View g.row.T.Denot) → LoadAt (coding_of g.T.Words.WORDS g.T.Words.words_of g.T.Words.value_of) g.R.Room.words_in base (seen l.fn.seat) (at_load first_load (stages.LoadsCell l.fn.version l.fn.cell l.fn.first)) l.fn.room
+    → LoadAt (coding_of g.T.Words.WORDS g.T.Words.words_of g.T.Words.value_of) g.R.Room.words_in base (seen l.seat) (at_load first_load (stages.LoadsCell l.of l.start l.place)) l.room)
+
+abbrev pub decreases-words : goal.decreases-words
+decreases-words g l = g.T.Words.WORDS - l.place

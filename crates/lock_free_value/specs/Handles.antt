@@ -1,0 +1,18 @@
+-- A handle of a value: the value, and the pass that its calls are made with.
+use Rattle.steps.specs.declared.words.Words.{Ghosts}
+use Rattle.history.specs.declared.view.View.{View}
+use Rattle.lock_free_value.specs.declared.spmc.unrestricted_atomic.UnrestrictedAtomic.{UnrestrictedAtomic}
+use Rattle.lock_free_value.specs.declared.spmc.unrestricted_atomic.Pass.{Pass}
+use Rattle.lock_free_value.specs.declared.spmc.unrestricted_atomic.handles.Handle.{Handle}
+use Rattle.lock_free_value.specs.Calls.{view}
+
+module _ {T : Type 0} {words : Ghosts T} where
+  abbrev pub value_in : Handle T words → UnrestrictedAtomic T
+  value_in h = h.value.now
+
+  abbrev pub pass_in : Handle T words → Pass T words
+  pass_in h = h.pass
+
+  -- all that its pass knows
+  abbrev pub knows : Handle T words → View T
+  knows h = view h.pass

@@ -1,0 +1,81 @@
+//! The calls by a handle: those of its value.
+ghost use Rattle.std.specs.Prelude.{◌≡◌, true, false, IfSome, IfNone, IfOk, IfErr};
+ghost use Rattle.model.specs.Coding.{coding_of};
+ghost use Rattle.lock_free_value.specs.Calls.{IsPassOf, value_of_pass, producer_view, value_of_producer, GoesOn};
+ghost use Rattle.lock_free_value.specs.Told.{HasAcquired, HasLoaded, HasSplit};
+ghost use Rattle.lock_free_value.specs.Handles.{value_in, pass_in, knows};
+
+use super::Handle;
+use crate::spmc::unrestricted_atomic::{Pass, Producer, UnrestrictedAtomic};
+use std::sync::Wait;
+use steps::words::Words;
+
+impl<T: Words> UnrestrictedAtomic<T> {
+    /// A handle: this value with a pass of it. No atomic step. This project's own.
+    pub fn handle(&self, pass: Pass<T>) -> Handle<'_, T>
+        requires { IsPassOf self.now pass }
+        ensures value { value_in result ≡ self.now }
+        ensures pass { pass_in result ≡ pass }
+    {
+        Handle { value: self, pass }
+    }
+}
+
+impl<'a, T: Words> Handle<'a, T> {
+    /// The pass. No atomic step.
+    pub fn into_pass(self) -> Pass<T>
+        ensures { result ≡ pass_in self.entry }
+    {
+        self.pass
+    }
+
+    /// A further handle of the value, with a pass that has seen the same and made nothing, as by `Pass::split`.
+    pub fn split(&mut self) -> Option<Handle<'a, T>>
+        ensures value { value_in self.new ≡ value_in self.old }
+        ensures pass { value_of_pass (pass_in self.new) ≡ value_of_pass (pass_in self.old) }
+        ensures new { IfSome result (λ h. value_in h ≡ value_in self.old) }
+        ensures cut { IfSome result (λ h. HasSplit (knows self.old) (knows self.new) (knows h)) }
+        ensures none { IfNone result (knows self.new ≡ knows self.old) }
+    {
+        let pass = self.pass.split()?;
+        Some(Handle {
+            value: self.value,
+            pass,
+        })
+    }
+
+    /// As `UnrestrictedAtomic::acquire_producer`: the producer, which owns the pass, or the handle where another has the
+    /// role.
+    pub fn acquire_producer(self) -> Result<Producer<'a, T>, Handle<'a, T>>
+        ensures acquired { IfOk result (λ p. (value_of_producer p ≡ value_of_pass (pass_in self.entry))
+            × GoesOn (coding_of T.WORDS T.words_of T.value_of) (knows self.entry) (producer_view p)
+            × HasAcquired true (knows self.entry) (producer_view p)) }
+        ensures refused { IfErr result (λ h. (value_in h ≡ value_in self.entry)
+            × GoesOn (coding_of T.WORDS T.words_of T.value_of) (knows self.entry) (knows h)
+            × HasAcquired false (knows self.entry) (knows h)) }
+    {
+        let Handle { value, pass } = self;
+        match value.acquire_producer(pass) {
+            Ok(producer) => Ok(producer),
+            Err(pass) => Err(value.handle(pass)),
+        }
+    }
+
+    /// As `UnrestrictedAtomic::load`.
+    pub fn load(&mut self, rt: &impl Wait) -> T
+        ensures value { value_in self.new ≡ value_in self.old }
+        ensures goes { GoesOn (coding_of T.WORDS T.words_of T.value_of) (knows self.old) (knows self.new) }
+        ensures loaded { HasLoaded result (knows self.old) (knows self.new) }
+    {
+        self.value.load(rt, &mut self.pass)
+    }
+
+    /// As `Pass::look`.
+    pub fn look(&mut self)
+        ensures value { value_in self.new ≡ value_in self.old }
+        ensures goes { GoesOn (coding_of T.WORDS T.words_of T.value_of) (knows self.old) (knows self.new) }
+        ensures made { (knows self.new).made ≡ (knows self.old).made }
+    {
+        self.pass.look();
+    }
+}

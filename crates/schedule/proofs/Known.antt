@@ -1,0 +1,33 @@
+-- A run over bytes that were read before, and what is told behind its end.
+use Rattle.std.proofs.Common.{◌≡◌, ℕ, Option, Some, None, Result, Ok, Err, List, [], subst, IfSome}
+use Rattle.std.specs.Io.KnownBytes.{Appends}
+use Rattle.std.proofs.KnownBytes.{Appends-nil}
+use Rattle.texts.specs.declared.error.ScheduleError.{ScheduleError}
+use Rattle.texts.specs.declared.error.ScheduleError.TheVariants.{Malformed, ReadFailed, WriteFailed, NoMemory}
+use Rattle.schedule.specs.Run.{IsRun}
+use Rattle.schedule.specs.Told.{TellsMore}
+use Rattle.schedule.specs.Written.{AppendsPart, Writes, IsUnread}
+
+same_input : (known : Option (List ℕ)) (one other : List ℕ) → IfSome known (λ bytes. bytes ≡ one) → one ≡ other → IfSome known (λ bytes. bytes ≡ other)
+same_input known one other read e = subst (λ i. IfSome known (λ bytes. bytes ≡ i)) e read
+
+pub run_known : (known b a : Option (List ℕ)) (input : List ℕ) (r : Result (Unit {0}) ScheduleError) → IfSome known (λ bytes. bytes ≡ input)
+    → IsRun (Some input) b a r → IsRun known b a r
+run_known known b a input (Ok u) read p = (p.0, same_input known input p.0 read p.1, p.2)
+run_known known b a input (Err (Malformed line cause)) read p = (p.0, same_input known input p.0 read p.1, p.2)
+run_known known b a input (Err WriteFailed) read p = (p.0, same_input known input p.0 read p.1, p.2)
+run_known known b a input (Err ReadFailed) read p = p
+run_known known b a input (Err NoMemory) read p = p
+
+pub run_unread : (known : Option (List ℕ)) (e : ScheduleError) → IsUnread e → IsRun known None None (Err e)
+run_unread known ReadFailed p = tt
+run_unread known NoMemory p = tt
+run_unread known WriteFailed p = absurd p
+run_unread known (Malformed line cause) p = absurd p
+
+pub told_alone : (old new : Option (List ℕ)) (line : List ℕ) → AppendsPart old new line → TellsMore old new line
+told_alone old new line p = (new, p, [], Appends-nil new)
+
+pub wrote_some : (old new : Option (List ℕ)) (r : Result (Unit {0}) ScheduleError) (text : List ℕ) → Writes old new r text → (more : List ℕ) × Appends old new more
+wrote_some old new (Ok u) text p = (text, p)
+wrote_some old new (Err e) text p = (p.1.0, p.1.3)

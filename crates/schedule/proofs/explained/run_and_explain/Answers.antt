@@ -1,0 +1,18 @@
+use Rattle.std.proofs.Common.{None, Err}
+use Rattle.schedule.proofs.Known.{run_known, run_unread, told_alone}
+use Rattle.schedule.proofs.explained.run_and_explain.Goals as goal
+
+pub returns-in-Err : goal.returns-in-Err
+returns-in-Err g c =
+    (Err c.in-Err.e, None, None, run_unread _ c.in-Err.e c.in-Err.ensures.failed, c.status.ensures.exit, told_alone _ _ _ c.status.ensures.told)
+
+pub returns : goal.returns
+returns g c =
+    let ran = c.run_and_tell-exit.ensures in (
+      ran.0,
+      ran.1,
+      ran.2,
+      run_known _ ran.1 ran.2 c.as_slice-unread.result.now ran.0 (rw c.as_slice-unread.ensures.value c.in-Ok.ensures.bytes) ran.3,
+      ran.4,
+      (g.E.Write.contents c.run_and_tell-exit.new.errors, ran.5, c.tell_more.ensures.0, c.tell_more.ensures.1),
+    )
