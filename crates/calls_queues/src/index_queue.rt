@@ -1,11 +1,16 @@
 //! Index queues.
 ghost use Rattle.std.specs.Prelude.{◌≡◌};
+ghost use Rattle.lock_free_queues.specs.Queues.Rings.{IsPassOf};
 
+use crate::queue_calls::QueueCall;
 use crate::queue_user::{User, ends, plays};
+use calls::answer::Answer;
 use calls::forms::{Form, on};
+use calls::play::Answers;
 use calls::stage::{Line, Scene, Stage};
 use calls::words::Words;
-use lock_free_queues::spsc::index_queue::{FixedSizeIndexQueue, IndexQueue};
+use lock_free_queues::spsc::index_queue::{FixedSizeIndexQueue, IndexQueue, Pass};
+use lock_free_queues::spsc::ring::rule::Numbers;
 use std::sync::Wait;
 use steps::enums::UniqueIndexCreationError;
 
@@ -23,6 +28,48 @@ impl Form for Plain {
     }
 }
 
+/// Who uses an index queue: a type of its own, since the checker does not get through what is generic in the kind.
+#[derive(Drop)]
+struct IndexUser<'a> {
+    user: User<'a, Numbers, u64>,
+}
+
+impl<'a> IndexUser<'a> {
+    /// The pass; the guards give their roles back.
+    fn leaves(self) -> Pass {
+        let IndexUser { user } = self;
+        user.leaves()
+    }
+}
+
+impl<'a> Answers<QueueCall> for IndexUser<'a> {
+    fn answer(&mut self, rt: &impl Wait, call: QueueCall, answer: &mut Answer) {
+        self.user.answer(rt, call, answer);
+    }
+}
+
+/// Plays the block on both. The user's pass, where that is to be open beside the close.
+fn plays_beside(
+    rt: &impl Wait,
+    scene: Scene<'_>,
+    stage: &mut Stage,
+    alone: &mut plain::IndexQueue,
+    queue: &IndexQueue,
+    pass: &mut Pass,
+) -> Option<Pass>
+    requires { IsPassOf queue.now pass.old }
+    ensures { IsPassOf queue.now pass.new }
+{
+    let Some(user) = User::beside(queue, pass) else {
+        stage.not_read(Line::new("no further pass", 0));
+        return None;
+    };
+    let mut user = IndexUser { user };
+    let stays = plays(rt, scene, stage, alone, &mut user);
+    let other = user.leaves();
+    stays.then_some(other)
+}
+
 /// One of threads.
 struct Heap;
 
@@ -34,13 +81,7 @@ impl Form for Heap {
     ) -> Result<(), UniqueIndexCreationError> {
         let (queue, mut pass) = IndexQueue::new_at(scene.alloc, scene.capacity, scene.number)?;
         let mut alone = plain::IndexQueue::new_at(scene.alloc, scene.capacity, scene.number)?;
-        let Some(mut user) = User::beside(&queue, &mut pass) else {
-            stage.not_read(Line::new("no further pass", 0));
-            return Ok(());
-        };
-        let stays = plays(rt, scene, stage, &mut alone, &mut user);
-        let other = user.leaves();
-        let _beside = stays.then_some(other);
+        let _beside = plays_beside(rt, scene, stage, &mut alone, &queue, &mut pass);
         ends(rt, scene, stage, &mut alone, queue.close(pass)?);
         Ok(())
     }
@@ -57,13 +98,7 @@ impl<const CAPACITY: usize> Form for Fixed<CAPACITY> {
     ) -> Result<(), UniqueIndexCreationError> {
         let (queue, mut pass) = FixedSizeIndexQueue::<CAPACITY>::new(scene.alloc)?;
         let mut alone = plain::IndexQueue::new(scene.alloc, scene.capacity)?;
-        let Some(mut user) = User::beside(&queue, &mut pass) else {
-            stage.not_read(Line::new("no further pass", 0));
-            return Ok(());
-        };
-        let stays = plays(rt, scene, stage, &mut alone, &mut user);
-        let other = user.leaves();
-        let _beside = stays.then_some(other);
+        let _beside = plays_beside(rt, scene, stage, &mut alone, &queue, &mut pass);
         ends(rt, scene, stage, &mut alone, queue.close(pass)?);
         Ok(())
     }
