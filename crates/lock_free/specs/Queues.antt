@@ -7,7 +7,6 @@ pub use Rattle.model.specs.declared.families.queues.QueueKind
 pub use Rattle.model.specs.declared.families.queues.QueueStart
 pub use Rattle.steps.specs.declared.queues.roles.Role
 pub use Rattle.history.specs.Views
-pub use Rattle.history.specs.Passes
 pub use Rattle.lock_free_queues.specs.Queues.Bounded
 pub use Rattle.lock_free_queues.specs.Queues.Calls
 pub use Rattle.lock_free_queues.specs.Queues.Closes
