@@ -6,7 +6,7 @@ use Rattle.lock_free.specs.History.{IsBeginning}
 use Rattle.lock_free.specs.HistoryKnown.{events_by}
 use Rattle.lock_free.specs.HistoryView.View.{View}
 use Rattle.lock_free.specs.Shares.{IsAll}
-use Rattle.lock_free.specs.Queues.Goes.{MissesNothing}
+use Rattle.lock_free.specs.Passes.{MissesNothing}
 use Rattle.lock_free.specs.Queues.Item.{Item}
 use Rattle.lock_free.specs.Queues.Item.TheVariants.{Index}
 use Rattle.lock_free.specs.Queues.QueueStart.TheVariants.{PushIndex, Pop}

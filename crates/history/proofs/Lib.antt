@@ -36,4 +36,3 @@ pub mod ValueQueueCalls
 pub mod ValueQueueRoles
 pub mod Holders
 pub mod OverflowHolders
-pub mod Cells

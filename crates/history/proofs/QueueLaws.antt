@@ -3,7 +3,6 @@ use Rattle.std.proofs.Common.{ℕ, List, sym, subst}
 use Rattle.model.specs.declared.event.Event.{Event}
 use Rattle.model.specs.declared.families.queues.QueueKind.{QueueKind}
 use Rattle.model.specs.declared.families.queues.QueueKind.TheVariants.{IndexQueue, Overflow, Queue}
-use Rattle.model.specs.declared.turn.Kind.TheVariants as kinds
 use Rattle.model.specs.Coding.{Coding}
 use Rattle.model.specs.Linearizable.{IsLinearizable}
 use Rattle.model.specs.Linearized.{as_list, IsLinearized}
@@ -25,6 +24,3 @@ module _ {T : Type 0} (code : Coding T) (capacity : ℕ) where
       let r = h.run in
       let all : IsLinearized (machine_kind kd) t = subst (λ k. IsLinearized k t) r.of_kind (run_linearizable t (kept_on kd t r.of_kind r.reached.coded r.reached.admitted r.fresh)) in
       subst (λ es. IsLinearizable (as_list kd capacity) es) (sym h.is) (subst (λ n. IsLinearizable (as_list kd n) t.events) r.sized (as_its_list kd t all))
-
-  pub index_linearizable : (events : List (Event T)) → IsHistory code kinds.IndexQueue capacity events → IsLinearizable (as_list IndexQueue capacity) events
-  index_linearizable = queue_linearizable IndexQueue

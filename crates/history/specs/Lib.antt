@@ -11,3 +11,4 @@ pub mod Value
 pub mod ValueQueue
 pub mod ValueOpened
 pub mod Views
+pub mod Passes

@@ -10,6 +10,7 @@ pub use Rattle.history.specs.History
 pub use Rattle.history.specs.Known as HistoryKnown
 pub use Rattle.model.specs.Coding
 pub use Rattle.history.specs.Held as HistoryHeld
+pub use Rattle.history.specs.Passes
 pub use Rattle.model.specs.Families.Indices.Reading as IndexReading
 pub use Rattle.model.specs.Families.Indices.Promises as IndexPromises
 pub use Rattle.model.specs.Families.Bits.Reading as Sums

@@ -1,6 +1,6 @@
 -- The words of the contracts of a unique index set: what names it, which pass is for it, and
 -- what a pass or a held index knows of the set's history.
-use Rattle.std.specs.Prelude.{◌≡◌, ℕ, ◌-◌, ◌^◌, ◌||◌, Option, Some, List, sum_by, if◌then◌else◌, nat_lt}
+use Rattle.std.specs.Prelude.{◌≡◌, ℕ, ◌-◌, ◌^◌, ◌||◌, Option, Some, List, if◌then◌else◌, nat_lt}
 use Rattle.std.specs.Arc.{arc_value}
 use Rattle.steps.specs.Enums.{capacity_refusal}
 use Rattle.steps.specs.declared.enums.UniqueIndexCreationError.{UniqueIndexCreationError}
@@ -9,10 +9,11 @@ use Rattle.model.specs.declared.event.Event.{Event}
 use Rattle.model.specs.declared.turn.Kind.TheVariants as kinds
 use Rattle.model.specs.Coding.{one_word}
 use Rattle.lock_free_sp.specs.declared.share.Share.{Share}
-use Rattle.lock_free_sp.specs.Shares.{IsAll}
 pub use Rattle.lock_free_sp.specs.Sets.{SetId}
 use Rattle.history.specs.declared.view.View.{View}
 use Rattle.history.specs.History.{IsHistory}
+use Rattle.history.specs.Passes as passes
+use Rattle.lock_free.specs.Unique.Held.{IsSound}
 use Rattle.lock_free.specs.declared.mpmc.unique_index_set.UniqueIndexSet.{UniqueIndexSet}
 use Rattle.lock_free.specs.declared.mpmc.unique_index_set.FixedSizeUniqueIndexSet.{FixedSizeUniqueIndexSet}
 use Rattle.lock_free.specs.declared.mpmc.unique_index_set.Pass.{Pass}
@@ -52,9 +53,17 @@ share p = p.seated.seat.me.0.share
 abbrev pub HasHistory : Pass → Type 0
 HasHistory p = IsHistory one_word kinds.Indices (set_of p).capacity (history p)
 
--- with the whole share, the history is what it made: every measure of the events says so
+-- with the whole share, the history is what it made
 abbrev pub MissesNothing : Pass → Type 0
-MissesNothing p = IsAll (share p) → (f : Event ℕ → ℕ) → sum_by f (history p) ≡ sum_by f (made p)
+MissesNothing p = passes.MissesNothing (view p)
+
+-- what each call leaves of a pass, and what the pass knows from then on
+pub record GoesOn (old new : Pass) : Type 0 where
+  pub set : set_of new ≡ set_of old
+  pub share : share new ≡ share old
+  pub sound : IsSound (view new)
+  pub history : HasHistory new
+  pub all : MissesNothing new
 
 -- a held index, with the pass that it owns
 abbrev pub value_of : UniqueIndex → ℕ

@@ -2,7 +2,6 @@
 pub mod Roles
 pub mod Opened
 pub mod Bounded
-pub mod Goes
 pub mod Kinds
 pub mod Rings
 pub mod Calls

@@ -18,7 +18,7 @@ ghost use Rattle.lock_free_sp.specs.Shares.{IsAll};
 ghost use Rattle.history.specs.declared.view.View.{View};
 ghost use Rattle.history.specs.History.{IsBeginning, IsHistory};
 ghost use Rattle.lock_free_queues.specs.Queues.Bounded.{IsBounded, machine_of};
-ghost use Rattle.lock_free_queues.specs.Queues.Goes.{Goes, MissesNothing};
+ghost use Rattle.history.specs.Passes.{Goes, MissesNothing};
 ghost use Rattle.lock_free_queues.specs.Queues.Overflowing.{HasOverflowed};
 ghost use Rattle.lock_free_queues.specs.Queues.Positions.{IsPublished, IsTaken, IsSound, IsOverSound};
 ghost use Rattle.lock_free_queues.specs.Queues.Sums.{puts, gets, HasDone};

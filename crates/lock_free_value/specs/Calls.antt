@@ -1,15 +1,15 @@
 -- Which value a pass is for, and what it knows of the value's history.
-use Rattle.std.specs.Prelude.{◌≡◌, ℕ, ◌+◌, ◌-◌, ◌^◌, length, sum_by}
+use Rattle.std.specs.Prelude.{◌≡◌, ℕ, ◌+◌, ◌-◌, ◌^◌, length}
 use Rattle.std.specs.Arc.{arc_value}
 use Rattle.atomic_laws.specs.Stored.{stored}
 use Rattle.atomic_table.specs.Seated.{TableId}
 use Rattle.steps.specs.declared.words.Words.{Ghosts}
-use Rattle.model.specs.declared.event.Event.{Event}
 use Rattle.model.specs.declared.turn.Kind.TheVariants as kinds
 use Rattle.model.specs.Coding.{Coding, coding_of}
-use Rattle.lock_free_sp.specs.Shares.{IsAll}
 use Rattle.history.specs.declared.view.View.{View}
-use Rattle.history.specs.History.{IsBeginning, IsHistory}
+use Rattle.history.specs.History.{IsHistory}
+pub use Rattle.history.specs.Passes.{MissesNothing}
+use Rattle.history.specs.Passes.{Goes}
 use Rattle.lock_free_value.specs.declared.spmc.unrestricted_atomic.UnrestrictedAtomic.{UnrestrictedAtomic}
 use Rattle.lock_free_value.specs.declared.spmc.unrestricted_atomic.Held.{Held}
 use Rattle.lock_free_value.specs.declared.spmc.unrestricted_atomic.Pass.{Pass}
@@ -24,17 +24,9 @@ value_id a = (arc_value a.board).shared.table_id
 abbrev pub HasHistory : {T : Type 0} → Coding T → View T → Type 0
 HasHistory code v = IsHistory code kinds.Atomic 1 v.seen
 
--- with the whole share, the history is what it made: every measure of the events says so
-abbrev pub MissesNothing : {T : Type 0} → View T → Type 0
-MissesNothing {T} v = IsAll v.share → (f : Event T → ℕ) → sum_by f v.seen ≡ sum_by f v.made
-
--- what each call leaves: the share as it was, and a history that goes on from what was seen, whole
--- for who has the whole share
-pub record GoesOn {T : Type 0} (code : Coding T) (old new : View T) : Type 0 where
-  pub share : new.share ≡ old.share
-  pub since : IsBeginning old.seen new.seen
-  pub history : HasHistory code new
-  pub all : MissesNothing new
+-- what each call leaves
+abbrev pub GoesOn : {T : Type 0} → Coding T → View T → View T → Type 0
+GoesOn code old new = Goes code kinds.Atomic 1 old new
 
 -- a store that was refused: the version is the last. It is no call of the history.
 pub record WasAtEnd {T : Type 0} (old new : View T) : Type 0 where

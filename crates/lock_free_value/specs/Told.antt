@@ -1,14 +1,14 @@
 -- What the calls on a value add to the history, and what they answer.
-use Rattle.std.specs.Prelude.{◌≡◌, ◌⊎◌, ℕ, Bool, true, Some, List, [], ◌∷◌, ◌++◌}
+use Rattle.std.specs.Prelude.{◌≡◌, ℕ, Bool, true, Some, List, [], ◌∷◌, ◌++◌}
 use Rattle.atomic_laws.specs.Stored.{stored}
 use Rattle.model.specs.declared.event.Answer.TheVariants.{Truth, Loaded, Done}
 use Rattle.model.specs.declared.event.Event.{Event}
 use Rattle.model.specs.declared.event.Event.TheVariants.{Acted}
 use Rattle.model.specs.declared.event.Start.TheVariants.{Atomic}
 use Rattle.model.specs.declared.families.atomic.AtomicStart.TheVariants.{AcquireProducer, ReleaseProducer, Store, Load}
-use Rattle.lock_free_sp.specs.Shares.{half_of, both_of, IsAll}
 use Rattle.history.specs.declared.view.View.{View}
 use Rattle.history.specs.History.{Called, IsBeginning}
+pub use Rattle.history.specs.Passes.{HasSplit, HasJoined}
 use Rattle.history.specs.Value.{IsLast}
 
 module _ {T : Type 0} where
@@ -46,21 +46,3 @@ module _ {T : Type 0} where
     pub is : new.seen ≡ before ++ Acted by (Atomic Load) (Loaded x) ∷ after
     pub since : IsBeginning old.seen before
     pub last : IsLast x (stored before)
-
-  -- a new seat has seen the same and made nothing; the share is halved
-  pub record HasSplit (old left right : View T) : Type 0 where
-    pub seen : left.seen ≡ old.seen
-    pub made : left.made ≡ old.made
-    pub right_seen : right.seen ≡ old.seen
-    pub right_made : right.made ≡ []
-    pub share : left.share ≡ half_of old.share
-    pub right_share : right.share ≡ half_of old.share
-
-  -- what both had seen are beginnings of one history; who has the whole share then had seen all of
-  -- it
-  pub record HasJoined (mine theirs new : View T) : Type 0 where
-    pub made : new.made ≡ mine.made ++ theirs.made
-    pub share : new.share ≡ both_of mine.share theirs.share
-    pub ours : IsBeginning mine.seen new.seen
-    pub others : IsBeginning theirs.seen new.seen
-    pub whole : IsAll new.share → (new.seen ≡ mine.seen) ⊎ (new.seen ≡ theirs.seen)

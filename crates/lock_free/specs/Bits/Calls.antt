@@ -1,14 +1,14 @@
 -- Which bit set a pass is for, and what it knows of the set's history.
-use Rattle.std.specs.Prelude.{◌≡◌, ℕ, Option, Some, IfSome, List, sum_by}
+use Rattle.std.specs.Prelude.{◌≡◌, ℕ, Option, Some, IfSome, List}
 use Rattle.std.specs.Arc.{arc_value}
 use Rattle.model.specs.declared.event.Event.{Event}
 use Rattle.model.specs.declared.turn.Kind.TheVariants as kinds
 use Rattle.model.specs.Coding.{one_word}
 use Rattle.lock_free_sp.specs.declared.share.Share.{Share}
-use Rattle.lock_free_sp.specs.Shares.{IsAll}
 pub use Rattle.lock_free_sp.specs.Sets.{SetId}
 use Rattle.history.specs.declared.view.View.{View}
 use Rattle.history.specs.History.{IsHistory}
+use Rattle.history.specs.Passes as passes
 use Rattle.lock_free.specs.declared.mpmc.bit_set.BitSet.{BitSet}
 use Rattle.lock_free.specs.declared.mpmc.bit_set.FixedSizeBitSet.{FixedSizeBitSet}
 use Rattle.lock_free.specs.declared.mpmc.bit_set.Pass.{Pass}
@@ -58,6 +58,14 @@ HasHistory p = IsHistory one_word kinds.Bits (set_of p).capacity (history p)
 abbrev pub IsSameParty : Pass → Pass → Type 0
 IsSameParty old new = IfSome (party old) (λ p. party new ≡ Some p)
 
--- with the whole share, the history is what it made: every measure of the events says so
+-- with the whole share, the history is what it made
 abbrev pub MissesNothing : Pass → Type 0
-MissesNothing p = IsAll (share p) → (f : Event ℕ → ℕ) → sum_by f (history p) ≡ sum_by f (made p)
+MissesNothing p = passes.MissesNothing (view p)
+
+-- what each call leaves of a pass, and what the pass knows from then on
+pub record GoesOn (old new : Pass) : Type 0 where
+  pub set : set_of new ≡ set_of old
+  pub share : share new ≡ share old
+  pub party : IsSameParty old new
+  pub history : HasHistory new
+  pub all : MissesNothing new

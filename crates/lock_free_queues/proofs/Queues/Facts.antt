@@ -44,7 +44,7 @@ use Rattle.model.specs.Families.Queues.Book.{AnswersRight}
 use Rattle.model.specs.Families.Queues.Reading.{producer_of}
 use Rattle.queue_laws.proofs.Queues.Invariant.{machine_kind}
 use Rattle.queue_laws.proofs.Ring.Kinds.{Ring, of_indices, of_values, kind_of}
-use Rattle.lock_free_queues.specs.Queues.Goes.{Goes}
+use Rattle.history.specs.Passes.{Goes}
 use Rattle.lock_free_queues.specs.Queues.Kinds.{NoneTaken, most_waiting}
 use Rattle.lock_free_queues.specs.Queues.Told.{push_of, popped_item}
 use Rattle.lock_free_queues.proofs.Queues.Wrote.{held, each_left, first_wrote, listed, none_between}

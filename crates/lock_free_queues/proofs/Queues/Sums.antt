@@ -13,7 +13,7 @@ use Rattle.history.specs.declared.view.View.{View}
 use Rattle.history.specs.History.{Called}
 use Rattle.history.proofs.Known.{sum_first}
 use Rattle.lock_free_sp.specs.Shares.{IsAll}
-use Rattle.lock_free_queues.specs.Queues.Goes.{MissesNothing}
+use Rattle.history.specs.Passes.{MissesNothing}
 use Rattle.lock_free_queues.specs.Queues.Overflowing.{HasOverflowed}
 use Rattle.lock_free_queues.specs.Queues.Sums.{puts, gets, HasDone}
 use Rattle.lock_free_queues.specs.Queues.Told.{HasPushed, WasAtEnd, HasPopped, HasMeasured, HasAcquired, HasReleased}

@@ -18,7 +18,7 @@ use Rattle.history.proofs.Known.{sum_first}
 use Rattle.model.specs.declared.turn.Kind.{Kind}
 use Rattle.model.specs.Coding.{Coding}
 use Rattle.queue_laws.proofs.Queues.Invariant.{machine_kind}
-use Rattle.lock_free_queues.specs.Queues.Goes.{Goes, MissesNothing}
+use Rattle.history.specs.Passes.{Goes, MissesNothing}
 use Rattle.lock_free_queues.specs.Queues.Told.{HasPopped, FoundNone}
 use Rattle.lock_free_queues.proofs.Queues.Facts.{found_none, listed_always}
 

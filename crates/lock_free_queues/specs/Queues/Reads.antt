@@ -6,7 +6,7 @@ use Rattle.model.specs.World.{Trace}
 use Rattle.lock_free_sp.specs.Shares.{IsAll}
 use Rattle.history.specs.declared.view.View.{View}
 use Rattle.history.specs.History.{IsBeginning, IsRun}
-use Rattle.lock_free_queues.specs.Queues.Goes.{MissesNothing}
+use Rattle.history.specs.Passes.{MissesNothing}
 
 module _ {T : Type 0} (code : Coding T) (kind : Kind) where
   -- the word was read of a machine whose history lies between the two

@@ -8,7 +8,7 @@ use Rattle.model.specs.Coding.{Coding, coding_of}
 use Rattle.history.specs.declared.view.View.{View}
 use Rattle.history.specs.History.{IsHistory}
 use Rattle.lock_free_queues.specs.Queues.Bounded.{machine_of}
-pub use Rattle.lock_free_queues.specs.Queues.Goes.{Goes, MissesNothing}
+pub use Rattle.history.specs.Passes.{Goes, MissesNothing}
 use Rattle.lock_free_queues.specs.declared.spsc.ring.rule.Kind as kinds
 use Rattle.lock_free_queues.specs.declared.spsc.ring.rule.RingRule.{RingRule}
 use Rattle.lock_free_queues.specs.declared.spsc.ring.Ring.{Ring}

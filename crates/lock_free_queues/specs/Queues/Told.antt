@@ -1,5 +1,5 @@
 -- What the calls on a queue add to its history, and what they answer, of queues of any items.
-use Rattle.std.specs.Prelude.{◌≡◌, ◌⊎◌, ℕ, ◌-◌, ◌^◌, Bool, true, false, Option, Some, None, List, [], ◌∷◌, ◌++◌, length}
+use Rattle.std.specs.Prelude.{◌≡◌, ℕ, ◌-◌, ◌^◌, Bool, true, false, Option, Some, None, List, [], ◌∷◌, ◌++◌, length}
 use Rattle.steps.specs.declared.queues.roles.Role.{Role}
 use Rattle.model.specs.declared.event.Answer.{Answer}
 use Rattle.model.specs.declared.event.Answer.TheVariants.{Truth, Done, PoppedNone, PoppedIndex, Popped}
@@ -14,9 +14,10 @@ use Rattle.model.specs.declared.families.queues.calls.LengthOf.{LengthOf}
 use Rattle.model.specs.Families.Queues.Calls.{length_answer}
 use Rattle.model.specs.Families.Queues.Reading.{published, handed_out, waiting}
 use Rattle.model.specs.Moments.{HeldOnce}
-use Rattle.lock_free_sp.specs.Shares.{half_of, both_of, IsAll}
+use Rattle.lock_free_sp.specs.Shares.{IsAll}
 use Rattle.history.specs.declared.view.View.{View}
 use Rattle.history.specs.History.{Called, IsBeginning}
+pub use Rattle.history.specs.Passes.{HasSplit, HasJoined}
 use Rattle.history.specs.Queues.{length_start}
 use Rattle.history.specs.Roles.{acquire_start, release_start}
 
@@ -150,23 +151,6 @@ module _ {T : Type 0} where
     pub called : Called by (Queues (release_start role)) Done [] old new
 
   -- ---- passes
-
-  -- a new pass has seen the same and made nothing; the share is halved
-  pub record HasSplit (old left right : View T) : Type 0 where
-    pub seen : left.seen ≡ old.seen
-    pub made : left.made ≡ old.made
-    pub right_seen : right.seen ≡ old.seen
-    pub right_made : right.made ≡ []
-    pub share : left.share ≡ half_of old.share
-    pub right_share : right.share ≡ half_of old.share
-
-  -- what both had seen are beginnings of one history; who has the whole share then had seen all of it
-  pub record HasJoined (mine theirs new : View T) : Type 0 where
-    pub made : new.made ≡ mine.made ++ theirs.made
-    pub share : new.share ≡ both_of mine.share theirs.share
-    pub ours : IsBeginning mine.seen new.seen
-    pub others : IsBeginning theirs.seen new.seen
-    pub whole : IsAll new.share → (new.seen ≡ mine.seen) ⊎ (new.seen ≡ theirs.seen)
 
   -- it has made nothing, and with the whole share there was nothing more to see
   pub record HasLooked (old new : View T) : Type 0 where

@@ -18,8 +18,8 @@ loop-at-preserved g c =
     let lt : l.at < length c.args.bells.now = (let e = l.invariant.0 in let t = c.loop-at-test.true in omega arith) in
     let items : c.push.new.self.items ≡ l.rung.items ++ slice_index_or c.args.bells.now l.at 0 ∷ [] = grind (arith, common_steps) in (
       search rules,
-      c.set.ensures.set ∙ l.invariant.1,
-      c.set.ensures.share ∙ l.invariant.2,
+      c.set.ensures.goes_on.set ∙ l.invariant.1,
+      c.set.ensures.goes_on.share ∙ l.invariant.2,
       rings l.rung.items c.push.new.self.items _ c.set.result old new c.if-not-set.false c.set.ensures.added items l.invariant.3,
       rang_on c.args.bells.now l.at _ c.set.result old new lt refl c.set.ensures.added c.set.ensures.stood l.invariant.4,
     )
@@ -31,8 +31,8 @@ loop-at-preserved-then-not-set g c =
     let new = view c.set.new.pass in
     let lt : l.at < length c.args.bells.now = (let e = l.invariant.0 in let t = c.loop-at-test.true in omega arith) in (
       search rules,
-      c.set.ensures.set ∙ l.invariant.1,
-      c.set.ensures.share ∙ l.invariant.2,
+      c.set.ensures.goes_on.set ∙ l.invariant.1,
+      c.set.ensures.goes_on.share ∙ l.invariant.2,
       rings_again l.rung.items _ c.set.result old new c.if-not-set.true c.set.ensures.added l.invariant.3,
       rang_on c.args.bells.now l.at _ c.set.result old new lt refl c.set.ensures.added c.set.ensures.stood l.invariant.4,
     )

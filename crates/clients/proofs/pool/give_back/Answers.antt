@@ -23,9 +23,9 @@ loop-at-preserved c =
     let inv = c.loop-at.invariant in
     let gave = c.release_raw_index in (
       refl,
-      gave.ensures.set ∙ inv.1,
-      gave.ensures.share ∙ inv.2,
-      gave.ensures.sound,
+      gave.ensures.goes_on.set ∙ inv.1,
+      gave.ensures.goes_on.share ∙ inv.2,
+      gave.ensures.goes_on.sound,
       held_given (view c.loop-at.pass) (view gave.new.pass) (drop (at + 1) xs) (get_or xs at 0) gave.result (subst (λ ys. HeldBy ys (made c.loop-at.pass)) (next xs at c.loop-at-test.true) inv.4) gave.ensures.given,
     )
 

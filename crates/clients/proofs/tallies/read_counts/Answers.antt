@@ -19,9 +19,9 @@ loop-bell-preserved c =
     let counted = c.set-count.ensures.counted in
     let inv = c.loop-bell.invariant in
     let items : c.push.new.self.items ≡ c.loop-bell.read.items ++ c.set-count.result ∷ [] = grind (arith, common_steps) in
-    let whole = subst IsAll (sym (c.set-count.ensures.share ∙ inv.2)) c.requires.whole in
+    let whole = subst IsAll (sym (c.set-count.ensures.goes_on.share ∙ inv.2)) c.requires.whole in
     let here : c.set-count.result ≡ (counts bell (made c.args.pass.now) - takes bell (made c.args.pass.now)) % 2 ^ 64 =
-    answers_count (view old) (view new) bell c.set-count.result (c.set-count.ensures.all whole) counted c.set-count.ensures.answers
+    answers_count (view old) (view new) bell c.set-count.result (c.set-count.ensures.goes_on.all whole) counted c.set-count.ensures.answers
     ∙ ap (λ (z : ℕ × ℕ). (z.0 - z.1) % 2 ^ 64) (λ i. (inv.5 bell (omega arith) i, inv.4 bell i)) in
     let before : (b : ℕ) → bell + 1 ≤ b → counts b (made new) ≡ counts b (made c.args.pass.now) =
     λ b le. (
@@ -31,8 +31,8 @@ loop-bell-preserved c =
     let was = inv.5 b (omega arith) in
     omega arith) in (
       search rules,
-      c.set-count.ensures.set ∙ inv.1,
-      c.set-count.ensures.share ∙ inv.2,
+      c.set-count.ensures.goes_on.set ∙ inv.1,
+      c.set-count.ensures.goes_on.share ∙ inv.2,
       push_length c.push.new.self.items c.loop-bell.read.items c.set-count.result bell items inv.3,
       λ b. (count_adds (view old) (view new) bell c.set-count.result counted b).1 ∙ inv.4 b,
       before,

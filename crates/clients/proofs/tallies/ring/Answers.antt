@@ -10,8 +10,8 @@ loop-at-init c = (search rules, refl, refl, none_counted (made c.args.pass) c.re
 pub loop-at-preserved : goal.loop-at-preserved
 loop-at-preserved c = (
   search rules,
-  c.set.ensures.set ∙ c.loop-at.invariant.1,
-  c.set.ensures.share ∙ c.loop-at.invariant.2,
+  c.set.ensures.goes_on.set ∙ c.loop-at.invariant.1,
+  c.set.ensures.goes_on.share ∙ c.loop-at.invariant.2,
   counts_on c.args.bells.now c.loop-at.at _ c.set.result (view c.loop-at.pass) (view c.set.new.pass) (let e = c.loop-at.invariant.0 in let t = c.loop-at-test.true in omega arith) refl c.set.ensures.counted c.loop-at.invariant.3,
 )
 

@@ -5,7 +5,7 @@ ghost use Rattle.model.specs.declared.turn.Kind.TheVariants as kinds;
 ghost use Rattle.lock_free_sp.specs.Seats.{seen, IsSame, IsAt};
 ghost use Rattle.history.specs.declared.view.View.{View as Views};
 ghost use Rattle.lock_free.specs.Counts.Driven.{IsIdle, HasDone};
-ghost use Rattle.lock_free.specs.Bits.Calls.{set_of, capacity_of, IsPassOf, view, share, HasHistory, IsSameParty, MissesNothing};
+ghost use Rattle.lock_free.specs.Bits.Calls.{capacity_of, IsPassOf, view, GoesOn};
 ghost use Rattle.lock_free.specs.Bits.Callable.{TakesPlaces, Visited};
 ghost use Rattle.lock_free.specs.Bits.Told.{HasSet, StoodOnce, HasReset, AllClearOnce, HasCleanedOut, MissedNoPlace};
 
@@ -105,11 +105,7 @@ impl BitSet {
     pub fn set(&self, rt: &impl Wait, id: usize, pass: &mut Pass) -> bool
         requires pass { IsPassOf self.now pass.old }
         requires place { id < capacity_of self.now }
-        ensures set { set_of pass.new ≡ set_of pass.old }
-        ensures share { share pass.new ≡ share pass.old }
-        ensures party { IsSameParty pass.old pass.new }
-        ensures history { HasHistory pass.new }
-        ensures all { MissesNothing pass.new }
+        ensures goes_on { GoesOn pass.old pass.new }
         ensures added { HasSet id result (view pass.old) (view pass.new) }
         ensures stood { IsFalse result → StoodOnce id (view pass.new) }
     {
@@ -130,11 +126,7 @@ impl BitSet {
     /// set of no place. After `reset_next` of the Rust crate.
     pub fn reset_next(&self, rt: &impl Wait, pass: &mut Pass) -> Option<usize>
         requires { IsPassOf self.now pass.old }
-        ensures set { set_of pass.new ≡ set_of pass.old }
-        ensures share { share pass.new ≡ share pass.old }
-        ensures party { IsSameParty pass.old pass.new }
-        ensures history { HasHistory pass.new }
-        ensures all { MissesNothing pass.new }
+        ensures goes_on { GoesOn pass.old pass.new }
         ensures place { IfSome result (λ place. place < capacity_of self.now) }
         ensures cleared { HasReset result (view pass.old) (view pass.new) }
         ensures clear { result ≡ None → AllClearOnce (capacity_of self.now) (view pass.new) }
@@ -160,11 +152,7 @@ impl BitSet {
         requires pass { IsPassOf self.now pass.old }
         requires places { TakesPlaces F.pre (λ p x q. F.step p x tt q)
             (capacity_of self.now) visit }
-        ensures set { set_of pass.new ≡ set_of pass.old }
-        ensures share { share pass.new ≡ share pass.old }
-        ensures party { IsSameParty pass.old pass.new }
-        ensures history { HasHistory pass.new }
-        ensures all { MissesNothing pass.new }
+        ensures goes_on { GoesOn pass.old pass.new }
         ensures cleared { HasCleanedOut (λ p x q. F.step p x tt q) (capacity_of self.now) visit
             (view pass.old) (view pass.new) }
         ensures stood { MissedNoPlace (capacity_of self.now) (view pass.new) }

@@ -1,8 +1,7 @@
 //! How passes are made of one another.
-ghost use Rattle.std.specs.Prelude.{◌≡◌, ◌⊎◌, ◌++◌, [], None, IfSome, IfNone};
-ghost use Rattle.history.specs.History.{IsBeginning};
-ghost use Rattle.lock_free_sp.specs.Shares.{half_of, both_of, IsAll};
-ghost use Rattle.lock_free.specs.Bits.Calls.{set_of, history, made, party, share, HasHistory, MissesNothing};
+ghost use Rattle.std.specs.Prelude.{◌≡◌, IfSome, IfNone};
+ghost use Rattle.history.specs.Passes.{HasSplit, HasJoined};
+ghost use Rattle.lock_free.specs.Bits.Calls.{set_of, view, HasHistory, MissesNothing};
 
 use super::Pass;
 use super::drives::Look;
@@ -16,15 +15,9 @@ impl Pass {
     /// pass can be counted (no clause says when). This project's own.
     pub fn split(&mut self) -> Option<Pass>
         ensures set { set_of self.new ≡ set_of self.old }
-        ensures seen { history self.new ≡ history self.old }
-        ensures made { made self.new ≡ made self.old }
-        ensures party { party self.new ≡ party self.old }
         ensures new { IfSome result (λ p. set_of p ≡ set_of self.old) }
-        ensures new_seen { IfSome result (λ p. history p ≡ history self.old) }
-        ensures new_made { IfSome result (λ p. made p ≡ []) }
-        ensures new_party { IfSome result (λ p. party p ≡ None) }
-        ensures halves { IfSome result (λ p. (share self.new ≡ half_of (share self.old)) × (share p ≡ half_of (share self.old))) }
-        ensures none { IfNone result (share self.new ≡ share self.old) }
+        ensures cut { IfSome result (λ p. HasSplit (view self.old) (view self.new) (view p)) }
+        ensures none { IfNone result (view self.new ≡ view self.old) }
     {
         let seated = &mut self.seated;
         let Ok(table) = Arc::try_clone(&seated.table) else {
@@ -42,14 +35,8 @@ impl Pass {
     pub fn join(&mut self, other: Pass)
         requires { set_of other ≡ set_of self.old }
         ensures set { set_of self.new ≡ set_of self.old }
-        ensures party { party self.new ≡ party self.old }
-        ensures made { made self.new ≡ made self.old ++ made other }
-        ensures share { share self.new ≡ both_of (share self.old) (share other) }
-        ensures mine { IsBeginning (history self.old) (history self.new) }
-        ensures theirs { IsBeginning (history other) (history self.new) }
+        ensures joined { HasJoined (view self.old) (view other) (view self.new) }
         ensures history { HasHistory self.new }
-        ensures whole { IsAll (share self.new)
-            → (history self.new ≡ history self.old) ⊎ (history self.new ≡ history other) }
         ensures all { MissesNothing self.new }
     {
         let Pass { seated: other, .. } = other;

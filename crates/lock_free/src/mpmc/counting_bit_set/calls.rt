@@ -3,7 +3,7 @@ ghost use Rattle.std.specs.Prelude.{◌≡◌, ◌+◌, ◌<◌, ℕ};
 ghost use Rattle.model.specs.declared.turn.Kind.TheVariants as kinds;
 ghost use Rattle.lock_free_sp.specs.Seats.{seen, IsSame, IsAt};
 ghost use Rattle.history.specs.declared.view.View.{View as Views};
-ghost use Rattle.lock_free.specs.Counts.Calls.{set_of, capacity_of, IsPassOf, view, share, HasHistory, IsSameParty, MissesNothing};
+ghost use Rattle.lock_free.specs.Counts.Calls.{capacity_of, IsPassOf, view, GoesOn};
 ghost use Rattle.lock_free.specs.Counts.Callable.{TakesCounts};
 ghost use Rattle.lock_free.specs.Counts.Told.{HasCounted, AnswersCount, HasTakenOut, MissedNoCount};
 ghost use Rattle.lock_free.specs.Counts.Driven.{IsIdle, HasDone};
@@ -83,11 +83,7 @@ impl CountingBitSet {
     pub fn set(&self, id: usize, pass: &mut Pass) -> u64
         requires pass { IsPassOf self.now pass.old }
         requires place { id < capacity_of self.now }
-        ensures set { set_of pass.new ≡ set_of pass.old }
-        ensures share { share pass.new ≡ share pass.old }
-        ensures party { IsSameParty pass.old pass.new }
-        ensures history { HasHistory pass.new }
-        ensures all { MissesNothing pass.new }
+        ensures goes_on { GoesOn pass.old pass.new }
         ensures counted { HasCounted id result (view pass.old) (view pass.new) }
         ensures answers { AnswersCount id result (view pass.new) }
     {
@@ -106,11 +102,7 @@ impl CountingBitSet {
         requires pass { IsPassOf self.now pass.old }
         requires states { TakesCounts F.pre (λ p x q. F.step p x tt q)
             (capacity_of self.now) visit }
-        ensures set { set_of pass.new ≡ set_of pass.old }
-        ensures share { share pass.new ≡ share pass.old }
-        ensures party { IsSameParty pass.old pass.new }
-        ensures history { HasHistory pass.new }
-        ensures all { MissesNothing pass.new }
+        ensures goes_on { GoesOn pass.old pass.new }
         ensures taken { HasTakenOut (λ p x q. F.step p x tt q) (capacity_of self.now) visit
             (view pass.old) (view pass.new) }
         ensures stood { MissedNoCount (capacity_of self.now) (view pass.new) }

@@ -6,9 +6,9 @@ ghost use Rattle.model.specs.declared.event.Answer.TheVariants.{State, Number, T
 ghost use Rattle.model.specs.declared.families.indices.IndexStart.TheVariants as starts;
 ghost use Rattle.model.specs.Families.Indices.Reading.{is_locked};
 ghost use Rattle.history.specs.Held.{Holds};
-ghost use Rattle.lock_free.specs.Unique.Held.{HeldBy, HoldsNothing, HoldsAll, HoldsSome, IsSound};
+ghost use Rattle.lock_free.specs.Unique.Held.{HeldBy, HoldsNothing, HoldsAll, HoldsSome};
 ghost use Rattle.lock_free.specs.Unique.Told.{HasAcquired, WasRefused, HasGiven, HasGivenOrLocked, HasCounted, HasLooked, Answered};
-ghost use Rattle.lock_free.specs.UniqueIndexSet.{set_of, capacity_of, IsPassOf, view, history, made, share, HasHistory, MissesNothing, value_of, index_pass, index_view, index_set};
+ghost use Rattle.lock_free.specs.UniqueIndexSet.{capacity_of, IsPassOf, view, history, made, GoesOn, value_of, index_pass, index_view};
 
 use super::drives::{CountsOut, Gives, GivesOrLocks, LooksLocked, Takes};
 use super::{Pass, UniqueIndex, UniqueIndexSet};
@@ -30,18 +30,10 @@ impl UniqueIndexSet {
         pass: Pass,
     ) -> Result<UniqueIndex<'_>, (UniqueIndexSetAcquireFailure, Pass)>
         requires { IsPassOf self.now pass }
-        ensures acquired { IfOk result (λ i. (index_set i ≡ set_of pass)
-            × HasAcquired (value_of i) (view pass) (index_view i)) }
-        ensures refused { IfErr result (λ r. (set_of r.1 ≡ set_of pass)
-            × WasRefused r.0 (view pass) (view r.1)) }
-        ensures share { IfOk result (λ i. share (index_pass i) ≡ share pass) }
-        ensures refused_share { IfErr result (λ r. share r.1 ≡ share pass) }
-        ensures history { IfOk result (λ i. HasHistory (index_pass i)) }
-        ensures refused_history { IfErr result (λ r. HasHistory r.1) }
-        ensures sound { IfOk result (λ i. IsSound (index_view i)) }
-        ensures refused_sound { IfErr result (λ r. IsSound (view r.1)) }
-        ensures all { IfOk result (λ i. MissesNothing (index_pass i)) }
-        ensures refused_all { IfErr result (λ r. MissesNothing r.1) }
+        ensures goes_on { IfOk result (λ i. GoesOn pass (index_pass i)) }
+        ensures acquired { IfOk result (λ i. HasAcquired (value_of i) (view pass) (index_view i)) }
+        ensures refused_goes_on { IfErr result (λ r. GoesOn pass r.1) }
+        ensures refused { IfErr result (λ r. WasRefused r.0 (view pass) (view r.1)) }
     {
         let mut pass = pass;
         match self.acquire_raw_index(rt, &mut pass) {
@@ -62,11 +54,7 @@ impl UniqueIndexSet {
         pass: &mut Pass,
     ) -> Result<u32, UniqueIndexSetAcquireFailure>
         requires { IsPassOf self.now pass.old }
-        ensures set { set_of pass.new ≡ set_of pass.old }
-        ensures share { share pass.new ≡ share pass.old }
-        ensures history { HasHistory pass.new }
-        ensures sound { IsSound (view pass.new) }
-        ensures all { MissesNothing pass.new }
+        ensures goes_on { GoesOn pass.old pass.new }
         ensures acquired { IfOk result (λ i. HasAcquired i (view pass.old) (view pass.new)) }
         ensures within { IfOk result (λ i. i < capacity_of self.now) }
         ensures refused { IfErr result (λ e. WasRefused e (view pass.old) (view pass.new)) }
@@ -81,11 +69,7 @@ impl UniqueIndexSet {
     pub fn release_raw_index(&self, index: u32, pass: &mut Pass) -> ReleaseState
         requires pass { IsPassOf self.now pass.old }
         requires held { Holds index (made pass.old) }
-        ensures set { set_of pass.new ≡ set_of pass.old }
-        ensures share { share pass.new ≡ share pass.old }
-        ensures history { HasHistory pass.new }
-        ensures sound { IsSound (view pass.new) }
-        ensures all { MissesNothing pass.new }
+        ensures goes_on { GoesOn pass.old pass.new }
         ensures given { HasGiven index result (view pass.old) (view pass.new) }
         ensures unlocked { result ≡ Unlocked }
     {
@@ -100,11 +84,7 @@ impl UniqueIndexSet {
     pub fn release_or_lock(&self, rt: &impl Wait, index: u32, pass: &mut Pass) -> ReleaseState
         requires pass { IsPassOf self.now pass.old }
         requires held { Holds index (made pass.old) }
-        ensures set { set_of pass.new ≡ set_of pass.old }
-        ensures share { share pass.new ≡ share pass.old }
-        ensures history { HasHistory pass.new }
-        ensures sound { IsSound (view pass.new) }
-        ensures all { MissesNothing pass.new }
+        ensures goes_on { GoesOn pass.old pass.new }
         ensures given { HasGivenOrLocked index result (view pass.old) (view pass.new) }
         ensures answered { Answered (starts.Release index modes.LockIfLastIndex) (State result)
             (view pass.old) (view pass.new) }
@@ -121,11 +101,7 @@ impl UniqueIndexSet {
     /// crate.
     pub fn borrowed_indices(&self, pass: &mut Pass) -> usize
         requires { IsPassOf self.now pass.old }
-        ensures set { set_of pass.new ≡ set_of pass.old }
-        ensures share { share pass.new ≡ share pass.old }
-        ensures history { HasHistory pass.new }
-        ensures sound { IsSound (view pass.new) }
-        ensures all { MissesNothing pass.new }
+        ensures goes_on { GoesOn pass.old pass.new }
         ensures counted { HasCounted result (view pass.old) (view pass.new) }
         ensures answered { Answered starts.BorrowedIndices (Number result) (view pass.old) (view pass.new) }
         ensures least { (is : List ℕ) → HeldBy is (made pass.new) → length is ≤ result }
@@ -139,11 +115,7 @@ impl UniqueIndexSet {
     /// Whether the set is locked. One atomic step. After `is_locked` of the Rust crate.
     pub fn is_locked(&self, pass: &mut Pass) -> bool
         requires { IsPassOf self.now pass.old }
-        ensures set { set_of pass.new ≡ set_of pass.old }
-        ensures share { share pass.new ≡ share pass.old }
-        ensures history { HasHistory pass.new }
-        ensures sound { IsSound (view pass.new) }
-        ensures all { MissesNothing pass.new }
+        ensures goes_on { GoesOn pass.old pass.new }
         ensures looked { HasLooked result (view pass.old) (view pass.new) }
         ensures answered { Answered starts.IsLocked (Truth result) (view pass.old) (view pass.new) }
         ensures nothing { IsTrue result → HoldsNothing (made pass.new) }

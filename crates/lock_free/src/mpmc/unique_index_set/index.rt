@@ -1,12 +1,11 @@
 //! The calls on an index that is held.
-ghost use Rattle.std.specs.Prelude.{◌≡◌, ◌++◌, ℕ};
+ghost use Rattle.std.specs.Prelude.{◌≡◌, ℕ};
 ghost use Rattle.steps.specs.declared.indices.enums.ReleaseState.TheVariants.{Unlocked};
-ghost use Rattle.history.specs.History.{IsBeginning};
-ghost use Rattle.lock_free_sp.specs.Shares.{both_of};
+ghost use Rattle.history.specs.Passes.{HasJoined};
 ghost use Rattle.lock_free.specs.Unique.Held.{IsSound};
 ghost use Rattle.history.specs.Held.{Holds};
 ghost use Rattle.lock_free.specs.Unique.Told.{HasGiven};
-ghost use Rattle.lock_free.specs.UniqueIndexSet.{view, set_of, history, made, share, HasHistory, MissesNothing, value_of, index_pass, index_view, index_set};
+ghost use Rattle.lock_free.specs.UniqueIndexSet.{view, set_of, made, HasHistory, MissesNothing, GoesOn, value_of, index_pass, index_view, index_set};
 
 use super::{Pass, UniqueIndex};
 
@@ -23,11 +22,8 @@ impl<'a> UniqueIndex<'a> {
         requires { set_of other ≡ index_set self.old }
         ensures set { index_set self.new ≡ index_set self.old }
         ensures value { value_of self.new ≡ value_of self.old }
-        ensures made { made (index_pass self.new) ≡ made (index_pass self.old) ++ made other }
+        ensures joined { HasJoined (index_view self.old) (view other) (index_view self.new) }
         ensures apart { (i : ℕ) → Holds i (made (index_pass self.old)) → Holds i (made other) → ⊥ }
-        ensures share { share (index_pass self.new) ≡ both_of (share (index_pass self.old)) (share other) }
-        ensures mine { IsBeginning (history (index_pass self.old)) (history (index_pass self.new)) }
-        ensures theirs { IsBeginning (history other) (history (index_pass self.new)) }
         ensures history { HasHistory (index_pass self.new) }
         ensures sound { IsSound (index_view self.new) }
         ensures all { MissesNothing (index_pass self.new) }
@@ -38,11 +34,7 @@ impl<'a> UniqueIndex<'a> {
     /// Gives the index back in mode `Default` and hands the pass out. At most 5 atomic steps. This project's own,
     /// beside the drop.
     pub fn release(self) -> Pass
-        ensures set { set_of result ≡ index_set self.entry }
-        ensures share { share result ≡ share (index_pass self.entry) }
-        ensures history { HasHistory result }
-        ensures sound { IsSound (view result) }
-        ensures all { MissesNothing result }
+        ensures goes_on { GoesOn (index_pass self.entry) result }
         ensures given { HasGiven (value_of self.entry) Unlocked (index_view self.entry) (view result) }
     {
         let UniqueIndex {

@@ -1,10 +1,9 @@
 //! How passes are made of one another.
-ghost use Rattle.std.specs.Prelude.{◌≡◌, ◌⊎◌, ◌++◌, ℕ, [], None, IfSome, IfNone};
+ghost use Rattle.std.specs.Prelude.{◌≡◌, ℕ, IfSome, IfNone};
 ghost use Rattle.lock_free.specs.Unique.Held.{HoldsNothing, IsSound};
 ghost use Rattle.history.specs.Held.{Holds};
-ghost use Rattle.history.specs.History.{IsBeginning};
-ghost use Rattle.lock_free_sp.specs.Shares.{half_of, both_of, IsAll};
-ghost use Rattle.lock_free.specs.UniqueIndexSet.{set_of, view, history, made, share, HasHistory, MissesNothing};
+ghost use Rattle.history.specs.Passes.{HasSplit, HasJoined};
+ghost use Rattle.lock_free.specs.UniqueIndexSet.{set_of, view, made, HasHistory, MissesNothing};
 
 use super::Pass;
 use super::drives::Look;
@@ -18,14 +17,10 @@ impl Pass {
     /// project's own.
     pub fn split(&mut self) -> Option<Pass>
         ensures set { set_of self.new ≡ set_of self.old }
-        ensures seen { history self.new ≡ history self.old }
-        ensures made { made self.new ≡ made self.old }
         ensures new { IfSome result (λ p. set_of p ≡ set_of self.old) }
-        ensures new_seen { IfSome result (λ p. history p ≡ history self.old) }
-        ensures new_made { IfSome result (λ p. made p ≡ []) }
+        ensures cut { IfSome result (λ p. HasSplit (view self.old) (view self.new) (view p)) }
         ensures nothing { IfSome result (λ p. HoldsNothing (made p)) }
-        ensures halves { IfSome result (λ p. (share self.new ≡ half_of (share self.old)) × (share p ≡ half_of (share self.old))) }
-        ensures none { IfNone result (share self.new ≡ share self.old) }
+        ensures none { IfNone result (view self.new ≡ view self.old) }
     {
         let seated = &mut self.seated;
         let Ok(table) = Arc::try_clone(&seated.table) else {
@@ -43,15 +38,10 @@ impl Pass {
     pub fn join(&mut self, other: Pass)
         requires { set_of other ≡ set_of self.old }
         ensures set { set_of self.new ≡ set_of self.old }
-        ensures made { made self.new ≡ made self.old ++ made other }
+        ensures joined { HasJoined (view self.old) (view other) (view self.new) }
         ensures apart { (i : ℕ) → Holds i (made self.old) → Holds i (made other) → ⊥ }
-        ensures share { share self.new ≡ both_of (share self.old) (share other) }
-        ensures mine { IsBeginning (history self.old) (history self.new) }
-        ensures theirs { IsBeginning (history other) (history self.new) }
         ensures history { HasHistory self.new }
         ensures sound { IsSound (view self.new) }
-        ensures whole { IsAll (share self.new)
-            → (history self.new ≡ history self.old) ⊎ (history self.new ≡ history other) }
         ensures all { MissesNothing self.new }
     {
         let Pass { seated: other, .. } = other;

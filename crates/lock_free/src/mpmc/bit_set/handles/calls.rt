@@ -1,9 +1,10 @@
 //! The calls by a handle: those of its set.
 ghost use Rattle.std.specs.Prelude.{◌≡◌, ◌<◌, None, IfSome, IfNone, IsFalse};
-ghost use Rattle.lock_free.specs.Bits.Calls.{capacity_of, IsPassOf, share};
+ghost use Rattle.lock_free.specs.Bits.Calls.{capacity_of, IsPassOf, GoesOn};
 ghost use Rattle.lock_free.specs.Bits.Callable.{TakesPlaces};
 ghost use Rattle.lock_free.specs.Bits.Told.{HasSet, StoodOnce, HasReset, AllClearOnce, HasCleanedOut, MissedNoPlace};
-ghost use Rattle.lock_free.specs.Bits.Handles.{set_in, pass_in, knows, GoesOn, KnowsTheSame, IsFurther};
+ghost use Rattle.history.specs.Passes.{HasSplit};
+ghost use Rattle.lock_free.specs.Bits.Handles.{set_in, pass_in, knows};
 
 use super::Handle;
 use crate::mpmc::bit_set::{BitSet, Pass};
@@ -31,10 +32,9 @@ impl<'a> Handle<'a> {
     /// A further handle of the set, with a pass that has seen the same and made nothing, as by `Pass::split`.
     pub fn split(&mut self) -> Option<Handle<'a>>
         ensures set { set_in self.new ≡ set_in self.old }
-        ensures same { KnowsTheSame (pass_in self.old) (pass_in self.new) }
         ensures new { IfSome result (λ h. set_in h ≡ set_in self.old) }
-        ensures further { IfSome result (λ h. IsFurther (pass_in self.old) (pass_in self.new) (pass_in h)) }
-        ensures none { IfNone result (share (pass_in self.new) ≡ share (pass_in self.old)) }
+        ensures cut { IfSome result (λ h. HasSplit (knows self.old) (knows self.new) (knows h)) }
+        ensures none { IfNone result (knows self.new ≡ knows self.old) }
     {
         let pass = self.pass.split()?;
         Some(Handle {

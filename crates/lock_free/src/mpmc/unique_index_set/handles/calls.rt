@@ -5,8 +5,9 @@ ghost use Rattle.model.specs.declared.families.indices.IndexStart.TheVariants as
 ghost use Rattle.model.specs.Families.Indices.Reading.{is_locked};
 ghost use Rattle.lock_free.specs.Unique.Held.{HeldBy, HoldsNothing, HoldsAll};
 ghost use Rattle.lock_free.specs.Unique.Told.{HasAcquired, WasRefused, HasCounted, HasLooked, Answered};
-ghost use Rattle.lock_free.specs.UniqueIndexSet.{capacity_of, IsPassOf, history, made, share, value_of, index_pass, index_view};
-ghost use Rattle.lock_free.specs.Unique.Handles.{set_in, pass_in, knows, GoesOn, KnowsTheSame, IsFurther};
+ghost use Rattle.lock_free.specs.UniqueIndexSet.{capacity_of, IsPassOf, history, made, value_of, index_pass, index_view, GoesOn};
+ghost use Rattle.history.specs.Passes.{HasSplit};
+ghost use Rattle.lock_free.specs.Unique.Handles.{set_in, pass_in, knows};
 
 use super::Handle;
 use crate::mpmc::unique_index_set::{Pass, UniqueIndex, UniqueIndexSet};
@@ -35,10 +36,9 @@ impl<'a> Handle<'a> {
     /// A further handle of the set, with a pass that has seen the same and holds nothing, as by `Pass::split`.
     pub fn split(&mut self) -> Option<Handle<'a>>
         ensures set { set_in self.new ≡ set_in self.old }
-        ensures same { KnowsTheSame (pass_in self.old) (pass_in self.new) }
         ensures new { IfSome result (λ h. set_in h ≡ set_in self.old) }
-        ensures further { IfSome result (λ h. IsFurther (pass_in self.old) (pass_in self.new) (pass_in h)) }
-        ensures none { IfNone result (share (pass_in self.new) ≡ share (pass_in self.old)) }
+        ensures cut { IfSome result (λ h. HasSplit (knows self.old) (knows self.new) (knows h)) }
+        ensures none { IfNone result (knows self.new ≡ knows self.old) }
     {
         let pass = self.pass.split()?;
         Some(Handle {

@@ -6,8 +6,8 @@ ghost use Rattle.model.specs.declared.event.Answer.TheVariants.{State};
 ghost use Rattle.model.specs.declared.families.indices.IndexStart.TheVariants as starts;
 ghost use Rattle.lock_free.specs.Unique.Held.{HoldsNothing, HoldsSome};
 ghost use Rattle.lock_free.specs.Unique.Told.{HasGiven, HasGivenOrLocked, Answered};
-ghost use Rattle.lock_free.specs.UniqueIndexSet.{made, value_of, index_pass, index_view};
-ghost use Rattle.lock_free.specs.Unique.Handles.{pass_in, knows, GoesOn};
+ghost use Rattle.lock_free.specs.UniqueIndexSet.{made, value_of, index_pass, index_view, GoesOn};
+ghost use Rattle.lock_free.specs.Unique.Handles.{pass_in, knows};
 
 use super::Handle;
 use crate::mpmc::unique_index_set::UniqueIndex;

@@ -1,4 +1,4 @@
-use Rattle.std.proofs.Common.{◌<◌, refl, sym, ap, subst, ◌∙◌}
+use Rattle.std.proofs.Common.{rules, ◌<◌, refl, sym, ap, subst, ◌∙◌}
 use Rattle.model.specs.Coding.{one_word}
 use Rattle.model.specs.declared.turn.Kind.TheVariants as kinds
 use Rattle.lock_free_sp.specs.Seats.{seen}
@@ -20,8 +20,15 @@ drive_on-end-requires-clause-at g c =
     subst (λ call. At one_word kinds.Bits (sets_place c.args.id) v v call _) (sym c.new.ensures)
     (set_first c.args.id v _ (record { known = refl; idle = mine.idle; alone = mine.alone; some = mine.some.0 }) (subst (λ n. c.args.id < n) (sym (mine.known ∙ ap (λ (z : SetId). z.capacity) c.requires.pass)) c.requires.place))
 
-pub returns-clause-history : goal.returns-clause-history
-returns-clause-history g c = subst (λ n. IsHistory one_word kinds.Bits n (seen c.drive_on-end.new.self).seen) c.args.pass.now.known c.drive_on-end.ensures.end.history
+pub returns-clause-goes_on : goal.returns-clause-goes_on
+returns-clause-goes_on g c =
+    record {
+      set = search rules;
+      share = search rules;
+      party = search rules;
+      history = subst (λ n. IsHistory one_word kinds.Bits n (seen c.drive_on-end.new.self).seen) c.args.pass.now.known c.drive_on-end.ensures.end.history;
+      all = search rules;
+    }
 
 pub returns-clause-added : goal.returns-clause-added
 returns-clause-added g c =

@@ -1,4 +1,4 @@
-use Rattle.std.proofs.Common.{◌<◌, refl, sym, ap, subst, ◌∙◌}
+use Rattle.std.proofs.Common.{rules, ◌<◌, refl, sym, ap, subst, ◌∙◌}
 use Rattle.model.specs.Coding.{one_word}
 use Rattle.model.specs.declared.turn.Kind.TheVariants as kinds
 use Rattle.lock_free_sp.specs.Seats.{seen}
@@ -16,8 +16,15 @@ drive-old-requires-clause-at c =
     let mine = c.args.pass.now in
     count_first c.args.id (seen mine.seated) _ _ (record { known = refl; idle = mine.idle; alone = mine.alone; some = mine.some.0 }) (subst (λ n. c.args.id < n) (sym (mine.known ∙ ap (λ (z : SetId). z.capacity) c.requires.pass)) c.requires.place)
 
-pub returns-clause-history : goal.returns-clause-history
-returns-clause-history c = subst (λ n. IsHistory one_word kinds.Counts n (seen c.drive-old.new.self).seen) c.args.pass.now.known c.drive-old.ensures.end.history
+pub returns-clause-goes_on : goal.returns-clause-goes_on
+returns-clause-goes_on c =
+    record {
+      set = search rules;
+      share = search rules;
+      party = search rules;
+      history = subst (λ n. IsHistory one_word kinds.Counts n (seen c.drive-old.new.self).seen) c.args.pass.now.known c.drive-old.ensures.end.history;
+      all = search rules;
+    }
 
 pub returns-clause-counted : goal.returns-clause-counted
 returns-clause-counted c =

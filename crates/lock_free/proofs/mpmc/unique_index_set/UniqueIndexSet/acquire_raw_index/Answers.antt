@@ -1,4 +1,4 @@
-use Rattle.std.proofs.Common.{◌<◌, sym, ap, subst, ◌∙◌}
+use Rattle.std.proofs.Common.{rules, ◌<◌, sym, ap, subst, ◌∙◌}
 use Rattle.steps.specs.Indices.Unique.{first_acquire}
 use Rattle.model.specs.Coding.{one_word}
 use Rattle.model.specs.declared.turn.Kind.TheVariants as kinds
@@ -25,14 +25,18 @@ drive_on-requires-clause-at g c =
 pub invariant_of-pass-clause-sound : goal.invariant_of-pass-clause-sound
 invariant_of-pass-clause-sound g c = sound (seen c.args.pass.now.seated).capacity (seen c.drive_on.new.self) c.drive_on.ensures.end.capacity c.drive_on.ensures.end.history c.drive_on.ensures.end.parties
 
-pub returns-clause-history : goal.returns-clause-history
-returns-clause-history g c = subst (λ n. IsHistory one_word kinds.Indices n (seen c.drive_on.new.self).seen) c.args.pass.now.known c.drive_on.ensures.end.history
+pub returns-clause-goes_on : goal.returns-clause-goes_on
+returns-clause-goes_on g c =
+    record {
+      set = search rules;
+      share = search rules;
+      history = subst (λ n. IsHistory one_word kinds.Indices n (seen c.drive_on.new.self).seen) c.args.pass.now.known c.drive_on.ensures.end.history;
+      sound = sound (seen c.args.pass.now.seated).capacity (seen c.drive_on.new.self) c.drive_on.ensures.end.capacity c.drive_on.ensures.end.history c.drive_on.ensures.end.parties;
+      all = search rules;
+    }
 
 pub returns-clause-within : goal.returns-clause-within
 returns-clause-within g c = within_if (seen c.args.pass.now.seated) (seen c.drive_on.new.self) tt c.args.pass.now.idle c.drive_on.result c.drive_on.ensures.end c.args.self.now.capacity (c.args.pass.now.known ∙ ap (λ (z : SetId). z.capacity) c.requires)
-
-pub returns-clause-sound : goal.returns-clause-sound
-returns-clause-sound g c = sound (seen c.args.pass.now.seated).capacity (seen c.drive_on.new.self) c.drive_on.ensures.end.capacity c.drive_on.ensures.end.history c.drive_on.ensures.end.parties
 
 pub invariant_of-pass-clause-done : goal.invariant_of-pass-clause-done
 invariant_of-pass-clause-done g c =

@@ -1,4 +1,4 @@
-use Rattle.std.proofs.Common.{◌≤◌, ap, subst, ◌∙◌}
+use Rattle.std.proofs.Common.{rules, ◌≤◌, ap, subst, ◌∙◌}
 use Rattle.model.specs.Coding.{one_word}
 use Rattle.model.specs.declared.turn.Kind.TheVariants as kinds
 use Rattle.lock_free_sp.specs.Seats.{seen}
@@ -21,8 +21,15 @@ drive-requires-clause-at c =
 pub invariant_of-pass-clause-sound : goal.invariant_of-pass-clause-sound
 invariant_of-pass-clause-sound c = sound (seen c.args.pass.now.seated).capacity (seen c.drive.new.self) c.drive.ensures.end.capacity c.drive.ensures.end.history c.drive.ensures.end.parties
 
-pub returns-clause-history : goal.returns-clause-history
-returns-clause-history c = subst (λ n. IsHistory one_word kinds.Indices n (seen c.drive.new.self).seen) c.args.pass.now.known c.drive.ensures.end.history
+pub returns-clause-goes_on : goal.returns-clause-goes_on
+returns-clause-goes_on c =
+    record {
+      set = search rules;
+      share = search rules;
+      history = subst (λ n. IsHistory one_word kinds.Indices n (seen c.drive.new.self).seen) c.args.pass.now.known c.drive.ensures.end.history;
+      sound = sound (seen c.args.pass.now.seated).capacity (seen c.drive.new.self) c.drive.ensures.end.capacity c.drive.ensures.end.history c.drive.ensures.end.parties;
+      all = search rules;
+    }
 
 pub returns-clause-counted : goal.returns-clause-counted
 returns-clause-counted c = counted (seen c.args.pass.now.seated) (seen c.drive.new.self) tt c.args.pass.now.idle c.drive.result c.drive.ensures.end
@@ -32,9 +39,6 @@ returns-clause-answered c = counted_answered (seen c.args.pass.now.seated) (seen
 
 pub returns-clause-most : goal.returns-clause-most
 returns-clause-most c = subst (λ n. c.drive.result ≤ n) (c.args.pass.now.known ∙ ap (λ (z : SetId). z.capacity) c.requires) (counted_most (seen c.args.pass.now.seated) (seen c.drive.new.self) tt c.args.pass.now.idle c.drive.result c.drive.ensures.end)
-
-pub returns-clause-sound : goal.returns-clause-sound
-returns-clause-sound c = sound (seen c.args.pass.now.seated).capacity (seen c.drive.new.self) c.drive.ensures.end.capacity c.drive.ensures.end.history c.drive.ensures.end.parties
 
 pub invariant_of-pass-clause-done : goal.invariant_of-pass-clause-done
 invariant_of-pass-clause-done c =

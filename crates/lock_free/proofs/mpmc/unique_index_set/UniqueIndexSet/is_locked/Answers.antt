@@ -1,4 +1,4 @@
-use Rattle.std.proofs.Common.{subst}
+use Rattle.std.proofs.Common.{rules, subst}
 use Rattle.model.specs.Coding.{one_word}
 use Rattle.model.specs.declared.turn.Kind.TheVariants as kinds
 use Rattle.lock_free_sp.specs.Seats.{seen}
@@ -20,17 +20,21 @@ drive-requires-clause-at c =
 pub invariant_of-pass-clause-sound : goal.invariant_of-pass-clause-sound
 invariant_of-pass-clause-sound c = sound (seen c.args.pass.now.seated).capacity (seen c.drive.new.self) c.drive.ensures.end.capacity c.drive.ensures.end.history c.drive.ensures.end.parties
 
-pub returns-clause-history : goal.returns-clause-history
-returns-clause-history c = subst (λ n. IsHistory one_word kinds.Indices n (seen c.drive.new.self).seen) c.args.pass.now.known c.drive.ensures.end.history
+pub returns-clause-goes_on : goal.returns-clause-goes_on
+returns-clause-goes_on c =
+    record {
+      set = search rules;
+      share = search rules;
+      history = subst (λ n. IsHistory one_word kinds.Indices n (seen c.drive.new.self).seen) c.args.pass.now.known c.drive.ensures.end.history;
+      sound = sound (seen c.args.pass.now.seated).capacity (seen c.drive.new.self) c.drive.ensures.end.capacity c.drive.ensures.end.history c.drive.ensures.end.parties;
+      all = search rules;
+    }
 
 pub returns-clause-looked : goal.returns-clause-looked
 returns-clause-looked c = looked (seen c.args.pass.now.seated) (seen c.drive.new.self) tt c.args.pass.now.idle c.drive.result c.drive.ensures.end
 
 pub returns-clause-answered : goal.returns-clause-answered
 returns-clause-answered c = looked_answered (seen c.args.pass.now.seated) (seen c.drive.new.self) tt c.args.pass.now.idle c.drive.result c.drive.ensures.end
-
-pub returns-clause-sound : goal.returns-clause-sound
-returns-clause-sound c = sound (seen c.args.pass.now.seated).capacity (seen c.drive.new.self) c.drive.ensures.end.capacity c.drive.ensures.end.history c.drive.ensures.end.parties
 
 pub invariant_of-pass-clause-done : goal.invariant_of-pass-clause-done
 invariant_of-pass-clause-done c =

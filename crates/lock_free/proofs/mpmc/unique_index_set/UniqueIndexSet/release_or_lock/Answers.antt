@@ -1,4 +1,4 @@
-use Rattle.std.proofs.Common.{sym, ap, subst, ◌∙◌}
+use Rattle.std.proofs.Common.{rules, sym, ap, subst, ◌∙◌}
 use Rattle.steps.specs.Indices.Unique.{first_release}
 use Rattle.model.specs.Coding.{one_word}
 use Rattle.model.specs.declared.turn.Kind.TheVariants as kinds
@@ -25,17 +25,21 @@ drive_on-requires-clause-at g c =
 pub invariant_of-pass-clause-sound : goal.invariant_of-pass-clause-sound
 invariant_of-pass-clause-sound g c = sound (seen c.args.pass.now.seated).capacity (seen c.drive_on.new.self) c.drive_on.ensures.end.capacity c.drive_on.ensures.end.history c.drive_on.ensures.end.parties
 
-pub returns-clause-history : goal.returns-clause-history
-returns-clause-history g c = subst (λ n. IsHistory one_word kinds.Indices n (seen c.drive_on.new.self).seen) c.args.pass.now.known c.drive_on.ensures.end.history
+pub returns-clause-goes_on : goal.returns-clause-goes_on
+returns-clause-goes_on g c =
+    record {
+      set = search rules;
+      share = search rules;
+      history = subst (λ n. IsHistory one_word kinds.Indices n (seen c.drive_on.new.self).seen) c.args.pass.now.known c.drive_on.ensures.end.history;
+      sound = sound (seen c.args.pass.now.seated).capacity (seen c.drive_on.new.self) c.drive_on.ensures.end.capacity c.drive_on.ensures.end.history c.drive_on.ensures.end.parties;
+      all = search rules;
+    }
 
 pub returns-clause-given : goal.returns-clause-given
 returns-clause-given g c = given_or_locked (seen c.args.pass.now.seated) (seen c.drive_on.new.self) tt c.args.pass.now.idle c.args.index c.drive_on.result c.drive_on.ensures.end
 
 pub returns-clause-answered : goal.returns-clause-answered
 returns-clause-answered g c = locked_answered (seen c.args.pass.now.seated) (seen c.drive_on.new.self) tt c.args.pass.now.idle c.args.index c.drive_on.result c.drive_on.ensures.end
-
-pub returns-clause-sound : goal.returns-clause-sound
-returns-clause-sound g c = sound (seen c.args.pass.now.seated).capacity (seen c.drive_on.new.self) c.drive_on.ensures.end.capacity c.drive_on.ensures.end.history c.drive_on.ensures.end.parties
 
 pub invariant_of-pass-clause-done : goal.invariant_of-pass-clause-done
 invariant_of-pass-clause-done g c =

@@ -1,4 +1,4 @@
-use Rattle.std.proofs.Common.{sym, ap, subst, ◌∙◌}
+use Rattle.std.proofs.Common.{rules, sym, ap, subst, ◌∙◌}
 use Rattle.steps.specs.Indices.Unique.{first_release}
 use Rattle.model.specs.Coding.{one_word}
 use Rattle.model.specs.declared.turn.Kind.TheVariants as kinds
@@ -25,17 +25,21 @@ drive-requires-clause-at c =
 pub invariant_of-pass-clause-sound : goal.invariant_of-pass-clause-sound
 invariant_of-pass-clause-sound c = sound (seen c.args.pass.now.seated).capacity (seen c.drive.new.self) c.drive.ensures.end.capacity c.drive.ensures.end.history c.drive.ensures.end.parties
 
-pub returns-clause-history : goal.returns-clause-history
-returns-clause-history c = subst (λ n. IsHistory one_word kinds.Indices n (seen c.drive.new.self).seen) c.args.pass.now.known c.drive.ensures.end.history
+pub returns-clause-goes_on : goal.returns-clause-goes_on
+returns-clause-goes_on c =
+    record {
+      set = search rules;
+      share = search rules;
+      history = subst (λ n. IsHistory one_word kinds.Indices n (seen c.drive.new.self).seen) c.args.pass.now.known c.drive.ensures.end.history;
+      sound = sound (seen c.args.pass.now.seated).capacity (seen c.drive.new.self) c.drive.ensures.end.capacity c.drive.ensures.end.history c.drive.ensures.end.parties;
+      all = search rules;
+    }
 
 pub returns-clause-given : goal.returns-clause-given
 returns-clause-given c = given (seen c.args.pass.now.seated) (seen c.drive.new.self) tt c.args.pass.now.idle c.args.index c.drive.result c.drive.ensures.end
 
 pub returns-clause-unlocked : goal.returns-clause-unlocked
 returns-clause-unlocked c = unlocked (seen c.args.pass.now.seated) (seen c.drive.new.self) tt c.args.pass.now.idle c.args.index c.drive.result c.drive.ensures.end
-
-pub returns-clause-sound : goal.returns-clause-sound
-returns-clause-sound c = sound (seen c.args.pass.now.seated).capacity (seen c.drive.new.self) c.drive.ensures.end.capacity c.drive.ensures.end.history c.drive.ensures.end.parties
 
 pub invariant_of-pass-clause-done : goal.invariant_of-pass-clause-done
 invariant_of-pass-clause-done c =

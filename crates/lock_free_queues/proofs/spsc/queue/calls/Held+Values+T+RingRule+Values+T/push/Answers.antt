@@ -7,7 +7,7 @@ use Rattle.queue_laws.proofs.Ring.Kinds.{of_values}
 use Rattle.history.specs.Stages.{At}
 use Rattle.history.specs.ValueQueue.{pushes_value}
 use Rattle.history.proofs.ValueQueueCalls.{value_push_keeps, value_push_first}
-use Rattle.lock_free_queues.specs.Queues.Goes.{Goes}
+use Rattle.history.specs.Passes.{Goes}
 use Rattle.lock_free_queues.specs.Queues.Values.{token_view}
 use Rattle.lock_free_queues.specs.Queues.Told.{HasPushed, WasFull, WasAtEnd}
 use Rattle.lock_free_queues.proofs.Queues.Ended.{pushed, published_if, full}

@@ -4,7 +4,7 @@ use Rattle.model.specs.Coding.{one_word}
 use Rattle.model.specs.declared.turn.Kind.TheVariants as kinds
 use Rattle.model.specs.declared.event.Item.TheVariants.{Index}
 use Rattle.history.specs.Stages.{At}
-use Rattle.lock_free_queues.specs.Queues.Goes.{Goes}
+use Rattle.history.specs.Passes.{Goes}
 use Rattle.lock_free_queues.specs.Queues.Overflowing.{token_view, HasOverflowed, pushes_told}
 use Rattle.lock_free_queues.specs.Queues.Told.{HasPublished, WasAtEnd, HasTakenFirst}
 use Rattle.lock_free_queues.proofs.Queues.Facts.{goes_over}

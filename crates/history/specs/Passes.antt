@@ -1,0 +1,40 @@
+-- What a call, a split and a join leave of what passes know, and what the whole share says.
+use Rattle.std.specs.Prelude.{◌≡◌, ◌⊎◌, ◌++◌, ℕ, None, [], sum_by}
+use Rattle.model.specs.declared.event.Event.{Event}
+use Rattle.model.specs.declared.turn.Kind.{Kind}
+use Rattle.model.specs.Coding.{Coding}
+use Rattle.lock_free_sp.specs.Shares.{half_of, both_of, IsAll}
+use Rattle.history.specs.declared.view.View.{View}
+use Rattle.history.specs.History.{IsBeginning, IsHistory}
+
+module _ {T : Type 0} where
+  -- with the whole share, the history is what it made: every measure of the events says so
+  abbrev pub MissesNothing : View T → Type 0
+  MissesNothing v = IsAll v.share → (f : Event T → ℕ) → sum_by f v.seen ≡ sum_by f v.made
+
+  -- the share as it was, and a history of this kind that goes on from what was seen, whole for who has the whole share
+  pub record Goes (code : Coding T) (kind : Kind) (capacity : ℕ) (old new : View T) : Type 0 where
+    pub share : new.share ≡ old.share
+    pub since : IsBeginning old.seen new.seen
+    pub history : IsHistory code kind capacity new.seen
+    pub all : MissesNothing new
+
+  -- a new pass has seen the same, made nothing and is no party yet; the share is halved
+  pub record HasSplit (old left right : View T) : Type 0 where
+    pub seen : left.seen ≡ old.seen
+    pub made : left.made ≡ old.made
+    pub party : left.party ≡ old.party
+    pub right_seen : right.seen ≡ old.seen
+    pub right_made : right.made ≡ []
+    pub right_party : right.party ≡ None
+    pub share : left.share ≡ half_of old.share
+    pub right_share : right.share ≡ half_of old.share
+
+  -- what both had seen are beginnings of one history; who has the whole share then had seen all of it
+  pub record HasJoined (mine theirs new : View T) : Type 0 where
+    pub made : new.made ≡ mine.made ++ theirs.made
+    pub party : new.party ≡ mine.party
+    pub share : new.share ≡ both_of mine.share theirs.share
+    pub ours : IsBeginning mine.seen new.seen
+    pub others : IsBeginning theirs.seen new.seen
+    pub whole : IsAll new.share → (new.seen ≡ mine.seen) ⊎ (new.seen ≡ theirs.seen)
