@@ -11,8 +11,8 @@ pub mod OverPushes
 pub mod OverEnded
 pub mod Filled
 pub mod Single
+pub mod Roles
 pub mod Opened
-pub mod Alone
 pub mod OverOpened
 pub mod Positions
 pub mod Reads
