@@ -14,6 +14,7 @@ pub mod Single
 pub mod Roles
 pub mod Opened
 pub mod OverOpened
+pub mod Numbers
 pub mod Positions
 pub mod Reads
 pub mod Cells
