@@ -1,4 +1,4 @@
--- A machine that one party has to itself: what it is after the calls of that party, from its opening on.
+-- A machine that one party has to itself, of any kind: what it is after the calls of that party, from its opening on.
 use Rattle.std.proofs.Common.{◌≡◌, ◌≢◌, ℕ, zero, suc, ◌+◌, ◌<◌, Option, Some, None, List, [], ◌∷◌, ◌++◌, slice_index, slice_set, refl, sym, ap, subst, ◌∙◌, append-nil, arith, sum_by}
 use mathlib.Core.Option.{some, some-injective, some-ne-none}
 use lib.ListN.{get_elem?}
@@ -20,7 +20,7 @@ use Rattle.model.specs.Families.{opening_of, want_of, after_of, begin_rows}
 use Rattle.model.specs.Rows.{first_row}
 use Rattle.model.specs.Step.{answer_in}
 use Rattle.model.specs.Turns.{after_turn, events_of, ending_of}
-use Rattle.model.specs.World.{Trace, capacity_error}
+use Rattle.model.specs.World.{World, Trace, capacity_error}
 use Rattle.model.specs.World as worlds
 use Rattle.model.proofs.Reached.{reached_on_opening}
 use Rattle.queue_laws.proofs.Queues.Knows.{IsFreshCall}
@@ -34,16 +34,13 @@ use Rattle.history.specs.Views.{first_view}
 use Rattle.history.proofs.Calls.{call_then}
 use Rattle.history.proofs.Known.{known_alone, by_mine, AreOf}
 use Rattle.history.proofs.Steps.{settle}
-use Rattle.history.proofs.Turns.{KindLaws, MachineLaws, machine_laws, Between, begun, begun_at, gone, goes_to, told, own_told}
+use Rattle.history.proofs.Turns.{MachineLaws, Between, begun, begun_at, gone, goes_to, told, own_told}
 
 -- each party is its own seat
 abbrev pub same_seat : ℕ → ℕ
 same_seat p = p
 
-module _ {T : Type 0} (code : Coding T) (kind : Kind) (capacity size : ℕ) (effects : ℕ → Flight T → ℕ → List (Event T)) (laws : KindLaws code kind capacity size effects) where
-  all_laws : MachineLaws code kind capacity size (λ w. effects)
-  all_laws = machine_laws code kind capacity size effects laws
-
+module _ {T : Type 0} (code : Coding T) (kind : Kind) (capacity size : ℕ) (effects : World T → ℕ → Flight T → ℕ → List (Event T)) (laws : MachineLaws code kind capacity size effects) where
   abbrev alone : List ℕ → State (Unit {0}) (View T)
   alone words = record { words = words; homes = []; views = first_view capacity ∷ [] }
 
@@ -103,9 +100,9 @@ module _ {T : Type 0} (code : Coding T) (kind : Kind) (capacity size : ℕ) (eff
       let may : first_row (begin_rows kind capacity h.u.world.kept 0 call.start) ≡ None = subst (λ p. first_row (begin_rows kind capacity h.u.world.kept p call.start) ≡ None) is s.may in
       record {
         u = after_turn h.u (Begin 0 call.start);
-        between = begun code kind capacity size (λ w. effects) all_laws same_seat (alone words) 0 0 es h.u h.between call.start (call.flight c m) h.there s.first may;
+        between = begun code kind capacity size effects laws same_seat (alone words) 0 0 es h.u h.between call.start (call.flight c m) h.there s.first may;
         events = ap (λ xs. xs ++ Begun 0 call.start ∷ []) h.events;
-        there = begun_at code kind capacity size (λ w. effects) all_laws same_seat (alone words) 0 0 es h.u h.between call.start (call.flight c m) h.there s.first may;
+        there = begun_at code kind capacity size effects laws same_seat (alone words) 0 0 es h.u h.between call.start (call.flight c m) h.there s.first may;
       }
 
   -- ---- it takes a step
@@ -117,32 +114,35 @@ module _ {T : Type 0} (code : Coding T) (kind : Kind) (capacity size : ℕ) (eff
     abbrev comes : After (Flight T) (Answer T)
     comes = after_of code flight found
 
-    abbrev wrote : List (Event T)
-    wrote = effects 0 flight found ++ ending_of 0 start (answer_in comes)
+    -- it wrote this, all of it its own
+    module _ (own : List (Event T)) (is : effects h.u.world 0 flight found ≡ own) (only : AreOf 0 own) where
+      abbrev wrote : List (Event T)
+      wrote = own ++ ending_of 0 start (answer_in comes)
 
-    took : Here (slice_set words a.word (written a.op found)) (es ++ wrote) (call_then start comes)
-    took =
-        let tells : events_of h.u.world (Next 0) ≡ wrote = told code kind capacity size (λ w. effects) all_laws same_seat (alone words) 0 0 es h.u h.between start flight (Some a) low h.there asks finds in
-        let mine : AreOf 0 (effects 0 flight found) = (laws.goes_on h.u h.between.run 0 start flight h.there).own found in
-        let own : events_by 0 (events_of h.u.world (Next 0)) ≡ wrote = own_told code kind capacity size (λ w. effects) all_laws same_seat (alone words) 0 0 es h.u h.between start flight (Some a) low h.there asks finds ∙ ap (λ zs. zs ++ ending_of 0 start (answer_in comes)) (by_mine 0 (effects 0 flight found) mine) in
-        record {
-          u = after_turn h.u (Next 0);
-          between = subst (λ zs. Between code kind capacity same_seat (alone (slice_set words a.word (written a.op found))) 0 0 (es ++ zs) (after_turn h.u (Next 0))) own (gone code kind capacity size (λ w. effects) all_laws same_seat (alone words) 0 0 es h.u h.between start flight (Some a) low h.there asks finds);
-          events = ap (λ xs. xs ++ events_of h.u.world (Next 0)) h.events ∙ ap (λ zs. es ++ zs) tells;
-          there = goes_to code kind capacity size (λ w. effects) all_laws same_seat (alone words) 0 0 es h.u h.between start flight (Some a) low h.there asks finds;
-        }
+      took : Here (slice_set words a.word (written a.op found)) (es ++ wrote) (call_then start comes)
+      took =
+          let tells : events_of h.u.world (Next 0) ≡ wrote = told code kind capacity size effects laws same_seat (alone words) 0 0 es h.u h.between start flight (Some a) low h.there asks finds ∙ ap (λ zs. zs ++ ending_of 0 start (answer_in comes)) is in
+          let mine : events_by 0 (effects h.u.world 0 flight found) ≡ own = ap (events_by 0) is ∙ by_mine 0 own only in
+          let told_own : events_by 0 (events_of h.u.world (Next 0)) ≡ wrote = own_told code kind capacity size effects laws same_seat (alone words) 0 0 es h.u h.between start flight (Some a) low h.there asks finds ∙ ap (λ zs. zs ++ ending_of 0 start (answer_in comes)) mine in
+          record {
+            u = after_turn h.u (Next 0);
+            between = subst (λ zs. Between code kind capacity same_seat (alone (slice_set words a.word (written a.op found))) 0 0 (es ++ zs) (after_turn h.u (Next 0))) told_own (gone code kind capacity size effects laws same_seat (alone words) 0 0 es h.u h.between start flight (Some a) low h.there asks finds);
+            events = ap (λ xs. xs ++ events_of h.u.world (Next 0)) h.events ∙ ap (λ zs. es ++ zs) tells;
+            there = goes_to code kind capacity size effects laws same_seat (alone words) 0 0 es h.u h.between start flight (Some a) low h.there asks finds;
+          }
 
     -- it goes on, and tells nothing
-    pub goes_on : (words' : List ℕ) (next : Flight T) → slice_set words a.word (written a.op found) ≡ words' → comes ≡ GoOn next → effects 0 flight found ≡ [] → Here words' es (Some (start, next))
+    pub goes_on : (words' : List ℕ) (next : Flight T) → slice_set words a.word (written a.op found) ≡ words' → comes ≡ GoOn next → effects h.u.world 0 flight found ≡ [] → Here words' es (Some (start, next))
     goes_on words' next same is none =
-        let quiet : es ++ wrote ≡ es = ap (λ zs. es ++ (zs ++ ending_of 0 start (answer_in comes))) none ∙ (ap (λ (r : After (Flight T) (Answer T)). es ++ ending_of 0 start (answer_in r)) is ∙ append-nil es) in
-        subst (λ o. Here words' es o) (ap (call_then start) is) (subst (λ zs. Here words' zs (call_then start comes)) quiet (subst (λ ws. Here ws (es ++ wrote) (call_then start comes)) same took))
+        let quiet : es ++ wrote [] none tt ≡ es = ap (λ (r : After (Flight T) (Answer T)). es ++ ending_of 0 start (answer_in r)) is ∙ append-nil es in
+        subst (λ o. Here words' es o) (ap (call_then start) is) (subst (λ zs. Here words' zs (call_then start comes)) quiet (subst (λ ws. Here ws (es ++ wrote [] none tt) (call_then start comes)) same (took [] none tt)))
 
-    -- it ends, and tells this
-    pub ends : (words' : List ℕ) (answer : Answer T) (last : List (Event T)) → slice_set words a.word (written a.op found) ≡ words' → comes ≡ Done answer → effects 0 flight found ++ ending_of 0 start (Some answer) ≡ last → Here words' (es ++ last) None
-    ends words' answer last same is tells =
-        let all : wrote ≡ last = ap (λ (r : After (Flight T) (Answer T)). effects 0 flight found ++ ending_of 0 start (answer_in r)) is ∙ tells in
-        subst (λ o. Here words' (es ++ last) o) (ap (call_then start) is) (subst (λ zs. Here words' (es ++ zs) (call_then start comes)) all (subst (λ ws. Here ws (es ++ wrote) (call_then start comes)) same took))
+    -- it ends
+    pub ends : (words' : List ℕ) (answer : Answer T) (own : List (Event T)) → slice_set words a.word (written a.op found) ≡ words' → comes ≡ Done answer → effects h.u.world 0 flight found ≡ own → AreOf 0 own → Here words' (es ++ (own ++ ending_of 0 start (Some answer))) None
+    ends words' answer own same is wrote_own only =
+        let last : List (Event T) = own ++ ending_of 0 start (Some answer) in
+        let all : wrote own wrote_own only ≡ last = ap (λ (r : After (Flight T) (Answer T)). own ++ ending_of 0 start (answer_in r)) is in
+        subst (λ o. Here words' (es ++ last) o) (ap (call_then start) is) (subst (λ zs. Here words' (es ++ zs) (call_then start comes)) all (subst (λ ws. Here ws (es ++ wrote own wrote_own only) (call_then start comes)) same (took own wrote_own only)))
 
   -- ---- a table opens so
 

@@ -19,6 +19,7 @@ use Rattle.model.specs.declared.families.atomic.AtomicStart.TheVariants.{Acquire
 use Rattle.model.specs.declared.turn.Kind.TheVariants as kinds
 use Rattle.model.specs.Coding.{Coding, IsCoding}
 use Rattle.model.specs.Families.Atomic.Calls.{producer_word}
+use Rattle.model.specs.World.{World}
 use Rattle.atomic_laws.proofs.Core as core
 use Rattle.atomic_laws.proofs.Core.{cell_within}
 use Rattle.atomic_laws.proofs.Stores.{asked_place}
@@ -32,6 +33,7 @@ use Rattle.history.proofs.Alone.{same_seat}
 use Rattle.history.proofs.Calls.{set_left}
 use Rattle.history.proofs.QueueCalls.{holds_it}
 use Rattle.history.proofs.Rooms.{replicate_both}
+use Rattle.history.proofs.Turns.{MachineLaws, machine_laws}
 use Rattle.history.proofs.Values.{value_effects, value_owes, plain_starts, producer_starts}
 
 -- ---- lists of words
@@ -91,14 +93,20 @@ module _ {T : Type 0} (code : Coding T) (law : IsCoding code) (value : T) where
   abbrev ws : List ℕ
   ws = code.words_of value
 
+  abbrev effects : World T → ℕ → Flight T → ℕ → List (Event T)
+  effects w = value_effects code
+
+  laws : MachineLaws code kinds.Atomic 1 (2 + code.size * 2) effects
+  laws = machine_laws code kinds.Atomic 1 (2 + code.size * 2) (value_effects code) (value_owes code 1)
+
   abbrev Here : List ℕ → List (Event T) → Option (Start T × Flight T) → Type 0
-  Here = alone.Here code kinds.Atomic 1 (2 + code.size * 2) (value_effects code) (value_owes code 1)
+  Here = alone.Here code kinds.Atomic 1 (2 + code.size * 2) effects laws
 
   abbrev maker : List (Event T) → View T
-  maker = alone.maker code kinds.Atomic 1 (2 + code.size * 2) (value_effects code) (value_owes code 1)
+  maker = alone.maker code kinds.Atomic 1 (2 + code.size * 2) effects laws
 
   sums : (words : List ℕ) (es : List (Event T)) → (h : Here words es None) → (f : Event T → ℕ) → sum_by f es ≡ sum_by (owned same_seat 0 f) h.u.events
-  sums words es h = alone.sums code kinds.Atomic 1 (2 + code.size * 2) (value_effects code) (value_owes code 1) words es None h
+  sums words es h = alone.sums code kinds.Atomic 1 (2 + code.size * 2) effects laws words es None h
 
   -- the version, the role, and the two cells
   abbrev words_at : ℕ → ℕ → List ℕ → List ℕ
@@ -144,12 +152,12 @@ module _ {T : Type 0} (code : Coding T) (law : IsCoding code) (value : T) where
     next : (es : List (Event T)) (at : ℕ) → at + 1 < code.size → Here (now at) es (Some (name, storing at)) → Here (now (suc at)) es (Some (name, storing (at + 1)))
     next es at more h =
         let t : nat_lt (at + 1) code.size ≡ true = grind (arith, nat_tests) in
-        alone.goes_on code kinds.Atomic 1 (2 + code.size * 2) (value_effects code) (value_owes code 1) (now at) es name (storing at) h (record { word = word_at cell at; op = ops.Store (get_or ws at 0) }) (word_low at (omega arith)) refl tt (now (suc at)) (storing (at + 1)) (put at (omega arith)) (rw t refl) (rw t refl)
+        alone.goes_on code kinds.Atomic 1 (2 + code.size * 2) effects laws (now at) es name (storing at) h (record { word = word_at cell at; op = ops.Store (get_or ws at 0) }) (word_low at (omega arith)) refl tt (now (suc at)) (storing (at + 1)) (put at (omega arith)) (rw t refl) (rw t refl)
 
     last : (es : List (Event T)) (at : ℕ) → at + 1 ≡ code.size → Here (now at) es (Some (name, storing at)) → Here (now (suc at)) es (Some (name, flight_at stores.TheVariants.AddsVersion))
     last es at all h =
         let t : nat_lt (at + 1) code.size ≡ false = grind (arith, nat_tests) in
-        alone.goes_on code kinds.Atomic 1 (2 + code.size * 2) (value_effects code) (value_owes code 1) (now at) es name (storing at) h (record { word = word_at cell at; op = ops.Store (get_or ws at 0) }) (word_low at (omega arith)) refl tt (now (suc at)) (flight_at stores.TheVariants.AddsVersion) (put at (omega arith)) (rw t refl) (rw t refl)
+        alone.goes_on code kinds.Atomic 1 (2 + code.size * 2) effects laws (now at) es name (storing at) h (record { word = word_at cell at; op = ops.Store (get_or ws at 0) }) (word_low at (omega arith)) refl tt (now (suc at)) (flight_at stores.TheVariants.AddsVersion) (put at (omega arith)) (rw t refl) (rw t refl)
 
     fills : (es : List (Event T)) (rest at : ℕ) → at + suc rest ≡ code.size → Here (now at) es (Some (name, storing at)) → Here (now code.size) es (Some (name, flight_at stores.TheVariants.AddsVersion))
     fills es zero at sum h = let same : suc at ≡ code.size = omega arith in subst (λ n. Here (now n) es (Some (name, flight_at stores.TheVariants.AddsVersion))) same (last es at (omega arith) h)
@@ -163,12 +171,12 @@ module _ {T : Type 0} (code : Coding T) (law : IsCoding code) (value : T) where
         let not_last : (v == 2 ^ 64 - 1) ≡ false = grind (arith, nat_tests) in
         let xs = es ++ Begun 0 name ∷ [] in
         let ended : List (Event T) = Acted 0 name (Truth true) ∷ Finished 0 name (Truth true) ∷ [] in
-        let a = alone.begins code kinds.Atomic 1 (2 + code.size * 2) (value_effects code) (value_owes code 1) (stores_value code value) first_store tt (now 0) es h
+        let a = alone.begins code kinds.Atomic 1 (2 + code.size * 2) effects laws (stores_value code value) first_store tt (now 0) es h
         (producer_starts code (maker es) (stores_value code value) (Store value) first_store tt refl (λ kept. refl) (λ o p. tt) (λ holder p is. holds_it holder p is) has h.u same_seat 0 h.between.run refl refl (sums (now 0) es h)) in
-        let b = alone.goes_on code kinds.Atomic 1 (2 + code.size * 2) (value_effects code) (value_owes code 1) (now 0) xs name (flight_at stores.TheVariants.LoadsVersion) a (record { word = 0; op = ops.Load }) (omega arith) refl small (now 0) (storing 0) refl (rw not_last refl) (rw not_last refl) in
+        let b = alone.goes_on code kinds.Atomic 1 (2 + code.size * 2) effects laws (now 0) xs name (flight_at stores.TheVariants.LoadsVersion) a (record { word = 0; op = ops.Load }) (omega arith) refl small (now 0) (storing 0) refl (rw not_last refl) (rw not_last refl) in
         let c = fills xs (code.size - 1) 0 (let some = law.some in omega arith) b in
         let one : (v + 1) % 2 ^ 64 ≡ v + 1 = omega arith in
-        let d = alone.ends code kinds.Atomic 1 (2 + code.size * 2) (value_effects code) (value_owes code 1) (now code.size) xs name (flight_at stores.TheVariants.AddsVersion) c (record { word = 0; op = ops.Add 1 }) (omega arith) refl tt (words_at (v + 1) 0 (cells code.size)) (Truth true) ended (ap (λ n. words_at n 0 (cells code.size)) one) refl refl in
+        let d = alone.ends code kinds.Atomic 1 (2 + code.size * 2) effects laws (now code.size) xs name (flight_at stores.TheVariants.AddsVersion) c (record { word = 0; op = ops.Add 1 }) (omega arith) refl tt (words_at (v + 1) 0 (cells code.size)) (Truth true) (Acted 0 name (Truth true) ∷ []) (ap (λ n. words_at n 0 (cells code.size)) one) refl refl (refl, tt) in
         let whole : mix code.size ws x ≡ ws = mix_all code.size ws x (law.sized value) x_long in
         subst (λ zs. Here (words_at (v + 1) 0 (two (v % 2) zs y)) (es ++ stored_once value) None) whole
         (subst (λ zs. Here (words_at (v + 1) 0 (cells code.size)) zs None) (append_assoc es (Begun 0 name ∷ []) ended) d)
@@ -195,10 +203,10 @@ module _ {T : Type 0} (code : Coding T) (law : IsCoding code) (value : T) where
       let all : code.size + code.size ≡ code.size * 2 = omega arith in
       let cells : replicate (code.size * 2) 0 ≡ zeros ++ zeros = sym (replicate_both code.size code.size 0 ∙ ap (λ n. replicate n 0) all) in
       let start = Atomic AcquireProducer in
-      let h : Here (words_at 1 1 (zeros ++ zeros)) [] None = subst (λ zs. Here (words_at 1 1 zs) [] None) cells (alone.opens_here code kinds.Atomic 1 (2 + code.size * 2) (value_effects code) (value_owes code 1) law refl) in
-      let a = alone.begins code kinds.Atomic 1 (2 + code.size * 2) (value_effects code) (value_owes code 1) acquires_producer (record { word = producer_word }) tt (words_at 1 1 (zeros ++ zeros)) [] h
+      let h : Here (words_at 1 1 (zeros ++ zeros)) [] None = subst (λ zs. Here (words_at 1 1 zs) [] None) cells (alone.opens_here code kinds.Atomic 1 (2 + code.size * 2) effects laws law refl) in
+      let a = alone.begins code kinds.Atomic 1 (2 + code.size * 2) effects laws acquires_producer (record { word = producer_word }) tt (words_at 1 1 (zeros ++ zeros)) [] h
       (plain_starts code (maker []) acquires_producer AcquireProducer (record { word = producer_word }) tt refl (λ kept. refl) (λ o p is. is) (λ holder p. refl) h.u same_seat 0 h.between.run refl refl (sums (words_at 1 1 (zeros ++ zeros)) [] h)) in
-      alone.ends code kinds.Atomic 1 (2 + code.size * 2) (value_effects code) (value_owes code 1) (words_at 1 1 (zeros ++ zeros)) (Begun 0 start ∷ []) start (acquires_producer.flight (record { word = producer_word }) tt) a (record { word = producer_word; op = ops.Exchange 1 0 }) (omega arith) refl tt (words_at 1 0 (zeros ++ zeros)) (Truth true) (Finished 0 start (Truth true) ∷ []) refl refl refl
+      alone.ends code kinds.Atomic 1 (2 + code.size * 2) effects laws (words_at 1 1 (zeros ++ zeros)) (Begun 0 start ∷ []) start (acquires_producer.flight (record { word = producer_word }) tt) a (record { word = producer_word; op = ops.Exchange 1 0 }) (omega arith) refl tt (words_at 1 0 (zeros ++ zeros)) (Truth true) [] refl refl refl tt
 
   once : Here (words_at 2 0 (opened_cells code value 1)) (stored_times value 1) None
   once = stores_it 1 (omega arith) zeros zeros zeros_long zeros_long (stored_times value 0) (has_it 0) taken
@@ -222,9 +230,9 @@ module _ {T : Type 0} (code : Coding T) (law : IsCoding code) (value : T) where
       let ws' = words_at (n + 1) 0 (opened_cells code value n) in
       let es = stored_times value n in
       let h = stored n low in
-      let a = alone.begins code kinds.Atomic 1 (2 + code.size * 2) (value_effects code) (value_owes code 1) releases_producer (record { word = producer_word }) tt ws' es h
+      let a = alone.begins code kinds.Atomic 1 (2 + code.size * 2) effects laws releases_producer (record { word = producer_word }) tt ws' es h
       (producer_starts code (maker es) releases_producer ReleaseProducer (record { word = producer_word }) tt refl (λ kept. refl) (λ o p. tt) (λ holder p is. holds_it holder p is) (has_it n) h.u same_seat 0 h.between.run refl refl (sums ws' es h)) in
-      let b = alone.ends code kinds.Atomic 1 (2 + code.size * 2) (value_effects code) (value_owes code 1) ws' (es ++ Begun 0 start ∷ []) start (releases_producer.flight (record { word = producer_word }) tt) a (record { word = producer_word; op = ops.Store 1 }) (omega arith) refl tt (words_at (n + 1) 1 (opened_cells code value n)) answers.Done (Finished 0 start answers.Done ∷ []) refl refl refl in
+      let b = alone.ends code kinds.Atomic 1 (2 + code.size * 2) effects laws ws' (es ++ Begun 0 start ∷ []) start (releases_producer.flight (record { word = producer_word }) tt) a (record { word = producer_word; op = ops.Store 1 }) (omega arith) refl tt (words_at (n + 1) 1 (opened_cells code value n)) answers.Done [] refl refl refl tt in
       subst (λ zs. Here (words_at (n + 1) 1 (opened_cells code value n)) zs None) (append_assoc es (Begun 0 start ∷ []) (Finished 0 start answers.Done ∷ [])) b
 
   few : (version : ℕ) → version < 2 ^ 64 → first_stores version < 2 ^ 64 - 1
@@ -238,4 +246,4 @@ module _ {T : Type 0} (code : Coding T) (law : IsCoding code) (value : T) where
   value_opens version low words same =
       let n = first_stores version in
       subst (λ zs. IsMachine code kinds.Atomic 1 (opening zs [] (opened_view value version))) (sym same)
-      (alone.opens_so code kinds.Atomic 1 (2 + code.size * 2) (value_effects code) (value_owes code 1) (words_at (n + 1) 1 (opened_cells code value n)) (opened value n) (given n (few version low)))
+      (alone.opens_so code kinds.Atomic 1 (2 + code.size * 2) effects laws (words_at (n + 1) 1 (opened_cells code value n)) (opened value n) (given n (few version low)))

@@ -11,9 +11,10 @@ pub mod OverPushes
 pub mod OverEnded
 pub mod Filled
 pub mod Single
+pub mod Roles
 pub mod Opened
-pub mod Alone
 pub mod OverOpened
+pub mod Numbers
 pub mod Positions
 pub mod Reads
 pub mod Cells

@@ -4,7 +4,7 @@ use Rattle.std.proofs.lemmas.Grind.{flat_map-append}
 use Rattle.std.specs.List.{flat_map}
 use Rattle.steps.specs.declared.queues.roles.Role.{Role}
 use Rattle.steps.specs.declared.queues.roles.Role.TheVariants.{Producer, Consumer}
-use Rattle.history.specs.Roles.{ByHolder, ByHolderOf, HasRole, marks, release_start}
+use Rattle.history.specs.Roles.{ByHolder, ByHolderOf, HasRole, marks, acquire_start, release_start}
 use Rattle.history.proofs.Holders.{history_by_holders, back_over_of, always_listed, IsListed, IsPlain, ArePlain}
 use Rattle.history.proofs.OverflowHolders.{history_by_producers, over_listed}
 use Rattle.model.specs.Families.Queues.Roles.{GrantsRight}
@@ -28,14 +28,14 @@ use Rattle.model.specs.Moments.{HeldOnce}
 use Rattle.model.specs.Reading.{Each}
 use Rattle.history.specs.declared.view.View.{View}
 use Rattle.history.specs.History.{IsHistory, Called, IsBeginning}
-use Rattle.history.specs.Queues.{length_start, counts_waiting, gives_role}
+use Rattle.history.specs.Queues.{length_start, counts_waiting, takes_role, gives_role}
 use Rattle.history.specs.Stages.{Calling, Since, opened, Ends, Over}
 use Rattle.history.specs.Views.{first_view, Looks}
 use Rattle.history.proofs.Drives.{called}
 use Rattle.history.proofs.Queues.{queue_goes_on}
 use Rattle.history.proofs.Roles.{role_by}
 use Rattle.lock_free_sp.specs.Shares.{IsAll}
-use Rattle.lock_free_queues.specs.Queues.Told.{HasPushed, HasPublished, HasTakenOut, WasFull, HasPopped, WasEmpty, HasMeasured, HasReleased, FoundNone}
+use Rattle.lock_free_queues.specs.Queues.Told.{HasPushed, HasPublished, HasTakenOut, WasFull, HasPopped, WasEmpty, HasMeasured, HasAcquired, HasReleased, FoundNone}
 use Rattle.model.specs.declared.event.Item.{Item}
 use Rattle.model.specs.declared.event.Item.TheVariants.{Value}
 use Rattle.model.specs.declared.turn.Kind.{Kind}
@@ -45,7 +45,7 @@ use Rattle.model.specs.Families.Queues.Reading.{producer_of}
 use Rattle.queue_laws.proofs.Queues.Invariant.{machine_kind}
 use Rattle.queue_laws.proofs.Ring.Kinds.{Ring, of_indices, of_values, kind_of}
 use Rattle.history.specs.Passes.{Goes}
-use Rattle.lock_free_queues.specs.Queues.Kinds.{NoneTaken, most_waiting}
+use Rattle.lock_free_queues.specs.Queues.Kinds.{NoneTaken, NoneMarked, most_waiting}
 use Rattle.lock_free_queues.specs.Queues.Told.{push_of, popped_item}
 use Rattle.lock_free_queues.proofs.Queues.Wrote.{held, each_left, first_wrote, listed, none_between}
 
@@ -55,6 +55,11 @@ use Rattle.lock_free_queues.proofs.Queues.Wrote.{held, each_left, first_wrote, l
 abbrev pub IsAlone : QueueKind → Role → Type 0
 IsAlone Overflow Consumer = ⊥
 IsAlone kd role = Unit {0}
+
+pushes_alone : (kd : QueueKind) → IsAlone kd Producer
+pushes_alone IndexQueue = tt
+pushes_alone Overflow = tt
+pushes_alone Queue = tt
 
 module _ {T : Type 0} where
   of_one : (role : Role) (before : List (Event T)) (e : Event T) → ByHolder before e → ByHolderOf role before e
@@ -245,8 +250,10 @@ module _ {T : Type 0} (code : Coding T) (kd : QueueKind) where
         let told : TellsLength base.capacity xs last = subst (λ k. TellsLength k xs last) h.run.sized ((promised code kd base.capacity w.seen h).lengths xs [] last (sym h.is ∙ is)) in
         record { by = p; mine = ends.mine; called = it; before = xs; is = is; stood = stood_as which p base.capacity answer xs told }
 
-    pub few : (n : ℕ) (m : Unit {0}) → Ends code (machine_kind kd) (counts_waiting measures.Len base.capacity) base n m w → n ≤ most_waiting kd base.capacity
-    few n m ends =
+    pub few : (which : LengthOf) → which ≡ measures.Len → (n : ℕ) (m : Unit {0}) → Ends code (machine_kind kd) (counts_waiting which base.capacity) base n m w → n ≤ most_waiting kd base.capacity
+    few measures.IsEmpty is n m ends = absurd (cc)
+    few measures.IsFull is n m ends = absurd (cc)
+    few measures.Len is n m ends =
         let told = measured measures.Len n m ends in
         let stood = told.stood in
         let same : n ≡ length (waiting stood.part) = (let e = stood.held in cc) in
@@ -255,9 +262,12 @@ module _ {T : Type 0} (code : Coding T) (kd : QueueKind) where
         let low = (listed_always code base.capacity w.seen kd ends.history stood.part (stood.rest ++ last ∷ []) is).few in
         omega arith
 
+    pub acquired : (role : Role) (taken : Bool) (m : Unit {0}) → Ends code (machine_kind kd) (takes_role role) base taken m w → HasAcquired role taken base w
+    acquired role taken m ends = record { by = ends.party; mine = ends.mine; called = subst (λ es. Called ends.party (Queues (acquire_start role)) (Truth taken) es base w) ends.tells (called code (machine_kind kd) (takes_role role) base w taken m idle ends) }
+
     -- ---- releases: while the role was held, and as it was given back, nobody else wrote what its holder writes
 
-    released : (role : Role) (e m : Unit {0}) → Ends code (machine_kind kd) (gives_role role) base e m w → HasReleased role base w
+    pub released : (role : Role) (e m : Unit {0}) → Ends code (machine_kind kd) (gives_role role) base e m w → HasReleased role base w
     released role e m ends = record { by = ends.party; mine = ends.mine; called = subst (λ es. Called ends.party (Queues (release_start role)) Done es base w) ends.tells (called code (machine_kind kd) (gives_role role) base w e m idle ends) }
 
     left_after : (role : Role) → IsAlone kd role → IsHistory code (machine_kind kd) base.capacity w.seen → HasReleased role base w → flat_map (marks role) w.seen ≡ flat_map (marks role) base.seen
@@ -289,15 +299,14 @@ module _ {T : Type 0} (code : Coding T) (kd : QueueKind) where
 
 -- a producer's release; and a consumer's, where it says what was taken out
 module _ {T : Type 0} (code : Coding T) (base w : View T) (idle : base.going ≡ None) (e m : Unit {0}) where
-  pub left_published : (kd : QueueKind) → Ends code (machine_kind kd) (gives_role Producer) base e m w → published w.seen ≡ published base.seen
-  left_published IndexQueue ends = left_alone code IndexQueue base w idle Producer tt e m ends
-  left_published Overflow ends = left_alone code Overflow base w idle Producer tt e m ends
-  left_published Queue ends = left_alone code Queue base w idle Producer tt e m ends
-
-  pub left_taken : (kd : QueueKind) → Ends code (machine_kind kd) (gives_role Consumer) base e m w → NoneTaken kd base w
+  left_taken : (kd : QueueKind) → Ends code (machine_kind kd) (gives_role Consumer) base e m w → NoneTaken kd base w
   left_taken IndexQueue ends = left_alone code IndexQueue base w idle Consumer tt e m ends
   left_taken Overflow ends = tt
   left_taken Queue ends = left_alone code Queue base w idle Consumer tt e m ends
+
+  pub left_marked : (kd : QueueKind) (role : Role) → Ends code (machine_kind kd) (gives_role role) base e m w → NoneMarked role kd base w
+  left_marked kd Producer ends = left_alone code kd base w idle Producer (pushes_alone kd) e m ends
+  left_marked kd Consumer ends = left_taken kd ends
 
 -- ---- what each call leaves
 

@@ -1,5 +1,5 @@
 -- What a party has made that pushes and pops one item again and again: its roles.
-use Rattle.std.proofs.Common.{◌≡◌, true, ℕ, zero, suc, ◌+◌, ◌-◌, List, ◌++◌, sum_by, refl, subst, append_assoc, arith}
+use Rattle.std.proofs.Common.{◌≡◌, true, ℕ, zero, suc, List, ◌++◌, sum_by, refl, subst, append_assoc, arith}
 use Rattle.std.proofs.lemmas.List.Sums.{sum_by-append}
 use Rattle.steps.specs.declared.queues.roles.Role.{Role}
 use Rattle.steps.specs.declared.queues.roles.Role.TheVariants.{Producer, Consumer}

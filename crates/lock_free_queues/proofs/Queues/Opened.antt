@@ -6,31 +6,29 @@ use Rattle.std.proofs.Math.Nat.{mul-add-mod_self_left, mod-eq_of_lt, mul-le-mul_
 use Rattle.atomic_table.specs.Table.{opening}
 use Rattle.steps.specs.Queues.Ring.{first_push, first_pop, cell_word, word_at, after_position}
 use Rattle.steps.specs.declared.ask.Ask.{Ask}
-use Rattle.steps.specs.declared.ask.Op.TheVariants.{Load, Store, Exchange}
+use Rattle.steps.specs.declared.ask.Op.TheVariants.{Load, Store}
 use Rattle.steps.specs.Ask.{written}
 use Rattle.steps.specs.Copied.{value_in}
 use Rattle.steps.specs.declared.ask.Want.TheVariants as wants
-use Rattle.steps.specs.declared.ask.After.TheVariants.{Done}
 use Rattle.steps.specs.declared.queues.ring.Pop as pop_calls
 use Rattle.steps.specs.declared.queues.ring.PopStage as pops
 use Rattle.steps.specs.declared.queues.ring.Push as push_calls
 use Rattle.steps.specs.declared.queues.ring.PushStage as pushes
-use Rattle.steps.specs.declared.queues.roles.Role.{Role}
 use Rattle.steps.specs.declared.queues.roles.Role.TheVariants.{Producer, Consumer}
 use Rattle.model.specs.declared.event.Answer.{Answer}
-use Rattle.model.specs.declared.event.Answer.TheVariants as answers
 use Rattle.model.specs.declared.event.Answer.TheVariants.{Truth}
 use Rattle.model.specs.declared.event.Event.{Event}
-use Rattle.model.specs.declared.event.Event.TheVariants.{Begun, Finished}
+use Rattle.model.specs.declared.event.Event.TheVariants.{Begun}
 use Rattle.model.specs.declared.event.Item.{Item}
 use Rattle.model.specs.declared.event.Start.{Start}
 use Rattle.model.specs.declared.event.Start.TheVariants.{Queues}
 use Rattle.model.specs.declared.families.Flight.{Flight}
-use Rattle.model.specs.declared.families.queues.QueueStart.TheVariants.{ReleaseProducer, ReleaseConsumer, Pop}
+use Rattle.model.specs.declared.families.queues.QueueStart.TheVariants.{Pop}
 use Rattle.model.specs.declared.turn.Kind.{Kind}
 use Rattle.model.specs.Coding.{Coding, IsCoding}
 use Rattle.model.specs.Families.{want_of}
 use Rattle.model.specs.Families.Queues.Opening.{words_of_cell}
+use Rattle.model.specs.World.{World}
 use Rattle.queue_laws.proofs.Queues.Core as core
 use Rattle.queue_laws.proofs.Queues.Core.{cell_within, take_all}
 use Rattle.queue_laws.proofs.Queues.Invariant.{machine_kind}
@@ -41,8 +39,7 @@ use Rattle.queue_laws.proofs.Ring.Kinds.{Ring, kind_of, Room, words_in, with_wor
 use Rattle.history.specs.declared.view.View.{View}
 use Rattle.history.specs.History.{IsMachine}
 use Rattle.history.specs.Known.{owned}
-use Rattle.history.specs.Queues.{takes_role, gives_role}
-use Rattle.history.specs.Roles.{HasRole, role_word, acquire_start, release_start}
+use Rattle.history.specs.Roles.{HasRole}
 use Rattle.history.specs.Stages.{Calling}
 use Rattle.history.specs.Views.{first_view}
 use Rattle.history.proofs.Alone as alone
@@ -50,15 +47,16 @@ use Rattle.history.proofs.Alone.{same_seat}
 use Rattle.history.proofs.Calls.{set_left}
 use Rattle.history.proofs.Passes.{set_same}
 use Rattle.history.proofs.QueueCalls.{holds_it}
-use Rattle.history.proofs.Queues.{queue_effects, ring_owes, plain_starts, role_starts}
-use Rattle.history.proofs.Turns.{KindLaws}
+use Rattle.history.proofs.Queues.{queue_effects, ring_owes, role_starts}
+use Rattle.history.proofs.Turns.{MachineLaws, machine_laws}
 use Rattle.history.proofs.ValueOpened.{mix, mix_step}
 use Rattle.lock_free_queues.specs.Queues.Told.{push_of, popped_item}
 use Rattle.lock_free_queues.specs.Queues.Opened.{pushed_once, popped_once, rounds, opened, position_at, opened_view, opened_with}
-use Rattle.lock_free_queues.proofs.Queues.Grants.{still_has, after_push, has_it, quiet_true}
+use Rattle.lock_free_queues.proofs.Queues.Grants.{after_push, has_it, quiet_true}
 use Rattle.lock_free_queues.proofs.Queues.Tests.{not_last, some_cells, not_full, one_apart, at_last, before_last, not_below, none_used}
 use Rattle.lock_free_queues.proofs.Queues.Filled.{filled, filled_length, filled_there, filled_again}
-use Rattle.lock_free_queues.proofs.Queues.Single.{fresh, pushing, popping, wide, push_named, push_lacks, push_wants, push_fresh, GoesOn, push_loads_write, push_loads_read, push_stores_cell, push_stores_last, push_ends, told_of_push, push_tells, pop_named, pop_wants, pop_fresh, pop_loads_read, pop_loads_write, pop_loads_cell, pop_loads_last, pop_ends, told_of_pop, pop_tells, opens_with, admits, acquire_named, release_named, acquire_lacks, release_lacks, wide_is, fresh_long}
+use Rattle.lock_free_queues.proofs.Queues.Roles.{QuietRoles, takes_both, gives_both}
+use Rattle.lock_free_queues.proofs.Queues.Single.{fresh, pushing, popping, push_named, push_lacks, push_wants, push_fresh, GoesOn, push_loads_write, push_loads_read, push_stores_cell, push_stores_last, push_ends, told_of_push, wrote_by_push, push_tells, pop_named, pop_wants, pop_fresh, pop_loads_read, pop_loads_write, pop_loads_cell, pop_loads_last, pop_ends, told_of_pop, wrote_by_pop, pop_tells, opens_with, admits, wide_is, fresh_long}
 
 -- ---- the calls of the one party
 
@@ -84,24 +82,27 @@ module _ {T : Type 0} (code : Coding T) (law : IsCoding code) (r : Ring) (v : Va
   abbrev kind : Kind
   kind = machine_kind (kind_of r)
 
-  abbrev owes : KindLaws code kind capacity (4 + size * capacity) (queue_effects code)
-  owes = ring_owes code capacity r
+  abbrev effects : World T → ℕ → Flight T → ℕ → List (Event T)
+  effects w = queue_effects code
+
+  owes : MachineLaws code kind capacity (4 + size * capacity) effects
+  owes = machine_laws code kind capacity (4 + size * capacity) (queue_effects code) (ring_owes code capacity r)
 
   abbrev Here : List ℕ → List (Event T) → Option (Start T × Flight T) → Type 0
-  Here = alone.Here code kind capacity (4 + size * capacity) (queue_effects code) owes
+  Here = alone.Here code kind capacity (4 + size * capacity) effects owes
 
   abbrev maker : List (Event T) → View T
-  maker = alone.maker code kind capacity (4 + size * capacity) (queue_effects code) owes
+  maker = alone.maker code kind capacity (4 + size * capacity) effects owes
 
   sums : (words : List ℕ) (es : List (Event T)) → (h : Here words es None) → (f : Event T → ℕ) → sum_by f es ≡ sum_by (owned same_seat 0 f) h.u.events
-  sums words es h = alone.sums code kind capacity (4 + size * capacity) (queue_effects code) owes words es None h
+  sums words es h = alone.sums code kind capacity (4 + size * capacity) effects owes words es None h
 
   -- the positions and the roles, and the cells
   abbrev words_at : ℕ → ℕ → ℕ → ℕ → List ℕ → List ℕ
   words_at write read producer consumer cells = write ∷ read ∷ producer ∷ consumer ∷ (cells ++ 0 ∷ [])
 
   starts : Here (words_at 0 0 1 1 (replicate (size * capacity) 0)) [] None
-  starts = subst (λ zs. Here (zs ++ 0 ∷ []) [] None) (opens_with code capacity r) (alone.opens_here code kind capacity (4 + size * capacity) (queue_effects code) owes law (admits code capacity r small))
+  starts = subst (λ zs. Here (zs ++ 0 ∷ []) [] None) (opens_with code capacity r) (alone.opens_here code kind capacity (4 + size * capacity) effects owes law (admits code capacity r small))
 
   -- the calls as those of a pass
   abbrev push_call : Calling T (push_calls.Push (Val T (kind_of r))) (Unit {0}) (Unit {0})
@@ -135,7 +136,7 @@ module _ {T : Type 0} (code : Coding T) (law : IsCoding code) (r : Ring) (v : Va
   -- a step that goes on
   step : (words : List ℕ) (es : List (Event T)) (start : Start T) (flight next : Flight T) (a : Ask) → Here words es (Some (start, flight)) → a.word < 4 + size * capacity → want_of code flight ≡ wants.Ask a → IsFreshCall (slice_index words a.word) flight → (words' : List ℕ)
       → slice_set words a.word (written a.op (slice_index words a.word)) ≡ words' → GoesOn code capacity flight next (slice_index words a.word) → Here words' es (Some (start, next))
-  step words es start flight next a h low asks finds words' same goes = alone.goes_on code kind capacity (4 + size * capacity) (queue_effects code) owes words es start flight h a low asks finds words' next same goes.comes goes.quiet
+  step words es start flight next a h low asks finds words' same goes = alone.goes_on code kind capacity (4 + size * capacity) effects owes words es start flight h a low asks finds words' next same goes.comes goes.quiet
 
   module _ (room : 0 < capacity) (n : ℕ) (below_end : n < 2 ^ 64 - 1) (es : List (Event T)) where
     none : (capacity == 0) ≡ false
@@ -193,11 +194,11 @@ module _ {T : Type 0} (code : Coding T) (law : IsCoding code) (r : Ring) (v : Va
       pushed : HasRole Producer es → Here (now 0) es None → Here (words_at (n + 1) n 0 0 (cells size)) (es ++ pushed_once (Truth true) it) None
       pushed has h =
           let xs = es ++ Begun 0 name ∷ [] in
-          let a = alone.begins code kind capacity (4 + size * capacity) (queue_effects code) owes push_call (first_push capacity) tt (now 0) es h (role_starts code (kind_of r) (maker es) push_call (push_of it) (first_push capacity) tt refl (λ kept. push_named code capacity r v kept) Producer (λ o p. tt) (λ roles p is. push_lacks code capacity r v roles p is) has h.u same_seat 0 h.between.run refl refl (sums (now 0) es h)) in
+          let a = alone.begins code kind capacity (4 + size * capacity) effects owes push_call (first_push capacity) tt (now 0) es h (role_starts code (kind_of r) (maker es) push_call (push_of it) (first_push capacity) tt refl (λ kept. push_named code capacity r v kept) Producer (λ o p. tt) (λ roles p is. push_lacks code capacity r v roles p is) has h.u same_seat 0 h.between.run refl refl (sums (now 0) es h)) in
           let b = step (now 0) xs name (pushing r v capacity pushes.TheVariants.LoadsWrite) (pushing r v capacity (pushes.TheVariants.LoadsRead n)) (record { word = 0; op = Load }) a (omega arith) (push_wants code capacity r v pushes.TheVariants.LoadsWrite) (push_fresh code capacity r v n pushes.TheVariants.LoadsWrite below_end) (now 0) refl (push_loads_write code capacity r v n (not_last n below_end)) in
           let c = step (now 0) xs name (pushing r v capacity (pushes.TheVariants.LoadsRead n)) (storing 0) (record { word = 1; op = Load }) b (omega arith) (push_wants code capacity r v (pushes.TheVariants.LoadsRead n)) (push_fresh code capacity r v n (pushes.TheVariants.LoadsRead n) tt) (now 0) refl (push_loads_read code capacity r v n none (not_full n capacity (omega arith) room)) in
           let d = fills xs (size - 1) 0 (let one = some in omega arith) c in
-          let e = alone.ends code kind capacity (4 + size * capacity) (queue_effects code) owes (now size) xs name (pushing r v capacity (pushes.TheVariants.StoresWrite n)) d (record { word = 0; op = Store (after_position n) }) (omega arith) (push_wants code capacity r v (pushes.TheVariants.StoresWrite n)) (push_fresh code capacity r v n (pushes.TheVariants.StoresWrite n) tt) (words_at (n + 1) n 0 0 (cells size)) (Truth true) (told_of_push code capacity it) (ap (λ k. words_at k n 0 0 (cells size)) next_is) (push_ends code capacity r v n n) (push_tells code capacity r v n n) in
+          let e = alone.ends code kind capacity (4 + size * capacity) effects owes (now size) xs name (pushing r v capacity (pushes.TheVariants.StoresWrite n)) d (record { word = 0; op = Store (after_position n) }) (omega arith) (push_wants code capacity r v (pushes.TheVariants.StoresWrite n)) (push_fresh code capacity r v n (pushes.TheVariants.StoresWrite n) tt) (words_at (n + 1) n 0 0 (cells size)) (Truth true) (wrote_by_push code capacity it) (ap (λ k. words_at k n 0 0 (cells size)) next_is) (push_ends code capacity r v n n) (push_tells code capacity r v n n) (refl, (refl, tt)) in
           subst (λ zs. Here (words_at (n + 1) n 0 0 (cells size)) zs None) (append_assoc es (Begun 0 name ∷ []) (told_of_push code capacity it)) e
 
     -- ---- the pop of what it pushed
@@ -266,41 +267,16 @@ module _ {T : Type 0} (code : Coding T) (law : IsCoding code) (r : Ring) (v : Va
       popped : HasRole Consumer es → Here then es None → Here (words_at (n + 1) (n + 1) 0 0 cells) (es ++ popped_once it) None
       popped role h =
           let xs = es ++ Begun 0 (Queues Pop) ∷ [] in
-          let a = alone.begins code kind capacity (4 + size * capacity) (queue_effects code) owes pop_call (first_pop capacity) (fresh r) then es h (role_starts code (kind_of r) (maker es) pop_call Pop (first_pop capacity) (fresh r) refl (λ kept. pop_named code capacity r kept) Consumer (λ o p. tt) (λ roles p is. holds_it roles.consumer p is) role h.u same_seat 0 h.between.run refl refl (sums then es h)) in
+          let a = alone.begins code kind capacity (4 + size * capacity) effects owes pop_call (first_pop capacity) (fresh r) then es h (role_starts code (kind_of r) (maker es) pop_call Pop (first_pop capacity) (fresh r) refl (λ kept. pop_named code capacity r kept) Consumer (λ o p. tt) (λ roles p is. holds_it roles.consumer p is) role h.u same_seat 0 h.between.run refl refl (sums then es h)) in
           let b = step then xs (Queues Pop) (popping r capacity pops.TheVariants.LoadsRead (room_at 0)) (popping r capacity (pops.TheVariants.LoadsWrite n) (room_at 0)) (record { word = 1; op = Load }) a (omega arith) (pop_wants code capacity r pops.TheVariants.LoadsRead (room_at 0)) (pop_fresh code capacity r n pops.TheVariants.LoadsRead (room_at 0)) then refl (pop_loads_read code capacity r n (room_at 0)) in
           let c = step then xs (Queues Pop) (popping r capacity (pops.TheVariants.LoadsWrite n) (room_at 0)) (loading 0) (record { word = 0; op = Load }) b (omega arith) (pop_wants code capacity r (pops.TheVariants.LoadsWrite n) (room_at 0)) (pop_fresh code capacity r (n + 1) (pops.TheVariants.LoadsWrite n) (room_at 0)) then refl (pop_loads_write code capacity r n (n + 1) (room_at 0) none (one_apart n)) in
           let d = loads xs (size - 1) 0 (let one = some in omega arith) c in
-          let e = alone.ends code kind capacity (4 + size * capacity) (queue_effects code) owes then xs (Queues Pop) last_of d (record { word = 1; op = Store (after_position n) }) (omega arith) (pop_wants code capacity r (pops.TheVariants.StoresRead n) (room_at size)) (pop_fresh code capacity r n (pops.TheVariants.StoresRead n) (room_at size)) (words_at (n + 1) (n + 1) 0 0 cells) (popped_item (Some it)) (told_of_pop code capacity it) (ap (λ k. words_at (n + 1) k 0 0 cells) next_is) (pop_ends code capacity r v n n (room_at size) reads_it) (pop_tells code capacity r v n n (room_at size) reads_it) in
+          let e = alone.ends code kind capacity (4 + size * capacity) effects owes then xs (Queues Pop) last_of d (record { word = 1; op = Store (after_position n) }) (omega arith) (pop_wants code capacity r (pops.TheVariants.StoresRead n) (room_at size)) (pop_fresh code capacity r n (pops.TheVariants.StoresRead n) (room_at size)) (words_at (n + 1) (n + 1) 0 0 cells) (popped_item (Some it)) (wrote_by_pop code capacity it) (ap (λ k. words_at (n + 1) k 0 0 cells) next_is) (pop_ends code capacity r v n n (room_at size) reads_it) (pop_tells code capacity r v n n (room_at size) reads_it) (refl, (refl, tt)) in
           subst (λ zs. Here (words_at (n + 1) (n + 1) 0 0 cells) zs None) (append_assoc es (Begun 0 (Queues Pop) ∷ []) (told_of_pop code capacity it)) e
 
-  -- ---- roles
-
-  module _ (role : Role) (words words' : List ℕ) (es : List (Event T)) (h : Here words es None) where
-    role_low : (q : Role) → role_word q < 4 + size * capacity
-    role_low Producer = omega arith
-    role_low Consumer = omega arith
-
-    abbrev acquired : List (Event T)
-    acquired = Begun 0 (Queues (acquire_start role)) ∷ Finished 0 (Queues (acquire_start role)) (Truth true) ∷ []
-
-    abbrev released : List (Event T)
-    released = Begun 0 (Queues (release_start role)) ∷ Finished 0 (Queues (release_start role)) answers.Done ∷ []
-
-    role_taken : slice_index words (role_word role) ≡ 1 → slice_set words (role_word role) 0 ≡ words' → Here words' (es ++ acquired) None
-    role_taken free same =
-        let start = Queues (acquire_start role) in
-        let xs = es ++ Begun 0 start ∷ [] in
-        let a = alone.begins code kind capacity (4 + size * capacity) (queue_effects code) owes (takes_role role) (record { word = role_word role }) tt words es h (plain_starts code (kind_of r) (maker es) (takes_role role) (acquire_start role) (record { word = role_word role }) tt refl (λ kept. acquire_named code capacity (kind_of r) role kept) (λ o p is. is) (λ roles p. acquire_lacks code capacity role roles p) h.u same_seat 0 h.between.run refl refl (sums words es h)) in
-        let b = alone.ends code kind capacity (4 + size * capacity) (queue_effects code) owes words xs start ((takes_role role).flight (record { word = role_word role }) tt) a (record { word = role_word role; op = Exchange 1 0 }) (role_low role) refl tt words' (Truth true) (Finished 0 start (Truth true) ∷ []) (ap (λ k. slice_set words (role_word role) (written (Exchange 1 0) k)) free ∙ same) (ap (λ k. Done (Truth (k == 1))) free) refl in
-        subst (λ zs. Here words' zs None) (append_assoc es (Begun 0 start ∷ []) (Finished 0 start (Truth true) ∷ [])) b
-
-    role_given : HasRole role es → slice_set words (role_word role) 1 ≡ words' → Here words' (es ++ released) None
-    role_given has same =
-        let start = Queues (release_start role) in
-        let xs = es ++ Begun 0 start ∷ [] in
-        let a = alone.begins code kind capacity (4 + size * capacity) (queue_effects code) owes (gives_role role) (record { word = role_word role }) tt words es h (role_starts code (kind_of r) (maker es) (gives_role role) (release_start role) (record { word = role_word role }) tt refl (λ kept. release_named code capacity (kind_of r) role kept) role (λ o p. tt) (λ roles p is. release_lacks code capacity role roles p is) has h.u same_seat 0 h.between.run refl refl (sums words es h)) in
-        let b = alone.ends code kind capacity (4 + size * capacity) (queue_effects code) owes words xs start ((gives_role role).flight (record { word = role_word role }) tt) a (record { word = role_word role; op = Store 1 }) (role_low role) refl tt words' answers.Done (Finished 0 start answers.Done ∷ []) same refl refl in
-        subst (λ zs. Here words' zs None) (append_assoc es (Begun 0 start ∷ []) (Finished 0 start answers.Done ∷ [])) b
+  quiet_roles : QuietRoles effects
+  quiet_roles Producer = (λ w n. refl, λ w n. refl)
+  quiet_roles Consumer = (λ w n. refl, λ w n. refl)
 
   -- ---- all of it
 
@@ -321,11 +297,8 @@ module _ {T : Type 0} (code : Coding T) (law : IsCoding code) (r : Ring) (v : Va
 
   driven : (n : ℕ) → 0 < capacity → n < 2 ^ 64 → Here (words_at n n 0 0 (cells_at n)) (rounds (Truth true) it n) None
   driven zero room low =
-      let zs : List ℕ = replicate (size * capacity) 0 in
-      let nothing = none_used size capacity in
-      let a = role_taken Producer (words_at 0 0 1 1 zs) (words_at 0 0 0 1 zs) [] starts refl refl in
-      let b = role_taken Consumer (words_at 0 0 0 1 zs) (words_at 0 0 0 0 zs) (acquired Producer (words_at 0 0 1 1 zs) (words_at 0 0 0 1 zs) [] starts) a refl refl in
-      subst (λ m. Here (words_at 0 0 0 0 (filled ws size capacity m)) (rounds (Truth true) it zero) None) (sym nothing) b
+      let a = takes_both code (kind_of r) capacity (4 + size * capacity) effects owes (omega arith) quiet_roles 0 0 (replicate (size * capacity) 0 ++ 0 ∷ []) starts in
+      subst (λ m. Here (words_at 0 0 0 0 (filled ws size capacity m)) (rounds (Truth true) it zero) None) (sym (none_used size capacity)) a
   driven (suc n) room low =
       let h = driven n room (omega arith) in
       ⊎_elim (λ (early : n < capacity).
@@ -354,25 +327,15 @@ module _ {T : Type 0} (code : Coding T) (law : IsCoding code) (r : Ring) (v : Va
       (subst (λ m. Here (words_at n n 0 0 (filled ws size capacity (size * m))) (rounds (Truth true) it n) None) all h)))
       (cases_lt n capacity)
 
-  abbrev gave_producer : List (Event T)
-  gave_producer = Begun 0 (Queues ReleaseProducer) ∷ Finished 0 (Queues ReleaseProducer) answers.Done ∷ []
-
-  abbrev gave_consumer : List (Event T)
-  gave_consumer = Begun 0 (Queues ReleaseConsumer) ∷ Finished 0 (Queues ReleaseConsumer) answers.Done ∷ []
-
   opens_at : (n : ℕ) → 0 < capacity → n < 2 ^ 64 → IsMachine code kind capacity (opening (words_at n n 1 1 (cells_at n)) [] (maker (opened (Truth true) it n)))
   opens_at zero room low =
       let nothing = none_used size capacity in
       subst (λ m. IsMachine code kind capacity (opening (words_at 0 0 1 1 (filled ws size capacity m)) [] (maker []))) (sym nothing)
-      (alone.opens_so code kind capacity (4 + size * capacity) (queue_effects code) owes (words_at 0 0 1 1 (replicate (size * capacity) 0)) [] starts)
+      (alone.opens_so code kind capacity (4 + size * capacity) effects owes (words_at 0 0 1 1 (replicate (size * capacity) 0)) [] starts)
   opens_at (suc n) room low =
-      let es = rounds (Truth true) it (suc n) in
-      let zs = cells_at (suc n) in
-      let at : ℕ → ℕ → List ℕ = λ producer consumer. words_at (suc n) (suc n) producer consumer zs in
-      let a = role_given Producer (at 0 0) (at 1 0) es (driven (suc n) room low) (has_it (Truth true) quiet_true it (suc n) Producer) refl in
-      let b = role_given Consumer (at 1 0) (at 1 1) (es ++ gave_producer) a (still_has Consumer es gave_producer refl refl (has_it (Truth true) quiet_true it (suc n) Consumer)) refl in
-      let all : (es ++ gave_producer) ++ gave_consumer ≡ opened (Truth true) it (suc n) = append_assoc es gave_producer gave_consumer in
-      alone.opens_so code kind capacity (4 + size * capacity) (queue_effects code) owes (at 1 1) (opened (Truth true) it (suc n)) (subst (λ ys. Here (at 1 1) ys None) all b)
+      let k = suc n in
+      alone.opens_so code kind capacity (4 + size * capacity) effects owes (words_at k k 1 1 (cells_at k)) (opened (Truth true) it k)
+      (gives_both code (kind_of r) capacity (4 + size * capacity) effects owes (omega arith) quiet_roles k k (cells_at k ++ 0 ∷ []) (rounds (Truth true) it k) (has_it (Truth true) quiet_true it k) (driven k room low))
 
   -- a queue opens so, at any position
   pub queue_opens : (position : ℕ) → position < 2 ^ 64 → (words : List ℕ)
@@ -387,7 +350,7 @@ module _ {T : Type 0} (code : Coding T) (law : IsCoding code) (r : Ring) (v : Va
           let start : position_at capacity position ≡ 0 = ap (λ c. position_at c position) (sym e) in
           subst (λ p. IsMachine code kind capacity (opening (words_at p p 1 1 (cells_at position)) [] (maker (opened (Truth true) it p)))) (sym start)
           (subst (λ m. IsMachine code kind capacity (opening (words_at 0 0 1 1 (filled ws size capacity m)) [] (maker []))) (sym nothing)
-          (alone.opens_so code kind capacity (4 + size * capacity) (queue_effects code) owes (words_at 0 0 1 1 (replicate (size * capacity) 0)) [] starts))
+          (alone.opens_so code kind capacity (4 + size * capacity) effects owes (words_at 0 0 1 1 (replicate (size * capacity) 0)) [] starts))
       go (suc less) e =
           let start : position_at capacity position ≡ position = ap (λ c. position_at c position) (sym e) in
           subst (λ p. IsMachine code kind capacity (opening (words_at p p 1 1 (cells_at position)) [] (maker (opened (Truth true) it p)))) (sym start) (opens_at position (omega arith) low)

@@ -25,7 +25,7 @@ use Rattle.model.specs.declared.event.Start.TheVariants.{Queues}
 use Rattle.model.specs.declared.families.Flight as flights
 use Rattle.model.specs.declared.families.Flight.{Flight}
 use Rattle.model.specs.declared.families.queues.QueueKind.TheVariants.{Overflow}
-use Rattle.model.specs.declared.families.queues.QueueStart.TheVariants.{ReleaseProducer, ReleaseConsumer, PushIndex, Pop}
+use Rattle.model.specs.declared.families.queues.QueueStart.TheVariants.{PushIndex, Pop}
 use Rattle.model.specs.declared.families.queues.calls.OverflowCall as overflows
 use Rattle.model.specs.declared.families.queues.calls.QueueFlight as flying
 use Rattle.model.specs.declared.turn.Kind.TheVariants as kinds
@@ -40,18 +40,17 @@ use Rattle.history.specs.declared.view.View.{View}
 use Rattle.history.specs.History.{IsMachine, call_in}
 use Rattle.history.specs.Known.{owned}
 use Rattle.history.specs.Overflow.{pushes_over, pops_over}
-use Rattle.history.specs.Queues.{takes_role, gives_role}
-use Rattle.history.specs.Roles.{HasRole, role_word, acquire_start, release_start}
+use Rattle.history.specs.Roles.{HasRole}
+use Rattle.history.proofs.Alone as alone
 use Rattle.history.proofs.Alone.{same_seat}
 use Rattle.history.proofs.Calls.{get_left}
 use Rattle.history.proofs.Overflows.{over_effects, overflow_owes, beside_waits}
 use Rattle.history.proofs.Passes.{set_same}
 use Rattle.history.proofs.QueueCalls.{holds_it}
-use Rattle.history.proofs.Queues.{plain_starts, role_starts, sound_of}
+use Rattle.history.proofs.Queues.{role_starts, sound_of}
 use Rattle.lock_free_queues.specs.Queues.Opened.{pushed_once, popped_once, rounds, opened, position_at, over_opened_view}
-use Rattle.lock_free_queues.proofs.Queues.Alone as alone
-use Rattle.lock_free_queues.proofs.Queues.Grants.{still_has, after_push, has_it, quiet_none}
-use Rattle.lock_free_queues.proofs.Queues.Single.{acquire_named, release_named, acquire_lacks, release_lacks}
+use Rattle.lock_free_queues.proofs.Queues.Grants.{after_push, has_it, quiet_none}
+use Rattle.lock_free_queues.proofs.Queues.Roles.{QuietRoles, takes_both, gives_both}
 use Rattle.lock_free_queues.proofs.Queues.Tests.{not_last, some_cells, not_full, one_apart}
 
 zero_at : (c k : ℕ) → get_or {A = ℕ} (replicate c 0) k 0 ≡ 0
@@ -148,6 +147,10 @@ module _ {T : Type 0} (code : Coding T) (law : IsCoding code) (capacity : ℕ) (
       let many : 1 * (capacity + 1) ≡ capacity + 1 = omega arith in
       subst (λ n. Here (0 ∷ 0 ∷ 1 ∷ 1 ∷ (replicate n 0 ++ 0 ∷ [])) [] None) many (alone.opens_here code kinds.Overflow capacity size over_effects (overflow_owes code capacity) law (rw (most, least) refl))
 
+  quiet_roles : QuietRoles {T = T} over_effects
+  quiet_roles Producer = (λ w n. refl, λ w n. refl)
+  quiet_roles Consumer = (λ w n. refl, λ w n. refl)
+
   -- ---- a step that goes on, and tells nothing
 
   step : (words : List ℕ) (es : List (Event T)) (start : Start T) (flight next : Flight T) (a : Ask) → Here words es (Some (start, flight)) → a.word < size → want_of code flight ≡ wants.Ask a → IsFreshCall (slice_index words a.word) flight → (words' : List ℕ)
@@ -192,8 +195,8 @@ module _ {T : Type 0} (code : Coding T) (law : IsCoding code) (capacity : ℕ) (
         let b = step (at n n 0 0) xs push_name (pushing capacity pushes.TheVariants.LoadsWrite) (pushing capacity (pushes.TheVariants.LoadsRead n)) (record { word = 0; op = Load }) a (omega arith) refl below_end (at n n 0 0) refl (push_loads_write code capacity n last) (λ w. refl) in
         let c = step (at n n 0 0) xs push_name (pushing capacity (pushes.TheVariants.LoadsRead n)) (pushing capacity (pushes.TheVariants.StoresCell n n)) (record { word = 1; op = Load }) b (omega arith) refl tt (at n n 0 0) refl refl (λ w. refl) in
         let d = step (at n n 0 0) xs push_name (pushing capacity (pushes.TheVariants.StoresCell n n)) (pushing capacity (pushes.TheVariants.StoresWrite n n)) (record { word = cell; op = Store 0 }) c cell_low refl tt (at n n 0 0) (zero_stays n n) refl (λ w. refl) in
-        let e = alone.ends code kinds.Overflow capacity size over_effects (overflow_owes code capacity) (at n n 0 0) xs push_name (pushing capacity (pushes.TheVariants.StoresWrite n n)) d (record { word = 0; op = Store (after_position n) }) (omega arith) refl tt (at (n + 1) n 0 0) answers.PoppedNone (Published 0 it ∷ Acted 0 push_name answers.PoppedNone ∷ []) told_of_push
-        (ap (λ k. at k n 0 0) next_is) (push_ends code capacity n apart) (push_tells code capacity n apart d.u.world) (refl, (refl, tt)) refl in
+        let e = alone.ends code kinds.Overflow capacity size over_effects (overflow_owes code capacity) (at n n 0 0) xs push_name (pushing capacity (pushes.TheVariants.StoresWrite n n)) d (record { word = 0; op = Store (after_position n) }) (omega arith) refl tt (at (n + 1) n 0 0) answers.PoppedNone (Published 0 it ∷ Acted 0 push_name answers.PoppedNone ∷ [])
+        (ap (λ k. at k n 0 0) next_is) (push_ends code capacity n apart) (push_tells code capacity n apart d.u.world) (refl, (refl, tt)) in
         subst (λ zs. Here (at (n + 1) n 0 0) zs None) (append_assoc es (Begun 0 push_name ∷ []) told_of_push) e
 
     -- ---- the pop of what it pushed
@@ -235,39 +238,9 @@ module _ {T : Type 0} (code : Coding T) (law : IsCoding code) (capacity : ℕ) (
         let c = step then xs pop_name (popping capacity (pops.TheVariants.LoadsWrite n)) (popping capacity (pops.TheVariants.LoadsCell n)) (record { word = 0; op = Load }) b (omega arith) refl tt then refl (pop_loads_write code capacity n (n + 1) apart) (pop_quiet code capacity n (n + 1) apart) in
         let d₀ = step then xs pop_name (popping capacity (pops.TheVariants.LoadsCell n)) (flights.TheVariants.Queues (flying.TheVariants.Overflow (overflows.TheVariants.Pop (record { call = at_pop (first_pop capacity) (pops.TheVariants.MovesRead n); given = tt; room = record { 0 = slice_index then cell } })))) (record { word = cell; op = Load }) c cell_low refl tt then (set_same then cell) refl (λ w. refl) in
         let d : Here then xs (Some (pop_name, popping capacity (pops.TheVariants.MovesRead n))) = subst (λ u. Here then xs (Some (pop_name, flights.TheVariants.Queues (flying.TheVariants.Overflow (overflows.TheVariants.Pop (record { call = at_pop (first_pop capacity) (pops.TheVariants.MovesRead n); given = tt; room = record { 0 = u } })))))) (zero_there (n + 1) n) d₀ in
-        let e = alone.ends code kinds.Overflow capacity size over_effects (overflow_owes code capacity) then xs pop_name (popping capacity (pops.TheVariants.MovesRead n)) d (record { word = 1; op = Exchange n (after_position n) }) (omega arith) refl tt (at (n + 1) (n + 1) 0 0) (answers.PoppedIndex 0) (HandedOut 0 it ∷ Acted 0 pop_name (answers.PoppedIndex 0) ∷ []) told_of_pop
-        (ap (λ k. at (n + 1) k 0 0) (moved_on n (after_position n) equal ∙ next_is)) (pop_ends code capacity n equal) (wrote_then xs d) (refl, (refl, tt)) refl in
+        let e = alone.ends code kinds.Overflow capacity size over_effects (overflow_owes code capacity) then xs pop_name (popping capacity (pops.TheVariants.MovesRead n)) d (record { word = 1; op = Exchange n (after_position n) }) (omega arith) refl tt (at (n + 1) (n + 1) 0 0) (answers.PoppedIndex 0) (HandedOut 0 it ∷ Acted 0 pop_name (answers.PoppedIndex 0) ∷ [])
+        (ap (λ k. at (n + 1) k 0 0) (moved_on n (after_position n) equal ∙ next_is)) (pop_ends code capacity n equal) (wrote_then xs d) (refl, (refl, tt)) in
         subst (λ zs. Here (at (n + 1) (n + 1) 0 0) zs None) (append_assoc es (Begun 0 pop_name ∷ []) told_of_pop) e
-
-  -- ---- roles
-
-  module _ (role : Role) (words words' : List ℕ) (es : List (Event T)) (h : Here words es None) where
-    role_low : (q : Role) → role_word q < size
-    role_low Producer = omega arith
-    role_low Consumer = omega arith
-
-    abbrev acquired : List (Event T)
-    acquired = Begun 0 (Queues (acquire_start role)) ∷ Finished 0 (Queues (acquire_start role)) (answers.Truth true) ∷ []
-
-    abbrev released : List (Event T)
-    released = Begun 0 (Queues (release_start role)) ∷ Finished 0 (Queues (release_start role)) answers.Done ∷ []
-
-    role_taken : slice_index words (role_word role) ≡ 1 → slice_set words (role_word role) 0 ≡ words' → Here words' (es ++ acquired) None
-    role_taken free same =
-        let start = Queues (acquire_start role) in
-        let xs = es ++ Begun 0 start ∷ [] in
-        let a = alone.begins code kinds.Overflow capacity size over_effects (overflow_owes code capacity) (takes_role role) (record { word = role_word role }) tt words es h (plain_starts code Overflow (maker es) (takes_role role) (acquire_start role) (record { word = role_word role }) tt refl (λ kept. acquire_named code capacity Overflow role kept) (λ o p is. is) (λ roles p. acquire_lacks code capacity role roles p) h.u same_seat 0 h.between.run refl refl (sums words es h)) in
-        let b = alone.ends code kinds.Overflow capacity size over_effects (overflow_owes code capacity) words xs start ((takes_role role).flight (record { word = role_word role }) tt) a (record { word = role_word role; op = Exchange 1 0 }) (role_low role) refl tt words' (answers.Truth true) [] (Finished 0 start (answers.Truth true) ∷ [])
-        (ap (λ k. slice_set words (role_word role) (written (Exchange 1 0) k)) free ∙ same) (ap (λ k. Done (answers.Truth (k == 1))) free) refl tt refl in
-        subst (λ zs. Here words' zs None) (append_assoc es (Begun 0 start ∷ []) (Finished 0 start (answers.Truth true) ∷ [])) b
-
-    role_given : HasRole role es → slice_set words (role_word role) 1 ≡ words' → Here words' (es ++ released) None
-    role_given has same =
-        let start = Queues (release_start role) in
-        let xs = es ++ Begun 0 start ∷ [] in
-        let a = alone.begins code kinds.Overflow capacity size over_effects (overflow_owes code capacity) (gives_role role) (record { word = role_word role }) tt words es h (role_starts code Overflow (maker es) (gives_role role) (release_start role) (record { word = role_word role }) tt refl (λ kept. release_named code capacity Overflow role kept) role (λ o p. tt) (λ roles p is. release_lacks code capacity role roles p is) has h.u same_seat 0 h.between.run refl refl (sums words es h)) in
-        let b = alone.ends code kinds.Overflow capacity size over_effects (overflow_owes code capacity) words xs start ((gives_role role).flight (record { word = role_word role }) tt) a (record { word = role_word role; op = Store 1 }) (role_low role) refl tt words' answers.Done [] (Finished 0 start answers.Done ∷ []) same refl refl tt refl in
-        subst (λ zs. Here words' zs None) (append_assoc es (Begun 0 start ∷ []) (Finished 0 start answers.Done ∷ [])) b
 
   -- ---- all of it
 
@@ -278,9 +251,7 @@ module _ {T : Type 0} (code : Coding T) (law : IsCoding code) (capacity : ℕ) (
   has_role n role = has_it answers.PoppedNone quiet_none it n role
 
   driven : (n : ℕ) → 0 < capacity → n < 2 ^ 64 → Here (at n n 0 0) (turns n) None
-  driven zero room low =
-      let a = role_taken Producer (at 0 0 1 1) (at 0 0 0 1) [] starts refl refl in
-      role_taken Consumer (at 0 0 0 1) (at 0 0 0 0) (acquired Producer (at 0 0 1 1) (at 0 0 0 1) [] starts) a refl refl
+  driven zero room low = takes_both code Overflow capacity size over_effects (overflow_owes code capacity) (omega arith) quiet_roles 0 0 (replicate (capacity + 1) 0 ++ 0 ∷ []) starts
   driven (suc n) room low =
       let h = driven n room (omega arith) in
       let a = pushed room n (omega arith) (turns n) (has_role n Producer) h in
@@ -288,21 +259,11 @@ module _ {T : Type 0} (code : Coding T) (law : IsCoding code) (capacity : ℕ) (
       let same : n + 1 ≡ suc n = omega arith in
       subst (λ k. Here (at k k 0 0) (turns (suc n)) None) same (subst (λ zs. Here (at (n + 1) (n + 1) 0 0) zs None) (append_assoc (turns n) (pushed_once answers.PoppedNone it) (popped_once it)) b)
 
-  abbrev gave_producer : List (Event T)
-  gave_producer = Begun 0 (Queues ReleaseProducer) ∷ Finished 0 (Queues ReleaseProducer) answers.Done ∷ []
-
-  abbrev gave_consumer : List (Event T)
-  gave_consumer = Begun 0 (Queues ReleaseConsumer) ∷ Finished 0 (Queues ReleaseConsumer) answers.Done ∷ []
-
   opens : (n : ℕ) → 0 < capacity → n < 2 ^ 64 → IsMachine code kinds.Overflow capacity (opening (at n n 1 1) [] (maker (opened answers.PoppedNone it n)))
   opens zero room low = alone.opens_so code kinds.Overflow capacity size over_effects (overflow_owes code capacity) (at 0 0 1 1) [] starts
   opens (suc n) room low =
-      let es = turns (suc n) in
       let k = suc n in
-      let a = role_given Producer (at k k 0 0) (at k k 1 0) es (driven k room low) (has_role k Producer) refl in
-      let b = role_given Consumer (at k k 1 0) (at k k 1 1) (es ++ gave_producer) a (still_has Consumer es gave_producer refl refl (has_role k Consumer)) refl in
-      let all : (es ++ gave_producer) ++ gave_consumer ≡ opened answers.PoppedNone it k = append_assoc es gave_producer gave_consumer in
-      alone.opens_so code kinds.Overflow capacity size over_effects (overflow_owes code capacity) (at k k 1 1) (opened answers.PoppedNone it k) (subst (λ ys. Here (at k k 1 1) ys None) all b)
+      alone.opens_so code kinds.Overflow capacity size over_effects (overflow_owes code capacity) (at k k 1 1) (opened answers.PoppedNone it k) (gives_both code Overflow capacity size over_effects (overflow_owes code capacity) (omega arith) quiet_roles k k (replicate (capacity + 1) 0 ++ 0 ∷ []) (turns k) (has_role k) (driven k room low))
 
   -- an overflowing queue opens so, at any position
   pub over_opens : (position : ℕ) → position < 2 ^ 64 → (words : List ℕ) → words ≡ at (position_at capacity position) (position_at capacity position) 1 1 → IsMachine code kinds.Overflow capacity (opening words [] (over_opened_view capacity position))

@@ -27,7 +27,6 @@ use Rattle.model.specs.Coding.{Coding, IsCoding}
 use Rattle.model.specs.Families.{first_of, want_of, after_of, opening_of}
 use Rattle.model.specs.Families.Queues.Calls.{fresh_cell}
 use Rattle.model.specs.Families.Queues.Opening.{lacks_role, words_of_cell}
-use Rattle.model.specs.Turns.{ending_of}
 use Rattle.model.specs.World.{capacity_error}
 use Rattle.queue_laws.proofs.Queues.Invariant.{machine_kind}
 use Rattle.queue_laws.proofs.Queues.Knows.{IsFreshCall}
@@ -103,12 +102,15 @@ module _ {T : Type 0} (code : Coding T) (capacity : ℕ) where
   push_ends of_indices v n found = refl
   push_ends of_values v n found = refl
 
-  -- the events that end it
+  -- what it writes last, and with its end
+  abbrev pub wrote_by_push : Item T → List (Event T)
+  wrote_by_push x = Published 0 x ∷ Acted 0 (Queues (push_of x)) (Truth true) ∷ []
+
   abbrev pub told_of_push : Item T → List (Event T)
-  told_of_push x = Published 0 x ∷ Acted 0 (Queues (push_of x)) (Truth true) ∷ Finished 0 (Queues (push_of x)) (Truth true) ∷ []
+  told_of_push x = wrote_by_push x ++ Finished 0 (Queues (push_of x)) (Truth true) ∷ []
 
   pub push_tells : (r : Ring) (v : Val T (kind_of r)) (n found : ℕ)
-      → queue_effects code 0 (pushing r v capacity (pushes.TheVariants.StoresWrite n)) found ++ ending_of 0 (Queues (push_of (item (kind_of r) v))) (Some (Truth true)) ≡ told_of_push (item (kind_of r) v)
+      → queue_effects code 0 (pushing r v capacity (pushes.TheVariants.StoresWrite n)) found ≡ wrote_by_push (item (kind_of r) v)
   push_tells of_indices v n found = refl
   push_tells of_values v n found = refl
 
@@ -150,13 +152,16 @@ module _ {T : Type 0} (code : Coding T) (capacity : ℕ) where
   pop_ends of_indices v n found room is = ap (λ x. Done (answers.PoppedIndex x)) is
   pop_ends of_values v n found room is = ap (λ x. Done (answers.Popped x)) is
 
+  abbrev pub wrote_by_pop : Item T → List (Event T)
+  wrote_by_pop x = HandedOut 0 x ∷ Acted 0 (Queues Pop) (popped_item (Some x)) ∷ []
+
   abbrev pub told_of_pop : Item T → List (Event T)
-  told_of_pop x = HandedOut 0 x ∷ Acted 0 (Queues Pop) (popped_item (Some x)) ∷ Finished 0 (Queues Pop) (popped_item (Some x)) ∷ []
+  told_of_pop x = wrote_by_pop x ++ Finished 0 (Queues Pop) (popped_item (Some x)) ∷ []
 
   pub pop_tells : (r : Ring) (v : Val T (kind_of r)) (n found : ℕ) (room : Room r) → read_in code r room ≡ v
-      → queue_effects code 0 (popping r capacity (pops.TheVariants.StoresRead n) room) found ++ ending_of 0 (Queues Pop) (Some (popped_item (Some (item (kind_of r) v)))) ≡ told_of_pop (item (kind_of r) v)
-  pop_tells of_indices v n found room is = ap (λ x. HandedOut 0 (Index x) ∷ Acted 0 (Queues Pop) (answers.PoppedIndex x) ∷ Finished 0 (Queues Pop) (answers.PoppedIndex v) ∷ []) is
-  pop_tells of_values v n found room is = ap (λ x. HandedOut 0 (Value x) ∷ Acted 0 (Queues Pop) (answers.Popped x) ∷ Finished 0 (Queues Pop) (answers.Popped v) ∷ []) is
+      → queue_effects code 0 (popping r capacity (pops.TheVariants.StoresRead n) room) found ≡ wrote_by_pop (item (kind_of r) v)
+  pop_tells of_indices v n found room is = ap (λ x. HandedOut 0 (Index x) ∷ Acted 0 (Queues Pop) (answers.PoppedIndex x) ∷ []) is
+  pop_tells of_values v n found room is = ap (λ x. HandedOut 0 (Value x) ∷ Acted 0 (Queues Pop) (answers.Popped x) ∷ []) is
 
   -- ---- the opening
 

@@ -1,7 +1,9 @@
--- What each call adds to how much its pass has published and taken out itself, and what that says to who has the whole.
+-- What each call adds to how much its pass has published and taken out itself, what that says to who has the whole, and
+-- which roles a call moves.
 use Rattle.std.proofs.Common.{◌≡◌, ◌⊎◌, inl, inr, ℕ, ◌+◌, Bool, true, false, Some, None, List, [], ◌∷◌, ◌++◌, length, refl, sym, ap, subst, ◌∙◌, length-append, sum_by, arith}
 use Rattle.std.proofs.lemmas.List.Sums.{sum_by-append}
 use Rattle.steps.specs.declared.queues.roles.Role.{Role}
+use Rattle.steps.specs.declared.queues.roles.Role.TheVariants.{Producer, Consumer}
 use Rattle.model.specs.declared.event.Answer.{Answer}
 use Rattle.model.specs.declared.event.Event.{Event}
 use Rattle.model.specs.declared.event.Event.TheVariants.{Begun, Published, HandedOut, Finished}
@@ -11,10 +13,12 @@ use Rattle.model.specs.declared.families.queues.calls.LengthOf.{LengthOf}
 use Rattle.model.specs.Families.Queues.Reading.{publishes, hands_out, published, handed_out}
 use Rattle.history.specs.declared.view.View.{View}
 use Rattle.history.specs.History.{Called}
+use Rattle.history.specs.Roles.{takes, gives}
 use Rattle.history.proofs.Known.{sum_first}
 use Rattle.lock_free_sp.specs.Shares.{IsAll}
 use Rattle.history.specs.Passes.{MissesNothing}
 use Rattle.lock_free_queues.specs.Queues.Overflowing.{HasOverflowed}
+use Rattle.lock_free_queues.specs.Queues.Roles.{Moved, other_role}
 use Rattle.lock_free_queues.specs.Queues.Sums.{puts, gets, HasDone}
 use Rattle.lock_free_queues.specs.Queues.Told.{HasPushed, WasAtEnd, HasPopped, HasMeasured, HasAcquired, HasReleased}
 
@@ -22,9 +26,9 @@ module _ {T : Type 0} where
   -- ---- by the call
 
   module _ (p : ℕ) (start : Start T) (answer : Answer T) (wrote : List (Event T)) (old new : View T) (c : Called p start answer wrote old new) where
-    module _ (f : Event T → ℕ) (none : f (Begun p start) ≡ 0) (none' : f (Finished p start answer) ≡ 0) where
-      made_more : sum_by f new.made ≡ sum_by f old.made + sum_by f wrote
-      made_more =
+    module _ (f : Event T → ℕ) (none : f (Begun p start) ≡ 0) where
+      made_more : (last : ℕ) → f (Finished p start answer) ≡ last → sum_by f new.made ≡ sum_by f old.made + (sum_by f wrote + last)
+      made_more n is =
           let last : List (Event T) = Finished p start answer ∷ [] in
           let all = ap (sum_by f) c.made in
           let a = sum_by-append f old.made (Begun p start ∷ (wrote ++ last)) in
@@ -33,8 +37,8 @@ module _ {T : Type 0} where
           let e = sum_first f (Finished p start answer) [] in
           omega arith
 
-    pub done : HasDone (sum_by puts wrote) (sum_by gets wrote) old new
-    done = record { puts_more = made_more puts refl refl; gets_more = made_more gets refl refl }
+    pub done : HasDone (sum_by puts wrote + 0) (sum_by gets wrote + 0) old new
+    done = record { puts_more = made_more puts refl 0 refl; gets_more = made_more gets refl 0 refl }
 
   module _ (old new : View T) where
     pub done_pushed : (item : Item T) → HasPushed item true old new → HasDone 1 0 old new
@@ -68,6 +72,25 @@ module _ {T : Type 0} where
 
     pub done_measured : (which : LengthOf) (capacity : ℕ) (answer : Answer T) → HasMeasured which capacity answer old new → HasDone 0 0 old new
     done_measured which capacity answer h = (let d = done h.by _ _ _ old new h.called in record { puts_more = d.puts_more; gets_more = d.gets_more })
+
+    -- ---- what it moves of the roles
+
+    moves : (p : ℕ) (start : Start T) (answer : Answer T) → Called p start answer [] old new → (q : Role) (n m : ℕ) → takes q (Begun p start) ≡ 0 → gives q (Begun p start) ≡ 0
+        → takes q (Finished p start answer) ≡ n → gives q (Finished p start answer) ≡ m → Moved q n m old.made new.made
+    moves p start answer call q n m a b c d =
+        let t : sum_by (takes q) new.made ≡ sum_by (takes q) old.made + (0 + n) = made_more p start answer [] old new call (takes q) a n c in
+        let g : sum_by (gives q) new.made ≡ sum_by (gives q) old.made + (0 + m) = made_more p start answer [] old new call (gives q) b m d in
+        record { takes = omega arith; gives = omega arith }
+
+    pub acquired_moves : (role : Role) (taken : Bool) → HasAcquired role taken old new → (taken ≡ true → Moved role 1 0 old.made new.made) × (taken ≡ false → Moved role 0 0 old.made new.made) × Moved (other_role role) 0 0 old.made new.made
+    acquired_moves Producer true h = (λ is. moves h.by _ _ h.called Producer 1 0 refl refl refl refl, λ is. absurd (cc), moves h.by _ _ h.called Consumer 0 0 refl refl refl refl)
+    acquired_moves Producer false h = (λ is. absurd (cc), λ is. moves h.by _ _ h.called Producer 0 0 refl refl refl refl, moves h.by _ _ h.called Consumer 0 0 refl refl refl refl)
+    acquired_moves Consumer true h = (λ is. moves h.by _ _ h.called Consumer 1 0 refl refl refl refl, λ is. absurd (cc), moves h.by _ _ h.called Producer 0 0 refl refl refl refl)
+    acquired_moves Consumer false h = (λ is. absurd (cc), λ is. moves h.by _ _ h.called Consumer 0 0 refl refl refl refl, moves h.by _ _ h.called Producer 0 0 refl refl refl refl)
+
+    pub released_moves : (role : Role) → HasReleased role old new → Moved role 0 1 old.made new.made × Moved (other_role role) 0 0 old.made new.made
+    released_moves Producer h = (moves h.by _ _ h.called Producer 0 1 refl refl refl refl, moves h.by _ _ h.called Consumer 0 0 refl refl refl refl)
+    released_moves Consumer h = (moves h.by _ _ h.called Consumer 0 1 refl refl refl refl, moves h.by _ _ h.called Producer 0 0 refl refl refl refl)
 
   -- one call after another
   pub done_then : (a b c d : ℕ) (u v w : View T) → HasDone a b u v → HasDone c d v w → HasDone (a + c) (b + d) u w

@@ -1,11 +1,13 @@
 -- What differs between the kinds of queues.
 use Rattle.std.specs.Prelude.{◌≡◌, ℕ, ◌+◌, ◌*◌, replicate}
+use Rattle.steps.specs.declared.queues.roles.Role.{Role}
+use Rattle.steps.specs.declared.queues.roles.Role.TheVariants.{Producer, Consumer}
 use Rattle.model.specs.declared.event.Item.TheVariants.{Index, Value}
 use Rattle.model.specs.declared.families.queues.QueueKind.{QueueKind}
 use Rattle.model.specs.declared.families.queues.QueueKind.TheVariants.{IndexQueue, Overflow, Queue}
 use Rattle.model.specs.Coding.{Coding}
 use Rattle.model.specs.Families.Queues.Opening.{cells_of}
-use Rattle.model.specs.Families.Queues.Reading.{handed_out}
+use Rattle.model.specs.Families.Queues.Reading.{published, handed_out}
 use Rattle.history.specs.declared.view.View.{View}
 use Rattle.lock_free_queues.specs.Queues.Opened.{opened_view, over_opened_view}
 
@@ -26,6 +28,11 @@ module _ {T : Type 0} where
   NoneTaken IndexQueue old new = handed_out new.seen ≡ handed_out old.seen
   NoneTaken Overflow old new = Unit {0}
   NoneTaken Queue old new = handed_out new.seen ≡ handed_out old.seen
+
+  -- nothing was written that the role's holder alone writes, where it alone does
+  abbrev pub NoneMarked : Role → QueueKind → View T → View T → Type 0
+  NoneMarked Producer kind old new = published new.seen ≡ published old.seen
+  NoneMarked Consumer kind old new = NoneTaken kind old new
 
   -- what the first pass of a queue knows that opens at a position: of so many pushes and pops of this
   abbrev pub opened_by : Coding T → QueueKind → ℕ → ℕ → View T

@@ -1,8 +1,13 @@
 -- Which roles a pass lacks, by what it made.
 use Rattle.std.specs.Prelude.{◌≡◌, ℕ, ◌+◌, List, sum_by}
 use Rattle.steps.specs.declared.queues.roles.Role.{Role}
+use Rattle.steps.specs.declared.queues.roles.Role.TheVariants.{Producer, Consumer}
 use Rattle.model.specs.declared.event.Event.{Event}
 use Rattle.history.specs.Roles.{takes, gives}
+
+abbrev pub other_role : Role → Role
+other_role Producer = Consumer
+other_role Consumer = Producer
 
 module _ {T : Type 0} where
   -- it gave back each time what it had acquired

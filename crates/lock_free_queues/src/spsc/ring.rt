@@ -7,6 +7,7 @@ ghost use Rattle.history.specs.Roles.{HasRole};
 ghost use Rattle.lock_free_queues.specs.Queues.Kinds.{words_in_cells};
 ghost use Rattle.lock_free_queues.specs.Queues.Roles.{LacksRole};
 
+use self::drives::{Popping, Pushing};
 use self::rule::{Board, Kind, Origin, RingRule};
 use atomic_table::TableRule;
 use history::view::View;
@@ -88,7 +89,7 @@ impl<'a, E: Kind, T: Words> Drop for Producer<'a, E, T> {
     /// Gives the role back. One atomic step.
     fn drop(self) {
         let Self { ring: _, mut token } = self;
-        token.leave_producer();
+        token.leave::<Pushing>();
     }
 }
 
@@ -96,6 +97,6 @@ impl<'a, E: Kind, T: Words> Drop for Consumer<'a, E, T> {
     /// Gives the role back. One atomic step.
     fn drop(self) {
         let Self { ring: _, mut token } = self;
-        token.leave_consumer();
+        token.leave::<Popping>();
     }
 }

@@ -23,12 +23,8 @@ impl IndexQueue {
         ensures list { IfOk result (λ q. Closes Index (capacity_of self) (view pass) q) }
         ensures refused { IfErr result (λ e. e ≡ NoMemory) }
     {
-        let ring::Pass { mut token } = pass;
-        let capacity = token.capacity;
-        match token.last_words(self.alloc, FIRST_CELL + capacity as usize) {
-            Ok(words) => Ok(List::of_words(words, capacity)),
-            Err(_) => Err(UniqueIndexCreationError::NoMemory),
-        }
+        let words = self.last_words(pass, FIRST_CELL + self.capacity as usize)?;
+        Ok(List::of_words(words, self.capacity))
     }
 }
 

@@ -8,22 +8,11 @@ ghost use Rattle.lock_free_queues.specs.Queues.Opened.{opened_view};
 ghost use Rattle.lock_free_queues.specs.Queues.Calls.{capacity_of, inner, IsPassOf, view};
 
 use super::{FixedSizeIndexQueue, IndexQueue, Pass};
-use crate::spsc::places::{empty_words, start_at};
 use crate::spsc::ring;
-use std::alloc::{AllocError, Global};
-use steps::enums::{UniqueIndexCreationError, capacity_refusal};
+use std::alloc::Global;
+use steps::enums::UniqueIndexCreationError;
 
 impl IndexQueue {
-    /// An empty queue with both positions here, and its first pass.
-    fn of(alloc: Global, capacity: u32, position: u64) -> Result<(IndexQueue, Pass), AllocError>
-        ensures pass { IfOk result (λ r. IsPassOf r.0 r.1 × (view r.1 ≡ opened_view (Index 0) capacity position)) }
-        ensures capacity { IfOk result (λ r. capacity_of r.0 ≡ capacity) }
-    {
-        let start = start_at(capacity, position);
-        let words = empty_words(alloc, capacity as usize, start)?;
-        IndexQueue::of_words(alloc, words, capacity, position)
-    }
-
     /// An empty queue for at most `capacity` numbers, and its first pass, which has the whole share and has seen
     /// nothing: the history is empty.
     ///
@@ -39,7 +28,7 @@ impl IndexQueue {
         ensures refused { IfErr result (λ e. (capacity_refusal 0 (2 ^ 32 - 1) capacity ≡ Some e)
             ⊎ (capacity_refusal 0 (2 ^ 32 - 1) capacity ≡ None) × (e ≡ NoMemory)) }
     {
-        IndexQueue::new_at(alloc, capacity, 0)
+        IndexQueue::of_numbers(alloc, capacity, 0, 0)
     }
 
     /// The same with both positions at `position`, as after so many pushes and pops of the number 0, which its history
@@ -55,13 +44,7 @@ impl IndexQueue {
         ensures refused { IfErr result (λ e. (capacity_refusal 0 (2 ^ 32 - 1) capacity ≡ Some e)
             ⊎ (capacity_refusal 0 (2 ^ 32 - 1) capacity ≡ None) × (e ≡ NoMemory)) }
     {
-        if let Some(error) = capacity_refusal(capacity as u64, 0, u32::MAX as u64) {
-            return Err(error);
-        }
-        match IndexQueue::of(alloc, capacity as u32, position) {
-            Ok(made) => Ok(made),
-            Err(_) => Err(UniqueIndexCreationError::NoMemory),
-        }
+        IndexQueue::of_numbers(alloc, capacity, 0, position)
     }
 }
 

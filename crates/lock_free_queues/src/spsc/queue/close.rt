@@ -24,13 +24,9 @@ impl<T: Words> Ring<T> {
         ensures list { IfOk result (λ q. Closes Value (capacity_of self) (view pass) q) }
         ensures refused { IfErr result (λ e. e ≡ NoMemory) }
     {
-        let ring::Pass { mut token } = pass;
-        let capacity = token.capacity;
-        let count = FIRST_CELL + T::WORDS * capacity as usize;
-        match token.last_words(self.alloc, count) {
-            Ok(words) => Ok(List::of_words(words, capacity)),
-            Err(_) => Err(UniqueIndexCreationError::NoMemory),
-        }
+        let count = FIRST_CELL + T::WORDS * self.capacity as usize;
+        let words = self.last_words(pass, count)?;
+        Ok(List::of_words(words, self.capacity))
     }
 }
 

@@ -1,7 +1,11 @@
 //! What the calls that all queues have say of the views at their steps. These types are for the proofs alone.
-ghost use Rattle.std.specs.Prelude.{◌≡◌, []};
+ghost use Rattle.std.specs.Prelude.{◌≡◌, ℕ, [], refl};
 ghost use Rattle.model.specs.Coding.{coding_of};
+ghost use Rattle.steps.specs.declared.queues.roles.Role.{Role};
 ghost use Rattle.steps.specs.declared.queues.roles.Role.TheVariants as roles;
+ghost use Rattle.model.specs.declared.families.queues.calls.LengthOf.{LengthOf};
+ghost use Rattle.model.specs.declared.families.queues.calls.LengthOf.TheVariants as measures;
+ghost use Rattle.history.specs.Roles.{role_word};
 ghost use Rattle.lock_free_queues.specs.Queues.Bounded.{machine_of};
 
 use super::rule::Kind;
@@ -10,114 +14,116 @@ use history::view::View;
 use lock_free_sp::driver::rule::Drives;
 use std::marker::PhantomData;
 use steps::queues::lengths::Len;
+use steps::queues::ring::{CONSUMER, PRODUCER};
 use steps::queues::roles::{AcquireRole, ReleaseRole};
 use steps::words::Words;
 
-/// Taking the producer's role.
-pub struct TakesProducer<E> {
-    of: PhantomData<E>,
+/// Which role a call is for, as a type.
+pub trait Side {
+    /// The role's word.
+    const WORD: usize;
+
+    ghost WORD: { ℕ };
+
+    ghost ROLE: { Role };
+
+    ghost there: { WORD ≡ role_word ROLE };
 }
 
-impl<E: Kind, T: Words> Drives<View<T>, AcquireRole> for TakesProducer<E> {
+/// The producer's.
+pub struct Pushing;
+
+impl Side for Pushing {
+    const WORD: usize = PRODUCER;
+
+    ghost WORD = { 2 };
+
+    ghost ROLE = { roles.Producer };
+
+    ghost there = { refl };
+}
+
+/// The consumer's.
+pub struct Popping;
+
+impl Side for Popping {
+    const WORD: usize = CONSUMER;
+
+    ghost WORD = { 3 };
+
+    ghost ROLE = { roles.Consumer };
+
+    ghost there = { refl };
+}
+
+/// Taking a role.
+pub struct Takes<E, R> {
+    of: PhantomData<(E, R)>,
+}
+
+impl<E: Kind, R: Side, T: Words> Drives<View<T>, AcquireRole> for Takes<E, R> {
     ghost use Rattle.history.specs.Stages.{At, Ends};
     ghost use Rattle.history.specs.Queues.{takes_role};
 
-    ghost at = { λ given. At (coding_of T.WORDS T.words_of T.value_of) (machine_of E.KIND) (takes_role roles.Producer) };
+    ghost at = { λ given. At (coding_of T.WORDS T.words_of T.value_of) (machine_of E.KIND) (takes_role R.ROLE) };
 
-    ghost ends = { λ given. Ends (coding_of T.WORDS T.words_of T.value_of) (machine_of E.KIND) (takes_role roles.Producer) };
+    ghost ends = { λ given. Ends (coding_of T.WORDS T.words_of T.value_of) (machine_of E.KIND) (takes_role R.ROLE) };
 }
 
-/// Taking the consumer's role.
-pub struct TakesConsumer<E> {
-    of: PhantomData<E>,
+/// Giving a role back.
+pub struct Leaves<E, R> {
+    of: PhantomData<(E, R)>,
 }
 
-impl<E: Kind, T: Words> Drives<View<T>, AcquireRole> for TakesConsumer<E> {
-    ghost use Rattle.history.specs.Stages.{At, Ends};
-    ghost use Rattle.history.specs.Queues.{takes_role};
-
-    ghost at = { λ given. At (coding_of T.WORDS T.words_of T.value_of) (machine_of E.KIND) (takes_role roles.Consumer) };
-
-    ghost ends = { λ given. Ends (coding_of T.WORDS T.words_of T.value_of) (machine_of E.KIND) (takes_role roles.Consumer) };
-}
-
-/// Giving the producer's role back.
-pub struct LeavesProducer<E> {
-    of: PhantomData<E>,
-}
-
-impl<E: Kind, T: Words> Drives<View<T>, ReleaseRole> for LeavesProducer<E> {
+impl<E: Kind, R: Side, T: Words> Drives<View<T>, ReleaseRole> for Leaves<E, R> {
     ghost use Rattle.history.specs.Stages.{At, Ends};
     ghost use Rattle.history.specs.Queues.{gives_role};
 
-    ghost at = { λ given. At (coding_of T.WORDS T.words_of T.value_of) (machine_of E.KIND) (gives_role roles.Producer) };
+    ghost at = { λ given. At (coding_of T.WORDS T.words_of T.value_of) (machine_of E.KIND) (gives_role R.ROLE) };
 
-    ghost ends = { λ given. Ends (coding_of T.WORDS T.words_of T.value_of) (machine_of E.KIND) (gives_role roles.Producer) };
+    ghost ends = { λ given. Ends (coding_of T.WORDS T.words_of T.value_of) (machine_of E.KIND) (gives_role R.ROLE) };
 }
 
-/// Giving the consumer's role back.
-pub struct LeavesConsumer<E> {
-    of: PhantomData<E>,
+/// What is asked of how many values wait, as a type.
+pub trait Measure {
+    ghost WHICH: { LengthOf };
 }
 
-impl<E: Kind, T: Words> Drives<View<T>, ReleaseRole> for LeavesConsumer<E> {
-    ghost use Rattle.history.specs.Stages.{At, Ends};
-    ghost use Rattle.history.specs.Queues.{gives_role};
+/// How many wait.
+pub struct Length;
 
-    ghost at = { λ given. At (coding_of T.WORDS T.words_of T.value_of) (machine_of E.KIND) (gives_role roles.Consumer) };
-
-    ghost ends = { λ given. Ends (coding_of T.WORDS T.words_of T.value_of) (machine_of E.KIND) (gives_role roles.Consumer) };
+impl Measure for Length {
+    ghost WHICH = { measures.Len };
 }
 
-/// Asking how many values wait.
-pub struct Measures<E> {
-    of: PhantomData<E>,
+/// Whether none waits.
+pub struct Emptiness;
+
+impl Measure for Emptiness {
+    ghost WHICH = { measures.IsEmpty };
 }
 
-impl<E: Kind, T: Words> Drives<View<T>, Len> for Measures<E> {
-    ghost use Rattle.history.specs.Stages.{At, Ends};
-    ghost use Rattle.history.specs.Queues.{counts_waiting};
-    ghost use Rattle.model.specs.declared.families.queues.calls.LengthOf.TheVariants as measures;
+/// Whether as many wait as there is room for.
+pub struct Fullness;
 
-    ghost at = { λ given base. At (coding_of T.WORDS T.words_of T.value_of) (machine_of E.KIND)
-        (counts_waiting measures.Len base.capacity) base };
-
-    ghost ends = { λ given base. Ends (coding_of T.WORDS T.words_of T.value_of) (machine_of E.KIND)
-        (counts_waiting measures.Len base.capacity) base };
+impl Measure for Fullness {
+    ghost WHICH = { measures.IsFull };
 }
 
-/// Asking whether nothing waits.
-pub struct MeasuresNone<E> {
-    of: PhantomData<E>,
+/// Asking so.
+pub struct Measures<E, W> {
+    of: PhantomData<(E, W)>,
 }
 
-impl<E: Kind, T: Words> Drives<View<T>, Len> for MeasuresNone<E> {
+impl<E: Kind, W: Measure, T: Words> Drives<View<T>, Len> for Measures<E, W> {
     ghost use Rattle.history.specs.Stages.{At, Ends};
     ghost use Rattle.history.specs.Queues.{counts_waiting};
-    ghost use Rattle.model.specs.declared.families.queues.calls.LengthOf.TheVariants as measures;
 
     ghost at = { λ given base. At (coding_of T.WORDS T.words_of T.value_of) (machine_of E.KIND)
-        (counts_waiting measures.IsEmpty base.capacity) base };
+        (counts_waiting W.WHICH base.capacity) base };
 
     ghost ends = { λ given base. Ends (coding_of T.WORDS T.words_of T.value_of) (machine_of E.KIND)
-        (counts_waiting measures.IsEmpty base.capacity) base };
-}
-
-/// Asking whether as many values wait as there is room for.
-pub struct MeasuresAll<E> {
-    of: PhantomData<E>,
-}
-
-impl<E: Kind, T: Words> Drives<View<T>, Len> for MeasuresAll<E> {
-    ghost use Rattle.history.specs.Stages.{At, Ends};
-    ghost use Rattle.history.specs.Queues.{counts_waiting};
-    ghost use Rattle.model.specs.declared.families.queues.calls.LengthOf.TheVariants as measures;
-
-    ghost at = { λ given base. At (coding_of T.WORDS T.words_of T.value_of) (machine_of E.KIND)
-        (counts_waiting measures.IsFull base.capacity) base };
-
-    ghost ends = { λ given base. Ends (coding_of T.WORDS T.words_of T.value_of) (machine_of E.KIND)
-        (counts_waiting measures.IsFull base.capacity) base };
+        (counts_waiting W.WHICH base.capacity) base };
 }
 
 /// A look at the whole history, by a load that tells what the machine has in its word.

@@ -7,6 +7,7 @@ ghost use Rattle.lock_free_queues.specs.Queues.Kinds.{NoneTaken};
 ghost use Rattle.lock_free_queues.specs.Queues.Rings.{queue_of, view, producer_queue, producer_view, consumer_queue, consumer_view, IsPassOf, GoesOn};
 ghost use Rattle.lock_free_queues.specs.Queues.Told.{HasAcquired, HasReleased};
 
+use super::drives::{Popping, Pushing};
 use super::rule::Kind;
 use super::{Consumer, Pass, Producer, Ring};
 use steps::words::Words;
@@ -24,7 +25,7 @@ impl<E: Kind, T: Words> Ring<E, T> {
             × HasAcquired roles.Producer false (view pass) (view p)) }
     {
         let Pass { mut token } = pass;
-        if token.take_producer() {
+        if token.take::<Pushing>() {
             Ok(Producer { ring: self, token })
         } else {
             Err(Pass { token })
@@ -43,7 +44,7 @@ impl<E: Kind, T: Words> Ring<E, T> {
             × HasAcquired roles.Consumer false (view pass) (view p)) }
     {
         let Pass { mut token } = pass;
-        if token.take_consumer() {
+        if token.take::<Popping>() {
             Ok(Consumer { ring: self, token })
         } else {
             Err(Pass { token })
@@ -61,7 +62,7 @@ impl<'a, E: Kind, T: Words> Producer<'a, E, T> {
         ensures list { published (view result).seen ≡ published (producer_view self.entry).seen }
     {
         let Producer { ring: _, mut token } = self;
-        token.leave_producer();
+        token.leave::<Pushing>();
         Pass { token }
     }
 }
@@ -76,7 +77,7 @@ impl<'a, E: Kind, T: Words> Consumer<'a, E, T> {
         ensures list { NoneTaken E.KIND (consumer_view self.entry) (view result) }
     {
         let Consumer { ring: _, mut token } = self;
-        token.leave_consumer();
+        token.leave::<Popping>();
         Pass { token }
     }
 }

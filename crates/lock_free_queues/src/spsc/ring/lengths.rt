@@ -4,12 +4,13 @@ ghost use Rattle.steps.specs.declared.queues.roles.Role.{Role};
 ghost use Rattle.model.specs.declared.event.Answer.TheVariants.{Number, Truth};
 ghost use Rattle.model.specs.declared.families.queues.calls.LengthOf.TheVariants as measures;
 ghost use Rattle.model.specs.Coding.{coding_of};
+ghost use Rattle.model.specs.Families.Queues.Calls.{length_answer};
 ghost use Rattle.lock_free_queues.specs.Queues.Kinds.{most_waiting};
 ghost use Rattle.lock_free_queues.specs.Queues.Roles.{Moved};
 ghost use Rattle.lock_free_queues.specs.Queues.Rings.{capacity_of, token_queue, token_view, queue_of, view, producer_queue, producer_view, consumer_queue, consumer_view, IsPassOf, GoesOn, IsSameQueue};
 ghost use Rattle.lock_free_queues.specs.Queues.Told.{HasMeasured};
 
-use super::drives::{Measures, MeasuresAll, MeasuresNone};
+use super::drives::{Emptiness, Fullness, Length, Measure, Measures};
 use super::rule::{Kind, RingRule};
 use super::{Consumer, Held, Pass, Producer, Ring};
 use std::sync::Wait;
@@ -17,6 +18,19 @@ use steps::queues::lengths::Len;
 use steps::words::Words;
 
 impl<E: Kind, T: Words> Held<E, T, RingRule<E, T>> {
+    /// How many values waited at one moment of the call, as is asked of them.
+    fn measure<W: Measure>(&mut self, rt: &impl Wait) -> u64
+        ensures same { IsSameQueue self.old self.new }
+        ensures measured { HasMeasured W.WHICH (token_queue self.old).capacity
+            (length_answer W.WHICH (token_queue self.old).capacity result) (token_view self.old) (token_view self.new) }
+        ensures few { W.WHICH ≡ measures.Len → result ≤ most_waiting E.KIND (token_queue self.old).capacity }
+        ensures roles { (r : Role) → Moved r 0 0 (token_view self.old).made (token_view self.new).made }
+    {
+        let call = Len::new(self.capacity);
+        self.seated
+            .drive_on::<Len, Measures<E, W>>(rt, call, &(), &mut ())
+    }
+
     /// How many values waited at one moment of the call.
     pub fn len(&mut self, rt: &impl Wait) -> u64
         ensures same { IsSameQueue self.old self.new }
@@ -25,9 +39,7 @@ impl<E: Kind, T: Words> Held<E, T, RingRule<E, T>> {
         ensures few { result ≤ most_waiting E.KIND (token_queue self.old).capacity }
         ensures roles { (r : Role) → Moved r 0 0 (token_view self.old).made (token_view self.new).made }
     {
-        let call = Len::new(self.capacity);
-        self.seated
-            .drive_on::<Len, Measures<E>>(rt, call, &(), &mut ())
+        self.measure::<Length>(rt)
     }
 
     /// Whether none waited.
@@ -37,11 +49,7 @@ impl<E: Kind, T: Words> Held<E, T, RingRule<E, T>> {
             (token_view self.old) (token_view self.new) }
         ensures roles { (r : Role) → Moved r 0 0 (token_view self.old).made (token_view self.new).made }
     {
-        let call = Len::new(self.capacity);
-        let waiting = self
-            .seated
-            .drive_on::<Len, MeasuresNone<E>>(rt, call, &(), &mut ());
-        waiting == 0
+        self.measure::<Emptiness>(rt) == 0
     }
 
     /// Whether as many waited as the capacity.
@@ -51,11 +59,7 @@ impl<E: Kind, T: Words> Held<E, T, RingRule<E, T>> {
             (token_view self.old) (token_view self.new) }
         ensures roles { (r : Role) → Moved r 0 0 (token_view self.old).made (token_view self.new).made }
     {
-        let call = Len::new(self.capacity);
-        let waiting = self
-            .seated
-            .drive_on::<Len, MeasuresAll<E>>(rt, call, &(), &mut ());
-        waiting == self.capacity as u64
+        self.measure::<Fullness>(rt) == self.capacity as u64
     }
 }
 

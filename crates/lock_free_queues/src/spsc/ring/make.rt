@@ -1,19 +1,24 @@
 //! How a queue is made of its words.
-ghost use Rattle.std.specs.Prelude.{◌≡◌, ◌+◌, [], length, IfOk};
+ghost use Rattle.std.specs.Prelude.{◌≡◌, ◌⊎◌, ◌+◌, ◌-◌, ◌^◌, ◌≤◌, [], None, Some, length, IfOk, IfErr, OnOk};
 ghost use Rattle.atomic_table.specs.Table.{opening};
-ghost use Rattle.model.specs.Coding.{coding_of};
+ghost use Rattle.steps.specs.Enums.{capacity_refusal};
+ghost use Rattle.steps.specs.declared.enums.UniqueIndexCreationError.TheVariants.{NoMemory};
+ghost use Rattle.model.specs.Coding.{coding_of, one_word};
 ghost use Rattle.history.specs.History.{IsMachine};
+ghost use Rattle.history.specs.Views.{first_view};
 ghost use Rattle.lock_free_queues.specs.Queues.Bounded.{machine_of};
 ghost use Rattle.lock_free_queues.specs.Queues.Kinds.{words_in_cells, opened_by};
 ghost use Rattle.lock_free_queues.specs.Queues.Rings.{capacity_of, IsPassOf, view};
 
 use super::rule::{Kind, Origin};
 use super::{Held, Pass, Ring};
+use crate::spsc::places::{empty_words, start_at};
 use atomic_table::Table;
 use lock_free_sp::driver::seated::Seated;
 use std::alloc::{AllocError, Global};
 use std::marker::PhantomData;
 use std::sync::Arc;
+use steps::enums::{UniqueIndexCreationError, capacity_refusal};
 use steps::words::Words;
 
 impl<E: Kind, T: Words> Ring<E, T> {
@@ -52,5 +57,37 @@ impl<E: Kind, T: Words> Ring<E, T> {
             alloc,
         };
         Ok((ring, Pass { token }))
+    }
+}
+
+impl<E: Kind> Ring<E, u64> {
+    /// An empty queue of numbers, which has so many cells beyond its capacity, with both positions here, and its first
+    /// pass.
+    pub(crate) fn of_numbers(
+        alloc: Global,
+        capacity: usize,
+        spare: usize,
+        position: u64,
+    ) -> Result<(Ring<E, u64>, Pass<E, u64>), UniqueIndexCreationError>
+        requires few { spare ≤ 1 }
+        requires cells { words_in_cells 1 E.KIND capacity ≡ capacity + spare }
+        ensures pass { IfOk result (λ r. IsPassOf r.0 r.1 × (view r.1 ≡ opened_by one_word E.KIND capacity position)) }
+        ensures first { position ≡ 0 → IfOk result (λ r. IsPassOf r.0 r.1 × (view r.1 ≡ first_view capacity)) }
+        ensures capacity { IfOk result (λ r. capacity_of r.0 ≡ capacity) }
+        ensures admitted { OnOk result (capacity_refusal 0 (2 ^ 32 - 1) capacity ≡ None) }
+        ensures refused { IfErr result (λ e. (capacity_refusal 0 (2 ^ 32 - 1) capacity ≡ Some e)
+            ⊎ (capacity_refusal 0 (2 ^ 32 - 1) capacity ≡ None) × (e ≡ NoMemory)) }
+    {
+        if let Some(error) = capacity_refusal(capacity as u64, 0, u32::MAX as u64) {
+            return Err(error);
+        }
+        let start = start_at(capacity as u32, position);
+        let Ok(words) = empty_words(alloc, capacity + spare, start) else {
+            return Err(UniqueIndexCreationError::NoMemory);
+        };
+        match Ring::<E, u64>::of_words(alloc, words, capacity as u32, position) {
+            Ok(made) => Ok(made),
+            Err(_) => Err(UniqueIndexCreationError::NoMemory),
+        }
     }
 }

@@ -1,15 +1,17 @@
 //! How all words of a queue are read, while others may still step.
-ghost use Rattle.std.specs.Prelude.{◌≡◌, ◌+◌, ◌<◌, ◌^◌, IfOk};
+ghost use Rattle.std.specs.Prelude.{◌≡◌, ◌+◌, ◌<◌, ◌^◌, IfOk, IfErr};
+ghost use Rattle.steps.specs.declared.enums.UniqueIndexCreationError.TheVariants.{NoMemory};
 ghost use Rattle.model.specs.Coding.{coding_of};
 ghost use Rattle.lock_free_queues.specs.Queues.Bounded.{machine_of};
 ghost use Rattle.lock_free_queues.specs.Queues.Kinds.{words_in_cells};
-ghost use Rattle.lock_free_queues.specs.Queues.Rings.{token_queue, token_view};
+ghost use Rattle.lock_free_queues.specs.Queues.Rings.{capacity_of, token_queue, token_view, view, IsPassOf};
 ghost use Rattle.lock_free_queues.specs.Queues.Reads.{WasRead, HasRead, LastWords};
 
-use super::Held;
 use super::drives::Look;
 use super::rule::{Kind, RingRule};
+use super::{Held, Pass, Ring};
 use std::alloc::{AllocError, Global};
+use steps::enums::UniqueIndexCreationError;
 use steps::queues::ring::{FIRST_CELL, READ, WRITE};
 use steps::words::Words;
 
@@ -53,5 +55,26 @@ impl<E: Kind, T: Words> Held<E, T, RingRule<E, T>> {
         words[WRITE] = write.max(read);
         words[READ] = read;
         Ok(words)
+    }
+}
+
+impl<E: Kind, T: Words> Ring<E, T> {
+    /// Those words, as a queue ends with this pass.
+    pub(crate) fn last_words(
+        &self,
+        pass: Pass<E, T>,
+        count: usize,
+    ) -> Result<Vec<u64>, UniqueIndexCreationError>
+        requires pass { IsPassOf self.now pass }
+        requires count { count ≡ 4 + words_in_cells T.WORDS E.KIND (capacity_of self.now) }
+        ensures words { IfOk result (λ words. LastWords (coding_of T.WORDS T.words_of T.value_of) (machine_of E.KIND)
+            (words_in_cells T.WORDS E.KIND (capacity_of self.now)) (capacity_of self.now) (view pass) words.items) }
+        ensures refused { IfErr result (λ e. e ≡ NoMemory) }
+    {
+        let Pass { mut token } = pass;
+        match token.last_words(self.alloc, count) {
+            Ok(words) => Ok(words),
+            Err(_) => Err(UniqueIndexCreationError::NoMemory),
+        }
     }
 }

@@ -24,21 +24,14 @@ impl SafelyOverflowingIndexQueue {
         ensures list { IfOk result (λ q. Closes Index (capacity_of self) (view pass) q) }
         ensures refused { IfErr result (λ e. e ≡ NoMemory) }
     {
-        let ring::Pass { mut token } = pass;
-        let capacity = token.capacity;
-        match token.last_words(self.alloc, FIRST_CELL + (capacity as usize + 1)) {
-            Ok(words) => {
-                let mut words = words;
-                // while a push is under way one number more than the capacity can wait, of which the oldest is on its
-                // way out
-                let write = words.as_slice()[WRITE];
-                let read = words.as_slice()[READ];
-                let oldest = write.saturating_sub(capacity as u64);
-                words[READ] = read.max(oldest);
-                Ok(List::of_words(words, capacity))
-            }
-            Err(_) => Err(UniqueIndexCreationError::NoMemory),
-        }
+        let capacity = self.capacity;
+        let mut words = self.last_words(pass, FIRST_CELL + (capacity as usize + 1))?;
+        // while a push is under way one number more than the capacity can wait, of which the oldest is on its way out
+        let write = words.as_slice()[WRITE];
+        let read = words.as_slice()[READ];
+        let oldest = write.saturating_sub(capacity as u64);
+        words[READ] = read.max(oldest);
+        Ok(List::of_words(words, capacity))
     }
 }
 

@@ -7,27 +7,11 @@ ghost use Rattle.lock_free_queues.specs.Queues.Opened.{over_opened_view};
 ghost use Rattle.lock_free_queues.specs.Queues.Overflowing.{capacity_of, inner, IsPassOf, view};
 
 use super::{FixedSizeSafelyOverflowingIndexQueue, Pass, SafelyOverflowingIndexQueue};
-use crate::spsc::places::{empty_words, start_at};
 use crate::spsc::ring;
-use std::alloc::{AllocError, Global};
-use steps::enums::{UniqueIndexCreationError, capacity_refusal};
+use std::alloc::Global;
+use steps::enums::UniqueIndexCreationError;
 
 impl SafelyOverflowingIndexQueue {
-    /// An empty queue with both positions here, and its first pass.
-    fn of(
-        alloc: Global,
-        capacity: u32,
-        position: u64,
-    ) -> Result<(SafelyOverflowingIndexQueue, Pass), AllocError>
-        ensures pass { IfOk result (λ r. IsPassOf r.0 r.1 × (view r.1 ≡ over_opened_view capacity position)) }
-        ensures capacity { IfOk result (λ r. capacity_of r.0 ≡ capacity) }
-    {
-        let start = start_at(capacity, position);
-        // one cell more, for the number that pushes the oldest out
-        let words = empty_words(alloc, capacity as usize + 1, start)?;
-        SafelyOverflowingIndexQueue::of_words(alloc, words, capacity, position)
-    }
-
     /// An empty queue for at most `capacity` numbers, and its first pass, which has the whole share and has seen
     /// nothing: the history is empty.
     ///
@@ -43,7 +27,7 @@ impl SafelyOverflowingIndexQueue {
         ensures refused { IfErr result (λ e. (capacity_refusal 0 (2 ^ 32 - 1) capacity ≡ Some e)
             ⊎ (capacity_refusal 0 (2 ^ 32 - 1) capacity ≡ None) × (e ≡ NoMemory)) }
     {
-        SafelyOverflowingIndexQueue::new_at(alloc, capacity, 0)
+        SafelyOverflowingIndexQueue::of_numbers(alloc, capacity, 1, 0)
     }
 
     /// The same with both positions at `position`, as after so many pushes and pops of the number 0, which its history
@@ -59,13 +43,8 @@ impl SafelyOverflowingIndexQueue {
         ensures refused { IfErr result (λ e. (capacity_refusal 0 (2 ^ 32 - 1) capacity ≡ Some e)
             ⊎ (capacity_refusal 0 (2 ^ 32 - 1) capacity ≡ None) × (e ≡ NoMemory)) }
     {
-        if let Some(error) = capacity_refusal(capacity as u64, 0, u32::MAX as u64) {
-            return Err(error);
-        }
-        match SafelyOverflowingIndexQueue::of(alloc, capacity as u32, position) {
-            Ok(made) => Ok(made),
-            Err(_) => Err(UniqueIndexCreationError::NoMemory),
-        }
+        // one cell more, for the number that pushes the oldest out
+        SafelyOverflowingIndexQueue::of_numbers(alloc, capacity, 1, position)
     }
 }
 

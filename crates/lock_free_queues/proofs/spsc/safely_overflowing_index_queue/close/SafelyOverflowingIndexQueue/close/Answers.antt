@@ -2,25 +2,24 @@ use Rattle.std.proofs.Common.{rules, ◌≡◌, ◌-◌, max, set, slice_index, 
 use Rattle.plain.specs.Overflowing.{Fits, list_in}
 use Rattle.model.specs.declared.event.Item.TheVariants.{Index}
 use Rattle.lock_free_queues.specs.Queues.Closes.{Closes}
-use Rattle.lock_free_queues.specs.Queues.Overflowing.{QueueId, capacity_of, view}
+use Rattle.lock_free_queues.specs.Queues.Overflowing.{view}
 use Rattle.lock_free_queues.proofs.Queues.OverCloses.{over_fits, over_closes}
 use Rattle.lock_free_queues.proofs.spsc.safely_overflowing_index_queue.close.SafelyOverflowingIndexQueue.close.Goals as goal
 
 pub of_words-requires : goal.of_words-requires
 of_words-requires c =
-    let size = c.args.pass.token.capacity in
-    let words = c.in-Ok.words.items in
+    let size = c.args.self.capacity in
+    let words = c.in_ok-words.words.items in
     let oldest : c.saturating_sub-oldest.result ≡ slice_index words 0 - size = search rules in
     let later : c.max.result ≡ max (slice_index words 1) c.saturating_sub-oldest.result = search rules in
-    subst (λ n. Fits size (set words 1 n)) (sym (later ∙ ap (λ n. max (slice_index words 1) n) oldest)) (over_fits size (view c.args.pass) words c.in-Ok.ensures c.args.pass.none.0)
+    subst (λ n. Fits size (set words 1 n)) (sym (later ∙ ap (λ n. max (slice_index words 1) n) oldest)) (over_fits size (view c.args.pass) words c.in_ok-words.ensures.words c.args.pass.none.0)
 
-pub returns-in-Ok-clause-list : goal.returns-in-Ok-clause-list
-returns-in-Ok-clause-list c =
+pub returns-clause-list : goal.returns-clause-list
+returns-clause-list c =
     let v = view c.args.pass in
-    let size = c.args.pass.token.capacity in
-    let words = c.in-Ok.words.items in
+    let size = c.args.self.capacity in
+    let words = c.in_ok-words.words.items in
     let oldest : c.saturating_sub-oldest.result ≡ slice_index words 0 - size = search rules in
     let later : c.max.result ≡ max (slice_index words 1) c.saturating_sub-oldest.result = search rules in
-    let same : size ≡ capacity_of c.args.self = ap (λ (q : QueueId). q.capacity) c.requires in
-    subst (λ n. Closes Index n v c.of_words.result) same (subst (Closes Index size v) (sym c.of_words.ensures)
-    (subst (λ n. Closes Index size v (list_in size (set words 1 n))) (sym (later ∙ ap (λ n. max (slice_index words 1) n) oldest)) (over_closes size v words c.in-Ok.ensures c.args.pass.none.0)))
+    subst (Closes Index size v) (sym c.of_words.ensures)
+    (subst (λ n. Closes Index size v (list_in size (set words 1 n))) (sym (later ∙ ap (λ n. max (slice_index words 1) n) oldest)) (over_closes size v words c.in_ok-words.ensures.words c.args.pass.none.0))

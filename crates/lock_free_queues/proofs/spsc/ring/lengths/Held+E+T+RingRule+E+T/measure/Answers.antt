@@ -1,8 +1,7 @@
 use Rattle.std.proofs.Common.{◌≤◌, refl, sym, ap, subst, ◌∙◌}
 use Rattle.steps.specs.Queues.Lengths.{first_len}
 use Rattle.model.specs.Coding.{Coding, IsCoding, coding_of}
-use Rattle.model.specs.declared.event.Answer.TheVariants.{Number}
-use Rattle.model.specs.declared.families.queues.calls.LengthOf.TheVariants as measures
+use Rattle.model.specs.Families.Queues.Calls.{length_answer}
 use Rattle.lock_free_queues.specs.Queues.Bounded.{machine_of}
 use Rattle.history.specs.Stages.{At}
 use Rattle.history.specs.Queues.{counts_waiting}
@@ -12,14 +11,14 @@ use Rattle.lock_free_queues.specs.Queues.Rings.{token_view}
 use Rattle.lock_free_queues.specs.Queues.Kinds.{most_waiting}
 use Rattle.lock_free_queues.specs.Queues.Told.{HasMeasured}
 use Rattle.lock_free_queues.proofs.Queues.Facts.{measured, few}
-use Rattle.lock_free_queues.proofs.spsc.ring.lengths.Held+E+T+RingRule+E+T.len.Goals as goal
+use Rattle.lock_free_queues.proofs.spsc.ring.lengths.Held+E+T+RingRule+E+T.measure.Goals as goal
 
 pub drive_on-requires-clause-rule : goal.drive_on-requires-clause-rule
 drive_on-requires-clause-rule g c base v call m key =
     let met = g.met.T.Words in
     let code : Coding g.row.T.Denot = coding_of g.T.Words.WORDS g.T.Words.words_of g.T.Words.value_of in
     let law : IsCoding code = record { some = met.some; few = met.few; sized = met.sized; given_back = met.given_back } in
-    lengths_keep code law g.E.Kind.KIND measures.Len base v call m key.capacity
+    lengths_keep code law g.E.Kind.KIND g.W.Measure.WHICH base v call m key.capacity
 
 pub drive_on-requires-clause-at : goal.drive_on-requires-clause-at
 drive_on-requires-clause-at g c =
@@ -28,16 +27,16 @@ drive_on-requires-clause-at g c =
     let met = g.met.T.Words in
     let code : Coding g.row.T.Denot = coding_of g.T.Words.WORDS g.T.Words.words_of g.T.Words.value_of in
     let law : IsCoding code = record { some = met.some; few = met.few; sized = met.sized; given_back = met.given_back } in
-    subst (λ call. At code (machine_of g.E.Kind.KIND) (counts_waiting measures.Len v.capacity) v v call tt) (ap first_len mine.known ∙ sym c.new-call.ensures) (len_first_on code g.E.Kind.KIND v tt mine.idle mine.alone mine.some.0 measures.Len v.capacity refl)
+    subst (λ call. At code (machine_of g.E.Kind.KIND) (counts_waiting g.W.Measure.WHICH v.capacity) v v call tt) (ap first_len mine.known ∙ sym c.new-call.ensures) (len_first_on code g.E.Kind.KIND v tt mine.idle mine.alone mine.some.0 g.W.Measure.WHICH v.capacity refl)
 
-pub returns-clause-counted : goal.returns-clause-counted
-returns-clause-counted g c =
+pub returns-clause-measured : goal.returns-clause-measured
+returns-clause-measured g c =
     let mine = c.args.self.now in
     let v = token_view mine in
     let w = c.drive_on.new.self.seat.me.0 in
-    subst (λ n. HasMeasured measures.Len n (Number c.drive_on.result) v w) mine.known (measured (coding_of g.T.Words.WORDS g.T.Words.words_of g.T.Words.value_of) g.E.Kind.KIND v w mine.idle measures.Len c.drive_on.result tt c.drive_on.ensures.end)
+    subst (λ n. HasMeasured g.W.Measure.WHICH n (length_answer g.W.Measure.WHICH n c.drive_on.result) v w) mine.known (measured (coding_of g.T.Words.WORDS g.T.Words.words_of g.T.Words.value_of) g.E.Kind.KIND v w mine.idle g.W.Measure.WHICH c.drive_on.result tt c.drive_on.ensures.end)
 
 pub returns-clause-few : goal.returns-clause-few
-returns-clause-few g c =
+returns-clause-few g c is =
     let mine = c.args.self.now in
-    subst (λ n. c.drive_on.result ≤ most_waiting g.E.Kind.KIND n) mine.known (few (coding_of g.T.Words.WORDS g.T.Words.words_of g.T.Words.value_of) g.E.Kind.KIND (token_view mine) c.drive_on.new.self.seat.me.0 mine.idle c.drive_on.result tt c.drive_on.ensures.end)
+    subst (λ n. c.drive_on.result ≤ most_waiting g.E.Kind.KIND n) mine.known (few (coding_of g.T.Words.WORDS g.T.Words.words_of g.T.Words.value_of) g.E.Kind.KIND (token_view mine) c.drive_on.new.self.seat.me.0 mine.idle g.W.Measure.WHICH is c.drive_on.result tt c.drive_on.ensures.end)

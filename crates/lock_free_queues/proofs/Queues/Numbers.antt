@@ -1,0 +1,34 @@
+-- How a queue of numbers opens, of any kind: so many zeros, and one word more.
+use Rattle.std.proofs.Common.{◌≡◌, ℕ, ◌*◌, ◌^◌, ◌<◌, min, List, [], ◌∷◌, ◌++◌, replicate, sym, ap, ◌∙◌, arith}
+use Rattle.atomic_table.specs.Table.{opening}
+use Rattle.model.specs.declared.families.queues.QueueKind.{QueueKind}
+use Rattle.model.specs.declared.families.queues.QueueKind.TheVariants.{IndexQueue, Overflow, Queue}
+use Rattle.model.specs.Coding.{one_word}
+use Rattle.queue_laws.proofs.Ring.Kinds.{of_indices, of_values}
+use Rattle.history.specs.History.{IsMachine}
+use Rattle.lock_free_queues.specs.Queues.Bounded.{machine_of}
+use Rattle.lock_free_queues.specs.Queues.Kinds.{words_in_cells, opened_by}
+use Rattle.lock_free_queues.specs.Queues.Opened.{position_at}
+use Rattle.lock_free_queues.proofs.Queues.Filled.{filled, zeros_stay}
+use Rattle.lock_free_queues.proofs.Queues.Indices.{is_coding}
+use Rattle.lock_free_queues.proofs.Queues.Opened.{queue_opens}
+use Rattle.lock_free_queues.proofs.Queues.OverOpened.{over_opens}
+
+module _ (capacity : ℕ) (small : capacity < 2 ^ 32) (position : ℕ) (fits : position < 2 ^ 64) where
+  abbrev words_with : List ℕ → List ℕ
+  words_with cells = position_at capacity position ∷ position_at capacity position ∷ 1 ∷ 1 ∷ (cells ++ 0 ∷ [])
+
+  -- what pushes of zeros have written is zeros
+  zeros : (words : List ℕ) → words ≡ words_with (replicate capacity 0) → words ≡ words_with (filled (0 ∷ []) 1 capacity (1 * min position capacity))
+  zeros words same = same ∙ ap words_with (sym (zeros_stay capacity (1 * min position capacity)))
+
+  opens : (kd : QueueKind) (words : List ℕ) → words ≡ words_with (replicate (words_in_cells 1 kd capacity) 0) → IsMachine one_word (machine_of kd) capacity (opening words [] (opened_by one_word kd capacity position))
+  opens IndexQueue words same = queue_opens one_word is_coding of_indices 0 capacity small position fits words (zeros words same)
+  opens Overflow words same = over_opens one_word is_coding capacity small position fits words same
+  opens Queue words same =
+      let one : 1 * capacity ≡ capacity = omega arith in
+      queue_opens one_word is_coding of_values 0 capacity small position fits words (zeros words (same ∙ ap (λ n. words_with (replicate n 0)) one))
+
+  pub numbers_open : (kd : QueueKind) (cells start : ℕ) (words : List ℕ) → words_in_cells 1 kd capacity ≡ cells → start ≡ position_at capacity position → words ≡ start ∷ start ∷ 1 ∷ 1 ∷ (replicate cells 0 ++ 0 ∷ [])
+      → IsMachine one_word (machine_of kd) capacity (opening words [] (opened_by one_word kd capacity position))
+  numbers_open kd cells start words long at same = opens kd words (same ∙ (ap (λ n. n ∷ n ∷ 1 ∷ 1 ∷ (replicate cells 0 ++ 0 ∷ [])) at ∙ ap (λ n. words_with (replicate n 0)) (sym long)))

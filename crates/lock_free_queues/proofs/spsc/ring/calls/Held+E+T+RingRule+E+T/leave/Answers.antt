@@ -1,0 +1,41 @@
+use Rattle.std.proofs.Common.{sym, subst, ◌∙◌}
+use Rattle.lock_free_queues.specs.Queues.Bounded.{machine_of}
+use Rattle.model.specs.Coding.{Coding, IsCoding, coding_of}
+use Rattle.history.specs.Queues.{gives_role}
+use Rattle.history.specs.Stages.{At}
+use Rattle.history.proofs.AnyRoles.{release_first_on}
+use Rattle.lock_free_queues.proofs.Queues.Kinds.{releases_keep}
+use Rattle.lock_free_queues.specs.Queues.Rings.{token_view}
+use Rattle.lock_free_queues.proofs.Queues.Facts.{released, left_marked}
+use Rattle.lock_free_queues.proofs.Queues.Sums.{released_moves}
+use Rattle.lock_free_queues.proofs.spsc.ring.calls.Held+E+T+RingRule+E+T.leave.Goals as goal
+
+pub drive-requires-clause-rule : goal.drive-requires-clause-rule
+drive-requires-clause-rule g c base v call m key =
+    let met = g.met.T.Words in
+    let code : Coding g.row.T.Denot = coding_of g.T.Words.WORDS g.T.Words.words_of g.T.Words.value_of in
+    let law : IsCoding code = record { some = met.some; few = met.few; sized = met.sized; given_back = met.given_back } in
+    releases_keep code law g.E.Kind.KIND g.R.Side.ROLE base v call m key.capacity
+
+pub drive-requires-clause-at : goal.drive-requires-clause-at
+drive-requires-clause-at g c =
+    let mine = c.args.self.now in
+    let v = token_view mine in
+    let code : Coding g.row.T.Denot = coding_of g.T.Words.WORDS g.T.Words.words_of g.T.Words.value_of in
+    subst (λ n. At code (machine_of g.E.Kind.KIND) (gives_role g.R.Side.ROLE) v v (record { word = n }) tt) (sym (c.WORD.ensures ∙ g.R.Side.there)) (release_first_on code g.E.Kind.KIND v tt mine.idle mine.alone mine.some.0 g.R.Side.ROLE c.requires)
+
+pub returns-clause-left : goal.returns-clause-left
+returns-clause-left g c =
+    let mine = c.args.self.now in
+    released (coding_of g.T.Words.WORDS g.T.Words.words_of g.T.Words.value_of) g.E.Kind.KIND (token_view mine) c.drive.new.self.seat.me.0 mine.idle g.R.Side.ROLE c.drive.result tt c.drive.ensures.end
+
+pub returns-clause-list : goal.returns-clause-list
+returns-clause-list g c =
+    let mine = c.args.self.now in
+    left_marked (coding_of g.T.Words.WORDS g.T.Words.words_of g.T.Words.value_of) (token_view mine) c.drive.new.self.seat.me.0 mine.idle c.drive.result tt g.E.Kind.KIND g.R.Side.ROLE c.drive.ensures.end
+
+pub returns-clause-mine : goal.returns-clause-mine
+returns-clause-mine g c = (released_moves (token_view c.args.self.now) c.drive.new.self.seat.me.0 g.R.Side.ROLE (returns-clause-left g c)).0
+
+pub returns-clause-other : goal.returns-clause-other
+returns-clause-other g c = (released_moves (token_view c.args.self.now) c.drive.new.self.seat.me.0 g.R.Side.ROLE (returns-clause-left g c)).1
