@@ -141,6 +141,7 @@ impl<T: Words> Machine<T> {
     /// owners, and `OwnerIsDead`; last `NoMemory`, where there is no room for the events, for a new party, for its state,
     /// for the value that its call is to read or for a dead owner.
     pub fn step(&mut self, turn: Turn<T>) -> Result<(), Refusal>
+        // Whether it is taken, or why not.
         ensures allowed { OnOk result
             (refusal_of (world_in ⟦<T as Coded>⟧.coding self.old) turn ≡ None) }
         ensures refused { IfErr result

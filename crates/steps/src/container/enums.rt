@@ -8,7 +8,7 @@ use thiserror::Error;
 /// Why no value was added.
 #[derive(Debug, Clone, Copy, PartialEq, Eq, Error)]
 pub enum ContainerAddFailure {
-    #[error("there is a value at each index")]
+    #[error("no index can be given")]
     OutOfSpace,
     #[error("the container is locked")]
     IsLocked,
