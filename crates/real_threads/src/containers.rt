@@ -1,7 +1,8 @@
 //! Containers between threads: pairs come and go, and are seen, found and recovered whole; and the lock keeps all out.
+use crate::hall::Hall;
 use crate::last::BETWEEN;
-use crate::limit::{Limit, SECONDS};
-use crate::owned::{self, Owned, all_lock, all_lock_by_four};
+use crate::limit::{ENOUGH, Limit, SECONDS};
+use crate::owned::{self, ROUNDS};
 use crate::pairs::{Pair, PairUser};
 use crate::tasks::{Counted, Task, User, another_turns, four_run, three_run, two_run};
 use lock_free::mpmc::container::{Container, ContainerState, OwnerId};
@@ -222,18 +223,14 @@ fn played<R: Wait + Threads + Clock + Sync>(
     Ok(plays(rt, &mut user, play) == Some(true))
 }
 
-/// Containers, for what is done with robust sets too.
-struct Containers;
-
-impl Owned for Containers {
-    fn played<R: Wait + Threads + Clock + Sync>(
-        rt: &R,
-        alloc: Global,
-        capacity: usize,
-        play: owned::Play<'_>,
-    ) -> Result<bool, Fail> {
-        played(rt, alloc, capacity, Play::AsSets(play))
-    }
+/// The same of what is done with robust sets too.
+fn played_as<R: Wait + Threads + Clock + Sync>(
+    rt: &R,
+    alloc: Global,
+    capacity: usize,
+    play: owned::Play<'_>,
+) -> Result<bool, Fail> {
+    played(rt, alloc, capacity, Play::AsSets(play))
 }
 
 #[test]
@@ -256,7 +253,7 @@ fn owners_between_threads(rt: HostRuntime) -> Result<(), Fail> {
 
 #[test]
 fn owners_die_beside_two_others(rt: HostRuntime) -> Result<(), Fail> {
-    assert!(rt; Containers::played(&rt, rt.alloc(), 6, owned::Play::ManyDie)?);
+    assert!(rt; played_as(&rt, rt.alloc(), 6, owned::Play::ManyDie)?);
     Ok(())
 }
 
@@ -270,18 +267,33 @@ fn two_adders_of_one_owner(rt: HostRuntime) -> Result<(), Fail> {
 /// A length that does not look once more whether anything has changed misses the index.
 #[test]
 fn a_length_beside_one_who_always_holds_one(rt: HostRuntime) -> Result<(), Fail> {
-    assert!(rt; Containers::played(&rt, rt.alloc(), BETWEEN + 2, owned::Play::Counting)?);
+    assert!(rt; played_as(&rt, rt.alloc(), BETWEEN + 2, owned::Play::Counting)?);
     Ok(())
 }
 
 #[test]
 fn nobody_is_added_once_it_is_locked(rt: HostRuntime) -> Result<(), Fail> {
-    assert!(rt; all_lock::<Containers, _>(&rt, rt.alloc())?);
+    let enough = Limit::new(&rt, ENOUGH);
+    let mut well = true;
+    for round in 0..ROUNDS {
+        if enough.has_time(&rt) {
+            well &= played_as(&rt, rt.alloc(), 64, owned::Play::OneLocks(round % 64))?;
+        }
+    }
+    assert!(rt; well);
     Ok(())
 }
 
 #[test]
 fn four_add_until_it_is_locked(rt: HostRuntime) -> Result<(), Fail> {
-    assert!(rt; all_lock_by_four::<Containers, _>(&rt, rt.alloc())?);
+    let enough = Limit::new(&rt, ENOUGH);
+    let mut well = true;
+    for _ in 0..ROUNDS {
+        if enough.has_time(&rt) {
+            let hall = Hall::new(rt.alloc(), 3)?;
+            well &= played_as(&rt, rt.alloc(), 3, owned::Play::FourVisit(&hall))?;
+        }
+    }
+    assert!(rt; well);
     Ok(())
 }

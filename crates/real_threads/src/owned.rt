@@ -2,10 +2,7 @@
 use crate::deaths::{Mortal, deaths_beside};
 use crate::hall::{Hall, Visitor, is_locked_by_four};
 use crate::last::{BETWEEN, Beside, Holds, counted_beside, one_of_both};
-use crate::limit::{ENOUGH, Limit};
-use std::alloc::Global;
 use std::sync::Wait;
-use std::test::Fail;
 use std::thread::Threads;
 use std::time::Clock;
 
@@ -15,7 +12,7 @@ const DEATHS: u64 = 100_000;
 const TURNS: u64 = 1_000_000;
 
 /// How often one is made that is locked, at most.
-const ROUNDS: u64 = 1000;
+pub const ROUNDS: u64 = 1000;
 
 /// A user of such a structure.
 pub trait OwnedUser: Mortal + Visitor + Beside {
@@ -84,46 +81,4 @@ pub fn plays<R: Wait + Threads + Clock + Sync, U: OwnedUser + Send>(
         Play::OneLocks(pause) => one_locks(rt, user, pause),
         Play::FourVisit(hall) => Some(is_locked_by_four(rt, user, hall, 4)),
     }
-}
-
-/// A kind of structure.
-pub trait Owned {
-    /// Whether it goes well with a new one of this capacity.
-    fn played<R: Wait + Threads + Clock + Sync>(
-        rt: &R,
-        alloc: Global,
-        capacity: usize,
-        play: Play<'_>,
-    ) -> Result<bool, Fail>;
-}
-
-/// Whether it goes well with one after another, in which the last index is given back while another wants in.
-pub fn all_lock<S: Owned, R: Wait + Threads + Clock + Sync>(
-    rt: &R,
-    alloc: Global,
-) -> Result<bool, Fail> {
-    let enough = Limit::new(rt, ENOUGH);
-    let mut well = true;
-    for round in 0..ROUNDS {
-        if enough.has_time(rt) {
-            well &= S::played(rt, alloc, 64, Play::OneLocks(round % 64))?;
-        }
-    }
-    Ok(well)
-}
-
-/// The same where four come and go until one locks.
-pub fn all_lock_by_four<S: Owned, R: Wait + Threads + Clock + Sync>(
-    rt: &R,
-    alloc: Global,
-) -> Result<bool, Fail> {
-    let enough = Limit::new(rt, ENOUGH);
-    let mut well = true;
-    for _ in 0..ROUNDS {
-        if enough.has_time(rt) {
-            let hall = Hall::new(alloc, 3)?;
-            well &= S::played(rt, alloc, 3, Play::FourVisit(&hall))?;
-        }
-    }
-    Ok(well)
 }

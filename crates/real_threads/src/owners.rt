@@ -1,7 +1,9 @@
 //! Robust unique index sets: no index has two holders, those of a dead owner come back, and the lock keeps all out.
+use crate::hall::Hall;
 use crate::holders::Holders;
 use crate::last::BETWEEN;
-use crate::owned::{self, Owned, all_lock, all_lock_by_four};
+use crate::limit::{ENOUGH, Limit};
+use crate::owned::{self, ROUNDS};
 use crate::tasks::{Task, User, another_turns, four_turn, three_run};
 use lock_free::mpmc::robust_unique_index_set::{OwnerId, RobustUniqueIndexSet};
 use lock_free::mpmc::unique_index_set_enums::ReleaseMode;
@@ -105,18 +107,14 @@ fn played<R: Wait + Threads + Clock + Sync>(
     Ok(plays(rt, &mut user, play) == Some(true))
 }
 
-/// Sets, for what is done with containers too.
-struct Sets;
-
-impl Owned for Sets {
-    fn played<R: Wait + Threads + Clock + Sync>(
-        rt: &R,
-        alloc: Global,
-        capacity: usize,
-        play: owned::Play<'_>,
-    ) -> Result<bool, Fail> {
-        played(rt, alloc, capacity, Play::AsContainers(play))
-    }
+/// The same of what is done with containers too.
+fn played_as<R: Wait + Threads + Clock + Sync>(
+    rt: &R,
+    alloc: Global,
+    capacity: usize,
+    play: owned::Play<'_>,
+) -> Result<bool, Fail> {
+    played(rt, alloc, capacity, Play::AsContainers(play))
 }
 
 #[test]
@@ -140,25 +138,40 @@ fn a_recovery_beside_two_owners(rt: HostRuntime) -> Result<(), Fail> {
 
 #[test]
 fn owners_die_beside_two_others(rt: HostRuntime) -> Result<(), Fail> {
-    assert!(rt; Sets::played(&rt, rt.alloc(), 6, owned::Play::ManyDie)?);
+    assert!(rt; played_as(&rt, rt.alloc(), 6, owned::Play::ManyDie)?);
     Ok(())
 }
 
 /// A count that does not look once more whether anything has changed misses the index.
 #[test]
 fn a_count_beside_one_who_always_holds_one(rt: HostRuntime) -> Result<(), Fail> {
-    assert!(rt; Sets::played(&rt, rt.alloc(), BETWEEN + 2, owned::Play::Counting)?);
+    assert!(rt; played_as(&rt, rt.alloc(), BETWEEN + 2, owned::Play::Counting)?);
     Ok(())
 }
 
 #[test]
 fn nobody_gets_in_once_it_is_locked(rt: HostRuntime) -> Result<(), Fail> {
-    assert!(rt; all_lock::<Sets, _>(&rt, rt.alloc())?);
+    let enough = Limit::new(&rt, ENOUGH);
+    let mut well = true;
+    for round in 0..ROUNDS {
+        if enough.has_time(&rt) {
+            well &= played_as(&rt, rt.alloc(), 64, owned::Play::OneLocks(round % 64))?;
+        }
+    }
+    assert!(rt; well);
     Ok(())
 }
 
 #[test]
 fn four_visit_until_it_is_locked(rt: HostRuntime) -> Result<(), Fail> {
-    assert!(rt; all_lock_by_four::<Sets, _>(&rt, rt.alloc())?);
+    let enough = Limit::new(&rt, ENOUGH);
+    let mut well = true;
+    for _ in 0..ROUNDS {
+        if enough.has_time(&rt) {
+            let hall = Hall::new(rt.alloc(), 3)?;
+            well &= played_as(&rt, rt.alloc(), 3, owned::Play::FourVisit(&hall))?;
+        }
+    }
+    assert!(rt; well);
     Ok(())
 }
