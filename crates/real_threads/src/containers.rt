@@ -1,8 +1,8 @@
 //! Containers between threads: pairs come and go, and are seen, found and recovered whole; and the lock keeps all out.
-use crate::deaths::deaths_beside;
-use crate::hall::{Hall, is_locked_by_four};
-use crate::last::{BETWEEN, counted_beside, one_of_both};
+use crate::hall::Hall;
+use crate::last::BETWEEN;
 use crate::limit::{ENOUGH, Limit, SECONDS};
+use crate::owned::{self, ROUNDS};
 use crate::pairs::{Pair, PairUser};
 use crate::tasks::{Counted, Task, User, another_turns, four_run, three_run, two_run};
 use lock_free::mpmc::container::{Container, ContainerState, OwnerId};
@@ -158,22 +158,11 @@ enum Play<'s> {
     ChangesAreSeen,
     /// Two add, replace and remove, one finds the pairs of the first, and one recovers the owner of the pairs 40 and 2.
     OwnersBeside,
-    /// Owners die one after another, with pairs of their numbers.
-    ManyDie,
     /// Two of one owner add pairs and remove them.
     TwoOfOne,
-    /// One asks for the length beside another who always holds an index.
-    Counting,
-    /// One removes the last pair, after such a pause, while another wants to add one.
-    OneLocks(u64),
-    /// Four come and go until one locks.
-    FourVisit(&'s Hall),
+    /// What is done with robust sets too.
+    AsSets(owned::Play<'s>),
 }
-
-/// How many owners die, and how often a container is made that is locked, at most.
-const DEATHS: u64 = 100_000;
-
-const ROUNDS: u64 = 1000;
 
 /// Whether two who add, replace and remove, one who finds, and one who recovers all go well, and no index has an owner in
 /// the end. None where there are no further passes.
@@ -199,36 +188,11 @@ fn owners_beside<R: Wait + Threads + Clock + Sync>(
     Some(well && user.number(rt) == 0)
 }
 
-/// Whether all goes well as owners die, and no index has an owner in the end. None where there are no further passes.
-fn many_die<R: Wait + Threads + Clock + Sync>(rt: &R, user: &mut PairUser<'_>) -> Option<bool> {
-    let well = deaths_beside(rt, user, DEATHS, TURNS)?;
-    Some(well && user.number(rt) == 0)
-}
-
 /// Whether two of one owner find each pair that they add. None where there are no further passes.
 fn two_of_one<R: Wait + Threads + Clock + Sync>(rt: &R, user: &mut PairUser<'_>) -> Option<bool> {
     let one = another_turns(user, 1, TURNS)?;
     let other = another_turns(user, 1, TURNS)?;
     Some(two_run(rt, one, other))
-}
-
-/// Whether the length is right beside another who always holds an index. None where there is no further pass.
-fn counting<R: Wait + Threads + Clock + Sync>(rt: &R, user: &mut PairUser<'_>) -> Option<bool> {
-    let holder = user.another(1)?.holding(rt)?;
-    let mut other = user.another(2)?;
-    let filled = other.fills(rt, BETWEEN);
-    Some(filled & counted_beside(rt, holder, other, TURNS))
-}
-
-/// Whether either it is locked or the other is in. None where there is no further pass.
-fn one_locks<R: Wait + Threads + Clock + Sync>(
-    rt: &R,
-    user: &mut PairUser<'_>,
-    pause: u64,
-) -> Option<bool> {
-    let other = user.another(2)?;
-    let holder = user.another(1)?.holding(rt)?;
-    Some(one_of_both(rt, holder, other, pause))
 }
 
 /// Whether it goes well. None where there are no further passes.
@@ -241,11 +205,8 @@ fn plays<R: Wait + Threads + Clock + Sync>(
         Play::AreSeen => turns_are_seen(rt, user),
         Play::ChangesAreSeen => changes_are_seen(rt, user),
         Play::OwnersBeside => owners_beside(rt, user),
-        Play::ManyDie => many_die(rt, user),
         Play::TwoOfOne => two_of_one(rt, user),
-        Play::Counting => counting(rt, user),
-        Play::OneLocks(pause) => one_locks(rt, user, pause),
-        Play::FourVisit(hall) => Some(is_locked_by_four(rt, user, hall, 4)),
+        Play::AsSets(play) => owned::plays(rt, user, play),
     }
 }
 
@@ -260,6 +221,16 @@ fn played<R: Wait + Threads + Clock + Sync>(
     let (container, pass) = Container::new(alloc, capacity, 1)?;
     let mut user = PairUser::new(&container, owner, pass);
     Ok(plays(rt, &mut user, play) == Some(true))
+}
+
+/// The same of what is done with robust sets too.
+fn played_as<R: Wait + Threads + Clock + Sync>(
+    rt: &R,
+    alloc: Global,
+    capacity: usize,
+    play: owned::Play<'_>,
+) -> Result<bool, Fail> {
+    played(rt, alloc, capacity, Play::AsSets(play))
 }
 
 #[test]
@@ -282,7 +253,7 @@ fn owners_between_threads(rt: HostRuntime) -> Result<(), Fail> {
 
 #[test]
 fn owners_die_beside_two_others(rt: HostRuntime) -> Result<(), Fail> {
-    assert!(rt; played(&rt, rt.alloc(), 6, Play::ManyDie)?);
+    assert!(rt; played_as(&rt, rt.alloc(), 6, owned::Play::ManyDie)?);
     Ok(())
 }
 
@@ -296,7 +267,7 @@ fn two_adders_of_one_owner(rt: HostRuntime) -> Result<(), Fail> {
 /// A length that does not look once more whether anything has changed misses the index.
 #[test]
 fn a_length_beside_one_who_always_holds_one(rt: HostRuntime) -> Result<(), Fail> {
-    assert!(rt; played(&rt, rt.alloc(), BETWEEN + 2, Play::Counting)?);
+    assert!(rt; played_as(&rt, rt.alloc(), BETWEEN + 2, owned::Play::Counting)?);
     Ok(())
 }
 
@@ -306,7 +277,7 @@ fn nobody_is_added_once_it_is_locked(rt: HostRuntime) -> Result<(), Fail> {
     let mut well = true;
     for round in 0..ROUNDS {
         if enough.has_time(&rt) {
-            well &= played(&rt, rt.alloc(), 64, Play::OneLocks(round % 64))?;
+            well &= played_as(&rt, rt.alloc(), 64, owned::Play::OneLocks(round % 64))?;
         }
     }
     assert!(rt; well);
@@ -320,7 +291,7 @@ fn four_add_until_it_is_locked(rt: HostRuntime) -> Result<(), Fail> {
     for _ in 0..ROUNDS {
         if enough.has_time(&rt) {
             let hall = Hall::new(rt.alloc(), 3)?;
-            well &= played(&rt, rt.alloc(), 3, Play::FourVisit(&hall))?;
+            well &= played_as(&rt, rt.alloc(), 3, owned::Play::FourVisit(&hall))?;
         }
     }
     assert!(rt; well);

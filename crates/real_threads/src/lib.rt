@@ -28,6 +28,8 @@ mod logged;
 #[cfg(test)]
 mod overflowing;
 #[cfg(test)]
+mod owned;
+#[cfg(test)]
 mod owners;
 #[cfg(test)]
 mod pairs;

@@ -1,9 +1,9 @@
 //! Robust unique index sets: no index has two holders, those of a dead owner come back, and the lock keeps all out.
-use crate::deaths::deaths_beside;
-use crate::hall::{Hall, is_locked_by_four};
+use crate::hall::Hall;
 use crate::holders::Holders;
-use crate::last::{BETWEEN, counted_beside, one_of_both};
+use crate::last::BETWEEN;
 use crate::limit::{ENOUGH, Limit};
+use crate::owned::{self, ROUNDS};
 use crate::tasks::{Task, User, another_turns, four_turn, three_run};
 use lock_free::mpmc::robust_unique_index_set::{OwnerId, RobustUniqueIndexSet};
 use lock_free::mpmc::unique_index_set_enums::ReleaseMode;
@@ -25,21 +25,12 @@ enum Play<'s> {
     FourOfOne,
     /// One of two owners of 68 indices dies.
     OneDies,
-    /// Owners die one after another.
-    ManyDie,
-    /// One counts beside another who always holds an index.
-    Counting,
-    /// One gives the last index back, after such a pause, while another wants in.
-    OneLocks(u64),
-    /// Four come and go until one locks.
-    FourVisit(&'s Hall),
+    /// What is done with containers too.
+    AsContainers(owned::Play<'s>),
 }
 
 /// How often each of four takes an index.
 const TURNS: u64 = 1_000_000;
-
-/// How often a set is made that is locked, at most.
-const ROUNDS: u64 = 1000;
 
 /// Whether four users go well, and leave nothing behind. None where there are no further passes.
 fn four_go<R: Wait + Threads + Clock + Sync>(
@@ -88,31 +79,6 @@ fn one_dies<R: Wait + Threads + Clock + Sync>(rt: &R, user: &mut OwnerUser<'_>) 
     Some(right & (user.borrowed(rt) == 23))
 }
 
-/// Whether all goes well as owners die, and no index is out in the end. None where there are no further passes.
-fn many_die<R: Wait + Threads + Clock + Sync>(rt: &R, user: &mut OwnerUser<'_>) -> Option<bool> {
-    let well = deaths_beside(rt, user, 100_000, TURNS)?;
-    Some(well && user.borrowed(rt) == 0)
-}
-
-/// Whether one who counts beside another who always holds an index counts right. None where there is no further pass.
-fn counting<R: Wait + Threads + Clock + Sync>(rt: &R, user: &mut OwnerUser<'_>) -> Option<bool> {
-    let holder = user.another(1)?.holding(rt)?;
-    let mut other = user.another(2)?;
-    let filled = other.fills(rt, [other.owner; 3], BETWEEN);
-    Some(filled & counted_beside(rt, holder, other, TURNS))
-}
-
-/// Whether either it is locked or the other is in. None where there is no further pass.
-fn one_locks<R: Wait + Threads + Clock + Sync>(
-    rt: &R,
-    user: &mut OwnerUser<'_>,
-    pause: u64,
-) -> Option<bool> {
-    let other = user.another(2)?;
-    let holder = user.another(1)?.holding(rt)?;
-    Some(one_of_both(rt, holder, other, pause))
-}
-
 /// Whether it goes well. None where there are no further passes.
 fn plays<R: Wait + Threads + Clock + Sync>(
     rt: &R,
@@ -123,10 +89,7 @@ fn plays<R: Wait + Threads + Clock + Sync>(
         Play::FourOwners => four_go(rt, user, [1, 2, 3, 4]),
         Play::FourOfOne => four_go(rt, user, [1, 1, 1, 1]),
         Play::OneDies => one_dies(rt, user),
-        Play::ManyDie => many_die(rt, user),
-        Play::Counting => counting(rt, user),
-        Play::OneLocks(pause) => one_locks(rt, user, pause),
-        Play::FourVisit(hall) => Some(is_locked_by_four(rt, user, hall, 4)),
+        Play::AsContainers(play) => owned::plays(rt, user, play),
     }
 }
 
@@ -142,6 +105,16 @@ fn played<R: Wait + Threads + Clock + Sync>(
     let (set, pass) = RobustUniqueIndexSet::new(alloc, capacity)?;
     let mut user = OwnerUser::new(&set, &holders, owner, pass);
     Ok(plays(rt, &mut user, play) == Some(true))
+}
+
+/// The same of what is done with containers too.
+fn played_as<R: Wait + Threads + Clock + Sync>(
+    rt: &R,
+    alloc: Global,
+    capacity: usize,
+    play: owned::Play<'_>,
+) -> Result<bool, Fail> {
+    played(rt, alloc, capacity, Play::AsContainers(play))
 }
 
 #[test]
@@ -165,14 +138,14 @@ fn a_recovery_beside_two_owners(rt: HostRuntime) -> Result<(), Fail> {
 
 #[test]
 fn owners_die_beside_two_others(rt: HostRuntime) -> Result<(), Fail> {
-    assert!(rt; played(&rt, rt.alloc(), 6, Play::ManyDie)?);
+    assert!(rt; played_as(&rt, rt.alloc(), 6, owned::Play::ManyDie)?);
     Ok(())
 }
 
 /// A count that does not look once more whether anything has changed misses the index.
 #[test]
 fn a_count_beside_one_who_always_holds_one(rt: HostRuntime) -> Result<(), Fail> {
-    assert!(rt; played(&rt, rt.alloc(), BETWEEN + 2, Play::Counting)?);
+    assert!(rt; played_as(&rt, rt.alloc(), BETWEEN + 2, owned::Play::Counting)?);
     Ok(())
 }
 
@@ -182,7 +155,7 @@ fn nobody_gets_in_once_it_is_locked(rt: HostRuntime) -> Result<(), Fail> {
     let mut well = true;
     for round in 0..ROUNDS {
         if enough.has_time(&rt) {
-            well &= played(&rt, rt.alloc(), 64, Play::OneLocks(round % 64))?;
+            well &= played_as(&rt, rt.alloc(), 64, owned::Play::OneLocks(round % 64))?;
         }
     }
     assert!(rt; well);
@@ -196,7 +169,7 @@ fn four_visit_until_it_is_locked(rt: HostRuntime) -> Result<(), Fail> {
     for _ in 0..ROUNDS {
         if enough.has_time(&rt) {
             let hall = Hall::new(rt.alloc(), 3)?;
-            well &= played(&rt, rt.alloc(), 3, Play::FourVisit(&hall))?;
+            well &= played_as(&rt, rt.alloc(), 3, owned::Play::FourVisit(&hall))?;
         }
     }
     assert!(rt; well);

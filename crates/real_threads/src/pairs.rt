@@ -4,6 +4,7 @@ ghost use Rattle.lock_free.specs.Container.Names.{IsPassOf};
 use crate::deaths::Mortal;
 use crate::hall::{Hall, Visit, Visitor};
 use crate::last::{Beside, Holds};
+use crate::owned::OwnedUser;
 use crate::tasks::User;
 use lock_free::mpmc::container::{
     CallbackProgression, Container, ContainerAddFailure, ContainerHandle, ContainerState, OwnerId,
@@ -60,15 +61,6 @@ impl<'a> PairUser<'a> {
         mode: ReleaseMode,
     ) -> Option<ReleaseState> {
         self.container.remove(rt, handle, mode, &mut self.pass).ok()
-    }
-
-    /// Whether so many pairs could be added.
-    pub fn fills(&mut self, rt: &impl Wait, number: usize) -> bool {
-        let mut well = true;
-        for _ in 0..number {
-            well &= self.add(rt, 2).is_some();
-        }
-        well
     }
 
     /// Whether the pair was there.
@@ -183,14 +175,6 @@ impl<'a> User for PairUser<'a> {
     }
 }
 
-impl<'a> PairUser<'a> {
-    /// One who holds the index of a pair. None where there is none.
-    pub fn holding(mut self, rt: &impl Wait) -> Option<Holding<'a>> {
-        let held = self.add(rt, 0)?;
-        Some(Holding { user: self, held })
-    }
-}
-
 impl<'a> Visitor for PairUser<'a> {
     fn visit(&mut self, rt: &impl Wait, hall: &Hall) -> Visit {
         let handle = match self.container.add(rt, (1, 1), self.owner, &mut self.pass) {
@@ -242,6 +226,23 @@ impl<'a> Beside for PairUser<'a> {
             Err(ContainerAddFailure::IsLocked) => Some(false),
             Err(ContainerAddFailure::OutOfSpace) => None,
         }
+    }
+}
+
+impl<'a> OwnedUser for PairUser<'a> {
+    type Holder = Holding<'a>;
+
+    fn holding(mut self, rt: &impl Wait) -> Option<Holding<'a>> {
+        let held = self.add(rt, 0)?;
+        Some(Holding { user: self, held })
+    }
+
+    fn gets(&mut self, rt: &impl Wait, number: usize) -> bool {
+        let mut well = true;
+        for _ in 0..number {
+            well &= self.add(rt, 2).is_some();
+        }
+        well
     }
 }
 

@@ -5,6 +5,7 @@ use crate::deaths::Mortal;
 use crate::hall::{Hall, Visit, Visitor};
 use crate::holders::Holders;
 use crate::last::{Beside, Holds};
+use crate::owned::OwnedUser;
 use crate::tasks::User;
 use lock_free::mpmc::robust_unique_index_set::{
     CallbackProgression, OwnerId, Pass, RobustUniqueIndexSet,
@@ -115,12 +116,6 @@ impl<'a> OwnerUser<'a> {
             None
         }
     }
-
-    /// One who holds an index. None where there is none.
-    pub fn holding(mut self, rt: &impl Wait) -> Option<Holding<'a>> {
-        let held = self.acquire(rt)?;
-        Some(Holding { user: self, held })
-    }
 }
 
 impl<'a> User for OwnerUser<'a> {
@@ -190,6 +185,20 @@ impl<'a> Beside for OwnerUser<'a> {
             Err(UniqueIndexSetAcquireFailure::IsLocked) => Some(false),
             Err(UniqueIndexSetAcquireFailure::OutOfIndices) => None,
         }
+    }
+}
+
+impl<'a> OwnedUser for OwnerUser<'a> {
+    type Holder = Holding<'a>;
+
+    fn holding(mut self, rt: &impl Wait) -> Option<Holding<'a>> {
+        let held = self.acquire(rt)?;
+        Some(Holding { user: self, held })
+    }
+
+    fn gets(&mut self, rt: &impl Wait, number: usize) -> bool {
+        let owner = self.owner;
+        self.fills(rt, [owner, owner, owner], number)
     }
 }
 
