@@ -7,7 +7,9 @@ pub mod Deaths
 pub mod Deeds
 pub mod Effects
 pub mod Finds
+pub mod Firsts
 pub mod Frees
+pub mod Gone
 pub mod Grants
 pub mod Held
 pub mod HeldRelease
