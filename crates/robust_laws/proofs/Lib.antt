@@ -17,9 +17,11 @@ pub mod Invariant
 pub mod Justified
 pub mod Kept
 pub mod Knows
+pub mod Living
 pub mod Locks
 pub mod Looks
 pub mod Opening
+pub mod OpenRuns
 pub mod Parts
 pub mod Past
 pub mod RecoverSteps
