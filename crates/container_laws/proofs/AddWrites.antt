@@ -84,7 +84,7 @@ module _ {T : Type 0} (scene : Scene T) (inv : Inv scene) (value : T) (owner : �
     mine proper = inl (k.owns proper.frees alive).by
 
     nobody_else : {A : Type 0} → Proper (before scene) → (q : ℕ) → q ≢ p → (o : ℕ) → IsWriter q i o events → A
-    nobody_else holds q ne o theirs = absurd (ne (one_writer q p i o owner events (inv.good.owned holds.frees) theirs (mine holds)))
+    nobody_else holds q ne o theirs = absurd (ne (one_writer q p i o owner events (inv.good.owned (holds.frees, tt)) theirs (mine holds)))
 
     -- it owns its index still
     owns_calm : (ask : Option Ask) (y : Party T) → AddOwns c owner i (view (words_after ws ask) scene.states (put p y latest) events p (since_then scene ask) (changes_then scene ask) (backs_then scene false))
@@ -283,7 +283,7 @@ module _ {T : Type 0} (scene : Scene T) (inv : Inv scene) (value : T) (owner : �
           let new = adds_to_change scene inv in
           ends scene start (Index i) end_it false scene.states [] here.span none_lengthens
           (ends_counted scene inv start (at_stage (adds.TheVariants.AddsChange i)) tt here y (words_after ws end_it) (Index i)
-          (settles (of_set scene) (inv_of_set scene inv) (words_after ws end_it) (leaves_behind (of_set scene) (inv_of_set scene inv) (words_after ws end_it) (change_word c) _ (omega arith) new) i owner value alive (λ proper. k.owns proper alive))
+          (settles (of_set scene) (inv_of_set scene inv) (words_after ws end_it) (leaves_behind (of_set scene) (inv_of_set scene inv) (words_after ws end_it) (change_word c) _ (omega arith) new) i owner value alive (λ calm. k.owns calm.0 alive))
           tt proper (λ holds. placed (proper holds)) new says)
           ((refl, granted.1), tt) (omega arith) (let paid = k.paid in omega arith)
         where

@@ -123,7 +123,7 @@ module _ {T : Type 0} (scene : Scene T) (inv : Inv scene) (value : T) (owner : �
               (record {
                 paid = omega arith;
                 within = below;
-                owns = λ proper lives. let k = owns_then (of_set scene) (inv_of_set scene inv) (words_after ws ask) i owner mine alive open_now new proper in record { by = k.0; held = k.1 };
+                owns = λ proper lives. let k = owns_then (of_set scene) (inv_of_set scene inv) (words_after ws ask) i owner mine alive open_now new (proper, tt) in record { by = k.0; held = k.1 };
               });
         }
 

@@ -33,7 +33,9 @@ use Rattle.model.proofs.Parties.{party_put_other, found_put_same, found_put_othe
 use Rattle.model.proofs.Readings.{no_more, span_of-own}
 use Rattle.model.proofs.Rows.{row_passed}
 use Rattle.robust_laws.proofs.Counting.{count_none}
-use Rattle.robust_laws.proofs.Effects.{both_ways, proper_less}
+use Rattle.robust_laws.specs.Gone.{Death}
+use Rattle.robust_laws.proofs.Effects.{both_ways}
+use Rattle.robust_laws.proofs.Gone.{calm_less}
 use Rattle.robust_laws.proofs.Invariant as set
 use Rattle.robust_laws.proofs.Past.{since_begun}
 use Rattle.robust_laws.proofs.Rights.{IsBy, AreOwned}
@@ -56,7 +58,7 @@ is_below owner t = grind (arith, nat_tests)
 none_of : {X : Type 0} {A : Type 0} (one : X) (done before after : List X) → done ≡ [] → done ≡ before ++ one ∷ after → A
 none_of one done before after none is = absurd (no_more before one after (sym none ∙ is))
 
-module _ {T : Type 0} (scene : Scene T) (g : set.Good scene.capacity scene.words scene.dead scene.events scene.turns) (h : Elements scene.coding scene.capacity (before scene) scene.states scene.turns) (free : flight_of (doing_of (party_of scene.party scene.latest)) ≡ None)
+module _ {T : Type 0} (scene : Scene T) (g : set.Good Death scene.capacity scene.words scene.dead scene.events scene.turns) (h : Elements scene.coding scene.capacity (before scene) scene.states scene.turns) (free : flight_of (doing_of (party_of scene.party scene.latest)) ≡ None)
     (shut : IsShut (span_of scene.party scene.events)) where
   open scene use {coding as code, capacity as c, party as p, changes as changes, turns as turns, latest as latest, events as events}
 
@@ -217,7 +219,7 @@ module _ {T : Type 0} (scene : Scene T) (g : set.Good scene.capacity scene.words
         (record {
           paid = paid removing;
           scanned = tt;
-          owns = λ proper alive began. taken index owner mode (g.owned (proper_less events (begun removing) proper)) (since_begun p (λ part. settled_of index part ≡ Some owner) events (Container removing) began);
+          owns = λ calm alive began. taken index owner mode (g.owned (calm_less Death events (begun removing) calm)) (since_begun p (λ part. settled_of index part ≡ Some owner) events (Container removing) began);
           says = tt;
           gone = tt;
         })

@@ -12,6 +12,7 @@ use Rattle.model.specs.Families.Indices.Robust.Promises.{FreesRight}
 use Rattle.model.specs.Families.Indices.Robust.Reading.{is_dead}
 use Rattle.model.specs.Parties.{party_of}
 use Rattle.model.proofs.Readings.{Each-append, span_of-death}
+use Rattle.robust_laws.specs.Gone.{Death}
 use Rattle.robust_laws.proofs.Deaths.{death_good, death_goes, death_spares}
 use Rattle.robust_laws.proofs.Invariant as set
 use Rattle.container_laws.proofs.HiddenKnows.{EndsRight}
@@ -23,7 +24,7 @@ use Rattle.container_laws.proofs.Sights.{rests_later}
 use Rattle.container_laws.proofs.Sound.{Dies}
 use Rattle.container_laws.proofs.Turns.{Now, Proper, Passes, Leaves}
 
-module _ {T : Type 0} (code : Coding T) (c : ℕ) (words dead : List ℕ) (states : List (ℕ × ContainerState T)) (latest : List (ℕ × Party T)) (events : List (Event T)) (turns o : ℕ) (g : set.Good c words dead events turns) (h : Elements code c (moment words latest events) states turns)
+module _ {T : Type 0} (code : Coding T) (c : ℕ) (words dead : List ℕ) (states : List (ℕ × ContainerState T)) (latest : List (ℕ × Party T)) (events : List (Event T)) (turns o : ℕ) (g : set.Good Death c words dead events turns) (h : Elements code c (moment words latest events) states turns)
     (alive : is_dead o events ≡ false) where
   abbrev es : List (Event T)
   es = Died o ∷ []
@@ -98,9 +99,9 @@ module _ {T : Type 0} (code : Coding T) (c : ℕ) (words dead : List ℕ) (state
   pub dies : Dies code c words dead states latest events turns o
   dies =
       record {
-        good = death_good c words dead events turns o g alive;
+        good = death_good Death c words dead events turns o g alive;
         elements = elements_then;
         knows = λ q since changes backs flight k.
-            still_knows code c (view words states latest events q since changes backs) words states latest es changes (death_goes c words dead events turns o g alive) (death_spares c words dead events turns o g alive q) (inl (refl, refl)) passes (leaves q) (span_of-death q events o) refl refl
+            still_knows code c (view words states latest events q since changes backs) words states latest es changes (death_goes Death c words dead events turns o g alive) (death_spares Death c words dead events turns o g alive q) (inl (refl, refl)) passes (leaves q) (span_of-death q events o) refl refl
             flight k;
       }

@@ -190,7 +190,7 @@ module _ {T : Type 0} (scene : Scene T) (inv : Inv scene) (words' : List ℕ) (y
     not_theirs : Proper m' → (q : ℕ) → q ≢ p → (a o : ℕ) → IsWriter q a o events → a ≢ i
     not_theirs holds q ne a o theirs same =
         let h = proper holds in
-        ne (one_writer q p i o owner events (inv.good.owned h.frees) (subst (λ b. IsWriter q b o events) same theirs) (mine h))
+        ne (one_writer q p i o owner events (inv.good.owned (h.frees, tt)) (subst (λ b. IsWriter q b o events) same theirs) (mine h))
 
     pub stores : Changes scene words' y es
     stores =

@@ -1,5 +1,5 @@
 -- The end of a remove: it hides what stands there, unless that has changed, and counts its change.
-use Rattle.std.proofs.Common.{◌≡◌, ◌≢◌, ◌⊎◌, ⊎_elim, ℕ, ◌+◌, ◌%◌, ◌<◌, ◌≤◌, ◌==◌, if◌then◌else◌, Bool, false, true, Option, Some, List, [], ◌∷◌, ◌++◌, refl, sym, ap, subst, ◌∙◌, append-nil, arith}
+use Rattle.std.proofs.Common.{◌≡◌, ◌≢◌, ⊎_elim, ℕ, ◌+◌, ◌%◌, ◌<◌, ◌≤◌, ◌==◌, if◌then◌else◌, Bool, false, true, Option, Some, List, [], ◌∷◌, ◌++◌, refl, sym, ap, subst, ◌∙◌, append-nil, arith}
 use Rattle.std.proofs.lemmas.Bool.Decides.{nat_tests}
 use Rattle.steps.specs.declared.ask.Ask.{Ask}
 use Rattle.steps.specs.declared.ask.After.TheVariants.{GoOn, Done}
@@ -34,7 +34,7 @@ use Rattle.robust_laws.proofs.Effects.{both_ways}
 use Rattle.robust_laws.proofs.Effects as set_effects
 use Rattle.robust_laws.proofs.Stages.{exchanges, fails_same}
 use Rattle.container_laws.proofs.HiddenOn.{hidden_other, hidden_on, hides_it}
-use Rattle.container_laws.proofs.Invariant.{Scene, Inv, before, after, of_set, inv_of_set}
+use Rattle.container_laws.proofs.Invariant.{Scene, Inv, before, of_set, inv_of_set}
 use Rattle.container_laws.proofs.Keeping.{shut_later}
 use Rattle.container_laws.proofs.Knows.{RemoveSays, RemoveKnows}
 use Rattle.container_laws.proofs.Left.{left_of}

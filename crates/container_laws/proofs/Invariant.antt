@@ -26,6 +26,7 @@ use Rattle.model.proofs.Frame as frame
 use Rattle.model.proofs.Frame.{Family}
 use Rattle.model.proofs.Parties.{party_put_same, party_put_other}
 use Rattle.model.proofs.Readings.{AllFollow, AreRight, Each-append, span_of-other}
+use Rattle.robust_laws.specs.Gone.{Death}
 use Rattle.robust_laws.proofs.Invariant as set
 use Rattle.robust_laws.proofs.Knows.{IsSeen}
 use Rattle.container_laws.proofs.Contents.{IsWhole}
@@ -70,6 +71,7 @@ module _ {T : Type 0} where
   abbrev pub of_set : Scene T → set.Scene T
   of_set scene =
       record {
+        by = Death;
         coding = scene.coding;
         capacity = scene.capacity;
         set = record { words = scene.words; dead = scene.dead; events = scene.events };
@@ -110,7 +112,7 @@ module _ {T : Type 0} where
     pub same : s.events ≡ events
     pub same_latest : s.latest ≡ latest
     pub begun : (p : ℕ) (x : Party T) → party_of p latest ≡ Some x → 1 ≤ turns
-    pub good : set.Good c s.words s.dead events turns
+    pub good : set.Good Death c s.words s.dead events turns
     pub elements : Elements code c (moment s.words latest events) s.states turns
 
   -- ---- the family of the container
@@ -161,13 +163,14 @@ module _ {T : Type 0} where
       }
 
   pub record Inv (scene : Scene T) : Type 0 where
-    pub good : set.Good scene.capacity scene.words scene.dead scene.events scene.turns
+    pub good : set.Good Death scene.capacity scene.words scene.dead scene.events scene.turns
     pub elements : Elements scene.coding scene.capacity (moment scene.words scene.latest scene.events) scene.states scene.turns
     pub begun : 1 ≤ scene.turns
     pub small : scene.turns < 2 ^ 64 - 2
 
   pub inv_of_set : (scene : Scene T) → Inv scene → set.Inv (of_set scene)
-  inv_of_set scene inv = record { good = inv.good; begun = inv.begun; small = inv.small }
+  inv_of_set scene inv =
+      record { good = inv.good; begun = inv.begun; ahead = set.ahead_of_few Death scene.capacity scene.words scene.dead scene.events scene.turns inv.good inv.begun inv.small }
 
 -- ---- what a turn of a party does
 

@@ -38,6 +38,7 @@ use Rattle.model.specs.Moments.{HeldOnce}
 use Rattle.model.specs.Parties.{party_of}
 use Rattle.model.specs.Reading.{span_of}
 use Rattle.model.proofs.Moments.{held_later}
+use Rattle.robust_laws.specs.Gone.{Death}
 use Rattle.robust_laws.proofs.Counting.{count_later}
 use Rattle.robust_laws.proofs.Knows.{Goes, Spares, IsSeen, knows_later, held_paid, still_scanned}
 use Rattle.robust_laws.proofs.Knows as set
@@ -73,7 +74,7 @@ module _ {T : Type 0} where
   replacing c index owner value v h proper alive = h.owns proper.frees alive (may_replace index owner value v h.found h.filled proper)
 
 module _ {T : Type 0} (code : Coding T) (c : ℕ) (v : View T) (words' : List ℕ) (states' : List (ℕ × ContainerState T)) (latest' : List (ℕ × Party T)) (es : List (Event T)) (changes' : ℕ)
-    (goes : Goes v.words words' v.events es) (spares : Spares v.party v.events es) (seen : IsSeen v.words words' v.changes changes')
+    (goes : Goes v.words words' v.events es) (spares : Spares Death v.party v.events es) (seen : IsSeen v.words words' v.changes changes')
     (passes : Passes code c (now v) (record { words = words'; latest = latest'; events = v.events ++ es })) (leaves : Leaves code c v.party (now v) (record { words = words'; latest = latest'; events = v.events ++ es }))
     (span : span_of v.party (v.events ++ es) ≡ span_of v.party v.events) (same_party : party_of v.party latest' ≡ party_of v.party v.latest) (same_state : state_of v.party states' ≡ state_of v.party v.states) where
   abbrev pub later : View T
@@ -110,7 +111,7 @@ module _ {T : Type 0} (code : Coding T) (c : ℕ) (v : View T) (words' : List �
   lives owner alive = goes.lives owner alive
 
   set_knows : (flight : _) → set.Knows c flight (of_set v) → set.Knows c flight (of_set later)
-  set_knows flight h = knows_later v.words words' events es q v.since v.changes changes' v.backs goes spares seen c flight h
+  set_knows flight h = knows_later Death v.words words' events es q v.since v.changes changes' v.backs goes spares seen c flight h
 
   once : (P : List (Event T) → Type 0) → HeldOnce q P events → HeldOnce q P (events ++ es)
   once P h = held_later q P events es spares.none h
@@ -368,11 +369,11 @@ module _ {T : Type 0} (code : Coding T) (c : ℕ) (v : View T) (words' : List �
     has_left index count h.2,
   )
   recover_knows owner mode room (recovers.TheVariants.Raises index raise) h =
-      (held_paid v.words words' events es q v.since v.changes changes' v.backs goes spares seen (set.raise_holds raise) h.0, recovers_on owner (index + 1) none h.1)
+      (held_paid Death v.words words' events es q v.since v.changes changes' v.backs goes spares seen (set.raise_holds raise) h.0, recovers_on owner (index + 1) none h.1)
   recover_knows owner mode room (recovers.TheVariants.Locks index lock) h = (
-    held_paid v.words words' events es q v.since v.changes changes' v.backs goes spares seen (set.lock_holds lock) h.0,
+    held_paid Death v.words words' events es q v.since v.changes changes' v.backs goes spares seen (set.lock_holds lock) h.0,
     recovers_on owner (index + 1) none h.1,
-    still_scanned v.words words' events es q v.since v.changes changes' v.backs goes spares seen (set.lock_scan c lock) h.2,
+    still_scanned Death v.words words' events es q v.since v.changes changes' v.backs goes spares seen (set.lock_scan c lock) h.2,
   )
   recover_knows owner mode room recovers.TheVariants.LoadsCounterAgain h = (paid h.0, recovers_on owner c none h.1)
   recover_knows owner mode room (recovers.TheVariants.AddsChange state) h = (paid h.0, recover_says owner mode state h.1, hidden_later code c q owner no_index (now v) words' latest' es spares passes h.2)

@@ -183,7 +183,7 @@ module _ {T : Type 0} (code : Coding T) (t : Trace T) (s : frame.Sound (family c
         questions = questions;
         states = states;
         proper = λ proper. record {
-          holders = g.holds proper.frees;
+          holders = g.holds (proper.frees, tt);
           contents = e.contains (proper_so_far t proper);
           placed = λ before after e is. ends_placed before e (ends proper before after e is);
           hidden = λ before after e is. ends_hidden before e (ends proper before after e is);

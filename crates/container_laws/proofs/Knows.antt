@@ -39,6 +39,7 @@ use Rattle.model.specs.Families.Queues.Calls.{read_in}
 use Rattle.model.specs.Moments.{HeldOnce}
 use Rattle.model.specs.Parties.{party_of}
 use Rattle.model.specs.Reading.{Open, span_of}
+use Rattle.robust_laws.specs.Gone.{Death}
 use Rattle.robust_laws.proofs.Knows as set
 use Rattle.robust_laws.proofs.Standing.{acquire_at, release_at, borrowed_at, looking}
 use Rattle.container_laws.proofs.Contents.{Writing}
@@ -72,6 +73,7 @@ module _ {T : Type 0} where
   abbrev pub of_set : View T → set.View T
   of_set v =
       record {
+        by = Death;
         words = v.words;
         events = v.events;
         party = v.party;

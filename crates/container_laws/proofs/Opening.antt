@@ -12,6 +12,7 @@ use Rattle.model.specs.Families.Container.Opening.{opening_words}
 use Rattle.model.specs.Families.Container.States.{fresh}
 use Rattle.model.specs.Families.Indices.Robust.Opening as set_opening
 use Rattle.model.proofs.Readings.{Each-nil}
+use Rattle.robust_laws.specs.Gone.{Death}
 use Rattle.robust_laws.proofs.Core.{cell}
 use Rattle.robust_laws.proofs.Invariant as set
 use Rattle.robust_laws.proofs.Opening.{opening_cell}
@@ -56,7 +57,7 @@ module _ (z c : ℕ) where
       let long = first_long in
       get_or-append first (replicate rest 0) 0 (1 + i) (omega arith) ∙ opening_cell c i below
 
-  words_good : {T : Type 0} → 1 ≤ c → c < 2 ^ 32 → set.Good {T = T} c (opening_words z c) [] [] 0
+  words_good : {T : Type 0} → 1 ≤ c → c < 2 ^ 32 → set.Good {T = T} Death c (opening_words z c) [] [] 0
   words_good some few =
       let long = first_long in
       let all_long = rest_long in
@@ -71,8 +72,8 @@ module _ (z c : ℕ) where
         died = λ owner. refl;
         does = Each-nil _;
         answers = Each-nil _;
-        owned = λ proper. record { held = λ i owner e. absurd (cc); settled = λ i owner e. absurd (cc) };
-        holds = λ proper. Each-nil _;
+        owned = λ calm. record { held = λ i owner e. absurd (cc); settled = λ i owner e. absurd (cc) };
+        holds = λ calm. Each-nil _;
       }
 
 -- ---- a new state

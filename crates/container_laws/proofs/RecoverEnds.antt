@@ -23,11 +23,13 @@ use Rattle.model.specs.Families.Indices.Robust.Reading.{Frees, Yes, filled_after
 use Rattle.model.specs.Families.Indices.Robust.Spans.{HasJustFreed}
 use Rattle.model.specs.Parties.{flight_of}
 use Rattle.model.specs.Turns.{words_after, step_count}
+use Rattle.robust_laws.specs.Gone.{Death}
 use Rattle.robust_laws.proofs.Core.{cell}
 use Rattle.robust_laws.proofs.Deeds.{was_one, by_latest}
-use Rattle.robust_laws.proofs.Effects.{at_same, some_none, one_owner, both_ways, proper_less, filled_by}
+use Rattle.robust_laws.proofs.Effects.{at_same, some_none, one_owner, both_ways, filled_by}
 use Rattle.robust_laws.proofs.Effects as set_effects
 use Rattle.robust_laws.proofs.Frees as set_frees
+use Rattle.robust_laws.proofs.Gone.{calm_less}
 use Rattle.robust_laws.proofs.Invariant as set_invariant
 use Rattle.robust_laws.proofs.Stages.{exchanges, exchange_sets, fails_same}
 use Rattle.container_laws.proofs.Core.{count_at}
@@ -118,9 +120,9 @@ module _ {T : Type 0} (scene : Scene T) (inv : Inv scene) (owner : ℕ) (mode : 
       set_does : set_invariant.Does (of_set scene) (words_after ws empty_it) freeing
       set_does =
           set_frees.frees (of_set scene) (inv_of_set scene inv) (words_after ws empty_it) index owner stands.0.within filled (subst (LivesToRelease owner events) (sym here.span) tt)
-          (λ proper q ne o alive h. let same : owner ≡ o = one_owner (filled_of index events) owner o filled h.filled in both_ways (is_dead o events) alive (subst (λ n. is_dead n events ≡ true) same k.1.dead))
-          (λ proper o alive h.
-          let theirs = ((inv.good.owned (proper_less events freeing proper)).settled index o h).0 in
+          (λ calm q ne o alive h. let same : owner ≡ o = one_owner (filled_of index events) owner o filled h.filled in both_ways (is_dead o events) alive (subst (λ n. is_dead n events ≡ true) same k.1.dead))
+          (λ calm o alive h.
+          let theirs = ((inv.good.owned (calm_less Death events freeing calm)).settled index o h).0 in
           let same : owner ≡ o = one_owner (filled_of index events) owner o filled theirs in
           both_ways (is_dead o events) alive (subst (λ n. is_dead n events ≡ true) same k.1.dead))
           new

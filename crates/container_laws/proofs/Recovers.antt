@@ -31,7 +31,7 @@ use Rattle.model.specs.Families.Container.Promises.{HasRecovered, AnswersRight, 
 use Rattle.model.specs.Families.Container.Reading.{Sees}
 use Rattle.model.specs.Families.Container.Recoveries.{UnlockedAtLast, FilledSinceEach}
 use Rattle.model.specs.Families.Indices.Reading.{locked_after, is_locked}
-use Rattle.model.specs.Families.Indices.Robust.Promises.{IsProper, IsFilled, IsUnlocked, StillToFree}
+use Rattle.model.specs.Families.Indices.Robust.Promises.{IsFilled, IsUnlocked, StillToFree}
 use Rattle.model.specs.Families.Indices.Robust.Reading.{Frees, Yes, Locks, filled_of, holder_of, is_dead, deeds_of}
 use Rattle.model.specs.Families.Indices.Robust.Spans.{HasJustFreed}
 use Rattle.model.specs.Families.Indices.Robust.Steps.{locked_by}
@@ -40,6 +40,7 @@ use Rattle.model.specs.Reading.{Open}
 use Rattle.model.specs.Turns.{old_of, words_after}
 use Rattle.model.proofs.Moments.{held_now}
 use Rattle.model.proofs.Readings.{AllFollow}
+use Rattle.robust_laws.specs.Gone.{Death, IsCalm}
 use Rattle.robust_laws.proofs.Core.{counter_of}
 use Rattle.robust_laws.proofs.Counting.{times_below}
 use Rattle.robust_laws.proofs.Deeds.{was_one}
@@ -169,7 +170,7 @@ module _ {T : Type 0} (scene : Scene T) (inv : Inv scene) (owner : ℕ) (mode : 
     abbrev locking : List (Event T)
     locking = Locked p ∷ []
 
-    locks_set : (ask : Option Ask) → (IsProper events → (i : ℕ) → holder_of i events ≡ None) → counter_of ws ≢ locked → words_after ws ask ≡ set ws 0 locked → backs_then scene false + since_then scene ask ≤ changes_then scene ask → Few scene inv owner mode fits ask false 1 (index + 1)
+    locks_set : (ask : Option Ask) → (IsCalm Death events → (i : ℕ) → holder_of i events ≡ None) → counter_of ws ≢ locked → words_after ws ask ≡ set ws 0 locked → backs_then scene false + since_then scene ask ≤ changes_then scene ask → Few scene inv owner mode fits ask false 1 (index + 1)
         → locks_to ask false locking (Done states.TheVariants.Locked)
     locks_set ask nobody open_now new paid few =
         let set_does = set_locks.locks (of_set scene) (inv_of_set scene inv) (words_after ws ask) [] set_effects.quiet_none tt tt tt nobody open_now new in

@@ -39,7 +39,7 @@ use Rattle.model.specs.Families.Container.Promises.{FreedRight, AnswersRight, pr
 use Rattle.model.specs.Families.Container.Reading.{Act, contents_after}
 use Rattle.model.specs.Families.Container.Spans.{HasDone}
 use Rattle.model.specs.Families.Indices.Reading.{locked_after, is_locked}
-use Rattle.model.specs.Families.Indices.Robust.Promises.{IsUnlocked, IsProper, LivesToRelease, MayGiveBack}
+use Rattle.model.specs.Families.Indices.Robust.Promises.{IsUnlocked, LivesToRelease, MayGiveBack}
 use Rattle.model.specs.Families.Indices.Robust.Reading.{Deed, Frees, Locks, deeds, filled_of, holder_of, settled_of, is_dead, IsOneOf}
 use Rattle.model.specs.Families.Queues.Calls.{as_it_is}
 use Rattle.model.specs.Moments.{SinceBegin}
@@ -50,6 +50,7 @@ use Rattle.model.specs.Step.{as_call}
 use Rattle.model.specs.Turns.{words_after, step_count}
 use Rattle.model.proofs.Moments.{held_now}
 use Rattle.model.proofs.Readings.{AllFollow, no_more}
+use Rattle.robust_laws.specs.Gone.{Death, is_gone, IsCalm}
 use Rattle.robust_laws.proofs.Core.{counter_of}
 use Rattle.robust_laws.proofs.Deeds.{was_one}
 use Rattle.robust_laws.proofs.Effects as set_effects
@@ -155,8 +156,8 @@ module _ {T : Type 0} (scene : Scene T) (inv : Inv scene) (index owner : ℕ) (m
     lives : LivesToRelease owner events (span_of p events)
     lives = subst (LivesToRelease owner events) (sym here.span) alive
 
-    began : IsProper (events ++ FreedOf p index owner ∷ []) → SinceBegin p (λ part since. settled_of index part ≡ Some owner) events
-    began proper = subst (MayGiveBack p index events) here.span (proper events [] (FreedOf p index owner) refl)
+    began : IsCalm Death (events ++ FreedOf p index owner ∷ []) → (is_gone Death owner events ≡ false) × SinceBegin p (λ part since. settled_of index part ≡ Some owner) events
+    began calm = (alive, subst (MayGiveBack p index events) here.span (calm.0 events [] (FreedOf p index owner) refl))
 
     abbrev Lead : Option Ask → Bool → List (Event T) → After set_calls.Release Released → Type 0
     Lead ask back did a =
@@ -229,13 +230,13 @@ module _ {T : Type 0} (scene : Scene T) (inv : Inv scene) (index owner : ℕ) (m
     none_stands freed t = hidden_even code c p owner index count (before scene) inv.elements.whole below (even_is count t) (stands_still freed)
 
     -- what the end of the release says
-    says_now : (m : ReleaseMode) → mode ≡ m → (state : ReleaseState) → Ends (of_set scene) (inv_of_set scene inv) index owner mode fits below alive lives began 1 m state → RemoveSays code c index owner m state (sees_now scene)
+    says_now : (m : ReleaseMode) → mode ≡ m → (state : ReleaseState) → Ends (of_set scene) (inv_of_set scene inv) index owner mode fits below lives began 1 m state → RemoveSays code c index owner m state (sees_now scene)
     says_now Default is states.TheVariants.Locked why = absurd why
     says_now Default is states.TheVariants.Unlocked why = tt
     says_now LockIfLastIndex is states.TheVariants.Locked why = why
     says_now LockIfLastIndex is states.TheVariants.Unlocked why = (held_now p IsUnlocked events why.0, why.1)
 
-    done_now : (m : ReleaseMode) (state : ReleaseState) → Ends (of_set scene) (inv_of_set scene inv) index owner mode fits below alive lives began 1 m state → all scene ≡ Frees index owner ∷ [] → HasDone {T = T} (Remove index owner m) (answers.State state) (all scene) []
+    done_now : (m : ReleaseMode) (state : ReleaseState) → Ends (of_set scene) (inv_of_set scene inv) index owner mode fits below lives began 1 m state → all scene ≡ Frees index owner ∷ [] → HasDone {T = T} (Remove index owner m) (answers.State state) (all scene) []
     done_now Default states.TheVariants.Locked why freed = absurd why
     done_now Default states.TheVariants.Unlocked why freed = freed
     done_now LockIfLastIndex states.TheVariants.Locked why freed = inl freed
@@ -247,7 +248,7 @@ module _ {T : Type 0} (scene : Scene T) (inv : Inv scene) (index owner : ℕ) (m
     says_calm LockIfLastIndex states.TheVariants.Unlocked v' same party h = rw (same, party) h
 
     -- the release has ended with this state
-    released : (state : ReleaseState) (ask : Option Ask) (back : Bool) → set_effects.Stays (of_set scene) (words_after ws ask) → Ends (of_set scene) (inv_of_set scene inv) index owner mode fits below alive lives began 1 mode state → all scene ≡ Frees index owner ∷ []
+    released : (state : ReleaseState) (ask : Option Ask) (back : Bool) → set_effects.Stays (of_set scene) (words_after ws ask) → Ends (of_set scene) (inv_of_set scene inv) index owner mode fits below lives began 1 mode state → all scene ≡ Frees index owner ∷ []
         → backs_then scene back + since_then scene ask ≤ changes_then scene ask → steps + step_count ask ≤ 1 + release_total c index owner mode (backs_then scene back) → Lead ask back [] (Done (Ok state))
     released state ask back stays why freed paid few = go (is_even count) refl
       where
@@ -260,7 +261,7 @@ module _ {T : Type 0} (scene : Scene T) (inv : Inv scene) (index owner : ℕ) (m
             (paid, says_calm mode state (SeesCalmly (removes.TheVariants.Hides count state) ask back) refl refl (says_now mode refl state why), left_calm (removes.TheVariants.Hides count state) ask back stays (has_left freed), stands_calm scene start tt here.span owner (words_after ws ask) (then_at (removes.TheVariants.Hides count state) ask back) index count (stays.others (count_word c index) (omega arith)) (stands_still freed))
 
     -- and with the lock
-    locked_by : (ask : Option Ask) → mode ≡ LockIfLastIndex → (IsProper events → (i : ℕ) → holder_of i events ≡ None) → counter_of ws ≢ locked → words_after ws ask ≡ set ws 0 locked → all scene ≡ Frees index owner ∷ [] → backs_then scene false + since_then scene ask ≤ changes_then scene ask
+    locked_by : (ask : Option Ask) → mode ≡ LockIfLastIndex → (IsCalm Death events → (i : ℕ) → holder_of i events ≡ None) → counter_of ws ≢ locked → words_after ws ask ≡ set ws 0 locked → all scene ≡ Frees index owner ∷ [] → backs_then scene false + since_then scene ask ≤ changes_then scene ask
         → steps + step_count ask ≤ 1 + release_total c index owner mode (backs_then scene false) → Lead ask false (Locked p ∷ []) (Done (Ok states.TheVariants.Locked))
     locked_by ask may_lock nobody open_now new freed paid few = go (is_even count) refl
       where
@@ -310,7 +311,7 @@ module _ {T : Type 0} (scene : Scene T) (inv : Inv scene) (index owner : ℕ) (m
             (refl, given_is, fits, (below, done_then, subst (λ d. IsOneOf (Frees index owner) (d ++ Locks ∷ [])) (sym freed) (record { before = []; after = Locks ∷ []; is = refl }), ap (λ (d : List (Act T)). d ++ []) nothing, odd_is count t))
             (paid, says, left_then (then_at (removes.TheVariants.Hides count states.TheVariants.Locked) ask false), stands_then (then_at (removes.TheVariants.Hides count states.TheVariants.Locked) ask false))
 
-    caller : Caller (of_set scene) (inv_of_set scene inv) index owner mode fits below alive lives began 1 Lead
+    caller : Caller (of_set scene) (inv_of_set scene inv) index owner mode fits below lives began 1 Lead
     caller =
         record {
           quiet = λ next ask back stays at known few.
@@ -331,7 +332,7 @@ module _ {T : Type 0} (scene : Scene T) (inv : Inv scene) (index owner : ℕ) (m
                   below = low same;
                   left = λ holds is. fold-append (left_after index) true events es ∙ set_effects.at_same index index true (left_of index events) refl;
                 },
-                hidden_freed scene start tt here.span owner inv index count below (words_after ws ask) y same (λ holds i was. absurd (no_more was.before (Frees i owner) was.after (sym none ∙ was.is))) (λ earlier holds. covers none earlier alive (began holds.frees)),
+                hidden_freed scene start tt here.span owner inv index count below (words_after ws ask) y same (λ holds i was. absurd (no_more was.before (Frees i owner) was.after (sym none ∙ was.is))) (λ earlier holds. covers none earlier alive (began (holds.frees, tt)).1),
               );
           refused = λ ask same other none paid few. refuses this here refl ask same other none (omega arith) few;
           ended = λ state ask back stays why freed paid few. released state ask back stays why freed paid few;
@@ -347,7 +348,7 @@ module _ {T : Type 0} (scene : Scene T) (inv : Inv scene) (index owner : ℕ) (m
             go (releases.TheVariants.Locks lock) at h = let was = h.below in omega arith
 
     release_step : set_knows.Knows c (release_at c index owner mode stage) (set_stages.now (of_set scene)) → steps ≤ 1 + release_number c mode stage backs → StepOf scene start (at_stage (removes.TheVariants.Releases count stage))
-    release_step k s = held_step (of_set scene) (inv_of_set scene inv) index owner mode fits below alive lives began 1 Lead caller stage now_at k s
+    release_step k s = held_step (of_set scene) (inv_of_set scene inv) index owner mode fits below lives began 1 Lead caller stage now_at k s
 
   -- ---- the number is loaded
 

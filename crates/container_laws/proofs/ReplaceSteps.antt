@@ -206,7 +206,7 @@ module _ {T : Type 0} (scene : Scene T) (inv : Inv scene) (index : ℕ) (value :
     mine proper = inr (replacing c index owner value (sees_now scene) k proper alive)
 
     nobody_else : {A : Type 0} → Proper (before scene) → (q : ℕ) → q ≢ p → (o : ℕ) → IsWriter q i o events → A
-    nobody_else holds q ne o theirs = absurd (ne (one_writer q p i o owner events (inv.good.owned holds.frees) theirs (mine holds)))
+    nobody_else holds q ne o theirs = absurd (ne (one_writer q p i o owner events (inv.good.owned (holds.frees, tt)) theirs (mine holds)))
 
     knows_calm : (stage next : ReplaceStage) → Here stage → (ask : Ask) → ReplaceKnows c index owner value (SeesCalmly next ask)
     knows_calm stage next here ask =

@@ -12,6 +12,7 @@ use Rattle.model.specs.Families.Container.Reading.{TakesNot, NoneTakes, MayRepla
 use Rattle.model.specs.Families.Indices.Robust.Promises.{IsProper}
 use Rattle.model.specs.Families.Indices.Robust.Reading.{settled_after, settled_of, is_dead}
 use Rattle.model.specs.Moments.{BeginsNone}
+use Rattle.robust_laws.specs.Gone.{Death}
 use Rattle.robust_laws.proofs.Knows.{Goes, Spares}
 use Rattle.robust_laws.proofs.Past.{began_earlier, since_begun}
 use Rattle.container_laws.proofs.Replacers.{replacer_after, replacer_of}
@@ -79,20 +80,20 @@ module _ {T : Type 0} where
   replacers_stay i o party (e ∷ es) h = ap (λ r. fold (replacer_after i o) r es) (replacer_stays i o party e h.0) ∙ replacers_stay i o party es h.1
 
   -- any turn of another party leaves a replace its right
-  pub replace_later : (words words' : List ℕ) (events es : List (Event T)) (q i o : ℕ) → Goes words words' events es → Spares q events es → ReplaceOwns q i o events → ReplaceOwns q i o (events ++ es)
+  pub replace_later : (words words' : List ℕ) (events es : List (Event T)) (q i o : ℕ) → Goes words words' events es → Spares Death q events es → ReplaceOwns q i o events → ReplaceOwns q i o (events ++ es)
   replace_later words words' events es q i o goes spares h proper alive may =
       let before = earlier q i o events es spares.none may in
       let lives = goes.lives o alive in
       let own = h (goes.proper proper) lives before.may in
       record {
-        settled = spares.settled proper i o lives own.settled before.none;
+        settled = spares.settled (proper, tt) i o lives own.settled before.none;
         latest = fold-append (replacer_after i o) None events es ∙ (replacers_stay i o (replacer_of i o events) es before.none ∙ own.latest);
       }
 
   -- and any turn of another party an add its own
-  pub add_later : (words words' : List ℕ) (events es : List (Event T)) (q i o : ℕ) → Goes words words' events es → Spares q events es
+  pub add_later : (words words' : List ℕ) (events es : List (Event T)) (q i o : ℕ) → Goes words words' events es → Spares Death q events es
       → (IsProper events → is_dead o events ≡ false → Adds q i o events) → IsProper (events ++ es) → is_dead o (events ++ es) ≡ false → Adds q i o (events ++ es)
   add_later words words' events es q i o goes spares h proper alive =
       let lives = goes.lives o alive in
       let own = h (goes.proper proper) lives in
-      record { by = spares.owned proper i o lives own.by; held = spares.held proper i o lives own.by own.held }
+      record { by = spares.owned (proper, tt) i o lives own.by; held = spares.held (proper, tt) i o lives own.by own.held }

@@ -99,10 +99,10 @@ module _ {T : Type 0} (scene : Scene T) (inv : Inv scene) (start : ContainerStar
       not_here holds q ne o lives theirs =
           ⊎_elim
           (λ (h : IsBy q i o events).
-          let k = (does.spares q ne).owned holds.frees i o lives h in
+          let k = (does.spares q ne).owned (holds.frees, tt) i o lives h in
           some_none (filled_of i (events ++ free)) o (fold-append (filled_after i) None events free ∙ at_same i i None (filled_of i events) refl) k.filled)
           (λ (h : Replacing q i o events).
-          let k = (does.spares q ne).settled holds.frees i o lives h.settled (tt, tt) in
+          let k = (does.spares q ne).settled (holds.frees, tt) i o lives h.settled (tt, tt) in
           some_none (settled_of i (events ++ free)) o (fold-append (settled_after i) None events free ∙ at_same i i None (settled_of i events) refl) k)
           theirs
 

@@ -12,22 +12,24 @@ use Rattle.model.specs.declared.event.Start.TheVariants.{Container}
 use Rattle.model.specs.declared.families.container.ContainerStart.{ContainerStart}
 use Rattle.model.specs.declared.families.container.ContainerStart.TheVariants.{Add}
 use Rattle.model.specs.Families.Indices.Reading.{locked_after, is_locked}
-use Rattle.model.specs.Families.Indices.Robust.Promises.{cell_of, SetDoes, AnswersRight, IsProper, HoldsRight}
+use Rattle.model.specs.Families.Indices.Robust.Promises.{cell_of, SetDoes, HoldsRight}
 use Rattle.model.specs.Families.Indices.Robust.Reading.{deeds, filled_after, filled_of, holder_after, holder_of, settled_after, settled_of, dead_after, is_dead, wrote_in}
 use Rattle.model.proofs.Readings.{Each-append, span_of-other}
+use Rattle.robust_laws.specs.Gone.{IsCalm, AnswersBy}
 use Rattle.robust_laws.proofs.Core.{counter_of, cell}
 use Rattle.robust_laws.proofs.Effects.{Leaves, Quiet, at_same, at_other, one_owner, one_party, proper_less}
+use Rattle.robust_laws.proofs.Gone.{calm_less}
 use Rattle.robust_laws.proofs.Invariant.{Scene, Inv, Good, Does}
 use Rattle.robust_laws.proofs.Rights.{Right, Settled, By, right_after, right_of, IsBy}
 use Rattle.container_laws.proofs.Writers.{Adds}
 
 module _ {T : Type 0} (scene : Scene T) (inv : Inv scene) where
-  open scene use {capacity as c, party as p, turns as turns, events as events}
+  open scene use {by as by, capacity as c, party as p, turns as turns, events as events}
 
   abbrev ws : List ℕ
   ws = scene.set.words
 
-  g : Good c ws scene.set.dead events turns
+  g : Good by c ws scene.set.dead events turns
   g = inv.good
 
   -- ---- a word behind the cells changes
@@ -69,7 +71,7 @@ module _ {T : Type 0} (scene : Scene T) (inv : Inv scene) where
 
   -- ---- an add that was granted an index is done
 
-  module _ (words' : List ℕ) (stays : Leaves scene words') (i owner : ℕ) (value : T) (alive : is_dead owner events ≡ false) (mine : IsProper events → Adds p i owner events) where
+  module _ (words' : List ℕ) (stays : Leaves scene words') (i owner : ℕ) (value : T) (alive : is_dead owner events ≡ false) (mine : IsCalm by events → Adds p i owner events) where
     abbrev es : List (Event T)
     es = Finished p (Container (Add value owner)) (Index i) ∷ []
 
@@ -97,25 +99,25 @@ module _ {T : Type 0} (scene : Scene T) (inv : Inv scene) where
     same_dead : (o : ℕ) → is_dead o (events ++ es) ≡ is_dead o events
     same_dead o = fold-append (dead_after o) false events es
 
-    still_settled : (proper : IsProper events) (j o : ℕ) → settled_of j (events ++ es) ≡ Some o → (filled_of j (events ++ es) ≡ Some o) × (right_of j (events ++ es) ≡ Settled o)
-    still_settled proper j o e = ⊎_elim here there (cases_eq j i)
+    still_settled : (calm : IsCalm by events) (j o : ℕ) → settled_of j (events ++ es) ≡ Some o → (filled_of j (events ++ es) ≡ Some o) × (right_of j (events ++ es) ≡ Settled o)
+    still_settled calm j o e = ⊎_elim here there (cases_eq j i)
       where
         here : j ≡ i → (filled_of j (events ++ es) ≡ Some o) × (right_of j (events ++ es) ≡ Settled o)
         here same =
             let is : owner ≡ o = one_owner (settled_of j (events ++ es)) owner o (settled_here j same) e in
-            (same_filled j ∙ (ap (λ k. filled_of k events) same ∙ ((mine proper).by.filled ∙ ap Some is)), right_here j same ∙ ap Settled is)
+            (same_filled j ∙ (ap (λ k. filled_of k events) same ∙ ((mine calm).by.filled ∙ ap Some is)), right_here j same ∙ ap Settled is)
 
         there : j ≢ i → (filled_of j (events ++ es) ≡ Some o) × (right_of j (events ++ es) ≡ Settled o)
-        there ne = let was = (g.owned proper).settled j o (sym (settled_there j ne) ∙ e) in (same_filled j ∙ was.0, right_there j ne ∙ was.1)
+        there ne = let was = (g.owned calm).settled j o (sym (settled_there j ne) ∙ e) in (same_filled j ∙ was.0, right_there j ne ∙ was.1)
 
-    other_index : IsProper events → (q : ℕ) → q ≢ p → (j o : ℕ) → IsBy q j o events → j ≢ i
-    other_index proper q ne j o h same =
-        ne (one_party (right_of i events) p q (mine proper).by.right (subst (λ k. IsBy q k o events) same h).right)
+    other_index : IsCalm by events → (q : ℕ) → q ≢ p → (j o : ℕ) → IsBy q j o events → j ≢ i
+    other_index calm q ne j o h same =
+        ne (one_party (right_of i events) p q (mine calm).by.right (subst (λ k. IsBy q k o events) same h).right)
 
-    unsettled : IsProper events → (j o : ℕ) → settled_of j events ≡ Some o → j ≢ i
-    unsettled proper j o h same =
-        let theirs : right_of j events ≡ Settled o = ((g.owned proper).settled j o h).1 in
-        let ours : right_of j events ≡ By p = ap (λ k. right_of k events) same ∙ (mine proper).by.right in
+    unsettled : IsCalm by events → (j o : ℕ) → settled_of j events ≡ Some o → j ≢ i
+    unsettled calm j o h same =
+        let theirs : right_of j events ≡ Settled o = ((g.owned calm).settled j o h).1 in
+        let ours : right_of j events ≡ By p = ap (λ k. right_of k events) same ∙ (mine calm).by.right in
         let both : Settled o ≡ By p = sym theirs ∙ ours in
         absurd (cc)
 
@@ -134,11 +136,11 @@ module _ {T : Type 0} (scene : Scene T) (inv : Inv scene) where
                 low = λ t. let low = stays.low (g.lock ∙ (sym same_lock ∙ t)) in omega arith;
                 died = λ o. g.died o ∙ sym (same_dead o);
                 does = Each-append (SetDoes c) events es g.does (tt, tt);
-                answers = Each-append (AnswersRight c) events es g.answers (tt, tt);
-                owned = λ proper.
-                    let less = proper_less events es proper in
+                answers = Each-append (AnswersBy by c) events es g.answers (tt, tt);
+                owned = λ calm.
+                    let less = calm_less by events es calm in
                     record { held = λ j o e. same_filled j ∙ (g.owned less).held j o (sym (same_holder j) ∙ e); settled = still_settled less };
-                holds = λ proper. Each-append HoldsRight events es (g.holds (proper_less events es proper)) (tt, tt);
+                holds = λ calm. Each-append HoldsRight events es (g.holds (calm_less by events es calm)) (tt, tt);
               };
           goes =
               record {
@@ -153,10 +155,10 @@ module _ {T : Type 0} (scene : Scene T) (inv : Inv scene) where
               record {
                 none = tt;
                 deeds = ap (λ s. deeds (wrote_in s)) (span_of-other p q events es ne (refl, tt));
-                owned = λ proper j o lives h.
-                    record { right = right_there j (other_index (proper_less events es proper) q ne j o h) ∙ h.right; filled = same_filled j ∙ h.filled };
-                unheld = λ proper j o lives h none. same_holder j ∙ none;
-                held = λ proper j o lives h here. same_holder j ∙ here;
-                settled = λ proper j o lives h none. settled_there j (unsettled (proper_less events es proper) j o h) ∙ h;
+                owned = λ calm j o lives h.
+                    record { right = right_there j (other_index (calm_less by events es calm) q ne j o h) ∙ h.right; filled = same_filled j ∙ h.filled };
+                unheld = λ calm j o lives h none. same_holder j ∙ none;
+                held = λ calm j o lives h here. same_holder j ∙ here;
+                settled = λ calm j o lives h none. settled_there j (unsettled (calm_less by events es calm) j o h) ∙ h;
               };
         }

@@ -12,9 +12,10 @@ use Rattle.model.specs.declared.families.container.calls.ContainerFlight.{Contai
 use Rattle.model.specs.declared.party.Party.{Party}
 use Rattle.model.specs.Families.Container.Reading.{contents_after, announced_after}
 use Rattle.model.specs.Families.Indices.Reading.{locked_after}
-use Rattle.model.specs.Families.Indices.Robust.Promises.{SetDoes, AnswersRight, HoldsRight}
+use Rattle.model.specs.Families.Indices.Robust.Promises.{SetDoes, HoldsRight}
 use Rattle.model.specs.Families.Indices.Robust.Reading.{filled_after, holder_after, settled_after, dead_after}
 use Rattle.model.proofs.Readings.{AreOwn, AreRight}
+use Rattle.robust_laws.specs.Gone.{Death, AnswersBy}
 use Rattle.robust_laws.proofs.Effects.{Quiet, stays_same, quietly}
 use Rattle.robust_laws.proofs.Invariant as set_invariant
 use Rattle.robust_laws.proofs.Rights.{Right, right_after}
@@ -153,7 +154,7 @@ module _ {T : Type 0} where
   holds_right earlier (Finished p start answer) h = tt
   holds_right earlier e h = absurd h
 
-  answers_right : (c : ℕ) (earlier : List (Event T)) (e : Event T) → Silent e → AnswersRight c earlier e
+  answers_right : (c : ℕ) (earlier : List (Event T)) (e : Event T) → Silent e → AnswersBy Death c earlier e
   answers_right c earlier (Asked p index owner) h = tt
   answers_right c earlier (Told p index owner) h = tt
   answers_right c earlier (Copied p index value) h = tt
@@ -183,7 +184,7 @@ module _ {T : Type 0} (scene : Scene T) (inv : Inv scene) (words' : List ℕ) (s
   -- of the set
   pub silent_set : set_invariant.Does (of_set scene) words' es
   silent_set =
-      quietly (of_set scene) (inv_of_set scene inv) words' es (stays_same (of_set scene) (inv_of_set scene inv) words' same).leaves (silent_quiet es silent) own (all_right (SetDoes c) (does_right c) events es silent) (all_right (AnswersRight c) (answers_right c) events es silent)
+      quietly (of_set scene) (inv_of_set scene inv) words' es (stays_same (of_set scene) (inv_of_set scene inv) words' same).leaves (silent_quiet es silent) own (all_right (SetDoes c) (does_right c) events es silent) (all_right (AnswersBy Death c) (answers_right c) events es silent)
 
   -- of the elements
   pub silent_changes : (proper : Proper (after scene words' y es) → Proper (before scene)) → OwesStill scene inv words' y es proper → Changes scene words' y es

@@ -36,6 +36,7 @@ use Rattle.model.proofs.Frame as frame
 use Rattle.model.proofs.Readings.{Each-nil, span_of-own, span_of-death}
 use Rattle.model.proofs.Rows.{row_passed, MayBegin, MayDie}
 use Rattle.model.proofs.Scenes.{asked, StandsThere, stands_there, ComesFrom, comes_from}
+use Rattle.robust_laws.specs.Gone.{Death}
 use Rattle.robust_laws.proofs.Invariant as set
 use Rattle.robust_laws.proofs.Opening.{admitted_is}
 use Rattle.container_laws.proofs.Invariant.{ContainerNow, Scene, Fit, Inv, Elements, Does, Shows, Knowing, moment, before, view, family, wrote_of, at_written, owes, holds_more, then_is}
@@ -59,20 +60,20 @@ module _ {T : Type 0} where
         (view scene.words (states_at_begin scene.coding scene.capacity start scene.party scene.states) (put scene.party (first_party scene.capacity scene.changes start) scene.latest) (scene.events ++ Begun scene.party (Container start) ∷ []) scene.party scene.changes scene.changes 0)
 
   pub record Dies (code : Coding T) (c : ℕ) (words dead : List ℕ) (states : List (ℕ × ContainerState T)) (latest : List (ℕ × Party T)) (events : List (Event T)) (turns o : ℕ) : Type 0 where
-    pub good : set.Good c words (dead_with o dead) (events ++ Died o ∷ []) (turns + 1)
+    pub good : set.Good Death c words (dead_with o dead) (events ++ Died o ∷ []) (turns + 1)
     pub elements : Elements code c (moment words latest (events ++ Died o ∷ [])) states (turns + 1)
     pub knows : (q since changes backs : ℕ) (flight : ContainerFlight T) → Knows code c flight (view words states latest events q since changes backs) → Knows code c flight (view words states latest (events ++ Died o ∷ []) q since changes backs)
 
   pub record Opens (code : Coding T) (c : ℕ) : Type 0 where
-    pub good : set.Good {T = T} c (opening_words code.size c) [] [] 0
+    pub good : set.Good {T = T} Death c (opening_words code.size c) [] [] 0
     pub elements : Elements code c (moment (opening_words code.size c) [] []) [] 0
 
 -- all that is shown of the family's turns
 pub record Shown (T : Type 0) : Type 0 where
   pub calls : (scene : Scene T) → Inv scene → CallSteps scene
-  pub begins : (scene : Scene T) → set.Good scene.capacity scene.words scene.dead scene.events scene.turns → Elements scene.coding scene.capacity (before scene) scene.states scene.turns → scene.turns < 2 ^ 64 - 2
+  pub begins : (scene : Scene T) → set.Good Death scene.capacity scene.words scene.dead scene.events scene.turns → Elements scene.coding scene.capacity (before scene) scene.states scene.turns → scene.turns < 2 ^ 64 - 2
       → flight_of (doing_of (party_of scene.party scene.latest)) ≡ None → IsShut (span_of scene.party scene.events) → (start : ContainerStart T) → names_owner start ≡ true → first_row (call_rows scene.dead start) ≡ None → Begins scene start
-  pub dies : (code : Coding T) (c : ℕ) (words dead : List ℕ) (states : List (ℕ × ContainerState T)) (latest : List (ℕ × Party T)) (events : List (Event T)) (turns o : ℕ) → set.Good c words dead events turns → Elements code c (moment words latest events) states turns → is_dead o events ≡ false
+  pub dies : (code : Coding T) (c : ℕ) (words dead : List ℕ) (states : List (ℕ × ContainerState T)) (latest : List (ℕ × Party T)) (events : List (Event T)) (turns o : ℕ) → set.Good Death c words dead events turns → Elements code c (moment words latest events) states turns → is_dead o events ≡ false
       → Dies code c words dead states latest events turns o
   pub opens : (code : Coding T) (c : ℕ) → IsCoding code → 1 ≤ c → c < 2 ^ 32 → Opens code c
 

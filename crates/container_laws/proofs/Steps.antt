@@ -124,12 +124,12 @@ module _ {T : Type 0} (scene : Scene T) (inv : Inv scene) (start : ContainerStar
       nothing holds = place_none code c ws events (e.whole holds) e.wide i below value (writing holds)
 
       no_other : {A : Type 0} → Proper (before scene) → (q : ℕ) → q ≢ p → (o : ℕ) → IsWriter q i o events → A
-      no_other holds q ne o theirs = absurd (ne (one_writer q p i o owner events (inv.good.owned holds.frees) theirs (mine holds)))
+      no_other holds q ne o theirs = absurd (ne (one_writer q p i o owner events (inv.good.owned (holds.frees, tt)) theirs (mine holds)))
 
       -- its owner, who lives, fills the index
       fills_it : {A : Type 0} → Proper (before scene) → (o : ℕ) → is_dead o events ≡ true → filled_of i events ≡ Some o → A
       fills_it holds o dead filled =
-          let its : filled_of i events ≡ Some owner = ⊎_elim (λ by. by.filled) (λ replacing. ((inv.good.owned holds.frees).settled i owner replacing.settled).0) (mine holds) in
+          let its : filled_of i events ≡ Some owner = ⊎_elim (λ by. by.filled) (λ replacing. ((inv.good.owned (holds.frees, tt)).settled i owner replacing.settled).0) (mine holds) in
           let same : owner ≡ o = one_owner (filled_of i events) owner o its filled in
           both_ways (is_dead owner events) alive (subst (λ n. is_dead n events ≡ true) (sym same) dead)
 

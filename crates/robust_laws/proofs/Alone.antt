@@ -7,24 +7,26 @@ use Rattle.steps.specs.Indices.Robust.Parts.{locked}
 use Rattle.model.specs.declared.event.Event.{Event}
 use Rattle.model.specs.declared.event.Event.TheVariants.{Granted}
 use Rattle.model.specs.Families.Indices.Reading.{locked_after, is_locked}
-use Rattle.model.specs.Families.Indices.Robust.Promises.{cell_of, SetDoes, AnswersRight, IsProper, HoldsRight}
+use Rattle.model.specs.Families.Indices.Robust.Promises.{cell_of, SetDoes, HoldsRight}
 use Rattle.model.specs.Families.Indices.Robust.Reading.{deeds, filled_after, filled_of, holder_after, holder_of, settled_after, settled_of, dead_after, is_dead, wrote_in}
 use Rattle.model.proofs.Readings.{Each-append, span_of-other}
+use Rattle.robust_laws.specs.Gone.{IsCalm, AnswersBy}
 use Rattle.robust_laws.proofs.Core.{counter_of, counter_set}
 use Rattle.robust_laws.proofs.Effects.{Leaves, at_same, at_other, one_owner, one_party, proper_less, stays_raised, unlocked}
+use Rattle.robust_laws.proofs.Gone.{calm_less}
 use Rattle.robust_laws.proofs.Invariant.{Scene, Inv, Good, Does}
 use Rattle.robust_laws.proofs.Rights.{right_after, right_of, IsBy, AreOwned}
 
 module _ {T : Type 0} (scene : Scene T) (inv : Inv scene) where
-  open scene use {capacity as c, party as p, turns as turns, events as events}
+  open scene use {by as by, capacity as c, party as p, turns as turns, events as events}
 
   abbrev ws : List ℕ
   ws = scene.set.words
 
-  g : Good c ws scene.set.dead events turns
+  g : Good by c ws scene.set.dead events turns
   g = inv.good
 
-  module _ (words' : List ℕ) (i owner : ℕ) (mine : IsProper events → IsBy p i owner events × (holder_of i events ≡ None)) (alive : is_dead owner events ≡ false) (open_now : counter_of ws ≢ locked) (new : words' ≡ set ws 0 (counter_of ws + 1)) where
+  module _ (words' : List ℕ) (i owner : ℕ) (mine : IsCalm by (events ++ Granted p i owner ∷ []) → IsBy p i owner events × (holder_of i events ≡ None)) (alive : is_dead owner events ≡ false) (open_now : counter_of ws ≢ locked) (new : words' ≡ set ws 0 (counter_of ws + 1)) where
     abbrev es : List (Event T)
     es = Granted p i owner ∷ []
 
@@ -56,22 +58,22 @@ module _ {T : Type 0} (scene : Scene T) (inv : Inv scene) where
     same_dead o = fold-append (dead_after o) false events es
 
     -- the party has the right to it, and its owner holds it
-    pub owns_then : IsProper (events ++ es) → IsBy p i owner (events ++ es) × (holder_of i (events ++ es) ≡ Some owner)
-    owns_then proper =
-        let k = (mine (proper_less events es proper)).0 in
+    pub owns_then : IsCalm by (events ++ es) → IsBy p i owner (events ++ es) × (holder_of i (events ++ es) ≡ Some owner)
+    owns_then calm =
+        let k = (mine calm).0 in
         (record { right = same_right i ∙ k.right; filled = same_filled i ∙ k.filled }, holder_here i refl)
 
-    still_held : IsProper events → AreOwned events → (j o : ℕ) → holder_of j (events ++ es) ≡ Some o → filled_of j (events ++ es) ≡ Some o
-    still_held proper h j o e = ⊎_elim here (λ ne. same_filled j ∙ h.held j o (sym (holder_there j ne) ∙ e)) (cases_eq j i)
+    still_held : IsCalm by (events ++ es) → AreOwned events → (j o : ℕ) → holder_of j (events ++ es) ≡ Some o → filled_of j (events ++ es) ≡ Some o
+    still_held calm h j o e = ⊎_elim here (λ ne. same_filled j ∙ h.held j o (sym (holder_there j ne) ∙ e)) (cases_eq j i)
       where
         here : j ≡ i → filled_of j (events ++ es) ≡ Some o
         here same =
             let is : owner ≡ o = one_owner (holder_of j (events ++ es)) owner o (holder_here j same) e in
-            same_filled j ∙ (ap (λ k. filled_of k events) same ∙ ((mine proper).0.filled ∙ ap Some is))
+            same_filled j ∙ (ap (λ k. filled_of k events) same ∙ ((mine calm).0.filled ∙ ap Some is))
 
-    other_index : IsProper events → (q : ℕ) → q ≢ p → (j o : ℕ) → IsBy q j o events → j ≢ i
-    other_index proper q ne j o h same =
-        ne (one_party (right_of i events) p q (mine proper).0.right (subst (λ k. IsBy q k o events) same h).right)
+    other_index : IsCalm by (events ++ es) → (q : ℕ) → q ≢ p → (j o : ℕ) → IsBy q j o events → j ≢ i
+    other_index calm q ne j o h same =
+        ne (one_party (right_of i events) p q (mine calm).0.right (subst (λ k. IsBy q k o events) same h).right)
 
     pub grants_alone : Does scene words' (Granted p i owner ∷ [])
     grants_alone =
@@ -88,15 +90,14 @@ module _ {T : Type 0} (scene : Scene T) (inv : Inv scene) where
                 low = λ t. let low = stays.low (g.lock ∙ (sym same_lock ∙ t)) in omega arith;
                 died = λ o. g.died o ∙ sym (same_dead o);
                 does = Each-append (SetDoes c) events es g.does ((unlocked scene inv open_now, alive), tt);
-                answers = Each-append (AnswersRight c) events es g.answers (tt, tt);
-                owned = λ proper.
-                    let less = proper_less events es proper in
-                    let h = g.owned less in
+                answers = Each-append (AnswersBy by c) events es g.answers (tt, tt);
+                owned = λ calm.
+                    let h = g.owned (calm_less by events es calm) in
                     record {
-                      held = still_held less h;
+                      held = still_held calm h;
                       settled = λ j o e. let k = h.settled j o (sym (same_settled j) ∙ e) in (same_filled j ∙ k.0, same_right j ∙ k.1);
                     };
-                holds = λ proper. let less = proper_less events es proper in Each-append HoldsRight events es (g.holds less) ((mine less).1, tt);
+                holds = λ calm. Each-append HoldsRight events es (g.holds (calm_less by events es calm)) ((mine calm).1, tt);
               };
           goes =
               record {
@@ -111,9 +112,9 @@ module _ {T : Type 0} (scene : Scene T) (inv : Inv scene) where
               record {
                 none = tt;
                 deeds = ap (λ s. deeds (wrote_in s)) (span_of-other p q events es ne (refl, tt));
-                owned = λ proper j o alive h. record { right = same_right j ∙ h.right; filled = same_filled j ∙ h.filled };
-                unheld = λ proper j o alive h none. holder_there j (other_index (proper_less events es proper) q ne j o h) ∙ none;
-                held = λ proper j o alive h here. holder_there j (other_index (proper_less events es proper) q ne j o h) ∙ here;
-                settled = λ proper j o alive h none. same_settled j ∙ h;
+                owned = λ calm j o alive h. record { right = same_right j ∙ h.right; filled = same_filled j ∙ h.filled };
+                unheld = λ calm j o alive h none. holder_there j (other_index calm q ne j o h) ∙ none;
+                held = λ calm j o alive h here. holder_there j (other_index calm q ne j o h) ∙ here;
+                settled = λ calm j o alive h none. same_settled j ∙ h;
               };
         }

@@ -10,11 +10,13 @@ use Rattle.model.specs.declared.families.indices.robust.RobustStart.{RobustStart
 use Rattle.model.specs.declared.families.indices.robust.RobustStart.TheVariants.{Release}
 use Rattle.model.specs.Families.Indices.Reading.{locked_after, is_locked}
 use Rattle.model.specs.Families.Container.Reading.{NoneTakes}
-use Rattle.model.specs.Families.Indices.Robust.Promises.{cell_of, SetDoes, AnswersRight, HoldsRight}
+use Rattle.model.specs.Families.Indices.Robust.Promises.{cell_of, SetDoes, HoldsRight}
 use Rattle.model.specs.Families.Indices.Robust.Reading.{without, deeds, filled_after, filled_of, holder_after, holder_of, settled_after, settled_of, dead_after, is_dead, wrote_in}
 use Rattle.model.proofs.Moments.{others_begin_none}
 use Rattle.model.proofs.Readings.{Each-append, span_of-other}
+use Rattle.robust_laws.specs.Gone.{AnswersBy}
 use Rattle.robust_laws.proofs.Effects.{at_same, at_other, proper_less}
+use Rattle.robust_laws.proofs.Gone.{calm_less}
 use Rattle.robust_laws.proofs.Invariant.{Scene, Good, Does}
 use Rattle.robust_laws.proofs.Rights.{Right, Settled, By, taken_by, right_after, right_of, AreOwned}
 
@@ -80,8 +82,8 @@ module _ {T : Type 0} where
       ∙ (at_same index index (taken_by p owner (right_of index events)) (right_of index events) refl
       ∙ (ap (taken_by p owner) e ∙ ap (λ b. if b then By p else Settled owner) (eq-eqb owner owner refl)))
 
-module _ {T : Type 0} (scene : Scene T) (g : Good scene.capacity scene.set.words scene.set.dead scene.events scene.turns) (start : RobustStart) where
-  open scene use {capacity as c, party as p, turns as turns, events as events}
+module _ {T : Type 0} (scene : Scene T) (g : Good scene.by scene.capacity scene.set.words scene.set.dead scene.events scene.turns) (start : RobustStart) where
+  open scene use {by as by, capacity as c, party as p, turns as turns, events as events}
 
   abbrev es : List (Event T)
   es = Begun p (Robust start) ∷ []
@@ -118,11 +120,11 @@ module _ {T : Type 0} (scene : Scene T) (g : Good scene.capacity scene.set.words
               low = λ t. let low = g.low (sym same_lock ∙ t) in omega arith;
               died = λ o. g.died o ∙ sym (same_dead o);
               does = Each-append (SetDoes c) events es g.does (tt, tt);
-              answers = Each-append (AnswersRight c) events es g.answers (tt, tt);
-              owned = λ proper.
-                  let h = g.owned (proper_less events es proper) in
+              answers = Each-append (AnswersBy by c) events es g.answers (tt, tt);
+              owned = λ calm.
+                  let h = g.owned (calm_less by events es calm) in
                   record { held = λ i owner e. same_filled i ∙ h.held i owner (sym (same_holder i) ∙ e); settled = settles h };
-              holds = λ proper. Each-append HoldsRight events es (g.holds (proper_less events es proper)) (tt, tt);
+              holds = λ calm. Each-append HoldsRight events es (g.holds (calm_less by events es calm)) (tt, tt);
             };
         goes =
             record {
@@ -137,9 +139,9 @@ module _ {T : Type 0} (scene : Scene T) (g : Good scene.capacity scene.set.words
             record {
               none = others_begin_none q p es ne (refl, tt);
               deeds = ap (λ s. deeds (wrote_in s)) (span_of-other p q events es ne (refl, tt));
-              owned = λ proper i owner alive h. record { right = fold-append (right_after i) _ events es ∙ still_by T p q start i (right_of i events) h.right; filled = same_filled i ∙ h.filled };
-              unheld = λ proper i owner alive h none. same_holder i ∙ none;
-              held = λ proper i owner alive h here. same_holder i ∙ here;
-              settled = λ proper i owner alive h none. fold-append (settled_after i) None events es ∙ not_taken_from T p start i owner (settled_of i events) h none;
+              owned = λ calm i owner alive h. record { right = fold-append (right_after i) _ events es ∙ still_by T p q start i (right_of i events) h.right; filled = same_filled i ∙ h.filled };
+              unheld = λ calm i owner alive h none. same_holder i ∙ none;
+              held = λ calm i owner alive h here. same_holder i ∙ here;
+              settled = λ calm i owner alive h none. fold-append (settled_after i) None events es ∙ not_taken_from T p start i owner (settled_of i events) h none;
             };
       }

@@ -8,11 +8,13 @@ use Rattle.model.specs.declared.families.Flight.{Flight}
 use Rattle.model.specs.declared.families.Flight as flights
 use Rattle.model.specs.Families.Indices.Reading.{locked_after, is_locked}
 use Rattle.model.specs.Families.Indices.Robust.Dead.{has_died, dead_with}
-use Rattle.model.specs.Families.Indices.Robust.Promises.{cell_of, SetDoes, AnswersRight, HoldsRight}
+use Rattle.model.specs.Families.Indices.Robust.Promises.{cell_of, SetDoes, HoldsRight}
 use Rattle.model.specs.Families.Indices.Robust.Reading.{deeds, filled_after, filled_of, holder_after, holder_of, settled_after, settled_of, dead_after, is_dead, wrote_in}
 use Rattle.model.proofs.Dead.{died_now, died_before}
 use Rattle.model.proofs.Readings.{Each-append, span_of-death}
+use Rattle.robust_laws.specs.Gone.{GoneBy, AnswersBy}
 use Rattle.robust_laws.proofs.Effects.{proper_less}
+use Rattle.robust_laws.proofs.Gone.{calm_less}
 use Rattle.robust_laws.proofs.Invariant.{Good, Knowing, view}
 use Rattle.robust_laws.proofs.Knows.{Goes, Spares, knows_later}
 use Rattle.robust_laws.proofs.Rights.{right_after, right_of}
@@ -30,7 +32,7 @@ died_with q o dead = ⊎_elim now before (cases_eq q o)
 
 -- ---- what a death does to the set and to all parties
 
-module _ {T : Type 0} (c : ℕ) (words dead : List ℕ) (events : List (Event T)) (turns o : ℕ) (g : Good c words dead events turns) (alive : is_dead o events ≡ false) where
+module _ {T : Type 0} (by : GoneBy) (c : ℕ) (words dead : List ℕ) (events : List (Event T)) (turns o : ℕ) (g : Good by c words dead events turns) (alive : is_dead o events ≡ false) where
   abbrev es : List (Event T)
   es = Died o ∷ []
 
@@ -60,7 +62,7 @@ module _ {T : Type 0} (c : ℕ) (words dead : List ℕ) (events : List (Event T)
   was_alive true d e = absurd (cc)
   was_alive false d e = e
 
-  pub death_good : Good c words (dead_with o dead) (events ++ es) (turns + 1)
+  pub death_good : Good by c words (dead_with o dead) (events ++ es) (turns + 1)
   death_good =
       record {
         some = g.some;
@@ -72,14 +74,14 @@ module _ {T : Type 0} (c : ℕ) (words dead : List ℕ) (events : List (Event T)
         low = λ t. let low = g.low (sym same_lock ∙ t) in omega arith;
         died = λ q. died_with q o dead ∙ (ap (λ b. (o == q) || b) (g.died q) ∙ sym (dead_then q));
         does = Each-append (SetDoes c) events es g.does (alive, tt);
-        answers = Each-append (AnswersRight c) events es g.answers (tt, tt);
-        owned = λ proper.
-            let h = g.owned (proper_less events es proper) in
+        answers = Each-append (AnswersBy by c) events es g.answers (tt, tt);
+        owned = λ calm.
+            let h = g.owned (calm_less by events es calm) in
             record {
               held = λ i owner e. same_filled i ∙ h.held i owner (sym (same_holder i) ∙ e);
               settled = λ i owner e. let k = h.settled i owner (sym (same_settled i) ∙ e) in (same_filled i ∙ k.0, same_right i ∙ k.1);
             };
-        holds = λ proper. Each-append HoldsRight events es (g.holds (proper_less events es proper)) (tt, tt);
+        holds = λ calm. Each-append HoldsRight events es (g.holds (calm_less by events es calm)) (tt, tt);
       }
 
   pub death_goes : Goes words words events es
@@ -93,17 +95,17 @@ module _ {T : Type 0} (c : ℕ) (words dead : List ℕ) (events : List (Event T)
         proper = proper_less events es;
       }
 
-  pub death_spares : (q : ℕ) → Spares q events es
+  pub death_spares : (q : ℕ) → Spares by q events es
   death_spares q =
       record {
         none = tt;
         deeds = ap (λ s. deeds (wrote_in s)) (span_of-death q events o);
-        owned = λ proper i owner lives h. record { right = same_right i ∙ h.right; filled = same_filled i ∙ h.filled };
-        unheld = λ proper i owner lives h none. same_holder i ∙ none;
-        held = λ proper i owner lives h here. same_holder i ∙ here;
-        settled = λ proper i owner lives h none. same_settled i ∙ h;
+        owned = λ calm i owner lives h. record { right = same_right i ∙ h.right; filled = same_filled i ∙ h.filled };
+        unheld = λ calm i owner lives h none. same_holder i ∙ none;
+        held = λ calm i owner lives h here. same_holder i ∙ here;
+        settled = λ calm i owner lives h none. same_settled i ∙ h;
       }
 
-  pub death_known : (q since changes backs : ℕ) (flight : Flight T) → Knowing c flight (view words events q since changes backs) → Knowing c flight (view words (events ++ es) q since changes backs)
-  death_known q since changes backs (flights.TheVariants.Robust flight) h = knows_later words words events es q since changes changes backs death_goes (death_spares q) (inl (refl, refl)) c flight h
+  pub death_known : (q since changes backs : ℕ) (flight : Flight T) → Knowing c flight (view by words events q since changes backs) → Knowing c flight (view by words (events ++ es) q since changes backs)
+  death_known q since changes backs (flights.TheVariants.Robust flight) h = knows_later by words words events es q since changes changes backs death_goes (death_spares q) (inl (refl, refl)) c flight h
   death_known q since changes backs flight h = absurd h

@@ -10,12 +10,14 @@ use Rattle.model.specs.declared.event.Event.TheVariants.{Filled, Asked, Told, Fi
 use Rattle.model.specs.declared.event.Start.TheVariants.{Robust}
 use Rattle.model.specs.declared.families.indices.robust.RobustStart.{RobustStart}
 use Rattle.model.specs.Families.Indices.Reading.{locked_after, is_locked}
-use Rattle.model.specs.Families.Indices.Robust.Promises.{cell_of, SetDoes, AnswersRight, IsProper, HoldsRight, IsUnlocked}
+use Rattle.model.specs.Families.Indices.Robust.Promises.{cell_of, SetDoes, IsProper, HoldsRight, IsUnlocked}
 use Rattle.model.specs.Families.Indices.Robust.Reading.{deeds, filled_after, filled_of, holder_after, holder_of, settled_after, settled_of, dead_after, is_dead, wrote_in}
 use Rattle.model.specs.Moments.{HeldOnce}
 use Rattle.model.proofs.Moments.{others_begin_none}
 use Rattle.model.proofs.Readings.{AreRight, Each-append, AreOwn, span_of-other}
+use Rattle.robust_laws.specs.Gone.{IsCalm, AnswersBy}
 use Rattle.robust_laws.proofs.Core.{counter_of, cell, counter_set, cells_stay, counter_stays, cell_set, cell_stays}
+use Rattle.robust_laws.proofs.Gone.{calm_less}
 use Rattle.robust_laws.proofs.Invariant.{Scene, Inv, Good, Does}
 use Rattle.robust_laws.proofs.Rights.{Right, Settled, By, right_after, right_of, IsBy, AreOwned}
 
@@ -74,7 +76,7 @@ module _ {T : Type 0} where
   proper_less events es all before after e is = all before (after ++ es) e (ap (λ xs. xs ++ es) is ∙ append_assoc before (e ∷ after) es)
 
 module _ {T : Type 0} (scene : Scene T) where
-  open scene use {capacity as c, party as p, turns as turns, events as events}
+  open scene use {by as by, capacity as c, party as p, turns as turns, events as events}
 
   abbrev ws : List ℕ
   ws = scene.set.words
@@ -97,17 +99,12 @@ module _ {T : Type 0} (scene : Scene T) where
     pub others : (n : ℕ) → 1 ≤ n → get_or words' n 0 ≡ get_or ws n 0
 
   module _ (inv : Inv scene) where
-    g : Good c ws dead events turns
+    g : Good by c ws dead events turns
     g = inv.good
 
     -- an unlocked counter is before its end, also once it is raised
     pub before_end : counter_of ws ≢ locked → counter_of ws + 1 < 2 ^ 64 - 2
-    before_end open_now =
-        let t : (counter_of ws == locked) ≡ false = ne_eqb (counter_of ws) locked open_now in
-        let low = g.low (sym g.lock ∙ t) in
-        let small = inv.small in
-        let begun = inv.begun in
-        omega arith
+    before_end open_now = inv.ahead open_now
 
     pub unlocked : counter_of ws ≢ locked → is_locked events ≡ false
     unlocked open_now = sym g.lock ∙ ne_eqb (counter_of ws) locked open_now
@@ -172,7 +169,7 @@ module _ {T : Type 0} (scene : Scene T) where
 
     -- ---- a step that is quiet
 
-    module _ (words' : List ℕ) (es : List (Event T)) (stays : Leaves words') (quiet : Quiet es) (own : AreOwn p es) (right : AreRight (SetDoes c) events es) (answers : AreRight (AnswersRight c) events es) where
+    module _ (words' : List ℕ) (es : List (Event T)) (stays : Leaves words') (quiet : Quiet es) (own : AreOwn p es) (right : AreRight (SetDoes c) events es) (answers : AreRight (AnswersBy by c) events es) where
       filled_more : (i : ℕ) → filled_of i (events ++ es) ≡ filled_of i events
       filled_more i = fold-append (filled_after i) None events es ∙ quiet.filled i (filled_of i events)
 
@@ -191,9 +188,9 @@ module _ {T : Type 0} (scene : Scene T) where
       dead_more : (owner : ℕ) → is_dead owner (events ++ es) ≡ is_dead owner events
       dead_more owner = fold-append (dead_after owner) false events es ∙ quiet.dead owner (is_dead owner events)
 
-      still_owned : IsProper (events ++ es) → AreOwned (events ++ es)
-      still_owned proper =
-          let h = g.owned (proper_less events es proper) in
+      still_owned : IsCalm by (events ++ es) → AreOwned (events ++ es)
+      still_owned calm =
+          let h = g.owned (calm_less by events es calm) in
           record {
             held = λ i owner e. filled_more i ∙ h.held i owner (sym (holder_more i) ∙ e);
             settled = λ i owner e. let k = h.settled i owner (sym (settled_more i) ∙ e) in (filled_more i ∙ k.0, right_more i ∙ k.1);
@@ -214,9 +211,9 @@ module _ {T : Type 0} (scene : Scene T) where
                   low = λ t. let low = stays.low (g.lock ∙ (sym locked_more ∙ t)) in omega arith;
                   died = λ owner. g.died owner ∙ sym (dead_more owner);
                   does = Each-append (SetDoes c) events es g.does right;
-                  answers = Each-append (AnswersRight c) events es g.answers answers;
+                  answers = Each-append (AnswersBy by c) events es g.answers answers;
                   owned = still_owned;
-                  holds = λ proper. Each-append HoldsRight events es (g.holds (proper_less events es proper)) (quiet.holds events);
+                  holds = λ calm. Each-append HoldsRight events es (g.holds (calm_less by events es calm)) (quiet.holds events);
                 };
             goes =
                 record {
@@ -231,10 +228,10 @@ module _ {T : Type 0} (scene : Scene T) where
                 record {
                   none = others_begin_none q p es ne own;
                   deeds = ap (λ s. deeds (wrote_in s)) (span_of-other p q events es ne own);
-                  owned = λ proper i owner alive h. record { right = right_more i ∙ h.right; filled = filled_more i ∙ h.filled };
-                  unheld = λ proper i owner alive h none. holder_more i ∙ none;
-                  held = λ proper i owner alive h here. holder_more i ∙ here;
-                  settled = λ proper i owner alive h none. settled_more i ∙ h;
+                  owned = λ calm i owner alive h. record { right = right_more i ∙ h.right; filled = filled_more i ∙ h.filled };
+                  unheld = λ calm i owner alive h none. holder_more i ∙ none;
+                  held = λ calm i owner alive h here. holder_more i ∙ here;
+                  settled = λ calm i owner alive h none. settled_more i ∙ h;
                 };
           }
 
@@ -331,9 +328,9 @@ module _ {T : Type 0} (scene : Scene T) where
                   low = λ t. let low = g.low (sym fill_locked ∙ t) in let is : counter_of words' ≡ counter_of ws = ap counter_of new ∙ counter_stays ws i owner in omega arith;
                   died = λ o. g.died o ∙ sym (fill_dead o);
                   does = Each-append (SetDoes c) events fill g.does ((below, none, alive, was_open), tt);
-                  answers = Each-append (AnswersRight c) events fill g.answers (tt, tt);
-                  owned = λ proper. let h = g.owned (proper_less events fill proper) in record { held = fill_held h; settled = fill_settles h };
-                  holds = λ proper. Each-append HoldsRight events fill (g.holds (proper_less events fill proper)) (tt, tt);
+                  answers = Each-append (AnswersBy by c) events fill g.answers (tt, tt);
+                  owned = λ calm. let h = g.owned (calm_less by events fill calm) in record { held = fill_held h; settled = fill_settles h };
+                  holds = λ calm. Each-append HoldsRight events fill (g.holds (calm_less by events fill calm)) (tt, tt);
                 };
             goes =
                 record {
@@ -348,9 +345,9 @@ module _ {T : Type 0} (scene : Scene T) where
                 record {
                   none = tt;
                   deeds = ap (λ s. deeds (wrote_in s)) (span_of-other p q events fill ne (refl, tt));
-                  owned = λ proper j o lives h. fill_by q j o h;
-                  unheld = λ proper j o lives h unheld. fill_holder j ∙ unheld;
-                  held = λ proper j o lives h here. fill_holder j ∙ here;
-                  settled = λ proper j o lives h none. fill_settled j ∙ h;
+                  owned = λ calm j o lives h. fill_by q j o h;
+                  unheld = λ calm j o lives h unheld. fill_holder j ∙ unheld;
+                  held = λ calm j o lives h here. fill_holder j ∙ here;
+                  settled = λ calm j o lives h none. fill_settled j ∙ h;
                 };
           }

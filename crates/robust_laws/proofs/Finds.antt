@@ -32,7 +32,7 @@ module _ {T : Type 0} (scene : Scene T) (inv : Inv scene) (owner : ℕ) (fits : 
   abbrev ws : List ℕ
   ws = scene.set.words
 
-  g : Good c ws scene.set.dead events scene.turns
+  g : Good scene.by c ws scene.set.dead events scene.turns
   g = inv.good
 
   abbrev call_at : FindStage → calls.Find

@@ -7,17 +7,19 @@ use Rattle.steps.specs.Indices.Robust.Parts.{cell_word, empty, locked}
 use Rattle.model.specs.declared.event.Event.{Event}
 use Rattle.model.specs.declared.event.Event.TheVariants.{FreedOf}
 use Rattle.model.specs.Families.Indices.Reading.{locked_after, is_locked}
-use Rattle.model.specs.Families.Indices.Robust.Promises.{cell_of, SetDoes, AnswersRight, IsProper, HoldsRight, LivesToRelease}
+use Rattle.model.specs.Families.Indices.Robust.Promises.{cell_of, SetDoes, HoldsRight, LivesToRelease}
 use Rattle.model.specs.Families.Indices.Robust.Reading.{deeds, filled_after, filled_of, holder_after, holder_of, settled_after, settled_of, dead_after, is_dead, wrote_in}
 use Rattle.model.specs.Reading.{span_of}
 use Rattle.model.proofs.Readings.{Each-append, span_of-other}
+use Rattle.robust_laws.specs.Gone.{is_gone, IsCalm, AnswersBy}
 use Rattle.robust_laws.proofs.Core.{counter_of, cell, counter_stays, cell_set, cell_stays}
 use Rattle.robust_laws.proofs.Effects.{at_same, at_other, some_none, proper_less}
+use Rattle.robust_laws.proofs.Gone.{calm_less}
 use Rattle.robust_laws.proofs.Invariant.{Scene, Inv, Good, Does}
 use Rattle.robust_laws.proofs.Rights.{Nobody, Settled, right_after, right_of, IsBy, AreOwned}
 
 module _ {T : Type 0} (scene : Scene T) (inv : Inv scene) where
-  open scene use {capacity as c, party as p, turns as turns, events as events}
+  open scene use {by as by, capacity as c, party as p, turns as turns, events as events}
 
   abbrev ws : List ℕ
   ws = scene.set.words
@@ -25,15 +27,15 @@ module _ {T : Type 0} (scene : Scene T) (inv : Inv scene) where
   abbrev dead : List ℕ
   dead = scene.set.dead
 
-  g : Good c ws dead events turns
+  g : Good by c ws dead events turns
   g = inv.good
 
   abbrev pub free : ℕ → ℕ → List (Event T)
   free i owner = FreedOf p i owner ∷ []
 
   module _ (words' : List ℕ) (i owner : ℕ) (below : i < c) (filled : filled_of i events ≡ Some owner) (lives : LivesToRelease owner events (span_of p events))
-      (mine : IsProper (events ++ free i owner) → (q : ℕ) → q ≢ p → (o : ℕ) → is_dead o events ≡ false → IsBy q i o events → ⊥)
-      (unsettled : IsProper (events ++ free i owner) → (o : ℕ) → is_dead o events ≡ false → settled_of i events ≡ Some o → ⊥) (new : words' ≡ set ws (cell_word i) empty) where
+      (mine : IsCalm by (events ++ free i owner) → (q : ℕ) → q ≢ p → (o : ℕ) → is_gone by o events ≡ false → IsBy q i o events → ⊥)
+      (unsettled : IsCalm by (events ++ free i owner) → (o : ℕ) → is_gone by o events ≡ false → settled_of i events ≡ Some o → ⊥) (new : words' ≡ set ws (cell_word i) empty) where
     abbrev es : List (Event T)
     es = FreedOf p i owner ∷ []
 
@@ -102,11 +104,11 @@ module _ {T : Type 0} (scene : Scene T) (inv : Inv scene) where
     unheld_then : (j : ℕ) → holder_of j events ≡ None → holder_of j (events ++ es) ≡ None
     unheld_then j none = ⊎_elim (holder_here j) (λ ne. holder_there j ne ∙ none) (cases_eq j i)
 
-    owned_then : IsProper (events ++ es) → (q : ℕ) → q ≢ p → (j o : ℕ) → is_dead o events ≡ false → IsBy q j o events → IsBy q j o (events ++ es)
-    owned_then proper q ne j o alive h = ⊎_elim here there (cases_eq j i)
+    owned_then : IsCalm by (events ++ es) → (q : ℕ) → q ≢ p → (j o : ℕ) → is_gone by o events ≡ false → IsBy q j o events → IsBy q j o (events ++ es)
+    owned_then calm q ne j o alive h = ⊎_elim here there (cases_eq j i)
       where
         here : j ≡ i → IsBy q j o (events ++ es)
-        here same = absurd (mine proper q ne o alive (subst (λ k. IsBy q k o events) same h))
+        here same = absurd (mine calm q ne o alive (subst (λ k. IsBy q k o events) same h))
 
         there : j ≢ i → IsBy q j o (events ++ es)
         there other = record { right = right_there j other ∙ h.right; filled = filled_there j other ∙ h.filled }
@@ -126,9 +128,9 @@ module _ {T : Type 0} (scene : Scene T) (inv : Inv scene) where
                 low = λ t. let low = g.low (sym same_lock ∙ t) in let is = counter_same in omega arith;
                 died = λ o. g.died o ∙ sym (same_dead o);
                 does = Each-append (SetDoes c) events es g.does ((filled, lives), tt);
-                answers = Each-append (AnswersRight c) events es g.answers (tt, tt);
-                owned = λ proper. let h = g.owned (proper_less events es proper) in record { held = still_held h; settled = still_settled h };
-                holds = λ proper. Each-append HoldsRight events es (g.holds (proper_less events es proper)) (tt, tt);
+                answers = Each-append (AnswersBy by c) events es g.answers (tt, tt);
+                owned = λ calm. let h = g.owned (calm_less by events es calm) in record { held = still_held h; settled = still_settled h };
+                holds = λ calm. Each-append HoldsRight events es (g.holds (calm_less by events es calm)) (tt, tt);
               };
           goes =
               record {
@@ -143,13 +145,13 @@ module _ {T : Type 0} (scene : Scene T) (inv : Inv scene) where
               record {
                 none = tt;
                 deeds = ap (λ s. deeds (wrote_in s)) (span_of-other p q events es ne (refl, tt));
-                owned = λ proper j o alive h. owned_then proper q ne j o alive h;
-                unheld = λ proper j o alive h none. unheld_then j none;
-                held = λ proper j o alive h here. ⊎_elim
-                    (λ same. absurd (mine proper q ne o alive (subst (λ k. IsBy q k o events) same h)))
+                owned = λ calm j o alive h. owned_then calm q ne j o alive h;
+                unheld = λ calm j o alive h none. unheld_then j none;
+                held = λ calm j o alive h here. ⊎_elim
+                    (λ same. absurd (mine calm q ne o alive (subst (λ k. IsBy q k o events) same h)))
                     (λ other. holder_there j other ∙ here) (cases_eq j i);
-                settled = λ proper j o alive h none. ⊎_elim
-                    (λ same. absurd (unsettled proper o alive (subst (λ k. settled_of k events ≡ Some o) same h)))
+                settled = λ calm j o alive h none. ⊎_elim
+                    (λ same. absurd (unsettled calm o alive (subst (λ k. settled_of k events ≡ Some o) same h)))
                     (λ other. settled_there j other ∙ h) (cases_eq j i);
               };
         }

@@ -1,5 +1,5 @@
 -- What the last step of an acquire does by which an index is granted: it raises the counter.
-use Rattle.std.proofs.Common.{◌≡◌, ◌≢◌, ℕ, ◌+◌, ⊎_elim, false, Some, None, List, [], ◌∷◌, ◌++◌, set, refl, sym, ap, subst, ◌∙◌, arith}
+use Rattle.std.proofs.Common.{◌≡◌, ◌≢◌, ℕ, ◌+◌, ⊎_elim, false, Some, None, List, [], ◌∷◌, ◌++◌, set, refl, sym, ap, subst, ◌∙◌, append_assoc, arith}
 use Rattle.std.proofs.lemmas.Bool.{cases_eq}
 use Rattle.std.proofs.lemmas.List.Sums.{fold-append}
 use Rattle.steps.specs.Indices.Robust.Parts.{locked}
@@ -9,29 +9,43 @@ use Rattle.model.specs.declared.event.Event.TheVariants.{Granted, Finished}
 use Rattle.model.specs.declared.event.Start.TheVariants.{Robust}
 use Rattle.model.specs.declared.families.indices.robust.RobustStart.TheVariants.{Acquire}
 use Rattle.model.specs.Families.Indices.Reading.{locked_after, is_locked}
-use Rattle.model.specs.Families.Indices.Robust.Promises.{cell_of, SetDoes, AnswersRight, IsProper, HoldsRight}
+use Rattle.model.specs.Families.Indices.Robust.Promises.{cell_of, SetDoes, HoldsRight}
 use Rattle.model.specs.Families.Indices.Robust.Reading.{deeds, filled_after, filled_of, holder_after, holder_of, settled_after, settled_of, dead_after, is_dead, wrote_in}
 use Rattle.model.proofs.Readings.{Each-append, span_of-other}
+use Rattle.robust_laws.specs.Gone.{IsCalm, AnswersBy}
 use Rattle.robust_laws.proofs.Core.{counter_of, counter_set}
 use Rattle.robust_laws.proofs.Effects.{Leaves, at_same, at_other, one_owner, one_party, proper_less, stays_raised, unlocked}
+use Rattle.robust_laws.proofs.Gone.{calm_less}
 use Rattle.robust_laws.proofs.Invariant.{Scene, Inv, Good, Does}
 use Rattle.robust_laws.proofs.Rights.{Settled, By, right_after, right_of, IsBy, AreOwned}
 
 module _ {T : Type 0} (scene : Scene T) (inv : Inv scene) where
-  open scene use {capacity as c, party as p, turns as turns, events as events}
+  open scene use {by as by, capacity as c, party as p, turns as turns, events as events}
 
   abbrev ws : List ℕ
   ws = scene.set.words
 
-  g : Good c ws scene.set.dead events turns
+  g : Good by c ws scene.set.dead events turns
   g = inv.good
 
   abbrev pub grant : ℕ → ℕ → List (Event T)
   grant i owner = Granted p i owner ∷ Finished p (Robust (Acquire owner)) (Index i) ∷ []
 
-  module _ (words' : List ℕ) (i owner : ℕ) (mine : IsProper events → IsBy p i owner events × (holder_of i events ≡ None)) (alive : is_dead owner events ≡ false) (open_now : counter_of ws ≢ locked) (new : words' ≡ set ws 0 (counter_of ws + 1)) where
+  module _ (words' : List ℕ) (i owner : ℕ) (mine : IsCalm by (events ++ Granted p i owner ∷ []) → IsBy p i owner events × (holder_of i events ≡ None)) (alive : is_dead owner events ≡ false) (open_now : counter_of ws ≢ locked) (new : words' ≡ set ws 0 (counter_of ws + 1)) where
     abbrev es : List (Event T)
     es = Granted p i owner ∷ Finished p (Robust (Acquire owner)) (Index i) ∷ []
+
+    abbrev granting : List (Event T)
+    granting = Granted p i owner ∷ []
+
+    -- it was calm where the index was granted
+    by_then : IsCalm by (events ++ es) → IsCalm by (events ++ granting)
+    by_then calm =
+        let ending = Finished p (Robust (Acquire owner)) (Index i) ∷ [] in
+        calm_less by (events ++ granting) ending (subst (IsCalm by) (sym (append_assoc events granting ending)) calm)
+
+    were_owned : IsCalm by (events ++ granting) → AreOwned events
+    were_owned calm = g.owned (calm_less by events granting calm)
 
     stays : Leaves scene words'
     stays = (stays_raised scene inv words' open_now new).leaves
@@ -66,17 +80,17 @@ module _ {T : Type 0} (scene : Scene T) (inv : Inv scene) where
     same_dead : (o : ℕ) → is_dead o (events ++ es) ≡ is_dead o events
     same_dead o = fold-append (dead_after o) false events es
 
-    filled_mine : IsProper events → (j : ℕ) → j ≡ i → filled_of j (events ++ es) ≡ Some owner
-    filled_mine proper j e = same_filled j ∙ (ap (λ k. filled_of k events) e ∙ (mine proper).0.filled)
+    filled_mine : IsCalm by (events ++ granting) → (j : ℕ) → j ≡ i → filled_of j (events ++ es) ≡ Some owner
+    filled_mine calm j e = same_filled j ∙ (ap (λ k. filled_of k events) e ∙ (mine calm).0.filled)
 
-    module _ (proper : IsProper events) (h : AreOwned events) where
+    module _ (calm : IsCalm by (events ++ granting)) (h : AreOwned events) where
       still_held : (j o : ℕ) → holder_of j (events ++ es) ≡ Some o → filled_of j (events ++ es) ≡ Some o
       still_held j o e = ⊎_elim here (λ ne. same_filled j ∙ h.held j o (sym (holder_there j ne) ∙ e)) (cases_eq j i)
         where
           here : j ≡ i → filled_of j (events ++ es) ≡ Some o
           here same =
               let is : owner ≡ o = one_owner (holder_of j (events ++ es)) owner o (holder_here j same) e in
-              filled_mine proper j same ∙ ap Some is
+              filled_mine calm j same ∙ ap Some is
 
       still_settled : (j o : ℕ) → settled_of j (events ++ es) ≡ Some o → (filled_of j (events ++ es) ≡ Some o) × (right_of j (events ++ es) ≡ Settled o)
       still_settled j o e = ⊎_elim here there (cases_eq j i)
@@ -84,7 +98,7 @@ module _ {T : Type 0} (scene : Scene T) (inv : Inv scene) where
           here : j ≡ i → (filled_of j (events ++ es) ≡ Some o) × (right_of j (events ++ es) ≡ Settled o)
           here same =
               let is : owner ≡ o = one_owner (settled_of j (events ++ es)) owner o (settled_here j same) e in
-              (filled_mine proper j same ∙ ap Some is, right_here j same ∙ ap Settled is)
+              (filled_mine calm j same ∙ ap Some is, right_here j same ∙ ap Settled is)
 
           there : j ≢ i → (filled_of j (events ++ es) ≡ Some o) × (right_of j (events ++ es) ≡ Settled o)
           there ne =
@@ -92,21 +106,21 @@ module _ {T : Type 0} (scene : Scene T) (inv : Inv scene) where
               (same_filled j ∙ was.0, right_there j ne ∙ was.1)
 
     -- no other party has a right to it
-    other_index : IsProper events → (q : ℕ) → q ≢ p → (j o : ℕ) → IsBy q j o events → j ≢ i
-    other_index proper q ne j o h same =
-        ne (one_party (right_of i events) p q (mine proper).0.right (subst (λ k. IsBy q k o events) same h).right)
+    other_index : IsCalm by (events ++ granting) → (q : ℕ) → q ≢ p → (j o : ℕ) → IsBy q j o events → j ≢ i
+    other_index calm q ne j o h same =
+        ne (one_party (right_of i events) p q (mine calm).0.right (subst (λ k. IsBy q k o events) same h).right)
 
     -- nor is it settled
-    unsettled : IsProper events → (j o : ℕ) → settled_of j events ≡ Some o → j ≢ i
-    unsettled proper j o h same =
-        let theirs : right_of j events ≡ Settled o = ((g.owned proper).settled j o h).1 in
-        let ours : right_of j events ≡ By p = ap (λ k. right_of k events) same ∙ (mine proper).0.right in
+    unsettled : IsCalm by (events ++ granting) → (j o : ℕ) → settled_of j events ≡ Some o → j ≢ i
+    unsettled calm j o h same =
+        let theirs : right_of j events ≡ Settled o = ((were_owned calm).settled j o h).1 in
+        let ours : right_of j events ≡ By p = ap (λ k. right_of k events) same ∙ (mine calm).0.right in
         let both : Settled o ≡ By p = sym theirs ∙ ours in
         absurd (cc)
 
-    owned_then : IsProper events → (q : ℕ) → q ≢ p → (j o : ℕ) → IsBy q j o events → IsBy q j o (events ++ es)
-    owned_then proper q ne j o h =
-        record { right = right_there j (other_index proper q ne j o h) ∙ h.right; filled = same_filled j ∙ h.filled }
+    owned_then : IsCalm by (events ++ granting) → (q : ℕ) → q ≢ p → (j o : ℕ) → IsBy q j o events → IsBy q j o (events ++ es)
+    owned_then calm q ne j o h =
+        record { right = right_there j (other_index calm q ne j o h) ∙ h.right; filled = same_filled j ∙ h.filled }
 
     pub grants : Does scene words' (grant i owner)
     grants =
@@ -123,12 +137,9 @@ module _ {T : Type 0} (scene : Scene T) (inv : Inv scene) where
                 low = λ t. let low = stays.low (g.lock ∙ (sym same_lock ∙ t)) in omega arith;
                 died = λ o. g.died o ∙ sym (same_dead o);
                 does = Each-append (SetDoes c) events es g.does ((unlocked scene inv open_now, alive), (tt, tt));
-                answers = Each-append (AnswersRight c) events es g.answers (tt, (tt, tt));
-                owned = λ proper.
-                    let less = proper_less events es proper in
-                    let h = g.owned less in
-                    record { held = still_held less h; settled = still_settled less h };
-                holds = λ proper. let less = proper_less events es proper in Each-append HoldsRight events es (g.holds less) ((mine less).1, (tt, tt));
+                answers = Each-append (AnswersBy by c) events es g.answers (tt, (tt, tt));
+                owned = λ calm. let h = were_owned (by_then calm) in record { held = still_held (by_then calm) h; settled = still_settled (by_then calm) h };
+                holds = λ calm. Each-append HoldsRight events es (g.holds (calm_less by events es calm)) ((mine (by_then calm)).1, (tt, tt));
               };
           goes =
               record {
@@ -143,9 +154,9 @@ module _ {T : Type 0} (scene : Scene T) (inv : Inv scene) where
               record {
                 none = tt;
                 deeds = ap (λ s. deeds (wrote_in s)) (span_of-other p q events es ne (refl, (refl, tt)));
-                owned = λ proper j o alive h. owned_then (proper_less events es proper) q ne j o h;
-                unheld = λ proper j o alive h none. holder_there j (other_index (proper_less events es proper) q ne j o h) ∙ none;
-                held = λ proper j o alive h here. holder_there j (other_index (proper_less events es proper) q ne j o h) ∙ here;
-                settled = λ proper j o alive h none. settled_there j (unsettled (proper_less events es proper) j o h) ∙ h;
+                owned = λ calm j o alive h. owned_then (by_then calm) q ne j o h;
+                unheld = λ calm j o alive h none. holder_there j (other_index (by_then calm) q ne j o h) ∙ none;
+                held = λ calm j o alive h here. holder_there j (other_index (by_then calm) q ne j o h) ∙ here;
+                settled = λ calm j o alive h none. settled_there j (unsettled (by_then calm) j o h) ∙ h;
               };
         }

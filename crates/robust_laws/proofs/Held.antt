@@ -1,5 +1,5 @@
 -- The steps of an acquire, in any call that holds it. What a step leads to is what the caller makes of it.
-use Rattle.std.proofs.Common.{◌≡◌, ◌≢◌, ℕ, ◌+◌, ◌*◌, ◌<◌, ◌≤◌, ◌==◌, ◌⊎◌, ⊎_elim, inl, inr, if◌then◌else◌, nat_lt, Bool, true, false, not, Option, Some, None, is_some, List, [], ◌∷◌, set, refl, sym, ap, ◌∙◌, arith}
+use Rattle.std.proofs.Common.{◌≡◌, ◌≢◌, ℕ, ◌+◌, ◌*◌, ◌<◌, ◌≤◌, ◌==◌, ◌⊎◌, ⊎_elim, inl, inr, if◌then◌else◌, nat_lt, Bool, true, false, not, Option, Some, None, is_some, List, [], ◌∷◌, ◌++◌, set, refl, sym, ap, ◌∙◌, arith}
 use Rattle.std.specs.Prelude.{Ok, Err}
 use Rattle.std.proofs.lemmas.Bool.{cases_lt}
 use Rattle.std.proofs.lemmas.Bool.Decides.{nat_tests}
@@ -20,7 +20,7 @@ use Rattle.steps.specs.Indices.Robust.Parts.{cell_word, empty, locked, greatest,
 use Rattle.steps.specs.Picks.{by_test, by_eq}
 use Rattle.model.specs.declared.event.Event.{Event}
 use Rattle.model.specs.declared.event.Event.TheVariants.{Filled, Granted}
-use Rattle.model.specs.Families.Indices.Robust.Promises.{IsFilled, IsUnlocked, IsProper}
+use Rattle.model.specs.Families.Indices.Robust.Promises.{IsFilled, IsUnlocked}
 use Rattle.model.specs.Families.Indices.Robust.Reading.{Fills, filled_after, filled_of, holder_after, holder_of, is_dead}
 use Rattle.model.specs.Families.{ask_of}
 use Rattle.model.specs.Families.Indices.Reading.{is_locked}
@@ -29,8 +29,10 @@ use Rattle.model.specs.Families.Indices.Robust.Steps.{granted, acquire_effects}
 use Rattle.model.specs.Moments.{HeldOnce}
 use Rattle.model.specs.Turns.{old_of, words_after, step_count}
 use Rattle.model.proofs.Moments.{held_now}
+use Rattle.robust_laws.specs.Gone.{IsCalm}
 use Rattle.robust_laws.proofs.Core.{counter_of, cell}
-use Rattle.robust_laws.proofs.Effects.{at_same, proper_less, before_end, unlocked, is_shut, filled_none, filled_some, fills}
+use Rattle.robust_laws.proofs.Effects.{at_same, before_end, unlocked, is_shut, filled_none, filled_some, fills}
+use Rattle.robust_laws.proofs.Gone.{calm_less, lives_granted}
 use Rattle.robust_laws.proofs.Invariant.{Scene, Inv, Good, Does}
 use Rattle.robust_laws.proofs.Knows.{Knows, IsPaid, AllOnce}
 use Rattle.robust_laws.proofs.Standing.{acquire_at, acquire_number, raise_number, AcquireAt}
@@ -42,12 +44,12 @@ pub some_is : (o : Option ℕ) (owner : ℕ) → o ≡ Some owner → is_some o 
 some_is o owner e = ap is_some e
 
 module _ {T : Type 0} (scene : Scene T) (inv : Inv scene) (owner : ℕ) (fits : owner < empty) (alive : is_dead owner scene.events ≡ false) (extra : ℕ) where
-  open scene use {capacity as c, party as p, steps as steps, backs as backs, events as events}
+  open scene use {by as by, capacity as c, party as p, steps as steps, backs as backs, events as events}
 
   abbrev ws : List ℕ
   ws = scene.set.words
 
-  g : Good c ws scene.set.dead events scene.turns
+  g : Good by c ws scene.set.dead events scene.turns
   g = inv.good
 
   abbrev pub call_at : AcquireStage → calls.Acquire
@@ -71,7 +73,7 @@ module _ {T : Type 0} (scene : Scene T) (inv : Inv scene) (owner : ℕ) (fits : 
     pub filled : (i : ℕ) (ask : Option Ask) → words_after ws ask ≡ set ws (cell_word i) owner → Does scene (words_after ws ask) (Filled p i owner ∷ []) → i < c → all scene ≡ [] → Knows c (acquire_at c owner (acquires.TheVariants.Raises i raises.TheVariants.LoadsCounter)) (then_sees scene ask false (Filled p i owner ∷ []))
         → Few (acquires.TheVariants.Raises i raises.TheVariants.LoadsCounter) ask false → Lead ask false (Filled p i owner ∷ []) (GoOn (call_at (acquires.TheVariants.Raises i raises.TheVariants.LoadsCounter)))
     pub fails : (failure : failures.UniqueIndexSetAcquireFailure) (ask : Option Ask) (back : Bool) → words_after ws ask ≡ ws → WhyNot failure → IsPaid (sees scene ask back) → FewEnd ask back → Lead ask back [] (Done (Err failure))
-    pub grants : (i : ℕ) (ask : Option Ask) → i < c → all scene ≡ Fills i owner ∷ [] → (IsProper events → IsBy p i owner events × (holder_of i events ≡ None)) → counter_of ws ≢ locked → words_after ws ask ≡ set ws 0 (counter_of ws + 1)
+    pub grants : (i : ℕ) (ask : Option Ask) → i < c → all scene ≡ Fills i owner ∷ [] → (IsCalm by (events ++ Granted p i owner ∷ []) → IsBy p i owner events × (holder_of i events ≡ None)) → counter_of ws ≢ locked → words_after ws ask ≡ set ws 0 (counter_of ws + 1)
         → IsPaid (sees scene ask false) → FewEnd ask false → Lead ask false (Granted p i owner ∷ []) (Done (Ok i))
 
   module _ (Lead : Option Ask → Bool → List (Event T) → After calls.Acquire Acquired → Type 0) (caller : Caller Lead) where
@@ -120,12 +122,12 @@ module _ {T : Type 0} (scene : Scene T) (inv : Inv scene) (owner : ℕ) (fits : 
           (record {
             paid = omega arith;
             scanned = tt;
-            owns = λ proper lives. (
+            owns = λ calm lives. (
               record {
                 right = fold-append (right_after i) _ events fill ∙ at_same i i (By p) (right_of i events) refl;
                 filled = fold-append (filled_after i) None events fill ∙ at_same i i (Some owner) (filled_of i events) refl;
               },
-              fold-append (holder_after i) None events fill ∙ none_holds scene inv (proper_less events fill proper) i free,
+              fold-append (holder_after i) None events fill ∙ none_holds scene inv (calm_less by events fill calm) i free,
             );
             says = tt;
             gone = tt;
@@ -202,7 +204,8 @@ module _ {T : Type 0} (scene : Scene T) (inv : Inv scene) (owner : ℕ) (fits : 
           caller.fails failures.TheVariants.IsLocked ask back same (is_shut scene inv shut, inr (record { index = i; is = done })) paid (omega arith))
           (λ ask open_now new paid few.
           let low = few (extra + 1 + c) (c + 1) (omega arith) (omega arith) in
-          caller.grants i ask below done (λ proper. k.owns proper alive) open_now new paid (omega arith))
+          caller.grants i ask below done
+          (λ calm. k.owns (calm_less by events (Granted p i owner ∷ []) calm) (lives_granted by p i owner events alive calm.1)) open_now new paid (omega arith))
 
     -- ---- any step
 

@@ -25,17 +25,19 @@ use Rattle.model.specs.declared.event.Event.TheVariants.{FreedOf, Locked}
 use Rattle.model.specs.declared.families.indices.robust.RobustStart.TheVariants.{Release}
 use Rattle.model.specs.Families.Indices.Reading.{is_locked}
 use Rattle.model.specs.Families.Indices.Robust.Bounds.{most_steps}
-use Rattle.model.specs.Families.Indices.Robust.Promises.{cell_of, IsFilled, IsProper, FilledSinceFreed, LivesToRelease}
-use Rattle.model.specs.Families.Indices.Robust.Reading.{holder_of, Frees, filled_of, settled_of, is_dead, deeds_of, IsOneOf}
+use Rattle.model.specs.Families.Indices.Robust.Promises.{cell_of, IsFilled, FilledSinceFreed, LivesToRelease}
+use Rattle.model.specs.Families.Indices.Robust.Reading.{holder_of, Frees, filled_of, settled_of, deeds_of, IsOneOf}
 use Rattle.model.specs.Families.Indices.Robust.Steps.{locked_by, release_effects}
 use Rattle.model.specs.Families.{ask_of}
 use Rattle.model.specs.Moments.{SinceBegin}
 use Rattle.model.specs.Reading.{span_of}
 use Rattle.model.specs.Turns.{old_of, words_after, step_count}
 use Rattle.model.proofs.Moments.{held_now}
+use Rattle.robust_laws.specs.Gone.{is_gone, IsCalm}
 use Rattle.robust_laws.proofs.Core.{counter_of, cell}
-use Rattle.robust_laws.proofs.Effects.{Stays, one_party, proper_less, unlocked, is_shut, stays_same, stays_raised, filled_by}
+use Rattle.robust_laws.proofs.Effects.{Stays, one_party, unlocked, is_shut, stays_same, stays_raised, filled_by}
 use Rattle.robust_laws.proofs.Frees.{frees}
+use Rattle.robust_laws.proofs.Gone.{calm_less}
 use Rattle.robust_laws.proofs.Invariant.{Scene, Inv, Good, Does}
 use Rattle.robust_laws.proofs.Knows.{Knows, IsPaid, FoundOne}
 use Rattle.robust_laws.proofs.Standing.{at_least_one, release_at, release_number, raise_number, lock_number, for_back, ReleaseAt, LockAt}
@@ -47,15 +49,16 @@ first_few : (c index owner backs n : ℕ) (mode : ReleaseMode) → n ≤ 1 → n
 first_few c index owner backs n Default h = omega arith
 first_few c index owner backs n LockIfLastIndex h = omega arith
 
-module _ {T : Type 0} (scene : Scene T) (inv : Inv scene) (index owner : ℕ) (mode : ReleaseMode) (fits : owner < empty) (below : index < scene.capacity) (alive : is_dead owner scene.events ≡ false)
+module _ {T : Type 0} (scene : Scene T) (inv : Inv scene) (index owner : ℕ) (mode : ReleaseMode) (fits : owner < empty) (below : index < scene.capacity)
     (lives : LivesToRelease owner scene.events (span_of scene.party scene.events))
-    (began : IsProper (scene.events ++ FreedOf scene.party index owner ∷ []) → SinceBegin scene.party (λ part since. settled_of index part ≡ Some owner) scene.events) (extra : ℕ) where
-  open scene use {capacity as c, party as p, steps as steps, backs as backs, events as events}
+    (began : IsCalm scene.by (scene.events ++ FreedOf scene.party index owner ∷ []) → (is_gone scene.by owner scene.events ≡ false) × SinceBegin scene.party (λ part since. settled_of index part ≡ Some owner) scene.events)
+    (extra : ℕ) where
+  open scene use {by as by, capacity as c, party as p, steps as steps, backs as backs, events as events}
 
   abbrev ws : List ℕ
   ws = scene.set.words
 
-  g : Good c ws scene.set.dead events scene.turns
+  g : Good by c ws scene.set.dead events scene.turns
   g = inv.good
 
   abbrev pub call_at : ReleaseStage → calls.Release
@@ -80,7 +83,7 @@ module _ {T : Type 0} (scene : Scene T) (inv : Inv scene) (index owner : ℕ) (m
         → Few (releases.TheVariants.Raises raises.TheVariants.LoadsCounter) ask false → Lead ask false (FreedOf p index owner ∷ []) (GoOn (call_at (releases.TheVariants.Raises raises.TheVariants.LoadsCounter)))
     pub refused : (ask : Option Ask) → words_after ws ask ≡ ws → filled_of index events ≢ Some owner → all scene ≡ [] → IsPaid (sees scene ask false) → FewEnd ask false → Lead ask false [] (Done (Err IndexIsNotOwnedByProvidedOwner))
     pub ended : (state : ReleaseState) (ask : Option Ask) (back : Bool) → Stays scene (words_after ws ask) → Ends mode state → all scene ≡ Frees index owner ∷ [] → IsPaid (sees scene ask back) → FewEnd ask back → Lead ask back [] (Done (Ok state))
-    pub locks : (ask : Option Ask) → mode ≡ LockIfLastIndex → (IsProper events → (i : ℕ) → holder_of i events ≡ None) → counter_of ws ≢ locked → words_after ws ask ≡ set ws 0 locked → all scene ≡ Frees index owner ∷ [] → IsPaid (sees scene ask false) → FewEnd ask false → Lead ask false (Locked p ∷ []) (Done (Ok states.TheVariants.Locked))
+    pub locks : (ask : Option Ask) → mode ≡ LockIfLastIndex → (IsCalm by events → (i : ℕ) → holder_of i events ≡ None) → counter_of ws ≢ locked → words_after ws ask ≡ set ws 0 locked → all scene ≡ Frees index owner ∷ [] → IsPaid (sees scene ask false) → FewEnd ask false → Lead ask false (Locked p ∷ []) (Done (Ok states.TheVariants.Locked))
 
   module _ (Lead : Option Ask → Bool → List (Event T) → After calls.Release Released → Type 0) (caller : Caller Lead) where
     -- ---- the exchange of the cell
@@ -89,15 +92,16 @@ module _ {T : Type 0} (scene : Scene T) (inv : Inv scene) (index owner : ℕ) (m
       abbrev exchange : Option Ask
       exchange = Some (exchanges (cell_word index) owner empty)
 
-      mine : IsProper (events ++ FreedOf p index owner ∷ []) → (q : ℕ) → q ≢ p → (o : ℕ) → is_dead o events ≡ false → IsBy q index o events → ⊥
-      mine proper q ne o lives h =
-          let own : IsBy p index owner events = k.owns (proper_less events (FreedOf p index owner ∷ []) proper) alive (began proper) in
-          ne (one_party _ p q own.right h.right)
+      owns_it : IsCalm by (events ++ FreedOf p index owner ∷ []) → IsBy p index owner events
+      owns_it calm = let h = began calm in k.owns (calm_less by events (FreedOf p index owner ∷ []) calm) h.0 h.1
 
-      unsettled : IsProper (events ++ FreedOf p index owner ∷ []) → (o : ℕ) → is_dead o events ≡ false → settled_of index events ≡ Some o → ⊥
-      unsettled proper o lives h =
-          let less = proper_less events (FreedOf p index owner ∷ []) proper in
-          let own : IsBy p index owner events = k.owns less alive (began proper) in
+      mine : IsCalm by (events ++ FreedOf p index owner ∷ []) → (q : ℕ) → q ≢ p → (o : ℕ) → is_gone by o events ≡ false → IsBy q index o events → ⊥
+      mine calm q ne o lives h = ne (one_party _ p q (owns_it calm).right h.right)
+
+      unsettled : IsCalm by (events ++ FreedOf p index owner ∷ []) → (o : ℕ) → is_gone by o events ≡ false → settled_of index events ≡ Some o → ⊥
+      unsettled calm o lives h =
+          let less = calm_less by events (FreedOf p index owner ∷ []) calm in
+          let own = owns_it calm in
           let theirs : right_of index events ≡ Settled o = ((g.owned less).settled index o h).1 in
           let both : Settled o ≡ By p = sym theirs ∙ own.right in
           absurd (cc)

@@ -1,7 +1,7 @@
 -- What holds of the machine of a robust index set between any two turns beside what the frame says of every machine, and
 -- what a turn must show to keep it.
-use Rattle.std.proofs.Common.{◌≡◌, ◌≢◌, ℕ, ◌+◌, ◌-◌, ◌^◌, ◌<◌, ◌≤◌, ◌==◌, false, Some, List, ◌++◌, length, fold, refl, sym, ap, subst, ◌∙◌, arith}
-use Rattle.steps.specs.Indices.Robust.Parts.{empty, locked}
+use Rattle.std.proofs.Common.{◌≡◌, ◌≢◌, ℕ, ◌+◌, ◌-◌, ◌^◌, ◌<◌, ◌≤◌, ◌==◌, ne_eqb, false, Some, List, ◌++◌, length, fold, refl, sym, ap, subst, ◌∙◌, arith}
+use Rattle.steps.specs.Indices.Robust.Parts.{empty, locked, greatest}
 use Rattle.model.specs.declared.event.Event.{Event}
 use Rattle.model.specs.declared.event.Start.{Start}
 use Rattle.model.specs.declared.event.Start as any_starts
@@ -14,7 +14,7 @@ use Rattle.model.specs.declared.turn.Kind as kinds
 use Rattle.model.specs.Coding.{Coding}
 use Rattle.model.specs.Families.Indices.Reading.{is_locked}
 use Rattle.model.specs.Families.Indices.Robust.Dead.{has_died}
-use Rattle.model.specs.Families.Indices.Robust.Promises.{cell_of, SetDoes, AsksRight, AnswersRight, IsProper, HoldsRight, promise}
+use Rattle.model.specs.Families.Indices.Robust.Promises.{cell_of, SetDoes, HoldsRight, promise}
 use Rattle.model.specs.Families.Indices.Robust.Reading.{Deed, deeds, filled_of, is_dead, wrote_in, deeds_of}
 use Rattle.model.specs.Parties.{party_of, put}
 use Rattle.model.specs.Promises.Spans.{Stands}
@@ -22,6 +22,7 @@ use Rattle.model.specs.Reading.{Each, Span, own_after, span_of}
 use Rattle.model.proofs.Frame as frame
 use Rattle.model.proofs.Frame.{Family}
 use Rattle.model.proofs.Readings.{AreOwn, AllFollow, AreRight, Each-append, span_of-other}
+use Rattle.robust_laws.specs.Gone.{GoneBy, Death, IsCalm, AsksBy, AnswersBy}
 use Rattle.robust_laws.proofs.Core.{counter_of, cell}
 use Rattle.robust_laws.proofs.Knows.{View, Knows, Goes, Spares, IsSeen, knows_later}
 use Rattle.robust_laws.proofs.Standing.{number_of, At}
@@ -35,6 +36,7 @@ pub record RobustSet (T : Type 0) : Type 0 where
 
 -- a turn of a party, with the machine around it
 pub record Scene (T : Type 0) : Type 0 where
+  pub by : GoneBy
   pub coding : Coding T
   pub capacity : ℕ
   pub set : RobustSet T
@@ -47,13 +49,17 @@ pub record Scene (T : Type 0) : Type 0 where
   pub latest : List (ℕ × Party T)
   pub events : List (Event T)
 
+-- the counter is neither at its end nor one number before it
+abbrev pub IsAhead : List ℕ → Type 0
+IsAhead words = counter_of words ≢ locked → counter_of words + 1 < greatest
+
 module _ {T : Type 0} where
   abbrev pub Fit : Kept T → List ℕ → RobustSet T → Type 0
   Fit (kepts.TheVariants.Owners dead) words s = (words ≡ s.words) × (dead ≡ s.dead)
   Fit kept words s = ⊥
 
   -- what is so of the words, of the dead and of the events, after so many turns
-  pub record Good (c : ℕ) (words dead : List ℕ) (events : List (Event T)) (turns : ℕ) : Type 0 where
+  pub record Good (by : GoneBy) (c : ℕ) (words dead : List ℕ) (events : List (Event T)) (turns : ℕ) : Type 0 where
     pub some : 1 ≤ c
     pub few : c < 2 ^ 32
     pub wide : c + 1 ≤ length words
@@ -63,15 +69,15 @@ module _ {T : Type 0} where
     pub low : is_locked events ≡ false → counter_of words ≤ turns - 1
     pub died : (owner : ℕ) → has_died owner dead ≡ is_dead owner events
     pub does : Each (SetDoes c) events
-    pub answers : Each (AnswersRight c) events
-    pub owned : IsProper events → AreOwned events
-    pub holds : IsProper events → Each HoldsRight events
+    pub answers : Each (AnswersBy by c) events
+    pub owned : IsCalm by events → AreOwned events
+    pub holds : IsCalm by events → Each HoldsRight events
 
-  pub record Holds (c : ℕ) (s : RobustSet T) (latest : List (ℕ × Party T)) (events : List (Event T)) (turns : ℕ) : Type 0 where
+  pub record Holds (by : GoneBy) (c : ℕ) (s : RobustSet T) (latest : List (ℕ × Party T)) (events : List (Event T)) (turns : ℕ) : Type 0 where
     pub same : s.events ≡ events
     pub begun : (p : ℕ) (x : Party T) → party_of p latest ≡ Some x → 1 ≤ turns
-    pub good : Good c s.words s.dead events turns
-    pub asks : Each AsksRight events
+    pub good : Good by c s.words s.dead events turns
+    pub asks : Each (AsksBy by) events
 
   -- ---- the family of the robust index set
 
@@ -91,12 +97,12 @@ module _ {T : Type 0} where
   Knowing c (flights.TheVariants.Robust flight) v = Knows c flight v
   Knowing c flight v = ⊥
 
-  abbrev pub view : List ℕ → List (Event T) → ℕ → ℕ → ℕ → ℕ → View T
-  view words events p since changes backs =
-      record { words = words; events = events; party = p; since = since; changes = changes; backs = backs }
+  abbrev pub view : GoneBy → List ℕ → List (Event T) → ℕ → ℕ → ℕ → ℕ → View T
+  view by words events p since changes backs =
+      record { by = by; words = words; events = events; party = p; since = since; changes = changes; backs = backs }
 
-  abbrev pub family : Coding T → ℕ → Family T
-  family code c =
+  abbrev pub family_by : GoneBy → Coding T → ℕ → Family T
+  family_by by code c =
       record {
         coding = code;
         kind = kinds.TheVariants.Robust;
@@ -104,17 +110,28 @@ module _ {T : Type 0} where
         capacity = c;
         State = RobustSet T;
         Fit = Fit;
-        Holds = λ s latest events turns. Holds c s latest events turns;
+        Holds = λ s latest events turns. Holds by c s latest events turns;
         written = λ s p flight. wrote_of p s.events;
         number = λ wrote. number c;
         At = λ s p start flight. FlightAt c (deeds_of p s.events) start flight;
-        Knows = λ s p events since changes backs flight. Knowing c flight (view s.words events p since changes backs);
+        Knows = λ s p events since changes backs flight. Knowing c flight (view by s.words events p since changes backs);
       }
 
+  -- the family where owners die
+  abbrev pub family : Coding T → ℕ → Family T
+  family code c = family_by Death code c
+
   pub record Inv (scene : Scene T) : Type 0 where
-    pub good : Good scene.capacity scene.set.words scene.set.dead scene.events scene.turns
+    pub good : Good scene.by scene.capacity scene.set.words scene.set.dead scene.events scene.turns
     pub begun : 1 ≤ scene.turns
-    pub small : scene.turns < 2 ^ 64 - 2
+    pub ahead : IsAhead scene.set.words
+
+  -- so it is where few turns were taken
+  pub ahead_of_few : (by : GoneBy) (c : ℕ) (words dead : List ℕ) (events : List (Event T)) (turns : ℕ) → Good by c words dead events turns → 1 ≤ turns → turns < 2 ^ 64 - 2 → IsAhead words
+  ahead_of_few by c words dead events turns g begun small open_now =
+      let t : (counter_of words == locked) ≡ false = ne_eqb (counter_of words) locked open_now in
+      let low = g.low (sym g.lock ∙ t) in
+      omega arith
 
   abbrev pub set_then : Scene T → List ℕ → List (Event T) → RobustSet T
   set_then scene words es =
@@ -123,46 +140,46 @@ module _ {T : Type 0} where
   -- what a turn does to the set and to the other parties, that leaves these words and writes these events
   pub record Does (scene : Scene T) (words' : List ℕ) (es : List (Event T)) : Type 0 where
     pub own : AreOwn scene.party es
-    pub good : Good scene.capacity words' scene.set.dead (scene.events ++ es) (scene.turns + 1)
+    pub good : Good scene.by scene.capacity words' scene.set.dead (scene.events ++ es) (scene.turns + 1)
     pub goes : Goes scene.set.words words' scene.events es
-    pub spares : (q : ℕ) → q ≢ scene.party → Spares q scene.events es
+    pub spares : (q : ℕ) → q ≢ scene.party → Spares scene.by q scene.events es
 
   -- what a turn shows, where the party's span was this
   pub record Shows (scene : Scene T) (words' : List ℕ) (from : Span T) (y : Party T) (es : List (Event T)) (changes' : ℕ) : Type 0 where
     pub does : Does scene words' es
     pub stands : AllFollow (Stands promise scene.capacity) from es
-    pub asks : AreRight AsksRight scene.events es
-    pub here : frame.Fits (family scene.coding scene.capacity) (set_then scene words' es) scene.party (Some y) (fold own_after from es)
-    pub knows : frame.KnowsDoing (family scene.coding scene.capacity) (set_then scene words' es) scene.party (scene.events ++ es) changes' y.backs y.doing
+    pub asks : AreRight (AsksBy scene.by) scene.events es
+    pub here : frame.Fits (family_by scene.by scene.coding scene.capacity) (set_then scene words' es) scene.party (Some y) (fold own_after from es)
+    pub knows : frame.KnowsDoing (family_by scene.by scene.coding scene.capacity) (set_then scene words' es) scene.party (scene.events ++ es) changes' y.backs y.doing
     pub seen : IsSeen scene.set.words words' scene.changes changes'
 
-  any_knows : (c : ℕ) (words words' : List ℕ) (events es : List (Event T)) (q changes changes' : ℕ) → Goes words words' events es → Spares q events es → IsSeen words words' changes changes'
-      → (since backs : ℕ) (flight : Flight T) → Knowing c flight (view words events q since changes backs) → Knowing c flight (view words' (events ++ es) q since changes' backs)
-  any_knows c words words' events es q changes changes' goes spares seen since backs (flights.TheVariants.Robust flight) h = knows_later words words' events es q since changes changes' backs goes spares seen c flight h
-  any_knows c words words' events es q changes changes' goes spares seen since backs flight h = absurd h
+  any_knows : (by : GoneBy) (c : ℕ) (words words' : List ℕ) (events es : List (Event T)) (q changes changes' : ℕ) → Goes words words' events es → Spares by q events es → IsSeen words words' changes changes'
+      → (since backs : ℕ) (flight : Flight T) → Knowing c flight (view by words events q since changes backs) → Knowing c flight (view by words' (events ++ es) q since changes' backs)
+  any_knows by c words words' events es q changes changes' goes spares seen since backs (flights.TheVariants.Robust flight) h = knows_later by words words' events es q since changes changes' backs goes spares seen c flight h
+  any_knows by c words words' events es q changes changes' goes spares seen since backs flight h = absurd h
 
   -- a call stands there by what its party has written
   pub at_written : (c : ℕ) (w w' : List (Event T)) (start : Start T) (flight : Flight T) → w' ≡ w → FlightAt c (deeds w) start flight → FlightAt c (deeds w') start flight
   at_written c w w' start flight same h = subst (λ x. FlightAt c (deeds x) start flight) (sym same) h
 
   module _ (scene : Scene T) (words' : List ℕ) (from : Span T) (y : Party T) (es : List (Event T)) (changes' : ℕ) (s : Shows scene words' from y es changes')
-      (h : Holds scene.capacity scene.set scene.latest scene.events scene.turns) (inv : frame.Inv (family scene.coding scene.capacity) scene.set scene.latest scene.events scene.changes) where
-    open scene use {capacity as c, set as set, party as p, latest as latest, events as events}
+      (h : Holds scene.by scene.capacity scene.set scene.latest scene.events scene.turns) (inv : frame.Inv (family_by scene.by scene.coding scene.capacity) scene.set scene.latest scene.events scene.changes) where
+    open scene use {by as by, capacity as c, set as set, party as p, latest as latest, events as events}
 
     still_wrote : (q : ℕ) → q ≢ p → wrote_of q (events ++ es) ≡ wrote_of q set.events
     still_wrote q ne = ap wrote_in (span_of-other p q events es ne s.does.own) ∙ ap (wrote_of q) (sym h.same)
 
-    pub owes : span_of p events ≡ from → frame.Owes (family scene.coding c) (set_then scene words' es) p y latest events es changes'
+    pub owes : span_of p events ≡ from → frame.Owes (family_by by scene.coding c) (set_then scene words' es) p y latest events es changes'
     owes is =
-        frame.owes (family scene.coding c) set (set_then scene words' es) from p y latest events es scene.changes changes' is inv
+        frame.owes (family_by by scene.coding c) set (set_then scene words' es) from p y latest events es scene.changes changes' is inv
         (record {
           own = s.does.own;
           stands = s.stands;
           here = s.here;
           knows = s.knows;
           others = λ q ne start flight at. (at_written c (wrote_of q set.events) (wrote_of q (events ++ es)) start flight (still_wrote q ne) at, still_wrote q ne);
-          others_know = λ q ne. any_knows c set.words words' events es q scene.changes changes' s.does.goes (s.does.spares q ne) s.seen;
+          others_know = λ q ne. any_knows by c set.words words' events es q scene.changes changes' s.does.goes (s.does.spares q ne) s.seen;
         })
 
-    pub holds_more : Holds c (set_then scene words' es) (put p y latest) (events ++ es) (scene.turns + 1)
-    holds_more = record { same = refl; begun = λ q x found. omega arith; good = s.does.good; asks = Each-append AsksRight events es h.asks s.asks }
+    pub holds_more : Holds by c (set_then scene words' es) (put p y latest) (events ++ es) (scene.turns + 1)
+    holds_more = record { same = refl; begun = λ q x found. omega arith; good = s.does.good; asks = Each-append (AsksBy by) events es h.asks s.asks }

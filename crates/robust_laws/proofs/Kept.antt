@@ -39,8 +39,10 @@ use Rattle.model.specs.Reading.{span_of}
 use Rattle.model.specs.Turns.{IsReached}
 use Rattle.model.specs.World.{Trace, progress_in}
 use Rattle.model.proofs.Frame as frame
+use Rattle.robust_laws.specs.Gone.{Death}
 use Rattle.robust_laws.proofs.Core.{cell}
 use Rattle.robust_laws.proofs.Counting.{times_below}
+use Rattle.robust_laws.proofs.Gone.{asks_right, answers_right}
 use Rattle.robust_laws.proofs.Invariant.{RobustSet, family}
 use Rattle.robust_laws.proofs.Knows.{View, flight_holds, Paid}
 use Rattle.robust_laws.proofs.Standing.{raise_number, count_number, lock_number, acquire_number, for_back, for_index, release_number, recover_number, find_number, number_of, AcquireAt, CountAt, LockAt, ReleaseAt, FindAt, RecoverAt, At}
@@ -134,9 +136,9 @@ module _ {T : Type 0} where
       let g = s.holds.good in
       record {
         does = g.does;
-        asks = s.holds.asks;
-        holds = g.holds;
-        answers = g.answers;
+        asks = asks_right t.events s.holds.asks;
+        holds = λ proper. g.holds (proper, tt);
+        answers = answers_right Death t.world.capacity t.events tt g.answers;
         cells = λ index below. ap (λ ws. cell ws index) is.1 ∙ g.cells index below;
         lock = rw is.1 g.lock;
         dead = subst (λ kept. KeepsDead kept t.events) (sym is.0) (λ owner. g.died owner);

@@ -25,7 +25,9 @@ use Rattle.model.specs.Families.Indices.Robust.Reading.{Asks, Yes, filled_of, ho
 use Rattle.model.specs.Moments.{BeginsNone, HeldOnce, SinceBegin}
 use Rattle.model.proofs.Moments.{held_later}
 use Rattle.robust_laws.proofs.Core.{counter_of}
+use Rattle.robust_laws.specs.Gone.{GoneBy, is_gone, IsHonestBy, IsCalm}
 use Rattle.robust_laws.proofs.Counting.{count_later}
+use Rattle.robust_laws.proofs.Gone.{gone_more, gone_less, honest_less, calm_less, stays_lost}
 use Rattle.robust_laws.proofs.Past.{through_less, since_less}
 use Rattle.robust_laws.proofs.Rights.{IsBy}
 use Rattle.robust_laws.proofs.Standing.{}
@@ -33,6 +35,7 @@ use Rattle.robust_laws.proofs.Standing.{}
 -- ---- what they see of the machine
 
 pub record View (T : Type 0) : Type 0 where
+  pub by : GoneBy
   pub words : List ℕ
   pub events : List (Event T)
   pub party : ℕ
@@ -182,20 +185,20 @@ module _ {T : Type 0} where
   Scanned None v = Unit {0}
   Scanned (Some s) v =
       (s.counter ≤ counter_of v.words)
-      × (s.filled ≡ 0 → counter_of v.words ≡ s.counter → IsProper v.events
+      × (s.filled ≡ 0 → counter_of v.words ≡ s.counter → IsCalm v.by v.events
       → (i : ℕ) → i < s.below → holder_of i v.events ≡ None)
 
   -- the party has a right to the index that it fills, which nobody holds
   abbrev pub AcquireOwns : ℕ → AcquireStage → View T → Type 0
   AcquireOwns owner (acquires.TheVariants.Raises index raise) v =
-      IsProper v.events → is_dead owner v.events ≡ false
+      IsCalm v.by v.events → is_gone v.by owner v.events ≡ false
       → IsBy v.party index owner v.events × (holder_of index v.events ≡ None)
   AcquireOwns owner stage v = Unit {0}
 
   -- and to the index that it may give back
   abbrev pub ReleaseOwns : ℕ → ℕ → ReleaseStage → View T → Type 0
   ReleaseOwns index owner releases.TheVariants.EmptiesCell v =
-      IsProper v.events → is_dead owner v.events ≡ false
+      IsCalm v.by v.events → is_gone v.by owner v.events ≡ false
       → SinceBegin v.party (λ part since. settled_of index part ≡ Some owner) v.events
       → IsBy v.party index owner v.events
   ReleaseOwns index owner stage v = Unit {0}
@@ -263,11 +266,12 @@ module _ {T : Type 0} where
 
   -- ---- what a recovery knows of what it was told to free
 
-  -- the owner is dead, and no index that it was told to free has that owner, but the one that it frees now
+  -- the owner is gone, and no index that it was told to free has that owner, but the one that it frees now
   abbrev pub GoneBut : (ℕ → ℕ → Type 0) → View T → Type 0
   GoneBut Now v =
       (i owner : ℕ) → IsOneOf (Yes i owner) (deeds_of v.party v.events)
-      → (is_dead owner v.events ≡ true) × ((filled_of i v.events ≢ Some owner) ⊎ Now i owner)
+      → (is_gone v.by owner v.events ≡ true)
+      × (IsHonestBy v.by v.events → (filled_of i v.events ≢ Some owner) ⊎ Now i owner)
 
   abbrev pub Gone : RobustFlight → View T → Type 0
   Gone (Recover run) v = GoneBut (FreesNow run.call.stage) v
@@ -294,20 +298,20 @@ module _ {T : Type 0} where
     pub proper : IsProper (events ++ es) → IsProper events
 
   -- to this party, which does not take it
-  pub record Spares (q : ℕ) (events es : List (Event T)) : Type 0 where
+  pub record Spares (by : GoneBy) (q : ℕ) (events es : List (Event T)) : Type 0 where
     pub none : BeginsNone q es
     pub deeds : deeds_of q (events ++ es) ≡ deeds_of q events
-    pub owned : IsProper (events ++ es) → (i owner : ℕ) → is_dead owner events ≡ false → IsBy q i owner events → IsBy q i owner (events ++ es)
-    pub unheld : IsProper (events ++ es) → (i owner : ℕ) → is_dead owner events ≡ false → IsBy q i owner events → holder_of i events ≡ None → holder_of i (events ++ es) ≡ None
-    pub held : IsProper (events ++ es) → (i owner : ℕ) → is_dead owner events ≡ false → IsBy q i owner events → holder_of i events ≡ Some owner → holder_of i (events ++ es) ≡ Some owner
-    pub settled : IsProper (events ++ es) → (i owner : ℕ) → is_dead owner events ≡ false → settled_of i events ≡ Some owner → NoneTakes i owner es → settled_of i (events ++ es) ≡ Some owner
+    pub owned : IsCalm by (events ++ es) → (i owner : ℕ) → is_gone by owner events ≡ false → IsBy q i owner events → IsBy q i owner (events ++ es)
+    pub unheld : IsCalm by (events ++ es) → (i owner : ℕ) → is_gone by owner events ≡ false → IsBy q i owner events → holder_of i events ≡ None → holder_of i (events ++ es) ≡ None
+    pub held : IsCalm by (events ++ es) → (i owner : ℕ) → is_gone by owner events ≡ false → IsBy q i owner events → holder_of i events ≡ Some owner → holder_of i (events ++ es) ≡ Some owner
+    pub settled : IsCalm by (events ++ es) → (i owner : ℕ) → is_gone by owner events ≡ false → settled_of i events ≡ Some owner → NoneTakes i owner es → settled_of i (events ++ es) ≡ Some owner
 
-  module _ (words words' : List ℕ) (events es : List (Event T)) (q since changes changes' backs : ℕ) (goes : Goes words words' events es) (spares : Spares q events es) (seen : IsSeen words words' changes changes') where
+  module _ (by : GoneBy) (words words' : List ℕ) (events es : List (Event T)) (q since changes changes' backs : ℕ) (goes : Goes words words' events es) (spares : Spares by q events es) (seen : IsSeen words words' changes changes') where
     abbrev pub before : View T
-    before = record { words = words; events = events; party = q; since = since; changes = changes; backs = backs }
+    before = record { by = by; words = words; events = events; party = q; since = since; changes = changes; backs = backs }
 
     abbrev pub later : View T
-    later = record { words = words'; events = events ++ es; party = q; since = since; changes = changes'; backs = backs }
+    later = record { by = by; words = words'; events = events ++ es; party = q; since = since; changes = changes'; backs = backs }
 
     paid_later : IsPaid before → IsPaid later
     paid_later h = ⊎_elim (λ s. let same = s.1 in omega arith) (λ more. omega arith) seen
@@ -333,24 +337,24 @@ module _ {T : Type 0} where
         let low = h.0 in
         let grows = goes.grows in (
           omega arith,
-          λ none is proper i below.
+          λ none is calm i below.
               let same : counter_of words' ≡ counter_of words = omega arith in
-              goes.grants same i (h.1 none (sym same ∙ is) (goes.proper proper) i below),
+              goes.grants same i (h.1 none (sym same ∙ is) (calm_less by events es calm) i below),
         )
 
     acquire_owns : (owner : ℕ) (stage : AcquireStage) → AcquireOwns owner stage before → AcquireOwns owner stage later
     acquire_owns owner (acquires.TheVariants.Raises index raise) h =
-        λ proper alive.
-        let lives = goes.lives owner alive in
-        let k = h (goes.proper proper) lives in
-        (spares.owned proper index owner lives k.0, spares.unheld proper index owner lives k.0 k.1)
+        λ calm alive.
+        let lives = gone_less by owner events es alive in
+        let k = h (calm_less by events es calm) lives in
+        (spares.owned calm index owner lives k.0, spares.unheld calm index owner lives k.0 k.1)
     acquire_owns owner stage h = tt
 
     release_owns : (index owner : ℕ) (stage : ReleaseStage) → ReleaseOwns index owner stage before → ReleaseOwns index owner stage later
     release_owns index owner releases.TheVariants.EmptiesCell h =
-        λ proper alive settled.
-        let lives = goes.lives owner alive in
-        spares.owned proper index owner lives (h (goes.proper proper) lives (since_less q (λ part. settled_of index part ≡ Some owner) events es spares.none settled))
+        λ calm alive settled.
+        let lives = gone_less by owner events es alive in
+        spares.owned calm index owner lives (h (calm_less by events es calm) lives (since_less q (λ part. settled_of index part ≡ Some owner) events es spares.none settled))
     release_owns index owner stage h = tt
 
     still_owns : (flight : RobustFlight) → Owns flight before → Owns flight later
@@ -400,11 +404,13 @@ module _ {T : Type 0} where
     still_says c (BorrowedIndices run) h = count_says c (Borrowed before) (Borrowed later) (λ k n counted. count_later q IsFilled k n events counted es spares.none) run.call.count h
     still_says c (IsLocked run) h = tt
 
-    -- whoever fills an index is alive, so an index that a dead owner has lost stays lost to it
+    -- whoever fills an index is not gone, so an index that an owner who is gone has lost stays lost to him
     gone_later : (Now : ℕ → ℕ → Type 0) → GoneBut Now before → GoneBut Now later
     gone_later Now h i owner told =
-        let k = h i owner (subst (IsOneOf (Yes i owner)) spares.deeds told) in
-        (goes.dead owner k.0, ⊎_elim (λ gone. inl (λ e. gone (goes.fills i owner k.0 e))) (λ now. inr now) k.1)
+        let k = h i owner (subst (IsOneOf (Yes i owner)) spares.deeds told) in (
+          gone_more by owner events es k.0,
+          λ honest. ⊎_elim (λ gone. inl (λ e. gone (stays_lost by events es goes.fills i owner honest k.0 e))) (λ now. inr now) (k.1 (honest_less by events es honest)),
+        )
 
     still_gone : (flight : RobustFlight) → Gone flight before → Gone flight later
     still_gone (Recover run) h = gone_later (FreesNow run.call.stage) h

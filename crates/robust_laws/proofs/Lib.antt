@@ -7,7 +7,9 @@ pub mod Deaths
 pub mod Deeds
 pub mod Effects
 pub mod Finds
+pub mod Firsts
 pub mod Frees
+pub mod Gone
 pub mod Grants
 pub mod Held
 pub mod HeldRelease
@@ -15,9 +17,11 @@ pub mod Invariant
 pub mod Justified
 pub mod Kept
 pub mod Knows
+pub mod Living
 pub mod Locks
 pub mod Looks
 pub mod Opening
+pub mod OpenRuns
 pub mod Parts
 pub mod Past
 pub mod RecoverSteps

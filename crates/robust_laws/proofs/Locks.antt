@@ -6,27 +6,29 @@ use Rattle.steps.specs.Indices.Robust.Parts.{locked}
 use Rattle.model.specs.declared.event.Event.{Event}
 use Rattle.model.specs.declared.event.Event.TheVariants.{Locked}
 use Rattle.model.specs.Families.Indices.Reading.{locked_after, is_locked}
-use Rattle.model.specs.Families.Indices.Robust.Promises.{cell_of, SetDoes, AnswersRight, IsProper, HoldsRight}
+use Rattle.model.specs.Families.Indices.Robust.Promises.{cell_of, SetDoes, HoldsRight}
 use Rattle.model.specs.Families.Indices.Robust.Reading.{deeds, filled_after, filled_of, holder_after, holder_of, settled_after, settled_of, dead_after, is_dead, wrote_in}
 use Rattle.model.proofs.Moments.{others_begin_none}
 use Rattle.model.proofs.Readings.{AreRight, AreOwn, Each-append, span_of-other}
+use Rattle.robust_laws.specs.Gone.{IsCalm, AnswersBy}
 use Rattle.robust_laws.proofs.Core.{counter_of, cell, counter_set, cells_stay}
 use Rattle.robust_laws.proofs.Effects.{Quiet, both_ways, proper_less, unlocked, before_end}
+use Rattle.robust_laws.proofs.Gone.{calm_less}
 use Rattle.robust_laws.proofs.Invariant.{Scene, Inv, Good, Does}
 use Rattle.robust_laws.proofs.Rights.{right_after, right_of, AreOwned}
 
 module _ {T : Type 0} (scene : Scene T) (inv : Inv scene) where
-  open scene use {capacity as c, party as p, turns as turns, events as events}
+  open scene use {by as by, capacity as c, party as p, turns as turns, events as events}
 
   abbrev ws : List ℕ
   ws = scene.set.words
 
-  g : Good c ws scene.set.dead events turns
+  g : Good by c ws scene.set.dead events turns
   g = inv.good
 
   -- the lock, and an end behind it, if any
   module _ (words' : List ℕ) (more : List (Event T)) (quiet : Quiet more) (own : AreOwn p more) (right : AreRight (SetDoes c) (events ++ Locked p ∷ []) more)
-      (answers : AreRight (AnswersRight c) (events ++ Locked p ∷ []) more) (none : IsProper events → (i : ℕ) → holder_of i events ≡ None) (open_now : counter_of ws ≢ locked) (new : words' ≡ set ws 0 locked) where
+      (answers : AreRight (AnswersBy by c) (events ++ Locked p ∷ []) more) (none : IsCalm by events → (i : ℕ) → holder_of i events ≡ None) (open_now : counter_of ws ≢ locked) (new : words' ≡ set ws 0 locked) where
     abbrev es : List (Event T)
     es = Locked p ∷ more
 
@@ -51,9 +53,9 @@ module _ {T : Type 0} (scene : Scene T) (inv : Inv scene) where
     now_locked : is_locked (events ++ es) ≡ true
     now_locked = fold-append locked_after false events es ∙ quiet.locked true
 
-    still_owned : IsProper (events ++ es) → AreOwned (events ++ es)
-    still_owned proper =
-        let h = g.owned (proper_less events es proper) in
+    still_owned : IsCalm by (events ++ es) → AreOwned (events ++ es)
+    still_owned calm =
+        let h = g.owned (calm_less by events es calm) in
         record {
           held = λ i owner e. same_filled i ∙ h.held i owner (sym (same_holder i) ∙ e);
           settled = λ i owner e. let k = h.settled i owner (sym (same_settled i) ∙ e) in (same_filled i ∙ k.0, same_right i ∙ k.1);
@@ -74,9 +76,9 @@ module _ {T : Type 0} (scene : Scene T) (inv : Inv scene) where
                 low = λ t. both_ways (is_locked (events ++ es)) t now_locked;
                 died = λ o. g.died o ∙ sym (same_dead o);
                 does = Each-append (SetDoes c) events es g.does (unlocked scene inv open_now, right);
-                answers = Each-append (AnswersRight c) events es g.answers (tt, answers);
+                answers = Each-append (AnswersBy by c) events es g.answers (tt, answers);
                 owned = still_owned;
-                holds = λ proper. let less = proper_less events es proper in Each-append HoldsRight events es (g.holds less) (none less, quiet.holds (events ++ Locked p ∷ []));
+                holds = λ calm. let less = calm_less by events es calm in Each-append HoldsRight events es (g.holds less) (none less, quiet.holds (events ++ Locked p ∷ []));
               };
           goes =
               record {
@@ -91,9 +93,9 @@ module _ {T : Type 0} (scene : Scene T) (inv : Inv scene) where
               record {
                 none = others_begin_none q p es ne (refl, own);
                 deeds = ap (λ s. deeds (wrote_in s)) (span_of-other p q events es ne (refl, own));
-                owned = λ proper i owner alive h. record { right = same_right i ∙ h.right; filled = same_filled i ∙ h.filled };
-                unheld = λ proper i owner alive h unheld. same_holder i ∙ unheld;
-                held = λ proper i owner alive h here. same_holder i ∙ here;
-                settled = λ proper i owner alive h none. same_settled i ∙ h;
+                owned = λ calm i owner alive h. record { right = same_right i ∙ h.right; filled = same_filled i ∙ h.filled };
+                unheld = λ calm i owner alive h unheld. same_holder i ∙ unheld;
+                held = λ calm i owner alive h here. same_holder i ∙ here;
+                settled = λ calm i owner alive h none. same_settled i ∙ h;
               };
         }

@@ -8,6 +8,7 @@ use Rattle.model.specs.declared.turn.Kind as kinds
 use Rattle.model.specs.Families.Indices.Robust.Opening.{opening_words}
 use Rattle.model.specs.World.{capacity_error}
 use Rattle.model.proofs.Readings.{Each-nil}
+use Rattle.robust_laws.specs.Gone.{GoneBy}
 use Rattle.robust_laws.proofs.Core.{cell}
 use Rattle.robust_laws.proofs.Invariant.{Good}
 
@@ -21,8 +22,8 @@ opening_cell c i below =
     let place : 1 + i ≡ suc i = omega arith in
     ap (λ n. get_or (opening_words c) n 0) place ∙ all_the_same empty c i below
 
-pub opening_good : {T : Type 0} (c : ℕ) → 1 ≤ c → c < 2 ^ 32 → Good {T = T} c (opening_words c) [] [] 0
-opening_good c some few =
+pub opening_good : {T : Type 0} (by : GoneBy) (c : ℕ) → 1 ≤ c → c < 2 ^ 32 → Good {T = T} by c (opening_words c) [] [] 0
+opening_good by c some few =
     let long = length-replicate {A = ℕ} c empty in
     record {
       some = some;
@@ -35,8 +36,8 @@ opening_good c some few =
       died = λ owner. refl;
       does = Each-nil _;
       answers = Each-nil _;
-      owned = λ proper. record { held = λ i owner e. absurd (cc); settled = λ i owner e. absurd (cc) };
-      holds = λ proper. Each-nil _;
+      owned = λ calm. record { held = λ i owner e. absurd (cc); settled = λ i owner e. absurd (cc) };
+      holds = λ calm. Each-nil _;
     }
 
 -- a capacity that is admitted

@@ -20,10 +20,10 @@ use Rattle.steps.specs.Indices.Robust.Parts.{cell_word, empty, locked, greatest,
 use Rattle.steps.specs.Picks.{by_test, by_eq}
 use Rattle.model.specs.declared.event.Event.{Event}
 use Rattle.model.specs.declared.event.Event.TheVariants.{Locked}
-use Rattle.model.specs.Families.Indices.Robust.Promises.{IsProper}
 use Rattle.model.specs.Families.Indices.Robust.Reading.{filled_of, holder_of}
 use Rattle.model.specs.Families.Indices.Robust.Steps.{locked_by}
 use Rattle.model.specs.Turns.{old_of, words_after, step_count}
+use Rattle.robust_laws.specs.Gone.{IsCalm}
 use Rattle.robust_laws.proofs.Core.{counter_of, cell, counter_set}
 use Rattle.robust_laws.proofs.Effects.{Stays, some_none, before_end, stays_same, stays_raised, filled_none, filled_some}
 use Rattle.robust_laws.proofs.Invariant.{Scene, Inv, Good}
@@ -60,21 +60,21 @@ more_if n t = go (n == 0) refl t
     go false e s = let other : n ≢ 0 = grind (arith, nat_tests) in omega arith
 
 module _ {T : Type 0} (scene : Scene T) (inv : Inv scene) where
-  open scene use {capacity as c, party as p, steps as steps, backs as backs, since as since, changes as changes, turns as turns, events as events}
+  open scene use {by as by, capacity as c, party as p, steps as steps, backs as backs, since as since, changes as changes, turns as turns, events as events}
 
   abbrev ws : List ℕ
   ws = scene.set.words
 
-  g : Good c ws scene.set.dead events turns
+  g : Good by c ws scene.set.dead events turns
   g = inv.good
 
   -- nobody holds an index that is not filled
-  pub none_holds : IsProper events → (i : ℕ) → filled_of i events ≡ None → holder_of i events ≡ None
-  none_holds proper i none = go (holder_of i events) refl
+  pub none_holds : IsCalm by events → (i : ℕ) → filled_of i events ≡ None → holder_of i events ≡ None
+  none_holds calm i none = go (holder_of i events) refl
     where
       go : (o : Option ℕ) → holder_of i events ≡ o → o ≡ None
       go None e = refl
-      go (Some owner) e = some_none (filled_of i events) owner none ((g.owned proper).held i owner e)
+      go (Some owner) e = some_none (filled_of i events) owner none ((g.owned calm).held i owner e)
 
   -- none that is not of the set is filled
   pub none_beyond : (i : ℕ) → c ≤ i → filled_of i events ≡ None
@@ -155,7 +155,7 @@ module _ {T : Type 0} (scene : Scene T) (inv : Inv scene) where
 
   -- nobody holds an index, where none is found filled
   abbrev pub NoneHeld : ℕ → ℕ → Type 0
-  NoneHeld k filled = filled ≡ 0 → IsProper events → (i : ℕ) → i < k → holder_of i events ≡ None
+  NoneHeld k filled = filled ≡ 0 → IsCalm by events → (i : ℕ) → i < k → holder_of i events ≡ None
 
   module _ (Says : ℕ → ℕ → Type 0) (said : IsSaid Says) where
     module _ (Lead : Option Ask → Bool → After Count Counted → Type 0) where
@@ -179,7 +179,7 @@ module _ {T : Type 0} (scene : Scene T) (inv : Inv scene) where
 
       -- the next cell, or the end of the count, of which this is known
       module _ (number k filled new : ℕ) (goes : CountGoes (counts.TheVariants.LoadsCell number k filled)) (below : k < c) (few : new ≤ k + 1) (held : Holding number (now scene)) (says : Says (k + 1) new)
-          (none : new ≡ 0 → counter_of ws ≡ number → IsProper events → (i : ℕ) → i < k + 1 → holder_of i events ≡ None) where
+          (none : new ≡ 0 → counter_of ws ≡ number → IsCalm by events → (i : ℕ) → i < k + 1 → holder_of i events ≡ None) where
         abbrev ask : Option Ask
         ask = Some (loads (cell_word k))
 
@@ -277,7 +277,7 @@ module _ {T : Type 0} (scene : Scene T) (inv : Inv scene) where
       -- it locks the set
       abbrev pub LockLocks : Lock → Type 0
       LockLocks lock =
-          (ask : Option Ask) → (IsProper events → (i : ℕ) → holder_of i events ≡ None) → counter_of ws ≢ locked → words_after ws ask ≡ set ws 0 locked → IsPaid (sees scene ask false) → LockSteps lock (3 + c) ask false
+          (ask : Option Ask) → (IsCalm by events → (i : ℕ) → holder_of i events ≡ None) → counter_of ws ≢ locked → words_after ws ask ≡ set ws 0 locked → IsPaid (sees scene ask false) → LockSteps lock (3 + c) ask false
           → Lead ask false (Locked p ∷ []) (Done states.TheVariants.Locked)
 
       -- the count is closed

@@ -1,5 +1,5 @@
 -- The lock of a recovery, and any step of it.
-use Rattle.std.proofs.Common.{◌≡◌, ◌≢◌, ℕ, ◌+◌, ◌*◌, ◌≤◌, Bool, true, false, Option, Some, None, List, [], ◌∷◌, ◌++◌, set, refl, sym, ap, subst, arith}
+use Rattle.std.proofs.Common.{◌≡◌, ◌≢◌, ℕ, ◌+◌, ◌*◌, ◌≤◌, Bool, false, Option, Some, None, List, [], ◌∷◌, ◌++◌, set, refl, sym, ap, subst, arith}
 use Rattle.steps.specs.declared.ask.Ask.{Ask}
 use Rattle.steps.specs.declared.ask.After.{After}
 use Rattle.steps.specs.declared.indices.enums.ReleaseMode.{ReleaseMode}
@@ -21,8 +21,8 @@ use Rattle.model.specs.declared.event.Event.TheVariants.{Locked}
 use Rattle.model.specs.declared.event.Start.TheVariants.{Robust}
 use Rattle.model.specs.declared.families.indices.robust.RobustStart.TheVariants.{Recover}
 use Rattle.model.specs.declared.families.indices.robust.calls.RobustFlight as flights
-use Rattle.model.specs.Families.Indices.Robust.Promises.{promise, IsProper}
-use Rattle.model.specs.Families.Indices.Robust.Reading.{Deed, Locks, holder_of, is_dead, deeds_of}
+use Rattle.model.specs.Families.Indices.Robust.Promises.{promise}
+use Rattle.model.specs.Families.Indices.Robust.Reading.{Deed, Locks, holder_of, deeds_of}
 use Rattle.model.specs.Families.Indices.Robust.Spans.{HasJustFreed}
 use Rattle.model.specs.Families.Indices.Robust.Steps.{locked_by}
 use Rattle.model.specs.Families.Queues.Calls.{as_it_is}
@@ -31,6 +31,7 @@ use Rattle.model.specs.Reading.{Open}
 use Rattle.model.specs.Step.{as_call}
 use Rattle.model.specs.Turns.{old_of, words_after, step_count}
 use Rattle.model.proofs.Readings.{AllFollow}
+use Rattle.robust_laws.specs.Gone.{IsCalm, MayBeTold}
 use Rattle.robust_laws.proofs.Core.{counter_of}
 use Rattle.robust_laws.proofs.Deeds.{asks_more, freed_more}
 use Rattle.robust_laws.proofs.Effects.{quiet_none, stays_same}
@@ -80,7 +81,7 @@ module _ {T : Type 0} (scene : Scene T) (inv : Inv scene) (mode : ReleaseMode) (
     abbrev locking : List (Event T)
     locking = Locked p ∷ []
 
-    module _ (ask : Option Ask) (none : IsProper events → (i : ℕ) → holder_of i events ≡ None) (open_now : counter_of ws ≢ locked) (new : words_after ws ask ≡ set ws 0 locked) (paid : IsPaid (sees scene ask false))
+    module _ (ask : Option Ask) (none : IsCalm scene.by events → (i : ℕ) → holder_of i events ≡ None) (open_now : counter_of ws ≢ locked) (new : words_after ws ask ≡ set ws 0 locked) (paid : IsPaid (sees scene ask false))
         (few : Few ask false 1 (index + 1)) where
       locks_does : Does scene (words_after ws ask) locking
       locks_does = locks scene inv (words_after ws ask) [] quiet_none tt tt tt none open_now new
@@ -136,6 +137,6 @@ module _ {T : Type 0} (scene : Scene T) (inv : Inv scene) (mode : ReleaseMode) (
   recover_step recovers.TheVariants.LoadsCounterAgain at k s = loads_again scene inv mode here at s k
 
   pub recover_decided : (index owner : ℕ) → RecoverAt c mode (all scene) (recovers.TheVariants.Asks index owner) → Knows c (recover_at c mode (recovers.TheVariants.Asks index owner)) (now scene)
-      → steps ≤ recover_number c mode (recovers.TheVariants.Asks index owner) backs → (answer : ℕ) → (answer ≢ 0 → is_dead owner events ≡ true)
+      → steps ≤ recover_number c mode (recovers.TheVariants.Asks index owner) backs → (answer : ℕ) → (answer ≢ 0 → MayBeTold scene.by owner events)
       → AnswerOf scene (Recover mode) (recover_at c mode (recovers.TheVariants.Asks index owner)) None answer
-  recover_decided index owner at k s answer dead = decided scene inv mode here index owner at k s answer dead
+  recover_decided index owner at k s answer may = decided scene inv mode here index owner at k s answer may

@@ -30,8 +30,8 @@ use Rattle.model.specs.declared.event.Start.TheVariants.{Robust}
 use Rattle.model.specs.declared.families.indices.robust.RobustStart.TheVariants.{Recover}
 use Rattle.model.specs.declared.families.indices.robust.calls.RobustFlight as flights
 use Rattle.model.specs.Families.Indices.Robust.Bounds.{most_steps}
-use Rattle.model.specs.Families.Indices.Robust.Promises.{cell_of, promise, AsksRight, AnswersRight, IsUnlocked, HeldThrough, StillToFree, HasRecovered, LivesToRelease}
-use Rattle.model.specs.Families.Indices.Robust.Reading.{Deed, Frees, Asks, Yes, deeds, asked_in, filled_after, filled_of, is_dead, deeds_of, IsOneOf}
+use Rattle.model.specs.Families.Indices.Robust.Promises.{cell_of, promise, IsUnlocked, HeldThrough, StillToFree, LivesToRelease}
+use Rattle.model.specs.Families.Indices.Robust.Reading.{Deed, Frees, Asks, Yes, deeds, asked_in, filled_after, filled_of, deeds_of, IsOneOf}
 use Rattle.model.specs.Families.Indices.Robust.Spans.{HasJustFreed}
 use Rattle.model.specs.Families.Queues.Calls.{as_it_is}
 use Rattle.model.specs.Moments.{BeginsNone, HeldOnce}
@@ -41,11 +41,13 @@ use Rattle.model.specs.Step.{as_call}
 use Rattle.model.specs.Turns.{words_after, step_count}
 use Rattle.model.proofs.Moments.{held_now, held_later}
 use Rattle.model.proofs.Readings.{no_more, AllFollow, AreRight}
+use Rattle.robust_laws.specs.Gone.{is_gone, IsHonestBy, MayBeTold, AsksBy, HasRecoveredBy, AnswersBy}
 use Rattle.robust_laws.proofs.Core.{counter_of, cell}
 use Rattle.robust_laws.proofs.Counting.{times_below}
 use Rattle.robust_laws.proofs.Deeds.{still_one, last_one, by_latest, was_one, all_so, asks_more, FreedWereAsked, freed_more}
-use Rattle.robust_laws.proofs.Effects.{proper_less, Stays, at_same, some_none, one_owner, both_ways, quiet_asked, quiet_told, quietly, unlocked, is_shut, stays_same, stays_raised, filled_by, filled_none, filled_some}
+use Rattle.robust_laws.proofs.Effects.{Stays, at_same, some_none, one_owner, both_ways, quiet_asked, quiet_told, quietly, unlocked, is_shut, stays_same, stays_raised, filled_by, filled_none, filled_some}
 use Rattle.robust_laws.proofs.Frees.{frees}
+use Rattle.robust_laws.proofs.Gone.{gone_more, gone_told, honest_less, calm_less, stays_lost}
 use Rattle.robust_laws.proofs.Invariant.{Scene, Inv, Good, Does, wrote_of}
 use Rattle.robust_laws.proofs.Knows.{Knows, IsPaid, WasOpen, AskedBelow, GoneBut, LockSays}
 use Rattle.robust_laws.proofs.Standing.{at_least_one, at_least_four, recover_at, raise_number, for_back, for_index, RecoverAt, IsInCourse}
@@ -64,7 +66,7 @@ nothing_said c (parts.TheVariants.Counts (counts.TheVariants.ExchangesCounter nu
 nothing_said c (parts.TheVariants.ExchangesCounter number) = tt
 
 module _ {T : Type 0} (scene : Scene T) (inv : Inv scene) (mode : ReleaseMode) (here : IsHere scene (Recover mode)) where
-  open scene use {capacity as c, party as p, steps as steps, backs as backs, since as since, changes as changes, events as events}
+  open scene use {by as by, capacity as c, party as p, steps as steps, backs as backs, since as since, changes as changes, events as events}
 
   abbrev ws : List ℕ
   ws = scene.set.words
@@ -72,7 +74,7 @@ module _ {T : Type 0} (scene : Scene T) (inv : Inv scene) (mode : ReleaseMode) (
   abbrev done : List Deed
   done = deeds_of p events
 
-  g : Good c ws scene.set.dead events scene.turns
+  g : Good by c ws scene.set.dead events scene.turns
   g = inv.good
 
   abbrev call_at : RecoverStage → calls.Recover
@@ -88,7 +90,7 @@ module _ {T : Type 0} (scene : Scene T) (inv : Inv scene) (mode : ReleaseMode) (
 
   -- ---- the end
 
-  ends_so : (state : ReleaseState) (ask : Option Ask) (back : Bool) → Stays scene (words_after ws ask) → AnswersRight c events (Finished p (Robust (Recover mode)) (State state))
+  ends_so : (state : ReleaseState) (ask : Option Ask) (back : Bool) → Stays scene (words_after ws ask) → AnswersBy by c events (Finished p (Robust (Recover mode)) (State state))
       → steps + step_count ask ≤ 2 + c * for_index c mode + backs_then scene back * for_back c mode → IsPaid (sees scene ask back) → Lead ask back [] (Done state)
   ends_so state ask back stays right few paid =
       let most = most_is c (backs_then scene back) mode in
@@ -120,7 +122,7 @@ module _ {T : Type 0} (scene : Scene T) (inv : Inv scene) (mode : ReleaseMode) (
 
     -- the same of a step that writes an event
     module _ (did : List (Event T)) (longer : Lengthens (did ++ [])) (does : Does scene (words_after ws ask) (did ++ []))
-        (stands : AllFollow (Stands promise c) (Open (Robust (Recover mode)) (wrote_of p events)) (did ++ [])) (asks : AreRight AsksRight events (did ++ [])) (paid : IsPaid (sees scene ask back))
+        (stands : AllFollow (Stands promise c) (Open (Robust (Recover mode)) (wrote_of p events)) (did ++ [])) (asks : AreRight (AsksBy by) events (did ++ [])) (paid : IsPaid (sees scene ask back))
         (asked : AllByRecursion (λ i. i < index + 1) (asked_in (done ++ deeds (did ++ [])))) (freed : FreedWereAsked (done ++ deeds (did ++ []))) (open_once : WasOpen (then_sees scene ask back (did ++ [])))
         (says : AskedBelow (index + 1) (then_sees scene ask back (did ++ []))) (gone : GoneBut (λ i o. ⊥) (then_sees scene ask back (did ++ []))) where
       pub comes_loudly : Lead ask back did (recover_comes_to (call_at stage) (index + 1))
@@ -148,15 +150,17 @@ module _ {T : Type 0} (scene : Scene T) (inv : Inv scene) (mode : ReleaseMode) (
     pub asked_then : (k : ℕ) → AskedBelow k (now scene) → (i owner : ℕ) → i < k → HeldThrough p (StillToFree p owner i) (events ++ es) → IsOneOf (Asks i owner) (deeds_of p (events ++ es))
     asked_then k h i owner below through = still_one_then (Asks i owner) (h i owner below (through_less p (StillToFree p owner i) events es begins through))
 
-    pub gone_then : (Was Now : ℕ → ℕ → Type 0) → GoneBut Was (now scene) → ((i owner : ℕ) → Was i owner → is_dead owner events ≡ true → (filled_of i (events ++ es) ≢ Some owner) ⊎ Now i owner)
-        → ((i owner : ℕ) → d ≡ Yes i owner → (is_dead owner events ≡ true) × Now i owner)
-        → (i owner : ℕ) → IsOneOf (Yes i owner) (deeds_of p (events ++ es)) → (is_dead owner (events ++ es) ≡ true) × ((filled_of i (events ++ es) ≢ Some owner) ⊎ Now i owner)
+    pub gone_then : (Was Now : ℕ → ℕ → Type 0) → GoneBut Was (now scene) → ((i owner : ℕ) → Was i owner → (filled_of i (events ++ es) ≢ Some owner) ⊎ Now i owner)
+        → ((i owner : ℕ) → d ≡ Yes i owner → (is_gone by owner (events ++ es) ≡ true) × Now i owner)
+        → (i owner : ℕ) → IsOneOf (Yes i owner) (deeds_of p (events ++ es)) → (is_gone by owner (events ++ es) ≡ true) × (IsHonestBy by (events ++ es) → (filled_of i (events ++ es) ≢ Some owner) ⊎ Now i owner)
     gone_then Was Now h was new i owner told =
         ⊎_elim
         (λ earlier.
-        let k = h i owner earlier in
-        (does.goes.dead owner k.0, ⊎_elim (λ gone. inl (λ e. gone (does.goes.fills i owner k.0 e))) (λ exempt. was i owner exempt k.0) k.1))
-        (λ is. let k = new i owner is in (does.goes.dead owner k.0, inr k.1))
+        let k = h i owner earlier in (
+          gone_more by owner events es k.0,
+          λ honest. ⊎_elim (λ gone. inl (λ e. gone (stays_lost by events es does.goes.fills i owner honest k.0 e))) (λ exempt. was i owner exempt) (k.1 (honest_less by events es honest)),
+        ))
+        (λ is. let k = new i owner is in (k.0, λ honest. inr k.1))
         (was_one (Yes i owner) d done (subst (IsOneOf (Yes i owner)) more told))
 
   -- ---- the load of the counter
@@ -281,7 +285,7 @@ module _ {T : Type 0} (scene : Scene T) (inv : Inv scene) (mode : ReleaseMode) (
         let paid = k.paid in
         comes_quietly index at.0.within (recovers.TheVariants.Asks index owner) None false (omega arith) (stays_same scene inv ws refl) (omega arith) at.0.asked at.0.freed k.says.0 k.says.1 k.gone
 
-    module _ (dead : is_dead owner events ≡ true) where
+    module _ (may : MayBeTold by owner events) where
       abbrev telling : List (Event T)
       telling = Told p index owner ∷ []
 
@@ -291,16 +295,16 @@ module _ {T : Type 0} (scene : Scene T) (inv : Inv scene) (mode : ReleaseMode) (
       tells_deeds : deeds_of p (events ++ telling) ≡ done ++ Yes index owner ∷ []
       tells_deeds = deeds_more scene (Recover mode) here telling tells_does.own (λ start w. refl)
 
-      frees_this : (i o : ℕ) → Yes index owner ≡ Yes i o → (is_dead o events ≡ true) × ((i ≡ index) × (o ≡ owner))
+      frees_this : (i o : ℕ) → Yes index owner ≡ Yes i o → (is_gone by o (events ++ telling) ≡ true) × ((i ≡ index) × (o ≡ owner))
       frees_this i o e =
           let same : i ≡ index = cc in
           let own : o ≡ owner = cc in
-          (subst (λ n. is_dead n events ≡ true) (sym own) dead, (same, own))
+          (subst (λ n. is_gone by n (events ++ telling) ≡ true) (sym own) (gone_told by p index owner events may), (same, own))
 
       says_yes : Lead None false telling (GoOn (at_recover (call_at (recovers.TheVariants.Asks index owner)) (recovers.TheVariants.EmptiesCell index owner)))
       says_yes =
           let paid = k.paid in
-          goes_on scene (Recover mode) (recover_at c mode (recovers.TheVariants.EmptiesCell index owner)) None false telling here (λ start w. refl) tells_does (at.2, tt) (dead, tt) (omega arith) (
+          goes_on scene (Recover mode) (recover_at c mode (recovers.TheVariants.EmptiesCell index owner)) None false telling here (λ start w. refl) tells_does (at.2, tt) (may, tt) (omega arith) (
             refl,
             refl,
             (
@@ -323,13 +327,13 @@ module _ {T : Type 0} (scene : Scene T) (inv : Inv scene) (mode : ReleaseMode) (
             gone = gone_then (Yes index owner) telling ws tt tells_deeds tells_does (λ i o. ⊥) (λ i o. (i ≡ index) × (o ≡ owner)) k.gone (λ i o never. absurd never) frees_this;
           })
 
-    pub decided : (answer : ℕ) → (answer ≢ 0 → is_dead owner events ≡ true) → AnswerOf scene (Recover mode) (recover_at c mode (recovers.TheVariants.Asks index owner)) None answer
-    decided answer dead = go (answer == 0) refl
+    pub decided : (answer : ℕ) → (answer ≢ 0 → MayBeTold by owner events) → AnswerOf scene (Recover mode) (recover_at c mode (recovers.TheVariants.Asks index owner)) None answer
+    decided answer may = go (answer == 0) refl
       where
         go : (b : Bool) → (answer == 0) ≡ b → Lead None false (if b then [] else Told p index owner ∷ [])
             (if b then recover_comes_to (call_at (recovers.TheVariants.Asks index owner)) (index + 1) else GoOn (at_recover (call_at (recovers.TheVariants.Asks index owner)) (recovers.TheVariants.EmptiesCell index owner)))
         go true t = says_no
-        go false t = let other : answer ≢ 0 = grind (arith, nat_tests) in says_yes (dead other)
+        go false t = let other : answer ≢ 0 = grind (arith, nat_tests) in says_yes (may other)
 
   -- ---- the exchange of a cell
 
@@ -341,14 +345,17 @@ module _ {T : Type 0} (scene : Scene T) (inv : Inv scene) (mode : ReleaseMode) (
     abbrev freeing : List (Event T)
     freeing = FreedOf p index owner ∷ []
 
-    owner_dead : is_dead owner events ≡ true
-    owner_dead = (k.gone index owner (by_latest (Yes index owner) done at.2)).0
+    owner_gone : is_gone by owner events ≡ true
+    owner_gone = (k.gone index owner (by_latest (Yes index owner) done at.2)).0
 
     -- the cell has another owner by now, or none
     gone_already : cell ws index ≢ owner → GoneBut (λ i o. ⊥) (now scene)
     gone_already other i o told =
-        let h = k.gone i o told in
-        (h.0, ⊎_elim (λ gone. inl gone) (λ exempt. inl (λ e. other (g.cells index at.0.within ∙ ap cell_of (sym (ap (λ j. filled_of j events) exempt.0) ∙ (e ∙ ap Some exempt.1))))) h.1)
+        let h = k.gone i o told in (
+          h.0,
+          λ honest. ⊎_elim (λ gone. inl gone)
+              (λ exempt. inl (λ e. other (g.cells index at.0.within ∙ ap cell_of (sym (ap (λ j. filled_of j events) exempt.0) ∙ (e ∙ ap Some exempt.1))))) (h.1 honest),
+        )
 
     misses : cell ws index ≢ owner → Lead exchange false [] (recover_comes_to (call_at (recovers.TheVariants.EmptiesCell index owner)) (index + 1))
     misses other =
@@ -364,11 +371,11 @@ module _ {T : Type 0} (scene : Scene T) (inv : Inv scene) (mode : ReleaseMode) (
       frees_does : Does scene (words_after ws exchange) freeing
       frees_does =
           frees scene inv (words_after ws exchange) index owner at.0.within filled (subst (LivesToRelease owner events) (sym here) tt)
-          (λ proper q ne o alive h. let same : owner ≡ o = one_owner (filled_of index events) owner o filled h.filled in both_ways (is_dead o events) alive (subst (λ n. is_dead n events ≡ true) same owner_dead))
-          (λ proper o alive h.
-          let theirs = ((g.owned (proper_less events freeing proper)).settled index o h).0 in
+          (λ calm q ne o stays h. let same : owner ≡ o = one_owner (filled_of index events) owner o filled h.filled in both_ways (is_gone by o events) stays (subst (λ n. is_gone by n events ≡ true) same owner_gone))
+          (λ calm o stays h.
+          let theirs = ((g.owned (calm_less by events freeing calm)).settled index o h).0 in
           let same : owner ≡ o = one_owner (filled_of index events) owner o filled theirs in
-          both_ways (is_dead o events) alive (subst (λ n. is_dead n events ≡ true) same owner_dead))
+          both_ways (is_gone by o events) stays (subst (λ n. is_gone by n events ≡ true) same owner_gone))
           (exchange_sets ws (cell_word index) owner empty is)
 
       frees_deeds : deeds_of p (events ++ freeing) ≡ done ++ Frees index owner ∷ []
@@ -405,7 +412,7 @@ module _ {T : Type 0} (scene : Scene T) (inv : Inv scene) (mode : ReleaseMode) (
             scanned = tt;
             owns = tt;
             says = (open_then (Frees index owner) freeing (words_after ws exchange) tt frees_deeds frees_does k.says.0, asked_then (Frees index owner) freeing (words_after ws exchange) tt frees_deeds frees_does (index + 1) k.says.1);
-            gone = gone_then (Frees index owner) freeing (words_after ws exchange) tt frees_deeds frees_does (λ i o. (i ≡ index) × (o ≡ owner)) (λ i o. ⊥) k.gone (λ i o exempt d. inl (freed_here i o exempt)) (λ i o e. absurd (cc));
+            gone = gone_then (Frees index owner) freeing (words_after ws exchange) tt frees_deeds frees_does (λ i o. (i ≡ index) × (o ≡ owner)) (λ i o. ⊥) k.gone (λ i o exempt. inl (freed_here i o exempt)) (λ i o e. absurd (cc));
           })
 
     pub empties_cell : StepOf scene (Recover mode) (recover_at c mode (recovers.TheVariants.EmptiesCell index owner))
@@ -423,10 +430,10 @@ module _ {T : Type 0} (scene : Scene T) (inv : Inv scene) (mode : ReleaseMode) (
       → StepOf scene (Recover mode) (recover_at c mode recovers.TheVariants.LoadsCounterAgain)
   loads_again freed s k = go (counter_of ws == locked) refl
     where
-      recovered : HasRecovered p events
+      recovered : HasRecoveredBy by p events
       recovered =
           record {
-            gone = λ i owner told. ⊎_elim (λ gone. gone) (λ never. absurd never) (k.gone i owner told).1;
+            gone = λ honest i owner told. ⊎_elim (λ gone. gone) (λ never. absurd never) ((k.gone i owner told).1 honest);
             asked = λ i owner through.
                 ⊎_elim (λ below. k.says i owner below through)
                 (λ beyond. ⊎_elim (λ filled. some_none (filled_of i events) owner (none_beyond scene inv i beyond) filled) (λ was_freed. freed i owner was_freed) (through_now p (StillToFree p owner i) events through))

@@ -28,7 +28,7 @@ use Rattle.model.specs.declared.families.indices.robust.calls.RobustFlight as fl
 use Rattle.model.specs.Families.Indices.Reading.{locked_after, is_locked}
 use Rattle.model.specs.Families.Indices.Robust.Bounds.{most_steps}
 use Rattle.model.specs.Families.Indices.Robust.Calls.{release_answer}
-use Rattle.model.specs.Families.Indices.Robust.Promises.{IsProper, MayGiveBack, AnswersRight, LivesToRelease}
+use Rattle.model.specs.Families.Indices.Robust.Promises.{MayGiveBack, LivesToRelease}
 use Rattle.model.specs.Families.Indices.Robust.Reading.{Deed, Frees, Locks, deed, deeds, filled_of, holder_of, settled_of, is_dead}
 use Rattle.model.specs.Families.Indices.Robust.Spans.{HasDone}
 use Rattle.model.specs.Families.Queues.Calls.{as_it_is}
@@ -36,8 +36,10 @@ use Rattle.model.specs.Moments.{SinceBegin}
 use Rattle.model.specs.Reading.{span_of}
 use Rattle.model.specs.Step.{as_call}
 use Rattle.model.specs.Turns.{words_after, step_count}
+use Rattle.robust_laws.specs.Gone.{GoneBy, Word, is_gone, GivesBackRight, IsHonest, IsCalm, AnswersBy}
 use Rattle.robust_laws.proofs.Core.{counter_of}
 use Rattle.robust_laws.proofs.Effects.{Stays, quiet_end, stays_same}
+use Rattle.robust_laws.proofs.Gone.{lives_freed}
 use Rattle.robust_laws.proofs.HeldRelease.{Caller, Ends, StepAt, held_step}
 use Rattle.robust_laws.proofs.Invariant.{Scene, Inv, wrote_of}
 use Rattle.robust_laws.proofs.Knows.{Knows, IsPaid}
@@ -49,13 +51,13 @@ not_owned_done : (T : Type 0) (index owner : ℕ) (mode : ReleaseMode) (failure 
 not_owned_done T index owner Default failure done none = none
 not_owned_done T index owner LockIfLastIndex failure done none = none
 
-not_owned_right : {T : Type 0} (c p index owner : ℕ) (mode : ReleaseMode) (failure : RobustUniqueIndexSetReleaseError) (events : List (Event T)) → filled_of index events ≢ Some owner
-    → AnswersRight c events (Finished p (Robust (Release index owner mode)) (NotOwned failure))
-not_owned_right c p index owner Default failure events other = other
-not_owned_right c p index owner LockIfLastIndex failure events other = other
+not_owned_right : {T : Type 0} (by : GoneBy) (c p index owner : ℕ) (mode : ReleaseMode) (failure : RobustUniqueIndexSetReleaseError) (events : List (Event T)) → filled_of index events ≢ Some owner
+    → AnswersBy by c events (Finished p (Robust (Release index owner mode)) (NotOwned failure))
+not_owned_right by c p index owner Default failure events other = other
+not_owned_right by c p index owner LockIfLastIndex failure events other = other
 
 module _ {T : Type 0} (scene : Scene T) (inv : Inv scene) (index owner : ℕ) (fits : owner < empty) (below : index < scene.capacity) (alive : is_dead owner scene.events ≡ false) where
-  open scene use {capacity as c, party as p, steps as steps, backs as backs, events as events}
+  open scene use {by as by, capacity as c, party as p, steps as steps, backs as backs, events as events}
 
   abbrev ws : List ℕ
   ws = scene.set.words
@@ -69,11 +71,14 @@ module _ {T : Type 0} (scene : Scene T) (inv : Inv scene) (index owner : ℕ) (f
     lives : LivesToRelease owner events (span_of p events)
     lives = subst (LivesToRelease owner events) (sym here) alive
 
-    began : IsProper (events ++ FreedOf p index owner ∷ []) → SinceBegin p (λ part since. settled_of index part ≡ Some owner) events
-    began proper = subst (MayGiveBack p index events) here (proper events [] (FreedOf p index owner) refl)
+    gives_back : IsHonest (events ++ FreedOf p index owner ∷ []) → is_gone Word owner events ≡ false
+    gives_back honest = subst (GivesBackRight owner events) here (honest events [] (FreedOf p index owner) refl)
+
+    began : IsCalm by (events ++ FreedOf p index owner ∷ []) → (is_gone by owner events ≡ false) × SinceBegin p (λ part since. settled_of index part ≡ Some owner) events
+    began calm = (lives_freed by p index owner events alive gives_back calm.1, subst (MayGiveBack p index events) here (calm.0 events [] (FreedOf p index owner) refl))
 
     abbrev Says : ReleaseMode → ReleaseState → Type 0
-    Says m state = Ends scene inv index owner mode fits below alive lives began 0 m state
+    Says m state = Ends scene inv index owner mode fits below lives began 0 m state
 
     -- it ends with this state
     ends_with : (m : ReleaseMode) → IsHere scene (Release index owner m) → (state : ReleaseState) (ask : Option Ask) (back : Bool) → Stays scene (words_after ws ask) → Says m state → all scene ≡ Frees index owner ∷ []
@@ -93,7 +98,7 @@ module _ {T : Type 0} (scene : Scene T) (inv : Inv scene) (index owner : ℕ) (f
     now_locked = fold-append locked_after false events (Locked p ∷ [])
 
     -- it locks
-    locks_with : (m : ReleaseMode) → IsHere scene (Release index owner m) → (ask : Option Ask) → m ≡ LockIfLastIndex → (IsProper events → (i : ℕ) → holder_of i events ≡ None) → counter_of ws ≢ locked → words_after ws ask ≡ set ws 0 locked
+    locks_with : (m : ReleaseMode) → IsHere scene (Release index owner m) → (ask : Option Ask) → m ≡ LockIfLastIndex → (IsCalm by events → (i : ℕ) → holder_of i events ≡ None) → counter_of ws ≢ locked → words_after ws ask ≡ set ws 0 locked
         → all scene ≡ Frees index owner ∷ [] → IsPaid (sees scene ask false) → steps + step_count ask ≤ 0 + most_steps c (Release index owner m) (backs_then scene false) → Lead m ask false (Locked p ∷ []) (Done (Ok states.TheVariants.Locked))
     locks_with Default is ask mode none open_now new done paid few = absurd (cc)
     locks_with LockIfLastIndex is ask mode none open_now new done paid few =
@@ -102,7 +107,7 @@ module _ {T : Type 0} (scene : Scene T) (inv : Inv scene) (index owner : ℕ) (f
         (quiet_end p (Release index owner LockIfLastIndex) (State states.TheVariants.Locked) (λ j o. refl) (λ j r. refl)) (refl, tt) (tt, tt) (now_locked, tt) none open_now new)
         (done, ((refl, inr (all_done done)), tt)) (tt, (tt, tt)) (omega arith) paid
 
-    caller : Caller scene inv index owner mode fits below alive lives began 0 (Lead mode)
+    caller : Caller scene inv index owner mode fits below lives began 0 (Lead mode)
     caller =
         record {
           quiet = λ next ask back stays at known few. goes_quietly scene inv (Release index owner mode) (release_at c index owner mode next) ask back here stays (omega arith) (refl, refl, fits, below, at) known;
@@ -111,15 +116,15 @@ module _ {T : Type 0} (scene : Scene T) (inv : Inv scene) (index owner : ℕ) (f
               ((refl, refl, none), tt) (tt, tt) (omega arith) (refl, refl, fits, below, ap (λ d. d ++ Frees index owner ∷ []) none) known;
           refused = λ ask same other none paid few.
               ends_quietly scene inv (Release index owner mode) (NotOwned IndexIsNotOwnedByProvidedOwner) ask false here (stays_same scene inv (words_after ws ask) same) (λ i o. refl) (λ i r. refl)
-              (not_owned_right c p index owner mode IndexIsNotOwnedByProvidedOwner events other)
+              (not_owned_right by c p index owner mode IndexIsNotOwnedByProvidedOwner events other)
               (not_owned_done T index owner mode IndexIsNotOwnedByProvidedOwner (all scene) none) (omega arith) paid;
           ended = ends_with mode here;
           locks = locks_with mode here;
         }
 
     abbrev held : (stage : ReleaseStage) → ReleaseAt c index owner mode (all scene) stage → Knows c (release_at c index owner mode stage) (now scene) → steps ≤ 0 + release_number c mode stage backs
-        → StepAt scene inv index owner mode fits below alive lives began 0 (Lead mode) caller stage
-    held = held_step scene inv index owner mode fits below alive lives began 0 (Lead mode) caller
+        → StepAt scene inv index owner mode fits below lives began 0 (Lead mode) caller stage
+    held = held_step scene inv index owner mode fits below lives began 0 (Lead mode) caller
 
     pub release_step : (stage : ReleaseStage) → ReleaseAt c index owner mode (all scene) stage → Knows c (release_at c index owner mode stage) (now scene) → steps ≤ release_number c mode stage backs
         → StepOf scene (Release index owner mode) (release_at c index owner mode stage)

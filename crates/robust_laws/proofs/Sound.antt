@@ -1,7 +1,5 @@
 -- Every turn keeps what holds of the machine of a robust index set: the laws of the family.
-use Rattle.std.proofs.Common.{◌≡◌, ◌≢◌, ℕ, ◌+◌, ◌-◌, ◌^◌, ◌<◌, ◌≤◌, inl, nat_le, if◌then◌else◌, Bool, true, false, Option, Some, None, option_map, List, [], ◌∷◌, ◌++◌, refl, sym, ap, subst, ◌∙◌, arith}
-use Rattle.std.proofs.lemmas.Bool.Decides.{nat_tests}
-use Rattle.std.proofs.lemmas.List.Sums.{fold-append}
+use Rattle.std.proofs.Common.{◌≡◌, ◌≢◌, ℕ, ◌+◌, ◌-◌, ◌^◌, ◌<◌, ◌≤◌, inl, Bool, true, false, Option, Some, None, List, [], ◌∷◌, ◌++◌, refl, sym, ap, subst, ◌∙◌, arith}
 use Rattle.steps.specs.declared.indices.enums.ReleaseMode.{ReleaseMode}
 use Rattle.steps.specs.declared.indices.robust.acquire.AcquireStage.{AcquireStage}
 use Rattle.steps.specs.declared.indices.robust.acquire.AcquireStage as acquires
@@ -36,16 +34,15 @@ use Rattle.model.specs.declared.families.indices.robust.calls.RobustFlight as ca
 use Rattle.model.specs.declared.party.Doing.TheVariants.{Going}
 use Rattle.model.specs.declared.party.Party.{Party}
 use Rattle.model.specs.declared.turn.Kind as kinds
-use Rattle.model.specs.declared.turn.Refusal.TheVariants.{BadIndex, OwnerIsDead, OwnerLives}
+use Rattle.model.specs.declared.turn.Refusal.TheVariants.{OwnerIsDead, OwnerLives}
 use Rattle.model.specs.Coding.{Coding}
 use Rattle.model.specs.Families.{first_of, want_of, is_question, going_rows, beside_of, step_of, kept_after_death, kept_after_begin}
 use Rattle.model.specs.Families as families
-use Rattle.model.specs.Families.Indices.Robust.Calls.{first, want}
+use Rattle.model.specs.Families.Indices.Robust.Calls.{want}
 use Rattle.model.specs.Families.Indices.Robust.Dead.{has_died, dead_with, acts_for_dead, frees_living}
 use Rattle.model.specs.Families.Indices.Robust.Dead as rows
-use Rattle.model.specs.Families.Indices.Robust.Opening.{opening_words, is_owner, names_owner, call_rows, kept_rows}
-use Rattle.model.specs.Families.Indices.Robust.Promises.{IsFilledWith, IsProper, AsksRight}
-use Rattle.model.specs.Families.Indices.Robust.Reading.{Deed, Yes, deeds, filled_after, is_dead, settled_of, wrote_in, deeds_of, IsOneOf}
+use Rattle.model.specs.Families.Indices.Robust.Opening.{opening_words, call_rows, kept_rows}
+use Rattle.model.specs.Families.Indices.Robust.Reading.{deeds, is_dead, wrote_in}
 use Rattle.model.specs.Families.Loan.Opening.{is_loan}
 use Rattle.model.specs.Parties.{party_of}
 use Rattle.model.specs.Reading.{Open, span_of}
@@ -54,25 +51,24 @@ use Rattle.model.specs.Step.{Step}
 use Rattle.model.specs.Turns.{old_of, words_after, change_of, number_of, party_at_begin, party_after, events_of_step, IsReached}
 use Rattle.model.specs.World.{Trace, opening, capacity_error}
 use Rattle.model.proofs.Frame as frame
-use Rattle.model.proofs.Readings.{no_more, Each-nil, Each-append, span_of-own, span_of-death}
+use Rattle.model.proofs.Readings.{Each-nil, Each-append, span_of-own, span_of-death}
 use Rattle.model.proofs.Rows.{row_passed, MayBegin, MayDie}
 use Rattle.model.proofs.Scenes.{asked, StandsThere, stands_there, ComesFrom, comes_from}
+use Rattle.robust_laws.specs.Gone.{GoneBy, Death, Word, MayBeTold, AsksBy}
 use Rattle.robust_laws.proofs.Acquires.{acquire_step}
-use Rattle.robust_laws.proofs.Begins.{begins, takes_right}
-use Rattle.robust_laws.proofs.Counting.{count_none}
+use Rattle.robust_laws.proofs.Begins.{begins}
 use Rattle.robust_laws.proofs.Deaths.{death_good, death_known}
-use Rattle.robust_laws.proofs.Effects.{both_ways, proper_less}
+use Rattle.robust_laws.proofs.Effects.{both_ways}
 use Rattle.robust_laws.proofs.Finds.{find_step, find_decided}
-use Rattle.robust_laws.proofs.Invariant.{RobustSet, Fit, Scene, Inv, Shows, view, family, wrote_of, at_written, owes, holds_more}
+use Rattle.robust_laws.proofs.Firsts.{IsFirst, first_is, IsOwn, begins_own}
+use Rattle.robust_laws.proofs.Invariant.{RobustSet, Fit, Scene, Inv, Shows, IsAhead, ahead_of_few, family, family_by, wrote_of, at_written, owes, holds_more}
 use Rattle.robust_laws.proofs.Knows.{Knows}
 use Rattle.robust_laws.proofs.Standing.{acquire_at, find_at, recover_at, borrowed_at, At, FindAt, RecoverAt}
 use Rattle.robust_laws.proofs.Standing as standing
 use Rattle.robust_laws.proofs.Looks.{borrowed_step, looks_step}
 use Rattle.robust_laws.proofs.Opening.{opening_good, admitted_is}
-use Rattle.robust_laws.proofs.Past.{since_begun}
 use Rattle.robust_laws.proofs.RecoverSteps.{recover_step, recover_decided}
 use Rattle.robust_laws.proofs.Releases.{release_step}
-use Rattle.robust_laws.proofs.Rights.{IsBy, AreOwned}
 use Rattle.robust_laws.proofs.Stages.{IsHere, all, now, StepOf, DecisionOf}
 
 module _ {T : Type 0} where
@@ -111,8 +107,13 @@ release_asks_none releases.TheVariants.EmptiesCell given = refl
 release_asks_none (releases.TheVariants.Raises raise) given = raise_asks_none raise
 release_asks_none (releases.TheVariants.Locks lock) given = lock_asks_none lock
 
+-- where owners die a yes about one who lives is refused
+abbrev pub MayDecide : GoneBy → List ℕ → RobustFlight → Bool → Type 0
+MayDecide Death dead flight said = frees_living dead flight (Some said) ≡ false
+MayDecide Word dead flight said = Unit {0}
+
 module _ {T : Type 0} (scene : Scene T) (inv : Inv scene) where
-  open scene use {capacity as c, party as p, events as events}
+  open scene use {by as by, capacity as c, party as p, events as events}
 
   lives : (owner : ℕ) → has_died owner scene.set.dead ≡ false → is_dead owner events ≡ false
   lives owner alive = sym (inv.good.died owner) ∙ alive
@@ -143,12 +144,13 @@ module _ {T : Type 0} (scene : Scene T) (inv : Inv scene) where
 
   abbrev Decides : Bool → RobustStart → RobustFlight → Type 0
   Decides said start flight =
-      frees_living scene.set.dead flight (Some said) ≡ false → is_question (want flight) ≡ true → scene.steps ≤ standing.number_of c flight scene.backs → Knows c flight (now scene) → DecisionOf scene start flight said
+      MayDecide by scene.set.dead flight said → is_question (want flight) ≡ true → scene.steps ≤ standing.number_of c flight scene.backs → Knows c flight (now scene) → DecisionOf scene start flight said
 
-  -- a yes about an owner is of a dead one
-  told_dead : (said : Bool) (mode : ReleaseMode) (index owner : ℕ) → frees_living scene.set.dead (recover_at c mode (recovers.TheVariants.Asks index owner)) (Some said) ≡ false → number_of said ≢ 0 → is_dead owner events ≡ true
-  told_dead true mode index owner e ne = sym (inv.good.died owner) ∙ frame.is_true (has_died owner scene.set.dead) e
-  told_dead false mode index owner e ne = absurd (ne refl)
+  -- a yes about an owner, where owners die, is of a dead one
+  may_tell : (b : GoneBy) (said : Bool) (mode : ReleaseMode) (index owner : ℕ) → MayDecide b scene.set.dead (recover_at c mode (recovers.TheVariants.Asks index owner)) said → number_of said ≢ 0 → MayBeTold b owner events
+  may_tell Death true mode index owner e ne = sym (inv.good.died owner) ∙ frame.is_true (has_died owner scene.set.dead) e
+  may_tell Death false mode index owner e ne = absurd (ne refl)
+  may_tell Word said mode index owner e ne = tt
 
   find_decides : (said : Bool) (owner : ℕ) → owner < empty → IsHere scene (starts.TheVariants.Find owner) → (stage : FindStage) → FindAt c (all scene) stage → Decides said (starts.TheVariants.Find owner) (find_at c owner stage)
   find_decides said owner fits here (finds.TheVariants.LoadsCell index found) at frees asks s k = absurd (cc)
@@ -158,7 +160,7 @@ module _ {T : Type 0} (scene : Scene T) (inv : Inv scene) where
   recover_decides said mode here recovers.TheVariants.LoadsCounter at frees asks s k = absurd (cc)
   recover_decides said mode here (recovers.TheVariants.LoadsCell index) at frees asks s k = absurd (cc)
   recover_decides said mode here (recovers.TheVariants.Asks index owner) at frees asks s k =
-      recover_decided scene inv mode here index owner at k s (number_of said) (told_dead said mode index owner frees)
+      recover_decided scene inv mode here index owner at k s (number_of said) (may_tell by said mode index owner frees)
   recover_decides said mode here (recovers.TheVariants.EmptiesCell index owner) at frees asks s k = absurd (cc)
   recover_decides said mode here (recovers.TheVariants.Raises index raise) at frees asks s k = both_ways (is_question (raise_want raise)) (raise_asks_none raise) asks
   recover_decides said mode here (recovers.TheVariants.Locks index lock) at frees asks s k = both_ways (is_question (lock_want lock)) (lock_asks_none lock) asks
@@ -178,97 +180,13 @@ module _ {T : Type 0} (scene : Scene T) (inv : Inv scene) where
   decision_moves said starts.TheVariants.IsLocked (calls.TheVariants.IsLocked run) here at = λ frees asks s k. absurd (cc)
   decision_moves said start flight here at = absurd at
 
--- ---- what the first stage of a call knows
-
-record IsFirst (T : Type 0) (c : ℕ) (words : List ℕ) (events : List (Event T)) (p changes : ℕ) (start : RobustStart) (flight : RobustFlight) : Type 0 where
-  pub at : At c [] start flight
-  pub knows : Knows c flight (view words (events ++ Begun p (Robust start) ∷ []) p changes changes 0)
-
-none_of : {A : Type 0} (one : Deed) (done : List Deed) → done ≡ [] → IsOneOf one done → A
-none_of one done none h = absurd (no_more h.before one h.after (sym none ∙ h.is))
-
-is_below : (owner : ℕ) → is_owner owner ≡ true → owner < empty
-is_below owner t = grind (arith, nat_tests)
-
-module _ {T : Type 0} (c : ℕ) (words : List ℕ) (events : List (Event T)) (p changes : ℕ) (some : 1 ≤ c) (owned : IsProper events → AreOwned events) where
-  first_is : (start : RobustStart) → names_owner start ≡ true → (dead : List ℕ) → first_row (call_rows c dead start) ≡ None → deeds_of p (events ++ Begun p (Robust start) ∷ []) ≡ [] → IsFirst T c words events p changes start (first c start)
-  first_is (starts.TheVariants.Acquire owner) named dead r none =
-      record { at = (refl, refl, is_below owner named, refl); knows = record { paid = omega arith; scanned = tt; owns = tt; says = tt; gone = tt } }
-  first_is (starts.TheVariants.Release index owner mode) named dead r none =
-      let low = row_passed (nat_le c index) BadIndex (first_row ((has_died owner dead, OwnerIsDead) ∷ [])) r in
-      let t : nat_le c index ≡ false = low.0 in
-      let below : index < c = grind (arith, nat_tests) in
-      let es : List (Event T) = Begun p (Robust (starts.TheVariants.Release index owner mode)) ∷ [] in
-      record {
-        at = (refl, refl, is_below owner named, below, refl);
-        knows =
-            record {
-              paid = omega arith;
-              scanned = tt;
-              owns = λ proper alive began. taken index owner mode (owned (proper_less events (Begun p (Robust (starts.TheVariants.Release index owner mode)) ∷ []) proper))
-                  (since_begun p (λ part. settled_of index part ≡ Some owner) events (Robust (starts.TheVariants.Release index owner mode)) began);
-              says = tt;
-              gone = tt;
-            };
-      }
-    where
-      taken : (index owner : ℕ) (mode : ReleaseMode) → AreOwned events → settled_of index events ≡ Some owner → IsBy p index owner (events ++ Begun p (Robust (starts.TheVariants.Release index owner mode)) ∷ [])
-      taken index owner mode h e =
-          let k = h.settled index owner e in
-          record {
-            right = takes_right p index owner mode events k.1;
-            filled = fold-append (filled_after index) None events (Begun p (Robust (starts.TheVariants.Release index owner mode)) ∷ []) ∙ k.0;
-          }
-  first_is (starts.TheVariants.Find owner) named dead r none =
-      record {
-        at = (refl, refl, is_below owner named, (omega arith, refl));
-        knows = record {
-          paid = omega arith;
-          scanned = tt;
-          owns = tt;
-          says = count_none p (IsFilledWith owner)
-              (events ++ Begun p (Robust (starts.TheVariants.Find owner)) ∷ []);
-          gone = tt;
-        };
-      }
-  first_is (starts.TheVariants.Recover mode) named dead r none =
-      record {
-        at = (refl, refl, refl);
-        knows = record {
-          paid = omega arith;
-          scanned = tt;
-          owns = tt;
-          says = tt;
-          gone = λ i owner told. none_of (Yes i owner)
-              (deeds_of p (events ++ Begun p (Robust (starts.TheVariants.Recover mode)) ∷ [])) none told;
-        };
-      }
-  first_is starts.TheVariants.BorrowedIndices named dead r none =
-      record { at = (refl, tt, refl); knows = record { paid = omega arith; scanned = tt; owns = tt; says = tt; gone = tt } }
-  first_is starts.TheVariants.IsLocked named dead r none =
-      record { at = refl; knows = record { paid = omega arith; scanned = tt; owns = tt; says = tt; gone = tt } }
-
--- a call that begins on the set is one of its own, for an owner that is none of an empty cell
-abbrev IsOwn : (T : Type 0) → ℕ → Start T → Flight T → Type 0
-IsOwn T c (Robust start) (flights.TheVariants.Robust flight) = (first c start ≡ flight) × (names_owner start ≡ true)
-IsOwn T c start flight = ⊥
-
-module _ (T : Type 0) (c : ℕ) where
-  named_own : (start : RobustStart) (flight : Flight T) (b : Bool) → names_owner start ≡ b → option_map flights.TheVariants.Robust (if b then Some (first c start) else None) ≡ Some flight → IsOwn T c (Robust start) flight
-  named_own start (flights.TheVariants.Robust flight) true t e = (cc, t)
-  named_own start flight true t e = absurd (cc)
-  named_own start flight false t e = absurd (cc)
-
-  begins_own : (kept : Kept T) (start : Start T) (flight : Flight T) → first_of kinds.TheVariants.Robust c start kept ≡ Some flight → IsOwn T c start flight
-  begins_own kept (Robust start) flight e = named_own start flight (names_owner start) refl e
-  begins_own kept start flight e = absurd (cc)
-
 -- ---- the laws of the family
 
-module _ {T : Type 0} (code : Coding T) (c : ℕ) (t : Trace T) (s : frame.Sound (family code c) t) where
+module _ {T : Type 0} (by : GoneBy) (code : Coding T) (c : ℕ) (t : Trace T) (s : frame.Sound (family_by by code c) t) where
   abbrev pub scene_of : ℕ → Party T → ℕ → Scene T
   scene_of p x since =
       record {
+        by = by;
         coding = code;
         capacity = c;
         set = s.state;
@@ -282,9 +200,21 @@ module _ {T : Type 0} (code : Coding T) (c : ℕ) (t : Trace T) (s : frame.Sound
         events = t.events;
       }
 
-  module _ (p : ℕ) (x : Party T) (since : ℕ) (small : t.world.turns < 2 ^ 64 - 2) (found : party_of p t.world.latest ≡ Some x) where
-    pub inv_of : Inv (scene_of p x since)
-    inv_of = record { good = s.holds.good; begun = s.holds.begun p x found; small = small }
+  -- the counter is ahead of its end, as of the words that the state holds
+  ahead_there : IsAhead t.world.words → IsAhead s.state.words
+  ahead_there ahead = subst IsAhead (kept_is t.world.kept t.world.words s.state s.fit).1 ahead
+
+  module _ (p : ℕ) (x : Party T) (since : ℕ) (found : party_of p t.world.latest ≡ Some x) where
+    pub inv_ahead : IsAhead t.world.words → Inv (scene_of p x since)
+    inv_ahead ahead = record { good = s.holds.good; begun = s.holds.begun p x found; ahead = ahead_there ahead }
+
+    pub is_ahead : t.world.turns < 2 ^ 64 - 2 → IsAhead t.world.words
+    is_ahead small =
+        subst IsAhead (sym (kept_is t.world.kept t.world.words s.state s.fit).1)
+        (ahead_of_few by c s.state.words s.state.dead t.events t.world.turns s.holds.good (s.holds.begun p x found) small)
+
+    pub inv_of : t.world.turns < 2 ^ 64 - 2 → Inv (scene_of p x since)
+    inv_of small = inv_ahead (is_ahead small)
 
     -- its call stands there by the events
     pub record IsThere (start : RobustStart) (flight : RobustFlight) : Type 0 where
@@ -293,7 +223,7 @@ module _ {T : Type 0} (code : Coding T) (c : ℕ) (t : Trace T) (s : frame.Sound
       pub steps : x.steps ≤ standing.number_of c flight x.backs
       pub knows : Knows c flight (now (scene_of p x since))
 
-    pub is_there : (start : RobustStart) (flight : RobustFlight) → StandsThere (family code c) t s p x since (Robust start) (flights.TheVariants.Robust flight) → IsThere start flight
+    pub is_there : (start : RobustStart) (flight : RobustFlight) → StandsThere (family_by by code c) t s p x since (Robust start) (flights.TheVariants.Robust flight) → IsThere start flight
     is_there start flight h =
         record {
           here = h.span ∙ ap (λ es. Open (Robust start) (wrote_of p es)) s.holds.same;
@@ -312,26 +242,31 @@ module _ {T : Type 0} (code : Coding T) (c : ℕ) (t : Trace T) (s : frame.Sound
         let second = row_passed (frees_living s.state.dead flight said) OwnerLives None first.1 in
         (first.0, second.0)
 
+    -- it may decide so
+    pub decides_by : (b : GoneBy) (flight : RobustFlight) (said : Bool) → first_row (going_rows t.world.coding t.world.kept (Some (flights.TheVariants.Robust flight)) (Some said)) ≡ None → MayDecide b s.state.dead flight said
+    decides_by Death flight said r = (passes flight (Some said) r).1
+    decides_by Word flight said r = tt
+
     -- ---- a step
 
-    comes : (start : Start T) (flight : Flight T) → first_row (going_rows t.world.coding t.world.kept (Some flight) None) ≡ None → StandsThere (family code c) t s p x since start flight
-        → ComesFrom (family code c) t s p x since code s.state.words (kepts.TheVariants.Owners s.state.dead) start flight
-    comes (Robust start) (flights.TheVariants.Robust flight) r h =
+    comes : IsAhead t.world.words → (start : Start T) (flight : Flight T) → first_row (going_rows t.world.coding t.world.kept (Some flight) None) ≡ None → StandsThere (family_by by code c) t s p x since start flight
+        → ComesFrom (family_by by code c) t s p x since code s.state.words (kepts.TheVariants.Owners s.state.dead) start flight
+    comes ahead (Robust start) (flights.TheVariants.Robust flight) r h =
         let there = is_there start flight h in
-        let moves = step_moves (scene_of p x since) inv_of start flight there.here there.at (passes flight None r).0 there.steps there.knows in
+        let moves = step_moves (scene_of p x since) (inv_ahead ahead) start flight there.here there.at (passes flight None r).0 there.steps there.knows in
         record {
           state = _;
           fit = (refl, refl);
           holds = holds_more (scene_of p x since) _ (Open (Robust start) (wrote_of p t.events)) _ _ _ moves s.holds s.inv;
           owes = owes (scene_of p x since) _ (Open (Robust start) (wrote_of p t.events)) _ _ _ moves s.holds s.inv there.here;
         }
-    comes start flight r h = absurd h.at
+    comes ahead start flight r h = absurd h.at
 
-    pub step_comes : (flight : Flight T) → first_row (going_rows t.world.coding t.world.kept (Some flight) None) ≡ None → x.doing ≡ Going flight since
-        → frame.ComesByStep (family code c) t p x flight since (asked t.world.coding flight) (old_of t.world.words (asked t.world.coding flight))
-    step_comes flight r doing =
+    pub step_comes : IsAhead t.world.words → (flight : Flight T) → first_row (going_rows t.world.coding t.world.kept (Some flight) None) ≡ None → x.doing ≡ Going flight since
+        → frame.ComesByStep (family_by by code c) t p x flight since (asked t.world.coding flight) (old_of t.world.words (asked t.world.coding flight))
+    step_comes ahead flight r doing =
         let is = kept_is t.world.kept t.world.words s.state s.fit in
-        comes_from (family code c) t s p x since s.state.words (kepts.TheVariants.Owners s.state.dead) flight is.1 is.0 (comes x.start flight r (stands_there (family code c) t s p x since flight found doing))
+        comes_from (family_by by code c) t s p x since s.state.words (kepts.TheVariants.Owners s.state.dead) flight is.1 is.0 (comes ahead x.start flight r (stands_there (family_by by code c) t s p x since flight found doing))
 
     -- ---- a decision
 
@@ -341,38 +276,48 @@ module _ {T : Type 0} (code : Coding T) (c : ℕ) (t : Trace T) (s : frame.Sound
 
     abbrev DecidesFrom : ℕ → List ℕ → Kept T → Start T → Flight T → Type 0
     DecidesFrom answer words kept start flight =
-        frame.Comes (family code c) t p (decided answer words kept start flight).kept (words_after words None)
+        frame.Comes (family_by by code c) t p (decided answer words kept start flight).kept (words_after words None)
         (party_after (record x { start = start }) since t.world.changes 0 (change_of words None) (decided answer words kept start flight))
         (events_of_step p start (decided answer words kept start flight))
         (t.world.changes + change_of words None)
 
-    decides : (said : Bool) (start : Start T) (flight : Flight T) → first_row (going_rows t.world.coding t.world.kept (Some flight) (Some said)) ≡ None → is_question (want_of t.world.coding flight) ≡ true
-        → StandsThere (family code c) t s p x since start flight → DecidesFrom (number_of said) s.state.words (kepts.TheVariants.Owners s.state.dead) start flight
-    decides said (Robust start) (flights.TheVariants.Robust flight) r asks h =
+    -- what a call that is one of the set may decide
+    abbrev pub MayDecideIn : Flight T → Bool → Type 0
+    MayDecideIn (flights.TheVariants.Robust flight) said = MayDecide by s.state.dead flight said
+    MayDecideIn flight said = Unit {0}
+
+    decides : IsAhead t.world.words → (said : Bool) (start : Start T) (flight : Flight T) → MayDecideIn flight said → is_question (want_of t.world.coding flight) ≡ true
+        → StandsThere (family_by by code c) t s p x since start flight → DecidesFrom (number_of said) s.state.words (kepts.TheVariants.Owners s.state.dead) start flight
+    decides ahead said (Robust start) (flights.TheVariants.Robust flight) r asks h =
         let there = is_there start flight h in
-        let moves = decision_moves (scene_of p x since) inv_of said start flight there.here there.at (passes flight (Some said) r).1 asks there.steps there.knows in
+        let moves = decision_moves (scene_of p x since) (inv_ahead ahead) said start flight there.here there.at r asks there.steps there.knows in
         record {
           state = _;
           fit = (refl, refl);
           holds = holds_more (scene_of p x since) _ (Open (Robust start) (wrote_of p t.events)) _ _ _ moves s.holds s.inv;
           owes = owes (scene_of p x since) _ (Open (Robust start) (wrote_of p t.events)) _ _ _ moves s.holds s.inv there.here;
         }
-    decides said start flight r asks h = absurd h.at
+    decides ahead said start flight r asks h = absurd h.at
 
-    pub decision_comes : (flight : Flight T) (said : Bool) → first_row (going_rows t.world.coding t.world.kept (Some flight) (Some said)) ≡ None → is_question (want_of t.world.coding flight) ≡ true
-        → x.doing ≡ Going flight since → frame.ComesByStep (family code c) t p x flight since None (number_of said)
-    decision_comes flight said r asks doing =
+    -- one that passes the machine's rows may
+    pub passes_in : (flight : Flight T) (said : Bool) → first_row (going_rows t.world.coding t.world.kept (Some flight) (Some said)) ≡ None → MayDecideIn flight said
+    passes_in (flights.TheVariants.Robust flight) said r = decides_by by flight said r
+    passes_in flight said r = tt
+
+    pub decision_comes : IsAhead t.world.words → (flight : Flight T) (said : Bool) → MayDecideIn flight said → is_question (want_of t.world.coding flight) ≡ true
+        → x.doing ≡ Going flight since → frame.ComesByStep (family_by by code c) t p x flight since None (number_of said)
+    decision_comes ahead flight said r asks doing =
         let is = kept_is t.world.kept t.world.words s.state s.fit in
         subst (λ ws. DecidesFrom (number_of said) ws t.world.kept x.start flight) (sym is.1)
         (subst (λ k. DecidesFrom (number_of said) s.state.words k x.start flight) (sym is.0)
-        (decides said x.start flight r asks (stands_there (family code c) t s p x since flight found doing)))
+        (decides ahead said x.start flight r asks (stands_there (family_by by code c) t s p x since flight found doing)))
 
   -- ---- a call begins
 
   module _ (p : ℕ) where
-    begins_now : (start : RobustStart) (flight : RobustFlight) → IsFirst T c s.state.words t.events p t.world.changes start flight → span_of p (t.events ++ Begun p (Robust start) ∷ []) ≡ Open (Robust start) []
+    begins_now : (start : RobustStart) (flight : RobustFlight) → IsFirst T by c s.state.words t.events p t.world.changes start flight → span_of p (t.events ++ Begun p (Robust start) ∷ []) ≡ Open (Robust start) []
         → MayBegin t.world p (Robust start)
-        → frame.Comes (family code c) t p t.world.kept t.world.words (party_at_begin (Robust start) (flights.TheVariants.Robust flight) t.world.changes) (Begun p (Robust start) ∷ []) t.world.changes
+        → frame.Comes (family_by by code c) t p t.world.kept t.world.words (party_at_begin (Robust start) (flights.TheVariants.Robust flight) t.world.changes) (Begun p (Robust start) ∷ []) t.world.changes
     begins_now start flight known span may =
         let y : Party T = party_at_begin (Robust start) (flights.TheVariants.Robust flight) t.world.changes in
         let scene = scene_of p y t.world.changes in
@@ -381,7 +326,7 @@ module _ {T : Type 0} (code : Coding T) (c : ℕ) (t : Trace T) (s : frame.Sound
         record {
           does = does;
           asks = (tt, tt);
-          stands = (frame.shut (family code c) s.state p (party_of p t.world.latest) (span_of p t.events) may.free (s.inv.calls p), tt);
+          stands = (frame.shut (family_by by code c) s.state p (party_of p t.world.latest) (span_of p t.events) may.free (s.inv.calls p), tt);
           here =
               record {
                 span = ap (λ es. Open (Robust start) es) (sym (ap wrote_in span));
@@ -403,7 +348,7 @@ module _ {T : Type 0} (code : Coding T) (c : ℕ) (t : Trace T) (s : frame.Sound
     span_begun start = span_of-own p t.events (Begun p (Robust start) ∷ []) (refl, tt)
 
     pub begin_comes : (start : Start T) (flight : Flight T) → MayBegin t.world p start → first_of t.world.kind t.world.capacity start t.world.kept ≡ Some flight
-        → frame.Comes (family code c) t p (kept_after_begin t.world.coding t.world.capacity start p t.world.kept) t.world.words (party_at_begin start flight t.world.changes) (Begun p start ∷ []) t.world.changes
+        → frame.Comes (family_by by code c) t p (kept_after_begin t.world.coding t.world.capacity start p t.world.kept) t.world.words (party_at_begin start flight t.world.changes) (Begun p start ∷ []) t.world.changes
     begin_comes (Robust start) (flights.TheVariants.Robust flight) may e =
         let is = kept_is t.world.kept t.world.words s.state s.fit in
         let listed : first_row (kept_rows {T = T} t.world.capacity start (kepts.TheVariants.Owners s.state.dead) p) ≡ None = subst (λ kept. first_row (kept_rows {T = T} t.world.capacity start kept p) ≡ None) is.0 may.rows in
@@ -414,7 +359,7 @@ module _ {T : Type 0} (code : Coding T) (c : ℕ) (t : Trace T) (s : frame.Sound
         (begins_own T t.world.capacity t.world.kept (Robust start) (flights.TheVariants.Robust flight) named) in
         let g = s.holds.good in
         begins_now start flight
-        (subst (λ f. IsFirst T c s.state.words t.events p t.world.changes start f) own.0 (first_is c s.state.words t.events p t.world.changes g.some g.owned start own.1 s.state.dead passed (ap (λ a. deeds (wrote_in a)) (span_begun start))))
+        (subst (λ f. IsFirst T by c s.state.words t.events p t.world.changes start f) own.0 (first_is by c s.state.words t.events p t.world.changes g.some g.owned start own.1 s.state.dead passed (ap (λ a. deeds (wrote_in a)) (span_begun start))))
         (span_begun start) may
     begin_comes start flight may e =
         let named : first_of kinds.TheVariants.Robust t.world.capacity start t.world.kept ≡ Some flight = subst (λ kind. first_of kind t.world.capacity start t.world.kept ≡ Some flight) s.kind e in
@@ -431,39 +376,50 @@ module _ {T : Type 0} (code : Coding T) (c : ℕ) (t : Trace T) (s : frame.Sound
   lives_by (kepts.TheVariants.Owners dead) words state o fit alive = subst (λ d. has_died o d ≡ false) fit.1 alive
   lives_by kept words state o fit alive = absurd fit
 
-  pub death_comes : (o : ℕ) → MayDie t.world o → frame.ComesByDeath (family code c) t s o
+  pub death_comes : (o : ℕ) → MayDie t.world o → frame.ComesByDeath (family_by by code c) t s o
   death_comes o may =
       let g = s.holds.good in
       let alive : is_dead o t.events ≡ false = sym (g.died o) ∙ lives_by t.world.kept t.world.words s.state o s.fit may.lives in
       record {
         state = record { words = s.state.words; dead = dead_with o s.state.dead; events = t.events ++ Died o ∷ [] };
         fit = fit_death t.world.kept t.world.words s.state o (t.events ++ Died o ∷ []) s.fit;
-        holds = record { same = refl; begun = λ p x found. omega arith; good = death_good c s.state.words s.state.dead t.events t.world.turns o g alive; asks = Each-append AsksRight t.events (Died o ∷ []) s.holds.asks (tt, tt) };
+        holds = record { same = refl; begun = λ p x found. omega arith; good = death_good by c s.state.words s.state.dead t.events t.world.turns o g alive; asks = Each-append (AsksBy by) t.events (Died o ∷ []) s.holds.asks (tt, tt) };
         calls = λ q start flight at.
             let wrote : wrote_of q (t.events ++ Died o ∷ []) ≡ wrote_of q s.state.events = ap wrote_in (span_of-death q t.events o) ∙ sym (ap (wrote_of q) s.holds.same) in
             (at_written c (wrote_of q s.state.events) (wrote_of q (t.events ++ Died o ∷ [])) start flight wrote at, wrote);
-        calls_know = λ q since backs flight h. death_known c s.state.words s.state.dead t.events t.world.turns o g alive q since t.world.changes backs flight h;
+        calls_know = λ q since backs flight h. death_known by c s.state.words s.state.dead t.events t.world.turns o g alive q since t.world.changes backs flight h;
       }
 
 module _ {T : Type 0} where
-  laws : (code : Coding T) (c : ℕ) → frame.Laws (family code c)
-  laws code c =
+  -- of a machine whose counter is ahead of its end
+  pub laws_ahead : (by : GoneBy) (code : Coding T) (c : ℕ) → frame.LawsWhere (family_by by code c) (λ t. IsAhead t.world.words)
+  laws_ahead by code c =
       record {
-        step = λ t p x flight since s small r found doing. step_comes code c t s p x since small found flight r doing;
-        decision = λ t p x flight since said s small r found doing asks. decision_comes code c t s p x since small found flight said r asks doing;
-        begin = λ t p start flight s small may e. begin_comes code c t s p start flight may e;
-        death = λ t o s may. death_comes code c t s o may;
+        step = λ t p x flight since s ahead r found doing. step_comes by code c t s p x since found ahead flight r doing;
+        decision = λ t p x flight since said s ahead r found doing asks. decision_comes by code c t s p x since found ahead flight said (passes_in by code c t s p x since found flight said r) asks doing;
+        begin = λ t p start flight s ahead may e. begin_comes by code c t s p start flight may e;
+        death = λ t o s may. death_comes by code c t s o may;
       }
 
-  opening_sound : (code : Coding T) (c parties : ℕ) → 1 ≤ c → c < 2 ^ 32 → frame.Sound (family code c) (opening code kinds.TheVariants.Robust c parties)
-  opening_sound code c parties some few =
+  laws : (code : Coding T) (c : ℕ) → frame.Laws (family code c)
+  laws code c =
+      let on = laws_ahead Death code c in
+      record {
+        step = λ t p x flight since s small r found doing. on.step t p x flight since s (is_ahead Death code c t s p x since found small) r found doing;
+        decision = λ t p x flight since said s small r found doing asks. on.decision t p x flight since said s (is_ahead Death code c t s p x since found small) r found doing asks;
+        begin = λ t p start flight s small may e. begin_comes Death code c t s p start flight may e;
+        death = on.death;
+      }
+
+  pub opening_sound : (by : GoneBy) (code : Coding T) (c parties : ℕ) → 1 ≤ c → c < 2 ^ 32 → frame.Sound (family_by by code c) (opening code kinds.TheVariants.Robust c parties)
+  opening_sound by code c parties some few =
       record {
         coding = refl;
         kind = refl;
         capacity = refl;
         state = record { words = opening_words c; dead = []; events = [] };
         fit = (refl, refl);
-        holds = record { same = refl; begun = λ p x found. absurd (cc); good = opening_good c some few; asks = Each-nil _ };
+        holds = record { same = refl; begun = λ p x found. absurd (cc); good = opening_good by c some few; asks = Each-nil _ };
         inv = record { spans = Each-nil _; calls = λ p. refl; knows = λ p. tt };
       }
 
@@ -471,7 +427,7 @@ module _ {T : Type 0} where
   reached_sound t is r =
       let w = t.world in
       let may = admitted_is w.capacity (subst (λ kind. capacity_error kind w.capacity ≡ None) is r.admitted) in
-      let first = opening_sound w.coding w.capacity w.parties may.0 may.1 in
+      let first = opening_sound Death w.coding w.capacity w.parties may.0 may.1 in
       frame.reached_sound (family w.coding w.capacity) (laws w.coding w.capacity) t (ap is_loan is)
       (subst (λ kind. frame.Sound (family w.coding w.capacity) (opening w.coding kind w.capacity w.parties)) (sym is) first)
       r

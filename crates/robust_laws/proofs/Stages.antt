@@ -24,7 +24,7 @@ use Rattle.model.specs.declared.party.Party.{Party}
 use Rattle.model.specs.Families.{ask_of}
 use Rattle.model.specs.Families.Indices.Robust.Bounds.{most_steps}
 use Rattle.model.specs.Families.Indices.Robust.Calls.{want, after, goes_back}
-use Rattle.model.specs.Families.Indices.Robust.Promises.{AsksRight, AnswersRight, promise}
+use Rattle.model.specs.Families.Indices.Robust.Promises.{promise}
 use Rattle.model.specs.Families.Indices.Robust.Reading.{Deed, deed, deeds, settled_after, wrote_in, deeds_of}
 use Rattle.model.specs.Families.Indices.Robust.Spans.{HasDone}
 use Rattle.model.specs.Families.Indices.Robust.Steps.{effects}
@@ -34,6 +34,7 @@ use Rattle.model.specs.Step.{as_call, answer_in}
 use Rattle.model.specs.Turns.{one_if, old_of, words_after, change_of, step_count, number_of, party_after, ending_of}
 use Rattle.model.proofs.Readings.{AreOwn, AllFollow, AreRight, span_of-own}
 use Rattle.model.proofs.Turns.{kept_words}
+use Rattle.robust_laws.specs.Gone.{AsksBy, AnswersBy}
 use Rattle.robust_laws.proofs.Core.{counter_of}
 use Rattle.robust_laws.proofs.Effects.{Stays, quiet_none, quiet_end, quietly}
 use Rattle.robust_laws.proofs.Invariant.{Scene, Inv, Does, Shows, wrote_of, view}
@@ -86,7 +87,7 @@ module _ {T : Type 0} where
   none_lengthens start w = ap (λ es. Open (Robust start) es) (sym (append-nil w))
 
 module _ {T : Type 0} (scene : Scene T) where
-  open scene use {capacity as c, party as p, steps as steps, backs as backs, since as since, changes as changes, turns as turns, events as events}
+  open scene use {by as by, capacity as c, party as p, steps as steps, backs as backs, since as since, changes as changes, turns as turns, events as events}
 
   abbrev pub ws : List ℕ
   ws = scene.set.words
@@ -123,10 +124,10 @@ module _ {T : Type 0} (scene : Scene T) where
 
   -- what the call sees now, and after a step that writes these events
   abbrev pub now : View T
-  now = view ws events p since changes backs
+  now = view by ws events p since changes backs
 
   abbrev pub seen : Option Ask → Bool → List (Event T) → View T
-  seen ask back later = view (words_after ws ask) later p (since_then ask) (changes_then ask) (backs_then back)
+  seen ask back later = view by (words_after ws ask) later p (since_then ask) (changes_then ask) (backs_then back)
 
   abbrev pub then_sees : Option Ask → Bool → List (Event T) → View T
   then_sees ask back es = seen ask back (events ++ es)
@@ -193,7 +194,7 @@ module _ {T : Type 0} (scene : Scene T) where
       (start : RobustStart) (flight : RobustFlight) (ask : Option Ask) (back : Bool) (did : List (Event T)) → IsHere start → Lengthens (did ++ [])
       → Does scene (words_after ws ask) (did ++ [])
       → AllFollow (Stands promise c) (Open (Robust start) (wrote_of p events)) (did ++ [])
-      → AreRight AsksRight events (did ++ [])
+      → AreRight (AsksBy by) events (did ++ [])
       → steps + step_count ask ≤ standing.number_of c flight (backs_then back)
       → At c (deeds_of p events ++ deeds (did ++ [])) start flight
       → Knows c flight (then_sees ask back (did ++ []))
@@ -217,7 +218,7 @@ module _ {T : Type 0} (scene : Scene T) where
       (start : RobustStart) (answer : Answer T) (ask : Option Ask) (back : Bool) (did : List (Event T)) → IsHere start → Lengthens did
       → Does scene (words_after ws ask) (did ++ Finished p (Robust start) answer ∷ [])
       → AllFollow (Stands promise c) (Open (Robust start) (wrote_of p events)) (did ++ Finished p (Robust start) answer ∷ [])
-      → AreRight AsksRight events (did ++ Finished p (Robust start) answer ∷ [])
+      → AreRight (AsksBy by) events (did ++ Finished p (Robust start) answer ∷ [])
       → steps + step_count ask ≤ most_steps c start (backs_then back)
       → IsPaid (then_sees ask back (did ++ Finished p (Robust start) answer ∷ []))
       → Leads start ask back did (Done answer)
@@ -244,17 +245,17 @@ module _ {T : Type 0} (scene : Scene T) where
         (start : RobustStart) (flight : RobustFlight) (ask : Option Ask) (back : Bool) → IsHere start → Stays scene (words_after ws ask)
         → steps + step_count ask ≤ standing.number_of c flight (backs_then back)
         → At c (deeds_of p events) start flight
-        → Knows c flight (view (words_after ws ask) events p (since_then ask) (changes_then ask) (backs_then back))
+        → Knows c flight (view by (words_after ws ask) events p (since_then ask) (changes_then ask) (backs_then back))
         → Leads start ask back [] (GoOn flight)
     goes_quietly start flight ask back here stays few at known =
         goes_on start flight ask back [] here none_lengthens (quietly scene inv (words_after ws ask) [] stays.leaves quiet_none tt tt tt) tt tt few
         (subst (λ d. At c d start flight) (sym (append-nil (deeds_of p events))) at)
-        (subst (λ es. Knows c flight (view (words_after ws ask) es p (since_then ask) (changes_then ask) (backs_then back))) (sym (append-nil events)) known)
+        (subst (λ es. Knows c flight (view by (words_after ws ask) es p (since_then ask) (changes_then ask) (backs_then back))) (sym (append-nil events)) known)
 
     pub ends_quietly :
         (start : RobustStart) (answer : Answer T) (ask : Option Ask) (back : Bool) → IsHere start → Stays scene (words_after ws ask)
         → ((i : ℕ) (o : Option ℕ) → settled_after i o (Finished p (Robust start) answer) ≡ o) → ((i : ℕ) (r : Right) → right_after i r (Finished p (Robust start) answer) ≡ r)
-        → AnswersRight c events (Finished p (Robust start) answer)
+        → AnswersBy by c events (Finished p (Robust start) answer)
         → HasDone start answer (deeds_of p events)
         → steps + step_count ask ≤ most_steps c start (backs_then back)
         → IsPaid (then_sees ask back (Finished p (Robust start) answer ∷ []))

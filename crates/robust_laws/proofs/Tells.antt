@@ -49,6 +49,7 @@ use Rattle.robust_laws.proofs.Finds.{find_loads_all, find_asks_all}
 use Rattle.robust_laws.proofs.Invariant.{Scene, Inv, family}
 use Rattle.robust_laws.proofs.Knows.{Knows}
 use Rattle.robust_laws.proofs.Standing.{find_at, At, FindAt}
+use Rattle.robust_laws.specs.Gone.{Death}
 use Rattle.robust_laws.proofs.Sound.{kept_is, scene_of, inv_of, is_there}
 use Rattle.robust_laws.proofs.Stages.{all, now, any_call}
 use Rattle.robust_laws.proofs.Written.{all_effects}
@@ -124,11 +125,11 @@ module _ {T : Type 0} where
     counted : (due : Bool) → (due ≡ true → answer ≢ 0) → (start : Start T) (flight : Flight T) → StandsThere (family code c) t s q x since start flight → is_question (want_of t.world.coding flight) ≡ due
         → (due ≡ false → answer ≡ old_of s.state.words (ask_of (want_of t.world.coding flight))) → Wrote (kepts.TheVariants.Owners s.state.dead) start flight → IsCount p (IsFilledWith owner) c number t.events
     counted due told (Robust start) (flights.TheVariants.Robust flight) h asks loads e =
-        let there = is_there code c t s q x since small found start flight h in
+        let there = is_there Death code c t s q x since found start flight h in
         let end = wrote_end start flight e in
-        let at = subst (λ a. At c (all (scene_of code c t s q x since)) a flight) (robust_name start owner end.name) there.at in
+        let at = subst (λ a. At c (all (scene_of Death code c t s q x since)) a flight) (robust_name start owner end.name) there.at in
         subst (λ n. IsCount n (IsFilledWith owner) c number t.events) end.party
-        (find_tells (scene_of code c t s q x since) (inv_of code c t s q x since small found) owner number due flight at there.knows asks answer loads told end.done)
+        (find_tells (scene_of Death code c t s q x since) (inv_of Death code c t s q x since found small) owner number due flight at there.knows asks answer loads told end.done)
     counted due told start flight h asks loads e = absurd h.at
 
     -- by the words and what is kept beside them

@@ -1,6 +1,6 @@
 -- What a decision comes to: a no ends a find at the index that it asked about, and a yes tells a recovery to free the index
 -- that it asked about. No other turn tells it.
-use Rattle.std.proofs.Common.{◌≡◌, ◌≢◌, ℕ, ◌-◌, ◌^◌, ◌<◌, Bool, true, false, Option, Some, None, is_none, List, [], ◌∷◌, ◌++◌, refl, sym, ap, subst, ◌∙◌}
+use Rattle.std.proofs.Common.{◌≡◌, ◌≢◌, ℕ, Bool, true, false, Option, Some, None, is_none, List, [], ◌∷◌, ◌++◌, refl, sym, ap, subst, ◌∙◌}
 use Rattle.std.specs.List.{AllByRecursion}
 use Rattle.steps.specs.declared.ask.Want.{Want}
 use Rattle.steps.specs.declared.ask.Want as wants
@@ -50,6 +50,7 @@ use Rattle.model.proofs.Rows.{row_passed, passes, must_be_due}
 use Rattle.model.proofs.Scenes.{StandsThere, stands_there}
 use Rattle.robust_laws.proofs.Invariant.{family}
 use Rattle.robust_laws.proofs.Knows.{Knows}
+use Rattle.robust_laws.specs.Gone.{Death}
 use Rattle.robust_laws.proofs.Sound.{kept_is, scene_of, is_there}
 use Rattle.robust_laws.proofs.Stages.{all, now, any_call}
 use Rattle.robust_laws.proofs.Standing.{find_at, recover_at, At}
@@ -79,7 +80,7 @@ module _ {T : Type 0} where
   robust_is : (a b : RobustStart) → ◌≡◌ {A = Start T} (Robust a) (Robust b) → a ≡ b
   robust_is a b e = cc
 
-  joined : (P : Event T → Type 0) (xs ys : List (Event T)) → AllByRecursion P xs → AllByRecursion P ys → AllByRecursion P (xs ++ ys)
+  pub joined : (P : Event T → Type 0) (xs ys : List (Event T)) → AllByRecursion P xs → AllByRecursion P ys → AllByRecursion P (xs ++ ys)
   joined P [] ys h r = r
   joined P (x ∷ xs) ys h r = (h.0, joined P xs ys h.1 r)
 
@@ -104,16 +105,16 @@ module _ {T : Type 0} (code : Coding T) (c : ℕ) (t : Trace T) (s : frame.Sound
     pub flight : RobustFlight
     pub here : flight_in t.world p ≡ Some (flights.TheVariants.Robust flight)
     pub due : is_question (want flight) ≡ true
-    pub at : At c (all (scene_of code c t s p party since)) start flight
-    pub knows : Knows c flight (now (scene_of code c t s p party since))
+    pub at : At c (all (scene_of Death code c t s p party since)) start flight
+    pub knows : Knows c flight (now (scene_of Death code c t s p party since))
     pub wrote : events_of t.world (Decide p said)
         ≡ effects p flight (number_of said) ++ ending_of p (Robust start) (answer_in (any_call (after {T = T} flight (number_of said))))
 
-  module _ (p : ℕ) (said : Bool) (start : RobustStart) (small : t.world.turns < 2 ^ 64 - 2) (x : Party T) (found : party_of p t.world.latest ≡ Some x) where
+  module _ (p : ℕ) (said : Bool) (start : RobustStart) (x : Party T) (found : party_of p t.world.latest ≡ Some x) where
     by_names : (since : ℕ) (a : Start T) (flight : Flight T) → StandsThere (family code c) t s p x since a flight → a ≡ Robust start → is_question (want_of t.world.coding flight) ≡ true
         → events_of t.world (Decide p said) ≡ writes p (number_of said) own a flight → IsDecided p said start
     by_names since (Robust a) (flights.TheVariants.Robust flight) h name due e =
-        let there = is_there code c t s p x since small found a flight h in
+        let there = is_there Death code c t s p x since found a flight h in
         let same = robust_is a start name in
         record {
           party = x;
@@ -121,7 +122,7 @@ module _ {T : Type 0} (code : Coding T) (c : ℕ) (t : Trace T) (s : frame.Sound
           flight = flight;
           here = h.found;
           due = due;
-          at = subst (λ b. At c (all (scene_of code c t s p x since)) b flight) same there.at;
+          at = subst (λ b. At c (all (scene_of Death code c t s p x since)) b flight) same there.at;
           knows = there.knows;
           wrote = subst (λ b. events_of t.world (Decide p said) ≡ effects p flight (number_of said) ++ ending_of p (Robust b) (answer_in (any_call (after {T = T} flight (number_of said))))) same e;
         }
@@ -149,7 +150,7 @@ module _ {T : Type 0} (code : Coding T) (c : ℕ) (t : Trace T) (s : frame.Sound
           let due : is_due t.world.coding (flight_of (doing_of None)) ≡ true = subst (λ o. is_due t.world.coding (flight_of (doing_of o)) ≡ true) found passed in
           absurd (cc)
       go (Some x) found =
-          by_doing p said start (passes t.world (Decide p said) r).turns x found x.doing refl under_way
+          by_doing p said start x found x.doing refl under_way
           (subst (λ o. is_due t.world.coding (flight_of (doing_of o)) ≡ true) found passed)
 
   -- ---- a no ends a find
@@ -158,7 +159,7 @@ module _ {T : Type 0} (code : Coding T) (c : ℕ) (t : Trace T) (s : frame.Sound
     -- by where its call stands
     abbrev Stops : Party T → ℕ → RobustFlight → Type 0
     Stops x since flight =
-        flight_in t.world p ≡ Some (flights.TheVariants.Robust flight) → is_question (want flight) ≡ true → Knows c flight (now (scene_of code c t s p x since))
+        flight_in t.world p ≡ Some (flights.TheVariants.Robust flight) → is_question (want flight) ≡ true → Knows c flight (now (scene_of Death code c t s p x since))
         → events_of t.world (Decide p false) ≡ effects p flight 0 ++ ending_of p (Robust (starts.TheVariants.Find owner)) (answer_in (any_call (after {T = T} flight 0))) → IsStopped p owner t (after_turn t (Decide p false))
 
     stage_stops : (x : Party T) (since : ℕ) (stage : FindStage) → Stops x since (find_at c owner stage)
@@ -166,7 +167,7 @@ module _ {T : Type 0} (code : Coding T) (c : ℕ) (t : Trace T) (s : frame.Sound
     stage_stops x since (finds.TheVariants.Asks index found) here due h e =
         record { index = index; number = found; asked = ap (asked_of t.world.coding) here; ends = ap (λ es. t.events ++ es) e; count = h.says }
 
-    find_stops : (x : Party T) (since : ℕ) (flight : RobustFlight) → At c (all (scene_of code c t s p x since)) (starts.TheVariants.Find owner) flight → Stops x since flight
+    find_stops : (x : Party T) (since : ℕ) (flight : RobustFlight) → At c (all (scene_of Death code c t s p x since)) (starts.TheVariants.Find owner) flight → Stops x since flight
     find_stops x since (calls.TheVariants.Find run) at =
         subst (Stops x since) (sym (ap (λ n. find_at n run.given run.call.stage) at.0 ∙ ap (λ o. find_at c o run.call.stage) at.1)) (stage_stops x since run.call.stage)
     find_stops x since flight at = absurd at
@@ -193,7 +194,7 @@ module _ {T : Type 0} (code : Coding T) (c : ℕ) (t : Trace T) (s : frame.Sound
     stage_hears capacity given (recovers.TheVariants.Locks index lock) due e = absurd (lock_asks_none lock due)
     stage_hears capacity given recovers.TheVariants.LoadsCounterAgain due e = absurd (cc)
 
-    recovery_hears : (x : Party T) (since : ℕ) (flight : RobustFlight) → At c (all (scene_of code c t s p x since)) (starts.TheVariants.Recover mode) flight → Hears flight
+    recovery_hears : (x : Party T) (since : ℕ) (flight : RobustFlight) → At c (all (scene_of Death code c t s p x since)) (starts.TheVariants.Recover mode) flight → Hears flight
     recovery_hears x since (calls.TheVariants.Recover run) at = stage_hears run.call.capacity run.given run.call.stage
     recovery_hears x since flight at = absurd at
 

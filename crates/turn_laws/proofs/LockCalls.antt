@@ -42,6 +42,7 @@ use Rattle.model.specs.Turns.{old_of, ending_of, IsReached}
 use Rattle.model.specs.World.{Trace}
 use Rattle.model.proofs.Frame as frame
 use Rattle.model.proofs.Readings.{AreOwn, AreRight}
+use Rattle.robust_laws.specs.Gone.{Death}
 use Rattle.robust_laws.proofs.Effects.{both_ways}
 use Rattle.robust_laws.proofs.Invariant.{Scene, Inv, family}
 use Rattle.robust_laws.proofs.Knows.{Knows}
@@ -182,10 +183,10 @@ module _ {T : Type 0} (t : Trace T) (is : t.world.kind ≡ kinds.TheVariants.Rob
 
   module _ (p : ℕ) (x : Party T) (since : ℕ) (small : t.world.turns < 2 ^ 64 - 2) (found : party_of p t.world.latest ≡ Some x) where
     abbrev scene : Scene T
-    scene = scene_of t.world.coding t.world.capacity t s p x since
+    scene = scene_of Death t.world.coding t.world.capacity t s p x since
 
     inv : Inv scene
-    inv = inv_of t.world.coding t.world.capacity t s p x since small found
+    inv = inv_of Death t.world.coding t.world.capacity t s p x since found small
 
     abbrev KnowsNow : RobustFlight → Type 0
     KnowsNow call = CallKnows c p call t.events

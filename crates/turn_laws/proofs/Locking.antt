@@ -39,6 +39,7 @@ use Rattle.model.proofs.Reached.{kept_by_runs, reached_more, turn_making}
 use Rattle.model.proofs.Readings.{AreOwn, AreRight, Each-append, Each-nil, no_more, span_of-own, span_of-other, span_of-death}
 use Rattle.model.proofs.Rows.{passes, may_next, may_decide, must_be_due}
 use Rattle.model.proofs.Scenes.{StandsThere}
+use Rattle.robust_laws.specs.Gone.{Death}
 use Rattle.robust_laws.proofs.Invariant.{family}
 use Rattle.robust_laws.proofs.Justified.{robust_keeps}
 use Rattle.robust_laws.proofs.Sound.{kept_is, reached_sound, is_there}
@@ -119,7 +120,7 @@ module _ {T : Type 0} (t : Trace T) (is : t.world.kind ≡ kinds.TheVariants.Rob
         → Comes (Next p) p (λ q its. its) (old_of s.state.words (ask_of (want_of t.world.coding flight))) (kepts.TheVariants.Owners s.state.dead) start flight → Extra (after_turn t (Next p))
     by_step x since found (Robust start) (flights.TheVariants.Robust call) stands knows comes =
         let small = (passes t.world (Next p) free).turns in
-        let there = is_there t.world.coding c t s p x since small found start call stands in
+        let there = is_there Death t.world.coding c t s p x since found start call stands in
         after_it (Next p) p (λ q its. its) (old_of s.state.words (ask_of (want call)))
         (leaves_it (Next p) p (λ q its. its) (old_of s.state.words (ask_of (want call))) start call (step_leaves t is r p x since small found start call there.here there.at there.knows knows) comes)
     by_step x since found start flight stands knows comes = absurd stands.at
@@ -144,7 +145,7 @@ module _ {T : Type 0} (t : Trace T) (is : t.world.kind ≡ kinds.TheVariants.Rob
         → Comes (Decide p said) p (λ q its. its) (number_of said) (kepts.TheVariants.Owners s.state.dead) start flight → Extra (after_turn t (Decide p said))
     by_decision x since found (Robust start) (flights.TheVariants.Robust call) stands due knows comes =
         let small = (passes t.world (Decide p said) free).turns in
-        let there = is_there t.world.coding c t s p x since small found start call stands in
+        let there = is_there Death t.world.coding c t s p x since found start call stands in
         after_it (Decide p said) p (λ q its. its) (number_of said)
         (leaves_it (Decide p said) p (λ q its. its) (number_of said) start call (decision_leaves t is r p x since small found (number_of said) start call there.here there.at due knows) comes)
     by_decision x since found start flight stands due knows comes = absurd stands.at

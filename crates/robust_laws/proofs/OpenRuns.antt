@@ -1,0 +1,181 @@
+-- What holds of the machine of a robust set keeps to every turn of an open run, so it holds wherever such a run leads.
+use Rattle.std.proofs.Common.{◌≡◌, ℕ, ◌+◌, ◌-◌, ◌==◌, ◌&&◌, nat_le, ne_eqb, Bool, true, false, not, Option, Some, None, is_none, List, [], ◌∷◌, ◌++◌, refl, sym, ap, subst, ◌∙◌, append-nil, arith}
+use Rattle.std.proofs.lemmas.Bool.Decides.{nat_tests}
+use Rattle.steps.specs.Indices.Robust.Parts.{locked, greatest}
+use Rattle.model.specs.declared.families.Flight.{Flight}
+use Rattle.model.specs.declared.families.Flight as flights
+use Rattle.model.specs.declared.party.Doing.{Doing}
+use Rattle.model.specs.declared.party.Doing.TheVariants.{Going, Over}
+use Rattle.model.specs.declared.party.Party.{Party}
+use Rattle.model.specs.declared.turn.Kind.{Kind}
+use Rattle.model.specs.declared.turn.Kind as kinds
+use Rattle.model.specs.declared.turn.Refusal.{Refusal}
+use Rattle.model.specs.declared.turn.Refusal.TheVariants.{Idle, Undecided, AtEnd}
+use Rattle.model.specs.declared.turn.Turn.{Turn}
+use Rattle.model.specs.declared.turn.Turn.TheVariants.{Begin, Next, Decide, Die}
+use Rattle.model.specs.Coding.{Coding, IsCoding}
+use Rattle.model.specs.Families.{want_of, is_question}
+use Rattle.model.specs.Families.Indices.Robust.Promises.{KeepsDead}
+use Rattle.model.specs.Parties.{party_of, doing_of, flight_of}
+use Rattle.model.specs.Refusals.{is_due, call_refusal}
+use Rattle.model.specs.Turns.{number_of, after_step, step_in, party_after, change_of, step_count, after_decision, after_answer, events_of_step, events_of_answer, events_of_decision, after_turn, unless_refused}
+use Rattle.model.specs.World.{Trace, opening, capacity_error, flight_in}
+use Rattle.model.proofs.Frame as frame
+use Rattle.model.proofs.Reached.{turn_making}
+use Rattle.model.proofs.Rows.{row_passed}
+use Rattle.robust_laws.specs.Gone.{Word}
+use Rattle.robust_laws.specs.Open.{is_spent, open_refusal, attempt_open, run_open, IsReachedOpen, IsOpenSet}
+use Rattle.robust_laws.proofs.Core.{counter_of, cell}
+use Rattle.robust_laws.proofs.Invariant.{IsAhead, family_by}
+use Rattle.robust_laws.proofs.Living.{AllLive, all_live_on}
+use Rattle.robust_laws.proofs.Opening.{admitted_is}
+use Rattle.robust_laws.proofs.Sound.{kept_is, laws_ahead, opening_sound, decision_comes, MayDecideIn}
+
+not_both : (b : Bool) → (b && not false) ≡ false → b ≡ false
+not_both true e = absurd (cc)
+not_both false e = refl
+
+pub ahead_if : (words : List ℕ) → is_spent words ≡ false → IsAhead words
+ahead_if words e open_now =
+    let n : ℕ = counter_of words in
+    let other : (counter_of words == locked) ≡ false = ne_eqb (counter_of words) locked open_now in
+    let low : nat_le (greatest - 1) (counter_of words) ≡ false =
+    not_both (nat_le (greatest - 1) (counter_of words)) (sym (ap (λ b. nat_le (greatest - 1) (counter_of words) && not b) other) ∙ e)
+    in
+    grind (arith, nat_tests)
+
+module _ {T : Type 0} (code : Coding T) (c : ℕ) where
+  abbrev Sound : Trace T → Type 0
+  Sound t = frame.Sound (family_by Word code c) t
+
+  -- ---- a decision, whoever lives
+
+  may_decide : (t : Trace T) (s : Sound t) (p : ℕ) (x : Party T) (since : ℕ) (found : party_of p t.world.latest ≡ Some x) (flight : Flight T) (said : Bool) → MayDecideIn Word code c t s p x since found flight said
+  may_decide t s p x since found (flights.TheVariants.Robust flight) said = tt
+  may_decide t s p x since found flight said = tt
+
+  same : (t : Trace T) → Sound t → Sound record { world = t.world; events = t.events ++ [] }
+  same t s = subst (λ es. Sound record { world = t.world; events = es }) (sym (append-nil t.events)) s
+
+  answered : (t : Trace T) (p : ℕ) (x : Party T) (flight : Flight T) (since answer : ℕ) → Sound t → frame.ComesByStep (family_by Word code c) t p x flight since None answer
+      → Sound record { world = after_step t.world p x since None (step_in t.world p x flight answer); events = t.events ++ events_of_step p x.start (step_in t.world p x flight answer) }
+  answered t p x flight since answer s comes =
+      let w = t.world in
+      let y = party_after x since w.changes (step_count None) (change_of w.words None) (step_in w p x flight answer) in
+      record {
+        coding = s.coding;
+        kind = s.kind;
+        capacity = s.capacity;
+        state = comes.state;
+        fit = comes.fit;
+        holds = comes.holds;
+        inv = frame.advance (family_by Word code c) s.state comes.state p y w.latest t.events (events_of_step p x.start (step_in w p x flight answer)) w.changes (w.changes + change_of w.words None) s.inv comes.owes;
+      }
+
+  decided : (t : Trace T) (p : ℕ) (said : Bool) → IsAhead t.world.words → is_due t.world.coding (flight_in t.world p) ≡ true → Sound t → (o : Option (Party T)) → party_of p t.world.latest ≡ o
+      → Sound record { world = after_decision t.world p said o; events = t.events ++ events_of_decision t.world p said o }
+  decided t p said ahead due s None e = same t s
+  decided t p said ahead due s (Some x) e = go x.doing refl
+    where
+      go : (doing : Doing T) → x.doing ≡ doing → Sound record { world = after_answer t.world p x None (number_of said) doing; events = t.events ++ events_of_answer t.world p x (number_of said) doing }
+      go (Over others) d = same t s
+      go (Going flight since) d =
+          let here : flight_in t.world p ≡ Some flight = ap (λ o. flight_of (doing_of o)) e ∙ ap (λ d. flight_of (Some d)) d in
+          let asks : is_question (want_of t.world.coding flight) ≡ true = rw here at due in
+          answered t p x flight since (number_of said) s (decision_comes Word code c t s p x since e ahead flight said (may_decide t s p x since e flight said) asks d)
+
+  -- ---- any turn
+
+  goes_by_rows : (t : Trace T) (turn : Turn T) → is_spent t.world.words ≡ false → call_refusal t.world turn ≡ None → Sound t → Sound (after_turn t turn)
+  goes_by_rows t turn spent r s = frame.turn_sound (family_by Word code c) (λ u. IsAhead u.world.words) (laws_ahead Word code c) t turn r (ahead_if t.world.words spent) s
+
+  pub open_turn_sound : (t : Trace T) (turn : Turn T) → open_refusal t.world turn ≡ None → Sound t → Sound (after_turn t turn)
+  open_turn_sound t (Begin p start) e s = let r = row_passed (is_spent t.world.words) AtEnd (call_refusal t.world (Begin p start)) e in goes_by_rows t (Begin p start) r.0 r.1 s
+  open_turn_sound t (Next p) e s = let r = row_passed (is_spent t.world.words) AtEnd (call_refusal t.world (Next p)) e in goes_by_rows t (Next p) r.0 r.1 s
+  open_turn_sound t (Die owner) e s = absurd (cc)
+  open_turn_sound t (Decide p said) e s =
+      let a = row_passed (is_spent t.world.words) AtEnd _ e in
+      let b = row_passed (is_none (flight_in t.world p)) Idle _ a.1 in
+      let d = row_passed (not (is_due t.world.coding (flight_in t.world p))) Undecided None b.1 in
+      decided t p said (ahead_if t.world.words a.0) (frame.is_true (is_due t.world.coding (flight_in t.world p)) d.0) s (party_of p t.world.latest) refl
+
+  -- ---- whole runs
+
+  attempted : (t : Trace T) (turn : Turn T) (o : Option Refusal) → open_refusal t.world turn ≡ o → Sound t → Sound (unless_refused t (after_turn t turn) o)
+  attempted t turn None e s = open_turn_sound t turn e s
+  attempted t turn (Some refusal) e s = s
+
+  pub run_sound : (turns : List (Turn T)) (t : Trace T) → Sound t → Sound (run_open turns t)
+  run_sound [] t s = s
+  run_sound (turn ∷ turns) t s = run_sound turns (attempt_open t turn) (attempted t turn (open_refusal t.world turn) refl s)
+
+  -- and nobody dies
+  live_on : (t : Trace T) (turn : Turn T) (o : Option Refusal) → open_refusal t.world turn ≡ o → Sound t → AllLive t.events → AllLive (unless_refused t (after_turn t turn) o).events
+  live_on t turn None e s all = all_live_on code c t s turn e all
+  live_on t turn (Some refusal) e s all = all
+
+  run_lives : (turns : List (Turn T)) (t : Trace T) → Sound t → AllLive t.events → AllLive (run_open turns t).events
+  run_lives [] t s all = all
+  run_lives (turn ∷ turns) t s all =
+      run_lives turns (attempt_open t turn) (attempted t turn (open_refusal t.world turn) refl s) (live_on t turn (open_refusal t.world turn) refl s all)
+
+module _ {T : Type 0} where
+  opens : (t : Trace T) → t.world.kind ≡ kinds.TheVariants.Robust → IsReachedOpen t → frame.Sound (family_by Word t.world.coding t.world.capacity) (opening t.world.coding t.world.kind t.world.capacity t.world.parties)
+  opens t is r =
+      let w = t.world in
+      let may = admitted_is w.capacity (subst (λ kind. capacity_error kind w.capacity ≡ None) is r.admitted) in
+      subst (λ kind. frame.Sound (family_by Word w.coding w.capacity) (opening w.coding kind w.capacity w.parties)) (sym is) (opening_sound Word w.coding w.capacity w.parties may.0 may.1)
+
+  -- whatever the order of the turns, and however many there were
+  pub reached_open_sound : (t : Trace T) → t.world.kind ≡ kinds.TheVariants.Robust → IsReachedOpen t → frame.Sound (family_by Word t.world.coding t.world.capacity) t
+  reached_open_sound t is r =
+      let w = t.world in
+      subst (frame.Sound (family_by Word w.coding w.capacity)) (sym r.is) (run_sound w.coding w.capacity r.turns (opening w.coding w.kind w.capacity w.parties) (opens t is r))
+
+  pub reached_open_lives : (t : Trace T) → t.world.kind ≡ kinds.TheVariants.Robust → IsReachedOpen t → AllLive t.events
+  reached_open_lives t is r =
+      let w = t.world in
+      subst (λ u. AllLive u.events) (sym r.is) (run_lives w.coding w.capacity r.turns (opening w.coding w.kind w.capacity w.parties) (opens t is r) (λ owner. refl))
+
+  open_kept : (code : Coding T) (t : Trace T) → frame.Sound (family_by Word code t.world.capacity) t → AllLive t.events → IsOpenSet t
+  open_kept code t s lives =
+      let is = kept_is t.world.kept t.world.words s.state s.fit in
+      let g = s.holds.good in
+      record {
+        does = g.does;
+        asks = s.holds.asks;
+        answers = g.answers;
+        holds = λ proper honest. g.holds (proper, honest);
+        cells = λ index below. ap (λ ws. cell ws index) is.1 ∙ g.cells index below;
+        lock = rw is.1 g.lock;
+        lives = lives;
+        dead = subst (λ kept. KeepsDead kept t.events) (sym is.0) (λ owner. g.died owner);
+      }
+
+  pub reached_open_kept : (t : Trace T) → t.world.kind ≡ kinds.TheVariants.Robust → IsReachedOpen t → IsOpenSet t
+  reached_open_kept t is r = open_kept t.world.coding t (reached_open_sound t is r) (reached_open_lives t is r)
+
+  -- ---- one turn more
+
+  run_open_more : (turns : List (Turn T)) (turn : Turn T) (t : Trace T) → run_open (turns ++ turn ∷ []) t ≡ attempt_open (run_open turns t) turn
+  run_open_more [] turn t = refl
+  run_open_more (x ∷ xs) turn t = run_open_more xs turn (attempt_open t x)
+
+  attempt_allowed : (t : Trace T) (turn : Turn T) → open_refusal t.world turn ≡ None → attempt_open t turn ≡ after_turn t turn
+  attempt_allowed t turn e = ap (unless_refused t (after_turn t turn)) e
+
+  pub reached_open_more : (t : Trace T) (turn : Turn T) → open_refusal t.world turn ≡ None → IsReachedOpen t → IsReachedOpen (after_turn t turn)
+  reached_open_more t turn e r =
+      let making = turn_making t.world turn in
+      let more : after_turn t turn ≡ run_open (r.turns ++ turn ∷ []) (opening t.world.coding t.world.kind t.world.capacity t.world.parties) =
+      sym (attempt_allowed t turn e) ∙ (ap (λ u. attempt_open u turn) r.is ∙ sym (run_open_more r.turns turn (opening t.world.coding t.world.kind t.world.capacity t.world.parties)))
+      in
+      record {
+        coded = rw making.coding r.coded;
+        admitted = rw (making.kind, making.capacity) r.admitted;
+        turns = r.turns ++ turn ∷ [];
+        is = rw (making.coding, making.kind, making.capacity, making.parties) more;
+      }
+
+  pub reached_open_opening : (code : Coding T) (kind : Kind) (capacity parties : ℕ) → IsCoding code → capacity_error kind capacity ≡ None → IsReachedOpen (opening code kind capacity parties)
+  reached_open_opening code kind capacity parties coded e = record { coded = coded; admitted = e; turns = []; is = refl }
