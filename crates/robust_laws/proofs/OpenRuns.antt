@@ -1,5 +1,5 @@
 -- What holds of the machine of a robust set keeps to every turn of an open run, so it holds wherever such a run leads.
-use Rattle.std.proofs.Common.{◌≡◌, ℕ, ◌+◌, Bool, true, not, Option, Some, None, is_none, List, [], ◌∷◌, ◌++◌, refl, sym, ap, subst, ◌∙◌, append-nil}
+use Rattle.std.proofs.Common.{◌≡◌, ◌≢◌, slice_index, ℕ, ◌+◌, Bool, true, not, Option, Some, None, is_none, List, [], ◌∷◌, ◌++◌, refl, sym, ap, subst, ◌∙◌, append-nil}
 use Rattle.steps.specs.Indices.Robust.Parts.{greatest}
 use Rattle.model.specs.declared.families.Flight.{Flight}
 use Rattle.model.specs.declared.families.Flight as flights
@@ -14,7 +14,7 @@ use Rattle.model.specs.declared.turn.Turn.{Turn}
 use Rattle.model.specs.declared.turn.Turn.TheVariants.{Begin, Next, Decide, Die}
 use Rattle.model.specs.Coding.{Coding, IsCoding}
 use Rattle.model.specs.Families.{want_of, is_question}
-use Rattle.model.specs.Families.Indices.Robust.Promises.{KeepsDead}
+use Rattle.model.specs.Families.Indices.Robust.Promises.{AnswersRight, KeepsDead}
 use Rattle.model.specs.Parties.{party_of, doing_of, flight_of}
 use Rattle.model.specs.Reading.{Each}
 use Rattle.model.specs.Refusals.{is_due, call_refusal}
@@ -23,9 +23,10 @@ use Rattle.model.specs.World.{Trace, opening, capacity_error, flight_in}
 use Rattle.model.proofs.Frame as frame
 use Rattle.model.proofs.Reached.{turn_making}
 use Rattle.model.proofs.Rows.{row_passed}
-use Rattle.robust_laws.specs.Gone.{Word, AnswersBy}
+use Rattle.robust_laws.specs.Gone.{Word, IsHonest, AnswersBy}
 use Rattle.robust_laws.specs.Open.{open_refusal, attempt_open, run_open, IsReachedOpen, IsOpenSet}
 use Rattle.robust_laws.proofs.Core.{counter_of, cell}
+use Rattle.robust_laws.proofs.Gone.{answers_right}
 use Rattle.robust_laws.proofs.Invariant.{family_by}
 use Rattle.robust_laws.proofs.Living.{AllLive, all_live_on}
 use Rattle.robust_laws.proofs.Opening.{admitted_is}
@@ -140,6 +141,10 @@ module _ {T : Type 0} where
 
   pub reached_open_kept : (t : Trace T) → t.world.kind ≡ kinds.TheVariants.Robust → IsReachedOpen t → IsOpenSet t
   reached_open_kept t is r = open_kept t.world.coding t (reached_open_sound t is r) (reached_open_lives t is r)
+
+  -- In an honest run whose counter is not at its end the answers are those of a machine whose owners die.
+  pub open_answers : (t : Trace T) → IsOpenSet t → IsHonest t.events → slice_index t.world.words 0 ≢ greatest → Each (AnswersRight t.world.capacity) t.events
+  open_answers t h honest other = answers_right (slice_index t.world.words 0 ≡ greatest) other Word t.world.capacity t.events honest h.answers
 
   -- ---- one turn more
 
