@@ -1,5 +1,5 @@
 -- The steps of an add while it acquires its index: what the acquire of the set leads to, in a call that goes on after the grant.
-use Rattle.std.proofs.Common.{◌≡◌, ℕ, ◌<◌, ◌≤◌, Bool, false, Option, List, [], ◌∷◌, ◌++◌, refl, ap, arith}
+use Rattle.std.proofs.Common.{◌+◌, set, subst, ⊎_elim, ◌≡◌, ℕ, ◌<◌, ◌≤◌, Bool, false, Option, List, [], ◌∷◌, ◌++◌, refl, ap, arith}
 use Rattle.std.specs.Prelude.{Err}
 use Rattle.steps.specs.declared.ask.Ask.{Ask}
 use Rattle.steps.specs.declared.ask.After.{After}
@@ -32,8 +32,11 @@ use Rattle.model.specs.Families.Queues.Calls.{as_it_is}
 use Rattle.model.specs.Step.{as_call}
 use Rattle.model.specs.Turns.{words_after}
 use Rattle.robust_laws.proofs.Alone.{grants_alone, owns_then}
+use Rattle.robust_laws.specs.Gone.{Death}
+use Rattle.robust_laws.proofs.Core as set_core
 use Rattle.robust_laws.proofs.Effects as set_effects
 use Rattle.robust_laws.proofs.Held.{Caller, WhyNot, FewEnd, held_step}
+use Rattle.robust_laws.proofs.Invariant as set_invariant
 use Rattle.robust_laws.proofs.Knows as set_knows
 use Rattle.robust_laws.proofs.Stages as set_stages
 use Rattle.robust_laws.proofs.Standing.{acquire_at, acquire_number, AcquireAt}
@@ -45,6 +48,10 @@ use Rattle.container_laws.proofs.Stages.{IsHere, all, done, Leads, none_lengthen
 use Rattle.container_laws.proofs.Standing.{add_at}
 use Rattle.container_laws.proofs.Steps.{loads, ends_calmly}
 use Rattle.container_laws.proofs.Turns.{Proper}
+
+-- where owners die a raise goes up by one
+raised_new : {T : Type 0} (scene : set_invariant.Scene T) → scene.by ≡ Death → (words' : List ℕ) → set_effects.IsRaised scene words' → words' ≡ set scene.set.words 0 (set_core.counter_of scene.set.words + 1)
+raised_new scene dies words' raised = ⊎_elim (λ h. h.1) (λ h. absurd (subst (λ b. set_invariant.IsWorn b scene.set.words) dies h.0)) raised
 
 module _ {T : Type 0} (scene : Scene T) (inv : Inv scene) (value : T) (owner : ℕ) (fits : owner < empty) (alive : is_dead owner scene.events ≡ false) (stage : AcquireStage)
     (here : IsHere scene (Add value owner) (add_at scene.capacity value owner (adds.TheVariants.Acquires stage))) where
@@ -90,7 +97,7 @@ module _ {T : Type 0} (scene : Scene T) (inv : Inv scene) (value : T) (owner : �
         ends scene start (NoPlace add_failures.TheVariants.OutOfSpace) ask back scene.states [] here.span none_lengthens
         (ends_calmly scene inv start flight tt here y (words_after ws ask) (NoPlace add_failures.TheVariants.OutOfSpace)
         (set_effects.quietly (of_set scene) (inv_of_set scene inv) (words_after ws ask) es (set_effects.stays_same (of_set scene) (inv_of_set scene inv) (words_after ws ask) same).leaves (quiet_end (of_set scene) (inv_of_set scene inv) start (NoPlace add_failures.TheVariants.OutOfSpace) (λ i o. refl) (λ i r. refl)) (refl, tt) (tt, tt) (tt, tt))
-        (why.0, why.1) proper (λ holds. tt) same (λ i b. refl) (still (words_after ws ask) y es proper))
+        (why.0, ⊎_elim (λ worn. absurd worn) (λ all_filled. all_filled) why.1) proper (λ holds. tt) same (λ i b. refl) (still (words_after ws ask) y es proper))
         ((refl, why.2), tt) (omega arith) (omega arith)
 
     caller : Caller (of_set scene) (inv_of_set scene inv) owner fits alive 0 Lead
@@ -111,19 +118,20 @@ module _ {T : Type 0} (scene : Scene T) (inv : Inv scene) (value : T) (owner : �
               ((refl, empty_all), tt) (omega arith)
               (refl, refl, fits, ((below, ap (λ d. d ++ Fills i owner ∷ []) empty_all), ap (λ (d : List (Act T)). d ++ []) none)) known;
           fails = refuses;
-          grants = λ i ask below filled mine open_now new paid few.
-              let y = party_then scene start ask false (GoOn (goes_to (adds.TheVariants.LoadsCount i))) in
+          grants = λ i ask back below filled mine raised paid few.
+              let new = raised_new (of_set scene) refl (words_after ws ask) raised in
+              let y = party_then scene start ask back (GoOn (goes_to (adds.TheVariants.LoadsCount i))) in
               let es = Granted p i owner ∷ [] in
               let proper = was_proper scene start tt here.span (words_after ws ask) y es (refl, tt) in
-              let alone = grants_alone (of_set scene) (inv_of_set scene inv) (words_after ws ask) i owner mine alive open_now new in
-              goes_on scene start (goes_to (adds.TheVariants.LoadsCount i)) ask false scene.states es here.span (λ start w. refl)
+              let alone = grants_alone (of_set scene) (inv_of_set scene inv) (words_after ws ask) i owner mine alive raised in
+              goes_on scene start (goes_to (adds.TheVariants.LoadsCount i)) ask back scene.states es here.span (λ start w. refl)
               (grants scene inv start flight tt here y (words_after ws ask) (rest_set scene inv start flight tt here y (words_after ws ask) 0 _ (omega arith) new) (wide_set scene inv start flight tt here y (words_after ws ask) 0 _ new) i owner alone proper (still (words_after ws ask) y es proper))
               ((refl, filled), tt) (omega arith)
               (refl, refl, fits, ((below, ap (λ d. d ++ Grants i owner ∷ []) filled), ap (λ (d : List (Act T)). d ++ []) none))
               (record {
                 paid = omega arith;
                 within = below;
-                owns = λ proper lives. let k = owns_then (of_set scene) (inv_of_set scene inv) (words_after ws ask) i owner mine alive open_now new (proper, tt) in record { by = k.0; held = k.1 };
+                owns = λ proper lives. let k = owns_then (of_set scene) (inv_of_set scene inv) (words_after ws ask) i owner mine alive raised (proper, tt) in record { by = k.0; held = k.1 };
               });
         }
 

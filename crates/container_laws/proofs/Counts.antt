@@ -31,7 +31,7 @@ use Rattle.model.specs.Step.{as_call}
 use Rattle.model.specs.Turns.{old_of, words_after, step_count}
 use Rattle.robust_laws.proofs.Core.{counter_of}
 use Rattle.robust_laws.proofs.Counting.{count_none, count_next}
-use Rattle.robust_laws.proofs.Effects.{Stays, both_ways, unlocked, is_shut, stays_same, stays_raised}
+use Rattle.robust_laws.proofs.Effects.{Stays, both_ways, not_shut, unlocked, is_shut, stays_same, stays_raised}
 use Rattle.robust_laws.proofs.Knows as set_knows
 use Rattle.robust_laws.proofs.Parts.{count_ask, count_step as part_step, IsSaid}
 use Rattle.robust_laws.proofs.Rights.{Right, right_after}
@@ -145,10 +145,11 @@ module _ {T : Type 0} (scene : Scene T) (inv : Inv scene) where
         let low = few 0 (c + 2) (omega arith) (omega arith) in
         counts_end 0 ask (stays_same (of_set scene) (inv_of_set scene inv) (words_after ws ask) same)
         (record { none = λ t. refl; some = λ f. both_ways _ f (is_shut (of_set scene) (inv_of_set scene inv) shut) }) paid (omega arith))
-        (λ filled ask open_now new most says unheld paid few.
+        (λ filled ask same worn end most says paid few. absurd worn)
+        (λ filled ask less new most says unheld paid few.
         let low = few 0 (c + 2) (omega arith) (omega arith) in
-        counts_end filled ask (stays_raised (of_set scene) (inv_of_set scene inv) (words_after ws ask) open_now new)
-        (record { none = λ t. both_ways _ (unlocked (of_set scene) (inv_of_set scene inv) open_now) t; some = λ f. says }) paid (omega arith))
+        counts_end filled ask (stays_raised (of_set scene) (inv_of_set scene inv) (words_after ws ask) less new)
+        (record { none = λ t. both_ways _ (unlocked (of_set scene) (inv_of_set scene inv) (not_shut (of_set scene) (inv_of_set scene inv) less)) t; some = λ f. says }) paid (omega arith))
 
   pub count_step : (which : CountOf) (count : Counting) → IsHere scene (counts_as which) (count_at which c count) → CountAt c count → all scene ≡ [] → Knows code c (count_at which c count) (sees_now scene)
       → steps ≤ count_number c count + backs * (c + 2) → StepOf scene (counts_as which) (count_at which c count)

@@ -170,7 +170,7 @@ module _ {T : Type 0} where
 
   pub inv_of_set : (scene : Scene T) → Inv scene → set.Inv (of_set scene)
   inv_of_set scene inv =
-      record { good = inv.good; begun = inv.begun; ahead = set.ahead_of_few Death scene.capacity scene.words scene.dead scene.events scene.turns inv.good inv.begun inv.small }
+      record { good = inv.good; begun = inv.begun; room = set.ahead_of_few Death scene.capacity scene.words scene.dead scene.events scene.turns inv.good inv.begun inv.small }
 
 -- ---- what a turn of a party does
 

@@ -69,6 +69,7 @@ module _ (z c : ℕ) where
         filled = λ i owner e. absurd (cc);
         lock = refl;
         low = λ t. omega arith;
+        bound = omega arith;
         died = λ owner. refl;
         does = Each-nil _;
         answers = Each-nil _;

@@ -20,7 +20,7 @@ use Rattle.steps.specs.declared.indices.robust.parts.Raise.{Raise}
 use Rattle.steps.specs.declared.indices.robust.parts.Raise as raises
 use Rattle.steps.specs.Container.Layout.{change_word}
 use Rattle.steps.specs.Container.Recover.{recover_ends, recover_raised, recover_locked}
-use Rattle.steps.specs.Indices.Robust.Parts.{empty, locked, first_lock, raise_after, raise_goes_back, lock_after, lock_goes_back}
+use Rattle.steps.specs.Indices.Robust.Parts.{empty, locked, greatest, first_lock, raise_after, raise_goes_back, lock_after, lock_goes_back}
 use Rattle.model.specs.declared.event.Answer.TheVariants as answers
 use Rattle.model.specs.declared.event.Event.{Event}
 use Rattle.model.specs.declared.event.Event.TheVariants.{Locked, Finished}
@@ -132,9 +132,10 @@ module _ {T : Type 0} (scene : Scene T) (inv : Inv scene) (owner : ℕ) (mode : 
           ),
           tt,
         ))
-        (λ ask open_now new paid few.
+        (λ ask back same worn end paid few. absurd worn)
+        (λ ask less new paid few.
         let low = few (6 + z + index * for_index c z mode) (for_back c z mode) (omega arith) (omega arith) in
-        by_mode mode refl ask (set_effects.stays_raised (of_set scene) (inv_of_set scene inv) (words_after ws ask) open_now new) paid (omega arith))
+        by_mode mode refl ask (set_effects.stays_raised (of_set scene) (inv_of_set scene inv) (words_after ws ask) less new) paid (omega arith))
       where
         held_is : (ask : Option Ask) (back : Bool) (number : ℕ) → set_knows.Holding number (set_stages.sees (of_set scene) ask back) → backs_then scene back + since_then scene ask ≤ changes_then scene ask
         held_is ask back number held = ⊎_elim (λ h. let paid = h.1 in omega arith) (λ h. omega arith) held.paid
@@ -170,10 +171,10 @@ module _ {T : Type 0} (scene : Scene T) (inv : Inv scene) (owner : ℕ) (mode : 
     abbrev locking : List (Event T)
     locking = Locked p ∷ []
 
-    locks_set : (ask : Option Ask) → (IsCalm Death events → (i : ℕ) → holder_of i events ≡ None) → counter_of ws ≢ locked → words_after ws ask ≡ set ws 0 locked → backs_then scene false + since_then scene ask ≤ changes_then scene ask → Few scene inv owner mode fits ask false 1 (index + 1)
+    locks_set : (ask : Option Ask) → (IsCalm Death events → (i : ℕ) → holder_of i events ≡ None) → counter_of ws < greatest → words_after ws ask ≡ set ws 0 locked → backs_then scene false + since_then scene ask ≤ changes_then scene ask → Few scene inv owner mode fits ask false 1 (index + 1)
         → locks_to ask false locking (Done states.TheVariants.Locked)
-    locks_set ask nobody open_now new paid few =
-        let set_does = set_locks.locks (of_set scene) (inv_of_set scene inv) (words_after ws ask) [] set_effects.quiet_none tt tt tt nobody open_now new in
+    locks_set ask nobody less new paid few =
+        let set_does = set_locks.locks (of_set scene) (inv_of_set scene inv) (words_after ws ask) [] set_effects.quiet_none tt tt tt nobody less new in
         comes_to_next scene inv owner mode fits room locks_at here long ask false locking (λ start w. refl)
         (subst (λ m. AllFollow (Stands promise c) (Open (Container (Recover owner m)) (wrote_of p events)) locking) (sym may_lock) (just, tt))
         (λ y owe.
@@ -207,9 +208,10 @@ module _ {T : Type 0} (scene : Scene T) (inv : Inv scene) (owner : ℕ) (mode : 
         (λ filled ask stays open_now more says paid few.
         let low = few (8 + z + index * for_index c z mode) (for_back c z mode) (omega arith) (omega arith) in
         stays_next scene inv owner mode fits room locks_at here long ask false stays paid index k.1 (omega arith) course (filled_calm p owner mode NoIndex events (filled_last p owner mode NoIndex events (says more))))
-        (λ ask nobody open_now new paid few.
+        (λ ask stays open_now worn paid few. absurd worn)
+        (λ ask nobody less new paid few.
         let low = few (8 + z + index * for_index c z mode) (for_back c z mode) (omega arith) (omega arith) in
-        locks_set ask nobody open_now new paid (omega arith))
+        locks_set ask nobody less new paid (omega arith))
       where
         held_paid : (held : Option ℕ) (ask : Option Ask) (back : Bool) → set_knows.Paid held (set_stages.sees (of_set scene) ask back) → backs_then scene back + since_then scene ask ≤ changes_then scene ask
         held_paid None ask back h = omega arith

@@ -21,7 +21,7 @@ use Rattle.steps.specs.declared.indices.robust.release.ReleaseStage.{ReleaseStag
 use Rattle.steps.specs.declared.indices.robust.release.ReleaseStage as releases
 use Rattle.steps.specs.Container.Layout.{count_word, is_even}
 use Rattle.steps.specs.Container.Remove.{Removed, at_remove, remove_released}
-use Rattle.steps.specs.Indices.Robust.Parts.{cell_word, empty, locked}
+use Rattle.steps.specs.Indices.Robust.Parts.{cell_word, empty, locked, greatest}
 use Rattle.steps.specs.Indices.Robust.Release.{Released}
 use Rattle.steps.specs.Routine.{went_on}
 use Rattle.model.specs.declared.event.Answer.{Answer}
@@ -230,17 +230,17 @@ module _ {T : Type 0} (scene : Scene T) (inv : Inv scene) (index owner : ℕ) (m
     none_stands freed t = hidden_even code c p owner index count (before scene) inv.elements.whole below (even_is count t) (stands_still freed)
 
     -- what the end of the release says
-    says_now : (m : ReleaseMode) → mode ≡ m → (state : ReleaseState) → Ends (of_set scene) (inv_of_set scene inv) index owner mode fits below lives began 1 m state → RemoveSays code c index owner m state (sees_now scene)
-    says_now Default is states.TheVariants.Locked why = absurd why
-    says_now Default is states.TheVariants.Unlocked why = tt
-    says_now LockIfLastIndex is states.TheVariants.Locked why = why
-    says_now LockIfLastIndex is states.TheVariants.Unlocked why = (held_now p IsUnlocked events why.0, why.1)
+    says_now : (words' : List ℕ) (m : ReleaseMode) → mode ≡ m → (state : ReleaseState) → Ends (of_set scene) (inv_of_set scene inv) index owner mode fits below lives began 1 words' m state → RemoveSays code c index owner m state (sees_now scene)
+    says_now words' Default is states.TheVariants.Locked why = absurd why
+    says_now words' Default is states.TheVariants.Unlocked why = tt
+    says_now words' LockIfLastIndex is states.TheVariants.Locked why = why
+    says_now words' LockIfLastIndex is states.TheVariants.Unlocked why = (held_now p IsUnlocked events why.0, ⊎_elim (λ worn. absurd worn) (λ filled. filled) why.1)
 
-    done_now : (m : ReleaseMode) (state : ReleaseState) → Ends (of_set scene) (inv_of_set scene inv) index owner mode fits below lives began 1 m state → all scene ≡ Frees index owner ∷ [] → HasDone {T = T} (Remove index owner m) (answers.State state) (all scene) []
-    done_now Default states.TheVariants.Locked why freed = absurd why
-    done_now Default states.TheVariants.Unlocked why freed = freed
-    done_now LockIfLastIndex states.TheVariants.Locked why freed = inl freed
-    done_now LockIfLastIndex states.TheVariants.Unlocked why freed = freed
+    done_now : (words' : List ℕ) (m : ReleaseMode) (state : ReleaseState) → Ends (of_set scene) (inv_of_set scene inv) index owner mode fits below lives began 1 words' m state → all scene ≡ Frees index owner ∷ [] → HasDone {T = T} (Remove index owner m) (answers.State state) (all scene) []
+    done_now words' Default states.TheVariants.Locked why freed = absurd why
+    done_now words' Default states.TheVariants.Unlocked why freed = freed
+    done_now words' LockIfLastIndex states.TheVariants.Locked why freed = inl freed
+    done_now words' LockIfLastIndex states.TheVariants.Unlocked why freed = freed
 
     says_calm : (m : ReleaseMode) (state : ReleaseState) (v' : View T) → v'.events ≡ events → v'.party ≡ p → RemoveSays code c index owner m state (sees_now scene) → RemoveSays code c index owner m state v'
     says_calm m states.TheVariants.Locked v' same party h = rw same h
@@ -248,25 +248,25 @@ module _ {T : Type 0} (scene : Scene T) (inv : Inv scene) (index owner : ℕ) (m
     says_calm LockIfLastIndex states.TheVariants.Unlocked v' same party h = rw (same, party) h
 
     -- the release has ended with this state
-    released : (state : ReleaseState) (ask : Option Ask) (back : Bool) → set_effects.Stays (of_set scene) (words_after ws ask) → Ends (of_set scene) (inv_of_set scene inv) index owner mode fits below lives began 1 mode state → all scene ≡ Frees index owner ∷ []
+    released : (state : ReleaseState) (ask : Option Ask) (back : Bool) → set_effects.Stays (of_set scene) (words_after ws ask) → Ends (of_set scene) (inv_of_set scene inv) index owner mode fits below lives began 1 (words_after ws ask) mode state → all scene ≡ Frees index owner ∷ []
         → backs_then scene back + since_then scene ask ≤ changes_then scene ask → steps + step_count ask ≤ 1 + release_total c index owner mode (backs_then scene back) → Lead ask back [] (Done (Ok state))
     released state ask back stays why freed paid few = go (is_even count) refl
       where
         go : (b : Bool) → is_even count ≡ b → Leads scene start ask back scene.states [] (as_remove (if b then GoOn (at_remove first (removes.TheVariants.AddsChange state)) else GoOn (at_remove first (removes.TheVariants.Hides count state))))
         go true t =
-            stays_on this (removes.TheVariants.AddsChange state) here refl ask back stays (omega arith) (below, done_now mode state why freed)
-            (paid, says_calm mode state (SeesCalmly (removes.TheVariants.AddsChange state) ask back) refl refl (says_now mode refl state why), hidden_calm scene start tt here.span owner (words_after ws ask) (then_at (removes.TheVariants.AddsChange state) ask back) (none_stands freed t))
+            stays_on this (removes.TheVariants.AddsChange state) here refl ask back stays (omega arith) (below, done_now (words_after ws ask) mode state why freed)
+            (paid, says_calm mode state (SeesCalmly (removes.TheVariants.AddsChange state) ask back) refl refl (says_now (words_after ws ask) mode refl state why), hidden_calm scene start tt here.span owner (words_after ws ask) (then_at (removes.TheVariants.AddsChange state) ask back) (none_stands freed t))
         go false t =
-            stays_on this (removes.TheVariants.Hides count state) here refl ask back stays (omega arith) (below, done_now mode state why freed, subst (IsOneOf (Frees index owner)) (sym freed) (record { before = []; after = []; is = refl }), nothing, odd_is count t)
-            (paid, says_calm mode state (SeesCalmly (removes.TheVariants.Hides count state) ask back) refl refl (says_now mode refl state why), left_calm (removes.TheVariants.Hides count state) ask back stays (has_left freed), stands_calm scene start tt here.span owner (words_after ws ask) (then_at (removes.TheVariants.Hides count state) ask back) index count (stays.others (count_word c index) (omega arith)) (stands_still freed))
+            stays_on this (removes.TheVariants.Hides count state) here refl ask back stays (omega arith) (below, done_now (words_after ws ask) mode state why freed, subst (IsOneOf (Frees index owner)) (sym freed) (record { before = []; after = []; is = refl }), nothing, odd_is count t)
+            (paid, says_calm mode state (SeesCalmly (removes.TheVariants.Hides count state) ask back) refl refl (says_now (words_after ws ask) mode refl state why), left_calm (removes.TheVariants.Hides count state) ask back stays (has_left freed), stands_calm scene start tt here.span owner (words_after ws ask) (then_at (removes.TheVariants.Hides count state) ask back) index count (stays.others (count_word c index) (omega arith)) (stands_still freed))
 
     -- and with the lock
-    locked_by : (ask : Option Ask) → mode ≡ LockIfLastIndex → (IsCalm Death events → (i : ℕ) → holder_of i events ≡ None) → counter_of ws ≢ locked → words_after ws ask ≡ set ws 0 locked → all scene ≡ Frees index owner ∷ [] → backs_then scene false + since_then scene ask ≤ changes_then scene ask
+    locked_by : (ask : Option Ask) → mode ≡ LockIfLastIndex → (IsCalm Death events → (i : ℕ) → holder_of i events ≡ None) → counter_of ws < greatest → words_after ws ask ≡ set ws 0 locked → all scene ≡ Frees index owner ∷ [] → backs_then scene false + since_then scene ask ≤ changes_then scene ask
         → steps + step_count ask ≤ 1 + release_total c index owner mode (backs_then scene false) → Lead ask false (Locked p ∷ []) (Done (Ok states.TheVariants.Locked))
-    locked_by ask may_lock nobody open_now new freed paid few = go (is_even count) refl
+    locked_by ask may_lock nobody less new freed paid few = go (is_even count) refl
       where
         set_does : set_invariant.Does (of_set scene) (words_after ws ask) (Locked p ∷ [])
-        set_does = set_locks.locks (of_set scene) (inv_of_set scene inv) (words_after ws ask) [] set_effects.quiet_none tt tt tt nobody open_now new
+        set_does = set_locks.locks (of_set scene) (inv_of_set scene inv) (words_after ws ask) [] set_effects.quiet_none tt tt tt nobody less new
 
         does : (y : Party T) → Does scene (words_after ws ask) scene.states y (Locked p ∷ [])
         does y =
@@ -336,7 +336,7 @@ module _ {T : Type 0} (scene : Scene T) (inv : Inv scene) (index owner : ℕ) (m
               );
           refused = λ ask same other none paid few. refuses this here refl ask same other none (omega arith) few;
           ended = λ state ask back stays why freed paid few. released state ask back stays why freed paid few;
-          locks = λ ask may_lock nobody open_now new freed paid few. locked_by ask may_lock nobody open_now new freed paid few;
+          locks = λ ask may_lock nobody less new freed paid few. locked_by ask may_lock nobody less new freed paid few;
         }
       where
         low : {n : ℕ} → n ≡ count_in code c (before scene) index → count ≤ n

@@ -18,7 +18,7 @@ use Rattle.robust_laws.specs.Gone.{AnswersBy}
 use Rattle.robust_laws.proofs.Begins.{without_other, not_taken}
 use Rattle.robust_laws.proofs.Effects.{at_same, at_other, proper_less}
 use Rattle.robust_laws.proofs.Gone.{calm_less}
-use Rattle.robust_laws.proofs.Invariant.{Scene, Good, Does}
+use Rattle.robust_laws.proofs.Invariant.{IsWorn, Scene, Good, Does}
 use Rattle.robust_laws.proofs.Rights.{Right, Settled, By, taken_by, right_after, right_of, AreOwned}
 
 -- ---- the right to one index
@@ -98,9 +98,10 @@ module _ {T : Type 0} (scene : Scene T) (g : Good scene.by scene.capacity scene.
               filled = λ i owner e. g.filled i owner (sym (same_filled i) ∙ e);
               lock = g.lock ∙ sym same_lock;
               low = λ t. let low = g.low (sym same_lock ∙ t) in omega arith;
+              bound = g.bound;
               died = λ o. g.died o ∙ sym (same_dead o);
               does = Each-append (SetDoes c) events es g.does (tt, tt);
-              answers = Each-append (AnswersBy by c) events es g.answers (tt, tt);
+              answers = Each-append (AnswersBy by (IsWorn by scene.set.words) c) events es g.answers (tt, tt);
               owned = λ calm.
                   let h = g.owned (calm_less by events es calm) in
                   record { held = λ i owner e. same_filled i ∙ h.held i owner (sym (same_holder i) ∙ e); settled = settles h };
@@ -109,7 +110,8 @@ module _ {T : Type 0} (scene : Scene T) (g : Good scene.by scene.capacity scene.
         goes =
             record {
               grows = omega arith;
-              grants = λ same j none. same_holder j ∙ none;
+              stuck = λ end. end;
+              grants = λ same less j none. same_holder j ∙ none;
               fills = λ j owner d e. sym (same_filled j) ∙ e;
               dead = λ o d. same_dead o ∙ d;
               lives = λ o l. sym (same_dead o) ∙ l;

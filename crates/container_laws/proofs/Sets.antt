@@ -18,8 +18,8 @@ use Rattle.model.proofs.Readings.{Each-append, span_of-other}
 use Rattle.robust_laws.specs.Gone.{IsCalm, AnswersBy}
 use Rattle.robust_laws.proofs.Core.{counter_of, cell}
 use Rattle.robust_laws.proofs.Effects.{Leaves, Quiet, at_same, at_other, one_owner, one_party, proper_less}
-use Rattle.robust_laws.proofs.Gone.{calm_less}
-use Rattle.robust_laws.proofs.Invariant.{Scene, Inv, Good, Does}
+use Rattle.robust_laws.proofs.Gone.{calm_less, answers_on}
+use Rattle.robust_laws.proofs.Invariant.{IsWorn, worn_on, Scene, Inv, Good, Does}
 use Rattle.robust_laws.proofs.Rights.{Right, Settled, By, right_after, right_of, IsBy}
 use Rattle.container_laws.proofs.Writers.{Adds}
 
@@ -43,6 +43,8 @@ module _ {T : Type 0} (scene : Scene T) (inv : Inv scene) where
         lock = ap (λ m. m == locked) same;
         low = λ t. let low = g.low (sym g.lock ∙ t) in let begun = inv.begun in omega arith;
         grows = omega arith;
+        bound = let bound = g.bound in omega arith;
+        stuck = λ end. same ∙ end;
       }
 
   -- ---- events that change nothing of the set
@@ -134,9 +136,10 @@ module _ {T : Type 0} (scene : Scene T) (inv : Inv scene) where
                 filled = λ j o e. g.filled j o (sym (same_filled j) ∙ e);
                 lock = stays.lock ∙ (g.lock ∙ sym same_lock);
                 low = λ t. let low = stays.low (g.lock ∙ (sym same_lock ∙ t)) in omega arith;
+                bound = stays.bound;
                 died = λ o. g.died o ∙ sym (same_dead o);
                 does = Each-append (SetDoes c) events es g.does (tt, tt);
-                answers = Each-append (AnswersBy by c) events es g.answers (tt, tt);
+                answers = Each-append (AnswersBy by (IsWorn by words') c) events es (answers_on (IsWorn by ws) (IsWorn by words') (worn_on by ws words' stays.stuck) by c events g.answers) (tt, tt);
                 owned = λ calm.
                     let less = calm_less by events es calm in
                     record { held = λ j o e. same_filled j ∙ (g.owned less).held j o (sym (same_holder j) ∙ e); settled = still_settled less };
@@ -145,7 +148,8 @@ module _ {T : Type 0} (scene : Scene T) (inv : Inv scene) where
           goes =
               record {
                 grows = stays.grows;
-                grants = λ same j none. same_holder j ∙ none;
+                stuck = stays.stuck;
+                grants = λ same less j none. same_holder j ∙ none;
                 fills = λ j o d e. sym (same_filled j) ∙ e;
                 dead = λ o d. same_dead o ∙ d;
                 lives = λ o l. sym (same_dead o) ∙ l;

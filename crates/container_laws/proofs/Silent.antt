@@ -154,7 +154,7 @@ module _ {T : Type 0} where
   holds_right earlier (Finished p start answer) h = tt
   holds_right earlier e h = absurd h
 
-  answers_right : (c : ℕ) (earlier : List (Event T)) (e : Event T) → Silent e → AnswersBy Death c earlier e
+  answers_right : (c : ℕ) (earlier : List (Event T)) (e : Event T) → Silent e → AnswersBy Death ⊥ c earlier e
   answers_right c earlier (Asked p index owner) h = tt
   answers_right c earlier (Told p index owner) h = tt
   answers_right c earlier (Copied p index value) h = tt
@@ -184,7 +184,7 @@ module _ {T : Type 0} (scene : Scene T) (inv : Inv scene) (words' : List ℕ) (s
   -- of the set
   pub silent_set : set_invariant.Does (of_set scene) words' es
   silent_set =
-      quietly (of_set scene) (inv_of_set scene inv) words' es (stays_same (of_set scene) (inv_of_set scene inv) words' same).leaves (silent_quiet es silent) own (all_right (SetDoes c) (does_right c) events es silent) (all_right (AnswersBy Death c) (answers_right c) events es silent)
+      quietly (of_set scene) (inv_of_set scene inv) words' es (stays_same (of_set scene) (inv_of_set scene inv) words' same).leaves (silent_quiet es silent) own (all_right (SetDoes c) (does_right c) events es silent) (all_right (AnswersBy Death ⊥ c) (answers_right c) events es silent)
 
   -- of the elements
   pub silent_changes : (proper : Proper (after scene words' y es) → Proper (before scene)) → OwesStill scene inv words' y es proper → Changes scene words' y es

@@ -1,5 +1,5 @@
 -- The steps of an acquire.
-use Rattle.std.proofs.Common.{◌≡◌, ℕ, ◌<◌, ◌≤◌, Bool, false, Option, List, [], ◌∷◌, ◌++◌, refl, ap, ◌∙◌, arith}
+use Rattle.std.proofs.Common.{sym, subst, inr, inl, ⊎_elim, ◌≡◌, ℕ, ◌<◌, ◌≤◌, Bool, false, Option, List, [], ◌∷◌, ◌++◌, refl, ap, ◌∙◌, arith}
 use Rattle.std.specs.Prelude.{Err}
 use Rattle.std.proofs.lemmas.List.Concat.{flat_map-append}
 use Rattle.steps.specs.declared.ask.Ask.{Ask}
@@ -26,7 +26,7 @@ use Rattle.model.specs.Turns.{words_after}
 use Rattle.robust_laws.proofs.Effects.{stays_same}
 use Rattle.robust_laws.proofs.Grants.{grants}
 use Rattle.robust_laws.proofs.Held.{Caller, WhyNot, FewEnd, held_step}
-use Rattle.robust_laws.proofs.Invariant.{Scene, Inv, wrote_of}
+use Rattle.robust_laws.proofs.Invariant.{IsWorn, Scene, Inv, wrote_of}
 use Rattle.robust_laws.proofs.Knows.{Knows, IsPaid}
 use Rattle.robust_laws.proofs.Standing.{acquire_at, acquire_number, AcquireAt}
 use Rattle.robust_laws.proofs.Stages.{IsHere, all, now, sees, StepOf, Leads, goes_on, ends, goes_quietly, ends_quietly}
@@ -46,7 +46,8 @@ module _ {T : Type 0} (scene : Scene T) (inv : Inv scene) (owner : ℕ) (fits : 
   refuses failures.TheVariants.IsLocked ask back same why paid few =
       ends_quietly scene inv (Acquire owner) (NoIndex failures.TheVariants.IsLocked) ask back here (stays_same scene inv (words_after ws ask) same) (λ i o. refl) (λ i r. refl) why.0 why.1 (omega arith) paid
   refuses failures.TheVariants.OutOfIndices ask back same why paid few =
-      ends_quietly scene inv (Acquire owner) (NoIndex failures.TheVariants.OutOfIndices) ask back here (stays_same scene inv (words_after ws ask) same) (λ i o. refl) (λ i r. refl) (why.0, why.1) why.2 (omega arith) paid
+      ends_quietly scene inv (Acquire owner) (NoIndex failures.TheVariants.OutOfIndices) ask back here (stays_same scene inv (words_after ws ask) same) (λ i o. refl) (λ i r. refl)
+      (why.0, ⊎_elim (λ worn. inl (subst (IsWorn scene.by) (sym same) worn)) (λ all_filled. inr all_filled) why.1) why.2 (omega arith) paid
 
   caller : Caller scene inv owner fits alive 0 Lead
   caller =
@@ -56,11 +57,11 @@ module _ {T : Type 0} (scene : Scene T) (inv : Inv scene) (owner : ℕ) (fits : 
             goes_on scene (Acquire owner) (acquire_at c owner (acquires.TheVariants.Raises i raises.TheVariants.LoadsCounter)) ask false (Filled p i owner ∷ []) here (λ start w. refl) does
             ((refl, none), tt) (tt, tt) (omega arith) (refl, refl, fits, (below, ap (λ d. d ++ Fills i owner ∷ []) none)) known;
         fails = refuses;
-        grants = λ i ask below done mine open_now new paid few.
+        grants = λ i ask back below done mine raised paid few.
             let all_done : deeds (wrote_of p events ++ Granted p i owner ∷ []) ≡ Fills i owner ∷ Grants i owner ∷ [] =
             flat_map-append deed (wrote_of p events) (Granted p i owner ∷ []) ∙ ap (λ d. d ++ Grants i owner ∷ []) done in
-            ends scene (Acquire owner) (Index i) ask false (Granted p i owner ∷ []) here (λ start w. refl)
-            (grants scene inv (words_after ws ask) i owner mine alive open_now new)
+            ends scene (Acquire owner) (Index i) ask back (Granted p i owner ∷ []) here (λ start w. refl)
+            (grants scene inv (words_after ws ask) i owner mine alive raised)
             ((refl, done), ((refl, all_done), tt)) (tt, (tt, tt)) (omega arith) paid;
       }
 

@@ -1,9 +1,9 @@
 -- What a step does by which an index is granted, in a call that goes on: it raises the counter. The right to the index
 -- stays with the party until its call is done.
-use Rattle.std.proofs.Common.{◌≡◌, ◌≢◌, ℕ, ◌+◌, ⊎_elim, false, Some, None, List, [], ◌∷◌, ◌++◌, set, refl, sym, ap, subst, ◌∙◌, arith}
+use Rattle.std.proofs.Common.{◌<◌, ◌≡◌, ◌≢◌, ℕ, ◌+◌, ⊎_elim, false, Some, None, List, [], ◌∷◌, ◌++◌, refl, sym, ap, subst, ◌∙◌, arith}
 use Rattle.std.proofs.lemmas.Bool.{cases_eq}
 use Rattle.std.proofs.lemmas.List.Sums.{fold-append}
-use Rattle.steps.specs.Indices.Robust.Parts.{locked}
+use Rattle.steps.specs.Indices.Robust.Parts.{greatest}
 use Rattle.model.specs.declared.event.Event.{Event}
 use Rattle.model.specs.declared.event.Event.TheVariants.{Granted}
 use Rattle.model.specs.Families.Indices.Reading.{locked_after, is_locked}
@@ -11,10 +11,10 @@ use Rattle.model.specs.Families.Indices.Robust.Promises.{cell_of, SetDoes, Holds
 use Rattle.model.specs.Families.Indices.Robust.Reading.{deeds, filled_after, filled_of, holder_after, holder_of, settled_after, settled_of, dead_after, is_dead, wrote_in}
 use Rattle.model.proofs.Readings.{Each-append, span_of-other}
 use Rattle.robust_laws.specs.Gone.{IsCalm, AnswersBy}
-use Rattle.robust_laws.proofs.Core.{counter_of, counter_set}
-use Rattle.robust_laws.proofs.Effects.{Leaves, at_same, at_other, one_owner, one_party, proper_less, stays_raised, unlocked}
-use Rattle.robust_laws.proofs.Gone.{calm_less}
-use Rattle.robust_laws.proofs.Invariant.{Scene, Inv, Good, Does}
+use Rattle.robust_laws.proofs.Core.{counter_of}
+use Rattle.robust_laws.proofs.Effects.{Leaves, at_same, at_other, one_owner, one_party, proper_less, IsRaised, raised_open, raised_stays, raised_more, unlocked}
+use Rattle.robust_laws.proofs.Gone.{calm_less, answers_on}
+use Rattle.robust_laws.proofs.Invariant.{IsWorn, worn_on, Scene, Inv, Good, Does}
 use Rattle.robust_laws.proofs.Rights.{right_after, right_of, IsBy, AreOwned}
 
 module _ {T : Type 0} (scene : Scene T) (inv : Inv scene) where
@@ -26,15 +26,15 @@ module _ {T : Type 0} (scene : Scene T) (inv : Inv scene) where
   g : Good by c ws scene.set.dead events turns
   g = inv.good
 
-  module _ (words' : List ℕ) (i owner : ℕ) (mine : IsCalm by (events ++ Granted p i owner ∷ []) → IsBy p i owner events × (holder_of i events ≡ None)) (alive : is_dead owner events ≡ false) (open_now : counter_of ws ≢ locked) (new : words' ≡ set ws 0 (counter_of ws + 1)) where
+  module _ (words' : List ℕ) (i owner : ℕ) (mine : IsCalm by (events ++ Granted p i owner ∷ []) → IsBy p i owner events × (holder_of i events ≡ None)) (alive : is_dead owner events ≡ false) (raised : IsRaised scene words') where
     abbrev es : List (Event T)
     es = Granted p i owner ∷ []
 
     stays : Leaves scene words'
-    stays = (stays_raised scene inv words' open_now new).leaves
+    stays = (raised_stays scene inv words' raised).leaves
 
-    raised : counter_of words' ≡ counter_of ws + 1
-    raised = let wide = g.wide in ap counter_of new ∙ counter_set ws (counter_of ws + 1) (omega arith)
+    more : counter_of ws < greatest → counter_of words' ≡ counter_of ws + 1
+    more less = raised_more scene inv words' raised less
 
     same_filled : (j : ℕ) → filled_of j (events ++ es) ≡ filled_of j events
     same_filled j = fold-append (filled_after j) None events es
@@ -88,9 +88,10 @@ module _ {T : Type 0} (scene : Scene T) (inv : Inv scene) where
                 filled = λ j o e. g.filled j o (sym (same_filled j) ∙ e);
                 lock = stays.lock ∙ (g.lock ∙ sym same_lock);
                 low = λ t. let low = stays.low (g.lock ∙ (sym same_lock ∙ t)) in omega arith;
+                bound = stays.bound;
                 died = λ o. g.died o ∙ sym (same_dead o);
-                does = Each-append (SetDoes c) events es g.does ((unlocked scene inv open_now, alive), tt);
-                answers = Each-append (AnswersBy by c) events es g.answers (tt, tt);
+                does = Each-append (SetDoes c) events es g.does ((unlocked scene inv (raised_open scene inv words' raised), alive), tt);
+                answers = Each-append (AnswersBy by (IsWorn by words') c) events es (answers_on (IsWorn by ws) (IsWorn by words') (worn_on by ws words' stays.stuck) by c events g.answers) (tt, tt);
                 owned = λ calm.
                     let h = g.owned (calm_less by events es calm) in
                     record {
@@ -102,7 +103,8 @@ module _ {T : Type 0} (scene : Scene T) (inv : Inv scene) where
           goes =
               record {
                 grows = stays.grows;
-                grants = λ same j none. let is = raised in absurd (omega arith);
+                stuck = stays.stuck;
+                grants = λ same less j none. let is = more less in absurd (omega arith);
                 fills = λ j o d e. sym (same_filled j) ∙ e;
                 dead = λ o d. same_dead o ∙ d;
                 lives = λ o l. sym (same_dead o) ∙ l;

@@ -15,7 +15,7 @@ use Rattle.model.proofs.Readings.{Each-append, span_of-death}
 use Rattle.robust_laws.specs.Gone.{GoneBy, AnswersBy}
 use Rattle.robust_laws.proofs.Effects.{proper_less}
 use Rattle.robust_laws.proofs.Gone.{calm_less}
-use Rattle.robust_laws.proofs.Invariant.{Good, Knowing, view}
+use Rattle.robust_laws.proofs.Invariant.{IsWorn, Good, Knowing, view}
 use Rattle.robust_laws.proofs.Knows.{Goes, Spares, knows_later}
 use Rattle.robust_laws.proofs.Rights.{right_after, right_of}
 
@@ -72,9 +72,10 @@ module _ {T : Type 0} (by : GoneBy) (c : ℕ) (words dead : List ℕ) (events : 
         filled = λ i owner e. g.filled i owner (sym (same_filled i) ∙ e);
         lock = g.lock ∙ sym same_lock;
         low = λ t. let low = g.low (sym same_lock ∙ t) in omega arith;
+        bound = g.bound;
         died = λ q. died_with q o dead ∙ (ap (λ b. (o == q) || b) (g.died q) ∙ sym (dead_then q));
         does = Each-append (SetDoes c) events es g.does (alive, tt);
-        answers = Each-append (AnswersBy by c) events es g.answers (tt, tt);
+        answers = Each-append (AnswersBy by (IsWorn by words) c) events es g.answers (tt, tt);
         owned = λ calm.
             let h = g.owned (calm_less by events es calm) in
             record {
@@ -88,7 +89,8 @@ module _ {T : Type 0} (by : GoneBy) (c : ℕ) (words dead : List ℕ) (events : 
   death_goes =
       record {
         grows = omega arith;
-        grants = λ same j none. same_holder j ∙ none;
+        stuck = λ end. end;
+        grants = λ same less j none. same_holder j ∙ none;
         fills = λ j owner d e. sym (same_filled j) ∙ e;
         dead = λ q d. dead_then q ∙ still_dead (o == q) (is_dead q events) d;
         lives = λ q l. was_alive (o == q) (is_dead q events) (sym (dead_then q) ∙ l);

@@ -1,9 +1,9 @@
 -- What each kind of step does to a robust index set and to the other parties.
-use Rattle.std.proofs.Common.{◌≡◌, ◌≢◌, ℕ, ◌+◌, ◌-◌, ◌^◌, ◌<◌, ◌≤◌, ◌==◌, ⊎_elim, if◌then◌else◌, Bool, true, false, Option, Some, None, List, [], ◌∷◌, ◌++◌, length, get_or, set, get_or-set_other, fold, refl, sym, ap, subst, ◌∙◌, append_assoc, arith, eq-eqb, ne_eqb}
+use Rattle.std.proofs.Common.{◌⊎◌, ◌≡◌, ◌≢◌, ℕ, ◌+◌, ◌<◌, ◌≤◌, ◌==◌, ⊎_elim, if◌then◌else◌, Bool, true, false, Option, Some, None, List, [], ◌∷◌, ◌++◌, length, get_or, set, get_or-set_other, fold, refl, sym, ap, subst, ◌∙◌, append_assoc, arith, eq-eqb, ne_eqb}
 use Rattle.std.proofs.lemmas.Bool.{cases_eq}
 use Rattle.std.proofs.lemmas.List.{length-set}
 use Rattle.std.proofs.lemmas.List.Sums.{fold-append}
-use Rattle.steps.specs.Indices.Robust.Parts.{cell_word, empty, locked}
+use Rattle.steps.specs.Indices.Robust.Parts.{cell_word, empty, locked, greatest}
 use Rattle.model.specs.declared.event.Answer.{Answer}
 use Rattle.model.specs.declared.event.Event.{Event}
 use Rattle.model.specs.declared.event.Event.TheVariants.{Filled, Asked, Told, Finished}
@@ -17,8 +17,8 @@ use Rattle.model.proofs.Moments.{others_begin_none}
 use Rattle.model.proofs.Readings.{AreRight, Each-append, AreOwn, span_of-other}
 use Rattle.robust_laws.specs.Gone.{IsCalm, AnswersBy}
 use Rattle.robust_laws.proofs.Core.{counter_of, cell, counter_set, cells_stay, counter_stays, cell_set, cell_stays}
-use Rattle.robust_laws.proofs.Gone.{calm_less}
-use Rattle.robust_laws.proofs.Invariant.{Scene, Inv, Good, Does}
+use Rattle.robust_laws.proofs.Gone.{calm_less, answers_on}
+use Rattle.robust_laws.proofs.Invariant.{IsWorn, worn_on, Scene, Inv, Good, Does}
 use Rattle.robust_laws.proofs.Rights.{Right, Settled, By, right_after, right_of, IsBy, AreOwned}
 
 -- ---- readings of one index
@@ -92,19 +92,27 @@ module _ {T : Type 0} (scene : Scene T) where
     pub lock : (counter_of words' == locked) ≡ (counter_of ws == locked)
     pub low : (counter_of ws == locked) ≡ false → counter_of words' ≤ turns
     pub grows : counter_of ws ≤ counter_of words'
+    pub bound : counter_of words' ≤ locked
+    pub stuck : counter_of ws ≡ greatest → counter_of words' ≡ greatest
 
   -- nor any word but the counter
   pub record Stays (words' : List ℕ) : Type 0 where
     pub leaves : Leaves words'
     pub others : (n : ℕ) → 1 ≤ n → get_or words' n 0 ≡ get_or ws n 0
 
+  -- the counter goes up by one, unless it is at its end
+  abbrev pub IsRaised : List ℕ → Type 0
+  IsRaised words' =
+      ((counter_of ws < greatest) × (words' ≡ set ws 0 (counter_of ws + 1)))
+      ⊎ (IsWorn by ws × (counter_of ws ≡ greatest) × (words' ≡ ws))
+
   module _ (inv : Inv scene) where
     g : Good by c ws dead events turns
     g = inv.good
 
-    -- an unlocked counter is before its end, also once it is raised
-    pub before_end : counter_of ws ≢ locked → counter_of ws + 1 < 2 ^ 64 - 2
-    before_end open_now = inv.ahead open_now
+    -- where the counter is before its end the set is not locked
+    pub not_shut : counter_of ws < greatest → counter_of ws ≢ locked
+    not_shut less shut = absurd (omega arith)
 
     pub unlocked : counter_of ws ≢ locked → is_locked events ≡ false
     unlocked open_now = sym g.lock ∙ ne_eqb (counter_of ws) locked open_now
@@ -122,26 +130,41 @@ module _ {T : Type 0} (scene : Scene T) where
                 lock = ap (λ w. counter_of w == locked) same;
                 low = λ t. let low = g.low (sym g.lock ∙ t) in let is : counter_of words' ≡ counter_of ws = ap counter_of same in omega arith;
                 grows = let is : counter_of words' ≡ counter_of ws = ap counter_of same in omega arith;
+                bound = let is : counter_of words' ≡ counter_of ws = ap counter_of same in let bound = g.bound in omega arith;
+                stuck = λ end. ap counter_of same ∙ end;
               };
           others = λ n some. ap (λ w. get_or w n 0) same;
         }
 
-    pub stays_raised : (words' : List ℕ) → counter_of ws ≢ locked → words' ≡ set ws 0 (counter_of ws + 1) → Stays words'
-    stays_raised words' open_now new =
+    pub stays_raised : (words' : List ℕ) → counter_of ws < greatest → words' ≡ set ws 0 (counter_of ws + 1) → Stays words'
+    stays_raised words' less new =
         let wide = g.wide in
         let is : counter_of words' ≡ counter_of ws + 1 = ap counter_of new ∙ counter_set ws (counter_of ws + 1) (omega arith) in
-        let end = before_end open_now in
         record {
           leaves =
               record {
                 wide = ap length new ∙ length-set ws 0 (counter_of ws + 1);
                 cells = λ i below. ap (λ w. cell w i) new ∙ cells_stay ws (counter_of ws + 1) i;
-                lock = ne_eqb (counter_of words') locked (λ e. absurd (omega arith)) ∙ sym (ne_eqb (counter_of ws) locked open_now);
+                lock = ne_eqb (counter_of words') locked (λ e. absurd (omega arith)) ∙ sym (ne_eqb (counter_of ws) locked (not_shut less));
                 low = λ t. let low = g.low (sym g.lock ∙ t) in let begun = inv.begun in omega arith;
                 grows = omega arith;
+                bound = omega arith;
+                stuck = λ end. absurd (omega arith);
               };
           others = λ n some. ap (λ w. get_or w n 0) new ∙ get_or-set_other ws 0 n (counter_of ws + 1) 0 (λ e. absurd (omega arith));
         }
+
+    module _ (words' : List ℕ) (raised : IsRaised words') where
+      pub raised_open : counter_of ws ≢ locked
+      raised_open = ⊎_elim (λ h. not_shut h.0) (λ h shut. let end = h.1 in absurd (omega arith)) raised
+
+      pub raised_stays : Stays words'
+      raised_stays = ⊎_elim (λ h. stays_raised words' h.0 h.1) (λ h. stays_same words' h.2) raised
+
+      pub raised_more : counter_of ws < greatest → counter_of words' ≡ counter_of ws + 1
+      raised_more less =
+          let wide = g.wide in
+          ⊎_elim (λ h. ap counter_of h.1 ∙ counter_set ws (counter_of ws + 1) (omega arith)) (λ h. let end = h.1 in absurd (omega arith)) raised
 
     -- a cell tells with whom its index is filled
     module _ (i : ℕ) (below : i < c) where
@@ -169,7 +192,7 @@ module _ {T : Type 0} (scene : Scene T) where
 
     -- ---- a step that is quiet
 
-    module _ (words' : List ℕ) (es : List (Event T)) (stays : Leaves words') (quiet : Quiet es) (own : AreOwn p es) (right : AreRight (SetDoes c) events es) (answers : AreRight (AnswersBy by c) events es) where
+    module _ (words' : List ℕ) (es : List (Event T)) (stays : Leaves words') (quiet : Quiet es) (own : AreOwn p es) (right : AreRight (SetDoes c) events es) (answers : AreRight (AnswersBy by (IsWorn by words') c) events es) where
       filled_more : (i : ℕ) → filled_of i (events ++ es) ≡ filled_of i events
       filled_more i = fold-append (filled_after i) None events es ∙ quiet.filled i (filled_of i events)
 
@@ -209,16 +232,18 @@ module _ {T : Type 0} (scene : Scene T) where
                   filled = λ i owner e. g.filled i owner (sym (filled_more i) ∙ e);
                   lock = stays.lock ∙ (g.lock ∙ sym locked_more);
                   low = λ t. let low = stays.low (g.lock ∙ (sym locked_more ∙ t)) in omega arith;
+                  bound = stays.bound;
                   died = λ owner. g.died owner ∙ sym (dead_more owner);
                   does = Each-append (SetDoes c) events es g.does right;
-                  answers = Each-append (AnswersBy by c) events es g.answers answers;
+                  answers = Each-append (AnswersBy by (IsWorn by words') c) events es (answers_on (IsWorn by ws) (IsWorn by words') (worn_on by ws words' stays.stuck) by c events g.answers) answers;
                   owned = still_owned;
                   holds = λ calm. Each-append HoldsRight events es (g.holds (calm_less by events es calm)) (quiet.holds events);
                 };
             goes =
                 record {
                   grows = stays.grows;
-                  grants = λ same i none. holder_more i ∙ none;
+                  stuck = stays.stuck;
+                  grants = λ same less i none. holder_more i ∙ none;
                   fills = λ i owner d e. sym (filled_more i) ∙ e;
                   dead = λ owner d. dead_more owner ∙ d;
                   lives = λ owner l. sym (dead_more owner) ∙ l;
@@ -300,6 +325,9 @@ module _ {T : Type 0} (scene : Scene T) where
             let was = h.settled j o (sym (fill_settled j) ∙ e) in
             ⊎_elim (λ same. some_none (filled_of i events) o none (subst (λ k. filled_of k events ≡ Some o) same was.0)) (λ ne. (filled_there j ne ∙ was.0, fill_right j ne ∙ was.1)) (cases_eq j i)
 
+      fill_counter : counter_of words' ≡ counter_of ws
+      fill_counter = ap counter_of new ∙ counter_stays ws i owner
+
       fill_dead_out : (j o : ℕ) → is_dead o events ≡ true → filled_of j (events ++ fill) ≡ Some o → filled_of j events ≡ Some o
       fill_dead_out j o d e = ⊎_elim here (λ ne. sym (filled_there j ne) ∙ e) (cases_eq j i)
         where
@@ -326,16 +354,18 @@ module _ {T : Type 0} (scene : Scene T) where
                   filled = fill_filled;
                   lock = ap (λ w. counter_of w == locked) new ∙ (ap (λ n. n == locked) (counter_stays ws i owner) ∙ (g.lock ∙ sym fill_locked));
                   low = λ t. let low = g.low (sym fill_locked ∙ t) in let is : counter_of words' ≡ counter_of ws = ap counter_of new ∙ counter_stays ws i owner in omega arith;
+                  bound = let is = fill_counter in let bound = g.bound in omega arith;
                   died = λ o. g.died o ∙ sym (fill_dead o);
                   does = Each-append (SetDoes c) events fill g.does ((below, none, alive, was_open), tt);
-                  answers = Each-append (AnswersBy by c) events fill g.answers (tt, tt);
+                  answers = Each-append (AnswersBy by (IsWorn by words') c) events fill (answers_on (IsWorn by ws) (IsWorn by words') (worn_on by ws words' (λ end. fill_counter ∙ end)) by c events g.answers) (tt, tt);
                   owned = λ calm. let h = g.owned (calm_less by events fill calm) in record { held = fill_held h; settled = fill_settles h };
                   holds = λ calm. Each-append HoldsRight events fill (g.holds (calm_less by events fill calm)) (tt, tt);
                 };
             goes =
                 record {
                   grows = let is : counter_of words' ≡ counter_of ws = ap counter_of new ∙ counter_stays ws i owner in omega arith;
-                  grants = λ same j unheld. fill_holder j ∙ unheld;
+                  stuck = λ end. fill_counter ∙ end;
+                  grants = λ same less j unheld. fill_holder j ∙ unheld;
                   fills = fill_dead_out;
                   dead = λ o d. fill_dead o ∙ d;
                   lives = λ o l. sym (fill_dead o) ∙ l;

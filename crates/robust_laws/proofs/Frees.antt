@@ -14,8 +14,8 @@ use Rattle.model.proofs.Readings.{Each-append, span_of-other}
 use Rattle.robust_laws.specs.Gone.{is_gone, IsCalm, AnswersBy}
 use Rattle.robust_laws.proofs.Core.{counter_of, cell, counter_stays, cell_set, cell_stays}
 use Rattle.robust_laws.proofs.Effects.{at_same, at_other, some_none, proper_less}
-use Rattle.robust_laws.proofs.Gone.{calm_less}
-use Rattle.robust_laws.proofs.Invariant.{Scene, Inv, Good, Does}
+use Rattle.robust_laws.proofs.Gone.{calm_less, answers_on}
+use Rattle.robust_laws.proofs.Invariant.{IsWorn, worn_on, Scene, Inv, Good, Does}
 use Rattle.robust_laws.proofs.Rights.{Nobody, Settled, right_after, right_of, IsBy, AreOwned}
 
 module _ {T : Type 0} (scene : Scene T) (inv : Inv scene) where
@@ -126,16 +126,18 @@ module _ {T : Type 0} (scene : Scene T) (inv : Inv scene) where
                 filled = λ j o e. g.filled j o (filled_was j o e);
                 lock = ap (λ n. n == locked) counter_same ∙ (g.lock ∙ sym same_lock);
                 low = λ t. let low = g.low (sym same_lock ∙ t) in let is = counter_same in omega arith;
+                bound = let is = counter_same in let bound = g.bound in omega arith;
                 died = λ o. g.died o ∙ sym (same_dead o);
                 does = Each-append (SetDoes c) events es g.does ((filled, lives), tt);
-                answers = Each-append (AnswersBy by c) events es g.answers (tt, tt);
+                answers = Each-append (AnswersBy by (IsWorn by words') c) events es (answers_on (IsWorn by ws) (IsWorn by words') (worn_on by ws words' (λ end. counter_same ∙ end)) by c events g.answers) (tt, tt);
                 owned = λ calm. let h = g.owned (calm_less by events es calm) in record { held = still_held h; settled = still_settled h };
                 holds = λ calm. Each-append HoldsRight events es (g.holds (calm_less by events es calm)) (tt, tt);
               };
           goes =
               record {
                 grows = let is = counter_same in omega arith;
-                grants = λ same j none. unheld_then j none;
+                stuck = λ end. counter_same ∙ end;
+                grants = λ same less j none. unheld_then j none;
                 fills = λ j o d e. filled_was j o e;
                 dead = λ o d. same_dead o ∙ d;
                 lives = λ o l. sym (same_dead o) ∙ l;

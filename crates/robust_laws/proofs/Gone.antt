@@ -1,15 +1,17 @@
 -- Who is gone stays so; a run was honest and proper a turn ago; and in an honest run nothing is filled again with an owner
 -- who is gone.
-use Rattle.std.proofs.Common.{◌≡◌, ◌≢◌, ℕ, ◌==◌, ◌||◌, if◌then◌else◌, Bool, true, false, Option, Some, None, List, [], ◌∷◌, ◌++◌, fold, refl, sym, ap, subst, ◌∙◌, append_assoc, append-nil, eq-eqb, arith}
+use Rattle.std.proofs.Common.{⊎_elim, inl, inr, ◌≡◌, ◌≢◌, ℕ, ◌==◌, ◌||◌, if◌then◌else◌, Bool, true, false, Option, Some, None, List, [], ◌∷◌, ◌++◌, fold, refl, sym, ap, subst, ◌∙◌, append_assoc, append-nil, eq-eqb, arith}
 use Rattle.std.proofs.lemmas.Bool.Decides.{nat_tests}
 use Rattle.std.proofs.lemmas.List.Sums.{fold-append}
+use Rattle.steps.specs.declared.indices.enums.ReleaseMode.TheVariants.{LockIfLastIndex}
 use Rattle.steps.specs.declared.indices.enums.ReleaseState.TheVariants.{Unlocked}
-use Rattle.model.specs.declared.event.Answer.TheVariants.{State}
+use Rattle.steps.specs.declared.indices.enums.UniqueIndexSetAcquireFailure.TheVariants.{OutOfIndices}
+use Rattle.model.specs.declared.event.Answer.TheVariants.{NoIndex, State}
 use Rattle.model.specs.declared.event.Event.{Event}
 use Rattle.model.specs.declared.event.Event.TheVariants.{Filled, Granted, FreedOf, Told, Died, Finished}
 use Rattle.model.specs.declared.event.Start.TheVariants.{Robust, Container}
 use Rattle.model.specs.declared.families.container.ContainerStart.TheVariants.{Remove}
-use Rattle.model.specs.declared.families.indices.robust.RobustStart.TheVariants.{Release, Recover}
+use Rattle.model.specs.declared.families.indices.robust.RobustStart.TheVariants.{Acquire, Release, Recover}
 use Rattle.model.specs.Families.Indices.Robust.Promises.{LivesToRelease, SetDoes, AsksRight, FreesRight, AnswersRight}
 use Rattle.model.specs.Families.Indices.Robust.Reading.{filled_after, filled_of, dead_after, is_dead}
 use Rattle.model.specs.Reading.{Each, Span, Open, span_of}
@@ -158,10 +160,23 @@ module _ {T : Type 0} where
   pub asks_right : (events : List (Event T)) → Each (AsksBy Death) events → Each AsksRight events
   asks_right events asks before after e is = ask_right before e (asks before after e is)
 
-  answer_right : (by : GoneBy) (c : ℕ) (before : List (Event T)) (e : Event T) → IsHonestBy by before → AnswersBy by c before e → AnswersRight c before e
-  answer_right by c before (Finished p (Robust (Recover mode)) (State Unlocked)) honest h = (h.0, record { gone = h.1.gone honest; asked = h.1.asked })
-  answer_right by c before e honest h = h
+  module _ (worn worn' : Type 0) (on : worn → worn') where
+    still_right : (by : GoneBy) (c : ℕ) (before : List (Event T)) (e : Event T) → AnswersBy by worn c before e → AnswersBy by worn' c before e
+    still_right by c before (Finished p (Robust (Acquire owner)) (NoIndex OutOfIndices)) h = (h.0, ⊎_elim (λ w. inl (on w)) (λ k. inr k) h.1)
+    still_right by c before (Finished p (Robust (Release index owner LockIfLastIndex)) (State Unlocked)) h = (h.0, ⊎_elim (λ w. inl (on w)) (λ k. inr k) h.1)
+    still_right by c before e h = h
 
-  pub answers_right : (by : GoneBy) (c : ℕ) (events : List (Event T)) → IsHonestBy by events → Each (AnswersBy by c) events → Each (AnswersRight c) events
-  answers_right by c events honest answers before after e is =
-      answer_right by c before e (honest_less by before (e ∷ after) (subst (IsHonestBy by) is honest)) (answers before after e is)
+    -- a counter that was at its end still is
+    pub answers_on : (by : GoneBy) (c : ℕ) (events : List (Event T)) → Each (AnswersBy by worn c) events → Each (AnswersBy by worn' c) events
+    answers_on by c events answers before after e is = still_right by c before e (answers before after e is)
+
+  module _ (worn : Type 0) (not_worn : worn → ⊥) where
+    answer_right : (by : GoneBy) (c : ℕ) (before : List (Event T)) (e : Event T) → IsHonestBy by before → AnswersBy by worn c before e → AnswersRight c before e
+    answer_right by c before (Finished p (Robust (Acquire owner)) (NoIndex OutOfIndices)) honest h = (h.0, ⊎_elim (λ w. absurd (not_worn w)) (λ k. k) h.1)
+    answer_right by c before (Finished p (Robust (Release index owner LockIfLastIndex)) (State Unlocked)) honest h = (h.0, ⊎_elim (λ w. absurd (not_worn w)) (λ k. k) h.1)
+    answer_right by c before (Finished p (Robust (Recover mode)) (State Unlocked)) honest h = (h.0, record { gone = h.1.gone honest; asked = h.1.asked })
+    answer_right by c before e honest h = h
+
+    pub answers_right : (by : GoneBy) (c : ℕ) (events : List (Event T)) → IsHonestBy by events → Each (AnswersBy by worn c) events → Each (AnswersRight c) events
+    answers_right by c events honest answers before after e is =
+        answer_right by c before e (honest_less by before (e ∷ after) (subst (IsHonestBy by) is honest)) (answers before after e is)

@@ -1,8 +1,8 @@
 -- What the last step of an acquire does by which an index is granted: it raises the counter.
-use Rattle.std.proofs.Common.{◌≡◌, ◌≢◌, ℕ, ◌+◌, ⊎_elim, false, Some, None, List, [], ◌∷◌, ◌++◌, set, refl, sym, ap, subst, ◌∙◌, append_assoc, arith}
+use Rattle.std.proofs.Common.{◌<◌, ◌≡◌, ◌≢◌, ℕ, ◌+◌, ⊎_elim, false, Some, None, List, [], ◌∷◌, ◌++◌, refl, sym, ap, subst, ◌∙◌, append_assoc, arith}
 use Rattle.std.proofs.lemmas.Bool.{cases_eq}
 use Rattle.std.proofs.lemmas.List.Sums.{fold-append}
-use Rattle.steps.specs.Indices.Robust.Parts.{locked}
+use Rattle.steps.specs.Indices.Robust.Parts.{greatest}
 use Rattle.model.specs.declared.event.Answer.TheVariants.{Index}
 use Rattle.model.specs.declared.event.Event.{Event}
 use Rattle.model.specs.declared.event.Event.TheVariants.{Granted, Finished}
@@ -13,10 +13,10 @@ use Rattle.model.specs.Families.Indices.Robust.Promises.{cell_of, SetDoes, Holds
 use Rattle.model.specs.Families.Indices.Robust.Reading.{deeds, filled_after, filled_of, holder_after, holder_of, settled_after, settled_of, dead_after, is_dead, wrote_in}
 use Rattle.model.proofs.Readings.{Each-append, span_of-other}
 use Rattle.robust_laws.specs.Gone.{IsCalm, AnswersBy}
-use Rattle.robust_laws.proofs.Core.{counter_of, counter_set}
-use Rattle.robust_laws.proofs.Effects.{Leaves, at_same, at_other, one_owner, one_party, proper_less, stays_raised, unlocked}
-use Rattle.robust_laws.proofs.Gone.{calm_less}
-use Rattle.robust_laws.proofs.Invariant.{Scene, Inv, Good, Does}
+use Rattle.robust_laws.proofs.Core.{counter_of}
+use Rattle.robust_laws.proofs.Effects.{Leaves, at_same, at_other, one_owner, one_party, proper_less, IsRaised, raised_open, raised_stays, raised_more, unlocked}
+use Rattle.robust_laws.proofs.Gone.{calm_less, answers_on}
+use Rattle.robust_laws.proofs.Invariant.{IsWorn, worn_on, Scene, Inv, Good, Does}
 use Rattle.robust_laws.proofs.Rights.{Settled, By, right_after, right_of, IsBy, AreOwned}
 
 module _ {T : Type 0} (scene : Scene T) (inv : Inv scene) where
@@ -31,7 +31,7 @@ module _ {T : Type 0} (scene : Scene T) (inv : Inv scene) where
   abbrev pub grant : ℕ → ℕ → List (Event T)
   grant i owner = Granted p i owner ∷ Finished p (Robust (Acquire owner)) (Index i) ∷ []
 
-  module _ (words' : List ℕ) (i owner : ℕ) (mine : IsCalm by (events ++ Granted p i owner ∷ []) → IsBy p i owner events × (holder_of i events ≡ None)) (alive : is_dead owner events ≡ false) (open_now : counter_of ws ≢ locked) (new : words' ≡ set ws 0 (counter_of ws + 1)) where
+  module _ (words' : List ℕ) (i owner : ℕ) (mine : IsCalm by (events ++ Granted p i owner ∷ []) → IsBy p i owner events × (holder_of i events ≡ None)) (alive : is_dead owner events ≡ false) (raised : IsRaised scene words') where
     abbrev es : List (Event T)
     es = Granted p i owner ∷ Finished p (Robust (Acquire owner)) (Index i) ∷ []
 
@@ -48,10 +48,10 @@ module _ {T : Type 0} (scene : Scene T) (inv : Inv scene) where
     were_owned calm = g.owned (calm_less by events granting calm)
 
     stays : Leaves scene words'
-    stays = (stays_raised scene inv words' open_now new).leaves
+    stays = (raised_stays scene inv words' raised).leaves
 
-    raised : counter_of words' ≡ counter_of ws + 1
-    raised = let wide = g.wide in ap counter_of new ∙ counter_set ws (counter_of ws + 1) (omega arith)
+    more : counter_of ws < greatest → counter_of words' ≡ counter_of ws + 1
+    more less = raised_more scene inv words' raised less
 
     same_filled : (j : ℕ) → filled_of j (events ++ es) ≡ filled_of j events
     same_filled j = fold-append (filled_after j) None events es
@@ -135,16 +135,18 @@ module _ {T : Type 0} (scene : Scene T) (inv : Inv scene) where
                 filled = λ j o e. g.filled j o (sym (same_filled j) ∙ e);
                 lock = stays.lock ∙ (g.lock ∙ sym same_lock);
                 low = λ t. let low = stays.low (g.lock ∙ (sym same_lock ∙ t)) in omega arith;
+                bound = stays.bound;
                 died = λ o. g.died o ∙ sym (same_dead o);
-                does = Each-append (SetDoes c) events es g.does ((unlocked scene inv open_now, alive), (tt, tt));
-                answers = Each-append (AnswersBy by c) events es g.answers (tt, (tt, tt));
+                does = Each-append (SetDoes c) events es g.does ((unlocked scene inv (raised_open scene inv words' raised), alive), (tt, tt));
+                answers = Each-append (AnswersBy by (IsWorn by words') c) events es (answers_on (IsWorn by ws) (IsWorn by words') (worn_on by ws words' stays.stuck) by c events g.answers) (tt, (tt, tt));
                 owned = λ calm. let h = were_owned (by_then calm) in record { held = still_held (by_then calm) h; settled = still_settled (by_then calm) h };
                 holds = λ calm. Each-append HoldsRight events es (g.holds (calm_less by events es calm)) ((mine (by_then calm)).1, (tt, tt));
               };
           goes =
               record {
                 grows = stays.grows;
-                grants = λ same j none. let is = raised in absurd (omega arith);
+                stuck = stays.stuck;
+                grants = λ same less j none. let is = more less in absurd (omega arith);
                 fills = λ j o d e. sym (same_filled j) ∙ e;
                 dead = λ o d. same_dead o ∙ d;
                 lives = λ o l. sym (same_dead o) ∙ l;

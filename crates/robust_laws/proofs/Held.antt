@@ -31,9 +31,9 @@ use Rattle.model.specs.Turns.{old_of, words_after, step_count}
 use Rattle.model.proofs.Moments.{held_now}
 use Rattle.robust_laws.specs.Gone.{IsCalm}
 use Rattle.robust_laws.proofs.Core.{counter_of, cell}
-use Rattle.robust_laws.proofs.Effects.{at_same, before_end, unlocked, is_shut, filled_none, filled_some, fills}
+use Rattle.robust_laws.proofs.Effects.{at_same, IsRaised, unlocked, is_shut, filled_none, filled_some, fills}
 use Rattle.robust_laws.proofs.Gone.{calm_less, lives_granted}
-use Rattle.robust_laws.proofs.Invariant.{Scene, Inv, Good, Does}
+use Rattle.robust_laws.proofs.Invariant.{IsWorn, worn_at, Scene, Inv, Good, Does}
 use Rattle.robust_laws.proofs.Knows.{Knows, IsPaid, AllOnce}
 use Rattle.robust_laws.proofs.Standing.{acquire_at, acquire_number, raise_number, AcquireAt}
 use Rattle.robust_laws.proofs.Parts.{raise_ask, raise_step, none_holds, finds_counter}
@@ -66,15 +66,15 @@ module _ {T : Type 0} (scene : Scene T) (inv : Inv scene) (owner : ℕ) (fits : 
   -- why no index was granted
   abbrev pub WhyNot : failures.UniqueIndexSetAcquireFailure → Type 0
   WhyNot failures.TheVariants.IsLocked = (is_locked events ≡ true) × ((all scene ≡ []) ⊎ FilledLate owner (all scene))
-  WhyNot failures.TheVariants.OutOfIndices = (is_locked events ≡ false) × AllOnce c (now scene) × (all scene ≡ [])
+  WhyNot failures.TheVariants.OutOfIndices = (is_locked events ≡ false) × (IsWorn by ws ⊎ AllOnce c (now scene)) × (all scene ≡ [])
 
   pub record Caller (Lead : Option Ask → Bool → List (Event T) → After calls.Acquire Acquired → Type 0) : Type 0 where
     pub quiet : (next : AcquireStage) (ask : Option Ask) (back : Bool) → words_after ws ask ≡ ws → AcquireAt c owner (all scene) next → Knows c (acquire_at c owner next) (sees scene ask back) → Few next ask back → Lead ask back [] (GoOn (call_at next))
     pub filled : (i : ℕ) (ask : Option Ask) → words_after ws ask ≡ set ws (cell_word i) owner → Does scene (words_after ws ask) (Filled p i owner ∷ []) → i < c → all scene ≡ [] → Knows c (acquire_at c owner (acquires.TheVariants.Raises i raises.TheVariants.LoadsCounter)) (then_sees scene ask false (Filled p i owner ∷ []))
         → Few (acquires.TheVariants.Raises i raises.TheVariants.LoadsCounter) ask false → Lead ask false (Filled p i owner ∷ []) (GoOn (call_at (acquires.TheVariants.Raises i raises.TheVariants.LoadsCounter)))
     pub fails : (failure : failures.UniqueIndexSetAcquireFailure) (ask : Option Ask) (back : Bool) → words_after ws ask ≡ ws → WhyNot failure → IsPaid (sees scene ask back) → FewEnd ask back → Lead ask back [] (Done (Err failure))
-    pub grants : (i : ℕ) (ask : Option Ask) → i < c → all scene ≡ Fills i owner ∷ [] → (IsCalm by (events ++ Granted p i owner ∷ []) → IsBy p i owner events × (holder_of i events ≡ None)) → counter_of ws ≢ locked → words_after ws ask ≡ set ws 0 (counter_of ws + 1)
-        → IsPaid (sees scene ask false) → FewEnd ask false → Lead ask false (Granted p i owner ∷ []) (Done (Ok i))
+    pub grants : (i : ℕ) (ask : Option Ask) (back : Bool) → i < c → all scene ≡ Fills i owner ∷ [] → (IsCalm by (events ++ Granted p i owner ∷ []) → IsBy p i owner events × (holder_of i events ≡ None)) → IsRaised scene (words_after ws ask)
+        → IsPaid (sees scene ask back) → FewEnd ask back → Lead ask back (Granted p i owner ∷ []) (Done (Ok i))
 
   module _ (Lead : Option Ask → Bool → List (Event T) → After calls.Acquire Acquired → Type 0) (caller : Caller Lead) where
     -- ---- a counter was found, by a load or by an exchange that failed
@@ -83,20 +83,20 @@ module _ {T : Type 0} (scene : Scene T) (inv : Inv scene) (owner : ℕ) (fits : 
       finds_locked : counter_of ws ≡ locked → Lead ask back [] (Done (Err failures.TheVariants.IsLocked))
       finds_locked shut = caller.fails failures.TheVariants.IsLocked ask back same (is_shut scene inv shut, inl none) paid (omega arith)
 
-      begins_cells : counter_of ws ≢ locked → Lead ask back [] (GoOn (at_acquire (call_at stage) (acquires.TheVariants.FillsCell (counter_of ws) 0)))
-      begins_cells open_now =
+      begins_cells : counter_of ws ≢ locked → counter_of ws ≢ greatest → Lead ask back [] (GoOn (at_acquire (call_at stage) (acquires.TheVariants.FillsCell (counter_of ws) 0)))
+      begins_cells open_now other =
           let some = g.some in
           caller.quiet (acquires.TheVariants.FillsCell (counter_of ws) 0) ask back same (omega arith, none)
-          (record { paid = finds_counter scene inv ask back same open_now paid; scanned = tt; owns = tt; says = (held_now p IsUnlocked events (unlocked scene inv open_now), λ i below. absurd (omega arith)); gone = tt })
+          (record { paid = finds_counter scene inv ask back same open_now other paid; scanned = tt; owns = tt; says = (held_now p IsUnlocked events (unlocked scene inv open_now), λ i below. absurd (omega arith)); gone = tt })
           (omega arith)
 
       finds : Lead ask back [] (acquire_sees (call_at stage) (counter_of ws))
       finds =
           by_eq (Lead ask back []) (counter_of ws) locked (Done (Err failures.TheVariants.IsLocked)) _ finds_locked
           (λ open_now. by_eq (Lead ask back []) (counter_of ws) greatest (Done (Err failures.TheVariants.OutOfIndices)) _
-          (λ end. let before = before_end scene inv open_now in absurd (omega arith))
+          (λ end. caller.fails failures.TheVariants.OutOfIndices ask back same (unlocked scene inv open_now, inl (worn_at by ws inv.room end), none) paid (omega arith))
           (λ less. by_test (λ s. Lead ask back [] (GoOn (at_acquire (call_at stage) s))) (nat_lt 0 c) (acquires.TheVariants.FillsCell (counter_of ws) 0) (acquires.TheVariants.ChecksCounter (counter_of ws))
-          (λ t. begins_cells open_now)
+          (λ t. begins_cells open_now less)
           (λ t. let some = g.some in let nothing : c ≤ 0 = grind (arith, nat_tests) in absurd (omega arith))))
 
     -- ---- the exchange of a cell
@@ -178,7 +178,7 @@ module _ {T : Type 0} (scene : Scene T) (inv : Inv scene) (owner : ℕ) (fits : 
             let paid_now = paid_of scene (counter_of ws ≡ number) k.paid.paid in
             let same : words_after ws (Some (exchanges 0 number number)) ≡ ws = exchange_sets ws 0 number number is ∙ (ap (set ws 0) (sym is) ∙ set-get_or ws 0 0) in
             caller.fails failures.TheVariants.OutOfIndices (Some (exchanges 0 number number)) false same
-            (unlocked scene inv (λ shut. let end = k.paid.before_end in absurd (omega arith)), k.says, none) (omega arith) (omega arith)
+            (unlocked scene inv (λ shut. let end = k.paid.before_end in absurd (omega arith)), inr k.says, none) (omega arith) (omega arith)
         go false t =
             let other : counter_of ws ≢ number = grind (arith, nat_tests) in
             finds (acquires.TheVariants.ChecksCounter number) (Some (exchanges 0 number number)) true (fails_same ws 0 number number other) none (omega arith) (paid_back scene number (Some (exchanges 0 number number)) events other k.paid)
@@ -202,10 +202,15 @@ module _ {T : Type 0} (scene : Scene T) (inv : Inv scene) (owner : ℕ) (fits : 
           (λ ask back same shut paid few.
           let low = few (extra + 1 + c) (c + 1) (omega arith) (omega arith) in
           caller.fails failures.TheVariants.IsLocked ask back same (is_shut scene inv shut, inr (record { index = i; is = done })) paid (omega arith))
-          (λ ask open_now new paid few.
+          (λ ask back same worn end paid few.
           let low = few (extra + 1 + c) (c + 1) (omega arith) (omega arith) in
-          caller.grants i ask below done
-          (λ calm. k.owns (calm_less by events (Granted p i owner ∷ []) calm) (lives_granted by p i owner events alive calm.1)) open_now new paid (omega arith))
+          caller.grants i ask back below done owns_it (inr (worn, end, same)) paid (omega arith))
+          (λ ask less new paid few.
+          let low = few (extra + 1 + c) (c + 1) (omega arith) (omega arith) in
+          caller.grants i ask false below done owns_it (inl (less, new)) paid (omega arith))
+        where
+          owns_it : IsCalm by (events ++ Granted p i owner ∷ []) → IsBy p i owner events × (holder_of i events ≡ None)
+          owns_it calm = k.owns (calm_less by events (Granted p i owner ∷ []) calm) (lives_granted by p i owner events alive calm.1)
 
     -- ---- any step
 

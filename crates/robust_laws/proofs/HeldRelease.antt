@@ -1,5 +1,5 @@
 -- The steps of a release, in any call that holds it. What a step leads to is what the caller makes of it.
-use Rattle.std.proofs.Common.{◌≡◌, ◌≢◌, ℕ, ◌+◌, ◌*◌, ◌<◌, ◌≤◌, ◌==◌, if◌then◌else◌, Bool, true, false, Option, Some, None, is_some, List, [], ◌∷◌, ◌++◌, set, refl, ap, subst, ◌∙◌, arith, sym}
+use Rattle.std.proofs.Common.{inr, inl, ◌⊎◌, ◌≡◌, ◌≢◌, ℕ, ◌+◌, ◌*◌, ◌<◌, ◌≤◌, ◌==◌, if◌then◌else◌, Bool, true, false, Option, Some, None, is_some, List, [], ◌∷◌, ◌++◌, set, refl, ap, subst, ◌∙◌, arith, sym}
 use Rattle.std.specs.Prelude.{Ok, Err}
 use Rattle.std.proofs.lemmas.Bool.Decides.{nat_tests}
 use Rattle.steps.specs.declared.ask.Ask.{Ask}
@@ -18,7 +18,7 @@ use Rattle.steps.specs.declared.indices.robust.parts.Raise as raises
 use Rattle.steps.specs.declared.indices.robust.release.Release as calls
 use Rattle.steps.specs.declared.indices.robust.release.ReleaseStage.{ReleaseStage}
 use Rattle.steps.specs.declared.indices.robust.release.ReleaseStage as releases
-use Rattle.steps.specs.Indices.Robust.Parts.{cell_word, empty, locked, first_lock, raise_after, raise_goes_back, lock_after, lock_goes_back}
+use Rattle.steps.specs.Indices.Robust.Parts.{cell_word, empty, locked, greatest, first_lock, raise_after, raise_goes_back, lock_after, lock_goes_back}
 use Rattle.steps.specs.Indices.Robust.Release.{Released, at_release, release_raised, release_locked, release_asks, release_takes, release_goes_back}
 use Rattle.model.specs.declared.event.Event.{Event}
 use Rattle.model.specs.declared.event.Event.TheVariants.{FreedOf, Locked}
@@ -38,7 +38,7 @@ use Rattle.robust_laws.proofs.Core.{counter_of, cell}
 use Rattle.robust_laws.proofs.Effects.{Stays, one_party, unlocked, is_shut, stays_same, stays_raised, filled_by}
 use Rattle.robust_laws.proofs.Frees.{frees}
 use Rattle.robust_laws.proofs.Gone.{calm_less}
-use Rattle.robust_laws.proofs.Invariant.{Scene, Inv, Good, Does}
+use Rattle.robust_laws.proofs.Invariant.{IsWorn, Scene, Inv, Good, Does}
 use Rattle.robust_laws.proofs.Knows.{Knows, IsPaid, FoundOne}
 use Rattle.robust_laws.proofs.Standing.{at_least_one, release_at, release_number, raise_number, lock_number, for_back, ReleaseAt, LockAt}
 use Rattle.robust_laws.proofs.Parts.{raise_ask, lock_ask, raise_step, lock_step, IsSaid}
@@ -70,20 +70,20 @@ module _ {T : Type 0} (scene : Scene T) (inv : Inv scene) (index owner : ℕ) (m
   abbrev pub FewEnd : Option Ask → Bool → Type 0
   FewEnd ask back = steps + step_count ask ≤ extra + most_steps c (Release index owner mode) (backs_then scene back)
 
-  -- what the state says with which it ends
-  abbrev pub Ends : ReleaseMode → ReleaseState → Type 0
-  Ends Default states.TheVariants.Locked = ⊥
-  Ends Default states.TheVariants.Unlocked = Unit {0}
-  Ends LockIfLastIndex states.TheVariants.Locked = is_locked events ≡ true
-  Ends LockIfLastIndex states.TheVariants.Unlocked = (is_locked events ≡ false) × FilledSinceFreed p owner index events
+  -- what the state says with which it ends, that leaves these words
+  abbrev pub Ends : List ℕ → ReleaseMode → ReleaseState → Type 0
+  Ends words' Default states.TheVariants.Locked = ⊥
+  Ends words' Default states.TheVariants.Unlocked = Unit {0}
+  Ends words' LockIfLastIndex states.TheVariants.Locked = is_locked events ≡ true
+  Ends words' LockIfLastIndex states.TheVariants.Unlocked = (is_locked events ≡ false) × (IsWorn by words' ⊎ FilledSinceFreed p owner index events)
 
   pub record Caller (Lead : Option Ask → Bool → List (Event T) → After calls.Release Released → Type 0) : Type 0 where
     pub quiet : (next : ReleaseStage) (ask : Option Ask) (back : Bool) → Stays scene (words_after ws ask) → ReleaseAt c index owner mode (all scene) next → Knows c (release_at c index owner mode next) (sees scene ask back) → Few next ask back → Lead ask back [] (GoOn (call_at next))
     pub freed : (ask : Option Ask) → words_after ws ask ≡ set ws (cell_word index) empty → Does scene (words_after ws ask) (FreedOf p index owner ∷ []) → all scene ≡ [] → Knows c (release_at c index owner mode (releases.TheVariants.Raises raises.TheVariants.LoadsCounter)) (then_sees scene ask false (FreedOf p index owner ∷ []))
         → Few (releases.TheVariants.Raises raises.TheVariants.LoadsCounter) ask false → Lead ask false (FreedOf p index owner ∷ []) (GoOn (call_at (releases.TheVariants.Raises raises.TheVariants.LoadsCounter)))
     pub refused : (ask : Option Ask) → words_after ws ask ≡ ws → filled_of index events ≢ Some owner → all scene ≡ [] → IsPaid (sees scene ask false) → FewEnd ask false → Lead ask false [] (Done (Err IndexIsNotOwnedByProvidedOwner))
-    pub ended : (state : ReleaseState) (ask : Option Ask) (back : Bool) → Stays scene (words_after ws ask) → Ends mode state → all scene ≡ Frees index owner ∷ [] → IsPaid (sees scene ask back) → FewEnd ask back → Lead ask back [] (Done (Ok state))
-    pub locks : (ask : Option Ask) → mode ≡ LockIfLastIndex → (IsCalm by events → (i : ℕ) → holder_of i events ≡ None) → counter_of ws ≢ locked → words_after ws ask ≡ set ws 0 locked → all scene ≡ Frees index owner ∷ [] → IsPaid (sees scene ask false) → FewEnd ask false → Lead ask false (Locked p ∷ []) (Done (Ok states.TheVariants.Locked))
+    pub ended : (state : ReleaseState) (ask : Option Ask) (back : Bool) → Stays scene (words_after ws ask) → Ends (words_after ws ask) mode state → all scene ≡ Frees index owner ∷ [] → IsPaid (sees scene ask back) → FewEnd ask back → Lead ask back [] (Done (Ok state))
+    pub locks : (ask : Option Ask) → mode ≡ LockIfLastIndex → (IsCalm by events → (i : ℕ) → holder_of i events ≡ None) → counter_of ws < greatest → words_after ws ask ≡ set ws 0 locked → all scene ≡ Frees index owner ∷ [] → IsPaid (sees scene ask false) → FewEnd ask false → Lead ask false (Locked p ∷ []) (Done (Ok states.TheVariants.Locked))
 
   module _ (Lead : Option Ask → Bool → List (Event T) → After calls.Release Released → Type 0) (caller : Caller Lead) where
     -- ---- the exchange of the cell
@@ -134,7 +134,7 @@ module _ {T : Type 0} (scene : Scene T) (inv : Inv scene) (index owner : ℕ) (m
 
       closes : (m : ReleaseMode) → mode ≡ m → (state : ReleaseState) (ask : Option Ask) (back : Bool) → Stays scene (words_after ws ask) → IsPaid (sees scene ask back) → steps + step_count ask ≤ extra + (3 + backs_then scene back * for_back c m)
           → Lead ask back [] (release_raised (call_at (releases.TheVariants.Raises raise)) m (Done state))
-      closes Default is state ask back stays paid low = caller.ended states.TheVariants.Unlocked ask back stays (subst (λ m. Ends m states.TheVariants.Unlocked) (sym is) tt) done paid (subst (λ m. steps + step_count ask ≤ extra + most_steps c (Release index owner m) (backs_then scene back)) (sym is) (omega arith))
+      closes Default is state ask back stays paid low = caller.ended states.TheVariants.Unlocked ask back stays (subst (λ m. Ends (words_after ws ask) m states.TheVariants.Unlocked) (sym is) tt) done paid (subst (λ m. steps + step_count ask ≤ extra + most_steps c (Release index owner m) (backs_then scene back)) (sym is) (omega arith))
       closes LockIfLastIndex is state ask back stays paid low =
           caller.quiet (releases.TheVariants.Locks first_lock) ask back stays (is, tt, done) (record { paid = paid; scanned = tt; owns = tt; says = tt; gone = tt })
           (subst (λ m. steps + step_count ask ≤ extra + release_number c m (releases.TheVariants.Locks first_lock) (backs_then scene back)) (sym is) (omega arith))
@@ -149,9 +149,12 @@ module _ {T : Type 0} (scene : Scene T) (inv : Inv scene) (index owner : ℕ) (m
           (λ ask back same shut paid few.
           let low = few (extra + 1) (for_back c mode) (at_least_one c mode) (omega arith) in
           closes mode refl states.TheVariants.Locked ask back (stays_same scene inv (words_after ws ask) same) paid (omega arith))
-          (λ ask open_now new paid few.
+          (λ ask back same worn end paid few.
           let low = few (extra + 1) (for_back c mode) (at_least_one c mode) (omega arith) in
-          closes mode refl states.TheVariants.Unlocked ask false (stays_raised scene inv (words_after ws ask) open_now new) paid (omega arith))
+          closes mode refl states.TheVariants.Unlocked ask back (stays_same scene inv (words_after ws ask) same) paid (omega arith))
+          (λ ask less new paid few.
+          let low = few (extra + 1) (for_back c mode) (at_least_one c mode) (omega arith) in
+          closes mode refl states.TheVariants.Unlocked ask false (stays_raised scene inv (words_after ws ask) less new) paid (omega arith))
 
     -- ---- the lock
 
@@ -185,13 +188,16 @@ module _ {T : Type 0} (scene : Scene T) (inv : Inv scene) (index owner : ℕ) (m
           (subst (λ m. steps + step_count ask ≤ extra + release_number c m (releases.TheVariants.Locks next) (backs_then scene back)) (sym is) (omega arith)))
           (λ ask same shut paid few.
           let low = few (extra + 3) (c + 3) (omega arith) (omega arith) in
-          caller.ended states.TheVariants.Locked ask false (stays_same scene inv (words_after ws ask) same) (subst (λ m. Ends m states.TheVariants.Locked) (sym is) (is_shut scene inv shut)) done paid (few_end ask false (omega arith)))
+          caller.ended states.TheVariants.Locked ask false (stays_same scene inv (words_after ws ask) same) (subst (λ m. Ends (words_after ws ask) m states.TheVariants.Locked) (sym is) (is_shut scene inv shut)) done paid (few_end ask false (omega arith)))
           (λ filled ask stays open_now more says paid few.
           let low = few (extra + 3) (c + 3) (omega arith) (omega arith) in
-          caller.ended states.TheVariants.Unlocked ask false stays (subst (λ m. Ends m states.TheVariants.Unlocked) (sym is) (unlocked scene inv open_now, says more)) done paid (few_end ask false (omega arith)))
-          (λ ask none open_now new paid few.
+          caller.ended states.TheVariants.Unlocked ask false stays (subst (λ m. Ends (words_after ws ask) m states.TheVariants.Unlocked) (sym is) (unlocked scene inv open_now, inr (says more))) done paid (few_end ask false (omega arith)))
+          (λ ask stays open_now worn paid few.
           let low = few (extra + 3) (c + 3) (omega arith) (omega arith) in
-          caller.locks ask is none open_now new done paid (few_end ask false (omega arith)))
+          caller.ended states.TheVariants.Unlocked ask false stays (subst (λ m. Ends (words_after ws ask) m states.TheVariants.Unlocked) (sym is) (unlocked scene inv open_now, inl worn)) done paid (few_end ask false (omega arith)))
+          (λ ask none less new paid few.
+          let low = few (extra + 3) (c + 3) (omega arith) (omega arith) in
+          caller.locks ask is none less new done paid (few_end ask false (omega arith)))
 
     -- ---- any step
 

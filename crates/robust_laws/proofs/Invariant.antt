@@ -22,7 +22,7 @@ use Rattle.model.specs.Reading.{Each, Span, own_after, span_of}
 use Rattle.model.proofs.Frame as frame
 use Rattle.model.proofs.Frame.{Family}
 use Rattle.model.proofs.Readings.{AreOwn, AllFollow, AreRight, Each-append, span_of-other}
-use Rattle.robust_laws.specs.Gone.{GoneBy, Death, IsCalm, AsksBy, AnswersBy}
+use Rattle.robust_laws.specs.Gone.{GoneBy, Death, Word, IsCalm, AsksBy, AnswersBy}
 use Rattle.robust_laws.proofs.Core.{counter_of, cell}
 use Rattle.robust_laws.proofs.Knows.{View, Knows, Goes, Spares, IsSeen, knows_later}
 use Rattle.robust_laws.proofs.Standing.{number_of, At}
@@ -53,6 +53,29 @@ pub record Scene (T : Type 0) : Type 0 where
 abbrev pub IsAhead : List ℕ → Type 0
 IsAhead words = counter_of words ≢ locked → counter_of words + 1 < greatest
 
+-- it is at its end; where owners die turns are few, so there it never is
+abbrev pub IsWorn : GoneBy → List ℕ → Type 0
+IsWorn Death words = ⊥
+IsWorn Word words = counter_of words ≡ greatest
+
+-- and so there it is always ahead of it
+abbrev pub HasRoom : GoneBy → List ℕ → Type 0
+HasRoom Death words = IsAhead words
+HasRoom Word words = Unit {0}
+
+pub worn_on : (by : GoneBy) (words words' : List ℕ) → (counter_of words ≡ greatest → counter_of words' ≡ greatest) → IsWorn by words → IsWorn by words'
+worn_on Death words words' on worn = worn
+worn_on Word words words' on worn = on worn
+
+pub worn_at : (by : GoneBy) (words : List ℕ) → HasRoom by words → counter_of words ≡ greatest → IsWorn by words
+worn_at Death words room end = let ahead = room (λ shut. absurd (omega arith)) in absurd (omega arith)
+worn_at Word words room end = end
+
+-- one number before it, and then at it
+pub worn_then : (by : GoneBy) (words words' : List ℕ) → HasRoom by words → counter_of words + 1 ≡ greatest → counter_of words' ≡ greatest → IsWorn by words'
+worn_then Death words words' room last end = let ahead = room (λ shut. absurd (omega arith)) in absurd (omega arith)
+worn_then Word words words' room last end = end
+
 module _ {T : Type 0} where
   abbrev pub Fit : Kept T → List ℕ → RobustSet T → Type 0
   Fit (kepts.TheVariants.Owners dead) words s = (words ≡ s.words) × (dead ≡ s.dead)
@@ -67,9 +90,10 @@ module _ {T : Type 0} where
     pub filled : (i owner : ℕ) → filled_of i events ≡ Some owner → (i < c) × (owner < empty)
     pub lock : (counter_of words == locked) ≡ is_locked events
     pub low : is_locked events ≡ false → counter_of words ≤ turns - 1
+    pub bound : counter_of words ≤ locked
     pub died : (owner : ℕ) → has_died owner dead ≡ is_dead owner events
     pub does : Each (SetDoes c) events
-    pub answers : Each (AnswersBy by c) events
+    pub answers : Each (AnswersBy by (IsWorn by words) c) events
     pub owned : IsCalm by events → AreOwned events
     pub holds : IsCalm by events → Each HoldsRight events
 
@@ -124,7 +148,7 @@ module _ {T : Type 0} where
   pub record Inv (scene : Scene T) : Type 0 where
     pub good : Good scene.by scene.capacity scene.set.words scene.set.dead scene.events scene.turns
     pub begun : 1 ≤ scene.turns
-    pub ahead : IsAhead scene.set.words
+    pub room : HasRoom scene.by scene.set.words
 
   -- so it is where few turns were taken
   pub ahead_of_few : (by : GoneBy) (c : ℕ) (words dead : List ℕ) (events : List (Event T)) (turns : ℕ) → Good by c words dead events turns → 1 ≤ turns → turns < 2 ^ 64 - 2 → IsAhead words
@@ -132,6 +156,10 @@ module _ {T : Type 0} where
       let t : (counter_of words == locked) ≡ false = ne_eqb (counter_of words) locked open_now in
       let low = g.low (sym g.lock ∙ t) in
       omega arith
+
+  pub room_of_few : (by : GoneBy) (c : ℕ) (words dead : List ℕ) (events : List (Event T)) (turns : ℕ) → Good by c words dead events turns → 1 ≤ turns → turns < 2 ^ 64 - 2 → HasRoom by words
+  room_of_few Death c words dead events turns g begun small = ahead_of_few Death c words dead events turns g begun small
+  room_of_few Word c words dead events turns g begun small = tt
 
   abbrev pub set_then : Scene T → List ℕ → List (Event T) → RobustSet T
   set_then scene words es =

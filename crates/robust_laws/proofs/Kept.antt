@@ -138,7 +138,7 @@ module _ {T : Type 0} where
         does = g.does;
         asks = asks_right t.events s.holds.asks;
         holds = λ proper. g.holds (proper, tt);
-        answers = answers_right Death t.world.capacity t.events tt g.answers;
+        answers = answers_right ⊥ (λ worn. worn) Death t.world.capacity t.events tt g.answers;
         cells = λ index below. ap (λ ws. cell ws index) is.1 ∙ g.cells index below;
         lock = rw is.1 g.lock;
         dead = subst (λ kept. KeepsDead kept t.events) (sym is.0) (λ owner. g.died owner);

@@ -1,6 +1,6 @@
 -- What a call of the robust index set knows where it stands: of its counts, of moments of it, of what it has a right to, and
 -- of what it has recovered; and that it knows this still after any turn of another party.
-use Rattle.std.proofs.Common.{◌≡◌, ◌≢◌, ℕ, ◌+◌, ◌<◌, ◌≤◌, ◌⊎◌, ⊎_elim, inl, inr, true, false, Option, Some, None, List, ◌++◌, sym, ap, subst, ◌∙◌, arith}
+use Rattle.std.proofs.Common.{if◌then◌else◌, ◌==◌, ◌≡◌, ◌≢◌, ℕ, ◌+◌, ◌<◌, ◌≤◌, ◌⊎◌, ⊎_elim, inl, inr, true, false, Option, Some, None, List, ◌++◌, sym, ap, subst, ◌∙◌, arith}
 use Rattle.steps.specs.declared.indices.robust.acquire.AcquireStage.{AcquireStage}
 use Rattle.steps.specs.declared.indices.robust.acquire.AcquireStage as acquires
 use Rattle.steps.specs.declared.indices.robust.find.FindStage.{FindStage}
@@ -49,9 +49,13 @@ abbrev pub raise_holds : Raise → Option ℕ
 raise_holds raises.TheVariants.LoadsCounter = None
 raise_holds (raises.TheVariants.ExchangesCounter counter) = Some counter
 
+-- a count goes on where the counter is at its end, but then holds none
+abbrev pub unless_last : ℕ → Option ℕ
+unless_last counter = if counter == greatest then None else Some counter
+
 abbrev pub count_holds : Count → Option ℕ
 count_holds counts.TheVariants.LoadsCounter = None
-count_holds (counts.TheVariants.LoadsCell counter index filled) = Some counter
+count_holds (counts.TheVariants.LoadsCell counter index filled) = unless_last counter
 count_holds (counts.TheVariants.ExchangesCounter counter filled) = Some counter
 
 abbrev pub lock_holds : Lock → Option ℕ
@@ -185,7 +189,8 @@ module _ {T : Type 0} where
   Scanned None v = Unit {0}
   Scanned (Some s) v =
       (s.counter ≤ counter_of v.words)
-      × (s.filled ≡ 0 → counter_of v.words ≡ s.counter → IsCalm v.by v.events
+      × (s.counter ≡ greatest → counter_of v.words ≡ greatest)
+      × (s.counter < greatest → s.filled ≡ 0 → counter_of v.words ≡ s.counter → IsCalm v.by v.events
       → (i : ℕ) → i < s.below → holder_of i v.events ≡ None)
 
   -- the party has a right to the index that it fills, which nobody holds
@@ -291,7 +296,8 @@ module _ {T : Type 0} where
   -- to any party
   pub record Goes (words words' : List ℕ) (events es : List (Event T)) : Type 0 where
     pub grows : counter_of words ≤ counter_of words'
-    pub grants : counter_of words' ≡ counter_of words → (i : ℕ) → holder_of i events ≡ None → holder_of i (events ++ es) ≡ None
+    pub stuck : counter_of words ≡ greatest → counter_of words' ≡ greatest
+    pub grants : counter_of words' ≡ counter_of words → counter_of words < greatest → (i : ℕ) → holder_of i events ≡ None → holder_of i (events ++ es) ≡ None
     pub fills : (i owner : ℕ) → is_dead owner events ≡ true → filled_of i (events ++ es) ≡ Some owner → filled_of i events ≡ Some owner
     pub dead : (owner : ℕ) → is_dead owner events ≡ true → is_dead owner (events ++ es) ≡ true
     pub lives : (owner : ℕ) → is_dead owner (events ++ es) ≡ false → is_dead owner events ≡ false
@@ -337,9 +343,10 @@ module _ {T : Type 0} where
         let low = h.0 in
         let grows = goes.grows in (
           omega arith,
-          λ none is calm i below.
+          λ end. goes.stuck (h.1 end),
+          λ less none is calm i below.
               let same : counter_of words' ≡ counter_of words = omega arith in
-              goes.grants same i (h.1 none (sym same ∙ is) (calm_less by events es calm) i below),
+              goes.grants same (omega arith) i (h.2 less none (sym same ∙ is) (calm_less by events es calm) i below),
         )
 
     acquire_owns : (owner : ℕ) (stage : AcquireStage) → AcquireOwns owner stage before → AcquireOwns owner stage later

@@ -33,4 +33,5 @@ pub mod Stages
 pub mod Standing
 pub mod Tells
 pub mod Told
+pub mod Wide
 pub mod Written

@@ -1,8 +1,8 @@
 -- What a step does that locks the set.
-use Rattle.std.proofs.Common.{◌≡◌, ◌≢◌, ℕ, true, false, None, List, [], ◌∷◌, ◌++◌, length, set, refl, sym, ap, ◌∙◌, arith, eq-eqb}
+use Rattle.std.proofs.Common.{◌<◌, ◌≡◌, ℕ, true, false, None, List, [], ◌∷◌, ◌++◌, length, set, refl, sym, ap, ◌∙◌, arith, eq-eqb}
 use Rattle.std.proofs.lemmas.List.{length-set}
 use Rattle.std.proofs.lemmas.List.Sums.{fold-append}
-use Rattle.steps.specs.Indices.Robust.Parts.{locked}
+use Rattle.steps.specs.Indices.Robust.Parts.{locked, greatest}
 use Rattle.model.specs.declared.event.Event.{Event}
 use Rattle.model.specs.declared.event.Event.TheVariants.{Locked}
 use Rattle.model.specs.Families.Indices.Reading.{locked_after, is_locked}
@@ -12,9 +12,9 @@ use Rattle.model.proofs.Moments.{others_begin_none}
 use Rattle.model.proofs.Readings.{AreRight, AreOwn, Each-append, span_of-other}
 use Rattle.robust_laws.specs.Gone.{IsCalm, AnswersBy}
 use Rattle.robust_laws.proofs.Core.{counter_of, cell, counter_set, cells_stay}
-use Rattle.robust_laws.proofs.Effects.{Quiet, both_ways, proper_less, unlocked, before_end}
-use Rattle.robust_laws.proofs.Gone.{calm_less}
-use Rattle.robust_laws.proofs.Invariant.{Scene, Inv, Good, Does}
+use Rattle.robust_laws.proofs.Effects.{Quiet, both_ways, proper_less, not_shut, unlocked}
+use Rattle.robust_laws.proofs.Gone.{calm_less, answers_on}
+use Rattle.robust_laws.proofs.Invariant.{IsWorn, worn_on, Scene, Inv, Good, Does}
 use Rattle.robust_laws.proofs.Rights.{right_after, right_of, AreOwned}
 
 module _ {T : Type 0} (scene : Scene T) (inv : Inv scene) where
@@ -28,7 +28,7 @@ module _ {T : Type 0} (scene : Scene T) (inv : Inv scene) where
 
   -- the lock, and an end behind it, if any
   module _ (words' : List ℕ) (more : List (Event T)) (quiet : Quiet more) (own : AreOwn p more) (right : AreRight (SetDoes c) (events ++ Locked p ∷ []) more)
-      (answers : AreRight (AnswersBy by c) (events ++ Locked p ∷ []) more) (none : IsCalm by events → (i : ℕ) → holder_of i events ≡ None) (open_now : counter_of ws ≢ locked) (new : words' ≡ set ws 0 locked) where
+      (answers : AreRight (AnswersBy by (IsWorn by words') c) (events ++ Locked p ∷ []) more) (none : IsCalm by events → (i : ℕ) → holder_of i events ≡ None) (less : counter_of ws < greatest) (new : words' ≡ set ws 0 locked) where
     abbrev es : List (Event T)
     es = Locked p ∷ more
 
@@ -74,16 +74,18 @@ module _ {T : Type 0} (scene : Scene T) (inv : Inv scene) where
                 filled = λ i owner e. g.filled i owner (sym (same_filled i) ∙ e);
                 lock = eq-eqb (counter_of words') locked shut ∙ sym now_locked;
                 low = λ t. both_ways (is_locked (events ++ es)) t now_locked;
+                bound = let is = shut in omega arith;
                 died = λ o. g.died o ∙ sym (same_dead o);
-                does = Each-append (SetDoes c) events es g.does (unlocked scene inv open_now, right);
-                answers = Each-append (AnswersBy by c) events es g.answers (tt, answers);
+                does = Each-append (SetDoes c) events es g.does (unlocked scene inv (not_shut scene inv less), right);
+                answers = Each-append (AnswersBy by (IsWorn by words') c) events es (answers_on (IsWorn by ws) (IsWorn by words') (worn_on by ws words' (λ end. absurd (omega arith))) by c events g.answers) (tt, answers);
                 owned = still_owned;
                 holds = λ calm. let less = calm_less by events es calm in Each-append HoldsRight events es (g.holds less) (none less, quiet.holds (events ++ Locked p ∷ []));
               };
           goes =
               record {
-                grows = let is = shut in let end = before_end scene inv open_now in omega arith;
-                grants = λ same j unheld. same_holder j ∙ unheld;
+                grows = let is = shut in let bound = g.bound in omega arith;
+                stuck = λ end. absurd (omega arith);
+                grants = λ same below j unheld. same_holder j ∙ unheld;
                 fills = λ j o d e. sym (same_filled j) ∙ e;
                 dead = λ o d. same_dead o ∙ d;
                 lives = λ o l. sym (same_dead o) ∙ l;

@@ -18,7 +18,7 @@ use Rattle.model.specs.Step.{as_call}
 use Rattle.model.specs.Turns.{old_of, words_after}
 use Rattle.robust_laws.proofs.Core.{counter_of}
 use Rattle.robust_laws.proofs.Counting.{count_none, count_next}
-use Rattle.robust_laws.proofs.Effects.{both_ways, unlocked, is_shut, stays_same, stays_raised}
+use Rattle.robust_laws.proofs.Effects.{both_ways, not_shut, unlocked, is_shut, stays_same, stays_raised}
 use Rattle.robust_laws.proofs.Invariant.{Scene, Inv}
 use Rattle.robust_laws.proofs.Knows.{Knows, Borrowed}
 use Rattle.robust_laws.proofs.Standing.{borrowed_at, looking, count_number, CountAt}
@@ -60,10 +60,14 @@ module _ {T : Type 0} (scene : Scene T) (inv : Inv scene) where
         let low = few 0 (c + 2) (omega arith) (omega arith) in
         ends_quietly scene inv BorrowedIndices (Number 0) ask false here (stays_same scene inv (words_after ws ask) same) (λ i o. refl) (λ i r. refl)
         (λ t. refl, λ f. both_ways _ f (is_shut scene inv shut)) done (omega arith) paid)
-        (λ filled ask open_now new most says none paid few.
+        (λ filled ask same worn end most says paid few.
         let low = few 0 (c + 2) (omega arith) (omega arith) in
-        ends_quietly scene inv BorrowedIndices (Number filled) ask false here (stays_raised scene inv (words_after ws ask) open_now new) (λ i o. refl) (λ i r. refl)
-        (λ t. both_ways _ (unlocked scene inv open_now) t, λ f. says) done (omega arith) paid)
+        ends_quietly scene inv BorrowedIndices (Number filled) ask false here (stays_same scene inv (words_after ws ask) same) (λ i o. refl) (λ i r. refl)
+        (λ t. both_ways _ (unlocked scene inv (λ shut. absurd (omega arith))) t, λ f. says) done (omega arith) paid)
+        (λ filled ask less new most says none paid few.
+        let low = few 0 (c + 2) (omega arith) (omega arith) in
+        ends_quietly scene inv BorrowedIndices (Number filled) ask false here (stays_raised scene inv (words_after ws ask) less new) (λ i o. refl) (λ i r. refl)
+        (λ t. both_ways _ (unlocked scene inv (not_shut scene inv less)) t, λ f. says) done (omega arith) paid)
 
   pub borrowed_step : IsHere scene BorrowedIndices → (count : Count) → CountAt c count → all scene ≡ [] → Knows c (borrowed_at c count) (now scene) → steps ≤ count_number c count + backs * (c + 2)
       → StepOf scene BorrowedIndices (borrowed_at c count)

@@ -1,7 +1,6 @@
 -- What holds of the machine of a robust set keeps to every turn of an open run, so it holds wherever such a run leads.
-use Rattle.std.proofs.Common.{◌≡◌, ℕ, ◌+◌, ◌-◌, ◌==◌, ◌&&◌, nat_le, ne_eqb, Bool, true, false, not, Option, Some, None, is_none, List, [], ◌∷◌, ◌++◌, refl, sym, ap, subst, ◌∙◌, append-nil, arith}
-use Rattle.std.proofs.lemmas.Bool.Decides.{nat_tests}
-use Rattle.steps.specs.Indices.Robust.Parts.{locked, greatest}
+use Rattle.std.proofs.Common.{◌≡◌, ◌≢◌, slice_index, ℕ, ◌+◌, Bool, true, not, Option, Some, None, is_none, List, [], ◌∷◌, ◌++◌, refl, sym, ap, subst, ◌∙◌, append-nil}
+use Rattle.steps.specs.Indices.Robust.Parts.{greatest}
 use Rattle.model.specs.declared.families.Flight.{Flight}
 use Rattle.model.specs.declared.families.Flight as flights
 use Rattle.model.specs.declared.party.Doing.{Doing}
@@ -10,39 +9,28 @@ use Rattle.model.specs.declared.party.Party.{Party}
 use Rattle.model.specs.declared.turn.Kind.{Kind}
 use Rattle.model.specs.declared.turn.Kind as kinds
 use Rattle.model.specs.declared.turn.Refusal.{Refusal}
-use Rattle.model.specs.declared.turn.Refusal.TheVariants.{Idle, Undecided, AtEnd}
+use Rattle.model.specs.declared.turn.Refusal.TheVariants.{Idle, Undecided}
 use Rattle.model.specs.declared.turn.Turn.{Turn}
 use Rattle.model.specs.declared.turn.Turn.TheVariants.{Begin, Next, Decide, Die}
 use Rattle.model.specs.Coding.{Coding, IsCoding}
 use Rattle.model.specs.Families.{want_of, is_question}
-use Rattle.model.specs.Families.Indices.Robust.Promises.{KeepsDead}
+use Rattle.model.specs.Families.Indices.Robust.Promises.{AnswersRight, KeepsDead}
 use Rattle.model.specs.Parties.{party_of, doing_of, flight_of}
+use Rattle.model.specs.Reading.{Each}
 use Rattle.model.specs.Refusals.{is_due, call_refusal}
 use Rattle.model.specs.Turns.{number_of, after_step, step_in, party_after, change_of, step_count, after_decision, after_answer, events_of_step, events_of_answer, events_of_decision, after_turn, unless_refused}
 use Rattle.model.specs.World.{Trace, opening, capacity_error, flight_in}
 use Rattle.model.proofs.Frame as frame
 use Rattle.model.proofs.Reached.{turn_making}
 use Rattle.model.proofs.Rows.{row_passed}
-use Rattle.robust_laws.specs.Gone.{Word}
-use Rattle.robust_laws.specs.Open.{is_spent, open_refusal, attempt_open, run_open, IsReachedOpen, IsOpenSet}
+use Rattle.robust_laws.specs.Gone.{Word, IsHonest, AnswersBy}
+use Rattle.robust_laws.specs.Open.{open_refusal, attempt_open, run_open, IsReachedOpen, IsOpenSet}
 use Rattle.robust_laws.proofs.Core.{counter_of, cell}
-use Rattle.robust_laws.proofs.Invariant.{IsAhead, family_by}
+use Rattle.robust_laws.proofs.Gone.{answers_right}
+use Rattle.robust_laws.proofs.Invariant.{family_by}
 use Rattle.robust_laws.proofs.Living.{AllLive, all_live_on}
 use Rattle.robust_laws.proofs.Opening.{admitted_is}
-use Rattle.robust_laws.proofs.Sound.{kept_is, laws_ahead, opening_sound, decision_comes, MayDecideIn}
-
-not_both : (b : Bool) → (b && not false) ≡ false → b ≡ false
-not_both true e = absurd (cc)
-not_both false e = refl
-
-pub ahead_if : (words : List ℕ) → is_spent words ≡ false → IsAhead words
-ahead_if words e open_now =
-    let n : ℕ = counter_of words in
-    let other : (counter_of words == locked) ≡ false = ne_eqb (counter_of words) locked open_now in
-    let low : nat_le (greatest - 1) (counter_of words) ≡ false =
-    not_both (nat_le (greatest - 1) (counter_of words)) (sym (ap (λ b. nat_le (greatest - 1) (counter_of words) && not b) other) ∙ e)
-    in
-    grind (arith, nat_tests)
+use Rattle.robust_laws.proofs.Sound.{kept_is, laws_by, opening_sound, decision_comes, MayDecideIn}
 
 module _ {T : Type 0} (code : Coding T) (c : ℕ) where
   abbrev Sound : Trace T → Type 0
@@ -72,32 +60,31 @@ module _ {T : Type 0} (code : Coding T) (c : ℕ) where
         inv = frame.advance (family_by Word code c) s.state comes.state p y w.latest t.events (events_of_step p x.start (step_in w p x flight answer)) w.changes (w.changes + change_of w.words None) s.inv comes.owes;
       }
 
-  decided : (t : Trace T) (p : ℕ) (said : Bool) → IsAhead t.world.words → is_due t.world.coding (flight_in t.world p) ≡ true → Sound t → (o : Option (Party T)) → party_of p t.world.latest ≡ o
+  decided : (t : Trace T) (p : ℕ) (said : Bool) → is_due t.world.coding (flight_in t.world p) ≡ true → Sound t → (o : Option (Party T)) → party_of p t.world.latest ≡ o
       → Sound record { world = after_decision t.world p said o; events = t.events ++ events_of_decision t.world p said o }
-  decided t p said ahead due s None e = same t s
-  decided t p said ahead due s (Some x) e = go x.doing refl
+  decided t p said due s None e = same t s
+  decided t p said due s (Some x) e = go x.doing refl
     where
       go : (doing : Doing T) → x.doing ≡ doing → Sound record { world = after_answer t.world p x None (number_of said) doing; events = t.events ++ events_of_answer t.world p x (number_of said) doing }
       go (Over others) d = same t s
       go (Going flight since) d =
           let here : flight_in t.world p ≡ Some flight = ap (λ o. flight_of (doing_of o)) e ∙ ap (λ d. flight_of (Some d)) d in
           let asks : is_question (want_of t.world.coding flight) ≡ true = rw here at due in
-          answered t p x flight since (number_of said) s (decision_comes Word code c t s p x since e ahead flight said (may_decide t s p x since e flight said) asks d)
+          answered t p x flight since (number_of said) s (decision_comes Word code c t s p x since e tt flight said (may_decide t s p x since e flight said) asks d)
 
   -- ---- any turn
 
-  goes_by_rows : (t : Trace T) (turn : Turn T) → is_spent t.world.words ≡ false → call_refusal t.world turn ≡ None → Sound t → Sound (after_turn t turn)
-  goes_by_rows t turn spent r s = frame.turn_sound (family_by Word code c) (λ u. IsAhead u.world.words) (laws_ahead Word code c) t turn r (ahead_if t.world.words spent) s
+  goes_by_rows : (t : Trace T) (turn : Turn T) → call_refusal t.world turn ≡ None → Sound t → Sound (after_turn t turn)
+  goes_by_rows t turn r s = frame.turn_sound (family_by Word code c) (λ u. Unit {0}) (laws_by Word code c) t turn r tt s
 
   pub open_turn_sound : (t : Trace T) (turn : Turn T) → open_refusal t.world turn ≡ None → Sound t → Sound (after_turn t turn)
-  open_turn_sound t (Begin p start) e s = let r = row_passed (is_spent t.world.words) AtEnd (call_refusal t.world (Begin p start)) e in goes_by_rows t (Begin p start) r.0 r.1 s
-  open_turn_sound t (Next p) e s = let r = row_passed (is_spent t.world.words) AtEnd (call_refusal t.world (Next p)) e in goes_by_rows t (Next p) r.0 r.1 s
+  open_turn_sound t (Begin p start) e s = goes_by_rows t (Begin p start) e s
+  open_turn_sound t (Next p) e s = goes_by_rows t (Next p) e s
   open_turn_sound t (Die owner) e s = absurd (cc)
   open_turn_sound t (Decide p said) e s =
-      let a = row_passed (is_spent t.world.words) AtEnd _ e in
-      let b = row_passed (is_none (flight_in t.world p)) Idle _ a.1 in
+      let b = row_passed (is_none (flight_in t.world p)) Idle _ e in
       let d = row_passed (not (is_due t.world.coding (flight_in t.world p))) Undecided None b.1 in
-      decided t p said (ahead_if t.world.words a.0) (frame.is_true (is_due t.world.coding (flight_in t.world p)) d.0) s (party_of p t.world.latest) refl
+      decided t p said (frame.is_true (is_due t.world.coding (flight_in t.world p)) d.0) s (party_of p t.world.latest) refl
 
   -- ---- whole runs
 
@@ -144,7 +131,7 @@ module _ {T : Type 0} where
       record {
         does = g.does;
         asks = s.holds.asks;
-        answers = g.answers;
+        answers = subst (λ ws. Each (AnswersBy Word (counter_of ws ≡ greatest) t.world.capacity) t.events) (sym is.1) g.answers;
         holds = λ proper honest. g.holds (proper, honest);
         cells = λ index below. ap (λ ws. cell ws index) is.1 ∙ g.cells index below;
         lock = rw is.1 g.lock;
@@ -154,6 +141,10 @@ module _ {T : Type 0} where
 
   pub reached_open_kept : (t : Trace T) → t.world.kind ≡ kinds.TheVariants.Robust → IsReachedOpen t → IsOpenSet t
   reached_open_kept t is r = open_kept t.world.coding t (reached_open_sound t is r) (reached_open_lives t is r)
+
+  -- In an honest run whose counter is not at its end the answers are those of a machine whose owners die.
+  pub open_answers : (t : Trace T) → IsOpenSet t → IsHonest t.events → slice_index t.world.words 0 ≢ greatest → Each (AnswersRight t.world.capacity) t.events
+  open_answers t h honest other = answers_right (slice_index t.world.words 0 ≡ greatest) other Word t.world.capacity t.events honest h.answers
 
   -- ---- one turn more
 

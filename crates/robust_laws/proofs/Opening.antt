@@ -33,6 +33,7 @@ opening_good by c some few =
       filled = λ i owner e. absurd (cc);
       lock = refl;
       low = λ t. omega arith;
+      bound = omega arith;
       died = λ owner. refl;
       does = Each-nil _;
       answers = Each-nil _;

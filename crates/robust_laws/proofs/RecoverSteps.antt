@@ -1,5 +1,5 @@
 -- The lock of a recovery, and any step of it.
-use Rattle.std.proofs.Common.{◌≡◌, ◌≢◌, ℕ, ◌+◌, ◌*◌, ◌≤◌, Bool, false, Option, Some, None, List, [], ◌∷◌, ◌++◌, set, refl, sym, ap, subst, arith}
+use Rattle.std.proofs.Common.{◌<◌, ◌≡◌, ◌≢◌, ℕ, ◌+◌, ◌*◌, ◌≤◌, Bool, false, Option, Some, None, List, [], ◌∷◌, ◌++◌, set, refl, sym, ap, subst, arith}
 use Rattle.steps.specs.declared.ask.Ask.{Ask}
 use Rattle.steps.specs.declared.ask.After.{After}
 use Rattle.steps.specs.declared.indices.enums.ReleaseMode.{ReleaseMode}
@@ -12,7 +12,7 @@ use Rattle.steps.specs.declared.indices.robust.parts.Raise as raises
 use Rattle.steps.specs.declared.indices.robust.recover.Recover as calls
 use Rattle.steps.specs.declared.indices.robust.recover.RecoverStage.{RecoverStage}
 use Rattle.steps.specs.declared.indices.robust.recover.RecoverStage as recovers
-use Rattle.steps.specs.Indices.Robust.Parts.{locked, lock_after, lock_goes_back}
+use Rattle.steps.specs.Indices.Robust.Parts.{locked, greatest, lock_after, lock_goes_back}
 use Rattle.steps.specs.Indices.Robust.Recover.{recover_comes_to, recover_locked}
 use Rattle.steps.specs.Routine.{went_on}
 use Rattle.model.specs.declared.event.Answer.TheVariants.{State}
@@ -81,10 +81,10 @@ module _ {T : Type 0} (scene : Scene T) (inv : Inv scene) (mode : ReleaseMode) (
     abbrev locking : List (Event T)
     locking = Locked p ∷ []
 
-    module _ (ask : Option Ask) (none : IsCalm scene.by events → (i : ℕ) → holder_of i events ≡ None) (open_now : counter_of ws ≢ locked) (new : words_after ws ask ≡ set ws 0 locked) (paid : IsPaid (sees scene ask false))
+    module _ (ask : Option Ask) (none : IsCalm scene.by events → (i : ℕ) → holder_of i events ≡ None) (less : counter_of ws < greatest) (new : words_after ws ask ≡ set ws 0 locked) (paid : IsPaid (sees scene ask false))
         (few : Few ask false 1 (index + 1)) where
       locks_does : Does scene (words_after ws ask) locking
-      locks_does = locks scene inv (words_after ws ask) [] quiet_none tt tt tt none open_now new
+      locks_does = locks scene inv (words_after ws ask) [] quiet_none tt tt tt none less new
 
       locks_deeds : deeds_of p (events ++ locking) ≡ done ++ Locks ∷ []
       locks_deeds = deeds_more scene (Recover mode) here locking locks_does.own (λ start w. refl)
@@ -115,9 +115,12 @@ module _ {T : Type 0} (scene : Scene T) (inv : Inv scene) (mode : ReleaseMode) (
         (λ filled ask stays open_now more says paid few.
         let low = few (5 + index * for_index c mode) (for_back c mode) (omega arith) (omega arith) in
         comes_quietly scene inv mode here index course.within (recovers.TheVariants.Locks index lock) ask false (omega arith) stays paid course.asked course.freed k.says.0 k.says.1 k.gone)
-        (λ ask none open_now new paid few.
+        (λ ask stays open_now worn paid few.
         let low = few (5 + index * for_index c mode) (for_back c mode) (omega arith) (omega arith) in
-        locks_set ask none open_now new paid (omega arith))
+        comes_quietly scene inv mode here index course.within (recovers.TheVariants.Locks index lock) ask false (omega arith) stays paid course.asked course.freed k.says.0 k.says.1 k.gone)
+        (λ ask none less new paid few.
+        let low = few (5 + index * for_index c mode) (for_back c mode) (omega arith) (omega arith) in
+        locks_set ask none less new paid (omega arith))
 
   -- ---- any step
 

@@ -48,7 +48,7 @@ use Rattle.robust_laws.proofs.Deeds.{still_one, last_one, by_latest, was_one, al
 use Rattle.robust_laws.proofs.Effects.{Stays, at_same, some_none, one_owner, both_ways, quiet_asked, quiet_told, quietly, unlocked, is_shut, stays_same, stays_raised, filled_by, filled_none, filled_some}
 use Rattle.robust_laws.proofs.Frees.{frees}
 use Rattle.robust_laws.proofs.Gone.{gone_more, gone_told, honest_less, calm_less, stays_lost}
-use Rattle.robust_laws.proofs.Invariant.{Scene, Inv, Good, Does, wrote_of}
+use Rattle.robust_laws.proofs.Invariant.{IsWorn, Scene, Inv, Good, Does, wrote_of}
 use Rattle.robust_laws.proofs.Knows.{Knows, IsPaid, WasOpen, AskedBelow, GoneBut, LockSays}
 use Rattle.robust_laws.proofs.Standing.{at_least_one, at_least_four, recover_at, raise_number, for_back, for_index, RecoverAt, IsInCourse}
 use Rattle.robust_laws.proofs.Parts.{raise_ask, raise_step, none_beyond}
@@ -90,7 +90,7 @@ module _ {T : Type 0} (scene : Scene T) (inv : Inv scene) (mode : ReleaseMode) (
 
   -- ---- the end
 
-  ends_so : (state : ReleaseState) (ask : Option Ask) (back : Bool) → Stays scene (words_after ws ask) → AnswersBy by c events (Finished p (Robust (Recover mode)) (State state))
+  ends_so : (state : ReleaseState) (ask : Option Ask) (back : Bool) → Stays scene (words_after ws ask) → AnswersBy by (IsWorn by (words_after ws ask)) c events (Finished p (Robust (Recover mode)) (State state))
       → steps + step_count ask ≤ 2 + c * for_index c mode + backs_then scene back * for_back c mode → IsPaid (sees scene ask back) → Lead ask back [] (Done state)
   ends_so state ask back stays right few paid =
       let most = most_is c (backs_then scene back) mode in
@@ -458,13 +458,13 @@ module _ {T : Type 0} (scene : Scene T) (inv : Inv scene) (mode : ReleaseMode) (
     raises_to ask back r = Lead ask back [] (recover_raised (call_at (recovers.TheVariants.Raises index raise)) index mode r)
 
     -- it locks in the mode for that alone
-    goes_by_mode : (m : ReleaseMode) → mode ≡ m → (ask : Option Ask) → Stays scene (words_after ws ask) → IsPaid (sees scene ask false) → Few ask false 5 index
-        → Lead ask false [] (recover_raised (call_at (recovers.TheVariants.Raises index raise)) index m (Done states.TheVariants.Unlocked))
-    goes_by_mode Default e ask stays paid few =
+    goes_by_mode : (m : ReleaseMode) → mode ≡ m → (ask : Option Ask) (back : Bool) → Stays scene (words_after ws ask) → IsPaid (sees scene ask back) → Few ask back 5 index
+        → Lead ask back [] (recover_raised (call_at (recovers.TheVariants.Raises index raise)) index m (Done states.TheVariants.Unlocked))
+    goes_by_mode Default e ask back stays paid few =
         let four = at_least_four c mode in
-        comes_quietly index course.within (recovers.TheVariants.Raises index raise) ask false (omega arith) stays paid course.asked course.freed k.says.0 k.says.1 k.gone
-    goes_by_mode LockIfLastIndex e ask stays paid few =
-        goes_quietly scene inv (Recover mode) (recover_at c mode (recovers.TheVariants.Locks index first_lock)) ask false here stays few (refl, refl, (course, just, e, tt))
+        comes_quietly index course.within (recovers.TheVariants.Raises index raise) ask back (omega arith) stays paid course.asked course.freed k.says.0 k.says.1 k.gone
+    goes_by_mode LockIfLastIndex e ask back stays paid few =
+        goes_quietly scene inv (Recover mode) (recover_at c mode (recovers.TheVariants.Locks index first_lock)) ask back here stays few (refl, refl, (course, just, e, tt))
         (record { paid = paid; scanned = tt; owns = tt; says = k.says; gone = k.gone })
 
     pub raises_step : raises_to (Some (raise_ask raise)) (raise_goes_back raise (counter_of ws)) (raise_after raise (counter_of ws))
@@ -481,6 +481,9 @@ module _ {T : Type 0} (scene : Scene T) (inv : Inv scene) (mode : ReleaseMode) (
         let four = at_least_four c mode in
         let times = times_below c index (for_index c mode) course.within in
         ends_so states.TheVariants.Locked ask back (stays_same scene inv (words_after ws ask) same) (is_shut scene inv shut) (omega arith) paid)
-        (λ ask open_now new paid few.
+        (λ ask back same worn end paid few.
         let low = few (3 + index * for_index c mode) (for_back c mode) one (omega arith) in
-        goes_by_mode mode refl ask (stays_raised scene inv (words_after ws ask) open_now new) paid (omega arith))
+        goes_by_mode mode refl ask back (stays_same scene inv (words_after ws ask) same) paid (omega arith))
+        (λ ask less new paid few.
+        let low = few (3 + index * for_index c mode) (for_back c mode) one (omega arith) in
+        goes_by_mode mode refl ask false (stays_raised scene inv (words_after ws ask) less new) paid (omega arith))

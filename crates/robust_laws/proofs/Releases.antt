@@ -16,7 +16,7 @@ use Rattle.steps.specs.declared.indices.robust.parts.Raise as raises
 use Rattle.steps.specs.declared.indices.robust.release.Release as calls
 use Rattle.steps.specs.declared.indices.robust.release.ReleaseStage.{ReleaseStage}
 use Rattle.steps.specs.declared.indices.robust.release.ReleaseStage as releases
-use Rattle.steps.specs.Indices.Robust.Parts.{empty, locked}
+use Rattle.steps.specs.Indices.Robust.Parts.{empty, locked, greatest}
 use Rattle.steps.specs.Indices.Robust.Release.{Released}
 use Rattle.steps.specs.Routine.{went_on}
 use Rattle.model.specs.declared.event.Answer.TheVariants.{State, NotOwned}
@@ -41,7 +41,7 @@ use Rattle.robust_laws.proofs.Core.{counter_of}
 use Rattle.robust_laws.proofs.Effects.{Stays, quiet_end, stays_same}
 use Rattle.robust_laws.proofs.Gone.{lives_freed}
 use Rattle.robust_laws.proofs.HeldRelease.{Caller, Ends, StepAt, held_step}
-use Rattle.robust_laws.proofs.Invariant.{Scene, Inv, wrote_of}
+use Rattle.robust_laws.proofs.Invariant.{IsWorn, Scene, Inv, wrote_of}
 use Rattle.robust_laws.proofs.Knows.{Knows, IsPaid}
 use Rattle.robust_laws.proofs.Standing.{release_at, release_number, ReleaseAt}
 use Rattle.robust_laws.proofs.Locks.{locks}
@@ -51,10 +51,10 @@ not_owned_done : (T : Type 0) (index owner : ℕ) (mode : ReleaseMode) (failure 
 not_owned_done T index owner Default failure done none = none
 not_owned_done T index owner LockIfLastIndex failure done none = none
 
-not_owned_right : {T : Type 0} (by : GoneBy) (c p index owner : ℕ) (mode : ReleaseMode) (failure : RobustUniqueIndexSetReleaseError) (events : List (Event T)) → filled_of index events ≢ Some owner
-    → AnswersBy by c events (Finished p (Robust (Release index owner mode)) (NotOwned failure))
-not_owned_right by c p index owner Default failure events other = other
-not_owned_right by c p index owner LockIfLastIndex failure events other = other
+not_owned_right : {T : Type 0} (by : GoneBy) (worn : Type 0) (c p index owner : ℕ) (mode : ReleaseMode) (failure : RobustUniqueIndexSetReleaseError) (events : List (Event T)) → filled_of index events ≢ Some owner
+    → AnswersBy by worn c events (Finished p (Robust (Release index owner mode)) (NotOwned failure))
+not_owned_right by worn c p index owner Default failure events other = other
+not_owned_right by worn c p index owner LockIfLastIndex failure events other = other
 
 module _ {T : Type 0} (scene : Scene T) (inv : Inv scene) (index owner : ℕ) (fits : owner < empty) (below : index < scene.capacity) (alive : is_dead owner scene.events ≡ false) where
   open scene use {by as by, capacity as c, party as p, steps as steps, backs as backs, events as events}
@@ -77,11 +77,11 @@ module _ {T : Type 0} (scene : Scene T) (inv : Inv scene) (index owner : ℕ) (f
     began : IsCalm by (events ++ FreedOf p index owner ∷ []) → (is_gone by owner events ≡ false) × SinceBegin p (λ part since. settled_of index part ≡ Some owner) events
     began calm = (lives_freed by p index owner events alive gives_back calm.1, subst (MayGiveBack p index events) here (calm.0 events [] (FreedOf p index owner) refl))
 
-    abbrev Says : ReleaseMode → ReleaseState → Type 0
-    Says m state = Ends scene inv index owner mode fits below lives began 0 m state
+    abbrev Says : List ℕ → ReleaseMode → ReleaseState → Type 0
+    Says words' m state = Ends scene inv index owner mode fits below lives began 0 words' m state
 
     -- it ends with this state
-    ends_with : (m : ReleaseMode) → IsHere scene (Release index owner m) → (state : ReleaseState) (ask : Option Ask) (back : Bool) → Stays scene (words_after ws ask) → Says m state → all scene ≡ Frees index owner ∷ []
+    ends_with : (m : ReleaseMode) → IsHere scene (Release index owner m) → (state : ReleaseState) (ask : Option Ask) (back : Bool) → Stays scene (words_after ws ask) → Says (words_after ws ask) m state → all scene ≡ Frees index owner ∷ []
         → IsPaid (sees scene ask back) → steps + step_count ask ≤ 0 + most_steps c (Release index owner m) (backs_then scene back) → Lead m ask back [] (Done (Ok state))
     ends_with Default is states.TheVariants.Locked ask back stays why done paid few = absurd why
     ends_with Default is states.TheVariants.Unlocked ask back stays why done paid few =
@@ -98,13 +98,13 @@ module _ {T : Type 0} (scene : Scene T) (inv : Inv scene) (index owner : ℕ) (f
     now_locked = fold-append locked_after false events (Locked p ∷ [])
 
     -- it locks
-    locks_with : (m : ReleaseMode) → IsHere scene (Release index owner m) → (ask : Option Ask) → m ≡ LockIfLastIndex → (IsCalm by events → (i : ℕ) → holder_of i events ≡ None) → counter_of ws ≢ locked → words_after ws ask ≡ set ws 0 locked
+    locks_with : (m : ReleaseMode) → IsHere scene (Release index owner m) → (ask : Option Ask) → m ≡ LockIfLastIndex → (IsCalm by events → (i : ℕ) → holder_of i events ≡ None) → counter_of ws < greatest → words_after ws ask ≡ set ws 0 locked
         → all scene ≡ Frees index owner ∷ [] → IsPaid (sees scene ask false) → steps + step_count ask ≤ 0 + most_steps c (Release index owner m) (backs_then scene false) → Lead m ask false (Locked p ∷ []) (Done (Ok states.TheVariants.Locked))
-    locks_with Default is ask mode none open_now new done paid few = absurd (cc)
-    locks_with LockIfLastIndex is ask mode none open_now new done paid few =
+    locks_with Default is ask mode none less new done paid few = absurd (cc)
+    locks_with LockIfLastIndex is ask mode none less new done paid few =
         ends scene (Release index owner LockIfLastIndex) (State states.TheVariants.Locked) ask false (Locked p ∷ []) is (λ start w. refl)
         (locks scene inv (words_after ws ask) (Finished p (Robust (Release index owner LockIfLastIndex)) (State states.TheVariants.Locked) ∷ [])
-        (quiet_end p (Release index owner LockIfLastIndex) (State states.TheVariants.Locked) (λ j o. refl) (λ j r. refl)) (refl, tt) (tt, tt) (now_locked, tt) none open_now new)
+        (quiet_end p (Release index owner LockIfLastIndex) (State states.TheVariants.Locked) (λ j o. refl) (λ j r. refl)) (refl, tt) (tt, tt) (now_locked, tt) none less new)
         (done, ((refl, inr (all_done done)), tt)) (tt, (tt, tt)) (omega arith) paid
 
     caller : Caller scene inv index owner mode fits below lives began 0 (Lead mode)
@@ -116,7 +116,7 @@ module _ {T : Type 0} (scene : Scene T) (inv : Inv scene) (index owner : ℕ) (f
               ((refl, refl, none), tt) (tt, tt) (omega arith) (refl, refl, fits, below, ap (λ d. d ++ Frees index owner ∷ []) none) known;
           refused = λ ask same other none paid few.
               ends_quietly scene inv (Release index owner mode) (NotOwned IndexIsNotOwnedByProvidedOwner) ask false here (stays_same scene inv (words_after ws ask) same) (λ i o. refl) (λ i r. refl)
-              (not_owned_right by c p index owner mode IndexIsNotOwnedByProvidedOwner events other)
+              (not_owned_right by (IsWorn by (words_after ws ask)) c p index owner mode IndexIsNotOwnedByProvidedOwner events other)
               (not_owned_done T index owner mode IndexIsNotOwnedByProvidedOwner (all scene) none) (omega arith) paid;
           ended = ends_with mode here;
           locks = locks_with mode here;

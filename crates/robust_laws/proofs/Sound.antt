@@ -61,7 +61,7 @@ use Rattle.robust_laws.proofs.Deaths.{death_good, death_known}
 use Rattle.robust_laws.proofs.Effects.{both_ways}
 use Rattle.robust_laws.proofs.Finds.{find_step, find_decided}
 use Rattle.robust_laws.proofs.Firsts.{IsFirst, first_is, IsOwn, begins_own}
-use Rattle.robust_laws.proofs.Invariant.{RobustSet, Fit, Scene, Inv, Shows, IsAhead, ahead_of_few, family, family_by, wrote_of, at_written, owes, holds_more}
+use Rattle.robust_laws.proofs.Invariant.{RobustSet, Fit, Scene, Inv, Shows, HasRoom, room_of_few, family, family_by, wrote_of, at_written, owes, holds_more}
 use Rattle.robust_laws.proofs.Knows.{Knows}
 use Rattle.robust_laws.proofs.Standing.{acquire_at, find_at, recover_at, borrowed_at, At, FindAt, RecoverAt}
 use Rattle.robust_laws.proofs.Standing as standing
@@ -200,21 +200,21 @@ module _ {T : Type 0} (by : GoneBy) (code : Coding T) (c : ℕ) (t : Trace T) (s
         events = t.events;
       }
 
-  -- the counter is ahead of its end, as of the words that the state holds
-  ahead_there : IsAhead t.world.words → IsAhead s.state.words
-  ahead_there ahead = subst IsAhead (kept_is t.world.kept t.world.words s.state s.fit).1 ahead
+  -- the counter has room, as of the words that the state holds
+  room_there : HasRoom by t.world.words → HasRoom by s.state.words
+  room_there room = subst (HasRoom by) (kept_is t.world.kept t.world.words s.state s.fit).1 room
 
   module _ (p : ℕ) (x : Party T) (since : ℕ) (found : party_of p t.world.latest ≡ Some x) where
-    pub inv_ahead : IsAhead t.world.words → Inv (scene_of p x since)
-    inv_ahead ahead = record { good = s.holds.good; begun = s.holds.begun p x found; ahead = ahead_there ahead }
+    pub inv_with : HasRoom by t.world.words → Inv (scene_of p x since)
+    inv_with room = record { good = s.holds.good; begun = s.holds.begun p x found; room = room_there room }
 
-    pub is_ahead : t.world.turns < 2 ^ 64 - 2 → IsAhead t.world.words
-    is_ahead small =
-        subst IsAhead (sym (kept_is t.world.kept t.world.words s.state s.fit).1)
-        (ahead_of_few by c s.state.words s.state.dead t.events t.world.turns s.holds.good (s.holds.begun p x found) small)
+    pub has_room : t.world.turns < 2 ^ 64 - 2 → HasRoom by t.world.words
+    has_room small =
+        subst (HasRoom by) (sym (kept_is t.world.kept t.world.words s.state s.fit).1)
+        (room_of_few by c s.state.words s.state.dead t.events t.world.turns s.holds.good (s.holds.begun p x found) small)
 
     pub inv_of : t.world.turns < 2 ^ 64 - 2 → Inv (scene_of p x since)
-    inv_of small = inv_ahead (is_ahead small)
+    inv_of small = inv_with (has_room small)
 
     -- its call stands there by the events
     pub record IsThere (start : RobustStart) (flight : RobustFlight) : Type 0 where
@@ -249,24 +249,24 @@ module _ {T : Type 0} (by : GoneBy) (code : Coding T) (c : ℕ) (t : Trace T) (s
 
     -- ---- a step
 
-    comes : IsAhead t.world.words → (start : Start T) (flight : Flight T) → first_row (going_rows t.world.coding t.world.kept (Some flight) None) ≡ None → StandsThere (family_by by code c) t s p x since start flight
+    comes : HasRoom by t.world.words → (start : Start T) (flight : Flight T) → first_row (going_rows t.world.coding t.world.kept (Some flight) None) ≡ None → StandsThere (family_by by code c) t s p x since start flight
         → ComesFrom (family_by by code c) t s p x since code s.state.words (kepts.TheVariants.Owners s.state.dead) start flight
-    comes ahead (Robust start) (flights.TheVariants.Robust flight) r h =
+    comes room (Robust start) (flights.TheVariants.Robust flight) r h =
         let there = is_there start flight h in
-        let moves = step_moves (scene_of p x since) (inv_ahead ahead) start flight there.here there.at (passes flight None r).0 there.steps there.knows in
+        let moves = step_moves (scene_of p x since) (inv_with room) start flight there.here there.at (passes flight None r).0 there.steps there.knows in
         record {
           state = _;
           fit = (refl, refl);
           holds = holds_more (scene_of p x since) _ (Open (Robust start) (wrote_of p t.events)) _ _ _ moves s.holds s.inv;
           owes = owes (scene_of p x since) _ (Open (Robust start) (wrote_of p t.events)) _ _ _ moves s.holds s.inv there.here;
         }
-    comes ahead start flight r h = absurd h.at
+    comes room start flight r h = absurd h.at
 
-    pub step_comes : IsAhead t.world.words → (flight : Flight T) → first_row (going_rows t.world.coding t.world.kept (Some flight) None) ≡ None → x.doing ≡ Going flight since
+    pub step_comes : HasRoom by t.world.words → (flight : Flight T) → first_row (going_rows t.world.coding t.world.kept (Some flight) None) ≡ None → x.doing ≡ Going flight since
         → frame.ComesByStep (family_by by code c) t p x flight since (asked t.world.coding flight) (old_of t.world.words (asked t.world.coding flight))
-    step_comes ahead flight r doing =
+    step_comes room flight r doing =
         let is = kept_is t.world.kept t.world.words s.state s.fit in
-        comes_from (family_by by code c) t s p x since s.state.words (kepts.TheVariants.Owners s.state.dead) flight is.1 is.0 (comes ahead x.start flight r (stands_there (family_by by code c) t s p x since flight found doing))
+        comes_from (family_by by code c) t s p x since s.state.words (kepts.TheVariants.Owners s.state.dead) flight is.1 is.0 (comes room x.start flight r (stands_there (family_by by code c) t s p x since flight found doing))
 
     -- ---- a decision
 
@@ -286,31 +286,31 @@ module _ {T : Type 0} (by : GoneBy) (code : Coding T) (c : ℕ) (t : Trace T) (s
     MayDecideIn (flights.TheVariants.Robust flight) said = MayDecide by s.state.dead flight said
     MayDecideIn flight said = Unit {0}
 
-    decides : IsAhead t.world.words → (said : Bool) (start : Start T) (flight : Flight T) → MayDecideIn flight said → is_question (want_of t.world.coding flight) ≡ true
+    decides : HasRoom by t.world.words → (said : Bool) (start : Start T) (flight : Flight T) → MayDecideIn flight said → is_question (want_of t.world.coding flight) ≡ true
         → StandsThere (family_by by code c) t s p x since start flight → DecidesFrom (number_of said) s.state.words (kepts.TheVariants.Owners s.state.dead) start flight
-    decides ahead said (Robust start) (flights.TheVariants.Robust flight) r asks h =
+    decides room said (Robust start) (flights.TheVariants.Robust flight) r asks h =
         let there = is_there start flight h in
-        let moves = decision_moves (scene_of p x since) (inv_ahead ahead) said start flight there.here there.at r asks there.steps there.knows in
+        let moves = decision_moves (scene_of p x since) (inv_with room) said start flight there.here there.at r asks there.steps there.knows in
         record {
           state = _;
           fit = (refl, refl);
           holds = holds_more (scene_of p x since) _ (Open (Robust start) (wrote_of p t.events)) _ _ _ moves s.holds s.inv;
           owes = owes (scene_of p x since) _ (Open (Robust start) (wrote_of p t.events)) _ _ _ moves s.holds s.inv there.here;
         }
-    decides ahead said start flight r asks h = absurd h.at
+    decides room said start flight r asks h = absurd h.at
 
     -- one that passes the machine's rows may
     pub passes_in : (flight : Flight T) (said : Bool) → first_row (going_rows t.world.coding t.world.kept (Some flight) (Some said)) ≡ None → MayDecideIn flight said
     passes_in (flights.TheVariants.Robust flight) said r = decides_by by flight said r
     passes_in flight said r = tt
 
-    pub decision_comes : IsAhead t.world.words → (flight : Flight T) (said : Bool) → MayDecideIn flight said → is_question (want_of t.world.coding flight) ≡ true
+    pub decision_comes : HasRoom by t.world.words → (flight : Flight T) (said : Bool) → MayDecideIn flight said → is_question (want_of t.world.coding flight) ≡ true
         → x.doing ≡ Going flight since → frame.ComesByStep (family_by by code c) t p x flight since None (number_of said)
-    decision_comes ahead flight said r asks doing =
+    decision_comes room flight said r asks doing =
         let is = kept_is t.world.kept t.world.words s.state s.fit in
         subst (λ ws. DecidesFrom (number_of said) ws t.world.kept x.start flight) (sym is.1)
         (subst (λ k. DecidesFrom (number_of said) s.state.words k x.start flight) (sym is.0)
-        (decides ahead said x.start flight r asks (stands_there (family_by by code c) t s p x since flight found doing)))
+        (decides room said x.start flight r asks (stands_there (family_by by code c) t s p x since flight found doing)))
 
   -- ---- a call begins
 
@@ -391,22 +391,22 @@ module _ {T : Type 0} (by : GoneBy) (code : Coding T) (c : ℕ) (t : Trace T) (s
       }
 
 module _ {T : Type 0} where
-  -- of a machine whose counter is ahead of its end
-  pub laws_ahead : (by : GoneBy) (code : Coding T) (c : ℕ) → frame.LawsWhere (family_by by code c) (λ t. IsAhead t.world.words)
-  laws_ahead by code c =
+  -- of a machine whose counter has room
+  pub laws_by : (by : GoneBy) (code : Coding T) (c : ℕ) → frame.LawsWhere (family_by by code c) (λ t. HasRoom by t.world.words)
+  laws_by by code c =
       record {
-        step = λ t p x flight since s ahead r found doing. step_comes by code c t s p x since found ahead flight r doing;
-        decision = λ t p x flight since said s ahead r found doing asks. decision_comes by code c t s p x since found ahead flight said (passes_in by code c t s p x since found flight said r) asks doing;
-        begin = λ t p start flight s ahead may e. begin_comes by code c t s p start flight may e;
+        step = λ t p x flight since s room r found doing. step_comes by code c t s p x since found room flight r doing;
+        decision = λ t p x flight since said s room r found doing asks. decision_comes by code c t s p x since found room flight said (passes_in by code c t s p x since found flight said r) asks doing;
+        begin = λ t p start flight s room may e. begin_comes by code c t s p start flight may e;
         death = λ t o s may. death_comes by code c t s o may;
       }
 
   laws : (code : Coding T) (c : ℕ) → frame.Laws (family code c)
   laws code c =
-      let on = laws_ahead Death code c in
+      let on = laws_by Death code c in
       record {
-        step = λ t p x flight since s small r found doing. on.step t p x flight since s (is_ahead Death code c t s p x since found small) r found doing;
-        decision = λ t p x flight since said s small r found doing asks. on.decision t p x flight since said s (is_ahead Death code c t s p x since found small) r found doing asks;
+        step = λ t p x flight since s small r found doing. on.step t p x flight since s (has_room Death code c t s p x since found small) r found doing;
+        decision = λ t p x flight since said s small r found doing asks. on.decision t p x flight since said s (has_room Death code c t s p x since found small) r found doing asks;
         begin = λ t p start flight s small may e. begin_comes Death code c t s p start flight may e;
         death = on.death;
       }

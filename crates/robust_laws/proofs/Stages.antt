@@ -37,7 +37,7 @@ use Rattle.model.proofs.Turns.{kept_words}
 use Rattle.robust_laws.specs.Gone.{AsksBy, AnswersBy}
 use Rattle.robust_laws.proofs.Core.{counter_of}
 use Rattle.robust_laws.proofs.Effects.{Stays, quiet_none, quiet_end, quietly}
-use Rattle.robust_laws.proofs.Invariant.{Scene, Inv, Does, Shows, wrote_of, view}
+use Rattle.robust_laws.proofs.Invariant.{IsWorn, Scene, Inv, Does, Shows, wrote_of, view}
 use Rattle.robust_laws.proofs.Standing as standing
 use Rattle.robust_laws.proofs.Knows.{View, Knows, IsSeen, IsPaid, PaidUnless, Holding}
 use Rattle.robust_laws.proofs.Standing.{At}
@@ -255,7 +255,7 @@ module _ {T : Type 0} (scene : Scene T) where
     pub ends_quietly :
         (start : RobustStart) (answer : Answer T) (ask : Option Ask) (back : Bool) → IsHere start → Stays scene (words_after ws ask)
         → ((i : ℕ) (o : Option ℕ) → settled_after i o (Finished p (Robust start) answer) ≡ o) → ((i : ℕ) (r : Right) → right_after i r (Finished p (Robust start) answer) ≡ r)
-        → AnswersBy by c events (Finished p (Robust start) answer)
+        → AnswersBy by (IsWorn by (words_after ws ask)) c events (Finished p (Robust start) answer)
         → HasDone start answer (deeds_of p events)
         → steps + step_count ask ≤ most_steps c start (backs_then back)
         → IsPaid (then_sees ask back (Finished p (Robust start) answer ∷ []))

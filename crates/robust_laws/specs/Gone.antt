@@ -1,15 +1,18 @@
 -- Who is gone, and what nobody does for him. Where owners die, gone are the dead. Where nobody sees a death, as between
 -- threads, gone are also those of whom a recovery was told to free an index: its yes is the word that they are.
-use Rattle.std.specs.Prelude.{◌≡◌, ◌≢◌, ℕ, ◌==◌, ◌||◌, Bool, true, false, Some, List, fold}
+use Rattle.std.specs.Prelude.{◌≡◌, ◌≢◌, ◌⊎◌, ℕ, ◌<◌, ◌==◌, ◌||◌, Bool, true, false, Some, List, fold}
+use Rattle.steps.specs.declared.indices.enums.ReleaseMode.TheVariants.{LockIfLastIndex}
 use Rattle.steps.specs.declared.indices.enums.ReleaseState.TheVariants.{Unlocked}
-use Rattle.model.specs.declared.event.Answer.TheVariants.{State}
+use Rattle.steps.specs.declared.indices.enums.UniqueIndexSetAcquireFailure.TheVariants.{OutOfIndices}
+use Rattle.model.specs.declared.event.Answer.TheVariants.{NoIndex, State}
 use Rattle.model.specs.declared.event.Event.{Event}
 use Rattle.model.specs.declared.event.Event.TheVariants.{Filled, Granted, FreedOf, Told, Died, Finished}
 use Rattle.model.specs.declared.event.Start.TheVariants.{Robust, Container}
 use Rattle.model.specs.declared.families.container.ContainerStart.TheVariants.{Remove}
-use Rattle.model.specs.declared.families.indices.robust.RobustStart.TheVariants.{Release, Recover}
-use Rattle.model.specs.Families.Indices.Robust.Promises.{AsksRight, IsUnlocked, HeldThrough, StillToFree, AnswersRight, IsProper}
+use Rattle.model.specs.declared.families.indices.robust.RobustStart.TheVariants.{Acquire, Release, Recover}
+use Rattle.model.specs.Families.Indices.Robust.Promises.{AsksRight, IsFilled, IsUnlocked, HeldThrough, FilledSinceFreed, StillToFree, AnswersRight, IsProper}
 use Rattle.model.specs.Families.Indices.Robust.Reading.{Asks, Yes, filled_of, is_dead, deeds_of, IsOneOf}
+use Rattle.model.specs.Moments.{HeldOnce}
 use Rattle.model.specs.Reading.{Each, Span, Open, span_of}
 
 -- by what an owner is gone
@@ -75,7 +78,15 @@ module _ {T : Type 0} where
     pub gone : IsHonestBy by events → (index owner : ℕ) → IsOneOf (Yes index owner) (deeds_of p events)
         → filled_of index events ≢ Some owner
 
-  abbrev pub AnswersBy : GoneBy → ℕ → List (Event T) → Event T → Type 0
-  AnswersBy by capacity before (Finished p (Robust (Recover mode)) (State Unlocked)) =
+  -- What an answer says; where the counter may be worn, at its end by now, an acquire that was granted no index and a lock
+  -- that was not made say no more than that it is.
+  abbrev pub AnswersBy : GoneBy → Type 0 → ℕ → List (Event T) → Event T → Type 0
+  AnswersBy by worn capacity before (Finished p (Robust (Acquire owner)) (NoIndex OutOfIndices)) =
+      IsUnlocked before
+      × (worn ⊎ ((index : ℕ) → index < capacity → HeldOnce p (IsFilled index) before))
+  AnswersBy by worn capacity before
+      (Finished p (Robust (Release index owner LockIfLastIndex)) (State Unlocked)) =
+      IsUnlocked before × (worn ⊎ FilledSinceFreed p owner index before)
+  AnswersBy by worn capacity before (Finished p (Robust (Recover mode)) (State Unlocked)) =
       IsUnlocked before × HasRecoveredBy by p before
-  AnswersBy by capacity before e = AnswersRight capacity before e
+  AnswersBy by worn capacity before e = AnswersRight capacity before e

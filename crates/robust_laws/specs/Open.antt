@@ -1,11 +1,11 @@
 -- Runs of a robust index set where nobody sees an owner die, as between threads: no owner dies, and no yes of a recovery is
--- refused. No turn is taken where the counter has come to its end. And what holds of a machine that such a run leads to.
-use Rattle.std.specs.Prelude.{◌≡◌, ℕ, ◌-◌, ◌<◌, ◌==◌, ◌&&◌, Bool, true, false, not, Option, None, is_none, List, [], ◌∷◌, nat_le, slice_index}
+-- refused; and neither turns nor parties have a bound. And what holds of a machine that such a run leads to.
+use Rattle.std.specs.Prelude.{◌≡◌, ℕ, ◌<◌, ◌==◌, Bool, true, false, not, Option, None, is_none, List, [], ◌∷◌, slice_index}
 use Rattle.steps.specs.Indices.Robust.Parts.{cell_word, locked, greatest}
 use Rattle.model.specs.declared.turn.Turn.{Turn}
 use Rattle.model.specs.declared.turn.Turn.TheVariants.{Decide, Die}
 use Rattle.model.specs.declared.turn.Refusal.{Refusal}
-use Rattle.model.specs.declared.turn.Refusal.TheVariants.{WrongCall, Idle, Undecided, AtEnd}
+use Rattle.model.specs.declared.turn.Refusal.TheVariants.{WrongCall, Idle, Undecided}
 use Rattle.model.specs.Coding.{IsCoding}
 use Rattle.model.specs.Families.Indices.Reading.{is_locked}
 use Rattle.model.specs.Families.Indices.Robust.Promises.{cell_of, SetDoes, IsProper, HoldsRight, KeepsDead}
@@ -17,21 +17,15 @@ use Rattle.model.specs.Turns.{after_turn, unless_refused}
 use Rattle.model.specs.World.{World, Trace, opening, capacity_error, flight_in}
 use Rattle.robust_laws.specs.Gone.{Word, IsHonest, AsksBy, AnswersBy}
 
--- the counter of a set that is not locked is at its end, or one number before it
-abbrev pub is_spent : List ℕ → Bool
-is_spent words =
-    nat_le (greatest - 1) (slice_index words 0) && not (slice_index words 0 == locked)
-
 module _ {T : Type 0} where
   -- what is tested of a turn, in order
   abbrev pub open_rows : World T → Turn T → List (Bool × Refusal)
   open_rows w (Decide p said) =
-      (is_spent w.words, AtEnd)
-      ∷ (is_none (flight_in w p), Idle)
+      (is_none (flight_in w p), Idle)
       ∷ (not (is_due w.coding (flight_in w p)), Undecided)
       ∷ []
   open_rows w (Die owner) = (true, WrongCall) ∷ []
-  open_rows w turn = (is_spent w.words, AtEnd) ∷ call_rows w turn
+  open_rows w turn = call_rows w turn
 
   abbrev pub open_refusal : World T → Turn T → Option Refusal
   open_refusal w turn = first_row (open_rows w turn)
@@ -56,7 +50,7 @@ module _ {T : Type 0} where
   pub record IsOpenSet (t : Trace T) : Type 0 where
     pub does : Each (SetDoes t.world.capacity) t.events
     pub asks : Each (AsksBy Word) t.events
-    pub answers : Each (AnswersBy Word t.world.capacity) t.events
+    pub answers : Each (AnswersBy Word (slice_index t.world.words 0 ≡ greatest) t.world.capacity) t.events
     pub holds : IsProper t.events → IsHonest t.events → Each HoldsRight t.events
     pub cells : (index : ℕ) → index < t.world.capacity
         → slice_index t.world.words (cell_word index) ≡ cell_of (filled_of index t.events)

@@ -196,7 +196,7 @@ module _ {T : Type 0} (t : Trace T) (is : t.world.kind ≡ kinds.TheVariants.Rob
     StepLeaves start call = Knows c call (now scene) → KnowsNow call → Leaves c p t.events start call (old_of s.state.words (ask_of (want call)))
 
     recover_leaves : (mode : ReleaseMode) → IsHere scene (starts.TheVariants.Recover mode) → (stage : RecoverStage) → RecoverAt c mode (all scene) stage → StepLeaves (starts.TheVariants.Recover mode) (recover_at c mode stage)
-    recover_leaves mode here stage at k h = recovered c p t.events mode stage (old_of s.state.words (ask_of (recover_asks stage))) (steps scene inv mode here stage at k h)
+    recover_leaves mode here stage at k h = recovered c p t.events mode stage (old_of s.state.words (ask_of (recover_asks stage))) (steps scene inv mode here refl stage at k h)
 
     others_leave : (start : RobustStart) (call : RobustFlight) (answer : ℕ) → At c (all scene) start call → ((mode : ReleaseMode) → start ≢ starts.TheVariants.Recover mode) → Leaves c p t.events start call answer
     others_leave (starts.TheVariants.Acquire owner) (calls.TheVariants.Acquire run) answer at other =
@@ -230,7 +230,7 @@ module _ {T : Type 0} (t : Trace T) (is : t.world.kind ≡ kinds.TheVariants.Rob
     recover_decides : (answer : ℕ) (mode : ReleaseMode) → IsHere scene (starts.TheVariants.Recover mode) → (stage : RecoverStage) → DecisionLeaves answer (starts.TheVariants.Recover mode) (recover_at c mode stage)
     recover_decides answer mode here recovers.TheVariants.LoadsCounter due h = absurd (cc)
     recover_decides answer mode here (recovers.TheVariants.LoadsCell index) due h = absurd (cc)
-    recover_decides answer mode here (recovers.TheVariants.Asks index owner) due h = recovered c p t.events mode (recovers.TheVariants.Asks index owner) answer (decided scene inv mode here index owner answer h)
+    recover_decides answer mode here (recovers.TheVariants.Asks index owner) due h = recovered c p t.events mode (recovers.TheVariants.Asks index owner) answer (decided scene inv mode here refl index owner answer h)
     recover_decides answer mode here (recovers.TheVariants.EmptiesCell index owner) due h = absurd (cc)
     recover_decides answer mode here (recovers.TheVariants.Raises index raise) due h = both_ways (is_question (raise_want raise)) (raise_asks_none raise) due
     recover_decides answer mode here (recovers.TheVariants.Locks index lock) due h = both_ways (is_question (lock_want lock)) (lock_asks_none lock) due

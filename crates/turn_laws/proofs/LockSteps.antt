@@ -30,13 +30,14 @@ use Rattle.model.specs.Families.Indices.Robust.Promises.{IsFilled}
 use Rattle.model.specs.Families.Indices.Robust.Reading.{Deed, Frees, deeds, deeds_of, IsOneOf}
 use Rattle.model.specs.Families.Indices.Robust.Steps.{locked_by, recover_effects}
 use Rattle.model.specs.Moments.{BeginsNone}
-use Rattle.model.specs.Turns.{old_of}
+use Rattle.model.specs.Turns.{old_of, words_after}
 use Rattle.model.proofs.Moments.{held_now}
 use Rattle.model.proofs.Readings.{AreOwn}
+use Rattle.robust_laws.specs.Gone.{Death}
 use Rattle.robust_laws.proofs.Core.{counter_of}
 use Rattle.robust_laws.proofs.Deeds.{was_one}
 use Rattle.robust_laws.proofs.Effects.{is_shut, unlocked}
-use Rattle.robust_laws.proofs.Invariant.{Scene, Inv}
+use Rattle.robust_laws.proofs.Invariant.{IsWorn, Scene, Inv}
 use Rattle.robust_laws.proofs.Knows.{LockSays, Knows}
 use Rattle.robust_laws.proofs.Parts.{lock_ask, lock_step, IsSaid}
 use Rattle.robust_laws.proofs.Stages.{IsHere, Lengthens, all, now, deeds_more}
@@ -55,7 +56,7 @@ module _ {T : Type 0} where
   Tells c mode p events (GoOn call) = StageKnows c mode p call.stage events
   Tells c mode p events (Done state) = EndSays mode state p events
 
-module _ {T : Type 0} (scene : Scene T) (inv : Inv scene) (mode : ReleaseMode) (here : IsHere scene (Recover mode)) where
+module _ {T : Type 0} (scene : Scene T) (inv : Inv scene) (mode : ReleaseMode) (here : IsHere scene (Recover mode)) (dies : scene.by ≡ Death) where
   open scene use {capacity as c, party as p, events as events}
 
   abbrev ws : List ℕ
@@ -105,7 +106,8 @@ module _ {T : Type 0} (scene : Scene T) (inv : Inv scene) (mode : ReleaseMode) (
         (λ next ask back stays next_at paid scanned says few. subst (λ es. LockSays c (FoundFilled p es) next) (sym (append-nil events)) says)
         (λ ask same shut paid few. comes_to (recovers.TheVariants.Locks index lock) [] (index + 1) (calm (λ owner. filled_locked p owner mode NoIndex events (is_shut scene inv shut))))
         (λ filled ask stays open_now more says paid few. comes_to (recovers.TheVariants.Locks index lock) [] (index + 1) (calm (λ owner. filled_last p owner mode NoIndex events (says more))))
-        (λ ask none open_now new paid few. comes_to (recovers.TheVariants.Locks index lock) (Locked p ∷ []) (index + 1) (λ owner. filled_locked p owner mode NoIndex (events ++ Locked p ∷ []) (fold-append locked_after false events (Locked p ∷ []))))
+        (λ ask stays open_now worn paid few. absurd (subst (λ b. IsWorn b (words_after ws ask)) dies worn))
+        (λ ask none less new paid few. comes_to (recovers.TheVariants.Locks index lock) (Locked p ∷ []) (index + 1) (λ owner. filled_locked p owner mode NoIndex (events ++ Locked p ∷ []) (fold-append locked_after false events (Locked p ∷ []))))
 
   -- ---- the raise
 
