@@ -10,6 +10,7 @@ pub use Rattle.history.specs.Views
 pub use Rattle.lock_free_queues.specs.Queues.Bounded
 pub use Rattle.lock_free_queues.specs.Queues.Calls
 pub use Rattle.lock_free_queues.specs.Queues.Closes
+pub use Rattle.lock_free_queues.specs.Queues.Handles
 pub use Rattle.lock_free_queues.specs.Queues.Kinds
 pub use Rattle.lock_free_queues.specs.Queues.Opened
 pub use Rattle.lock_free_queues.specs.Queues.Overflowing

@@ -12,3 +12,4 @@ pub mod Sums
 pub mod Positions
 pub mod Closes
 pub mod Reads
+pub mod Handles

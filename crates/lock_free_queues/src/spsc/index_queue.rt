@@ -24,3 +24,6 @@ pub type Producer<'a> = ring::Producer<'a, Numbers, u64>;
 
 /// The end of a queue of numbers that pops.
 pub type Consumer<'a> = ring::Consumer<'a, Numbers, u64>;
+
+/// A queue of numbers with a pass of it, whose calls ask for no proof.
+pub type Handle<'a> = ring::Handle<'a, Numbers, u64>;

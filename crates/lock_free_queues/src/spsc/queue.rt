@@ -25,3 +25,6 @@ pub type Producer<'a, T> = ring::Producer<'a, Values, T>;
 
 /// The end of a queue of values that pops.
 pub type Consumer<'a, T> = ring::Consumer<'a, Values, T>;
+
+/// A queue of values with a pass of it, whose calls ask for no proof.
+pub type Handle<'a, T> = ring::Handle<'a, Values, T>;

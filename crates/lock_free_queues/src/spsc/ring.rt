@@ -21,11 +21,14 @@ mod calls;
 mod drives;
 mod ends;
 mod fixed;
+mod handles;
 mod lengths;
 mod make;
 mod passes;
 mod reads;
 pub mod rule;
+
+pub use handles::Handle;
 
 /// A queue, which threads share by reference. One producer pushes and one consumer pops at a time.
 #[derive(Drop)]

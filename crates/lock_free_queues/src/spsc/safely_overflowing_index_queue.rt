@@ -29,3 +29,6 @@ pub type Producer<'a> = ring::Producer<'a, Overflowing, u64>;
 
 /// The end of an overflowing queue that pops.
 pub type Consumer<'a> = ring::Consumer<'a, Overflowing, u64>;
+
+/// An overflowing queue with a pass of it, whose calls ask for no proof.
+pub type Handle<'a> = ring::Handle<'a, Overflowing, u64>;

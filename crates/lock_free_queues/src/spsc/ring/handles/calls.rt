@@ -1,0 +1,138 @@
+//! The calls by a handle: those of its queue.
+ghost use Rattle.std.specs.Prelude.{◌≡◌, ◌≤◌, true, false, IfSome, IfNone, IfOk, IfErr};
+ghost use Rattle.steps.specs.declared.queues.roles.Role.TheVariants as roles;
+ghost use Rattle.model.specs.declared.event.Answer.TheVariants.{Number, Truth};
+ghost use Rattle.model.specs.declared.families.queues.calls.LengthOf.TheVariants as measures;
+ghost use Rattle.model.specs.Coding.{coding_of};
+ghost use Rattle.lock_free_queues.specs.Queues.Kinds.{most_waiting};
+ghost use Rattle.lock_free_queues.specs.Queues.Rings.{capacity_of, queue_of, producer_queue, producer_view, consumer_queue, consumer_view, IsPassOf, GoesOn};
+ghost use Rattle.lock_free_queues.specs.Queues.Told.{HasAcquired, HasMeasured, HasSplit, HasLooked};
+ghost use Rattle.lock_free_queues.specs.Queues.Handles.{ring_in, pass_in, knows};
+
+use super::Handle;
+use crate::spsc::ring::rule::Kind;
+use crate::spsc::ring::{Consumer, Pass, Producer, Ring};
+use std::sync::Wait;
+use steps::words::Words;
+
+impl<E: Kind, T: Words> Ring<E, T> {
+    /// A handle: this queue with a pass of it. No atomic step. This project's own.
+    pub fn handle(&self, pass: Pass<E, T>) -> Handle<'_, E, T>
+        requires { IsPassOf self.now pass }
+        ensures queue { ring_in result ≡ self.now }
+        ensures pass { pass_in result ≡ pass }
+    {
+        Handle { ring: self, pass }
+    }
+}
+
+impl<'a, E: Kind, T: Words> Handle<'a, E, T> {
+    /// The pass. No atomic step.
+    pub fn into_pass(self) -> Pass<E, T>
+        ensures { result ≡ pass_in self.entry }
+    {
+        self.pass
+    }
+
+    /// A further handle of the queue, with a pass that has seen the same and made nothing, as by `Pass::split`.
+    pub fn split(&mut self) -> Option<Handle<'a, E, T>>
+        ensures queue { ring_in self.new ≡ ring_in self.old }
+        ensures pass { queue_of (pass_in self.new) ≡ queue_of (pass_in self.old) }
+        ensures new { IfSome result (λ h. ring_in h ≡ ring_in self.old) }
+        ensures cut { IfSome result (λ h. HasSplit (knows self.old) (knows self.new) (knows h)) }
+        ensures none { IfNone result (knows self.new ≡ knows self.old) }
+    {
+        let pass = self.pass.split()?;
+        Some(Handle {
+            ring: self.ring,
+            pass,
+        })
+    }
+
+    /// As `acquire_producer` of its queue: the producer, which owns the pass, or the handle where another has the role.
+    pub fn acquire_producer(self) -> Result<Producer<'a, E, T>, Handle<'a, E, T>>
+        ensures acquired { IfOk result (λ p. (producer_queue p ≡ queue_of (pass_in self.entry))
+            × GoesOn (coding_of T.WORDS T.words_of T.value_of) E.KIND (queue_of (pass_in self.entry)).capacity
+            (knows self.entry) (producer_view p)
+            × HasAcquired roles.Producer true (knows self.entry) (producer_view p)) }
+        ensures refused { IfErr result (λ h. (ring_in h ≡ ring_in self.entry)
+            × GoesOn (coding_of T.WORDS T.words_of T.value_of) E.KIND (queue_of (pass_in self.entry)).capacity
+            (knows self.entry) (knows h)
+            × HasAcquired roles.Producer false (knows self.entry) (knows h)) }
+    {
+        let Handle { ring, pass } = self;
+        match ring.acquire_producer(pass) {
+            Ok(producer) => Ok(producer),
+            Err(pass) => Err(ring.handle(pass)),
+        }
+    }
+
+    /// As `acquire_consumer` of its queue: the consumer, which owns the pass, or the handle where another has the role.
+    pub fn acquire_consumer(self) -> Result<Consumer<'a, E, T>, Handle<'a, E, T>>
+        ensures acquired { IfOk result (λ c. (consumer_queue c ≡ queue_of (pass_in self.entry))
+            × GoesOn (coding_of T.WORDS T.words_of T.value_of) E.KIND (queue_of (pass_in self.entry)).capacity
+            (knows self.entry) (consumer_view c)
+            × HasAcquired roles.Consumer true (knows self.entry) (consumer_view c)) }
+        ensures refused { IfErr result (λ h. (ring_in h ≡ ring_in self.entry)
+            × GoesOn (coding_of T.WORDS T.words_of T.value_of) E.KIND (queue_of (pass_in self.entry)).capacity
+            (knows self.entry) (knows h)
+            × HasAcquired roles.Consumer false (knows self.entry) (knows h)) }
+    {
+        let Handle { ring, pass } = self;
+        match ring.acquire_consumer(pass) {
+            Ok(consumer) => Ok(consumer),
+            Err(pass) => Err(ring.handle(pass)),
+        }
+    }
+
+    /// As `capacity` of its queue.
+    pub fn capacity(&self) -> usize
+        ensures { result ≡ capacity_of (ring_in self.now) }
+    {
+        self.ring.capacity()
+    }
+
+    /// As `len` of its queue.
+    pub fn len(&mut self, rt: &impl Wait) -> usize
+        ensures queue { ring_in self.new ≡ ring_in self.old }
+        ensures goes { GoesOn (coding_of T.WORDS T.words_of T.value_of) E.KIND (queue_of (pass_in self.old)).capacity
+            (knows self.old) (knows self.new) }
+        ensures counted { HasMeasured measures.Len (capacity_of (ring_in self.old)) (Number result)
+            (knows self.old) (knows self.new) }
+        ensures few { result ≤ most_waiting E.KIND (capacity_of (ring_in self.old)) }
+    {
+        self.ring.len(rt, &mut self.pass)
+    }
+
+    /// As `is_empty` of its queue.
+    pub fn is_empty(&mut self, rt: &impl Wait) -> bool
+        ensures queue { ring_in self.new ≡ ring_in self.old }
+        ensures goes { GoesOn (coding_of T.WORDS T.words_of T.value_of) E.KIND (queue_of (pass_in self.old)).capacity
+            (knows self.old) (knows self.new) }
+        ensures told { HasMeasured measures.IsEmpty (capacity_of (ring_in self.old)) (Truth result)
+            (knows self.old) (knows self.new) }
+    {
+        self.ring.is_empty(rt, &mut self.pass)
+    }
+
+    /// As `is_full` of its queue.
+    pub fn is_full(&mut self, rt: &impl Wait) -> bool
+        ensures queue { ring_in self.new ≡ ring_in self.old }
+        ensures goes { GoesOn (coding_of T.WORDS T.words_of T.value_of) E.KIND (queue_of (pass_in self.old)).capacity
+            (knows self.old) (knows self.new) }
+        ensures told { HasMeasured measures.IsFull (capacity_of (ring_in self.old)) (Truth result)
+            (knows self.old) (knows self.new) }
+    {
+        self.ring.is_full(rt, &mut self.pass)
+    }
+
+    /// As `Pass::look`.
+    pub fn look(&mut self)
+        ensures queue { ring_in self.new ≡ ring_in self.old }
+        ensures goes { GoesOn (coding_of T.WORDS T.words_of T.value_of) E.KIND (queue_of (pass_in self.old)).capacity
+            (knows self.old) (knows self.new) }
+        ensures looked { HasLooked (knows self.old) (knows self.new) }
+    {
+        self.pass.look();
+    }
+}
