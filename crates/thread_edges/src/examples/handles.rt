@@ -1,7 +1,10 @@
 //! What CALLING.md shows of handles: three threads ring, with no clause. And handles of a value.
 
 use lock_free::mpmc::bit_set::{BitSet, Handle};
+use lock_free::mpmc::unique_index_set;
+use lock_free::mpmc::unique_index_set::UniqueIndexSet;
 use lock_free::spmc::unrestricted_atomic::UnrestrictedAtomic;
+use lock_free::spsc::index_queue::IndexQueue;
 use std::sync::Wait;
 use std::test::Fail;
 use std::thread;
@@ -18,11 +21,17 @@ fn ring(rt: &impl Wait, ringer: Ringer<'_>) -> bool {
     bell < bells.capacity() && bells.set(rt, bell)
 }
 
-fn all<'a, R: Threads + Wait + Sync>(rt: &R, a: Ringer<'a>, b: Ringer<'a>, c: Ringer<'a>) -> bool {
+fn all<'a, R: Threads + Wait + Sync>(
+    rt: &R,
+    a: Ringer<'a>,
+    b: Ringer<'a>,
+    c: Ringer<'a>,
+) -> Option<bool> {
     thread::scope(thread::scope_env(), rt, |scope| {
-        scope.spawn(move || ring(rt, a)).is_ok()
-            && scope.spawn(move || ring(rt, b)).is_ok()
-            && scope.spawn(move || ring(rt, c)).is_ok()
+        let a = scope.spawn(move || ring(rt, a)).ok()?;
+        let b = scope.spawn(move || ring(rt, b)).ok()?;
+        let c = scope.spawn(move || ring(rt, c)).ok()?;
+        Some(a.join(rt) & b.join(rt) & c.join(rt))
     })
 }
 
@@ -33,7 +42,7 @@ fn three_ring(rt: HostRuntime) -> Result<(), Fail> {
     let other = bells.split().ok_or("no further handle")?;
     let third = bells.split().ok_or("no further handle")?;
     let mut last = bells.split().ok_or("no further handle")?;
-    let started = all(
+    let rang = all(
         &rt,
         Ringer { bells, bell: 1 },
         Ringer {
@@ -47,7 +56,7 @@ fn three_ring(rt: HostRuntime) -> Result<(), Fail> {
     );
     let mut heard = 0u64;
     last.reset_all(|_| heard = heard.wrapping_add(1));
-    assert!(rt; started && heard == 3);
+    assert!(rt; rang == Some(true) && heard == 3);
     Ok(())
 }
 
@@ -66,5 +75,52 @@ fn one_stores_and_two_load(rt: HostRuntime) -> Result<(), Fail> {
     assert!(rt; mine.load(&rt) == 8 && other.load(&rt) == 8);
     let mut again = value.handle(mine.into_pass());
     assert_eq!(rt; again.load(&rt), 8);
+    Ok(())
+}
+
+/// Takes an index so many times, and gives it back: how often it got one.
+fn uses(rt: &impl Wait, pool: unique_index_set::Handle<'_>, times: u64) -> u64 {
+    let (mut pool, mut got) = (pool, 0u64);
+    for _ in rt.forever() {
+        if got >= times {
+            break;
+        }
+        match pool.acquire(rt) {
+            Ok(index) => {
+                got += 1;
+                pool = index.give_back();
+            }
+            Err((_, handle)) => pool = handle,
+        }
+    }
+    got
+}
+
+#[test]
+fn one_uses_a_pool(rt: HostRuntime) -> Result<(), Fail> {
+    let (set, pass) = UniqueIndexSet::new(rt.alloc(), 2)?;
+    assert_eq!(rt; uses(&rt, set.handle(pass), 100), 100);
+    Ok(())
+}
+
+#[test]
+fn a_queue_by_handles(rt: HostRuntime) -> Result<(), Fail> {
+    let (queue, pass) = IndexQueue::new(rt.alloc(), 4)?;
+    let mut mine = queue.handle(pass);
+    let other = mine.split().ok_or("no further handle")?;
+    let mut third = mine.split().ok_or("no further handle")?;
+    let mut producer = mine.acquire_producer().map_err(|_| "taken")?;
+    let mut consumer = other.acquire_consumer().map_err(|_| "taken")?;
+    assert!(rt; producer.push(7) && third.len(&rt) == 1 && !third.is_full(&rt));
+    assert!(rt; consumer.pop() == Some(7) && third.is_empty(&rt) && third.capacity() == 4);
+    third.look();
+    let Err(mut third) = third.acquire_producer() else {
+        return Err("two have the role".into());
+    };
+    assert_eq!(rt; third.len(&rt), 0);
+    let Err(third) = third.acquire_consumer() else {
+        return Err("two have the role".into());
+    };
+    drop(third.into_pass());
     Ok(())
 }

@@ -1,5 +1,5 @@
 //! The calls on an index that is held.
-ghost use Rattle.std.specs.Prelude.{◌≡◌, ℕ};
+ghost use Rattle.std.specs.Prelude.{◌≡◌, ◌<◌, ℕ};
 ghost use Rattle.steps.specs.declared.indices.enums.ReleaseState.TheVariants.{Unlocked};
 ghost use Rattle.history.specs.Passes.{HasJoined};
 ghost use Rattle.lock_free.specs.Unique.Held.{IsSound};
@@ -10,9 +10,10 @@ ghost use Rattle.lock_free.specs.UniqueIndexSet.{view, set_of, made, HasHistory,
 use super::{Pass, UniqueIndex};
 
 impl<'a> UniqueIndex<'a> {
-    /// The index. After `value` of the Rust crate.
+    /// The index, which is below the capacity. After `value` of the Rust crate.
     pub fn value(&self) -> u32
-        ensures { result ≡ value_of self.now }
+        ensures value { result ≡ value_of self.now }
+        ensures below { result < (index_set self.now).capacity }
     {
         self.index
     }
