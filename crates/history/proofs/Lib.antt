@@ -1,5 +1,6 @@
 -- The rule of a machine, for all kinds and calls.
 pub mod Known
+pub mod Reached
 pub mod Calls
 pub mod Turns
 pub mod Steps
@@ -9,6 +10,7 @@ pub mod Sized
 pub mod CallsIn
 pub mod CallTurns
 pub mod Drives
+pub mod Decisions
 pub mod Made
 pub mod Sets
 pub mod Ledger
