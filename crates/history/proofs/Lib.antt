@@ -18,6 +18,9 @@ pub mod Held
 pub mod Roles
 pub mod Indices
 pub mod IndexCalls
+pub mod Robusts
+pub mod RobustParts
+pub mod RobustCalls
 pub mod Rooms
 pub mod Values
 pub mod Queues
