@@ -21,6 +21,7 @@ pub mod IndexCalls
 pub mod Robusts
 pub mod RobustParts
 pub mod RobustCalls
+pub mod RobustRecoveries
 pub mod Rooms
 pub mod Values
 pub mod Queues
