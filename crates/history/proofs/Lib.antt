@@ -5,6 +5,7 @@ pub mod Calls
 pub mod Turns
 pub mod Steps
 pub mod Passes
+pub mod Looking
 pub mod Called
 pub mod Sized
 pub mod CallsIn
