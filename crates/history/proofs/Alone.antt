@@ -22,15 +22,14 @@ use Rattle.model.specs.Step.{answer_in}
 use Rattle.model.specs.Turns.{after_turn, events_of, ending_of}
 use Rattle.model.specs.World.{World, Trace, capacity_error}
 use Rattle.model.specs.World as worlds
-use Rattle.model.proofs.Reached.{reached_on_opening}
 use Rattle.queue_laws.proofs.Queues.Knows.{IsFreshCall}
-use Rattle.queue_laws.proofs.Queues.Sound.{fresh_opening}
 use Rattle.lock_free_sp.specs.Shares.{all_shares}
 use Rattle.history.specs.declared.view.View.{View}
 use Rattle.history.specs.History.{IsMachine, call_in}
 use Rattle.history.specs.Known.{owned, events_by}
 use Rattle.history.specs.Stages.{Calling, Starts}
 use Rattle.history.specs.Views.{first_view}
+use Rattle.history.proofs.Reached.{reached_as_opening, fresh_as_opening}
 use Rattle.history.proofs.Calls.{call_then}
 use Rattle.history.proofs.Known.{known_alone, by_mine, AreOf}
 use Rattle.history.proofs.Steps.{settle}
@@ -59,7 +58,8 @@ module _ {T : Type 0} (code : Coding T) (kind : Kind) (capacity size : ℕ) (eff
         u = t;
         between =
             record {
-              run = record { reached = reached_on_opening code kind capacity 0 coded admitted; coded = refl; of_kind = refl; sized = refl; fresh = fresh_opening code kind capacity 0 };
+              run = record { reached = reached_as_opening code kind capacity 0 coded admitted; coded = refl; of_kind = refl; sized = refl; fresh
+                  = fresh_as_opening code kind capacity 0 };
               words = refl;
               others = λ j v ne at. absurd (other j v ne at);
               mine = refl;

@@ -13,6 +13,7 @@ use Rattle.model.specs.declared.event.Event.TheVariants.{Begun, Finished}
 use Rattle.model.specs.declared.event.Start.{Start}
 use Rattle.model.specs.declared.families.Flight.{Flight}
 use Rattle.model.specs.declared.turn.Kind.{Kind}
+use Rattle.model.specs.declared.turn.Turn.{Turn}
 use Rattle.model.specs.declared.turn.Turn.TheVariants.{Begin, Next}
 use Rattle.model.specs.Coding.{Coding}
 use Rattle.model.specs.Families.{first_of, begin_rows, want_of, after_of, ask_of}
@@ -220,6 +221,28 @@ module _ {T C M E : Type 0} (code : Coding T) (kind : Kind) (effects : World T �
           prior = λ base' stage. later_prior p mine under.mine base' under.going stage;
         }
 
+  -- the call is later by what a turn of its party wrote, and by its end
+  pub since_turn : (p id : ℕ) (turn : Turn T) (u : Trace T) (v base : View T) (gained wrote effs last : List (Event T))
+      → Prior p call.start wrote base u.events (v.made ++ gained) → events_of u.world turn ≡ effs ++ last
+      → events_by p (events_of u.world turn) ≡ events_by p effs ++ last
+      → Since p call.start (wrote ++ events_by p effs) last base
+          (view_after code kind base.capacity id p v (gained ++ events_by p (events_of u.world turn)) (after_turn u turn))
+  since_turn p id turn u v base gained wrote effs last prior told_now own_now =
+      record {
+        others = prior.others;
+        during = prior.during ++ effs;
+        is = ap (λ zs. u.events ++ zs) told_now
+            ∙ (ap (λ zs. zs ++ (effs ++ last)) prior.is ∙ regroup (base.seen ++ prior.others) (opened p call.start base.going) prior.during effs last);
+        alone = prior.alone;
+        others_own = prior.others_own;
+        during_own = by_more p prior.during effs ∙ ap (λ zs. zs ++ events_by p effs) prior.during_own;
+        made =
+            ap (λ zs. v.made ++ (gained ++ zs)) own_now
+            ∙ (sym (append_assoc v.made gained (events_by p effs ++ last))
+                ∙ (ap (λ zs. zs ++ (events_by p effs ++ last)) prior.made_is
+                ∙ regroup base.made (opened p call.start base.going) wrote (events_by p effs) last));
+      }
+
   -- ---- what the step tells
 
   module _ (s : State (Unit {0}) (View T)) (v : View T) (key id : ℕ) (c : C) (m : M) (at : get_elem? s.views id ≡ some v) (known : v.capacity ≡ key) (y : Ready s v key id c m) (ask : Option Ask) (low : IfSome ask (λ a. a.word < size_of key)) (asks_it : want_of code (call.flight c m) ≡ want_for ask) (finds : IsFreshCall (at_ask s.words ask) (call.flight c m)) where
@@ -273,15 +296,7 @@ module _ {T C M E : Type 0} (code : Coding T) (kind : Kind) (effects : World T �
         let own_now : events_by y.p (events_of y.u.world (Next y.p)) ≡ mine_now ++ last =
         own_told code kind key (size_of key) effects (laws key) y.owner s id y.p y.gained y.u y.between call.start flight_now ask low y.there asks_it finds ∙ ap (λ zs. mine_now ++ zs) ends
         in
-        record {
-          others = prior.others;
-          during = prior.during ++ effs;
-          is = ap (λ zs. y.u.events ++ zs) told_now ∙ (ap (λ zs. zs ++ (effs ++ last)) prior.is ∙ regroup (base.seen ++ prior.others) (opened y.p call.start base.going) prior.during effs last);
-          alone = prior.alone;
-          others_own = prior.others_own;
-          during_own = by_more y.p prior.during effs ∙ ap (λ zs. zs ++ mine_now) prior.during_own;
-          made = ap (λ zs. v.made ++ (y.gained ++ zs)) own_now ∙ (sym (append_assoc v.made y.gained (mine_now ++ last)) ∙ (ap (λ zs. zs ++ (mine_now ++ last)) prior.made_is ∙ regroup base.made (opened y.p call.start base.going) wrote mine_now last));
-        }
+        since_turn y.p id (Next y.p) y.u v base y.gained wrote effs last prior told_now own_now
 
     -- the call goes on
     pub goes_then : (base : View T) (stage : Stage base v c m) (d : C) (m' : M) → after_of code flight_now found ≡ GoOn (call.flight d m') → call.stands base.capacity d → ((n : ℕ) → call.skips d n ≡ false)

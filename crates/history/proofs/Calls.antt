@@ -1,5 +1,6 @@
 -- Where the calls of a machine stand after a turn.
-use Rattle.std.proofs.Common.{◌≡◌, ◌≢◌, ℕ, zero, suc, ◌+◌, ◌<◌, Option, Some, None, List, [], ◌∷◌, ◌++◌, length, get_or, set, refl, ap, ◌∙◌, arith}
+use Rattle.std.proofs.Common.{◌≡◌, ◌≢◌, ℕ, zero, suc, ◌+◌, ◌<◌, Bool, Option, Some, None, List, [], ◌∷◌, ◌++◌, length, get_or, set, refl, ap, ◌∙◌, arith}
+use Rattle.steps.specs.declared.ask.Ask.{Ask}
 use Rattle.steps.specs.declared.ask.After.{After}
 use Rattle.steps.specs.declared.ask.After.TheVariants.{GoOn, Done}
 use Rattle.model.specs.declared.event.Answer.{Answer}
@@ -13,7 +14,7 @@ use Rattle.model.specs.declared.party.Party.{Party}
 use Rattle.model.specs.Families.{want_of, after_of, ask_of}
 use Rattle.model.specs.Parties.{party_of, doing_of, flight_of}
 use Rattle.model.specs.Step.{Step, answer_in}
-use Rattle.model.specs.Turns.{after_begin, after_next, after_answer, after_step, party_after, party_at_begin, step_count, change_of, step_in, events_of_next, events_of_answer, ending_of, old_of, ask_of_doing}
+use Rattle.model.specs.Turns.{after_begin, after_next, after_answer, after_decision, after_step, party_after, party_at_begin, step_count, change_of, number_of, step_in, events_of_next, events_of_decision, events_of_step, events_of_answer, ending_of, old_of, ask_of_doing}
 use Rattle.model.specs.World.{World, flight_in}
 use Rattle.model.proofs.Parties.{party_put_same, party_put_other}
 use Rattle.history.specs.History.{call_at, call_of, call_in}
@@ -71,6 +72,14 @@ module _ {T : Type 0} where
   begin_other w p q start ne None = refl
   begin_other w p q start ne (Some flight) = ap call_of (party_put_other q p _ w.latest ne)
 
+  pub decision_other : (w : World T) (p q : ℕ) (said : Bool) → q ≢ p → (o : Option (Party T)) → call_in (after_decision w p said o) q ≡ call_in w q
+  decision_other w p q said ne None = refl
+  decision_other w p q said ne (Some x) = go x.doing
+    where
+      go : (doing : Doing T) → call_in (after_answer w p x None (number_of said) doing) q ≡ call_in w q
+      go (Over others) = refl
+      go (Going flight since) = ap call_of (party_put_other q p _ w.latest ne)
+
   -- ---- the own call
 
   -- where it stands once it has gone on
@@ -94,20 +103,40 @@ module _ {T : Type 0} where
   then_at start changes since (Done answer) = refl
 
   -- where the family goes on as its table says
-  pub moved : (w : World T) (p : ℕ) (start : Start T) (flight : Flight T) (writes : ℕ → List (Event T)) → Stands w p start flight
-      → ((x : Party T) (n : ℕ) → party_of p w.latest ≡ Some x → (step_in w p x flight n).after ≡ after_of w.coding flight n)
-      → ((x : Party T) (n : ℕ) → party_of p w.latest ≡ Some x → (step_in w p x flight n).wrote ≡ writes n)
-      → Moved w p start flight (old_of w.words (ask_of (want_of w.coding flight))) (writes (old_of w.words (ask_of (want_of w.coding flight))))
-  moved w p start flight writes h goes same =
-      let old = old_of w.words (ask_of (want_of w.coding flight)) in
-      let s : Step (Flight T) (Kept T) T = step_in w p h.x flight old in
-      let after = goes h.x old h.found in
-      let ask = ask_of (want_of w.coding flight) in
-      let there : call_in (after_step w p h.x h.since ask s) p ≡ call_at h.x.start (Rattle.model.specs.Turns.doing_after (w.changes + change_of w.words ask) (h.since + change_of w.words ask) s.after) = ap call_of (party_put_same p (party_after h.x h.since w.changes (step_count ask) (change_of w.words ask) s) w.latest) in
-      record {
-        going = rw (h.found, h.doing) (there ∙ (then_at h.x.start _ _ s.after ∙ (ap (call_then h.x.start) after ∙ ap (λ (z : Start T). call_then z (after_of w.coding flight old)) h.named)));
-        events = rw (h.found, h.doing) (ap (λ (a : After (Flight T) (Answer T)). s.wrote ++ ending_of p h.x.start (answer_in a)) after ∙ (ap (λ (z : Start T). s.wrote ++ ending_of p z (answer_in (after_of w.coding flight old))) h.named ∙ ap (λ es. es ++ ending_of p start (answer_in (after_of w.coding flight old))) (same h.x old h.found)));
-      }
+  module _ (w : World T) (p : ℕ) (start : Start T) (flight : Flight T) (writes : ℕ → List (Event T)) (h : Stands w p start flight)
+      (goes : (x : Party T) (n : ℕ) → party_of p w.latest ≡ Some x → (step_in w p x flight n).after ≡ after_of w.coding flight n)
+      (same : (x : Party T) (n : ℕ) → party_of p w.latest ≡ Some x → (step_in w p x flight n).wrote ≡ writes n) where
+    -- handed this, where it asked for that
+    module _ (ask : Option Ask) (old : ℕ) where
+      abbrev s : Step (Flight T) (Kept T) T
+      s = step_in w p h.x flight old
+
+      abbrev after : After (Flight T) (Answer T)
+      after = after_of w.coding flight old
+
+      stepped : call_in (after_step w p h.x h.since ask s) p ≡ call_then start after
+      stepped =
+          ap call_of (party_put_same p (party_after h.x h.since w.changes (step_count ask) (change_of w.words ask) s) w.latest)
+          ∙ (then_at h.x.start _ _ s.after ∙ (ap (call_then h.x.start) (goes h.x old h.found) ∙ ap (λ (z : Start T). call_then z after) h.named))
+
+      tells : events_of_step p h.x.start s ≡ writes old ++ ending_of p start (answer_in after)
+      tells =
+          ap (λ (a : After (Flight T) (Answer T)). s.wrote ++ ending_of p h.x.start (answer_in a)) (goes h.x old h.found)
+          ∙ (ap (λ (z : Start T). s.wrote ++ ending_of p z (answer_in after)) h.named
+              ∙ ap (λ es. es ++ ending_of p start (answer_in after)) (same h.x old h.found))
+
+    pub moved : Moved w p start flight (old_of w.words (ask_of (want_of w.coding flight))) (writes (old_of w.words (ask_of (want_of w.coding flight))))
+    moved =
+        let ask = ask_of (want_of w.coding flight) in
+        record { going = rw (h.found, h.doing) (stepped ask (old_of w.words ask)); events = rw (h.found, h.doing) (tells ask (old_of w.words ask)) }
+
+    -- handed an answer to its question
+    pub heard_going : (said : Bool) → call_in (after_decision w p said (party_of p w.latest)) p ≡ call_then start (after_of w.coding flight (number_of said))
+    heard_going said = rw (h.found, h.doing) (stepped None (number_of said))
+
+    pub heard_events : (said : Bool) → events_of_decision w p said (party_of p w.latest) ≡ writes (number_of said) ++ ending_of p start
+        (answer_in (after_of w.coding flight (number_of said)))
+    heard_events said = rw (h.found, h.doing) (tells None (number_of said))
 
 -- ---- words, and one more
 

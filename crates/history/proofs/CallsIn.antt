@@ -53,17 +53,29 @@ module _ {T C M E : Type 0} (call : Calling T C M E) where
   goes (GoOn d) m = GoOn (call.flight d m)
   goes (Done e) m = Done (call.answer e m)
 
-pub record IsCallOf {T C M E : Type 0} (code : Coding T) (effects : ℕ → Flight T → ℕ → List (Event T)) (size_of : ℕ → ℕ) (want : C → Want (Unit {0})) (after : C → ℕ → After C E) (kept : C → M → ℕ → M) (call : Calling T C M E) : Type 0 where
+-- it is at a word of so many
+abbrev pub AsksFor : ℕ → Want (Unit {0}) → Type 0
+AsksFor size want = (a : Ask) × (a.word < size) × (want ≡ wants.Ask a)
+
+-- the steps of a call whose kind's parties write for themselves alone, with what is known of the words that it asks for
+pub record StepsOf {T C M E : Type 0} (Asks : Type 0) (code : Coding T) (effects : ℕ → Flight T → ℕ → List (Event T)) (want : C → Want (Unit {0}))
+    (after : C → ℕ → After C E) (kept : C → M → ℕ → M) (call : Calling T C M E) : Type 0 where
   pub same_want : (c : C) (m : M) → want_of code (call.flight c m) ≡ want c
   pub same_after : (capacity : ℕ) (c : C) (m : M) (n : ℕ) → call.stands capacity c → after_of code (call.flight c m) n ≡ goes call (after c n) (kept c m n)
   pub hears : (c : C) (m : M) (a : Ask) (n : ℕ) → want c ≡ wants.Ask a → (after c (answered a.op n) ≡ after c n) × (kept c m (answered a.op n) ≡ kept c m n)
   pub stays : (capacity : ℕ) (c d : C) (n : ℕ) → call.stands capacity c → after c n ≡ GoOn d → call.stands capacity d
-  pub asks : (capacity : ℕ) (c : C) → call.stands capacity c → (a : Ask) × (a.word < size_of capacity) × (want c ≡ wants.Ask a)
+  pub asks : Asks
   pub past : (capacity : ℕ) (c d : C) (n k : ℕ) → call.stands capacity c → after c n ≡ GoOn d → call.skips d k ≡ false
   pub finds : (c : C) (m : M) (n : ℕ) → n < 2 ^ 64 → call.skips c n ≡ false → IsFreshCall n (call.flight c m)
   pub leaves : (c : C) (a : Ask) (n : ℕ) → call.skips c n ≡ true → want c ≡ wants.Ask a → (written a.op n ≡ n) × (e : E) × call.left e × (after c n ≡ Done e)
   pub tells : (capacity p : ℕ) (from : Option (Start T × Flight T)) (c d : C) (m : M) (n : ℕ) (es : List (Event T)) → call.stands capacity c → call.wrote capacity p from c m es → after c n ≡ GoOn d → call.wrote capacity p from d (kept c m n) (es ++ effects p (call.flight c m) n)
   pub tells_all : (capacity p : ℕ) (from : Option (Start T × Flight T)) (c : C) (e : E) (m : M) (n : ℕ) (es : List (Event T)) → call.stands capacity c → call.skips c n ≡ false → call.wrote capacity p from c m es → after c n ≡ Done e → call.wrote_all capacity p from e (kept c m n) (es ++ effects p (call.flight c m) n)
+
+-- each step of it is at a word
+abbrev pub IsCallOf : {T C M E : Type 0} → Coding T → (ℕ → Flight T → ℕ → List (Event T)) → (ℕ → ℕ) → (C → Want (Unit {0})) → (C → ℕ → After C E)
+    → (C → M → ℕ → M) → Calling T C M E → Type 0
+IsCallOf {T} {C} {M} {E} code effects size_of want after kept call =
+    StepsOf ((capacity : ℕ) (c : C) → call.stands capacity c → AsksFor (size_of capacity) (want c)) code effects want after kept call
 
 -- what is so as a call is to take a step: of a machine that has this word there, of which the party, where its call began
 -- in this drive, wrote this since then
@@ -73,13 +85,14 @@ pub record Met {T : Type 0} (code : Coding T) (kind : Kind) (capacity : ℕ) (st
   pub found : old_of t.world.words (ask_of (want_of code flight)) ≡ n
   pub span : from ≡ None → span_of p t.events ≡ fold own_after (Open start []) es
 
--- a call of a kind whose steps write by what the machine is, and for which another may have written
-pub record IsCallIn {T C M E : Type 0} (code : Coding T) (kind : Kind) (effects : World T → ℕ → Flight T → ℕ → List (Event T)) (size_of : ℕ → ℕ) (want : C → Want (Unit {0})) (after : C → ℕ → After C E) (kept : C → M → ℕ → M) (call : Calling T C M E) : Type 0 where
+-- the same of a kind whose steps write by what the machine is, and where another may have written for the call
+pub record StepsIn {T C M E : Type 0} (Asks : Type 0) (code : Coding T) (kind : Kind) (effects : World T → ℕ → Flight T → ℕ → List (Event T))
+    (want : C → Want (Unit {0})) (after : C → ℕ → After C E) (kept : C → M → ℕ → M) (call : Calling T C M E) : Type 0 where
   pub same_want : (c : C) (m : M) → want_of code (call.flight c m) ≡ want c
   pub same_after : (capacity : ℕ) (c : C) (m : M) (n : ℕ) → call.stands capacity c → after_of code (call.flight c m) n ≡ goes call (after c n) (kept c m n)
   pub hears : (c : C) (m : M) (a : Ask) (n : ℕ) → want c ≡ wants.Ask a → (after c (answered a.op n) ≡ after c n) × (kept c m (answered a.op n) ≡ kept c m n)
   pub stays : (capacity : ℕ) (c d : C) (n : ℕ) → call.stands capacity c → after c n ≡ GoOn d → call.stands capacity d
-  pub asks : (capacity : ℕ) (c : C) → call.stands capacity c → (a : Ask) × (a.word < size_of capacity) × (want c ≡ wants.Ask a)
+  pub asks : Asks
   pub past : (capacity : ℕ) (c d : C) (n k : ℕ) → call.stands capacity c → after c n ≡ GoOn d → call.skips d k ≡ false
   pub finds : (c : C) (m : M) (n : ℕ) → n < 2 ^ 64 → call.skips c n ≡ false → IsFreshCall n (call.flight c m)
   pub leaves : (c : C) (a : Ask) (n : ℕ) → call.skips c n ≡ true → want c ≡ wants.Ask a → (written a.op n ≡ n) × (e : E) × call.left e × (after c n ≡ Done e)
@@ -88,12 +101,19 @@ pub record IsCallIn {T C M E : Type 0} (code : Coding T) (kind : Kind) (effects 
   pub tells_all : (capacity p : ℕ) (from : Option (Start T × Flight T)) (c : C) (e : E) (m : M) (n : ℕ) (es late : List (Event T)) (t : Trace T) → call.stands capacity c → call.skips c n ≡ false → call.wrote capacity p from c m es → IsLate kind (Some (call.start, call.flight c m)) late
       → Met code kind capacity call.start (call.flight c m) p from (es ++ late) n t → after c n ≡ Done e → call.wrote_all capacity p from e (kept c m n) ((es ++ late) ++ events_by p (effects t.world p (call.flight c m) n))
 
+abbrev pub IsCallIn : {T C M E : Type 0} → Coding T → Kind → (World T → ℕ → Flight T → ℕ → List (Event T)) → (ℕ → ℕ) → (C → Want (Unit {0}))
+    → (C → ℕ → After C E) → (C → M → ℕ → M) → Calling T C M E → Type 0
+IsCallIn {T} {C} {M} {E} code kind effects size_of want after kept call =
+    StepsIn ((capacity : ℕ) (c : C) → call.stands capacity c → AsksFor (size_of capacity) (want c)) code kind effects want after kept call
+
 -- a call that writes by its own is such a call, of any kind for which nobody else writes
-pub in_machine : {T C M E : Type 0} (code : Coding T) (kind : Kind) (effects : World T → ℕ → Flight T → ℕ → List (Event T)) (own : ℕ → Flight T → ℕ → List (Event T)) (size_of : ℕ → ℕ) (want : C → Want (Unit {0})) (after : C → ℕ → After C E) (kept : C → M → ℕ → M) (call : Calling T C M E)
+pub steps_in : {T C M E Asks : Type 0} (code : Coding T) (kind : Kind) (effects : World T → ℕ → Flight T → ℕ → List (Event T))
+    (own : ℕ → Flight T → ℕ → List (Event T)) (want : C → Want (Unit {0})) (after : C → ℕ → After C E) (kept : C → M → ℕ → M) (call : Calling T C M E)
     → ((c : C) (m : M) (late : List (Event T)) → IsLate kind (Some (call.start, call.flight c m)) late → late ≡ [])
-    → ((capacity p : ℕ) (c : C) (m : M) (n : ℕ) (t : Trace T) → IsRun code kind capacity t → call_in t.world p ≡ Some (call.start, call.flight c m) → events_by p (effects t.world p (call.flight c m) n) ≡ own p (call.flight c m) n)
-    → IsCallOf code own size_of want after kept call → IsCallIn code kind effects size_of want after kept call
-in_machine {T} {C} {M} {E} code kind effects own size_of want after kept call never same h =
+    → ((capacity p : ℕ) (c : C) (m : M) (n : ℕ) (t : Trace T) → IsRun code kind capacity t → call_in t.world p ≡ Some (call.start, call.flight c m)
+        → events_by p (effects t.world p (call.flight c m) n) ≡ own p (call.flight c m) n)
+    → StepsOf Asks code own want after kept call → StepsIn Asks code kind effects want after kept call
+steps_in {T} {C} {M} {E} {Asks} code kind effects own want after kept call never same h =
     record {
       same_want = h.same_want;
       same_after = h.same_after;
@@ -111,6 +131,15 @@ in_machine {T} {C} {M} {E} code kind effects own size_of want after kept call ne
     all capacity p from c m n es late t waits met =
         ap (λ zs. (es ++ zs) ++ events_by p (effects t.world p (call.flight c m) n)) (never c m late waits)
         ∙ (ap (λ zs. zs ++ events_by p (effects t.world p (call.flight c m) n)) (append-nil es) ∙ ap (λ zs. es ++ zs) (same capacity p c m n t met.run met.there))
+
+pub in_machine : {T C M E : Type 0} (code : Coding T) (kind : Kind) (effects : World T → ℕ → Flight T → ℕ → List (Event T))
+    (own : ℕ → Flight T → ℕ → List (Event T)) (size_of : ℕ → ℕ) (want : C → Want (Unit {0})) (after : C → ℕ → After C E) (kept : C → M → ℕ → M)
+    (call : Calling T C M E)
+    → ((c : C) (m : M) (late : List (Event T)) → IsLate kind (Some (call.start, call.flight c m)) late → late ≡ [])
+    → ((capacity p : ℕ) (c : C) (m : M) (n : ℕ) (t : Trace T) → IsRun code kind capacity t → call_in t.world p ≡ Some (call.start, call.flight c m)
+        → events_by p (effects t.world p (call.flight c m) n) ≡ own p (call.flight c m) n)
+    → IsCallOf code own size_of want after kept call → IsCallIn code kind effects size_of want after kept call
+in_machine code kind effects own size_of want after kept call = steps_in code kind effects own want after kept call
 
 -- no step of the call is the first load of a push
 abbrev pub NeverPushes : {T C M : Type 0} → (C → M → Flight T) → Type 0

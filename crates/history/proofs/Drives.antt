@@ -30,13 +30,15 @@ use Rattle.history.proofs.Calls.{get_left}
 use Rattle.history.proofs.Turns.{KindLaws, MachineLaws, machine_laws, Between}
 use Rattle.history.proofs.Steps.{settle}
 use Rattle.history.proofs.Passes.{set_same, looks_at}
-use Rattle.history.proofs.CallsIn.{by_bool}
+use Rattle.history.proofs.CallsIn.{by_bool, AsksFor, StepsOf, StepsIn, steps_in}
 use Rattle.history.proofs.CallTurns.{same_capacity, some_share, still_stands, Ready, ready, then_gained, next_between, view_then, goes_then, ends_then}
 pub use Rattle.history.proofs.CallsIn.{goes, IsCallOf, Met, IsCallIn, in_machine, NeverPushes}
 pub use Rattle.history.proofs.Called.{called, at_itself}
 pub use Rattle.history.proofs.Sized.{AtSized, EndsSized, keeps_sized}
 
-module _ {T C M E : Type 0} (code : Coding T) (kind : Kind) (effects : World T → ℕ → Flight T → ℕ → List (Event T)) (size_of : ℕ → ℕ) (laws : (capacity : ℕ) → MachineLaws code kind capacity (size_of capacity) effects) (want : C → Want (Unit {0})) (after : C → ℕ → After C E) (kept : C → M → ℕ → M) (call : Calling T C M E) (is_call : IsCallIn code kind effects size_of want after kept call) where
+module _ {T C M E Asks : Type 0} (code : Coding T) (kind : Kind) (effects : World T → ℕ → Flight T → ℕ → List (Event T)) (size_of : ℕ → ℕ)
+    (laws : (capacity : ℕ) → MachineLaws code kind capacity (size_of capacity) effects) (want : C → Want (Unit {0})) (after : C → ℕ → After C E)
+    (kept : C → M → ℕ → M) (call : Calling T C M E) (is_call : StepsIn Asks code kind effects want after kept call) where
   abbrev Step : View T → After C E → M → View T → Type 0
   Step base a m w = NextKnown (λ (z : View T). z.capacity) (At code kind call) (Over code kind call) base a m w
 
@@ -114,17 +116,20 @@ module _ {T C M E : Type 0} (code : Coding T) (kind : Kind) (effects : World T �
   calm base v c m n skip (inl first) late h = late_none kind late (subst (λ o. IsLate kind o late) (ap (λ (z : View T). z.going) first.is ∙ first.idle) h)
   calm base v c m n skip (inr under) late h = (let no : true ≡ false = sym skip ∙ under.past n in absurd (cc))
 
-  -- ---- each step of the call keeps the rule
+  -- ---- each step of the call at a word keeps the rule
 
-  pub keeps_in : KeepsRule (λ (z : View T). z.capacity) (At code kind call) (Over code kind call) (λ key. size_of key + 1) (λ key. key) (λ key. IsMachine code kind key) want after kept
-  keeps_in base₀ v c m key words slots id wide known at₀ =
-      let asked = is_call.asks base₀.capacity c (still_stands code kind effects size_of laws call base₀ v c m at₀) in
+  abbrev pub ToldOver : C → M → View T → ℕ → View T → Type 0
+  ToldOver c m = Told (λ (z : View T). z.capacity) (At code kind call) (Over code kind call) after kept c m
+
+  pub keeps_at : (base₀ v : View T) (c : C) (m : M) (key words slots id : ℕ) → words ≡ size_of key + 1 → v.capacity ≡ key → At code kind call base₀ v c m
+      → AsksFor (size_of base₀.capacity) (want c)
+      → Owes (IsMachine code kind key) words slots id (ToldOver c m) (want c) (v, [])
+  keeps_at base₀ v c m key words slots id wide known at₀ asked =
       let ask = asked.0 in
       let same : base₀.capacity ≡ key = sym (same_capacity code kind effects size_of laws call base₀ v c m at₀) ∙ known in
       let low : ask.word < size_of key = subst (λ z. ask.word < size_of z) same asked.1 in
       let below : ask.word < words = omega arith in
-      let told_by = Told (λ (z : View T). z.capacity) (At code kind call) (Over code kind call) after kept c m in
-      subst (λ w. Owes (IsMachine code kind key) words slots id told_by w (v, [])) (sym asked.2) (
+      subst (λ w. Owes (IsMachine code kind key) words slots id (ToldOver c m) w (v, [])) (sym asked.2) (
         below,
         λ s r long at small. by_bool (call.skips c (slice_index s.words ask.word)) (λ skip. (
             let out = is_call.leaves c ask (slice_index s.words ask.word) skip asked.2 in
@@ -153,12 +158,10 @@ module _ {T C M E : Type 0} (code : Coding T) (kind : Kind) (effects : World T �
     ended base e m w (inl ends) = ends
     ended base e m w (inr left) = (let no : false ≡ true = sym (never left.from left.word) ∙ left.skipped in absurd (cc))
 
-    next_ended : (base : View T) (r : After C E) (m : M) (w : View T) → Step base r m w → NextKnown (λ (z : View T). z.capacity) (At code kind call) (Ends code kind call) base r m w
+    pub next_ended : (base : View T) (r : After C E) (m : M) (w : View T) → Step base r m w
+        → NextKnown (λ (z : View T). z.capacity) (At code kind call) (Ends code kind call) base r m w
     next_ended base (GoOn d) m w h = h
     next_ended base (Done e) m w h = ended base e m w h
-
-    abbrev ToldOver : C → M → View T → ℕ → View T → Type 0
-    ToldOver c m = Told (λ (z : View T). z.capacity) (At code kind call) (Over code kind call) after kept c m
 
     abbrev ToldEnds : C → M → View T → ℕ → View T → Type 0
     ToldEnds c m = Told (λ (z : View T). z.capacity) (At code kind call) (Ends code kind call) after kept c m
@@ -166,25 +169,52 @@ module _ {T C M E : Type 0} (code : Coding T) (kind : Kind) (effects : World T �
     told_all : (c : C) (m : M) (x : View T) (n : ℕ) (w : View T) → ToldOver c m x n w → ToldEnds c m x n w
     told_all c m x n w h = (h.0, λ base stage. next_ended base (after c n) (kept c m n) w (h.1 base stage))
 
-    pub keeps_all_in : KeepsRule (λ (z : View T). z.capacity) (At code kind call) (Ends code kind call) (λ key. size_of key + 1) (λ key. key) (λ key. IsMachine code kind key) want after kept
-    keeps_all_in base₀ v c m key words slots id wide known at₀ = go (want c) (keeps_in base₀ v c m key words slots id wide known at₀)
+    pub keeps_ends : KeepsRule (λ (z : View T). z.capacity) (At code kind call) (Over code kind call) (λ key. size_of key + 1) (λ key. key)
+        (λ key. IsMachine code kind key) want after kept
+        → KeepsRule (λ (z : View T). z.capacity) (At code kind call) (Ends code kind call) (λ key. size_of key + 1) (λ key. key)
+            (λ key. IsMachine code kind key) want after kept
+    keeps_ends keeps base₀ v c m key words slots id wide known at₀ = go (want c) (keeps base₀ v c m key words slots id wide known at₀)
       where
         go : (w : Want (Unit {0})) → Owes (IsMachine code kind key) words slots id (ToldOver c m) w (v, []) → Owes (IsMachine code kind key) words slots id (ToldEnds c m) w (v, [])
         go (wants.Ask a) h = (h.0, λ s r long at small. (let x = h.1 s r long at small in (x.0, x.1, x.2, x.3, (told_all c m v _ x.0 x.4.0, x.4.1))))
         go (wants.Question q) h = told_all c m v 0 v h
         go wants.Nothing h = told_all c m v 0 v h
 
+-- ---- a call each step of which is at a word
+
+module _ {T C M E : Type 0} (code : Coding T) (kind : Kind) (effects : World T → ℕ → Flight T → ℕ → List (Event T)) (size_of : ℕ → ℕ)
+    (laws : (capacity : ℕ) → MachineLaws code kind capacity (size_of capacity) effects) (want : C → Want (Unit {0})) (after : C → ℕ → After C E)
+    (kept : C → M → ℕ → M) (call : Calling T C M E) (is_call : IsCallIn code kind effects size_of want after kept call) where
+  pub keeps_in : KeepsRule (λ (z : View T). z.capacity) (At code kind call) (Over code kind call) (λ key. size_of key + 1) (λ key. key)
+      (λ key. IsMachine code kind key) want after kept
+  keeps_in base₀ v c m key words slots id wide known at₀ =
+      keeps_at code kind effects size_of laws want after kept call is_call base₀ v c m key words slots id wide known at₀
+      (is_call.asks base₀.capacity c (still_stands code kind effects size_of laws call base₀ v c m at₀))
+
+  pub keeps_all_in : ((c : C) (n : ℕ) → call.skips c n ≡ false)
+      → KeepsRule (λ (z : View T). z.capacity) (At code kind call) (Ends code kind call) (λ key. size_of key + 1) (λ key. key)
+          (λ key. IsMachine code kind key) want after kept
+  keeps_all_in never = keeps_ends code kind effects size_of laws want after kept call is_call never keeps_in
+
 -- ---- of a kind whose parties write for themselves alone
 
-all_laws : {T : Type 0} (code : Coding T) (kind : Kind) (effects : ℕ → Flight T → ℕ → List (Event T)) (size_of : ℕ → ℕ) → ((capacity : ℕ) → KindLaws code kind capacity (size_of capacity) effects) → (capacity : ℕ) → MachineLaws code kind capacity (size_of capacity) (λ w. effects)
+pub all_laws : {T : Type 0} (code : Coding T) (kind : Kind) (effects : ℕ → Flight T → ℕ → List (Event T)) (size_of : ℕ → ℕ)
+    → ((capacity : ℕ) → KindLaws code kind capacity (size_of capacity) effects) → (capacity : ℕ)
+    → MachineLaws code kind capacity (size_of capacity) (λ w. effects)
 all_laws code kind effects size_of laws capacity = machine_laws code kind capacity (size_of capacity) effects (laws capacity)
+
+-- a call that writes by its own as one that may ask the machine
+pub steps_itself : {T C M E Asks : Type 0} (code : Coding T) (kind : Kind) (effects : ℕ → Flight T → ℕ → List (Event T)) (size_of : ℕ → ℕ)
+    → ((capacity : ℕ) → KindLaws code kind capacity (size_of capacity) effects)
+        → (want : C → Want (Unit {0})) (after : C → ℕ → After C E) (kept : C → M → ℕ → M) (call : Calling T C M E)
+    → StepsOf Asks code effects want after kept call → StepsIn Asks code kind (λ w. effects) want after kept call
+steps_itself code kind effects size_of laws want after kept call =
+    steps_in code kind (λ w. effects) effects want after kept call (λ c m late h. (laws 0).alone (Some (call.start, call.flight c m)) late h)
+    (λ capacity p c m n t run there. by_mine p (effects p (call.flight c m) n) (((laws capacity).goes_on t run p call.start (call.flight c m) there).own n))
 
 module _ {T C M E : Type 0} (code : Coding T) (kind : Kind) (effects : ℕ → Flight T → ℕ → List (Event T)) (size_of : ℕ → ℕ) (laws : (capacity : ℕ) → KindLaws code kind capacity (size_of capacity) effects) (want : C → Want (Unit {0})) (after : C → ℕ → After C E) (kept : C → M → ℕ → M) (call : Calling T C M E) (is_call : IsCallOf code effects size_of want after kept call) where
   by_itself : IsCallIn code kind (λ w. effects) size_of want after kept call
-  by_itself =
-      in_machine code kind (λ w. effects) effects size_of want after kept call (λ c m late h. (laws 0).alone (Some (call.start, call.flight c m)) late h)
-      (λ capacity p c m n t run there. by_mine p (effects p (call.flight c m) n) (((laws capacity).goes_on t run p call.start (call.flight c m) there).own n))
-      is_call
+  by_itself = steps_itself code kind effects size_of laws want after kept call is_call
 
   pub keeps : KeepsRule (λ (z : View T). z.capacity) (At code kind call) (Over code kind call) (λ key. size_of key + 1) (λ key. key) (λ key. IsMachine code kind key) want after kept
   keeps = keeps_in code kind (λ w. effects) size_of (all_laws code kind effects size_of laws) want after kept call by_itself

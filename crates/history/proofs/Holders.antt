@@ -61,6 +61,7 @@ use Rattle.queue_laws.proofs.Queues.Sound.{kept_is, opening_sound, admitted_fits
 use Rattle.history.specs.History.{IsRun, IsHistory}
 use Rattle.history.specs.Roles.{ByHolder, ByHolderOf, role_after, marks}
 use Rattle.history.specs.Known.{events_by}
+use Rattle.history.proofs.Reached.{queue_run}
 
 module _ {T : Type 0} (c : ℕ) where
   -- a value is published only where fewer than the capacity wait, and taken out where it waits first
@@ -201,10 +202,15 @@ module _ {T : Type 0} (code : Coding T) (r : Ring) (capacity : ℕ) where
   rightly t run =
       let w = t.world in
       let kd = kind_of r in
+      let on = queue_run code capacity kd t run in
       let first : Trace T = opening w.coding w.kind w.capacity w.parties in
-      let admitted : capacity_error (machine_kind kd) w.capacity ≡ None = subst (λ kind. capacity_error kind w.capacity ≡ None) run.of_kind run.reached.admitted in
-      let sound : frame.Sound (family w.coding kd w.capacity) first = subst (λ kind. frame.Sound (family w.coding kd w.capacity) (opening w.coding kind w.capacity w.parties)) (sym run.of_kind) (opening_sound w.coding run.reached.coded kd w.capacity w.parties (admitted_fits kd w.capacity admitted)) in
-      subst (λ z. Each (Rightly w.capacity) z.events) (sym run.fresh.is) (runs_right w.capacity w.coding r run.reached.coded run.fresh.turns first run.fresh.fresh sound (Each-nil (Rightly w.capacity)))
+      let admitted : capacity_error (machine_kind kd) w.capacity ≡ None = subst
+          (λ kind. capacity_error kind w.capacity ≡ None) run.of_kind on.reached.admitted in
+      let sound : frame.Sound (family w.coding kd w.capacity) first = subst
+          (λ kind. frame.Sound (family w.coding kd w.capacity) (opening w.coding kind w.capacity w.parties)) (sym run.of_kind)
+          (opening_sound w.coding on.reached.coded kd w.capacity w.parties (admitted_fits kd w.capacity admitted)) in
+      subst (λ z. Each (Rightly w.capacity) z.events) (sym on.fresh.is)
+          (runs_right w.capacity w.coding r on.reached.coded on.fresh.turns first on.fresh.fresh sound (Each-nil (Rightly w.capacity)))
 
   pub by_holders : (t : Trace T) → IsOn t → Each ByHolder t.events
   by_holders t run before after e is = (rightly t run before after e is).0

@@ -1,14 +1,17 @@
 -- The rule of a machine, for all kinds and calls.
 pub mod Known
+pub mod Reached
 pub mod Calls
 pub mod Turns
 pub mod Steps
 pub mod Passes
+pub mod Looking
 pub mod Called
 pub mod Sized
 pub mod CallsIn
 pub mod CallTurns
 pub mod Drives
+pub mod Decisions
 pub mod Made
 pub mod Sets
 pub mod Ledger
@@ -16,6 +19,10 @@ pub mod Held
 pub mod Roles
 pub mod Indices
 pub mod IndexCalls
+pub mod Robusts
+pub mod RobustParts
+pub mod RobustCalls
+pub mod RobustRecoveries
 pub mod Rooms
 pub mod Values
 pub mod Queues

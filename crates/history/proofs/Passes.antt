@@ -15,14 +15,13 @@ use Rattle.std.proofs.lemmas.List.Sums.{sum_by-append}
 use Rattle.model.specs.Families.{opening_of}
 use Rattle.model.specs.World as worlds
 use Rattle.model.specs.World.{Trace, capacity_error}
-use Rattle.model.proofs.Reached.{reached_on_opening}
-use Rattle.queue_laws.proofs.Queues.Sound.{fresh_opening}
 use Rattle.history.specs.declared.view.View.{View}
 use Rattle.model.specs.declared.event.Start.{Start}
 use Rattle.model.specs.declared.families.Flight.{Flight}
 use Rattle.history.specs.History.{IsBeginning, IsMachine, Fits, HasSeenOf, IsLate, call_in}
 use Rattle.history.specs.Views.{first_view, left_view, right_view, joined_view, spent_view, Looks, LooksAt, WhenIdle}
 use Rattle.history.specs.Known.{Known, owned, events_by}
+use Rattle.history.proofs.Reached.{reached_as_opening, fresh_as_opening}
 use Rattle.history.proofs.Calls.{get_left}
 use Rattle.history.proofs.Known.{by_more, nil_right, within, handed_on, owned_none, owned_both, owned_third, idle_seat, nat_cases, known_alone, known_step, known_whole, owned_whole, known_split, known_join, none_before, late_none, none_late, by_nothing, quiet_late}
 
@@ -377,7 +376,8 @@ module _ {T : Type 0} (code : Coding T) (kind : Kind) (capacity : ℕ) where
       let t : Trace T = worlds.opening code kind capacity 0 in
       record {
         trace = t;
-        run = record { reached = reached_on_opening code kind capacity 0 coded admitted; coded = refl; of_kind = refl; sized = refl; fresh = fresh_opening code kind capacity 0 };
+        run = record { reached = reached_as_opening code kind capacity 0 coded admitted; coded = refl; of_kind = refl; sized = refl; fresh = fresh_as_opening
+            code kind capacity 0 };
         words = same;
         owner = λ p. p;
         seats = seats;

@@ -11,6 +11,7 @@ use Rattle.model.specs.World.{Trace}
 use Rattle.queue_laws.proofs.Queues.Invariant.{machine_kind}
 use Rattle.queue_laws.proofs.Queues.Kept.{kept_on}
 use Rattle.history.specs.History.{IsHistory}
+use Rattle.history.proofs.Reached.{queue_run}
 
 module _ {T : Type 0} (code : Coding T) (capacity : ℕ) where
   as_its_list : (kd : QueueKind) (t : Trace T) → IsLinearized (machine_kind kd) t → IsLinearizable (as_list kd t.world.capacity) t.events
@@ -22,5 +23,7 @@ module _ {T : Type 0} (code : Coding T) (capacity : ℕ) where
   queue_linearizable kd events h =
       let t = h.trace in
       let r = h.run in
-      let all : IsLinearized (machine_kind kd) t = subst (λ k. IsLinearized k t) r.of_kind (run_linearizable t (kept_on kd t r.of_kind r.reached.coded r.reached.admitted r.fresh)) in
+      let on = queue_run code capacity kd t r in
+      let all : IsLinearized (machine_kind kd) t = subst (λ k. IsLinearized k t) r.of_kind
+          (run_linearizable t (kept_on kd t r.of_kind on.reached.coded on.reached.admitted on.fresh)) in
       subst (λ es. IsLinearizable (as_list kd capacity) es) (sym h.is) (subst (λ n. IsLinearizable (as_list kd n) t.events) r.sized (as_its_list kd t all))

@@ -54,6 +54,7 @@ use Rattle.history.proofs.Roles.{role_by}
 use Rattle.history.specs.History.{IsRun, IsLate, call_in}
 use Rattle.history.proofs.Known.{AreOf}
 use Rattle.history.proofs.Calls.{stands}
+use Rattle.history.proofs.Reached.{queue_run}
 use Rattle.history.proofs.Turns.{CallGoesOn, KindLaws}
 
 held_there : {T : Type 0} (role : Role) (roles : Roles) (events : List (Event T)) → KeepsHolders (kepts.TheVariants.Queues roles) events → holder role roles ≡ fold (role_after role) None events
@@ -128,7 +129,7 @@ module _ {T : Type 0} (code : Coding T) (capacity : ℕ) (kd : QueueKind) where
   IsOf t = IsRun code (machine_kind kd) capacity t
 
   pub sound_of : (t : Trace T) → IsOf t → frame.Sound (family t.world.coding kd t.world.capacity) t
-  sound_of t run = sound_on kd t run.of_kind run.reached.coded run.reached.admitted run.fresh
+  sound_of t run = (let on = queue_run code capacity kd t run in sound_on kd t run.of_kind on.reached.coded on.reached.admitted on.fresh)
 
   cell_sizes : (q : QueueKind) (z : Coding T) → (encoded z q).size * cells_of q capacity ≡ words_of_cell z.size q * cells_of q capacity
   cell_sizes IndexQueue z = refl
@@ -218,10 +219,11 @@ module _ {T : Type 0} (code : Coding T) (kd : QueueKind) (base : View T) where
   IsOn t = IsRun code (machine_kind kd) base.capacity t
 
   pub queue_goes_on : (t : Trace T) → IsOn t → IsQueue kd t
-  queue_goes_on t r = (subst (λ P. IsKeptBy P t) (promised_by kd t r.of_kind) (kept_on kd t r.of_kind r.reached.coded r.reached.admitted r.fresh)).promised
+  queue_goes_on t r = (let on = queue_run code base.capacity kd t r in
+      (subst (λ P. IsKeptBy P t) (promised_by kd t r.of_kind) (kept_on kd t r.of_kind on.reached.coded on.reached.admitted on.fresh)).promised)
 
   kept_there : (t : Trace T) → IsOn t → (roles : Roles) × (t.world.kept ≡ kepts.TheVariants.Queues roles)
-  kept_there t r = let s = sound_on kd t r.of_kind r.reached.coded r.reached.admitted r.fresh in (s.state.roles, (kept_is t.world.kept t.world.words s.state s.fit).0)
+  kept_there t r = let s = sound_of code base.capacity kd t r in (s.state.roles, (kept_is t.world.kept t.world.words s.state s.fit).0)
 
   abbrev AllOf : Trace T → (ℕ → ℕ) → ℕ → Type 0
   AllOf t owner j = (f : Event T → ℕ) → sum_by f base.made ≡ sum_by (owned owner j f) t.events

@@ -23,7 +23,7 @@ use Rattle.model.specs.Families.Bits.Steps.{effects_of}
 use Rattle.model.specs.Promises.Turns.{IsEffectOf}
 use Rattle.model.specs.Reading.{whose, span_of}
 use Rattle.model.specs.Rows.{first_row}
-use Rattle.model.specs.Turns.{step_in}
+use Rattle.model.specs.Turns.{step_in, IsReachedOn}
 use Rattle.model.specs.World.{Trace}
 use Rattle.model.proofs.Frame as frame
 use Rattle.model.proofs.Scenes.{stands_there}
@@ -35,7 +35,7 @@ use Rattle.bit_laws.proofs.Counts.Invariant.{counting_set}
 use Rattle.bit_laws.proofs.Counts.Justified.{laws as counts_laws}
 use Rattle.bit_laws.proofs.Bits.Invariant.{bit_set}
 use Rattle.bit_laws.proofs.Bits.Justified.{laws as bits_laws}
-use Rattle.history.specs.History.{IsRun, IsMachine, call_in, IsLate}
+use Rattle.history.specs.History.{IsRun, IsMachine, IsReachedAs, call_in, IsLate}
 use Rattle.history.specs.declared.view.View.{View}
 use Rattle.history.specs.Known.{owned}
 use Rattle.history.specs.Stages.{Calling, Starts}
@@ -82,12 +82,14 @@ module _ {T : Type 0} where
   effects_own p [] h = tt
   effects_own p (e ∷ es) h = (effect_own p e h.0, effects_own p es h.1)
 
-module _ {T : Type 0} (K : SetKind T) (laws : (code : Coding T) (c : ℕ) → SetLaws K code c) (code : Coding T) (capacity words : ℕ) (sized : (c : ℕ) (ws : List ℕ) (es : List (Event T)) (turns : ℕ) → c ≡ capacity → K.Holds c ws es turns → length ws ≡ words) where
+module _ {T : Type 0} (K : SetKind T) (laws : (code : Coding T) (c : ℕ) → SetLaws K code c) (code : Coding T) (capacity words : ℕ)
+    (sized : (c : ℕ) (ws : List ℕ) (es : List (Event T)) (turns : ℕ) → c ≡ capacity → K.Holds c ws es turns → length ws ≡ words)
+    (on : (t : Trace T) → IsReachedAs K.kind t → IsReachedOn t) where
   abbrev IsSet : Trace T → Type 0
   IsSet t = IsRun code K.kind capacity t
 
   sound : (t : Trace T) → IsSet t → frame.Sound (family K t.world.coding t.world.capacity) t
-  sound t r = sound_on K laws t r.of_kind r.reached
+  sound t r = sound_on K laws t r.of_kind (on t r.reached)
 
   pub bare : (t : Trace T) → IsSet t → t.world.kept ≡ (opening_of K.kind).kept capacity
   bare t r = (sound t r).fit.0 ∙ sym ((laws code capacity).bare)
@@ -159,10 +161,11 @@ module _ {T : Type 0} (K : SetKind T) (laws : (code : Coding T) (c : ℕ) → Se
 
 module _ {T : Type 0} (code : Coding T) (capacity : ℕ) where
   pub counts_owe : KindLaws code kinds.TheVariants.Counts capacity capacity set_effects
-  counts_owe = sets_owe counting_set counts_laws code capacity capacity (λ c ws es turns same holds. holds.sized ∙ same) (λ going late h. h)
+  counts_owe = sets_owe counting_set counts_laws code capacity capacity (λ c ws es turns same holds. holds.sized ∙ same) (λ t h. h) (λ going late h. h)
 
   pub bits_owe : KindLaws code kinds.TheVariants.Bits capacity (1 + elements capacity) set_effects
-  bits_owe = sets_owe bit_set bits_laws code capacity (1 + elements capacity) (λ c ws es turns same holds. holds.sized ∙ ap (λ n. 1 + elements n) same) (λ going late h. h)
+  bits_owe = sets_owe bit_set bits_laws code capacity (1 + elements capacity) (λ c ws es turns same holds. holds.sized ∙ ap (λ n. 1 + elements n) same)
+      (λ t h. h) (λ going late h. h)
 
 module _ {T C M E : Type 0} (code : Coding T) (call : Calling T C M E) (base : View T) (c : C) (m : M) (by : (o : Option ℕ) (p : ℕ) → IfSome o (λ q. q ≡ p) → call.by o p) where
   abbrev StartsOn : Rattle.model.specs.declared.turn.Kind.Kind → Type 0
@@ -170,10 +173,12 @@ module _ {T C M E : Type 0} (code : Coding T) (call : Calling T C M E) (base : V
       (t : Trace T) (owner : ℕ → ℕ) (j : ℕ) → IsRun code kind base.capacity t → owner j ≡ j → IfSome base.party (λ p. owner p ≡ j) → ((f : Event T → ℕ) → sum_by f base.made ≡ sum_by (owned owner j f) t.events) → Starts code kind call base c m t owner j
 
   pub counts_starts : first_of kinds.TheVariants.Counts base.capacity call.start ((opening_of kinds.TheVariants.Counts).kept base.capacity) ≡ Some (call.flight c m) → ((p : ℕ) → first_row (begin_rows kinds.TheVariants.Counts base.capacity ((opening_of kinds.TheVariants.Counts).kept base.capacity) p call.start) ≡ None) → StartsOn kinds.TheVariants.Counts
-  counts_starts first may = set_starts counting_set counts_laws code base.capacity base.capacity (λ c ws es turns same holds. holds.sized ∙ same) call base c m refl by first may
+  counts_starts first may = set_starts counting_set counts_laws code base.capacity base.capacity (λ c ws es turns same holds. holds.sized ∙ same)
+      (λ t h. h) call base c m refl by first may
 
   pub bits_starts : first_of kinds.TheVariants.Bits base.capacity call.start ((opening_of kinds.TheVariants.Bits).kept base.capacity) ≡ Some (call.flight c m) → ((p : ℕ) → first_row (begin_rows kinds.TheVariants.Bits base.capacity ((opening_of kinds.TheVariants.Bits).kept base.capacity) p call.start) ≡ None) → StartsOn kinds.TheVariants.Bits
-  bits_starts first may = set_starts bit_set bits_laws code base.capacity (1 + elements base.capacity) (λ c ws es turns same holds. holds.sized ∙ ap (λ n. 1 + elements n) same) call base c m refl by first may
+  bits_starts first may = set_starts bit_set bits_laws code base.capacity (1 + elements base.capacity)
+      (λ c ws es turns same holds. holds.sized ∙ ap (λ n. 1 + elements n) same) (λ t h. h) call base c m refl by first may
 
 -- ---- how their tables open
 

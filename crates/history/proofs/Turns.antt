@@ -1,5 +1,5 @@
 -- What a begin and a step of a reached machine leave, where a table stands at its words.
-use Rattle.std.proofs.Common.{◌≡◌, ◌≢◌, inl, inr, ℕ, ◌+◌, ◌<◌, ◌≤◌, ⊎_elim, Option, Some, None, IfSome, List, [], ◌∷◌, ◌++◌, length, slice_index, slice_set, refl, sym, ap, subst, ◌∙◌, append_assoc, append-nil, arith, sum_by}
+use Rattle.std.proofs.Common.{Bool, ◌≡◌, ◌≢◌, inl, inr, ℕ, ◌+◌, ◌<◌, ◌≤◌, ⊎_elim, Option, Some, None, IfSome, List, [], ◌∷◌, ◌++◌, length, slice_index, slice_set, refl, sym, ap, subst, ◌∙◌, append_assoc, append-nil, arith, sum_by}
 use Rattle.std.proofs.lemmas.Bool.{cases_eq}
 use Rattle.std.proofs.lemmas.List.Sums.{sum_by-append}
 use mathlib.Core.Option.{some}
@@ -7,6 +7,8 @@ use lib.ListN.{get_elem?}
 use Rattle.atomic_table.specs.Table.{State}
 use Rattle.steps.specs.Ask.{written}
 use Rattle.steps.specs.declared.ask.Ask.{Ask}
+use Rattle.steps.specs.declared.ask.After.{After}
+use Rattle.steps.specs.declared.ask.After.TheVariants.{GoOn}
 use Rattle.steps.specs.declared.ask.Want.{Want}
 use Rattle.steps.specs.declared.ask.Want.TheVariants as wants
 use Rattle.model.specs.declared.event.Answer.{Answer}
@@ -17,7 +19,7 @@ use Rattle.model.specs.declared.families.Flight.{Flight}
 use Rattle.model.specs.declared.party.Party.{Party}
 use Rattle.model.specs.declared.turn.Kind.{Kind}
 use Rattle.model.specs.declared.turn.Turn.{Turn}
-use Rattle.model.specs.declared.turn.Turn.TheVariants.{Begin, Next}
+use Rattle.model.specs.declared.turn.Turn.TheVariants.{Begin, Next, Decide}
 use Rattle.model.specs.Coding.{Coding}
 use Rattle.model.specs.Families.{first_of, begin_rows, going_rows, want_of, after_of, ask_of}
 use Rattle.model.specs.Parties.{party_of}
@@ -25,19 +27,20 @@ use Rattle.model.specs.Promises.Turns.{ask_in}
 use Rattle.model.specs.Refusals.{call_refusal}
 use Rattle.model.specs.Rows.{first_row}
 use Rattle.model.specs.Step.{answer_in}
-use Rattle.model.specs.Turns.{after_turn, events_of, words_after, step_in, ending_of, old_of}
+use Rattle.model.specs.Turns.{after_turn, events_of, words_after, number_of, step_in, ending_of, old_of}
 use Rattle.model.specs.World.{World, Trace, flight_in}
 use Rattle.model.specs.Reading.{whose}
-use Rattle.model.proofs.Reached.{reached_on_more, turn_making}
+use Rattle.model.proofs.Reached.{turn_making}
 use Rattle.model.proofs.Turns.{writes_one_word}
 use Rattle.queue_laws.proofs.Queues.Knows.{IsFreshCall}
-use Rattle.queue_laws.proofs.Queues.Sound.{IsFreshTurn, fresh_more}
+use Rattle.queue_laws.proofs.Queues.Sound.{IsFreshTurn}
 use Rattle.lock_free_sp.specs.Shares.{Shares, IsAll}
 use Rattle.history.specs.declared.view.View.{View}
 use Rattle.history.specs.Known.{events_by, by_party, owned, of_none}
 use Rattle.history.specs.History.{IsBeginning, IsRun, IsMachine, Fits, HasSeenOf, call_in, IsLate}
 use Rattle.history.proofs.Known.{by_more, by_same, by_other, by_mine, by_twice, by_apart, owned_none, owned_one, owned_whole, late_none, none_late, late_more, AreOf, sum_first}
-use Rattle.history.proofs.Calls.{stands, flight_is, no_flight, next_other, begin_other, begin_own, call_then, moved, get_left, set_left, Moved}
+use Rattle.history.proofs.Reached.{refusal_as, begin_as, next_as, reached_as_more, fresh_as_more}
+use Rattle.history.proofs.Calls.{stands, flight_is, no_flight, next_other, begin_other, decision_other, begin_own, call_then, moved, heard_going, heard_events, get_left, set_left, Moved}
 
 -- what is wanted, where it is a word or nothing
 abbrev pub want_for : Option Ask → Want (Unit {0})
@@ -226,10 +229,17 @@ module _ {T : Type 0} where
         let was = b.made_own v at f in
         omega arith
 
-    run_more : (t : Trace T) (turn : Turn T) → call_refusal t.world turn ≡ None → IsFreshTurn t turn → IsRun code kind capacity t → IsRun code kind capacity (after_turn t turn)
+    run_more : (t : Trace T) (turn : Turn T) → refusal_as kind t.world turn ≡ None → IsFreshTurn t turn → IsRun code kind capacity t
+        → IsRun code kind capacity (after_turn t turn)
     run_more t turn e fresh r =
         let same = turn_making t.world turn in
-        record { reached = reached_on_more t turn e r.reached; coded = same.coding ∙ r.coded; of_kind = same.kind ∙ r.of_kind; sized = same.capacity ∙ r.sized; fresh = fresh_more t turn e fresh r.fresh }
+        record {
+          reached = reached_as_more kind t turn e r.reached;
+          coded = same.coding ∙ r.coded;
+          of_kind = same.kind ∙ r.of_kind;
+          sized = same.capacity ∙ r.sized;
+          fresh = fresh_as_more kind t turn e fresh r.fresh;
+        }
 
     module _ (words : ℕ) (effects : World T → ℕ → Flight T → ℕ → List (Event T)) (laws : MachineLaws code kind capacity words effects) (owner : ℕ → ℕ) (s : State (Unit {0}) (View T)) (id p : ℕ) (gained : List (Event T)) (u : Trace T) (b : Between owner s id p gained u) where
       -- a party of another seat is another
@@ -237,7 +247,9 @@ module _ {T : Type 0} where
       not_mine j q ne own e = ne (sym own ∙ (ap owner e ∙ b.mine))
 
       -- a turn of this party that leaves these words and writes these events
-      turned : (words' : List ℕ) (turn : Turn T) → call_refusal u.world turn ≡ None → IsFreshTurn u turn → words' ≡ (after_turn u turn).world.words ++ 0 ∷ [] → sum_by (λ e. of_none (whose e)) (events_of u.world turn) ≡ 0 → ((q : ℕ) → q ≢ p → IsLate kind (call_in u.world q) (events_by q (events_of u.world turn)))
+      turned : (words' : List ℕ) (turn : Turn T) → refusal_as kind u.world turn ≡ None → IsFreshTurn u turn
+          → words' ≡ (after_turn u turn).world.words ++ 0 ∷ [] → sum_by (λ e. of_none (whose e)) (events_of u.world turn) ≡ 0
+          → ((q : ℕ) → q ≢ p → IsLate kind (call_in u.world q) (events_by q (events_of u.world turn)))
           → ((j : ℕ) → j ≢ p → call_in (after_turn u turn).world j ≡ call_in u.world j) → Between owner (record { words = words'; homes = s.homes; views = s.views }) id p (gained ++ events_by p (events_of u.world turn)) (after_turn u turn)
       turned words' turn free fresh_turn same someone beside apart =
           let es = events_of u.world turn in
@@ -287,7 +299,10 @@ module _ {T : Type 0} where
             rw (no_flight u.world p idle) rows
 
         begins : Between owner s id p (gained ++ events_by p (Begun p start ∷ [])) (after_turn u (Begin p start))
-        begins = turned s.words (Begin p start) begins_free tt (b.words ∙ ap (λ ws. ws ++ 0 ∷ []) (sym (writes_one_word u.world (Begin p start)))) refl (λ q ne. subst (λ zs. IsLate kind (call_in u.world q) zs) (sym (by_other p q (Begun p start ∷ []) ne (refl, tt))) (none_late kind (call_in u.world q))) (λ j ne. begin_other u.world p j start ne (first_of u.world.kind u.world.capacity start u.world.kept))
+        begins = turned s.words (Begin p start) (begin_as kind u.world p start begins_free) tt
+            (b.words ∙ ap (λ ws. ws ++ 0 ∷ []) (sym (writes_one_word u.world (Begin p start)))) refl
+            (λ q ne. subst (λ zs. IsLate kind (call_in u.world q) zs) (sym (by_other p q (Begun p start ∷ []) ne (refl, tt)))
+            (none_late kind (call_in u.world q))) (λ j ne. begin_other u.world p j start ne (first_of u.world.kind u.world.capacity start u.world.kept))
 
         pub begun : Between owner s id p (gained ++ Begun p start ∷ []) (after_turn u (Begin p start))
         begun = subst (λ zs. Between owner s id p (gained ++ zs) (after_turn u (Begin p start))) (by_mine p (Begun p start ∷ []) (refl, tt)) begins
@@ -392,4 +407,38 @@ module _ {T : Type 0} where
             subst (λ g. IsFreshCall (old_of u.world.words (ask_of (want_of u.world.coding g))) g) same (subst (λ n. IsFreshCall n flight) (sym found_old) finds)
 
         pub gone : Between owner (record { words = words_after s.words ask; homes = s.homes; views = s.views }) id p (gained ++ events_by p (events_of u.world (Next p))) (after_turn u (Next p))
-        gone = turned (words_after s.words ask) (Next p) goes_free fresh_now words_then someone beside (λ j ne. next_other u.world p j ne (party_of p u.world.latest))
+        gone = turned (words_after s.words ask) (Next p) (next_as kind u.world p goes_free) fresh_now words_then someone beside
+            (λ j ne. next_other u.world p j ne (party_of p u.world.latest))
+
+      -- ---- it is handed an answer to its question, and goes on without a word
+
+      module _ (start : Start T) (flight next : Flight T) (said : Bool) (at : call_in u.world p ≡ Some (start, flight))
+          (free : refusal_as kind u.world (Decide p said) ≡ None) (comes : after_of code flight (number_of said) ≡ GoOn next) where
+        steps_so : StepsOn code kind capacity words effects u p flight
+        steps_so = laws.steps_on u b.run p start flight at
+
+        abbrev hears : List (Event T)
+        hears = effects u.world p flight (number_of said)
+
+        comes_here : after_of u.world.coding flight (number_of said) ≡ GoOn next
+        comes_here = ap (λ z. after_of z flight (number_of said)) b.run.coded ∙ comes
+
+        pub heard : events_of u.world (Decide p said) ≡ hears ++ []
+        heard =
+            heard_events u.world p start flight (effects u.world p flight) (stands u.world p start flight at) steps_so.goes steps_so.writes said
+            ∙ ap (λ (a : After (Flight T) (Answer T)). hears ++ ending_of p start (answer_in a)) comes_here
+
+        heard_only : events_of u.world (Decide p said) ≡ hears
+        heard_only = heard ∙ append-nil hears
+
+        pub decided : Between owner s id p (gained ++ events_by p (events_of u.world (Decide p said))) (after_turn u (Decide p said))
+        decided =
+            turned s.words (Decide p said) free tt (b.words ∙ ap (λ ws. ws ++ 0 ∷ []) (sym (writes_one_word u.world (Decide p said))))
+                (ap (sum_by (λ e. of_none (whose e))) heard_only ∙ steps_so.someone (number_of said))
+            (λ q ne. subst (λ zs. IsLate kind (call_in u.world q) (events_by q zs)) (sym heard_only) (steps_so.beside (number_of said) q ne))
+            (λ j ne. decision_other u.world p j said ne (party_of p u.world.latest))
+
+        pub decided_at : call_in (after_turn u (Decide p said)).world p ≡ Some (start, next)
+        decided_at =
+            heard_going u.world p start flight (effects u.world p flight) (stands u.world p start flight at) steps_so.goes steps_so.writes said
+            ∙ ap (call_then start) comes_here

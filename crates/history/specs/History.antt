@@ -23,6 +23,7 @@ use Rattle.model.specs.Parties.{party_of}
 use Rattle.model.specs.Turns.{IsReachedOn}
 use Rattle.model.specs.World.{World, Trace}
 use Rattle.queue_laws.specs.Fresh.{IsFreshRun}
+use Rattle.robust_laws.specs.Open.{IsReachedOpen}
 use Rattle.lock_free_sp.specs.Shares.{IsAll}
 use Rattle.history.specs.Known.{Known, events_by, by_party, owned}
 use Rattle.history.specs.declared.view.View.{View}
@@ -89,13 +90,24 @@ module _ {T : Type 0} where
     pub made : (f : Event T → ℕ)
         → sum_by f v.made + sum_by f late ≡ sum_by (owned owner j f) t.events
 
+  -- A machine lets a recovery free what a dead owner has; a thread claims a death, and cannot prove it. So a robust set of
+  -- threads is reached by an open run: nobody dies, and no yes is refused.
+  abbrev pub IsReachedAs : Kind → Trace T → Type 0
+  IsReachedAs kinds.TheVariants.Robust t = IsReachedOpen t
+  IsReachedAs kind t = IsReachedOn t
+
+  -- no push found the last position, and no store the last version; a robust set has neither
+  abbrev pub IsFreshAs : Kind → Trace T → Type 0
+  IsFreshAs kinds.TheVariants.Robust t = Unit {0}
+  IsFreshAs kind t = IsFreshRun t
+
   -- a reached machine of this kind and capacity, in which no push found the last position, and no store the last version
   pub record IsRun (code : Coding T) (kind : Kind) (capacity : ℕ) (t : Trace T) : Type 0 where
-    pub reached : IsReachedOn t
+    pub reached : IsReachedAs kind t
     pub coded : t.world.coding ≡ code
     pub of_kind : t.world.kind ≡ kind
     pub sized : t.world.capacity ≡ capacity
-    pub fresh : IsFreshRun t
+    pub fresh : IsFreshAs kind t
 
   -- the words of a table: the machine's, and one more, since passes are split at a word
   pub record IsMachine (code : Coding T) (kind : Kind) (capacity : ℕ)

@@ -2,6 +2,7 @@ pub mod Known
 pub mod Held
 pub mod Roles
 pub mod Indices
+pub mod Robust
 pub mod History
 pub mod Rooms
 pub mod Stages

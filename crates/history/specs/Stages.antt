@@ -7,10 +7,13 @@ use Rattle.model.specs.declared.event.Start.{Start}
 use Rattle.model.specs.declared.families.Flight.{Flight}
 use Rattle.model.specs.declared.turn.Kind.{Kind}
 use Rattle.model.specs.Coding.{Coding}
+use Rattle.steps.specs.declared.ask.After.{After}
+use Rattle.steps.specs.declared.ask.After.TheVariants.{GoOn}
 use Rattle.steps.specs.declared.ask.Ask.{Ask}
 use Rattle.steps.specs.declared.ask.Want.TheVariants as wants
-use Rattle.model.specs.Families.{begin_rows, opening_of, first_of, want_of}
+use Rattle.model.specs.Families.{begin_rows, opening_of, first_of, want_of, is_question}
 use Rattle.model.specs.Rows.{first_row}
+use Rattle.model.specs.Turns.{number_of}
 use Rattle.model.specs.World.{Trace}
 use Rattle.lock_free_sp.specs.Shares.{IsAll}
 use Rattle.history.specs.declared.view.View.{View}
@@ -135,3 +138,18 @@ module _ {T C M E : Type 0} (code : Coding T) (kind : Kind) (call : Calling T C 
   -- it has ended, or was a look
   abbrev pub Over : View T → E → M → View T → Type 0
   Over base e m w = Ends base e m w ⊎ LeftOut base e m w
+
+-- of a call that puts questions, and goes on so
+module _ {T C M E : Type 0} (code : Coding T) (kind : Kind) (after : C → ℕ → After C E) (kept : C → M → ℕ → M) (call : Calling T C M E) where
+  -- It stood at a question, and has taken an answer since. The machine is handed that with the call's next step.
+  pub record HasHeard (base v : View T) (c : C) (m : M) : Type 0 where
+    pub asking : C
+    pub room : M
+    pub before : IsUnderWay code kind call base v asking room
+    pub asks : is_question (want_of code (call.flight asking room)) ≡ true
+    pub said : Bool
+    pub goes : after asking (number_of said) ≡ GoOn c
+    pub keeps : m ≡ kept asking room (number_of said)
+
+  abbrev pub AtAsked : View T → View T → C → M → Type 0
+  AtAsked base v c m = At code kind call base v c m ⊎ HasHeard base v c m

@@ -11,7 +11,7 @@ use Rattle.bit_laws.proofs.Bits.Invariant.{bit_set}
 use Rattle.bit_laws.proofs.Bits.Justified.{laws as bits_laws, bits_go_on}
 use Rattle.bit_laws.proofs.Counts.Invariant.{counting_set}
 use Rattle.bit_laws.proofs.Counts.Justified.{laws as counts_laws, counts_go_on}
-use Rattle.history.specs.History.{IsHistory}
+use Rattle.history.specs.History.{IsHistory, IsReachedAs}
 use Rattle.history_laws.specs.Acts.{ActsByPlace, IsSet}
 use Rattle.history_laws.proofs.BitActs.{bits_act}
 use Rattle.history_laws.proofs.CountActs.{counts_act}
@@ -36,8 +36,15 @@ module _ {T : Type 0} (t : Trace T) (r : IsReachedOn t) where
   pub runs_act : IsSet t.world.kind → ActsByPlace t.world.kind t.world.capacity t.events
   runs_act set = of_kind t.world.kind refl set
 
+-- a set of places is reached as its own laws have it
+reached_as_set : {T : Type 0} (kind : Kind) → IsSet kind → (t : Trace T) → IsReachedAs kind t → IsReachedOn t
+reached_as_set kinds.TheVariants.Bits set t r = r
+reached_as_set kinds.TheVariants.Counts set t r = r
+reached_as_set kind set t r = absurd set
+
 pub histories_act : {T : Type 0} (code : Coding T) (kind : Kind) (capacity : ℕ) (events : List (Event T)) → IsSet kind → IsHistory code kind capacity events → ActsByPlace kind capacity events
 histories_act code kind capacity events set h =
     subst (λ es. ActsByPlace kind capacity es) (sym h.is)
     (subst (λ c. ActsByPlace kind c h.trace.events) h.run.sized
-    (subst (λ k. ActsByPlace k h.trace.world.capacity h.trace.events) h.run.of_kind (runs_act h.trace h.run.reached (subst IsSet (sym h.run.of_kind) set))))
+    (subst (λ k. ActsByPlace k h.trace.world.capacity h.trace.events) h.run.of_kind
+        (runs_act h.trace (reached_as_set kind set h.trace h.run.reached) (subst IsSet (sym h.run.of_kind) set))))

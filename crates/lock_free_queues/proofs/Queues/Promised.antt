@@ -20,6 +20,7 @@ use Rattle.queue_laws.proofs.Queues.Kept.{kept_on}
 use Rattle.queue_laws.proofs.Ring.Kinds.{of_indices, of_values}
 use Rattle.history.specs.declared.view.View.{View}
 use Rattle.history.specs.History.{IsHistory}
+use Rattle.history.proofs.Reached.{queue_run}
 use Rattle.history.proofs.OverflowHolders.{history_by_over_holders, over_lists_kept, over_listed}
 use Rattle.lock_free_queues.specs.Queues.Bounded.{IsBounded, machine_of}
 use Rattle.lock_free_queues.specs.Queues.Positions.{IsPublished, IsTaken, IsSound, IsOverSound}
@@ -32,7 +33,9 @@ module _ {T : Type 0} (code : Coding T) where
   IsSeen kind capacity events = IsHistory code (machine_of kind) capacity events
 
   linearized : (kind : QueueKind) (capacity : ℕ) (events : List (Event T)) → (h : IsHistory code (machine_kind kind) capacity events) → IsLinearized (machine_kind kind) h.trace
-  linearized kind capacity events h = (let t = h.trace in let r = h.run in subst (λ k. IsLinearized k t) r.of_kind (run_linearizable t (kept_on kind t r.of_kind r.reached.coded r.reached.admitted r.fresh)))
+  linearized kind capacity events h =
+      (let t = h.trace in let r = h.run in let on = queue_run code capacity kind t r in subst (λ k. IsLinearized k t) r.of_kind
+      (run_linearizable t (kept_on kind t r.of_kind on.reached.coded on.reached.admitted on.fresh)))
 
   pub linearizable : (kind : QueueKind) (capacity : ℕ) (v : View T) → IsSeen kind capacity v.seen → IsLinearizable (as_list kind capacity) v.seen
   linearizable queues.TheVariants.IndexQueue capacity v h = subst (λ es. IsLinearizable (as_list queues.TheVariants.IndexQueue capacity) es) (sym h.is) (subst (λ n. IsLinearizable (as_list queues.TheVariants.IndexQueue n) h.trace.events) h.run.sized (linearized queues.TheVariants.IndexQueue capacity v.seen h))
@@ -40,7 +43,9 @@ module _ {T : Type 0} (code : Coding T) where
   linearizable queues.TheVariants.Queue capacity v h = subst (λ es. IsLinearizable (as_list queues.TheVariants.Queue capacity) es) (sym h.is) (subst (λ n. IsLinearizable (as_list queues.TheVariants.Queue n) h.trace.events) h.run.sized (linearized queues.TheVariants.Queue capacity v.seen h))
 
   guaranteed : (kind : QueueKind) (capacity : ℕ) (v : View T) → (h : IsHistory code (machine_kind kind) capacity v.seen) → KeepsGuarantees h.trace
-  guaranteed kind capacity v h = (let r = h.run in keeps_guarantees h.trace (kept_on kind h.trace r.of_kind r.reached.coded r.reached.admitted r.fresh))
+  guaranteed kind capacity v h =
+      (let r = h.run in let on = queue_run code capacity kind h.trace r in keeps_guarantees h.trace
+      (kept_on kind h.trace r.of_kind on.reached.coded on.reached.admitted on.fresh))
 
   pub guarantees : (kind : QueueKind) (capacity : ℕ) (v : View T) → (h : IsSeen kind capacity v.seen) → KeepsGuarantees h.trace
   guarantees queues.TheVariants.IndexQueue capacity v h = guaranteed queues.TheVariants.IndexQueue capacity v h

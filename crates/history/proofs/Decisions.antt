@@ -1,0 +1,317 @@
+-- Calls that put questions: the machine is handed an answer with the call's next step, as it is told of a begin with the first.
+use Rattle.std.proofs.Common.{Bool, true, false, ◌≡◌, inl, inr, ℕ, ◌+◌, ◌<◌, Option, Some, None, List, [], ◌∷◌, ◌++◌, slice_index, slice_set, set-set, refl, sym, ap, subst, ◌∙◌, append-nil, arith}
+use mathlib.Core.Option.{some}
+use lib.ListN.{get_elem?}
+use Rattle.atomic_table.specs.Table.{State}
+use Rattle.atomic_table.specs.Table as table
+use Rattle.atomic_table.proofs.Lists.{set_here}
+use Rattle.steps.specs.Ask.{written}
+use Rattle.steps.specs.declared.ask.Ask.{Ask}
+use Rattle.steps.specs.declared.ask.After.{After}
+use Rattle.steps.specs.declared.ask.After.TheVariants.{GoOn, Done}
+use Rattle.steps.specs.declared.ask.Want.{Want}
+use Rattle.steps.specs.declared.ask.Want.TheVariants as wants
+use Rattle.model.specs.declared.event.Answer.{Answer}
+use Rattle.model.specs.declared.event.Event.{Event}
+use Rattle.model.specs.declared.event.Start.{Start}
+use Rattle.model.specs.declared.families.Flight.{Flight}
+use Rattle.model.specs.declared.turn.Kind.{Kind}
+use Rattle.model.specs.declared.turn.Turn.TheVariants.{Decide}
+use Rattle.model.specs.Coding.{Coding}
+use Rattle.model.specs.Families.{opening_of, first_of, want_of, after_of, is_question}
+use Rattle.model.specs.Turns.{after_turn, events_of, number_of}
+use Rattle.model.specs.World.{Trace}
+use Rattle.lock_free_sp.specs.Driver.{answered, Owes, OwesAsk, Next as NextKnown, Told, KeepsRule}
+use Rattle.history.specs.declared.view.View.{View}
+use Rattle.history.specs.Known.{events_by}
+use Rattle.history.specs.History.{IsRun, IsMachine, call_in}
+use Rattle.history.specs.Stages.{Calling, Since, IsUnderWay, At, Ends, Over, HasHeard, AtAsked}
+use Rattle.history.proofs.Known.{AreOf, by_more, by_mine, within}
+use Rattle.history.proofs.Reached.{MayDecide, refusal_as, decide_as}
+use Rattle.history.proofs.Calls.{stands, flight_is}
+use Rattle.history.proofs.Turns.{KindLaws, MachineLaws, Between, heard, decided, decided_at}
+use Rattle.history.proofs.Steps.{view_after, settle}
+use Rattle.history.proofs.CallsIn.{by_bool, goes, AsksFor, StepsOf, StepsIn}
+use Rattle.history.proofs.CallTurns.{still_stands, Ready, ready, Told_by, since_turn}
+use Rattle.history.proofs.Drives.{all_laws, steps_itself, ToldOver, keeps_at, next_ended}
+
+-- A call that may put questions. It begins with none, and puts none right after another; no answer ends it.
+pub record IsAskingOf {T C M E : Type 0} (code : Coding T) (kind : Kind) (effects : ℕ → Flight T → ℕ → List (Event T)) (size_of : ℕ → ℕ)
+    (want : C → Want (Unit {0})) (after : C → ℕ → After C E) (kept : C → M → ℕ → M) (call : Calling T C M E) : Type 0 where
+  pub steps : StepsOf ((capacity : ℕ) (c : C) → call.stands capacity c → is_question (want c) ≡ false → AsksFor (size_of capacity) (want c)) code effects want
+      after kept call
+  pub never : (c : C) (n : ℕ) → call.skips c n ≡ false
+  pub same_call : (c d : C) (m k : M) → call.flight c m ≡ call.flight d k → (c ≡ d) × (m ≡ k)
+  pub first : (n : ℕ) (c : C) (m : M) → first_of kind n call.start ((opening_of kind).kept n) ≡ Some (call.flight c m) → is_question (want c) ≡ false
+  pub one : (c d : C) (n : ℕ) → is_question (want c) ≡ true → after c n ≡ GoOn d → is_question (want d) ≡ false
+  pub lasts : (c : C) (e : E) (n : ℕ) → is_question (want c) ≡ true → after c n ≡ Done e → ⊥
+
+module _ {T C M E : Type 0} (code : Coding T) (kind : Kind) (decides : MayDecide kind) (effects : ℕ → Flight T → ℕ → List (Event T)) (size_of : ℕ → ℕ)
+    (laws : (capacity : ℕ) → KindLaws code kind capacity (size_of capacity) effects)
+    (want : C → Want (Unit {0})) (after : C → ℕ → After C E) (kept : C → M → ℕ → M) (call : Calling T C M E)
+        (is_call : IsAskingOf code kind effects size_of want after kept call) where
+  open is_call use {steps as steps, same_call as same_call}
+
+  abbrev Heard : View T → View T → C → M → Type 0
+  Heard base v c m = HasHeard code kind after kept call base v c m
+
+  abbrev Stage : View T → View T → C → M → Type 0
+  Stage base v c m = At code kind call base v c m
+
+  on_machine : (capacity : ℕ) → MachineLaws code kind capacity (size_of capacity) (λ w. effects)
+  on_machine = all_laws code kind effects size_of laws
+
+  -- ---- the machine is handed the answer
+
+  module _ (s : State (Unit {0}) (View T)) (v : View T) (key id : ℕ) (c : C) (m : M) (r : IsMachine code kind key s) (at : get_elem? s.views id ≡ some v)
+      (known : v.capacity ≡ key) (base₀ : View T) (h : Heard base₀ v c m) where
+    abbrev from : Flight T
+    from = call.flight h.asking h.room
+
+    abbrev n : ℕ
+    n = number_of h.said
+
+    y : Ready code kind (λ w. effects) size_of on_machine call s v key id h.asking h.room
+    y = ready code kind (λ w. effects) size_of on_machine call s v key id h.asking h.room r at known base₀ (inr h.before)
+
+    comes : after_of code from n ≡ GoOn (call.flight c m)
+    comes = steps.same_after base₀.capacity h.asking h.room n h.before.standing
+        ∙ (ap (λ a. goes call a (kept h.asking h.room n)) h.goes ∙ ap (λ k. GoOn (call.flight c k)) (sym h.keeps))
+
+    free : refusal_as kind y.u.world (Decide y.p h.said) ≡ None
+    free =
+        decide_as kind decides y.u.world y.p h.said from (flight_is y.u.world y.p call.start from (stands y.u.world y.p call.start from y.there))
+        (ap (λ z. is_question (want_of z from)) y.between.run.coded ∙ h.asks)
+
+    abbrev gained_then : List (Event T)
+    gained_then = y.gained ++ events_by y.p (events_of y.u.world (Decide y.p h.said))
+
+    abbrev u_then : Trace T
+    u_then = after_turn y.u (Decide y.p h.said)
+
+    -- what the seat would know then
+    abbrev view_heard : View T
+    view_heard = view_after code kind key id y.p v gained_then u_then
+
+    abbrev table_heard : State (Unit {0}) (View T)
+    table_heard = record { words = s.words; homes = s.homes; views = slice_set s.views id view_heard }
+
+    between_heard : Between code kind key y.owner s id y.p gained_then u_then
+    between_heard = decided code kind key (size_of key) (λ w. effects) (on_machine key) y.owner s id y.p y.gained y.u y.between call.start from
+        (call.flight c m) h.said y.there free comes
+
+    machine_heard : IsMachine code kind key table_heard
+    machine_heard = settle code kind key id y.p y.owner s.words s v gained_then u_then at h.before.some between_heard
+
+    there_heard : call_in u_then.world y.p ≡ Some (call.start, call.flight c m)
+    there_heard = decided_at code kind key (size_of key) (λ w. effects) (on_machine key) y.owner s id y.p y.gained y.u y.between call.start from
+        (call.flight c m) h.said y.there free comes
+
+    -- ---- whoever has heard an answer stands so, whatever the view with which its drive began
+
+    abbrev effs : List (Event T)
+    effs = effects y.p from n
+
+    told_heard : events_of y.u.world (Decide y.p h.said) ≡ effs ++ []
+    told_heard = heard code kind key (size_of key) (λ w. effects) (on_machine key) y.owner s id y.p y.gained y.u y.between call.start from
+        (call.flight c m) h.said y.there free comes
+
+    module _ (base : View T) (k : Heard base v c m) where
+      same_one : (k.asking ≡ h.asking) × (k.room ≡ h.room)
+      same_one =
+          let both : ◌≡◌ {A = Option (Start T × Flight T)} (Some (call.start, call.flight k.asking k.room)) (Some (call.start, from)) = sym k.before.going
+              ∙ h.before.going in
+          let pair : ◌≡◌ {A = Start T × Flight T} (call.start, call.flight k.asking k.room) (call.start, from) = cc in
+          same_call k.asking h.asking k.room h.room (ap (λ (z : Start T × Flight T). z.1) pair)
+
+      stage_then : Stage base v h.asking h.room
+      stage_then = inr (subst (λ (z : C × M). IsUnderWay code kind call base v z.0 z.1) (λ i. (same_one.0 i, same_one.1 i)) k.before)
+
+      told_by : Told_by code kind (λ w. effects) size_of on_machine call y.p h.asking h.room base y.u.events (v.made ++ y.gained)
+      told_by = y.prior base stage_then
+
+      standing_then : call.stands base.capacity h.asking
+      standing_then = still_stands code kind (λ w. effects) size_of on_machine call base v h.asking h.room stage_then
+
+      all_its_own : (told_by.wrote ++ told_by.late) ++ events_by y.p effs ≡ told_by.wrote ++ effs
+      all_its_own =
+          let none : told_by.late ≡ [] = (laws key).alone (Some (call.start, from)) told_by.late told_by.waits in
+          let own : AreOf y.p effs = ((laws key).goes_on y.u y.between.run y.p call.start from y.there).own n in
+          ap (λ zs. (told_by.wrote ++ zs) ++ events_by y.p effs) none
+          ∙ (ap (λ zs. zs ++ events_by y.p effs) (append-nil told_by.wrote) ∙ ap (λ zs. told_by.wrote ++ zs) (by_mine y.p effs own))
+
+      tells_then : call.wrote base.capacity y.p base.going c m (told_by.wrote ++ effs)
+      tells_then =
+          subst (λ k. call.wrote base.capacity y.p base.going c k (told_by.wrote ++ effs)) (sym h.keeps)
+          (steps.tells base.capacity y.p base.going h.asking c h.room n told_by.wrote standing_then told_by.tells h.goes)
+
+      since_then : Since y.p call.start ((told_by.wrote ++ told_by.late) ++ events_by y.p effs) [] base view_heard
+      since_then =
+          since_turn code kind (λ w. effects) size_of on_machine call y.p id (Decide y.p h.said) y.u v base y.gained
+              (told_by.wrote ++ told_by.late) effs [] told_by.prior told_heard
+          (ap (events_by y.p) told_heard ∙ by_more y.p effs [])
+
+      lifted : IsUnderWay code kind call base view_heard c m
+      lifted =
+          record {
+            capacity = k.before.capacity;
+            standing = steps.stays base.capacity h.asking c n standing_then h.goes;
+            share = k.before.share;
+            some = k.before.some;
+            party = y.p;
+            mine = refl;
+            same = y.by base stage_then;
+            going = there_heard;
+            past = λ i. steps.past base.capacity h.asking c n i standing_then h.goes;
+            alone = refl;
+            wrote = (told_by.wrote ++ told_by.late) ++ events_by y.p effs;
+            tells = subst (λ zs. call.wrote base.capacity y.p base.going c m zs) (sym all_its_own) tells_then;
+            since = since_then;
+            history = record { trace = u_then; run = subst (λ i. IsRun code kind i u_then) (sym (sym k.before.capacity ∙ known)) between_heard.run; is = refl };
+          }
+
+  -- ---- who is at a word, and who has heard an answer
+
+  clash : {A : Type 0} (b : Bool) → b ≡ true → b ≡ false → A
+  clash b due still = (let both : true ≡ false = sym due ∙ still in absurd (cc))
+
+  -- no other drive of it says otherwise
+  never_both : {A : Type 0} (base other v : View T) (c : C) (m : M) → is_question (want c) ≡ false → Stage base v c m → Heard other v c m → A
+  never_both base other v c m still (inl first) k =
+      let none : ◌≡◌ {A = Option (Start T × Flight T)} None (Some (call.start, call.flight k.asking k.room)) = sym first.idle
+          ∙ (ap (λ (z : View T). z.going) (sym first.is) ∙ k.before.going) in
+      absurd (cc)
+  never_both base other v c m still (inr under) k =
+      let both : ◌≡◌ {A = Option (Start T × Flight T)} (Some (call.start, call.flight k.asking k.room))
+          (Some (call.start, call.flight c m)) = sym k.before.going ∙ under.going in
+      let pair : ◌≡◌ {A = Start T × Flight T} (call.start, call.flight k.asking k.room) (call.start, call.flight c m) = cc in
+      let same = same_call k.asking c k.room m (ap (λ (z : Start T × Flight T). z.1) pair) in
+      clash (is_question (want c)) (subst (λ z. is_question (want z) ≡ true) same.0 (ap is_question (sym (steps.same_want k.asking k.room)) ∙ k.asks)) still
+
+  standing : (base v : View T) (c : C) (m : M) → AtAsked code kind after kept call base v c m → call.stands base.capacity c
+  standing base v c m (inl stage) = still_stands code kind (λ w. effects) size_of on_machine call base v c m stage
+  standing base v c m (inr k) = steps.stays base.capacity k.asking c (number_of k.said) k.before.standing k.goes
+
+  same_size : (base v : View T) (c : C) (m : M) → AtAsked code kind after kept call base v c m → v.capacity ≡ base.capacity
+  same_size base v c m (inl (inl first)) = ap (λ (z : View T). z.capacity) first.is
+  same_size base v c m (inl (inr under)) = under.capacity
+  same_size base v c m (inr k) = k.before.capacity
+
+  -- ---- a question is answered
+
+  abbrev ToldAsked : C → M → View T → ℕ → View T → Type 0
+  ToldAsked c m = Told (λ (z : View T). z.capacity) (AtAsked code kind after kept call) (Ends code kind call) after kept c m
+
+  -- who stands at a question has heard the answer that it takes
+  pub hears_answer : (base v : View T) (c d : C) (m : M) (said : Bool) → is_question (want c) ≡ true → after c (number_of said) ≡ GoOn d
+      → AtAsked code kind after kept call base v c m → AtAsked code kind after kept call base v d (kept c m (number_of said))
+  hears_answer base v c d m said due e (inl (inl first)) = clash (is_question (want c)) due (is_call.first base.capacity c m first.first)
+  hears_answer base v c d m said due e (inl (inr under)) =
+      inr (record { asking = c; room = m; before = under; asks = ap is_question (steps.same_want c m) ∙ due; said = said; goes = e; keeps = refl })
+  hears_answer base v c d m said due e (inr k) =
+      clash (is_question (want c)) due (is_call.one k.asking c (number_of k.said) (ap is_question (sym (steps.same_want k.asking k.room)) ∙ k.asks) k.goes)
+
+  told_no : (v : View T) (c : C) (m : M) → is_question (want c) ≡ true → ToldAsked c m v 0 v
+  told_no v c m due = (refl, λ base stage. go base stage (after c 0) refl)
+    where
+      go : (base : View T) → AtAsked code kind after kept call base v c m → (a : After C E) → after c 0 ≡ a
+          → NextKnown (λ (z : View T). z.capacity) (AtAsked code kind after kept call) (Ends code kind call) base a (kept c m 0) v
+      go base stage (GoOn d) e = hears_answer base v c d m false due e stage
+      go base stage (Done end) e = absurd (is_call.lasts c end 0 due e)
+
+  -- ---- each step keeps the rule
+
+  with_asked : (base : View T) (a : After C E) (k : M) (w : View T) → NextKnown (λ (z : View T). z.capacity) (At code kind call)
+      (Ends code kind call) base a k w
+      → NextKnown (λ (z : View T). z.capacity) (AtAsked code kind after kept call) (Ends code kind call) base a k w
+  with_asked base (GoOn d) k w h = inl h
+  with_asked base (Done e) k w h = h
+
+  steps_there : StepsIn ((capacity : ℕ) (c : C) → call.stands capacity c → is_question (want c) ≡ false → AsksFor (size_of capacity) (want c)) code kind
+      (λ w. effects) want after kept call
+  steps_there = steps_itself code kind effects size_of laws want after kept call steps
+
+  abbrev ToldSo : C → M → View T → ℕ → View T → Type 0
+  ToldSo c m = ToldOver code kind (λ w. effects) size_of on_machine want after kept call steps_there c m
+
+  told_asked : (c : C) (m : M) (n : ℕ) (x v w : View T) → x.capacity ≡ v.capacity
+      → ((base : View T) → AtAsked code kind after kept call base v c m → Stage base x c m) → ToldSo c m x n w → ToldAsked c m v n w
+  told_asked c m n x v w same as_stage h =
+      (h.0 ∙ same, λ base stage. with_asked base (after c n) (kept c m n) w
+          (next_ended code kind (λ w. effects) size_of on_machine want after kept call steps_there is_call.never base (after c n) (kept c m n) w
+          (h.1 base (as_stage base stage))))
+
+  module _ (key words slots id : ℕ) (c : C) (m : M) (wide : words ≡ size_of key + 1) (still : is_question (want c) ≡ false)
+      (asked : AsksFor (size_of key) (want c)) where
+    abbrev ask : Ask
+    ask = asked.0
+
+    -- what the table owes at the word
+    abbrev OwedAt : View T → (C → M → View T → ℕ → View T → Type 0) → Type 0
+    OwedAt v told = OwesAsk (IsMachine code kind key) words slots id (told c m) ask.word ask.op (v, [])
+
+    below : ask.word < words
+    below = (let low = asked.1 in omega arith)
+
+    at_word : (base v : View T) → v.capacity ≡ key → Stage base v c m → OwedAt v ToldSo
+    at_word base v known stage =
+        let size : key ≡ base.capacity = sym known ∙ same_size base v c m (inl stage) in
+        subst (λ w. Owes (IsMachine code kind key) words slots id (ToldSo c m) w (v, [])) asked.2
+        (keeps_at code kind (λ w. effects) size_of on_machine want after kept call steps_there base v c m key words slots id wide known stage
+            (subst (λ i. AsksFor (size_of i) (want c)) size asked))
+
+    -- who has heard none
+    at_once : (base₀ v : View T) → v.capacity ≡ key → Stage base₀ v c m → OwedAt v ToldAsked
+    at_once base₀ v known at₀ =
+        let h = at_word base₀ v known at₀ in
+        (h.0, λ s r long at small. (let x = h.1 s r long at small in (x.0, x.1, x.2, x.3, (told_asked c m _ v v x.0 refl as_it_is x.4.0, x.4.1))))
+      where
+        as_it_is : (base : View T) → AtAsked code kind after kept call base v c m → Stage base v c m
+        as_it_is base (inl stage) = stage
+        as_it_is base (inr k) = never_both base₀ base v c m still at₀ k
+
+    -- who has heard an answer: the machine is handed it first
+    once_heard : (base₀ v : View T) → v.capacity ≡ key → Heard base₀ v c m → OwedAt v ToldAsked
+    once_heard base₀ v known h = (
+      below,
+      λ s r long at small. (
+          let x = (at_word base₀ (view_heard s v key id c m r at known base₀ h) known (inr (lifted s v key id c m r at known base₀ h base₀ h))).1
+              (table_heard s v key id c m r at known base₀ h) (machine_heard s v key id c m r at known base₀ h) long
+              (set_here s.views id (view_heard s v key id c m r at known base₀ h) (within s.views id v at)) small
+          in (
+            x.0,
+            x.1,
+            x.2,
+            subst (λ vs. IsMachine code kind key
+                (record { words = slice_set s.words ask.word (written ask.op (slice_index s.words ask.word)); homes = table.homes_after s.homes [] x.1; views
+                = vs }))
+            (set-set s.views id (view_heard s v key id c m r at known base₀ h) x.0) x.3,
+            (told_asked c m _ (view_heard s v key id c m r at known base₀ h) v x.0 refl (as_heard s r at) x.4.0, x.4.1),
+          )),
+    )
+      where
+        as_heard : (s : State (Unit {0}) (View T)) (r : IsMachine code kind key s) (at : get_elem? s.views id ≡ some v) (base : View T)
+            → AtAsked code kind after kept call base v c m → Stage base (view_heard s v key id c m r at known base₀ h) c m
+        as_heard s r at base (inl stage) = never_both base base₀ v c m still stage h
+        as_heard s r at base (inr k) = inr (lifted s v key id c m r at known base₀ h base k)
+
+  pub keeps_asked : KeepsRule (λ (z : View T). z.capacity) (AtAsked code kind after kept call) (Ends code kind call) (λ key. size_of key + 1) (λ key. key)
+      (λ key. IsMachine code kind key) want after kept
+  keeps_asked base₀ v c m key words slots id wide known at₀ = by_bool (is_question (want c)) (λ due. at_question (want c) refl due)
+      (λ still. at_its_word still (steps.asks key c stands_so still))
+    where
+      stands_so : call.stands key c
+      stands_so = subst (λ i. call.stands i c) (sym (same_size base₀ v c m at₀) ∙ known) (standing base₀ v c m at₀)
+
+      at_question : (w : Want (Unit {0})) → want c ≡ w → is_question w ≡ true → Owes (IsMachine code kind key) words slots id (ToldAsked c m) w (v, [])
+      at_question (wants.Ask a) e due = absurd (cc)
+      at_question (wants.Question q) e due = told_no v c m (ap is_question e ∙ due)
+      at_question wants.Nothing e due = absurd (cc)
+
+      at_its_word : (still : is_question (want c) ≡ false) → AsksFor (size_of key) (want c)
+          → Owes (IsMachine code kind key) words slots id (ToldAsked c m) (want c) (v, [])
+      at_its_word still asked = subst (λ w. Owes (IsMachine code kind key) words slots id (ToldAsked c m) w (v, [])) (sym asked.2) (go at₀)
+        where
+          go : AtAsked code kind after kept call base₀ v c m → OwedAt key words slots id c m wide still asked v ToldAsked
+          go (inl stage) = at_once key words slots id c m wide still asked base₀ v known stage
+          go (inr h) = once_heard key words slots id c m wide still asked base₀ v known h

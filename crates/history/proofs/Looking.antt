@@ -1,0 +1,142 @@
+-- A look after a look is one look.
+use Rattle.std.proofs.Common.{◌≡◌, ◌≢◌, inl, inr, ⊎_elim, ℕ, ◌+◌, ◌<◌, ◌==◌, if◌then◌else◌, true, false, Option, Some, None, List, [], ◌∷◌, ◌++◌, length, sum_by, refl, sym, ap, subst, ◌∙◌, append_assoc, length-append, arith}
+use Rattle.std.proofs.lemmas.Bool.{cases_eq}
+use Rattle.std.proofs.lemmas.Bool.Decides.{nat_tests}
+use Rattle.model.specs.declared.event.Event.{Event}
+use Rattle.model.specs.declared.turn.Kind.{Kind}
+use Rattle.model.specs.Coding.{Coding}
+use Rattle.model.specs.Reading.{whose}
+use Rattle.lock_free_sp.specs.Shares.{IsAll}
+use Rattle.history.specs.declared.view.View.{View}
+use Rattle.history.specs.History.{IsBeginning, IsOfParties}
+use Rattle.history.specs.Known.{own_of, events_by, owned, if_owned}
+use Rattle.history.specs.Views.{Looks}
+use Rattle.history.proofs.Known.{by_more, nil_right, none_before, sum_first}
+use Rattle.history.proofs.Passes.{begins_with}
+
+no_length : {A : Type 0} → (xs : List A) → length xs ≡ 0 → xs ≡ []
+no_length [] none = refl
+no_length (x ∷ xs) none = absurd (omega arith)
+
+none_left : {A : Type 0} → (xs rest : List A) → [] ≡ xs ++ rest → xs ≡ []
+none_left [] rest e = refl
+none_left (x ∷ xs) rest e = absurd (cc)
+
+-- ---- how many events of a party a seat knows
+
+zeros : (owner : ℕ → ℕ) (j q : ℕ) → ◌≡◌ {A = ℕ} (if owner q == j then 0 else 0) 0
+zeros owner j q =
+    ⊎_elim (λ (m : owner q ≡ j). let u : (owner q == j) ≡ true = grind (arith, nat_tests) in rw u refl)
+    (λ (m : owner q ≢ j). let u : (owner q == j) ≡ false = grind (arith, nat_tests) in rw u refl) (cases_eq (owner q) j)
+
+module _ {T : Type 0} (p : ℕ) where
+  abbrev ones : Event T → ℕ
+  ones e = length (own_of p e)
+
+  counted : (es : List (Event T)) → sum_by ones es ≡ length (events_by p es)
+  counted [] = refl
+  counted (e ∷ es) =
+      let first = sum_first ones e es in
+      let rest = counted es in
+      let both = length-append (own_of p e) (events_by p es) in
+      omega arith
+
+  module _ (owner : ℕ → ℕ) (j : ℕ) where
+    -- those of another seat are none of it
+    none_of : (q : ℕ) (e : Event T) → (owner p ≡ j → q ≢ p) → (if owner q == j then length (if q == p then e ∷ [] else []) else 0) ≡ 0
+    none_of q e apart =
+        ⊎_elim
+        (λ (mine : owner q ≡ j).
+        let u : (owner q == j) ≡ true = grind (arith, nat_tests) in
+        let ne : q ≢ p = λ s. apart (ap owner (sym s) ∙ mine) s in
+        let t : (q == p) ≡ false = grind (arith, nat_tests) in
+        rw (u, t) refl)
+        (λ (other : owner q ≢ j). let u : (owner q == j) ≡ false = grind (arith, nat_tests) in rw u refl)
+        (cases_eq (owner q) j)
+
+    one_none : owner p ≢ j → (e : Event T) → owned owner j ones e ≡ 0
+    one_none apart e = go (whose e) refl
+      where
+        go : (o : Option ℕ) → whose e ≡ o → owned owner j ones e ≡ 0
+        go None is = rw is refl
+        go (Some q) is = rw is (none_of q e (λ mine. absurd (apart mine)))
+
+    one_mine : owner p ≡ j → (e : Event T) → owned owner j ones e ≡ ones e
+    one_mine mine e = go (whose e) refl
+      where
+        go : (o : Option ℕ) → whose e ≡ o → owned owner j ones e ≡ ones e
+        go None is = rw is refl
+        go (Some q) is = ⊎_elim same other (cases_eq q p)
+          where
+            same : q ≡ p → owned owner j ones e ≡ ones e
+            same s =
+                let k : owner q ≡ j = ap owner s ∙ mine in
+                let u : (owner q == j) ≡ true = grind (arith, nat_tests) in
+                rw (is, u) refl
+
+            other : q ≢ p → owned owner j ones e ≡ ones e
+            other ne =
+                let t : (q == p) ≡ false = grind (arith, nat_tests) in
+                let none : ones e ≡ 0 = rw (is, t) refl in
+                ap (λ o. if_owned owner j o (ones e)) is ∙ (ap (λ n. if owner q == j then n else 0) none ∙ (zeros owner j q ∙ sym none))
+
+    sum_none : owner p ≢ j → (es : List (Event T)) → sum_by (owned owner j ones) es ≡ 0
+    sum_none apart [] = refl
+    sum_none apart (e ∷ es) = (let here = one_none apart e in let rest = sum_none apart es in let first = sum_first (owned owner j ones) e es in omega arith)
+
+    sum_mine : owner p ≡ j → (es : List (Event T)) → sum_by (owned owner j ones) es ≡ length (events_by p es)
+    sum_mine mine [] = refl
+    sum_mine mine (e ∷ es) =
+        let here = one_mine mine e in
+        let rest = sum_mine mine es in
+        let first = sum_first (owned owner j ones) e es in
+        let both = length-append (own_of p e) (events_by p es) in
+        omega arith
+
+  -- of a party of its own it knows all, of another it has made none
+  made_mine : (v : View T) (h : IsOfParties v) → h.owner p ≡ h.seat → sum_by ones v.made ≡ length (events_by p v.seen)
+  made_mine v h mine = h.sums ones ∙ sum_mine h.owner h.seat mine v.seen
+
+  made_none : (v : View T) (h : IsOfParties v) → h.owner p ≢ h.seat → sum_by ones v.made ≡ 0
+  made_none v h apart = h.sums ones ∙ sum_none h.owner h.seat apart v.seen
+
+-- ---- two looks
+
+module _ {T : Type 0} (code : Coding T) (kind : Kind) (size : ℕ) (u v w : View T) (a : Looks code kind size u v) (b : Looks code kind size v w) where
+  nothing_of : (p : ℕ) → b.parties.owner p ≡ b.parties.seat → a.parties.owner p ≢ a.parties.seat → events_by p a.mine.rest ≡ []
+  nothing_of p mine apart =
+      let made : sum_by (ones p) w.made ≡ 0 = ap (sum_by (ones p)) b.made ∙ made_none p v a.parties apart in
+      let none : events_by p w.seen ≡ [] = no_length (events_by p w.seen) (sym (made_mine p w b.parties mine) ∙ made) in
+      let before : events_by p v.seen ≡ [] = none_before p v.seen w.seen b.mine none in
+      nil_right (events_by p u.seen) (events_by p a.mine.rest) (sym (by_more p u.seen a.mine.rest) ∙ (sym (ap (events_by p) a.mine.is) ∙ before))
+
+  apart_both : u.other ≡ [] → 0 < u.share.part → (p : ℕ) → b.parties.owner p ≡ b.parties.seat → events_by p (a.mine.rest ++ b.mine.rest) ≡ []
+  apart_both alone some p mine =
+      let first : events_by p a.mine.rest ≡ [] = ⊎_elim (λ e. a.apart alone some p e) (λ ne. nothing_of p mine ne)
+          (cases_eq (a.parties.owner p) a.parties.seat) in
+      let second : events_by p b.mine.rest ≡ [] = b.apart a.other (subst (λ s. 0 < s.part) (sym a.share) some) p mine in
+      by_more p a.mine.rest b.mine.rest ∙ (ap (λ es. es ++ events_by p b.mine.rest) first ∙ second)
+
+  mine_both : w.seen ≡ u.seen ++ (a.mine.rest ++ b.mine.rest)
+  mine_both = b.mine.is ∙ (ap (λ es. es ++ b.mine.rest) a.mine.is ∙ append_assoc u.seen a.mine.rest b.mine.rest)
+
+  pub looks_then : Looks code kind size u w
+  looks_then =
+      record {
+        capacity = b.capacity ∙ a.capacity;
+        party = b.party ∙ a.party;
+        going = b.going ∙ a.going;
+        share = b.share ∙ a.share;
+        other = b.other;
+        made = b.made ∙ a.made;
+        mine = record { rest = a.mine.rest ++ b.mine.rest; is = mine_both };
+        theirs = begins_with code kind size u.other v.seen w.seen a.theirs b.mine;
+        whole = λ all. ⊎_elim (λ (e : w.seen ≡ v.seen). ⊎_elim (λ f. inl (e ∙ f)) (λ f. inr (e ∙ f)) (a.whole all))
+            (λ (e : w.seen ≡ v.other).
+                (let none : w.seen ≡ [] = e ∙ a.other in inl (none ∙ sym (none_left u.seen (a.mine.rest ++ b.mine.rest) (sym none ∙ mine_both)))))
+                (b.whole (subst IsAll (sym a.share) all));
+        all = λ all f. b.all (subst IsAll (sym a.share) all) f;
+        history = b.history;
+        parties = b.parties;
+        apart = apart_both;
+      }

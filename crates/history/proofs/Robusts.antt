@@ -1,0 +1,171 @@
+-- What the robust index set owes, from the laws of its open runs, and which party may begin a call on it.
+use Rattle.std.proofs.Common.{◌≡◌, ℕ, ◌+◌, ◌<◌, ◌==◌, nat_lt, nat_le, true, false, Option, Some, None, is_none, IfSome, List, [], length, sum_by, refl, sym, ap, subst, ◌∙◌, arith}
+use Rattle.std.proofs.lemmas.Bool.Decides.{nat_tests}
+use Rattle.steps.specs.Indices.Robust.Parts.{empty}
+use Rattle.model.specs.declared.event.Event.{Event}
+use Rattle.model.specs.declared.event.Start.{Start}
+use Rattle.model.specs.declared.event.Start.TheVariants.{Robust}
+use Rattle.model.specs.declared.families.Flight.{Flight}
+use Rattle.model.specs.declared.families.Flight as flights
+use Rattle.model.specs.declared.families.Kept.{Kept}
+use Rattle.model.specs.declared.families.Kept as kepts
+use Rattle.model.specs.declared.families.indices.robust.RobustStart.{RobustStart}
+use Rattle.model.specs.declared.families.indices.robust.calls.RobustFlight.{RobustFlight}
+use Rattle.model.specs.declared.party.Party.{Party}
+use Rattle.model.specs.declared.turn.Kind.TheVariants as kinds
+use Rattle.model.specs.Coding.{Coding}
+use Rattle.model.specs.Families.{first_of, begin_rows, step_of, beside_of, after_of, going_rows}
+use Rattle.model.specs.Families.Indices.Robust.Dead.{has_died}
+use Rattle.model.specs.Families.Indices.Robust.Opening.{call_rows, kept_rows}
+use Rattle.model.specs.Families.Indices.Robust.Reading.{Deed, deeds_of}
+use Rattle.model.specs.Families.Indices.Robust.Steps.{effects}
+use Rattle.model.specs.Parties.{party_of}
+use Rattle.model.specs.Reading.{whose}
+use Rattle.model.specs.Rows.{first_row}
+use Rattle.model.specs.Turns.{step_in}
+use Rattle.model.specs.World.{Trace}
+use Rattle.model.proofs.Frame as frame
+use Rattle.model.proofs.Scenes.{stands_there}
+use Rattle.robust_laws.specs.Gone.{Word}
+use Rattle.robust_laws.specs.Open.{IsOpenSet}
+use Rattle.robust_laws.proofs.Invariant.{RobustSet, Fit, FlightAt, family_by}
+use Rattle.robust_laws.proofs.Living.{AllLive, has_not_died, step_is_free}
+use Rattle.robust_laws.proofs.OpenRuns.{reached_open_sound, reached_open_lives, reached_open_kept}
+use Rattle.robust_laws.proofs.Sound.{kept_is}
+use Rattle.robust_laws.proofs.Wide.{reached_open_wide}
+use Rattle.robust_laws.proofs.Written.{effects_hold}
+use Rattle.history.specs.declared.view.View.{View}
+use Rattle.history.specs.History.{IsRun, call_in}
+use Rattle.history.specs.Known.{owned}
+use Rattle.history.specs.Stages.{Starts, Calling}
+use Rattle.history.proofs.Calls.{stands}
+use Rattle.history.proofs.Known.{AreOf}
+use Rattle.history.proofs.Turns.{CallGoesOn, KindLaws}
+
+module _ {T : Type 0} where
+  -- what a step of a set's call writes
+  abbrev pub robust_effects : ℕ → Flight T → ℕ → List (Event T)
+  robust_effects p (flights.TheVariants.Robust flight) old = effects p flight old
+  robust_effects p flight old = []
+
+  effects_own : (p : ℕ) (flight : Flight T) (n : ℕ) → AreOf p (robust_effects p flight n)
+  effects_own p (flights.TheVariants.Robust flight) n =
+      effects_hold (λ (e : Event T). whose e ≡ Some p) p
+      (record {
+        filled = λ index owner. refl;
+        granted_to = λ index owner. refl;
+        freed_of = λ index owner. refl;
+        asked = λ index owner. refl;
+        locked = refl;
+      })
+      flight
+      n
+      (λ index owner is yes. refl)
+  effects_own p flight n = tt
+
+-- a counter, and a cell an index
+abbrev pub cells_and_counter : ℕ → ℕ
+cells_and_counter capacity = capacity + 1
+
+module _ {T : Type 0} (code : Coding T) (capacity : ℕ) where
+  abbrev pub IsRobust : Trace T → Type 0
+  IsRobust t = IsRun code kinds.Robust capacity t
+
+  robust_sound : (t : Trace T) → IsRobust t → frame.Sound (family_by Word t.world.coding t.world.capacity) t
+  robust_sound t r = reached_open_sound t r.of_kind r.reached
+
+  all_live : (t : Trace T) → IsRobust t → AllLive t.events
+  all_live t r = reached_open_lives t r.of_kind r.reached
+
+  -- what the model promises of each open run
+  pub is_open_set : (t : Trace T) → IsRobust t → IsOpenSet t
+  is_open_set t r = reached_open_kept t r.of_kind r.reached
+
+  pub robust_size : (t : Trace T) → IsRobust t → length t.world.words ≡ cells_and_counter capacity
+  robust_size t r = reached_open_wide t r.of_kind r.reached ∙ ap (λ n. n + 1) r.sized
+
+  no_rows : (t : Trace T) → IsRobust t → (c : ℕ) (all : List Deed) (start : Start T) (flight : Flight T) → FlightAt c all start flight
+      → first_row (going_rows t.world.coding t.world.kept (Some flight) None) ≡ None
+  no_rows t r c all (Robust start) (flights.TheVariants.Robust flight) at = step_is_free t.world.coding t.world.capacity t (robust_sound t r)
+      (all_live t r) flight
+  no_rows t r c all start flight at = absurd at
+
+  writes_there : (z : Coding T) (words ws : List ℕ) (beside : Option (ℕ × ℕ)) (c p old : ℕ) (all : List Deed) (kept : Kept T) (s : RobustSet T)
+      (start : Start T) (flight : Flight T) → Fit kept ws s → FlightAt c all start flight
+      → (step_of z words beside p start flight old kept).wrote ≡ robust_effects p flight old
+  writes_there z words ws beside c p old all (kepts.TheVariants.Owners dead) s (Robust start) (flights.TheVariants.Robust flight) fit at = refl
+  writes_there z words ws beside c p old all kept s (Robust start) (flights.TheVariants.Robust flight) fit at = absurd fit
+  writes_there z words ws beside c p old all kept s start flight fit at = absurd at
+
+  goes_there : (z : Coding T) (words ws : List ℕ) (beside : Option (ℕ × ℕ)) (c p old : ℕ) (all : List Deed) (kept : Kept T) (s : RobustSet T)
+      (start : Start T) (flight : Flight T) → Fit kept ws s → FlightAt c all start flight
+      → (step_of z words beside p start flight old kept).after ≡ after_of z flight old
+  goes_there z words ws beside c p old all (kepts.TheVariants.Owners dead) s (Robust start) (flights.TheVariants.Robust flight) fit at = refl
+  goes_there z words ws beside c p old all kept s (Robust start) (flights.TheVariants.Robust flight) fit at = absurd fit
+  goes_there z words ws beside c p old all kept s start flight fit at = absurd at
+
+  goes_on : (t : Trace T) → IsRobust t → (p : ℕ) (start : Start T) (flight : Flight T) → call_in t.world p ≡ Some (start, flight)
+      → CallGoesOn code kinds.Robust capacity (cells_and_counter capacity) robust_effects t p flight
+  goes_on t r p start flight at =
+      let w = t.world in
+      let s = robust_sound t r in
+      let here = stands w p start flight at in
+      let there = stands_there (family_by Word w.coding w.capacity) t s p here.x here.since flight here.found here.doing in
+      let done : List Deed = deeds_of p s.state.events in
+      let mine : FlightAt w.capacity done here.x.start flight = there.at in
+      record {
+        may = no_rows t r w.capacity done here.x.start flight mine;
+        own = λ n. effects_own p flight n;
+        writes = λ x n found. (
+            let same : here.x ≡ x = (let both : Some here.x ≡ Some x = sym here.found ∙ found in cc) in
+            subst (λ (z : Party T). (step_in w p z flight n).wrote ≡ robust_effects p flight n) same
+            (writes_there w.coding w.words w.words (beside_of w.words w.kept w.latest p) w.capacity p n done w.kept s.state here.x.start flight s.fit mine));
+        goes = λ x n found. (
+            let same : here.x ≡ x = (let both : Some here.x ≡ Some x = sym here.found ∙ found in cc) in
+            subst (λ (z : Party T). (step_in w p z flight n).after ≡ after_of w.coding flight n) same
+            (goes_there w.coding w.words w.words (beside_of w.words w.kept w.latest p) w.capacity p n done w.kept s.state here.x.start flight s.fit mine));
+      }
+
+  pub robusts_owe : KindLaws code kinds.Robust capacity (cells_and_counter capacity) robust_effects
+  robusts_owe = record { size = robust_size; goes_on = goes_on; alone = λ going late h. h }
+
+-- ---- which party may begin a call
+
+module _ {T : Type 0} (code : Coding T) (base : View T) where
+  abbrev IsOn : Trace T → Type 0
+  IsOn t = IsRun code kinds.Robust base.capacity t
+
+  -- nobody is kept as dead
+  kept_there : (t : Trace T) → IsOn t → (dead : List ℕ) × (t.world.kept ≡ kepts.TheVariants.Owners dead) × ((owner : ℕ) → has_died owner dead ≡ false)
+  kept_there t r =
+      let s = robust_sound code base.capacity t r in
+      (s.state.dead, (kept_is t.world.kept t.world.words s.state s.fit).0, λ owner. has_not_died t.world.coding t.world.capacity t s
+          (all_live code base.capacity t r) owner)
+
+  -- each call that the set has may, as the party that the pass was last
+  module _ {C M E : Type 0} (call : Calling T C M E) (start : RobustStart) (c : C) (m : M) (named : call.start ≡ Robust start)
+      (by_last : (o : Option ℕ) (p : ℕ) → IfSome o (λ q. q ≡ p) → call.by o p)
+      (first_is : (kept : Kept T) → first_of kinds.Robust base.capacity (Robust start) kept ≡ Some (call.flight c m))
+      (free : (dead : List ℕ) → ((owner : ℕ) → has_died owner dead ≡ false) → first_row (call_rows base.capacity dead start) ≡ None) where
+    pub robust_starts : (t : Trace T) (owner : ℕ → ℕ) (j : ℕ) → IsOn t → owner j ≡ j → IfSome base.party (λ p. owner p ≡ j)
+        → ((f : Event T → ℕ) → sum_by f base.made ≡ sum_by (owned owner j f) t.events)
+        → Starts code kinds.Robust call base c m t owner j
+    robust_starts t owner j run self party sums = go base.party refl party
+      where
+        kept : (dead : List ℕ) × (t.world.kept ≡ kepts.TheVariants.Owners dead) × ((owner : ℕ) → has_died owner dead ≡ false)
+        kept = kept_there t run
+
+        is_some : is_none (first_of kinds.Robust base.capacity (Robust start) t.world.kept) ≡ false
+        is_some = ap is_none (first_is t.world.kept)
+
+        may : (p : ℕ) → first_row (begin_rows kinds.Robust base.capacity t.world.kept p call.start) ≡ None
+        may p = rw (named, is_some) (subst (λ k. first_row (kept_rows base.capacity start k p) ≡ None) (sym kept.1) (free kept.0 kept.2))
+
+        first_here : first_of kinds.Robust base.capacity call.start t.world.kept ≡ Some (call.flight c m)
+        first_here = rw named (first_is t.world.kept)
+
+        go : (o : Option ℕ) → base.party ≡ o → IfSome o (λ p. owner p ≡ j) → Starts code kinds.Robust call base c m t owner j
+        go None e h = record { party = j; mine = self; by = by_last base.party j
+            (subst (λ (z : Option ℕ). IfSome z (λ q. q ≡ j)) (sym e) tt); first = first_here; may = may j }
+        go (Some p) e h = record
+            { party = p; mine = h; by = by_last base.party p (subst (λ (z : Option ℕ). IfSome z (λ q. q ≡ p)) (sym e) refl); first = first_here; may = may p }
