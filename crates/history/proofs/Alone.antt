@@ -58,8 +58,14 @@ module _ {T : Type 0} (code : Coding T) (kind : Kind) (capacity size : ℕ) (eff
         u = t;
         between =
             record {
-              run = record { reached = reached_as_opening code kind capacity 0 coded admitted; coded = refl; of_kind = refl; sized = refl; fresh
-                  = fresh_as_opening code kind capacity 0 };
+              run = record {
+                reached = reached_as_opening code kind capacity 0 coded admitted;
+                coded = refl;
+                of_kind = refl;
+                sized = refl;
+                fresh
+                    = fresh_as_opening code kind capacity 0;
+              };
               words = refl;
               others = λ j v ne at. absurd (other j v ne at);
               mine = refl;

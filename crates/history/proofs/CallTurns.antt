@@ -226,7 +226,7 @@ module _ {T C M E : Type 0} (code : Coding T) (kind : Kind) (effects : World T �
       → Prior p call.start wrote base u.events (v.made ++ gained) → events_of u.world turn ≡ effs ++ last
       → events_by p (events_of u.world turn) ≡ events_by p effs ++ last
       → Since p call.start (wrote ++ events_by p effs) last base
-          (view_after code kind base.capacity id p v (gained ++ events_by p (events_of u.world turn)) (after_turn u turn))
+      (view_after code kind base.capacity id p v (gained ++ events_by p (events_of u.world turn)) (after_turn u turn))
   since_turn p id turn u v base gained wrote effs last prior told_now own_now =
       record {
         others = prior.others;
@@ -239,8 +239,8 @@ module _ {T C M E : Type 0} (code : Coding T) (kind : Kind) (effects : World T �
         made =
             ap (λ zs. v.made ++ (gained ++ zs)) own_now
             ∙ (sym (append_assoc v.made gained (events_by p effs ++ last))
-                ∙ (ap (λ zs. zs ++ (events_by p effs ++ last)) prior.made_is
-                ∙ regroup base.made (opened p call.start base.going) wrote (events_by p effs) last));
+            ∙ (ap (λ zs. zs ++ (events_by p effs ++ last)) prior.made_is
+            ∙ regroup base.made (opened p call.start base.going) wrote (events_by p effs) last));
       }
 
   -- ---- what the step tells

@@ -123,7 +123,7 @@ module _ {T : Type 0} where
       tells =
           ap (λ (a : After (Flight T) (Answer T)). s.wrote ++ ending_of p h.x.start (answer_in a)) (goes h.x old h.found)
           ∙ (ap (λ (z : Start T). s.wrote ++ ending_of p z (answer_in after)) h.named
-              ∙ ap (λ es. es ++ ending_of p start (answer_in after)) (same h.x old h.found))
+          ∙ ap (λ es. es ++ ending_of p start (answer_in after)) (same h.x old h.found))
 
     pub moved : Moved w p start flight (old_of w.words (ask_of (want_of w.coding flight))) (writes (old_of w.words (ask_of (want_of w.coding flight))))
     moved =

@@ -111,7 +111,7 @@ pub steps_in : {T C M E Asks : Type 0} (code : Coding T) (kind : Kind) (effects 
     (own : ℕ → Flight T → ℕ → List (Event T)) (want : C → Want (Unit {0})) (after : C → ℕ → After C E) (kept : C → M → ℕ → M) (call : Calling T C M E)
     → ((c : C) (m : M) (late : List (Event T)) → IsLate kind (Some (call.start, call.flight c m)) late → late ≡ [])
     → ((capacity p : ℕ) (c : C) (m : M) (n : ℕ) (t : Trace T) → IsRun code kind capacity t → call_in t.world p ≡ Some (call.start, call.flight c m)
-        → events_by p (effects t.world p (call.flight c m) n) ≡ own p (call.flight c m) n)
+    → events_by p (effects t.world p (call.flight c m) n) ≡ own p (call.flight c m) n)
     → StepsOf Asks code own want after kept call → StepsIn Asks code kind effects want after kept call
 steps_in {T} {C} {M} {E} {Asks} code kind effects own want after kept call never same h =
     record {
@@ -137,7 +137,7 @@ pub in_machine : {T C M E : Type 0} (code : Coding T) (kind : Kind) (effects : W
     (call : Calling T C M E)
     → ((c : C) (m : M) (late : List (Event T)) → IsLate kind (Some (call.start, call.flight c m)) late → late ≡ [])
     → ((capacity p : ℕ) (c : C) (m : M) (n : ℕ) (t : Trace T) → IsRun code kind capacity t → call_in t.world p ≡ Some (call.start, call.flight c m)
-        → events_by p (effects t.world p (call.flight c m) n) ≡ own p (call.flight c m) n)
+    → events_by p (effects t.world p (call.flight c m) n) ≡ own p (call.flight c m) n)
     → IsCallOf code own size_of want after kept call → IsCallIn code kind effects size_of want after kept call
 in_machine code kind effects own size_of want after kept call = steps_in code kind effects own want after kept call
 

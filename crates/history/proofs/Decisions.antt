@@ -49,7 +49,7 @@ pub record IsAskingOf {T C M E : Type 0} (code : Coding T) (kind : Kind) (effect
 module _ {T C M E : Type 0} (code : Coding T) (kind : Kind) (decides : MayDecide kind) (effects : ℕ → Flight T → ℕ → List (Event T)) (size_of : ℕ → ℕ)
     (laws : (capacity : ℕ) → KindLaws code kind capacity (size_of capacity) effects)
     (want : C → Want (Unit {0})) (after : C → ℕ → After C E) (kept : C → M → ℕ → M) (call : Calling T C M E)
-        (is_call : IsAskingOf code kind effects size_of want after kept call) where
+    (is_call : IsAskingOf code kind effects size_of want after kept call) where
   open is_call use {steps as steps, same_call as same_call}
 
   abbrev Heard : View T → View T → C → M → Type 0
@@ -120,7 +120,7 @@ module _ {T C M E : Type 0} (code : Coding T) (kind : Kind) (decides : MayDecide
       same_one : (k.asking ≡ h.asking) × (k.room ≡ h.room)
       same_one =
           let both : ◌≡◌ {A = Option (Start T × Flight T)} (Some (call.start, call.flight k.asking k.room)) (Some (call.start, from)) = sym k.before.going
-              ∙ h.before.going in
+          ∙ h.before.going in
           let pair : ◌≡◌ {A = Start T × Flight T} (call.start, call.flight k.asking k.room) (call.start, from) = cc in
           same_call k.asking h.asking k.room h.room (ap (λ (z : Start T × Flight T). z.1) pair)
 
@@ -148,7 +148,7 @@ module _ {T C M E : Type 0} (code : Coding T) (kind : Kind) (decides : MayDecide
       since_then : Since y.p call.start ((told_by.wrote ++ told_by.late) ++ events_by y.p effs) [] base view_heard
       since_then =
           since_turn code kind (λ w. effects) size_of on_machine call y.p id (Decide y.p h.said) y.u v base y.gained
-              (told_by.wrote ++ told_by.late) effs [] told_by.prior told_heard
+          (told_by.wrote ++ told_by.late) effs [] told_by.prior told_heard
           (ap (events_by y.p) told_heard ∙ by_more y.p effs [])
 
       lifted : IsUnderWay code kind call base view_heard c m
@@ -179,11 +179,11 @@ module _ {T C M E : Type 0} (code : Coding T) (kind : Kind) (decides : MayDecide
   never_both : {A : Type 0} (base other v : View T) (c : C) (m : M) → is_question (want c) ≡ false → Stage base v c m → Heard other v c m → A
   never_both base other v c m still (inl first) k =
       let none : ◌≡◌ {A = Option (Start T × Flight T)} None (Some (call.start, call.flight k.asking k.room)) = sym first.idle
-          ∙ (ap (λ (z : View T). z.going) (sym first.is) ∙ k.before.going) in
+      ∙ (ap (λ (z : View T). z.going) (sym first.is) ∙ k.before.going) in
       absurd (cc)
   never_both base other v c m still (inr under) k =
       let both : ◌≡◌ {A = Option (Start T × Flight T)} (Some (call.start, call.flight k.asking k.room))
-          (Some (call.start, call.flight c m)) = sym k.before.going ∙ under.going in
+      (Some (call.start, call.flight c m)) = sym k.before.going ∙ under.going in
       let pair : ◌≡◌ {A = Start T × Flight T} (call.start, call.flight k.asking k.room) (call.start, call.flight c m) = cc in
       let same = same_call k.asking c k.room m (ap (λ (z : Start T × Flight T). z.1) pair) in
       clash (is_question (want c)) (subst (λ z. is_question (want z) ≡ true) same.0 (ap is_question (sym (steps.same_want k.asking k.room)) ∙ k.asks)) still
@@ -236,10 +236,12 @@ module _ {T C M E : Type 0} (code : Coding T) (kind : Kind) (decides : MayDecide
 
   told_asked : (c : C) (m : M) (n : ℕ) (x v w : View T) → x.capacity ≡ v.capacity
       → ((base : View T) → AtAsked code kind after kept call base v c m → Stage base x c m) → ToldSo c m x n w → ToldAsked c m v n w
-  told_asked c m n x v w same as_stage h =
-      (h.0 ∙ same, λ base stage. with_asked base (after c n) (kept c m n) w
-          (next_ended code kind (λ w. effects) size_of on_machine want after kept call steps_there is_call.never base (after c n) (kept c m n) w
-          (h.1 base (as_stage base stage))))
+  told_asked c m n x v w same as_stage h = (
+    h.0 ∙ same,
+    λ base stage. with_asked base (after c n) (kept c m n) w
+        (next_ended code kind (λ w. effects) size_of on_machine want after kept call steps_there is_call.never base (after c n) (kept c m n) w
+        (h.1 base (as_stage base stage))),
+  )
 
   module _ (key words slots id : ℕ) (c : C) (m : M) (wide : words ≡ size_of key + 1) (still : is_question (want c) ≡ false)
       (asked : AsksFor (size_of key) (want c)) where
@@ -258,7 +260,7 @@ module _ {T C M E : Type 0} (code : Coding T) (kind : Kind) (decides : MayDecide
         let size : key ≡ base.capacity = sym known ∙ same_size base v c m (inl stage) in
         subst (λ w. Owes (IsMachine code kind key) words slots id (ToldSo c m) w (v, [])) asked.2
         (keeps_at code kind (λ w. effects) size_of on_machine want after kept call steps_there base v c m key words slots id wide known stage
-            (subst (λ i. AsksFor (size_of i) (want c)) size asked))
+        (subst (λ i. AsksFor (size_of i) (want c)) size asked))
 
     -- who has heard none
     at_once : (base₀ v : View T) → v.capacity ≡ key → Stage base₀ v c m → OwedAt v ToldAsked
@@ -276,16 +278,20 @@ module _ {T C M E : Type 0} (code : Coding T) (kind : Kind) (decides : MayDecide
       below,
       λ s r long at small. (
           let x = (at_word base₀ (view_heard s v key id c m r at known base₀ h) known (inr (lifted s v key id c m r at known base₀ h base₀ h))).1
-              (table_heard s v key id c m r at known base₀ h) (machine_heard s v key id c m r at known base₀ h) long
-              (set_here s.views id (view_heard s v key id c m r at known base₀ h) (within s.views id v at)) small
+          (table_heard s v key id c m r at known base₀ h) (machine_heard s v key id c m r at known base₀ h) long
+          (set_here s.views id (view_heard s v key id c m r at known base₀ h) (within s.views id v at)) small
           in (
             x.0,
             x.1,
             x.2,
             subst (λ vs. IsMachine code kind key
-                (record { words = slice_set s.words ask.word (written ask.op (slice_index s.words ask.word)); homes = table.homes_after s.homes [] x.1; views
-                = vs }))
-            (set-set s.views id (view_heard s v key id c m r at known base₀ h) x.0) x.3,
+                (record {
+                  words = slice_set s.words ask.word (written ask.op (slice_index s.words ask.word));
+                  homes = table.homes_after s.homes [] x.1;
+                  views
+                      = vs;
+                }))
+                (set-set s.views id (view_heard s v key id c m r at known base₀ h) x.0) x.3,
             (told_asked c m _ (view_heard s v key id c m r at known base₀ h) v x.0 refl (as_heard s r at) x.4.0, x.4.1),
           )),
     )

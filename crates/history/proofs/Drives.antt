@@ -172,7 +172,7 @@ module _ {T C M E Asks : Type 0} (code : Coding T) (kind : Kind) (effects : Worl
     pub keeps_ends : KeepsRule (λ (z : View T). z.capacity) (At code kind call) (Over code kind call) (λ key. size_of key + 1) (λ key. key)
         (λ key. IsMachine code kind key) want after kept
         → KeepsRule (λ (z : View T). z.capacity) (At code kind call) (Ends code kind call) (λ key. size_of key + 1) (λ key. key)
-            (λ key. IsMachine code kind key) want after kept
+        (λ key. IsMachine code kind key) want after kept
     keeps_ends keeps base₀ v c m key words slots id wide known at₀ = go (want c) (keeps base₀ v c m key words slots id wide known at₀)
       where
         go : (w : Want (Unit {0})) → Owes (IsMachine code kind key) words slots id (ToldOver c m) w (v, []) → Owes (IsMachine code kind key) words slots id (ToldEnds c m) w (v, [])
@@ -193,7 +193,7 @@ module _ {T C M E : Type 0} (code : Coding T) (kind : Kind) (effects : World T �
 
   pub keeps_all_in : ((c : C) (n : ℕ) → call.skips c n ≡ false)
       → KeepsRule (λ (z : View T). z.capacity) (At code kind call) (Ends code kind call) (λ key. size_of key + 1) (λ key. key)
-          (λ key. IsMachine code kind key) want after kept
+      (λ key. IsMachine code kind key) want after kept
   keeps_all_in never = keeps_ends code kind effects size_of laws want after kept call is_call never keeps_in
 
 -- ---- of a kind whose parties write for themselves alone
@@ -206,7 +206,7 @@ all_laws code kind effects size_of laws capacity = machine_laws code kind capaci
 -- a call that writes by its own as one that may ask the machine
 pub steps_itself : {T C M E Asks : Type 0} (code : Coding T) (kind : Kind) (effects : ℕ → Flight T → ℕ → List (Event T)) (size_of : ℕ → ℕ)
     → ((capacity : ℕ) → KindLaws code kind capacity (size_of capacity) effects)
-        → (want : C → Want (Unit {0})) (after : C → ℕ → After C E) (kept : C → M → ℕ → M) (call : Calling T C M E)
+    → (want : C → Want (Unit {0})) (after : C → ℕ → After C E) (kept : C → M → ℕ → M) (call : Calling T C M E)
     → StepsOf Asks code effects want after kept call → StepsIn Asks code kind (λ w. effects) want after kept call
 steps_itself code kind effects size_of laws want after kept call =
     steps_in code kind (λ w. effects) effects want after kept call (λ c m late h. (laws 0).alone (Some (call.start, call.flight c m)) late h)

@@ -205,12 +205,12 @@ module _ {T : Type 0} (code : Coding T) (r : Ring) (capacity : ℕ) where
       let on = queue_run code capacity kd t run in
       let first : Trace T = opening w.coding w.kind w.capacity w.parties in
       let admitted : capacity_error (machine_kind kd) w.capacity ≡ None = subst
-          (λ kind. capacity_error kind w.capacity ≡ None) run.of_kind on.reached.admitted in
+      (λ kind. capacity_error kind w.capacity ≡ None) run.of_kind on.reached.admitted in
       let sound : frame.Sound (family w.coding kd w.capacity) first = subst
-          (λ kind. frame.Sound (family w.coding kd w.capacity) (opening w.coding kind w.capacity w.parties)) (sym run.of_kind)
-          (opening_sound w.coding on.reached.coded kd w.capacity w.parties (admitted_fits kd w.capacity admitted)) in
+      (λ kind. frame.Sound (family w.coding kd w.capacity) (opening w.coding kind w.capacity w.parties)) (sym run.of_kind)
+      (opening_sound w.coding on.reached.coded kd w.capacity w.parties (admitted_fits kd w.capacity admitted)) in
       subst (λ z. Each (Rightly w.capacity) z.events) (sym on.fresh.is)
-          (runs_right w.capacity w.coding r on.reached.coded on.fresh.turns first on.fresh.fresh sound (Each-nil (Rightly w.capacity)))
+      (runs_right w.capacity w.coding r on.reached.coded on.fresh.turns first on.fresh.fresh sound (Each-nil (Rightly w.capacity)))
 
   pub by_holders : (t : Trace T) → IsOn t → Each ByHolder t.events
   by_holders t run before after e is = (rightly t run before after e is).0

@@ -113,7 +113,7 @@ module _ {T : Type 0} (code : Coding T) (kind : Kind) (size : ℕ) (u v w : View
   apart_both : u.other ≡ [] → 0 < u.share.part → (p : ℕ) → b.parties.owner p ≡ b.parties.seat → events_by p (a.mine.rest ++ b.mine.rest) ≡ []
   apart_both alone some p mine =
       let first : events_by p a.mine.rest ≡ [] = ⊎_elim (λ e. a.apart alone some p e) (λ ne. nothing_of p mine ne)
-          (cases_eq (a.parties.owner p) a.parties.seat) in
+      (cases_eq (a.parties.owner p) a.parties.seat) in
       let second : events_by p b.mine.rest ≡ [] = b.apart a.other (subst (λ s. 0 < s.part) (sym a.share) some) p mine in
       by_more p a.mine.rest b.mine.rest ∙ (ap (λ es. es ++ events_by p b.mine.rest) first ∙ second)
 
@@ -133,8 +133,8 @@ module _ {T : Type 0} (code : Coding T) (kind : Kind) (size : ℕ) (u v w : View
         theirs = begins_with code kind size u.other v.seen w.seen a.theirs b.mine;
         whole = λ all. ⊎_elim (λ (e : w.seen ≡ v.seen). ⊎_elim (λ f. inl (e ∙ f)) (λ f. inr (e ∙ f)) (a.whole all))
             (λ (e : w.seen ≡ v.other).
-                (let none : w.seen ≡ [] = e ∙ a.other in inl (none ∙ sym (none_left u.seen (a.mine.rest ++ b.mine.rest) (sym none ∙ mine_both)))))
-                (b.whole (subst IsAll (sym a.share) all));
+            (let none : w.seen ≡ [] = e ∙ a.other in inl (none ∙ sym (none_left u.seen (a.mine.rest ++ b.mine.rest) (sym none ∙ mine_both)))))
+            (b.whole (subst IsAll (sym a.share) all));
         all = λ all f. b.all (subst IsAll (sym a.share) all) f;
         history = b.history;
         parties = b.parties;

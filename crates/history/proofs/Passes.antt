@@ -376,8 +376,14 @@ module _ {T : Type 0} (code : Coding T) (kind : Kind) (capacity : ℕ) where
       let t : Trace T = worlds.opening code kind capacity 0 in
       record {
         trace = t;
-        run = record { reached = reached_as_opening code kind capacity 0 coded admitted; coded = refl; of_kind = refl; sized = refl; fresh = fresh_as_opening
-            code kind capacity 0 };
+        run = record {
+          reached = reached_as_opening code kind capacity 0 coded admitted;
+          coded = refl;
+          of_kind = refl;
+          sized = refl;
+          fresh = fresh_as_opening
+              code kind capacity 0;
+        };
         words = same;
         owner = λ p. p;
         seats = seats;

@@ -25,5 +25,5 @@ module _ {T : Type 0} (code : Coding T) (capacity : ℕ) where
       let r = h.run in
       let on = queue_run code capacity kd t r in
       let all : IsLinearized (machine_kind kd) t = subst (λ k. IsLinearized k t) r.of_kind
-          (run_linearizable t (kept_on kd t r.of_kind on.reached.coded on.reached.admitted on.fresh)) in
+      (run_linearizable t (kept_on kd t r.of_kind on.reached.coded on.reached.admitted on.fresh)) in
       subst (λ es. IsLinearizable (as_list kd capacity) es) (sym h.is) (subst (λ n. IsLinearizable (as_list kd n) t.events) r.sized (as_its_list kd t all))

@@ -200,7 +200,7 @@ module _ (T : Type 0) (capacity : ℕ) (c : Releasing) (same : c.capacity ≡ ca
     where
       go : (b : Bool) → (k == counter) ≡ b
           → ReleaseGoes (FreedOf p given.index given.owner ∷ release_effects p given (releases.Locks (locks.ExchangesCounter counter)) k)
-              (release_takes c (releases.Locks (locks.ExchangesCounter counter)) given k)
+          (release_takes c (releases.Locks (locks.ExchangesCounter counter)) given k)
       go true e = rw e (h.0, inr refl)
       go false e = rw e ((same, low, (h.0, tt)), refl)
 

@@ -104,7 +104,7 @@ module _ {T : Type 0} (capacity : ℕ) (c : Recovering) (same : c.capacity ≡ c
       by_test (λ (stage : RecoverStage). RecoverGoes es (GoOn (at_recover c stage))) (nat_lt index c.capacity) _ _
       (λ t. (let below : index < c.capacity = grind (arith, nat_tests) in ((same, omega arith), passed)))
       (λ t. (let past : c.capacity ≤ index = grind (arith, nat_tests) in let last : index ≡ capacity = omega arith in
-          ((same, tt), subst (λ i. HasPassed p mode i es) last passed)))
+      ((same, tt), subst (λ i. HasPassed p mode i es) last passed)))
 
   next_to : (index : ℕ) → index < capacity → (es : List (Event T)) → HasPassed p mode (suc index) es → RecoverGoes es (recover_comes_to c (index + 1))
   next_to index low es passed =

@@ -138,9 +138,12 @@ module _ {T : Type 0} (code : Coding T) (base : View T) where
   -- nobody is kept as dead
   kept_there : (t : Trace T) → IsOn t → (dead : List ℕ) × (t.world.kept ≡ kepts.TheVariants.Owners dead) × ((owner : ℕ) → has_died owner dead ≡ false)
   kept_there t r =
-      let s = robust_sound code base.capacity t r in
-      (s.state.dead, (kept_is t.world.kept t.world.words s.state s.fit).0, λ owner. has_not_died t.world.coding t.world.capacity t s
-          (all_live code base.capacity t r) owner)
+      let s = robust_sound code base.capacity t r in (
+        s.state.dead,
+        (kept_is t.world.kept t.world.words s.state s.fit).0,
+        λ owner. has_not_died t.world.coding t.world.capacity t s
+            (all_live code base.capacity t r) owner,
+      )
 
   -- each call that the set has may, as the party that the pass was last
   module _ {C M E : Type 0} (call : Calling T C M E) (start : RobustStart) (c : C) (m : M) (named : call.start ≡ Robust start)
@@ -165,7 +168,13 @@ module _ {T : Type 0} (code : Coding T) (base : View T) where
         first_here = rw named (first_is t.world.kept)
 
         go : (o : Option ℕ) → base.party ≡ o → IfSome o (λ p. owner p ≡ j) → Starts code kinds.Robust call base c m t owner j
-        go None e h = record { party = j; mine = self; by = by_last base.party j
-            (subst (λ (z : Option ℕ). IfSome z (λ q. q ≡ j)) (sym e) tt); first = first_here; may = may j }
+        go None e h = record {
+          party = j;
+          mine = self;
+          by = by_last base.party j
+              (subst (λ (z : Option ℕ). IfSome z (λ q. q ≡ j)) (sym e) tt);
+          first = first_here;
+          may = may j;
+        }
         go (Some p) e h = record
             { party = p; mine = h; by = by_last base.party p (subst (λ (z : Option ℕ). IfSome z (λ q. q ≡ p)) (sym e) refl); first = first_here; may = may p }

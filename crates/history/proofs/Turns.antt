@@ -434,7 +434,7 @@ module _ {T : Type 0} where
         pub decided : Between owner s id p (gained ++ events_by p (events_of u.world (Decide p said))) (after_turn u (Decide p said))
         decided =
             turned s.words (Decide p said) free tt (b.words ∙ ap (λ ws. ws ++ 0 ∷ []) (sym (writes_one_word u.world (Decide p said))))
-                (ap (sum_by (λ e. of_none (whose e))) heard_only ∙ steps_so.someone (number_of said))
+            (ap (sum_by (λ e. of_none (whose e))) heard_only ∙ steps_so.someone (number_of said))
             (λ q ne. subst (λ zs. IsLate kind (call_in u.world q) (events_by q zs)) (sym heard_only) (steps_so.beside (number_of said) q ne))
             (λ j ne. decision_other u.world p j said ne (party_of p u.world.latest))
 

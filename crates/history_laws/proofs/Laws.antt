@@ -47,4 +47,4 @@ histories_act code kind capacity events set h =
     subst (λ es. ActsByPlace kind capacity es) (sym h.is)
     (subst (λ c. ActsByPlace kind c h.trace.events) h.run.sized
     (subst (λ k. ActsByPlace k h.trace.world.capacity h.trace.events) h.run.of_kind
-        (runs_act h.trace (reached_as_set kind set h.trace h.run.reached) (subst IsSet (sym h.run.of_kind) set))))
+    (runs_act h.trace (reached_as_set kind set h.trace h.run.reached) (subst IsSet (sym h.run.of_kind) set))))
