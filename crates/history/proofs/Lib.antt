@@ -23,6 +23,7 @@ pub mod Robusts
 pub mod RobustParts
 pub mod RobustCalls
 pub mod RobustRecoveries
+pub mod Finds
 pub mod Rooms
 pub mod Values
 pub mod Queues

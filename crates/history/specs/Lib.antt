@@ -13,3 +13,4 @@ pub mod ValueQueue
 pub mod ValueOpened
 pub mod Views
 pub mod Passes
+pub mod Finds
