@@ -70,7 +70,7 @@ module _ {T : Type 0} where
         here same =
             let chose : b ≡ true = sym (with_here h.chosen index b) ∙ (ap (chosen_with h.chosen index b) (sym same) ∙ e) in
             subst (λ j. HeldBetween (λ es. filled_of j es ≡ Some owner) old new) (sym same)
-                (held_now (λ es. filled_of index es ≡ Some owner) old new on (has chose))
+            (held_now (λ es. filled_of index es ≡ Some owner) old new on (has chose))
 
         there : i ≢ index → HeldBetween (λ es. filled_of i es ≡ Some owner) old new
         there ne = h.had i (omega arith) (sym (with_there h.chosen index b i ne) ∙ e)
@@ -82,7 +82,7 @@ module _ {T : Type 0} where
         here same =
             let left : b ≡ false = sym (with_here h.chosen index b) ∙ (ap (chosen_with h.chosen index b) (sym same) ∙ e) in
             subst (λ j. HeldBetween (λ es. filled_of j es ≢ Some owner) old new) (sym same)
-                (held_now (λ es. filled_of index es ≢ Some owner) old new on (has_not left))
+            (held_now (λ es. filled_of index es ≢ Some owner) old new on (has_not left))
 
         there : i ≢ index → HeldBetween (λ es. filled_of i es ≢ Some owner) old new
         there ne = h.had_not i (omega arith) (sym (with_there h.chosen index b i ne) ∙ e)
@@ -128,7 +128,7 @@ module _ {T : Type 0} (code : Coding T) (owner : ℕ) (fits : owner < empty) whe
   comes base w c m index found looked alone some small same low h =
       by_test (λ (a : After Find ℕ). Goes base a m w) (nat_lt (index + 1) c.capacity) _ _
       (λ t. (let below : index + 1 < c.capacity = grind (arith, nat_tests) in record
-          { looked = looked; fresh = alone; some = some; small = small; standing = same; found = (omega arith, h) }))
+      { looked = looked; fresh = alone; some = some; small = small; standing = same; found = (omega arith, h) }))
       (λ t. record { looked = looked; bound = index + 1; within = omega arith; found = h })
 
   -- ---- a load of a cell
@@ -157,24 +157,28 @@ module _ {T : Type 0} (code : Coding T) (owner : ℕ) (fits : owner < empty) whe
     loaded =
         by_eq (λ (a : After Find ℕ). Goes base a m w) k owner (GoOn (at_find c (finds.Asks index (one_more found)))) (find_comes_to c (index + 1) found)
         (λ e. (
-            let has : filled_of index w.seen ≡ Some owner = cell_tells (filled_of index w.seen) owner k fits in_set e in
-            let low = at.0 in
-            let small = h.small in
-            let more = few in
-            let next : one_more found ≡ 1 + found = omega arith in
-            record {
-              looked = looked_then;
-              fresh = h.fresh;
-              some = h.some;
-              small = h.small;
-              standing = h.standing;
-              found = (at.0, has, found_next owner index found base.seen w.seen (looked_seen base w looked_then) so_far true (λ e. has) (λ e. absurd (cc))
-                  (one_more found) next);
-            }))
+        let has : filled_of index w.seen ≡ Some owner = cell_tells (filled_of index w.seen) owner k fits in_set e in
+        let low = at.0 in
+        let small = h.small in
+        let more = few in
+        let next : one_more found ≡ 1 + found = omega arith in
+        record {
+          looked = looked_then;
+          fresh = h.fresh;
+          some = h.some;
+          small = h.small;
+          standing = h.standing;
+          found = (
+            at.0,
+            has,
+            found_next owner index found base.seen w.seen (looked_seen base w looked_then) so_far true (λ e. has) (λ e. absurd (cc))
+                (one_more found) next,
+          );
+        }))
         (λ ne. (
-            let has_not : filled_of index w.seen ≢ Some owner = cell_denies (filled_of index w.seen) owner k in_set ne in
-            comes base w c m index found looked_then h.fresh h.some h.small h.standing at.0
-            (found_next owner index found base.seen w.seen (looked_seen base w looked_then) so_far false (λ e. absurd (cc)) (λ e. has_not) found (omega arith))))
+        let has_not : filled_of index w.seen ≢ Some owner = cell_denies (filled_of index w.seen) owner k in_set ne in
+        comes base w c m index found looked_then h.fresh h.some h.small h.standing at.0
+        (found_next owner index found base.seen w.seen (looked_seen base w looked_then) so_far false (λ e. absurd (cc)) (λ e. has_not) found (omega arith))))
 
   -- ---- an answer to its question
 
@@ -220,9 +224,11 @@ module _ {T : Type 0} (code : Coding T) (owner : ℕ) (fits : owner < empty) whe
               subst (λ stage. Goes base (find_takes c stage owner k) m w) (sym is)
               (loaded base v w c m index found k h (subst (FoundAt owner base.capacity base.seen v.seen) is h.found)
               (subst (λ n. LooksAt code kinds.Robust n (cell_word index) v k w) (sym known ∙ looked_size base v h.looked) looks))
-      go (finds.Asks index found) is =
-          (refl, λ base h. subst (λ stage. Goes base (find_takes c stage owner 0) m v) (sym is)
-          (heard_at base v c m index found 0 h (subst (FoundAt owner base.capacity base.seen v.seen) is h.found)))
+      go (finds.Asks index found) is = (
+        refl,
+        λ base h. subst (λ stage. Goes base (find_takes c stage owner 0) m v) (sym is)
+            (heard_at base v c m index found 0 h (subst (FoundAt owner base.capacity base.seen v.seen) is h.found)),
+      )
 
   pub find_first : (v : View T) (m : Unit {0}) → v.other ≡ [] → 0 < v.share.part → 0 < v.capacity → v.capacity < 2 ^ 32
       → FindsAt code owner v v (first_find v.capacity) m
