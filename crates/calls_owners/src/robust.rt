@@ -1,6 +1,6 @@
 //! Sets of indices of owners.
+use crate::robust::answers::two;
 use crate::robust::call::RobustCall;
-use crate::robust::user::two;
 use calls::forms::{Form, Made, Plain, on, plays};
 use calls::play::{Nobody, play};
 use calls::stage::{Scene, Stage};
@@ -10,9 +10,8 @@ use lock_free_owners::mpmc::robust_unique_index_set::{
 };
 use std::sync::Wait;
 
-mod alone;
+mod answers;
 mod call;
-mod user;
 
 /// One of one caller from a generation on, which is played on alone.
 struct OfGeneration;

@@ -1,87 +1,24 @@
 //! Index queues.
 ghost use Rattle.std.specs.Prelude.{◌≡◌};
-ghost use Rattle.lock_free_queues.specs.Queues.Rings.{IsPassOf};
 
 use crate::queue_calls::QueueCall;
-use crate::queue_user::{User, ends, plays};
-use calls::answer::Answer;
-use calls::forms::{Form, on};
-use calls::play::Answers;
-use calls::stage::{Line, Scene, Stage};
+use crate::queue_user::{NumberUser, beside, ends, plays};
+use calls::forms::{Alone, Form, Made, Plain, on};
+use calls::stage::{Scene, Stage};
 use calls::words::Words;
-use lock_free_queues::spsc::index_queue::{FixedSizeIndexQueue, IndexQueue, Pass};
-use lock_free_queues::spsc::ring::rule::Numbers;
+use lock_free_queues::spsc::index_queue::{FixedSizeIndexQueue, IndexQueue};
 use std::sync::Wait;
-use steps::enums::UniqueIndexCreationError;
-
-/// One of one caller, which is only made.
-struct Plain;
-
-impl Form for Plain {
-    fn plays(
-        _rt: &impl Wait,
-        scene: Scene<'_>,
-        _stage: &mut Stage,
-    ) -> Result<(), UniqueIndexCreationError> {
-        plain::IndexQueue::new_at(scene.alloc, scene.capacity, scene.number)?;
-        Ok(())
-    }
-}
-
-/// Who uses an index queue: a type of its own, since the checker does not get through what is generic in the kind.
-#[derive(Drop)]
-struct IndexUser<'a> {
-    user: User<'a, Numbers, u64>,
-}
-
-impl<'a> IndexUser<'a> {
-    /// The pass; the guards give their roles back.
-    fn leaves(self) -> Pass {
-        let IndexUser { user } = self;
-        user.leaves()
-    }
-}
-
-impl<'a> Answers<QueueCall> for IndexUser<'a> {
-    fn answer(&mut self, rt: &impl Wait, call: QueueCall, answer: &mut Answer) {
-        self.user.answer(rt, call, answer);
-    }
-}
-
-/// Plays the block on both. The user's pass, where that is to be open beside the close.
-fn plays_beside(
-    rt: &impl Wait,
-    scene: Scene<'_>,
-    stage: &mut Stage,
-    alone: &mut plain::IndexQueue,
-    queue: &IndexQueue,
-    pass: &mut Pass,
-) -> Option<Pass>
-    requires { IsPassOf queue.now pass.old }
-    ensures { IsPassOf queue.now pass.new }
-{
-    let Some(user) = User::beside(queue, pass) else {
-        stage.not_read(Line::new("no further pass", 0));
-        return None;
-    };
-    let mut user = IndexUser { user };
-    let stays = plays(rt, scene, stage, alone, &mut user);
-    let other = user.leaves();
-    stays.then_some(other)
-}
 
 /// One of threads.
 struct Heap;
 
 impl Form for Heap {
-    fn plays(
-        rt: &impl Wait,
-        scene: Scene<'_>,
-        stage: &mut Stage,
-    ) -> Result<(), UniqueIndexCreationError> {
+    fn plays(rt: &impl Wait, scene: Scene<'_>, stage: &mut Stage) -> Made {
         let (queue, mut pass) = IndexQueue::new_at(scene.alloc, scene.capacity, scene.number)?;
-        let mut alone = plain::IndexQueue::new_at(scene.alloc, scene.capacity, scene.number)?;
-        let _beside = plays_beside(rt, scene, stage, &mut alone, &queue, &mut pass);
+        let mut alone = plain::IndexQueue::alone(scene)?;
+        let user = NumberUser::of_index(&queue, &mut pass);
+        plays(rt, scene, stage, &mut alone, user);
+        let _beside = beside(scene, &mut pass);
         ends(rt, scene, stage, &mut alone, queue.close(pass)?);
         Ok(())
     }
@@ -91,14 +28,12 @@ impl Form for Heap {
 struct Fixed<const CAPACITY: usize>;
 
 impl<const CAPACITY: usize> Form for Fixed<CAPACITY> {
-    fn plays(
-        rt: &impl Wait,
-        scene: Scene<'_>,
-        stage: &mut Stage,
-    ) -> Result<(), UniqueIndexCreationError> {
+    fn plays(rt: &impl Wait, scene: Scene<'_>, stage: &mut Stage) -> Made {
         let (queue, mut pass) = FixedSizeIndexQueue::<CAPACITY>::new(scene.alloc)?;
         let mut alone = plain::IndexQueue::new(scene.alloc, scene.capacity)?;
-        let _beside = plays_beside(rt, scene, stage, &mut alone, &queue, &mut pass);
+        let user = NumberUser::of_index(&queue, &mut pass);
+        plays(rt, scene, stage, &mut alone, user);
+        let _beside = beside(scene, &mut pass);
         ends(rt, scene, stage, &mut alone, queue.close(pass)?);
         Ok(())
     }
@@ -133,7 +68,7 @@ pub fn forms(
     let scene = scene.of_capacity(words.place()?);
     let position = words.after("at");
     let at = scene.of_number(position.unwrap_or(0));
-    on::<Plain>(rt, at, stage, "plain");
+    on::<Plain<QueueCall, plain::IndexQueue>>(rt, at, stage, "plain");
     on::<Heap>(rt, at, stage, "heap");
     if position.is_none() {
         on_types(rt, scene, stage);

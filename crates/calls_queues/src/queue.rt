@@ -3,14 +3,15 @@ ghost use Rattle.std.specs.Prelude.{◌≡◌};
 ghost use Rattle.lock_free_queues.specs.Queues.Rings.{inner, IsPassOf};
 
 use crate::queue_calls::QueueCall;
-use crate::queue_user::{User, ends, plays};
+use crate::queue_user::{User, beside, ends, plays};
 use calls::answer::Answer;
 use calls::long_values::{Greatest, Sixteen, Three};
 use calls::numbered::Numbered;
 use calls::play::Answers;
-use calls::stage::{Line, Scene, Stage};
+use calls::stage::{Scene, Stage};
 use calls::words::Words;
 use lock_free_queues::spsc::queue::{Pass, Queue};
+use lock_free_queues::spsc::ring::Ring;
 use lock_free_queues::spsc::ring::rule::Values;
 use std::sync::Wait;
 use steps::enums::UniqueIndexCreationError;
@@ -23,10 +24,12 @@ struct ValueUser<'a, T: Coded> {
 }
 
 impl<'a, T: Coded> ValueUser<'a, T> {
-    /// The pass; the guards give their roles back.
-    fn leaves(self) -> Pass<T> {
-        let ValueUser { user } = self;
-        user.leaves()
+    fn of_queue(queue: &'a Ring<Values, T>, pass: &mut Pass<T>) -> Option<ValueUser<'a, T>>
+        requires { IsPassOf queue.now pass.old }
+        ensures { IsPassOf queue.now pass.new }
+    {
+        let user = User::beside(queue, pass)?;
+        Some(ValueUser { user })
     }
 }
 
@@ -50,14 +53,9 @@ fn plays_both<T: Numbered, const CAPACITY: usize>(
 {
     let mut alone = alone;
     let mut pass = pass;
-    let Some(user) = User::beside(&queue, &mut pass) else {
-        stage.not_read(Line::new("no further pass", 0));
-        return Ok(());
-    };
-    let mut user = ValueUser { user };
-    let stays = plays(rt, scene, stage, &mut alone, &mut user);
-    let other = user.leaves();
-    let _beside = stays.then_some(other);
+    let user = ValueUser::of_queue(&queue, &mut pass);
+    plays(rt, scene, stage, &mut alone, user);
+    let _beside = beside(scene, &mut pass);
     ends(rt, scene, stage, &mut alone, queue.close(pass)?);
     Ok(())
 }

@@ -1,10 +1,13 @@
 //! The calls on a queue, and the queues of one caller.
 use calls::answer::Answer;
 use calls::drawn::Draws;
+use calls::forms;
 use calls::numbered::Numbered;
 use calls::play::{Answers, Call};
+use calls::stage::Scene;
 use calls::words::Words;
 use std::sync::Wait;
+use steps::enums::UniqueIndexCreationError;
 
 /// How many numbers are pushed and popped one by one.
 const ROUNDS: usize = 1_000_000;
@@ -151,6 +154,12 @@ impl<T: Numbered> Answers<QueueCall> for plain::Queue<T> {
     }
 }
 
+impl<T: Numbered> forms::Alone<QueueCall> for plain::Queue<T> {
+    fn alone(scene: Scene<'_>) -> Result<plain::Queue<T>, UniqueIndexCreationError> {
+        plain::Queue::new_at(scene.alloc, scene.capacity, scene.number)
+    }
+}
+
 fn looks_over(queue: &mut plain::SafelyOverflowingIndexQueue, answer: &mut Answer) {
     answer.number(queue.len() as u64);
     answer.truth(queue.is_empty());
@@ -169,5 +178,13 @@ impl Answers<QueueCall> for plain::SafelyOverflowingIndexQueue {
             QueueCall::Capacity => answer.number(self.capacity() as u64),
             QueueCall::Role(_, call) => alone(call, answer),
         }
+    }
+}
+
+impl forms::Alone<QueueCall> for plain::SafelyOverflowingIndexQueue {
+    fn alone(
+        scene: Scene<'_>,
+    ) -> Result<plain::SafelyOverflowingIndexQueue, UniqueIndexCreationError> {
+        plain::SafelyOverflowingIndexQueue::new_at(scene.alloc, scene.capacity, scene.number)
     }
 }

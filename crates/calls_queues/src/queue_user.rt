@@ -1,7 +1,7 @@
 //! Who uses a queue of threads.
 ghost use Rattle.std.specs.Prelude.{◌≡◌};
 ghost use Rattle.std.specs.Option.{ForSome};
-ghost use Rattle.lock_free_queues.specs.Queues.Rings.{queue_id, IsPassOf, producer_queue, consumer_queue};
+ghost use Rattle.lock_free_queues.specs.Queues.Rings.{queue_id, queue_of, IsPassOf, producer_queue, consumer_queue};
 
 use crate::queue_calls::{QueueCall, Role, RoleCall, popped};
 use calls::answer::Answer;
@@ -78,17 +78,6 @@ impl<'a, E: ring::rule::Kind, T: Words> User<'a, E, T> {
             producer: None,
             consumer: None,
         })
-    }
-
-    /// The pass; the guards give their roles back.
-    pub fn leaves(self) -> Pass<E, T> {
-        let User {
-            queue: _,
-            pass,
-            producer: _,
-            consumer: _,
-        } = self;
-        pass
     }
 
     fn number(&mut self, rt: &impl Wait, answer: &mut Answer) {
@@ -278,6 +267,46 @@ impl<'a, E: Kind<T>, T: Words> Answers<QueueCall> for User<'a, E, T> {
     }
 }
 
+/// Who uses a queue of numbers: a type of its own, since the checker does not get through what is generic in the kind.
+#[derive(Drop)]
+pub enum NumberUser<'a> {
+    Index(User<'a, Numbers, u64>),
+    Overflow(User<'a, Overflowing, u64>),
+}
+
+impl<'a> NumberUser<'a> {
+    /// One of an index queue.
+    pub fn of_index(
+        queue: &'a Ring<Numbers, u64>,
+        pass: &mut Pass<Numbers, u64>,
+    ) -> Option<NumberUser<'a>>
+        requires { IsPassOf queue.now pass.old }
+        ensures { IsPassOf queue.now pass.new }
+    {
+        Some(NumberUser::Index(User::beside(queue, pass)?))
+    }
+
+    /// One of an overflowing queue.
+    pub fn of_overflow(
+        queue: &'a Ring<Overflowing, u64>,
+        pass: &mut Pass<Overflowing, u64>,
+    ) -> Option<NumberUser<'a>>
+        requires { IsPassOf queue.now pass.old }
+        ensures { IsPassOf queue.now pass.new }
+    {
+        Some(NumberUser::Overflow(User::beside(queue, pass)?))
+    }
+}
+
+impl<'a> Answers<QueueCall> for NumberUser<'a> {
+    fn answer(&mut self, rt: &impl Wait, call: QueueCall, answer: &mut Answer) {
+        match self {
+            NumberUser::Index(user) => user.answer(rt, call, answer),
+            NumberUser::Overflow(user) => user.answer(rt, call, answer),
+        }
+    }
+}
+
 /// A scene up to its line `close`.
 fn opening(scene: Scene<'_>) -> Scene<'_> {
     match scene.block.split_once("\nclose") {
@@ -308,22 +337,38 @@ pub fn ends<P: Answers<QueueCall>, Q: Answers<QueueCall> + Drop>(
     }
 }
 
-/// Plays a block up to its end, or to its line `close`, on a queue of one caller and on one of threads. Whether another
-/// pass is to live beside that as it is closed, where the line says `close beside a pass`.
-pub fn plays<P: Answers<QueueCall>, U: Answers<QueueCall>>(
+/// Plays a block up to its end, or to its line `close`, on a queue of one caller and, by who uses it, on one of threads.
+/// Where there is no user, there was no further pass.
+pub fn plays<P: Answers<QueueCall>, U: Answers<QueueCall> + Drop>(
     rt: &impl Wait,
     scene: Scene<'_>,
     stage: &mut Stage,
     alone: &mut P,
-    user: &mut U,
-) -> bool {
-    play::<QueueCall, _, _>(rt, opening(scene), stage, alone, user);
-    lives_beside(scene)
+    user: Option<U>,
+) {
+    let Some(mut user) = user else {
+        return stage.not_read(Line::new("no further pass", 0));
+    };
+    play::<QueueCall, _, _>(rt, opening(scene), stage, alone, &mut user);
 }
 
 fn lives_beside(scene: Scene<'_>) -> bool {
     match ending(scene) {
         Some(ending) => ending.block.starts_with(" beside a pass"),
         None => false,
+    }
+}
+
+/// Another pass, which is to live beside the queue as it is closed: where the line says `close beside a pass`.
+pub fn beside<E: ring::rule::Kind, T: Words>(
+    scene: Scene<'_>,
+    pass: &mut Pass<E, T>,
+) -> Option<Pass<E, T>>
+    ensures { queue_of pass.new ≡ queue_of pass.old }
+{
+    if lives_beside(scene) {
+        pass.split()
+    } else {
+        None
     }
 }

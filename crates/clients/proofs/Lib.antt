@@ -1,3 +1,4 @@
+mod Halves
 pub mod Left
 mod Merging
 pub mod Rings
